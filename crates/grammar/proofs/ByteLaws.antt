@@ -1,0 +1,65 @@
+-- What each way through `is_within`, `is_identifier_start`, `is_identifier_cont`, `is_root` and `is_end` gives. Assumes nothing.
+use mathlib.Core.Path.{_≡_, refl, sym, ap, _∙_}
+use mathlib.Core.Logic.{_≢_}
+use mathlib.Core.Bool.{Bool, true, false, not, _&&_, _||_}
+use mathlib.Core.List.{List, [], _∷_}
+use Prim.Native.Nat.{ℕ, zero, suc, _≤_, _<_}
+use native.Mathlib.Omega.{arith}
+use lib.Dec.{eqb, leb}
+use lib.ListN.{length, getD}
+use borrow.Author.Tests.{le-leb, lt-leb}
+use Rattle.text.specs.Text.{Text, lacks}
+use Rattle.text.proofs.BoolLaws.{and-no, and-yes, told, told-false, told-true}
+use Rattle.grammar.specs.Legal.{isIdentifierStart, isIdentifierCont, isRoot, legal, isEnd}
+
+pub within-low : (l a h : ℕ) → l ≤ a → leb a h ≡ (leb l a && leb a h)
+within-low l a h e = rw (le-leb l a e)
+
+pub within-not : (l a h : ℕ) → a < l → false ≡ (leb l a && leb a h)
+within-not l a h e = rw (lt-leb l a e)
+
+module _ (a : ℕ) (b c : Bool) where
+  pub start-upper : b ≡ (leb 65 a && leb a 90) → b ≡ true → true ≡ isIdentifierStart a
+  unfolding isIdentifierStart
+  start-upper h k = rw (told h k)
+
+  pub start-lower : b ≡ (leb 65 a && leb a 90) → b ≡ false → c ≡ (leb 97 a && leb a 122) → c ≡ true → true ≡ isIdentifierStart a
+  unfolding isIdentifierStart
+  start-lower h k l m = rw (told h k, told l m)
+
+  pub start-other : b ≡ (leb 65 a && leb a 90) → b ≡ false → c ≡ (leb 97 a && leb a 122) → c ≡ false → eqb a 95 ≡ isIdentifierStart a
+  unfolding isIdentifierStart
+  start-other h k l m = rw (told h k, told l m)
+
+  pub cont-start : b ≡ isIdentifierStart a → b ≡ true → true ≡ isIdentifierCont a
+  unfolding isIdentifierCont
+  cont-start h k = rw (told h k)
+
+  pub cont-digit : b ≡ isIdentifierStart a → b ≡ false → c ≡ (leb 48 a && leb a 57) → c ≡ isIdentifierCont a
+  unfolding isIdentifierCont
+  cont-digit h k l = rw (told h k) l
+
+pub root-one : (s : Text) → length s ≡ 1 → eqb (getD s 0 0) 47 ≡ isRoot s
+root-one [] l = absurd (omega arith)
+root-one (a ∷ []) l = sym (and-yes (eqb a 47))
+root-one (a ∷ b ∷ s) l = absurd (omega arith)
+
+pub root-other : (s : Text) → length s ≢ 1 → false ≡ isRoot s
+root-other [] l = refl
+root-other (a ∷ []) l = absurd (l refl)
+root-other (a ∷ b ∷ s) l = sym (and-no (eqb a 47))
+
+module _ (s : Text) (b c d : Bool) where
+  pub end-illegal : b ≡ legal s → not b ≡ true → false ≡ isEnd s
+  unfolding isEnd
+  end-illegal h k = rw (told-false h k)
+
+  pub end-selected : b ≡ legal s → not b ≡ false → c ≡ lacks 123 s → not c ≡ true → false ≡ isEnd s
+  unfolding isEnd
+  end-selected h k l m = rw (told-true h k, told-false l m)
+
+  pub end-dotted : b ≡ legal s → not b ≡ false → c ≡ lacks 123 s → not c ≡ false → d ≡ lacks 46 s → d ≡ isEnd s
+  unfolding isEnd
+  end-dotted h k l m n = rw (told-true h k, told-true l m) n
+
+pub ruleset bytes = (within-low, within-not, start-upper, start-lower, start-other, cont-start, cont-digit, root-one, root-other, end-illegal, end-selected, end-dotted)

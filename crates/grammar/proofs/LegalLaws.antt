@@ -1,0 +1,126 @@
+-- What a legal text and an end cannot be. Assumes nothing.
+use mathlib.Core.Path.{_≡_, refl, sym, ap, _∙_}
+use mathlib.Core.Bool.{Bool, true, false, not, cond, _&&_, _||_, true≢false, false≢true}
+use mathlib.Core.List.{List, [], _∷_, _++_}
+use Prim.Native.Nat.{ℕ}
+use lib.Dec.{eqb}
+use borrow.Author.Tests.{eqb-true}
+use Rattle.text.specs.Text.{Text, isNil, lastIs, lacks}
+use Rattle.text.proofs.BoolLaws.{and-l, and-r, and-no, not-true}
+use Rattle.text.proofs.TextLaws.{lacks-first, lacks-rest}
+use Rattle.grammar.specs.Legal.{State, Slash, Name, Opened, Set, Equals, Sel, Closed, Dot, Prop, Dead, isIdentifierStart, isIdentifierCont, step, run, accept, isRoot, legal, isEnd}
+use Rattle.grammar.proofs.RunLaws.{run-dead}
+
+-- a legal text but `/` does not end in a slash
+slash-ends : (s : State) → accept (step s 47) ≡ false
+unfolding accept step
+slash-ends Slash = refl
+slash-ends Name = refl
+slash-ends Opened = refl
+slash-ends Set = refl
+slash-ends Equals = refl
+slash-ends Sel = refl
+slash-ends Closed = refl
+slash-ends Dot = refl
+slash-ends Prop = refl
+slash-ends Dead = refl
+
+run-last : (s : State) (r : Text) → accept (run s r) ≡ true → lastIs 47 r ≡ false
+unfolding run lastIs
+run-last s [] e = refl
+run-last s (a ∷ []) e = go (eqb a 47) refl
+  where
+    go : (t : Bool) → eqb a 47 ≡ t → eqb a 47 ≡ false
+    go true h = absurd (true≢false (sym e ∙ rw (eqb-true a 47 h) (slash-ends s)))
+    go false h = h
+run-last s (a ∷ b ∷ r) e = run-last (step s a) (b ∷ r) e
+
+-- from a state outside a selection, without `{`, no `}` is read
+abbrev outside : State → Bool
+outside Slash = true
+outside Name = true
+outside Opened = false
+outside Set = false
+outside Equals = false
+outside Sel = false
+outside Closed = false
+outside Dot = true
+outside Prop = true
+outside Dead = true
+
+either : (b : Bool) (x y : State) → outside x ≡ true → outside y ≡ true → outside (cond b x y) ≡ true
+either true x y h k = h
+either false x y h k = k
+
+stays : (s : State) (a : ℕ) → outside s ≡ true → eqb a 123 ≡ false → outside (step s a) ≡ true
+unfolding step
+stays Slash a o h = either (isIdentifierStart a) Name Dead refl refl
+stays Name a o h = rw h (either (isIdentifierCont a) Name _ refl (either (eqb a 47) Slash _ refl (either (eqb a 46) Dot Dead refl refl)))
+stays Opened a o h = absurd (false≢true o)
+stays Set a o h = absurd (false≢true o)
+stays Equals a o h = absurd (false≢true o)
+stays Sel a o h = absurd (false≢true o)
+stays Closed a o h = absurd (false≢true o)
+stays Dot a o h = either (isIdentifierStart a) Prop Dead refl refl
+stays Prop a o h = either (isIdentifierCont a) Prop _ refl (either (eqb a 58) Dot Dead refl refl)
+stays Dead a o h = refl
+
+close-dead : (s : State) → outside s ≡ true → accept (step s 125) ≡ false
+unfolding step accept
+close-dead Slash o = refl
+close-dead Name o = refl
+close-dead Opened o = refl
+close-dead Set o = refl
+close-dead Equals o = refl
+close-dead Sel o = absurd (false≢true o)
+close-dead Closed o = refl
+close-dead Dot o = refl
+close-dead Prop o = refl
+close-dead Dead o = refl
+
+run-close : (s : State) (r : Text) → outside s ≡ true → lacks 123 r ≡ true → accept (run s r) ≡ true → lastIs 125 r ≡ false
+unfolding run lastIs lacks
+run-close s [] o f e = refl
+run-close s (a ∷ []) o f e = go (eqb a 125) refl
+  where
+    go : (t : Bool) → eqb a 125 ≡ t → eqb a 125 ≡ false
+    go true h = absurd (true≢false (sym e ∙ rw (eqb-true a 125 h) (close-dead s o)))
+    go false h = h
+run-close s (a ∷ b ∷ r) o f e =
+    run-close (step s a) (b ∷ r) (stays s a o (not-true (eqb a 123) (and-l (not (eqb a 123)) (lacks 123 (b ∷ r)) f)))
+    (and-r (not (eqb a 123)) (lacks 123 (b ∷ r)) f) e
+
+pub no-root-dot : (r : Text) → legal (47 ∷ 46 ∷ r) ≡ true → ⊥
+unfolding legal
+no-root-dot r e = true≢false (sym e ∙ ap accept (run-dead r))
+
+pub legal-last : (p : Text) → legal p ≡ true → isRoot p ≡ false → lastIs 47 p ≡ false
+unfolding legal lastIs
+legal-last [] e n = refl
+legal-last (a ∷ []) e n = absurd (true≢false (sym e ∙ n))
+legal-last (a ∷ b ∷ r) e n = run-last Slash (b ∷ r) (and-r (eqb a 47) (accept (run Slash (b ∷ r))) e)
+
+-- the ends of pairs
+pub end-legal : (s : Text) → isEnd s ≡ true → legal s ≡ true
+unfolding isEnd
+end-legal s e = and-l (legal s) (lacks 123 s && lacks 46 s) e
+
+pub end-lacks : (s : Text) → isEnd s ≡ true → lacks 123 s ≡ true
+unfolding isEnd
+end-lacks s e = and-l (lacks 123 s) (lacks 46 s) (and-r (legal s) (lacks 123 s && lacks 46 s) e)
+
+free-close : (s : Text) → legal s ≡ true → lacks 123 s ≡ true → lastIs 125 s ≡ false
+unfolding legal lastIs lacks
+free-close [] e f = refl
+free-close (a ∷ []) e f = rw (eqb-true a 47 (and-l (eqb a 47) true e))
+free-close (a ∷ b ∷ r) e f =
+    run-close Slash (b ∷ r) refl (and-r (not (eqb a 123)) (lacks 123 (b ∷ r)) f) (and-r (eqb a 47) (accept (run Slash (b ∷ r))) e)
+
+pub end-close : (s : Text) → isEnd s ≡ true → lastIs 125 s ≡ false
+end-close s e = free-close s (end-legal s e) (end-lacks s e)
+
+-- the root, and texts put together
+pub root-is : (s : Text) → isRoot s ≡ true → s ≡ 47 ∷ []
+root-is [] e = absurd (false≢true e)
+root-is (a ∷ []) e = let h : a ≡ 47 = eqb-true a 47 (and-l (eqb a 47) true e) in cc
+root-is (a ∷ b ∷ r) e = absurd (false≢true (and-r (eqb a 47) false e))

@@ -1,0 +1,268 @@
+-- What is accepted from a state is what can be left there of a path, written. Assumes nothing.
+use mathlib.Core.Path.{_≡_, refl, sym, ap, _∙_}
+use mathlib.Core.Bool.{Bool, true, false, cond, _&&_, _||_, false≢true}
+use mathlib.Core.List.{List, [], _∷_, _++_, append-assoc}
+use mathlib.Core.Option.{Option, none, some}
+use Prim.Native.Nat.{ℕ}
+use lib.Dec.{eqb}
+use borrow.Author.Tests.{eqb-true}
+use Rattle.text.specs.Text.{Text, isNil}
+use Rattle.grammar.specs.Legal.{State, Slash, Name, Opened, Set, Equals, Sel, Closed, Dot, Prop, Dead, isIdentifierStart, isIdentifierCont, step, run, accept, legal}
+use Rattle.grammar.specs.Grammar as g
+use Rattle.grammar.specs.Grammar.{allCont, nameText, wordText, selectionText, selectionsText, primText, joint, primsText, moreText, propertyText, render}
+
+-- the rest of a name
+record Tail : Type 0 where
+  bytes : Text
+  are : allCont bytes ≡ true
+
+-- what stands behind a name
+pub record After : Type 0 where
+  pub selections : List g.Selection
+  pub rest : List g.Prim
+  pub property : Option g.Property
+
+follow : Text → List g.Prim → Text
+follow j [] = []
+follow j (q ∷ r) = j ++ primsText q r
+
+-- it is written behind a name, and behind a selection
+behindName : After → Text
+unfolding follow
+behindName x = selectionsText (x .selections) ++ (follow (joint (x .selections)) (x .rest) ++ propertyText (x .property))
+
+behindSelection : After → Text
+unfolding follow
+behindSelection x = selectionsText (x .selections) ++ (follow [] (x .rest) ++ propertyText (x .property))
+
+-- what is left of a path where the reader stands so
+abbrev Left : State → Type 0
+Left Slash = g.Name × After
+Left Name = Tail × After
+Left Opened = g.Name × g.Word × After
+Left Set = Tail × g.Word × After
+Left Equals = g.Word × After
+Left Sel = Tail × After
+Left Closed = After
+Left Dot = g.Name × List g.Name
+Left Prop = Tail × List g.Name
+Left Dead = ⊥
+
+-- the selection goes on: `=`, the word, `}`
+text : (s : State) → Left s → Text
+unfolding behindName behindSelection
+text Slash l = nameText (l .0) ++ behindName (l .1)
+text Name l = l .0 .bytes ++ behindName (l .1)
+text Opened l = nameText (l .0) ++ (61 ∷ (wordText (l .1) ++ (125 ∷ behindSelection (l .2))))
+text Set l = l .0 .bytes ++ (61 ∷ (wordText (l .1) ++ (125 ∷ behindSelection (l .2))))
+text Equals l = wordText (l .0) ++ (125 ∷ behindSelection (l .1))
+text Sel l = l .0 .bytes ++ (125 ∷ behindSelection (l .1))
+text Closed l = behindSelection l
+text Dot l = nameText (l .0) ++ moreText (l .1)
+text Prop l = l .0 .bytes ++ moreText (l .1)
+text Dead l = absurd l
+
+record Found (s : State) (r : Text) : Type 0 where
+  what : Left s
+  same : text s what ≡ r
+
+-- prims and a selection in front of a text
+prims-text : (n : g.Name) (x : After) → primsText (record { name = n; selections = x .selections }) (x .rest) ++ propertyText (x .property) ≡ nameText n ++ behindName x
+unfolding behindName follow primsText primText
+prims-text n x = go (x .rest)
+  where
+    go : (r : List g.Prim) → primsText (record { name = n; selections = x .selections }) r ++ propertyText (x .property) ≡ nameText n ++ (selectionsText (x .selections) ++ (follow (joint (x .selections)) r ++ propertyText (x .property)))
+    go [] = append-assoc (nameText n) (selectionsText (x .selections)) (propertyText (x .property))
+    go (q ∷ r) =
+        append-assoc (nameText n ++ selectionsText (x .selections)) (joint (x .selections) ++ primsText q r) (propertyText (x .property))
+        ∙ append-assoc (nameText n) (selectionsText (x .selections)) ((joint (x .selections) ++ primsText q r) ++ propertyText (x .property))
+
+selection-text : (s : g.Selection) (y : Text) → selectionText s ++ y ≡ 123 ∷ (nameText (s .set) ++ (61 ∷ (wordText (s .chosen) ++ (125 ∷ y))))
+unfolding selectionText
+selection-text s y = simp append-assoc
+
+dead : (r : Text) → accept (run Dead r) ≡ true → ⊥
+unfolding run step accept
+dead [] e = false≢true e
+dead (a ∷ r) e = dead r e
+
+-- the rest r was read from the state t
+abbrev Later : Text → State → Type 0
+Later r t = accept (run t r) ≡ true → Found t r
+
+no-more : Tail
+unfolding allCont
+no-more = record { bytes = []; are = refl }
+
+one-more : (a : ℕ) → isIdentifierCont a ≡ true → Tail → Tail
+unfolding allCont
+one-more a h t = record { bytes = a ∷ t .bytes; are = rw h (t .are) }
+
+head-of : (a : ℕ) → isIdentifierStart a ≡ true → Tail → g.Name
+head-of a h t = record { first = a; more = t .bytes; first-is = h; more-are = t .are }
+
+word-of : (a : ℕ) → isIdentifierCont a ≡ true → Tail → g.Word
+word-of a h t = record { first = a; more = t .bytes; first-is = h; more-are = t .are }
+
+nothing : After
+nothing = record { selections = []; rest = []; property = none }
+
+-- a prim, a selection, a property in front
+with-prim : g.Name → After → After
+with-prim n x =
+    record { selections = []; rest = (record { name = n; selections = x .selections }) ∷ x .rest; property = x .property }
+
+with-selection : g.Name → g.Word → After → After
+with-selection n w x =
+    record { selections = (record { set = n; chosen = w }) ∷ x .selections; rest = x .rest; property = x .property }
+
+with-property : g.Name → List g.Name → After
+with-property n r = record { selections = []; rest = []; property = some (record { first = n; more = r }) }
+
+-- how those are written
+prim-name : (n : g.Name) (x : After) → behindName (with-prim n x) ≡ 47 ∷ (nameText n ++ behindName x)
+unfolding with-prim behindName follow joint selectionsText
+prim-name n x = ap (λ (y : Text). 47 ∷ y) (prims-text n x)
+
+prim-selection : (n : g.Name) (x : After) → behindSelection (with-prim n x) ≡ nameText n ++ behindName x
+unfolding with-prim behindSelection follow selectionsText
+prim-selection n x = prims-text n x
+
+more-name : (n : g.Name) (w : g.Word) (x : After) → behindName (with-selection n w x) ≡ 123 ∷ (nameText n ++ (61 ∷ (wordText w ++ (125 ∷ behindSelection x))))
+unfolding with-selection behindName behindSelection selectionsText joint
+more-name n w x =
+    append-assoc (selectionText (record { set = n; chosen = w })) (selectionsText (x .selections)) (follow [] (x .rest) ++ propertyText (x .property))
+    ∙ selection-text (record { set = n; chosen = w }) (behindSelection x)
+
+more-selection : (n : g.Name) (w : g.Word) (x : After) → behindSelection (with-selection n w x) ≡ 123 ∷ (nameText n ++ (61 ∷ (wordText w ++ (125 ∷ behindSelection x))))
+unfolding with-selection behindSelection selectionsText
+more-selection n w x =
+    append-assoc (selectionText (record { set = n; chosen = w })) (selectionsText (x .selections)) (follow [] (x .rest) ++ propertyText (x .property))
+    ∙ selection-text (record { set = n; chosen = w }) (behindSelection x)
+
+property-name : (n : g.Name) (r : List g.Name) → behindName (with-property n r) ≡ 46 ∷ (nameText n ++ moreText r)
+unfolding with-property behindName follow selectionsText propertyText
+property-name n r = refl
+
+property-selection : (n : g.Name) (r : List g.Name) → behindSelection (with-property n r) ≡ 46 ∷ (nameText n ++ moreText r)
+unfolding with-property behindSelection follow selectionsText propertyText
+property-selection n r = refl
+
+-- one byte more in front
+put : (a : ℕ) {x r : Text} → x ≡ r → a ∷ x ≡ a ∷ r
+put a e = ap (λ (y : Text). a ∷ y) e
+
+put-at : (a b : ℕ) {x r : Text} → eqb a b ≡ true → x ≡ r → b ∷ x ≡ a ∷ r
+put-at a b h e = let q : a ≡ b = eqb-true a b h in cc
+
+-- one byte, from each state
+module _ (a : ℕ) (r : Text) where
+  on-slash : (b : Bool) → isIdentifierStart a ≡ b → Later r Name → accept (run (cond b Name Dead) r) ≡ true → Found Slash (a ∷ r)
+  unfolding text head-of nameText
+  on-slash true h f e = let w : Found Name r = f e in record { what = (head-of a h (w .what .0), w .what .1); same = put a (w .same) }
+  on-slash false h f e = absurd (dead r e)
+
+  on-name : (b c d k : Bool) → isIdentifierCont a ≡ b → eqb a 47 ≡ c → eqb a 123 ≡ d → eqb a 46 ≡ k → Later r Name → Later r Slash → Later r Opened → Later r Dot
+      → accept (run (cond b Name (cond c Slash (cond d Opened (cond k Dot Dead)))) r) ≡ true → Found Name (a ∷ r)
+  unfolding text no-more one-more
+  on-name true c d k h i j l name slash opened dot e =
+      let w : Found Name r = name e in record { what = (one-more a h (w .what .0), w .what .1); same = put a (w .same) }
+  on-name false true d k h i j l name slash opened dot e =
+      let w : Found Slash r = slash e in
+      record { what = (no-more, with-prim (w .what .0) (w .what .1)); same = prim-name (w .what .0) (w .what .1) ∙ put-at a 47 i (w .same) }
+  on-name false false true k h i j l name slash opened dot e =
+      let w : Found Opened r = opened e in
+      record {
+        what = (no-more, with-selection (w .what .0) (w .what .1) (w .what .2));
+        same = more-name (w .what .0) (w .what .1) (w .what .2) ∙ put-at a 123 j (w .same);
+      }
+  on-name false false false true h i j l name slash opened dot e =
+      let w : Found Dot r = dot e in
+      record { what = (no-more, with-property (w .what .0) (w .what .1)); same = property-name (w .what .0) (w .what .1) ∙ put-at a 46 l (w .same) }
+  on-name false false false false h i j l name slash opened dot e = absurd (dead r e)
+
+  on-opened : (b : Bool) → isIdentifierStart a ≡ b → Later r Set → accept (run (cond b Set Dead) r) ≡ true → Found Opened (a ∷ r)
+  unfolding text head-of nameText
+  on-opened true h f e = let w : Found Set r = f e in record { what = (head-of a h (w .what .0), w .what .1, w .what .2); same = put a (w .same) }
+  on-opened false h f e = absurd (dead r e)
+
+  on-set : (b c : Bool) → isIdentifierCont a ≡ b → eqb a 61 ≡ c → Later r Set → Later r Equals → accept (run (cond b Set (cond c Equals Dead)) r) ≡ true → Found Set (a ∷ r)
+  unfolding text no-more one-more
+  on-set true c h i f k e = let w : Found Set r = f e in record { what = (one-more a h (w .what .0), w .what .1, w .what .2); same = put a (w .same) }
+  on-set false true h i f k e = let w : Found Equals r = k e in record { what = (no-more, w .what .0, w .what .1); same = put-at a 61 i (w .same) }
+  on-set false false h i f k e = absurd (dead r e)
+
+  on-equals : (b : Bool) → isIdentifierCont a ≡ b → Later r Sel → accept (run (cond b Sel Dead) r) ≡ true → Found Equals (a ∷ r)
+  unfolding text word-of wordText
+  on-equals true h f e = let w : Found Sel r = f e in record { what = (word-of a h (w .what .0), w .what .1); same = put a (w .same) }
+  on-equals false h f e = absurd (dead r e)
+
+  on-sel : (b c : Bool) → isIdentifierCont a ≡ b → eqb a 125 ≡ c → Later r Sel → Later r Closed → accept (run (cond b Sel (cond c Closed Dead)) r) ≡ true → Found Sel (a ∷ r)
+  unfolding text no-more one-more
+  on-sel true c h i f k e = let w : Found Sel r = f e in record { what = (one-more a h (w .what .0), w .what .1); same = put a (w .same) }
+  on-sel false true h i f k e = let w : Found Closed r = k e in record { what = (no-more, w .what); same = put-at a 125 i (w .same) }
+  on-sel false false h i f k e = absurd (dead r e)
+
+  on-closed : (b c d : Bool) → isIdentifierStart a ≡ b → eqb a 123 ≡ c → eqb a 46 ≡ d → Later r Name → Later r Opened → Later r Dot
+      → accept (run (cond b Name (cond c Opened (cond d Dot Dead))) r) ≡ true → Found Closed (a ∷ r)
+  unfolding text head-of nameText
+  on-closed true c d h i j name opened dot e =
+      let w : Found Name r = name e in
+      record { what = with-prim (head-of a h (w .what .0)) (w .what .1); same = prim-selection (head-of a h (w .what .0)) (w .what .1) ∙ put a (w .same) }
+  on-closed false true d h i j name opened dot e =
+      let w : Found Opened r = opened e in
+      record {
+        what = with-selection (w .what .0) (w .what .1) (w .what .2);
+        same = more-selection (w .what .0) (w .what .1) (w .what .2) ∙ put-at a 123 i (w .same);
+      }
+  on-closed false false true h i j name opened dot e =
+      let w : Found Dot r = dot e in
+      record { what = with-property (w .what .0) (w .what .1); same = property-selection (w .what .0) (w .what .1) ∙ put-at a 46 j (w .same) }
+  on-closed false false false h i j name opened dot e = absurd (dead r e)
+
+  on-dot : (b : Bool) → isIdentifierStart a ≡ b → Later r Prop → accept (run (cond b Prop Dead) r) ≡ true → Found Dot (a ∷ r)
+  unfolding text head-of nameText
+  on-dot true h f e = let w : Found Prop r = f e in record { what = (head-of a h (w .what .0), w .what .1); same = put a (w .same) }
+  on-dot false h f e = absurd (dead r e)
+
+  on-prop : (b c : Bool) → isIdentifierCont a ≡ b → eqb a 58 ≡ c → Later r Prop → Later r Dot → accept (run (cond b Prop (cond c Dot Dead)) r) ≡ true → Found Prop (a ∷ r)
+  unfolding text no-more one-more moreText
+  on-prop true c h i f k e = let w : Found Prop r = f e in record { what = (one-more a h (w .what .0), w .what .1); same = put a (w .same) }
+  on-prop false true h i f k e = let w : Found Dot r = k e in record { what = (no-more, w .what .0 ∷ w .what .1); same = put-at a 58 i (w .same) }
+  on-prop false false h i f k e = absurd (dead r e)
+
+parse : (s : State) (r : Text) → accept (run s r) ≡ true → Found s r
+unfolding run step accept text behindName behindSelection follow no-more nothing selectionsText propertyText moreText
+parse Slash [] e = absurd (false≢true e)
+parse Name [] e = record { what = (no-more, nothing); same = refl }
+parse Opened [] e = absurd (false≢true e)
+parse Set [] e = absurd (false≢true e)
+parse Equals [] e = absurd (false≢true e)
+parse Sel [] e = absurd (false≢true e)
+parse Closed [] e = record { what = nothing; same = refl }
+parse Dot [] e = absurd (false≢true e)
+parse Prop [] e = record { what = (no-more, []); same = refl }
+parse Dead [] e = absurd (false≢true e)
+parse Slash (a ∷ r) e = on-slash a r (isIdentifierStart a) refl (λ h. parse Name r h) e
+parse Name (a ∷ r) e =
+    on-name a r (isIdentifierCont a) (eqb a 47) (eqb a 123) (eqb a 46) refl refl refl refl (λ h. parse Name r h) (λ h. parse Slash r h) (λ h. parse Opened r h)
+    (λ h. parse Dot r h) e
+parse Opened (a ∷ r) e = on-opened a r (isIdentifierStart a) refl (λ h. parse Set r h) e
+parse Set (a ∷ r) e = on-set a r (isIdentifierCont a) (eqb a 61) refl refl (λ h. parse Set r h) (λ h. parse Equals r h) e
+parse Equals (a ∷ r) e = on-equals a r (isIdentifierCont a) refl (λ h. parse Sel r h) e
+parse Sel (a ∷ r) e = on-sel a r (isIdentifierCont a) (eqb a 125) refl refl (λ h. parse Sel r h) (λ h. parse Closed r h) e
+parse Closed (a ∷ r) e =
+    on-closed a r (isIdentifierStart a) (eqb a 123) (eqb a 46) refl refl refl (λ h. parse Name r h) (λ h. parse Opened r h) (λ h. parse Dot r h) e
+parse Dot (a ∷ r) e = on-dot a r (isIdentifierStart a) refl (λ h. parse Prop r h) e
+parse Prop (a ∷ r) e = on-prop a r (isIdentifierCont a) (eqb a 58) refl refl (λ h. parse Prop r h) (λ h. parse Dot r h) e
+parse Dead (a ∷ r) e = absurd (dead r e)
+
+-- what is accepted behind the first slash
+pub body : (r : Text) → accept (run Slash r) ≡ true → g.Written (47 ∷ r)
+unfolding text render
+body r e =
+    let w : Found Slash r = parse Slash r e in
+    record {
+      path = g.prims (record { name = w .what .0; selections = w .what .1 .selections }) (w .what .1 .rest) (w .what .1 .property);
+      same = put 47 (prims-text (w .what .0) (w .what .1) ∙ w .same);
+    }

@@ -1,0 +1,22 @@
+-- How the automaton reads: text after text, and from a dead state. Assumes nothing.
+use mathlib.Core.Path.{_≡_, refl, sym, ap, _∙_}
+use mathlib.Core.Bool.{Bool, true, false, false≢true}
+use mathlib.Core.List.{List, [], _∷_, _++_}
+use Prim.Native.Nat.{ℕ}
+use Rattle.text.specs.Text.{Text}
+use Rattle.grammar.specs.Legal.{State, Dead, step, run, accept}
+
+pub run-app : (s : State) (x y : Text) → run s (x ++ y) ≡ run (run s x) y
+unfolding run
+run-app s [] y = refl
+run-app s (a ∷ x) y = run-app (step s a) x y
+
+-- a dead reader stays dead
+pub run-dead : (r : Text) → run Dead r ≡ Dead
+unfolding run step
+run-dead [] = refl
+run-dead (a ∷ r) = run-dead r
+
+pub dead-refuses : (r : Text) → accept (run Dead r) ≡ true → ⊥
+unfolding accept
+dead-refuses r e = false≢true (rw (run-dead r) at e)

@@ -1,0 +1,170 @@
+-- The numbers' rule, and what it says of the reading of a text. Assumes nothing.
+use mathlib.Core.Path.{_≡_, refl, sym, ap, subst, _∙_}
+use mathlib.Core.Bool.{Bool, true, false, cond, _&&_, _||_, false≢true}
+use mathlib.Core.List.{List, [], _∷_}
+use mathlib.Core.Logic.{_≢_, _⊎_, inl, inr}
+use Prim.Native.Nat.{ℕ, zero, suc, _+_, _*_, _/_, _%_, _^_, _<_, _≤_}
+use native.Mathlib.Numerals.{add-one}
+use native.Mathlib.Omega.{arith}
+use native.Mathlib.Decide.{ℕ-discrete}
+use lib.Dec.{eqb, ltb}
+use borrow.Author.Tests.{eqb-true, ne-eqb}
+use types.Run.{OneOf}
+use lib.ListN.{length, getD, drop, drop-of-length-le}
+use lib.Seq.{drop-cons}
+use Rattle.text.specs.Text.{Text}
+use Rattle.text.proofs.BoolLaws.{and-l, and-r, or-false, upTo, at-each}
+use Rattle.grammar.specs.Legal.{State, Name, Closed, Prop, Slash, Opened, Set, Equals, Sel, Dot, Dead, step, accept, run, legal}
+use Rattle.grammar.specs.Pack.{number, pack}
+
+-- the number of the byte a holds the step of the state s at the place of s
+unfoldable pub holds : State → ℕ → Bool
+unfolding number pack step
+holds s a = eqb (pack a / 2 ^ number s % 64) (number (step s a))
+
+-- at each state and each byte, computed
+all-hold : (s : State) → upTo (holds s) 256 ≡ true
+unfolding holds
+all-hold Slash = refl
+all-hold Name = refl
+all-hold Opened = refl
+all-hold Set = refl
+all-hold Equals = refl
+all-hold Sel = refl
+all-hold Closed = refl
+all-hold Dot = refl
+all-hold Prop = refl
+all-hold Dead = refl
+
+pub rule : (s : State) (a : ℕ) → a < 256 → pack a / 2 ^ number s % 64 ≡ number (step s a)
+unfolding holds
+rule s a h = eqb-true (pack a / 2 ^ number s % 64) (number (step s a)) (at-each (holds s) 256 a (all-hold s) h)
+
+-- the keys of the arms, in their order
+unfoldable pub letters-1 : List ℕ
+letters-1 = 65 ∷ 67 ∷ 69 ∷ 71 ∷ 73 ∷ 75 ∷ 77 ∷ 79 ∷ 81 ∷ 83 ∷ 85 ∷ 87 ∷ 89 ∷ 95 ∷ 97 ∷ 99 ∷ 101 ∷ 103 ∷ 105 ∷ 107 ∷ 109 ∷ 111 ∷ 113 ∷ 115 ∷ 117 ∷ 119 ∷ 121 ∷ []
+
+unfoldable pub letters-2 : List ℕ
+letters-2 = 66 ∷ 68 ∷ 70 ∷ 72 ∷ 74 ∷ 76 ∷ 78 ∷ 80 ∷ 82 ∷ 84 ∷ 86 ∷ 88 ∷ 90 ∷ 98 ∷ 100 ∷ 102 ∷ 104 ∷ 106 ∷ 108 ∷ 110 ∷ 112 ∷ 114 ∷ 116 ∷ 118 ∷ 120 ∷ 122 ∷ []
+
+unfoldable pub digits-1 : List ℕ
+digits-1 = 48 ∷ 50 ∷ 52 ∷ 54 ∷ 56 ∷ []
+
+unfoldable pub digits-2 : List ℕ
+digits-2 = 49 ∷ 51 ∷ 53 ∷ 55 ∷ 57 ∷ []
+
+-- an arm gives the same number x at each of its keys
+abbrev pub same : ℕ → List ℕ → Bool
+same x [] = true
+same x (k ∷ ks) = eqb x (pack k) && same x ks
+
+pub arm : (x : ℕ) (ks : List ℕ) (a : ℕ) → OneOf ks a → same x ks ≡ true → x ≡ pack a
+arm x [] a w t = absurd w
+arm x (k ∷ []) a w t = rw w (eqb-true x (pack k) (and-l (eqb x (pack k)) true t))
+arm x (k ∷ l ∷ ks) a (inl e) t = rw e (eqb-true x (pack k) (and-l (eqb x (pack k)) (same x (l ∷ ks)) t))
+arm x (k ∷ l ∷ ks) a (inr w) t = arm x (l ∷ ks) a w (and-r (eqb x (pack k)) (same x (l ∷ ks)) t)
+
+-- what the default of a match knows: the number is none of the keys of each arm, the last arm first
+abbrev pub Rest : List (List ℕ) → ℕ → Type 0
+Rest [] a = Unit {0}
+Rest (ks ∷ arms) a = Rest arms a × (OneOf ks a → ⊥)
+
+abbrev one-of : List ℕ → ℕ → Bool
+one-of [] a = false
+one-of (k ∷ ks) a = eqb a k || one-of ks a
+
+one : (ks : List ℕ) (a : ℕ) → one-of ks a ≡ true → OneOf ks a
+one [] a e = absurd (false≢true e)
+one (k ∷ []) a e = eqb-true a k (sym (or-false (eqb a k)) ∙ e)
+one (k ∷ l ∷ ks) a e = go (eqb a k) refl (one (l ∷ ks) a)
+  where
+    go : (b : Bool) → eqb a k ≡ b → (one-of (l ∷ ks) a ≡ true → OneOf (l ∷ ks) a) → OneOf (k ∷ l ∷ ks) a
+    go true h f = inl (eqb-true a k h)
+    go false h f = inr (f (rw h at e))
+
+abbrev in-arms : List (List ℕ) → ℕ → Bool
+in-arms [] a = false
+in-arms (ks ∷ arms) a = one-of ks a || in-arms arms a
+
+none-of : (arms : List (List ℕ)) (a : ℕ) → Rest arms a → in-arms arms a ≡ false
+none-of [] a w = refl
+none-of (ks ∷ arms) a w = rw (not-one (one-of ks a) refl) (none-of arms a (w .0))
+  where
+    not-one : (b : Bool) → one-of ks a ≡ b → one-of ks a ≡ false
+    not-one true h = absurd (w .1 (one ks a h))
+    not-one false h = h
+
+unfoldable pub arms : List (List ℕ)
+arms =
+    (125 ∷ []) ∷ (123 ∷ []) ∷ (61 ∷ []) ∷ (58 ∷ []) ∷ (47 ∷ []) ∷ (46 ∷ []) ∷ digits-2 ∷ digits-1 ∷ letters-2 ∷ letters-1 ∷ []
+
+abbrev listed : ℕ → Bool
+listed a = in-arms arms a || eqb (pack a) 988218432520154550
+
+all-listed : upTo listed 256 ≡ true
+unfolding arms letters-1 letters-2 digits-1 digits-2 pack
+all-listed = refl
+
+pub others : (a : ℕ) → a < 256 → Rest arms a → 988218432520154550 ≡ pack a
+others a h w = sym (eqb-true (pack a) 988218432520154550 (rw (none-of arms a w) at (at-each listed 256 a all-listed h)))
+
+-- the states that accept are those below 18
+ends : (s : State) → ltb (number s) 18 ≡ accept s
+unfolding number accept
+ends Slash = refl
+ends Name = refl
+ends Opened = refl
+ends Set = refl
+ends Equals = refl
+ends Sel = refl
+ends Closed = refl
+ends Dot = refl
+ends Prop = refl
+ends Dead = refl
+
+-- what the loop keeps: the text from i on, read from the state that the low six bits of k stand for, is read as the whole
+pub record Reads (p : Text) (k i : ℕ) : Type 0 where
+  pub at-state : State
+  pub numbered : k % 64 ≡ number at-state
+  pub rest : run at-state (drop i p) ≡ run Slash (drop 1 p)
+
+pub first : (p : Text) → Reads p 18 1
+unfolding number
+first p = record { at-state = Slash; numbered = refl; rest = refl }
+
+pub on : (p : Text) (k i m : ℕ) → i < length p → Reads p k i → getD p i 0 < 256 → m ≡ pack (getD p i 0) / 2 ^ (k % 64) → Reads p m (i + 1)
+unfolding run
+on p k i m h w l e =
+    record {
+      at-state = step (w .at-state) (getD p i 0);
+      numbered = ap (λ (x : ℕ). x % 64) (rw (w .numbered) at e) ∙ rule (w .at-state) (getD p i 0) l;
+      rest = rw (add-one i) (rw (drop-cons p i 0 h) at (w .rest));
+    }
+
+pub none : (p : Text) → length p ≡ 0 → true ≡ legal p
+unfolding legal
+none [] h = refl
+none (a ∷ p) h = absurd (omega arith)
+
+pub other : (p : Text) → length p ≢ 0 → getD p 0 0 ≢ 47 → false ≡ legal p
+unfolding legal
+other [] n h = absurd (n refl)
+other (a ∷ p) n h = rw (ne-eqb a 47 h)
+
+pub root : (p : Text) → getD p 0 0 ≡ 47 → length p ≡ 1 → true ≡ legal p
+unfolding legal
+root [] h l = absurd (omega arith)
+root (a ∷ []) h l = rw h
+root (a ∷ c ∷ p) h l = absurd (omega arith)
+
+pub whole : (p : Text) (k i : ℕ) → getD p 0 0 ≡ 47 → length p ≢ 0 → length p ≢ 1 → Reads p k i → length p ≤ i → ltb (k % 64) 18 ≡ legal p
+unfolding legal run
+whole [] k i h n m w l = absurd (n refl)
+whole (x ∷ []) k i h n m w l = absurd (m refl)
+whole (x ∷ y ∷ p) k i h n m w l =
+    rw (w .numbered, h, ← w .rest, drop-of-length-le (x ∷ y ∷ p) l) (ends (w .at-state))
+
+pub ruleset reading = (first, on, none, other, root, whole)
+
+pub shifted : (x y s : ℕ) → x ≡ y → x / 2 ^ s ≡ y / 2 ^ s
+shifted x y s e = rw e

@@ -1,0 +1,25 @@
+-- A text is legal exactly where it is some path, written. Assumes nothing.
+use mathlib.Core.Path.{_≡_, refl, sym, ap, subst, _∙_}
+use mathlib.Core.Bool.{Bool, true, false, _&&_, _||_}
+use mathlib.Core.List.{List, [], _∷_}
+use Prim.Native.Nat.{ℕ}
+use lib.Dec.{eqb}
+use borrow.Author.Tests.{eqb-true}
+use Rattle.text.specs.Text.{Text, isNil}
+use Rattle.text.proofs.BoolLaws.{and-l, and-r}
+use Rattle.grammar.specs.Legal.{Slash, run, accept, legal}
+use Rattle.grammar.specs.Grammar as g
+use Rattle.grammar.specs.Grammar.{Written, LegalIsWritten, render}
+use Rattle.grammar.proofs.Render.{legal-render}
+use Rattle.grammar.proofs.Parse.{body}
+
+written : (s : Text) → legal s ≡ true → Written s
+unfolding legal render
+written [] e = record { path = g.empty; same = refl }
+written (a ∷ []) e = let q : a ≡ 47 = eqb-true a 47 (and-l (eqb a 47) true e) in rw q (record { path = g.root; same = refl })
+written (a ∷ b ∷ r) e =
+    let q : a ≡ 47 = eqb-true a 47 (and-l (eqb a 47) (accept (run Slash (b ∷ r))) e) in
+    rw q (body (b ∷ r) (and-r (eqb a 47) (accept (run Slash (b ∷ r))) e))
+
+pub legal-is-written : LegalIsWritten
+legal-is-written s = (written s, λ w. rw (← w .same) (legal-render (w .path)))

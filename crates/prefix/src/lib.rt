@@ -1,0 +1,207 @@
+// Prefixes of path texts, the join that replaces one, and how many elements a text has. Every
+// function is defined for any bytes and asks nothing of its caller.
+ghost use mathlib.Core.Path.{_≡_};
+ghost use mathlib.Core.Bool.{Bool, cond};
+ghost use Prim.Native.Nat.{_+_, _<_, _≤_};
+ghost use lib.ListN.{length, getD, drop};
+ghost use Rattle.text.specs.Text.{fitted, placed};
+ghost use Rattle.prefix.specs.Elements.{begins, count, elements, names};
+ghost use Rattle.prefix.specs.Prefix.{boundary, hasPrefix};
+ghost use Rattle.prefix.specs.Join.{isChild, bare, separator, body, joined, spoils};
+
+// A number of elements: how maps measure a key.
+pub struct Elements(pub usize);
+
+// May a rest that begins with the byte a stand behind the prefix?
+fn is_boundary(prefix: &[u8], a: u8) -> bool
+    ensures { λ r. ⌜ r ≡ boundary (now (prefix .entry)) a ⌝ }
+{
+    if a == b'/' {
+        return true;
+    }
+    if a == b'.' {
+        return true;
+    }
+    if a == b'{' {
+        return true;
+    }
+    if grammar::is_root(prefix) {
+        return true;
+    }
+    text::last_is(prefix, b'}')
+}
+
+// Does the path begin with the prefix, at the end of an element?
+pub fn has_prefix(path: &[u8], prefix: &[u8]) -> bool
+    ensures { λ r. ⌜ r ≡ hasPrefix (now (path .entry)) (now (prefix .entry)) ⌝ }
+{
+    if !text::starts_with(path, prefix) {
+        return false;
+    }
+    let n = prefix.len();
+    if path.len() <= n {
+        return true;
+    }
+    is_boundary(prefix, path[n])
+}
+
+// Does an element begin at place i? Selections count where the flag says so.
+fn begins_at(text: &[u8], i: usize, selections: bool) -> bool
+    requires { ⌜ i < length (now text) ⌝ }
+    ensures { λ r. ⌜ r ≡ begins selections (getD (now (text .entry)) i 0) (drop (i + 1) (now (text .entry))) ⌝ }
+{
+    let a = text[i];
+    let j = i + 1;
+    if a == b'/' {
+        return j < text.len();
+    }
+    if a == b'{' {
+        return selections;
+    }
+    if a != b'}' {
+        return false;
+    }
+    if text.len() <= j {
+        return false;
+    }
+    grammar::is_identifier_cont(text[j])
+}
+
+// n, and one more where b is set
+fn plus_if(n: usize, b: bool) -> usize
+    requires { ⌜ n < 18446744073709551615 ⌝ }
+    ensures { λ r. ⌜ r ≡ n + cond b 1 0 ⌝ }
+{
+    if b { n + 1 } else { n }
+}
+
+fn count(text: &[u8], selections: bool) -> usize
+    ensures { λ r. ⌜ r ≡ count selections (now (text .entry)) ⌝ }
+{
+    let mut n = 0;
+    let mut i = 0;
+    while i < text.len() {
+        n = plus_if(n, begins_at(text, i, selections));
+        i += 1;
+    }
+    n
+}
+
+// How many names and selections the text has.
+pub fn element_count(text: &[u8]) -> Elements
+    ensures { λ r. ⌜ r .0 ≡ elements (now (text .entry)) ⌝ }
+{
+    Elements(count(text, true))
+}
+
+// How many names the text has.
+pub fn prim_element_count(text: &[u8]) -> Elements
+    ensures { λ r. ⌜ r .0 ≡ names (now (text .entry)) ⌝ }
+{
+    Elements(count(text, false))
+}
+
+// Is a rest that begins with the byte a, behind the prefix, a child prim?
+fn is_child(prefix: &[u8], a: u8) -> bool
+    ensures { λ r. ⌜ r ≡ isChild (now (prefix .entry)) a ⌝ }
+{
+    if a == b'/' {
+        return true;
+    }
+    if !text::last_is(prefix, b'}') {
+        return false;
+    }
+    grammar::is_identifier_cont(a)
+}
+
+// Does a child stand behind the prefix with no slash?
+fn is_bare(prefix: &[u8]) -> bool
+    ensures { λ r. ⌜ r ≡ bare (now (prefix .entry)) ⌝ }
+{
+    if grammar::is_root(prefix) {
+        return true;
+    }
+    text::last_is(prefix, b'}')
+}
+
+// The length of the separator, 0 or 1, between the new prefix and the rest behind the old one.
+fn separator_len(old: &[u8], new: &[u8], rest: &[u8]) -> usize
+    ensures { λ r. ⌜ r ≡ length (separator (now (old .entry)) (now (new .entry)) (now (rest .entry))) ⌝ }
+{
+    if rest.len() == 0 {
+        return 0;
+    }
+    if grammar::is_root(old) {
+        if grammar::is_root(new) {
+            return 0;
+        }
+        return 1;
+    }
+    if !is_child(old, rest[0]) {
+        return 0;
+    }
+    if is_bare(new) {
+        return 0;
+    }
+    1
+}
+
+// Where the rest behind the old prefix begins without its own leading slash: 0 or 1.
+fn body_at(old: &[u8], rest: &[u8]) -> usize
+    ensures { λ r. ⌜ drop r (now (rest .entry)) ≡ body (now (old .entry)) (now (rest .entry)) ⌝ }
+    ensures { λ r. ⌜ r ≤ length (now (rest .entry)) ⌝ }
+{
+    if rest.len() == 0 {
+        return 0;
+    }
+    if rest[0] != b'/' {
+        return 0;
+    }
+    if grammar::is_root(old) {
+        return 0;
+    }
+    1
+}
+
+// Writes the rest, which stood behind the old prefix, behind the new one, where that fits.
+pub fn join(old: &[u8], new: &[u8], rest: &[u8], out: &mut [u8]) -> text::Fit
+    ensures { λ r. ⌜ r ≡ fitted (joined (now (old .entry)) (now (new .entry)) (now (rest .entry))) (now (out .entry)) ⌝ }
+    ensures { λ r. ⌜ now (out .exit) ≡ placed 0 (joined (now (old .entry)) (now (new .entry)) (now (rest .entry))) (now (out .entry)) ⌝ }
+{
+    let n = new.len();
+    let room = out.len();
+    if room < n {
+        return text::Fit::Over;
+    }
+    let k = separator_len(old, new, rest);
+    if room - n < k {
+        return text::Fit::Over;
+    }
+    let from = body_at(old, rest);
+    let body = &rest[from..];
+    let at = n + k;
+    if room - at < body.len() {
+        return text::Fit::Over;
+    }
+    let slash = [b'/'; 1];
+    text::write_at(new, 0, out);
+    text::write_at(&slash[..k], n, out);
+    text::write_at(body, at, out);
+    text::Fit::Written(at + body.len())
+}
+
+// Is the new prefix `/`, behind which a rest that begins with `.` or `{` cannot stand?
+pub fn is_spoilt(new: &[u8], rest: &[u8]) -> bool
+    ensures { λ r. ⌜ r ≡ spoils (now (new .entry)) (now (rest .entry)) ⌝ }
+{
+    if !grammar::is_root(new) {
+        return false;
+    }
+    if rest.len() == 0 {
+        return false;
+    }
+    if rest[0] == b'.' {
+        return true;
+    }
+    rest[0] == b'{'
+}

@@ -1,0 +1,179 @@
+-- Laws of texts, and what each way through the comparing functions gives. Assumes nothing.
+use mathlib.Core.Path.{_≡_, refl, sym, ap, _∙_}
+use mathlib.Core.Logic.{_≢_}
+use mathlib.Core.Bool.{Bool, true, false, not, _&&_, true≢false}
+use mathlib.Core.List.{List, [], _∷_, _++_}
+use mathlib.Core.Option.{Option, none, some}
+use Prim.Native.Nat.{ℕ, zero, suc, _+_, _-_, _≤_, _<_}
+use native.Mathlib.Numerals.{add-one}
+use native.Mathlib.Omega.{arith}
+use lib.Dec.{eqb}
+use lib.ListN.{length, getD, drop, drop-of-length-le, length-append}
+use lib.Seq.{drop-cons, drop-append-seam}
+use borrow.Author.Tests.{eqb-true, eq-eqb, ne-eqb}
+use Rattle.text.specs.Text.{Text, isSome, equal, after, starts, lastIs, lacks}
+use Rattle.text.proofs.BoolLaws.{and-l, and-r, eqb-self, not-true}
+
+-- `none` is not `some`
+pub no-text : {q : Text} → none ≡ some q → ⊥
+no-text {q} e = let z : _≡_ {A = ℕ} 0 1 = cc in omega arith
+
+-- what follows a prefix, and the whole
+pub after-up : (s p r : Text) → after s p ≡ some r → p ≡ s ++ r
+unfolding after
+after-up [] p r e = cc
+after-up (a ∷ s) [] r e = cc
+after-up (a ∷ s) (b ∷ p) r e = go (eqb a b) refl (after-up s p r)
+  where
+    go : (t : Bool) → eqb a b ≡ t → (after s p ≡ some r → p ≡ s ++ r) → b ∷ p ≡ a ∷ (s ++ r)
+    go true h ih = let q : a ≡ b = eqb-true a b h in let k : p ≡ s ++ r = ih (rw h at e) in cc
+    go false h ih = absurd (no-text (rw h at e))
+
+pub after-down : (s r : Text) → after s (s ++ r) ≡ some r
+unfolding after
+after-down [] r = refl
+after-down (a ∷ s) r = rw (eqb-self a) (after-down s r)
+
+pub starts-rest : (s p : Text) → starts s p ≡ true → after s p ≡ some (drop (length s) p)
+unfolding starts
+starts-rest s p h = go (after s p) refl
+  where
+    go : (o : Option Text) → after s p ≡ o → after s p ≡ some (drop (length s) p)
+    go none e = absurd (true≢false (sym h ∙ ap isSome e))
+    go (some r) e = rw (e, after-up s p r e, drop-append-seam s r)
+
+pub starts-long : (s p : Text) → starts s p ≡ true → length s ≤ length p
+unfolding starts
+starts-long s p h = go (after s p) refl
+  where
+    go : (o : Option Text) → after s p ≡ o → length s ≤ length p
+    go none e = absurd (true≢false (sym h ∙ ap isSome e))
+    go (some r) e = rw (after-up s p r e, length-append s r) (omega arith)
+
+-- `starts_with`
+pub starts-shorter : (s p : Text) → length p < length s → false ≡ starts s p
+starts-shorter s p h = go (starts s p) refl
+  where
+    go : (b : Bool) → starts s p ≡ b → false ≡ b
+    go true e = absurd (omega (arith, starts-long s p e))
+    go false e = refl
+
+pub starts-differ : (s p : Text) (i : ℕ) → length s ≤ length p → i < length s → getD p i 0 ≢ getD s i 0
+    → after s p ≡ after (drop i s) (drop i p) → false ≡ starts s p
+unfolding starts after
+starts-differ s p i m h d e =
+    let l : i < length p = omega arith in
+    rw (e, drop-cons p i 0 l, drop-cons s i 0 h, ne-eqb (getD s i 0) (getD p i 0) (λ k. d (sym k)))
+
+pub starts-on : (s p : Text) (i : ℕ) → length s ≤ length p → i < length s → getD p i 0 ≡ getD s i 0
+    → after s p ≡ after (drop i s) (drop i p) → after s p ≡ after (drop (i + 1) s) (drop (i + 1) p)
+unfolding after
+starts-on s p i m h d e =
+    let l : i < length p = omega arith in
+    rw add-one (rw (drop-cons p i 0 l, drop-cons s i 0 h, eq-eqb (getD s i 0) (getD p i 0) (sym d)) at e)
+
+pub starts-end : (s p : Text) (i : ℕ) → length s ≤ i → after s p ≡ after (drop i s) (drop i p) → true ≡ starts s p
+unfolding starts after
+starts-end s p i l e = rw (e, drop-of-length-le s l)
+
+-- `is_equal`
+pub equal-lengths : (a b : Text) → length a ≢ length b → false ≡ equal a b
+unfolding equal
+equal-lengths [] [] d = absurd (d refl)
+equal-lengths [] (y ∷ b) d = refl
+equal-lengths (x ∷ a) [] d = refl
+equal-lengths (x ∷ a) (y ∷ b) d = go (eqb x y) (equal-lengths a b (λ e. d (ap suc e)))
+  where
+    go : (t : Bool) → false ≡ equal a b → false ≡ (t && equal a b)
+    go true ih = ih
+    go false ih = refl
+
+equal-as-starts : (a b : Text) → length a ≡ length b → starts a b ≡ equal a b
+unfolding equal starts after
+equal-as-starts [] [] l = refl
+equal-as-starts [] (y ∷ b) l = absurd (omega arith)
+equal-as-starts (x ∷ a) [] l = absurd (omega arith)
+equal-as-starts (x ∷ a) (y ∷ b) l = go (eqb x y) refl (equal-as-starts a b (omega arith))
+  where
+    go : (t : Bool) → eqb x y ≡ t → starts a b ≡ equal a b → starts (x ∷ a) (y ∷ b) ≡ equal (x ∷ a) (y ∷ b)
+    go true h ih = rw h ih
+    go false h ih = rw h
+
+pub equal-starts : (a b : Text) (r : Bool) → length a ≡ length b → r ≡ starts a b → r ≡ equal a b
+equal-starts a b r l h = h ∙ equal-as-starts a b l
+
+-- equal texts are one text
+pub equal-is : (a b : Text) → equal a b ≡ true → a ≡ b
+unfolding equal
+equal-is [] [] e = refl
+equal-is [] (y ∷ b) e = absurd (true≢false (sym e))
+equal-is (x ∷ a) [] e = absurd (true≢false (sym e))
+equal-is (x ∷ a) (y ∷ b) e =
+    let h : x ≡ y = eqb-true x y (and-l (eqb x y) (equal a b) e) in
+    let k : a ≡ b = equal-is a b (and-r (eqb x y) (equal a b) e) in
+    cc
+
+pub equal-self : (a : Text) → equal a a ≡ true
+unfolding equal
+equal-self [] = refl
+equal-self (x ∷ a) = rw (eqb-self x) (equal-self a)
+
+-- `last_is`
+pub last-none : (b : ℕ) (s : Text) → length s ≡ 0 → false ≡ lastIs b s
+unfolding lastIs
+last-none b [] l = refl
+last-none b (a ∷ s) l = absurd (omega arith)
+
+last-at : (b : ℕ) (s : Text) (a : ℕ) → eqb (getD (a ∷ s) (length s) 0) b ≡ lastIs b (a ∷ s)
+unfolding lastIs
+last-at b [] a = refl
+last-at b (c ∷ s) a = last-at b s c
+
+pub last-some : (b : ℕ) (s : Text) → length s ≢ 0 → eqb (getD s (length s - 1) 0) b ≡ lastIs b s
+last-some b [] l = absurd (l refl)
+last-some b (a ∷ s) l = let k : suc (length s) - 1 ≡ length s = omega arith in rw k (last-at b s a)
+
+pub last-snoc : (b : ℕ) (s : Text) (c : ℕ) → lastIs b (s ++ c ∷ []) ≡ eqb c b
+unfolding lastIs
+last-snoc b [] c = refl
+last-snoc b (a ∷ []) c = refl
+last-snoc b (a ∷ d ∷ s) c = last-snoc b (d ∷ s) c
+
+pub last-behind : (b : ℕ) (s : Text) (a : ℕ) (r : Text) → lastIs b (s ++ a ∷ r) ≡ lastIs b (a ∷ r)
+unfolding lastIs
+last-behind b [] a r = refl
+last-behind b (c ∷ []) a r = refl
+last-behind b (c ∷ d ∷ s) a r = last-behind b (d ∷ s) a r
+
+-- `lacks_byte`
+pub lacks-on : (b : ℕ) (s : Text) (i : ℕ) → i < length s → getD s i 0 ≢ b → lacks b s ≡ lacks b (drop i s) → lacks b s ≡ lacks b (drop (i + 1) s)
+unfolding lacks
+lacks-on b s i h d e = rw add-one (rw (drop-cons s i 0 h, ne-eqb (getD s i 0) b d) at e)
+
+pub lacks-found : (b : ℕ) (s : Text) (i : ℕ) → i < length s → getD s i 0 ≡ b → lacks b s ≡ lacks b (drop i s) → false ≡ lacks b s
+unfolding lacks
+lacks-found b s i h d e = rw (e, drop-cons s i 0 h, eq-eqb (getD s i 0) b d)
+
+pub lacks-end : (b : ℕ) (s : Text) (i : ℕ) → length s ≤ i → lacks b s ≡ lacks b (drop i s) → true ≡ lacks b s
+unfolding lacks
+lacks-end b s i h e = rw (e, drop-of-length-le s h)
+
+pub lacks-first : (b a : ℕ) (r : Text) → lacks b (a ∷ r) ≡ true → eqb a b ≡ false
+unfolding lacks
+lacks-first b a r f = not-true (eqb a b) (and-l (not (eqb a b)) (lacks b r) f)
+
+pub lacks-rest : (b a : ℕ) (r : Text) → lacks b (a ∷ r) ≡ true → lacks b r ≡ true
+unfolding lacks
+lacks-rest b a r f = and-r (not (eqb a b)) (lacks b r) f
+
+pub lacks-behind : (b : ℕ) (s r : Text) → lacks b (s ++ r) ≡ true → lacks b r ≡ true
+unfolding lacks
+lacks-behind b [] r e = e
+lacks-behind b (a ∷ s) r e = lacks-behind b s r (and-r (not (eqb a b)) (lacks b (s ++ r)) e)
+
+pub lacks-join : (b : ℕ) (s r : Text) → lacks b s ≡ true → lacks b r ≡ true → lacks b (s ++ r) ≡ true
+unfolding lacks
+lacks-join b [] r e f = f
+lacks-join b (a ∷ s) r e f = rw (and-l (not (eqb a b)) (lacks b s) e) (lacks-join b s r (and-r (not (eqb a b)) (lacks b s) e) f)
+
+pub ruleset texts = (starts-shorter, starts-differ, starts-on, starts-end, equal-lengths, equal-starts, last-none, last-some, lacks-on, lacks-found, lacks-end)

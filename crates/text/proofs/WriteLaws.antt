@@ -1,0 +1,57 @@
+-- What copying leaves in lent memory. Assumes nothing.
+use mathlib.Core.Path.{_≡_, refl, sym, ap, _∙_}
+use mathlib.Core.Bool.{Bool, true, false, cond}
+use mathlib.Core.List.{List, [], _∷_, _++_, append-assoc, append-nil}
+use Prim.Native.Nat.{ℕ, zero, suc, _+_, _-_, _≤_, _<_}
+use native.Mathlib.Nat.{zero-add}
+use native.Mathlib.Numerals.{add-one}
+use native.Mathlib.Omega.{arith}
+use lib.Dec.{leb}
+use lib.ListN.{length, getD, set, take, drop, length-set, length-append, length-drop, length-take, drop-of-length-le}
+use lib.Seq.{paste, paste-zero, paste-suc, take-append-seam, drop-append-add, drop-drop, take-all, take-at, take-length}
+use borrow.Author.Tests.{le-leb, lt-leb}
+use Rattle.text.specs.Text.{Text, written, over, placed}
+
+-- `write_at`
+pub put-begin : (d : Text) (at : ℕ) (s : Text) → d ≡ paste d at s 0
+put-begin d at s = paste-zero d at s
+
+pub put-on : (d s now : Text) (at i : ℕ) → at ≤ length d → length s ≤ length d - at → i < length s → now ≡ paste d at s i
+    → set now (at + i) (getD s i 0) ≡ paste d at s (i + 1)
+put-on d s now at i g f h e = rw (e, add-one i) (paste-suc d at s i 0 (omega arith) h)
+
+pub put-length : (d now : Text) (i v : ℕ) → length now ≡ length d → length (set now i v) ≡ length d
+put-length d now i v e = simp length-set e
+
+pub put-end : (d s now : Text) (at i : ℕ) → at ≤ length d → length s ≤ length d - at → length s ≤ i → i ≤ length s → now ≡ paste d at s i
+    → now ≡ placed at s d
+unfolding placed
+put-end d s now at i g f h l e =
+    let k : i ≡ length s = omega arith in
+    rw (le-leb (at + length s) (length d) (omega arith), e, k, take-length s, append-assoc) refl
+
+pub put-outside : (d s : Text) (at : ℕ) → length d < at → d ≡ placed at s d
+unfolding placed
+put-outside d s at h = rw (lt-leb (at + length s) (length d) (omega arith))
+
+pub put-over : (d s : Text) (at : ℕ) → at ≤ length d → length d - at < length s → d ≡ placed at s d
+unfolding placed
+put-over d s at g h = rw (lt-leb (at + length s) (length d) (omega arith))
+
+pub ruleset puts = (put-begin, put-on, put-length, put-end, put-outside, put-over)
+
+-- a text at the beginning of memory
+pub placed-first : (t out : Text) → length t ≤ length out → placed 0 t out ≡ written t out
+unfolding placed
+placed-first t out h = rw (zero-add (length t), le-leb (length t) (length out) h)
+
+-- one text behind another
+pub placed-next : (t s out : Text) → length t + length s ≤ length out → placed (length t) s (written t out) ≡ written (t ++ s) out
+unfolding placed
+placed-next t s out h =
+    let l : length (written t out) ≡ length out = simp (length-append, length-drop) (omega arith) in
+    rw (l, le-leb (length t + length s) (length out) h) (simp (take-append-seam, drop-append-add, drop-drop, length-append, append-assoc))
+
+-- what was written can be read back
+pub read-back : (t out : Text) → take (length t) (written t out) ≡ t
+read-back t out = take-append-seam t (drop (length t) out)
