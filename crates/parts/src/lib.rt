@@ -7,4 +7,3 @@ ghost use lib.ListN.{length, getD, drop};
 ghost use Rattle.text.specs.Text.{fitted, placed};
 ghost use Rattle.parts.specs.Parent.{partAt, parentLen, primLen, ancestors, ancestorLens};
 ghost use Rattle.parts.specs.Strip.{strip, stripFit, stripMemory};
-

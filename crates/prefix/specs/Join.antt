@@ -20,11 +20,14 @@ unfoldable pub bare : Text → Bool
 unfolding lastIs
 bare t = isRoot t || lastIs 125 t
 
+abbrev pub slashUnless : Bool → Text
+slashUnless b = cond b [] (47 ∷ [])
+
 -- between the new prefix t and the rest r that stood behind the old prefix s: a slash or nothing
 unfoldable pub separator : Text → Text → Text → Text
 unfolding isChild bare
 separator s t [] = []
-separator s t (a ∷ r) = cond (cond (isRoot s) (isRoot t) (not (isChild s a) || bare t)) [] (47 ∷ [])
+separator s t (a ∷ r) = slashUnless (cond (isRoot s) (isRoot t) (not (isChild s a) || bare t))
 
 -- the rest without its own leading slash; behind `/` it has none
 unfoldable pub body : Text → Text → Text

@@ -55,3 +55,7 @@ placed-next t s out h =
 -- what was written can be read back
 pub read-back : (t out : Text) → take (length t) (written t out) ≡ t
 read-back t out = take-append-seam t (drop (length t) out)
+
+-- `&text[k..]` is what is left from k on
+pub rest-whole : (t : Text) (k : ℕ) → take (length t - k) (drop k t) ≡ drop k t
+rest-whole t k = take-all (length t - k) (drop k t) (simp length-drop (omega arith))

@@ -2,27 +2,19 @@ use Rattle.grammar.proofs.ByteLaws.{bytes}
 use borrow.Author.Needs.{needs}
 use Rattle.grammar.proofs.is_identifier_start.Statement.{statement}
 use Rattle.grammar.proofs.is_identifier_start.Tie as tie
-use Rattle.grammar.proofs.is_identifier_start.Reads as reads
-use Rattle.grammar.proofs.is_identifier_start.Lts as lts
-use Rattle.grammar.proofs.is_within.Reads as is-within-reads
 
--- src/lib.rt:144:8
 is-within-requires : tie.Need-is-within-requires
 is-within-requires c κs = search needs
 
--- src/lib.rt:145:9
 returns : tie.Need-returns
 returns c = search (needs, bytes)
 
--- src/lib.rt:147:8
 is-within-requires-2 : tie.Need-is-within-requires-2
 is-within-requires-2 c κs = search needs
 
--- src/lib.rt:148:9
 returns-2 : tie.Need-returns-2
 returns-2 c = search (needs, bytes)
 
--- src/lib.rt:141:1
 returns-3 : tie.Need-returns-3
 returns-3 c = search (needs, bytes)
 

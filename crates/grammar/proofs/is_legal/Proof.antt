@@ -5,9 +5,6 @@ use borrow.Author.Needs.{needs}
 use Rattle.grammar.proofs.ScanLaws.{Reads, reading, on}
 use Rattle.grammar.proofs.is_legal.Statement.{statement}
 use Rattle.grammar.proofs.is_legal.Tie as tie
-use Rattle.grammar.proofs.is_legal.Reads as reads
-use Rattle.grammar.proofs.is_legal.Lts as lts
-use Rattle.grammar.proofs.next.Reads as next-reads
 
 abbrev Inv-loop : tie.InvT-loop
 Inv-loop p s₀ i₀ s i = (i ≤ length p) × Reads p s i
@@ -15,50 +12,39 @@ Inv-loop p s₀ i₀ s i = (i ≤ length p) × Reads p s i
 abbrev μ-loop : tie.MeasureT-loop
 μ-loop p s₀ i₀ s i = length p - i
 
--- src/lib.rt:108:9
 returns : tie.Need-returns Inv-loop μ-loop
 returns c = search (needs, reading)
 
--- src/lib.rt:110:8
 shared-slice-read-if2 : tie.Need-shared-slice-read-if2 Inv-loop μ-loop
 shared-slice-read-if2 c = search (needs, reading)
 
--- src/lib.rt:112:13
 returns-2 : tie.Need-returns-2 Inv-loop μ-loop
 returns-2 c = search (needs, reading)
 
--- src/lib.rt:116:9
 loop-holds : tie.Need-loop-holds Inv-loop μ-loop
 loop-holds c = search (needs, reading)
 
--- src/lib.rt:117:25
 shared-slice-read-next : tie.Need-shared-slice-read-next Inv-loop μ-loop
 shared-slice-read-next c = search (needs, reading)
 
--- src/lib.rt:117:13
 next-requires : tie.Need-next-requires Inv-loop μ-loop
 next-requires c κs = search (needs, reading)
 
--- src/lib.rt:118:13
 add-i : tie.Need-add-i Inv-loop μ-loop
 add-i c = search (needs, reading)
 
--- src/lib.rt:116:9
 loop-less : tie.Need-loop-less Inv-loop μ-loop
 loop-less c = search (needs, reading)
 
--- src/lib.rt:116:9
 loop-again : tie.Need-loop-again Inv-loop μ-loop
 loop-again c = (
   search needs,
   on _ _ _ _ (search needs) (c .before .before .before .loop .inv .1) (omega (arith, c .before .shared-slice-known3 .given (c .before .before .before .loop .i))) (c .next .ensures),
 )
 
--- src/lib.rt:120:9
 returns-3 : tie.Need-returns-3 Inv-loop μ-loop
 returns-3 c = search (needs, reading)
 
--- src/lib.rt:104:1
 returns-4 : tie.Need-returns-4 Inv-loop μ-loop
 returns-4 c = search (needs, reading)
 

@@ -2,18 +2,13 @@ use Rattle.grammar.proofs.ByteLaws.{bytes}
 use borrow.Author.Needs.{needs}
 use Rattle.grammar.proofs.is_root.Statement.{statement}
 use Rattle.grammar.proofs.is_root.Tie as tie
-use Rattle.grammar.proofs.is_root.Reads as reads
-use Rattle.grammar.proofs.is_root.Lts as lts
 
--- src/lib.rt:129:9
 returns : tie.Need-returns
 returns c = search (needs, bytes)
 
--- src/lib.rt:131:5
 shared-slice-read-result : tie.Need-shared-slice-read-result
 shared-slice-read-result c = search needs
 
--- src/lib.rt:125:1
 returns-2 : tie.Need-returns-2
 returns-2 c = search (needs, bytes)
 

@@ -2,14 +2,10 @@ use Rattle.grammar.proofs.ByteLaws.{bytes}
 use borrow.Author.Needs.{needs}
 use Rattle.grammar.proofs.is_within.Statement.{statement}
 use Rattle.grammar.proofs.is_within.Tie as tie
-use Rattle.grammar.proofs.is_within.Reads as reads
-use Rattle.grammar.proofs.is_within.Lts as lts
 
--- src/lib.rt:134:1
 returns : tie.Need-returns
 returns c = search (needs, bytes)
 
--- src/lib.rt:134:1
 returns-2 : tie.Need-returns-2
 returns-2 c = search (needs, bytes)
 

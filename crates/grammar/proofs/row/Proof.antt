@@ -5,8 +5,6 @@ use Rattle.grammar.specs.Pack.{pack}
 use Rattle.grammar.proofs.ScanLaws.{letters-1, letters-2, digits-1, digits-2, arm, arms, others}
 use Rattle.grammar.proofs.row.Statement.{statement}
 use Rattle.grammar.proofs.row.Tie as tie
-use Rattle.grammar.proofs.row.Reads as reads
-use Rattle.grammar.proofs.row.Lts as lts
 
 returns : tie.Need-returns
 unfolding pack letters-1

@@ -6,8 +6,6 @@ use lib.ListN.{length, drop}
 use Rattle.text.specs.Text.{lacks}
 use Rattle.text.proofs.lacks_byte.Statement.{statement}
 use Rattle.text.proofs.lacks_byte.Tie as tie
-use Rattle.text.proofs.lacks_byte.Reads as reads
-use Rattle.text.proofs.lacks_byte.Lts as lts
 
 abbrev Inv-loop : tie.InvT-loop
 Inv-loop text b i₀ i = (i ≤ length text) × (lacks b text ≡ lacks b (drop i text))
@@ -15,31 +13,24 @@ Inv-loop text b i₀ i = (i ≤ length text) × (lacks b text ≡ lacks b (drop 
 abbrev μ-loop : tie.MeasureT-loop
 μ-loop text b i₀ i = length text - i
 
--- src/lib.rt:49:5
 loop-holds : tie.Need-loop-holds Inv-loop μ-loop
 loop-holds c = search (needs, texts)
 
--- src/lib.rt:50:12
 shared-slice-read-if1 : tie.Need-shared-slice-read-if1 Inv-loop μ-loop
 shared-slice-read-if1 c = search (needs, texts)
 
--- src/lib.rt:51:13
 returns : tie.Need-returns Inv-loop μ-loop
 returns c = search (needs, texts)
 
--- src/lib.rt:53:9
 add-i : tie.Need-add-i Inv-loop μ-loop
 add-i c = search (needs, texts)
 
--- src/lib.rt:49:5
 loop-less : tie.Need-loop-less Inv-loop μ-loop
 loop-less c = search (needs, texts)
 
--- src/lib.rt:49:5
 loop-again : tie.Need-loop-again Inv-loop μ-loop
 loop-again c = search (needs, texts)
 
--- src/lib.rt:45:1
 returns-2 : tie.Need-returns-2 Inv-loop μ-loop
 returns-2 c = search (needs, texts)
 

@@ -6,8 +6,6 @@ use lib.ListN.{length, drop}
 use Rattle.text.specs.Text.{after}
 use Rattle.text.proofs.starts_with.Statement.{statement}
 use Rattle.text.proofs.starts_with.Tie as tie
-use Rattle.text.proofs.starts_with.Reads as reads
-use Rattle.text.proofs.starts_with.Lts as lts
 
 abbrev Inv-loop : tie.InvT-loop
 Inv-loop text prefix i₀ i = (i ≤ length prefix) × (after prefix text ≡ after (drop i prefix) (drop i text))
@@ -15,39 +13,30 @@ Inv-loop text prefix i₀ i = (i ≤ length prefix) × (after prefix text ≡ af
 abbrev μ-loop : tie.MeasureT-loop
 μ-loop text prefix i₀ i = length prefix - i
 
--- src/lib.rt:11:9
 returns : tie.Need-returns Inv-loop μ-loop
 returns c = search (needs, texts)
 
--- src/lib.rt:14:5
 loop-holds : tie.Need-loop-holds Inv-loop μ-loop
 loop-holds c = search (needs, texts)
 
--- src/lib.rt:15:12
 shared-slice-read-if2 : tie.Need-shared-slice-read-if2 Inv-loop μ-loop
 shared-slice-read-if2 c = search (needs, texts)
 
--- src/lib.rt:15:23
 shared-slice-read-if2-2 : tie.Need-shared-slice-read-if2-2 Inv-loop μ-loop
 shared-slice-read-if2-2 c = search (needs, texts)
 
--- src/lib.rt:16:13
 returns-2 : tie.Need-returns-2 Inv-loop μ-loop
 returns-2 c = search (needs, texts)
 
--- src/lib.rt:18:9
 add-i : tie.Need-add-i Inv-loop μ-loop
 add-i c = search (needs, texts)
 
--- src/lib.rt:14:5
 loop-less : tie.Need-loop-less Inv-loop μ-loop
 loop-less c = search (needs, texts)
 
--- src/lib.rt:14:5
 loop-again : tie.Need-loop-again Inv-loop μ-loop
 loop-again c = search (needs, texts)
 
--- src/lib.rt:7:1
 returns-3 : tie.Need-returns-3 Inv-loop μ-loop
 returns-3 c = search (needs, texts)
 

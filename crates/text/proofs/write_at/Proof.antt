@@ -6,8 +6,6 @@ use lib.ListN.{length}
 use lib.Seq.{paste}
 use Rattle.text.proofs.write_at.Statement.{statement}
 use Rattle.text.proofs.write_at.Tie as tie
-use Rattle.text.proofs.write_at.Reads as reads
-use Rattle.text.proofs.write_at.Lts as lts
 
 abbrev Inv-loop : tie.InvT-loop
 Inv-loop text at out₀ i₀ out i = (i ≤ length text) × (length out ≡ length out₀) × (out ≡ paste out₀ at text i)
@@ -15,51 +13,39 @@ Inv-loop text at out₀ i₀ out i = (i ≤ length text) × (length out ≡ leng
 abbrev μ-loop : tie.MeasureT-loop
 μ-loop text at out₀ i₀ out i = length text - i
 
--- src/lib.rt:63:9
 returns : tie.Need-returns Inv-loop μ-loop
 returns c = search (needs, puts)
 
--- src/lib.rt:65:8
 sub-if2 : tie.Need-sub-if2 Inv-loop μ-loop
 sub-if2 c = search (needs, puts)
 
--- src/lib.rt:66:9
 returns-2 : tie.Need-returns-2 Inv-loop μ-loop
 returns-2 c = search (needs, puts)
 
--- src/lib.rt:69:5
 loop-holds : tie.Need-loop-holds Inv-loop μ-loop
 loop-holds c = search (needs, puts)
 
--- src/lib.rt:70:23
 shared-slice-read-out : tie.Need-shared-slice-read-out Inv-loop μ-loop
 shared-slice-read-out c = search (needs, puts)
 
--- src/lib.rt:70:13
 add-out : tie.Need-add-out Inv-loop μ-loop
 add-out c = search (needs, puts)
 
--- src/lib.rt:70:9
 slice-write-out : tie.Need-slice-write-out Inv-loop μ-loop
 slice-write-out c = search (needs, puts)
 
--- src/lib.rt:71:9
 add-i : tie.Need-add-i Inv-loop μ-loop
 add-i c = search (needs, puts)
 
--- src/lib.rt:69:5
 loop-less : tie.Need-loop-less Inv-loop μ-loop
 loop-less c = search (needs, puts)
 
--- src/lib.rt:69:5
 loop-again : tie.Need-loop-again Inv-loop μ-loop
 loop-again c = search (needs, puts)
 
--- src/lib.rt:59:1
 same-length : tie.Need-same-length Inv-loop μ-loop
 same-length c = search (needs, puts)
 
--- src/lib.rt:59:1
 returns-3 : tie.Need-returns-3 Inv-loop μ-loop
 returns-3 c = search (needs, puts)
 

@@ -1,0 +1,196 @@
+-- What each way through `is_child`, `is_bare`, `separator_len`, `body_at`, `is_spoilt` and `join` gives. Assumes nothing.
+use mathlib.Core.Path.{_≡_, refl, sym, ap, _∙_}
+use mathlib.Core.Logic.{_≢_}
+use mathlib.Core.Bool.{Bool, true, false, not, cond, _&&_, _||_}
+use mathlib.Core.List.{List, [], _∷_, _++_, append-assoc}
+use Prim.Native.Nat.{ℕ, zero, suc, _+_, _-_, _≤_, _<_}
+use native.Mathlib.Nat.{zero-add}
+use native.Mathlib.Omega.{arith}
+use lib.Dec.{eqb, leb}
+use lib.ListN.{length, getD, take, drop, length-append}
+use lib.Seq.{length-take-le}
+use borrow.Author.Tests.{eq-eqb, ne-eqb, le-leb, lt-leb}
+use Rattle.text.specs.Text.{Text, lastIs, written, placed, fitted}
+use Rattle.text.specs.declared.Fit.{Fit}
+use Rattle.text.specs.declared.Fit.the-variants.{Written, Over}
+use Rattle.text.proofs.BoolLaws.{and-no, told, told-false, told-true}
+use Rattle.text.proofs.WriteLaws.{placed-first, placed-next, rest-whole}
+use Rattle.grammar.specs.Legal.{isRoot, isIdentifierCont}
+use Rattle.prefix.specs.Join.{isChild, bare, slashUnless, separator, body, joined, spoils}
+
+module _ (s : Text) (a : ℕ) where
+  pub child-slash : a ≡ 47 → true ≡ isChild s a
+  unfolding isChild
+  child-slash e = rw (eq-eqb a 47 e)
+
+  pub child-not : (b : Bool) → a ≢ 47 → b ≡ lastIs 125 s → not b ≡ true → false ≡ isChild s a
+  unfolding isChild
+  child-not b d h k = rw (ne-eqb a 47 d, told-false h k)
+
+  pub child-name : (b c : Bool) → a ≢ 47 → b ≡ lastIs 125 s → not b ≡ false → c ≡ isIdentifierCont a → c ≡ isChild s a
+  unfolding isChild
+  child-name b c d h k l = rw (ne-eqb a 47 d, told-true h k) l
+
+module _ (s : Text) where
+  pub bare-root : (b : Bool) → b ≡ isRoot s → b ≡ true → true ≡ bare s
+  unfolding bare
+  bare-root b h k = rw (told h k)
+
+  pub bare-closed : (b c : Bool) → b ≡ isRoot s → b ≡ false → c ≡ lastIs 125 s → c ≡ bare s
+  unfolding bare
+  bare-closed b c h k l = rw (told h k) l
+
+pub body-in : (r : Text) → length r ≢ 0 → 1 ≤ length r
+body-in r e = omega arith
+
+-- a text that is not empty, by its first byte
+cons : (r : Text) → length r ≢ 0 → r ≡ getD r 0 0 ∷ drop 1 r
+cons [] d = absurd (d refl)
+cons (a ∷ r) d = refl
+
+module _ (s t r : Text) where
+  pub separator-none : length r ≡ 0 → 0 ≡ length (separator s t r)
+  unfolding separator
+  separator-none e = go r e
+    where
+      go : (r : Text) → length r ≡ 0 → 0 ≡ length (separator s t r)
+      go [] e = refl
+      go (a ∷ r) e = absurd (omega arith)
+
+  pub separator-roots : (b c : Bool) → length r ≢ 0 → b ≡ isRoot s → b ≡ true → c ≡ isRoot t → c ≡ true → 0 ≡ length (separator s t r)
+  unfolding separator
+  separator-roots b c e h k l m = rw (cons r e, told h k, told l m)
+
+  pub separator-root : (b c : Bool) → length r ≢ 0 → b ≡ isRoot s → b ≡ true → c ≡ isRoot t → c ≡ false → 1 ≡ length (separator s t r)
+  unfolding separator
+  separator-root b c e h k l m = rw (cons r e, told h k, told l m)
+
+  pub separator-other : (b c : Bool) → length r ≢ 0 → b ≡ isRoot s → b ≡ false → c ≡ isChild s (getD r 0 0) → not c ≡ true → 0 ≡ length (separator s t r)
+  unfolding separator
+  separator-other b c e h k l m = rw (cons r e, told h k, told-false l m)
+
+  pub separator-bare : (b c d : Bool) → length r ≢ 0 → b ≡ isRoot s → b ≡ false → c ≡ isChild s (getD r 0 0) → not c ≡ false → d ≡ bare t → d ≡ true → 0 ≡ length (separator s t r)
+  unfolding separator
+  separator-bare b c d e h k l m n o = rw (cons r e, told h k, told-true l m, told n o)
+
+  pub separator-slash : (b c d : Bool) → length r ≢ 0 → b ≡ isRoot s → b ≡ false → c ≡ isChild s (getD r 0 0) → not c ≡ false → d ≡ bare t → d ≡ false → 1 ≡ length (separator s t r)
+  unfolding separator
+  separator-slash b c d e h k l m n o = rw (cons r e, told h k, told-true l m, told n o)
+
+module _ (s r : Text) where
+  pub body-none : length r ≡ 0 → drop 0 r ≡ body s r
+  unfolding body
+  body-none e = go r e
+    where
+      go : (r : Text) → length r ≡ 0 → drop 0 r ≡ body s r
+      go [] e = refl
+      go (a ∷ r) e = absurd (omega arith)
+
+  pub body-whole : length r ≢ 0 → getD r 0 0 ≢ 47 → drop 0 r ≡ body s r
+  unfolding body
+  body-whole e f = rw (cons r e, ne-eqb (getD r 0 0) 47 f, and-no (not (isRoot s)))
+
+  pub body-root : (b : Bool) → length r ≢ 0 → getD r 0 0 ≡ 47 → b ≡ isRoot s → b ≡ true → drop 0 r ≡ body s r
+  unfolding body
+  body-root b e f h k = rw (cons r e, told h k)
+
+  pub body-slash : (b : Bool) → length r ≢ 0 → getD r 0 0 ≡ 47 → b ≡ isRoot s → b ≡ false → drop 1 r ≡ body s r
+  unfolding body
+  body-slash b e f h k = rw (cons r e, told h k, f)
+
+module _ (t r : Text) where
+  pub spoils-not : (b : Bool) → b ≡ isRoot t → not b ≡ true → false ≡ spoils t r
+  unfolding spoils
+  spoils-not b h k = rw (told-false h k)
+
+  pub spoils-none : (b : Bool) → b ≡ isRoot t → not b ≡ false → length r ≡ 0 → false ≡ spoils t r
+  unfolding spoils
+  spoils-none b h k e = rw (told-true h k) (go r e)
+    where
+      go : (r : Text) → length r ≡ 0 → false ≡ spoils (47 ∷ []) r
+      go [] e = refl
+      go (a ∷ r) e = absurd (omega arith)
+
+  pub spoils-dot : (b : Bool) → b ≡ isRoot t → not b ≡ false → length r ≢ 0 → getD r 0 0 ≡ 46 → true ≡ spoils t r
+  unfolding spoils
+  spoils-dot b h k e f = rw (cons r e, told-true h k, f)
+
+  pub spoils-open : (b : Bool) → b ≡ isRoot t → not b ≡ false → length r ≢ 0 → getD r 0 0 ≢ 46 → eqb (getD r 0 0) 123 ≡ spoils t r
+  unfolding spoils
+  spoils-open b h k e f = rw (cons r e, told-true h k, ne-eqb (getD r 0 0) 46 f)
+
+-- the separator, as the part that the code takes of a slash
+one-byte : (b : Bool) → length (slashUnless b) ≤ 1
+one-byte true = omega arith
+one-byte false = omega arith
+
+pub separator-short : (s t r : Text) → length (separator s t r) ≤ 1
+unfolding separator
+separator-short s t [] = omega arith
+separator-short s t (a ∷ r) = one-byte (cond (isRoot s) (isRoot t) (not (isChild s a) || bare t))
+
+pub taken-length : (k : ℕ) → k ≤ 1 → k ≡ length {A = ℕ} (take k (47 ∷ []))
+taken-length k h = sym (length-take-le k (47 ∷ []) h)
+
+taken-byte : (b : Bool) → take (length (slashUnless b)) (47 ∷ []) ≡ slashUnless b
+taken-byte true = refl
+taken-byte false = refl
+
+separator-taken : (s t r : Text) → take (length (separator s t r)) (47 ∷ []) ≡ separator s t r
+unfolding separator
+separator-taken s t [] = refl
+separator-taken s t (a ∷ r) = taken-byte (cond (isRoot s) (isRoot t) (not (isChild s a) || bare t))
+
+joined-length : (s t r : Text) → length (joined s t r) ≡ length t + (length (separator s t r) + length (body s r))
+unfolding joined
+joined-length s t r = simp length-append
+
+-- a text that does not fit
+over-long : (t out : Text) → length out < length t → (Over ≡ fitted t out) × (out ≡ placed 0 t out)
+unfolding fitted placed
+over-long t out h = rw (zero-add (length t), lt-leb (length t) (length out) h) (refl, refl)
+
+module _ (s t r out : Text) where
+  pub join-over-new : length out < length t → (Over ≡ fitted (joined s t r) out) × (out ≡ placed 0 (joined s t r) out)
+  join-over-new h = over-long (joined s t r) out (omega (arith, joined-length s t r))
+
+  pub join-over-slash : (k : ℕ) → k ≡ length (separator s t r) → length out - length t < k → (Over ≡ fitted (joined s t r) out) × (out ≡ placed 0 (joined s t r) out)
+  join-over-slash k e h = over-long (joined s t r) out (omega (arith, joined-length s t r))
+
+  module _ (k f : ℕ) (e : k ≡ length (separator s t r)) (g : drop f r ≡ body s r) where
+    body-length : length (take (length r - f) (drop f r)) ≡ length (body s r)
+    body-length = rw (rest-whole r f, g)
+
+    pub join-over-body : length out - (length t + k) < length (take (length r - f) (drop f r)) → (Over ≡ fitted (joined s t r) out) × (out ≡ placed 0 (joined s t r) out)
+    join-over-body h = over-long (joined s t r) out (omega (arith, joined-length s t r, body-length))
+
+    pub join-fits : (x y z : Text) → length t ≤ length out → k ≤ length out - length t → length (take (length r - f) (drop f r)) ≤ length out - (length t + k)
+        → x ≡ placed 0 t out → y ≡ placed (length t) (take k (47 ∷ [])) x → z ≡ placed (length t + k) (take (length r - f) (drop f r)) y
+        → (Written (length t + k + length (take (length r - f) (drop f r))) ≡ fitted (joined s t r) out) × (z ≡ placed 0 (joined s t r) out)
+    unfolding fitted joined
+    join-fits x y z h i j ex ey ez =
+        let a : Text = separator s t r in
+        let b : Text = body s r in
+        let l : length t + length a + length b ≤ length out = omega (arith, body-length) in
+        let n : length (joined s t r) ≡ length t + length a + length b = omega (arith, joined-length s t r) in
+        let m : length (t ++ a) ≡ length t + length a = length-append t a in
+        let o : t ++ a ++ b ≡ joined s t r = append-assoc t a b in (
+          rw (n, le-leb (length t + length a + length b) (length out) l, body-length, e),
+          rw (
+            ez,
+            ey,
+            ex,
+            placed-first t out h,
+            e,
+            separator-taken s t r,
+            placed-next t a out (omega arith),
+            rest-whole r f,
+            g,
+            ← m,
+            placed-next (t ++ a) b out (omega arith),
+            o,
+            placed-first (joined s t r) out (omega arith),
+          ),
+        )
+
+pub ruleset joins = (child-slash, child-not, child-name, bare-root, bare-closed, separator-none, separator-roots, separator-root, separator-other, separator-bare, separator-slash, body-none, body-whole, body-root, body-slash, body-in, spoils-not, spoils-none, spoils-dot, spoils-open)

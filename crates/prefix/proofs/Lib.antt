@@ -1,0 +1,3 @@
+mod PrefixWays
+mod CountWays
+mod JoinWays

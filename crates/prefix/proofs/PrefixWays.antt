@@ -1,0 +1,63 @@
+-- What each way through `is_boundary` and `has_prefix` gives. Assumes nothing.
+use mathlib.Core.Path.{_≡_, refl, sym, ap, _∙_}
+use mathlib.Core.Logic.{_≢_}
+use mathlib.Core.Bool.{Bool, true, false, not, _||_, true≢false}
+use mathlib.Core.List.{List, [], _∷_}
+use mathlib.Core.Option.{Option, none, some}
+use Prim.Native.Nat.{ℕ, _≤_, _<_}
+use lib.Dec.{eqb}
+use lib.ListN.{length, getD, drop, drop-of-length-le}
+use lib.Seq.{drop-cons}
+use borrow.Author.Tests.{eq-eqb, ne-eqb}
+use Rattle.text.specs.Text.{Text, isSome, after, starts, lastIs}
+use Rattle.text.proofs.BoolLaws.{or-false, told, told-false, told-true}
+use Rattle.text.proofs.TextLaws.{starts-rest}
+use Rattle.grammar.specs.Legal.{isRoot}
+use Rattle.prefix.specs.Prefix.{boundary, hasPrefix}
+
+-- the root's test comes last in the code
+root-last : (r s d b l : Bool) → (r || s || d || b || l) ≡ (s || d || b || r || l)
+root-last true true d b l = refl
+root-last true false true b l = refl
+root-last true false false true l = refl
+root-last true false false false l = refl
+root-last false s d b l = rw (or-false (s || d || b))
+
+boundary-last : (s : Text) (a : ℕ) → boundary s a ≡ (eqb a 47 || eqb a 46 || eqb a 123 || isRoot s || lastIs 125 s)
+unfolding boundary
+boundary-last s a = root-last (isRoot s) (eqb a 47) (eqb a 46) (eqb a 123) (lastIs 125 s)
+
+module _ (s : Text) (a : ℕ) where
+  pub boundary-slash : a ≡ 47 → true ≡ boundary s a
+  boundary-slash e = rw (boundary-last s a, eq-eqb a 47 e)
+
+  pub boundary-dot : a ≢ 47 → a ≡ 46 → true ≡ boundary s a
+  boundary-dot d e = rw (boundary-last s a, ne-eqb a 47 d, eq-eqb a 46 e)
+
+  pub boundary-open : a ≢ 47 → a ≢ 46 → a ≡ 123 → true ≡ boundary s a
+  boundary-open d f e = rw (boundary-last s a, ne-eqb a 47 d, ne-eqb a 46 f, eq-eqb a 123 e)
+
+  pub boundary-root : (b : Bool) → a ≢ 47 → a ≢ 46 → a ≢ 123 → b ≡ isRoot s → b ≡ true → true ≡ boundary s a
+  boundary-root b d f g h k = rw (boundary-last s a, ne-eqb a 47 d, ne-eqb a 46 f, ne-eqb a 123 g, told h k)
+
+  pub boundary-closed : (b c : Bool) → a ≢ 47 → a ≢ 46 → a ≢ 123 → b ≡ isRoot s → b ≡ false → c ≡ lastIs 125 s → c ≡ boundary s a
+  boundary-closed b c d f g h k l = rw (boundary-last s a, ne-eqb a 47 d, ne-eqb a 46 f, ne-eqb a 123 g, told h k) l
+
+module _ (p s : Text) (b : Bool) where
+  pub prefix-not : b ≡ starts s p → not b ≡ true → false ≡ hasPrefix p s
+  unfolding hasPrefix starts
+  prefix-not h k = go (after s p) refl
+    where
+      go : (o : Option Text) → after s p ≡ o → false ≡ hasPrefix p s
+      go none e = rw e
+      go (some r) e = absurd (true≢false (sym (ap isSome e) ∙ told-false h k))
+
+  pub prefix-whole : b ≡ starts s p → not b ≡ false → length p ≤ length s → true ≡ hasPrefix p s
+  unfolding hasPrefix
+  prefix-whole h k l = rw (starts-rest s p (told-true h k), drop-of-length-le p l)
+
+  pub prefix-rest : (r : Bool) → b ≡ starts s p → not b ≡ false → length s < length p → r ≡ boundary s (getD p (length s) 0) → r ≡ hasPrefix p s
+  unfolding hasPrefix
+  prefix-rest r h k l j = rw (starts-rest s p (told-true h k), drop-cons p (length s) 0 l, j)
+
+pub ruleset prefixes = (boundary-slash, boundary-dot, boundary-open, boundary-root, boundary-closed, prefix-not, prefix-whole, prefix-rest)
