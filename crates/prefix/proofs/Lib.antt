@@ -1,3 +1,5 @@
 mod PrefixWays
 mod CountWays
 mod JoinWays
+pub mod CountLaws
+pub mod PrefixLaws

@@ -1,0 +1,39 @@
+-- Laws of the counts of elements, with selections or without. Assumes nothing.
+use mathlib.Core.Path.{_≡_, refl, sym, ap, _∙_}
+use mathlib.Core.Bool.{Bool, true, false, cond}
+use mathlib.Core.List.{List, [], _∷_, _++_}
+use Prim.Native.Nat.{ℕ, suc, _+_, _≤_}
+use native.Mathlib.Omega.{arith}
+use lib.ListN.{length}
+use Rattle.text.specs.Text.{Text, lastIs}
+use Rattle.grammar.specs.Legal.{isIdentifierCont, isRoot, isEnd}
+use Rattle.grammar.proofs.LegalLaws.{legal-last, end-legal}
+use Rattle.prefix.specs.Elements.{begins, count}
+
+-- a text has no more elements than bytes
+pub count-short : (f : Bool) (s : Text) → count f s ≤ length s
+unfolding count
+count-short f [] = omega arith
+count-short f (a ∷ s) = go (begins f a s) (count-short f s)
+  where
+    go : (b : Bool) → count f s ≤ length s → cond b 1 0 + count f s ≤ suc (length s)
+    go true ih = omega arith
+    go false ih = omega arith
+
+-- `/` has no element
+pub count-root : (f : Bool) → count f (47 ∷ []) ≡ 0
+unfolding count
+count-root f = refl
+
+-- the elements of a text are those of its parts, where no element begins at the last byte of the first
+pub count-app : (f : Bool) (s : Text) (c : ℕ) (y : Text) → isIdentifierCont c ≡ false → lastIs 47 s ≡ false
+    → count f (s ++ c ∷ y) ≡ count f s + count f (c ∷ y)
+unfolding count lastIs
+count-app f [] c y t l = omega arith
+count-app f (a ∷ []) c y t l = rw (l, t) (omega arith)
+count-app f (a ∷ b ∷ s) c y t l = rw (count-app f (b ∷ s) c y t l) (omega arith)
+
+-- so it is behind an end but `/`
+pub count-behind : (f : Bool) (s : Text) (c : ℕ) (y : Text) → isIdentifierCont c ≡ false → isEnd s ≡ true → isRoot s ≡ false
+    → count f (s ++ c ∷ y) ≡ count f s + count f (c ∷ y)
+count-behind f s c y t e n = count-app f s c y t (legal-last s (end-legal s e) n)

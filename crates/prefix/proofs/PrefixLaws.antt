@@ -1,0 +1,93 @@
+-- Laws of prefixes, and of replacing one. Assumes nothing.
+use mathlib.Core.Path.{_≡_, refl, sym, ap, _∙_}
+use mathlib.Core.Bool.{Bool, true, false, cond, _&&_, _||_, true≢false, false≢true}
+use mathlib.Core.List.{List, [], _∷_, _++_, append-nil}
+use mathlib.Core.Option.{Option, none, some}
+use Prim.Native.Nat.{ℕ, _≤_}
+use lib.Dec.{eqb}
+use lib.ListN.{length, drop}
+use lib.Seq.{drop-append-seam}
+use borrow.Author.Tests.{eqb-true}
+use Rattle.text.specs.Text.{Text, isNil, isSome, after, starts}
+use Rattle.text.proofs.BoolLaws.{and-l, or-false}
+use Rattle.text.proofs.TextLaws.{no-text, after-up, after-down, starts-long}
+use Rattle.grammar.specs.Legal.{State, Slash, run, accept, legal}
+use Rattle.prefix.specs.Prefix.{follows, followsSome, hasPrefix}
+use Rattle.prefix.specs.Join.{joined, replacePrefix}
+
+-- what may follow s gives a text with the prefix s ..
+pub prefix-made : (s r : Text) → hasPrefix (s ++ r) s ≡ follows s r
+unfolding hasPrefix
+prefix-made s r = rw (after-down s r)
+
+-- .. and only that does
+pub prefix-rest : (p s : Text) → hasPrefix p s ≡ true → (p ≡ s ++ drop (length s) p) × (follows s (drop (length s) p) ≡ true)
+unfolding hasPrefix
+prefix-rest p s h = go (after s p) refl
+  where
+    go : (o : Option Text) → after s p ≡ o → (p ≡ s ++ drop (length s) p) × (follows s (drop (length s) p) ≡ true)
+    go none e = absurd (false≢true (sym (ap (followsSome s) e) ∙ h))
+    go (some r) e =
+        let k : drop (length s) p ≡ r = rw (after-up s p r e) (drop-append-seam s r) in
+        rw k (after-up s p r e, sym (ap (followsSome s) e) ∙ h)
+
+-- a text is a prefix of itself
+pub prefix-self : (p : Text) → hasPrefix p p ≡ true
+unfolding follows
+prefix-self p = rw append-nil at (prefix-made p [])
+
+-- the empty text is a prefix of the texts that begin with `/`, `.` or `{` ..
+pub prefix-empty : (a : ℕ) (r : Text) → hasPrefix (a ∷ r) [] ≡ (eqb a 47 || eqb a 46 || eqb a 123)
+unfolding hasPrefix
+prefix-empty a r = or-false (eqb a 47 || eqb a 46 || eqb a 123)
+
+-- .. and so of every legal text
+pub legal-prefix-empty : (p : Text) → legal p ≡ true → hasPrefix p [] ≡ true
+unfolding legal
+legal-prefix-empty [] l = prefix-self []
+legal-prefix-empty (a ∷ r) l = rw (prefix-empty a r, and-l (eqb a 47) (isNil r || accept (run Slash r)) l)
+
+-- `/` is a prefix of every legal text but the empty one
+pub legal-prefix-root : (p : Text) → legal p ≡ true → isNil p ≡ false → hasPrefix p (47 ∷ []) ≡ true
+unfolding legal follows
+legal-prefix-root [] l n = absurd (true≢false n)
+legal-prefix-root (a ∷ r) l n = rw (eqb-true a 47 (and-l (eqb a 47) (isNil r || accept (run Slash r)) l)) (prefix-made (47 ∷ []) r ∙ go r)
+  where
+    go : (r : Text) → follows (47 ∷ []) r ≡ true
+    go [] = refl
+    go (b ∷ r) = refl
+
+-- a text begins with its prefix, and is as long at least
+pub prefix-starts : (p s : Text) → hasPrefix p s ≡ true → starts s p ≡ true
+unfolding starts
+prefix-starts p s h = rw (prefix-rest p s h .0) (ap isSome (after-down s (drop (length s) p)))
+
+pub prefix-long : (p s : Text) → hasPrefix p s ≡ true → length s ≤ length p
+prefix-long p s h = starts-long s p (prefix-starts p s h)
+
+-- a prefix is replaced ..
+pub replace-made : (s t r : Text) → follows s r ≡ true → replacePrefix (s ++ r) s t ≡ some (joined s t r)
+unfolding replacePrefix
+replace-made s t r f = rw (after-down s r, f)
+
+pub replace-prefix : (p s t : Text) → hasPrefix p s ≡ true → replacePrefix p s t ≡ some (joined s t (drop (length s) p))
+replace-prefix p s t h = go (drop (length s) p) (prefix-rest p s h .0) (prefix-rest p s h .1)
+  where
+    go : (r : Text) → p ≡ s ++ r → follows s r ≡ true → replacePrefix p s t ≡ some (joined s t r)
+    go r e f = rw e (replace-made s t r f)
+
+-- .. and nothing else is
+pub replace-other : (p s t : Text) → hasPrefix p s ≡ false → replacePrefix p s t ≡ none
+unfolding hasPrefix replacePrefix
+replace-other p s t h = go (after s p) refl
+  where
+    go : (o : Option Text) → after s p ≡ o → replacePrefix p s t ≡ none
+    go none e = rw e
+    go (some r) e = let k : follows s r ≡ false = sym (ap (followsSome s) e) ∙ h in rw (e, k)
+
+pub replaced-prefix : (p s t q : Text) → replacePrefix p s t ≡ some q → hasPrefix p s ≡ true
+replaced-prefix p s t q e = go (hasPrefix p s) refl
+  where
+    go : (b : Bool) → hasPrefix p s ≡ b → hasPrefix p s ≡ true
+    go true h = h
+    go false h = absurd (no-text (sym (replace-other p s t h) ∙ e))
