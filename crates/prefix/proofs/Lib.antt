@@ -3,3 +3,4 @@ mod CountWays
 mod JoinWays
 pub mod CountLaws
 pub mod PrefixLaws
+pub mod JoinLaws

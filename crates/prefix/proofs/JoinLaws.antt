@@ -1,0 +1,168 @@
+-- Replacing a prefix, as a relation that can be read both ways. Assumes nothing.
+use mathlib.Core.Path.{_≡_, refl, sym, ap, _∙_}
+use mathlib.Core.Bool.{Bool, true, false, not, cond, _&&_, _||_, true≢false, false≢true}
+use mathlib.Core.List.{List, [], _∷_, _++_, append-nil}
+use mathlib.Core.Option.{Option, none, some}
+use Prim.Native.Nat.{ℕ, _+_}
+use native.Mathlib.Omega.{arith}
+use lib.Dec.{eqb}
+use lib.ListN.{length, drop}
+use borrow.Author.Tests.{eqb-true}
+use Rattle.text.specs.Text.{Text, isNil, lastIs, lacks}
+use Rattle.text.proofs.BoolLaws.{and-no, or-false}
+use Rattle.text.proofs.TextLaws.{last-snoc, lacks-first, lacks-behind, lacks-join}
+use Rattle.grammar.specs.Legal.{isIdentifierCont, isRoot, legal, isEnd}
+use Rattle.grammar.proofs.LegalLaws.{no-root-dot, legal-last, end-lacks, end-close, root-is}
+use Rattle.prefix.specs.Prefix.{follows, hasPrefix}
+use Rattle.prefix.specs.Join.{isChild, bare, slashUnless, joined, replacePrefix}
+use Rattle.prefix.specs.Elements.{count}
+use Rattle.prefix.proofs.PrefixLaws.{prefix-made, prefix-rest, replace-made, replace-prefix, replaced-prefix}
+use Rattle.prefix.proofs.CountLaws.{count-root, count-behind}
+
+-- a prim path, or nothing for `/`: what a slash and a name may follow
+pub stem : Text → Text
+stem s = cond (isRoot s) [] s
+
+-- p is s and a rest, and q is t and the same rest: nothing, a slash and more, or a property
+pub data Rel (s t : Text) : Text → Text → Type 0 where
+  whole : Rel s t s t
+  under : (x : ℕ) (r : Text) → Rel s t (stem s ++ 47 ∷ x ∷ r) (stem t ++ 47 ∷ x ∷ r)
+  dotted : (r : Text) → isRoot s ≡ false → isRoot t ≡ false → Rel s t (s ++ 46 ∷ r) (t ++ 46 ∷ r)
+
+-- then q and p are so related, by t and s
+pub swap : {s t p q : Text} → Rel s t p q → Rel t s q p
+swap whole = whole
+swap (under x r) = under x r
+swap (dotted r h k) = dotted r k h
+
+stem-root : (y : Text) → stem (47 ∷ []) ++ y ≡ y
+unfolding stem
+stem-root y = refl
+
+stem-not : (s y : Text) → isRoot s ≡ false → stem s ++ y ≡ s ++ y
+unfolding stem
+stem-not s y h = rw h
+
+-- a slash is written where the new prefix is not one
+slash-stem : (t y : Text) → t ++ (slashUnless (isRoot t) ++ y) ≡ stem t ++ 47 ∷ y
+slash-stem t y = go (isRoot t) refl
+  where
+    go : (b : Bool) → isRoot t ≡ b → t ++ (slashUnless b ++ y) ≡ stem t ++ 47 ∷ y
+    go true h = rw (root-is t h, stem-root)
+    go false h = sym (stem-not t (47 ∷ y) h)
+
+-- the joined text, by what the rest begins with
+pub joined-none : (s t : Text) → joined s t [] ≡ t
+unfolding joined
+joined-none s t = append-nil t
+
+pub joined-root : (t : Text) (a : ℕ) (r : Text) → joined (47 ∷ []) t (a ∷ r) ≡ stem t ++ 47 ∷ a ∷ r
+unfolding joined
+joined-root t a r = slash-stem t (a ∷ r)
+
+pub joined-slash : (s t r : Text) → isRoot s ≡ false → lastIs 125 t ≡ false → joined s t (47 ∷ r) ≡ stem t ++ 47 ∷ r
+unfolding joined
+joined-slash s t r h l = rw (h, l, or-false (isRoot t)) (slash-stem t r)
+
+pub joined-other : (s t : Text) (a : ℕ) (r : Text) → isRoot s ≡ false → lastIs 125 s ≡ false → eqb a 47 ≡ false → joined s t (a ∷ r) ≡ t ++ a ∷ r
+unfolding joined
+joined-other s t a r h l e = rw (h, e, l)
+
+made : (s t r p q : Text) → follows s r ≡ true → s ++ r ≡ p → joined s t r ≡ q → (hasPrefix p s ≡ true) × (replacePrefix p s t ≡ some q)
+made s t r p q f h k = rw (← h, ← k) (prefix-made s r ∙ f, replace-made s t r f)
+
+-- what is so related is what replacing gives
+pub back : {s t p q : Text} → Rel s t p q → isEnd s ≡ true → isEnd t ≡ true → (hasPrefix p s ≡ true) × (replacePrefix p s t ≡ some q)
+unfolding follows
+back {s} {t} whole es et = made s t [] s t refl (append-nil s) (joined-none s t)
+back {s} {t} (under x r) es et = go (isRoot s) refl
+  where
+    go : (b : Bool) → isRoot s ≡ b
+        → (hasPrefix (stem s ++ 47 ∷ x ∷ r) s ≡ true) × (replacePrefix (stem s ++ 47 ∷ x ∷ r) s t ≡ some (stem t ++ 47 ∷ x ∷ r))
+    go true h = rw (root-is s h) (made (47 ∷ []) t (x ∷ r) _ _ refl (sym (stem-root (47 ∷ x ∷ r))) (joined-root t x r))
+    go false h = made s t (47 ∷ x ∷ r) _ _ (rw h) (sym (stem-not s (47 ∷ x ∷ r) h)) (joined-slash s t (x ∷ r) h (end-close t et))
+back {s} {t} (dotted r h k) es et = made s t (46 ∷ r) _ _ (rw h) refl (joined-other s t 46 r h (end-close s es) refl)
+
+-- what replacing gives is so related
+under-root : (t : Text) (a : ℕ) (r : Text) → Rel (47 ∷ []) t (47 ∷ a ∷ r) (joined (47 ∷ []) t (a ∷ r))
+unfolding stem
+under-root t a r = rw (joined-root t a r) (under a r)
+
+under-slash : (s t r : Text) → isNil s ≡ false → isRoot s ≡ false → isEnd t ≡ true → legal (s ++ 47 ∷ r) ≡ true
+    → Rel s t (s ++ 47 ∷ r) (joined s t (47 ∷ r))
+under-slash s t [] n h et lp = absurd (true≢false (sym (last-snoc 47 s 47) ∙ legal-last (s ++ 47 ∷ []) lp (longer s n)))
+  where
+    longer : (s : Text) → isNil s ≡ false → isRoot (s ++ 47 ∷ []) ≡ false
+    longer [] n = absurd (true≢false n)
+    longer (b ∷ []) n = and-no (eqb b 47)
+    longer (b ∷ c ∷ s) n = and-no (eqb b 47)
+under-slash s t (x ∷ r) n h et lp = rw (joined-slash s t (x ∷ r) h (end-close t et), ← (stem-not s (47 ∷ x ∷ r) h)) (under x r)
+
+behind-dot : (s t r : Text) → isRoot s ≡ false → isEnd s ≡ true → legal (joined s t (46 ∷ r)) ≡ true → Rel s t (s ++ 46 ∷ r) (joined s t (46 ∷ r))
+behind-dot s t r h es lq = go (isRoot t) refl
+  where
+    is : joined s t (46 ∷ r) ≡ t ++ 46 ∷ r
+    is = joined-other s t 46 r h (end-close s es) refl
+
+    go : (b : Bool) → isRoot t ≡ b → Rel s t (s ++ 46 ∷ r) (joined s t (46 ∷ r))
+    go true k = absurd (no-root-dot r (rw (is, root-is t k) at lq))
+    go false k = rw is (dotted r h k)
+
+-- a rest joined to t
+pub rests : (s t r : Text) → isNil s ≡ false → isEnd s ≡ true → isEnd t ≡ true → legal (s ++ r) ≡ true → lacks 123 (s ++ r) ≡ true
+    → follows s r ≡ true → legal (joined s t r) ≡ true → Rel s t (s ++ r) (joined s t r)
+unfolding follows
+rests s t [] n es et lp f j lq = rw (joined-none s t, append-nil s) whole
+rests s t (a ∷ r) n es et lp f j lq = root (isRoot s) refl
+  where
+    dot : (b : Bool) → isRoot s ≡ false → eqb a 47 ≡ false → eqb a 46 ≡ b → Rel s t (s ++ a ∷ r) (joined s t (a ∷ r))
+    dot true h k e = rw (eqb-true a 46 e) (behind-dot s t r h es (rw (eqb-true a 46 e) at lq))
+    dot false h k e = absurd (false≢true (rw (h, k, e, lacks-first 123 a r (lacks-behind 123 s (a ∷ r) f), end-close s es) at j))
+
+    slash : (b : Bool) → isRoot s ≡ false → eqb a 47 ≡ b → Rel s t (s ++ a ∷ r) (joined s t (a ∷ r))
+    slash true h k = rw (eqb-true a 47 k) (under-slash s t r n h et (rw (eqb-true a 47 k) at lp))
+    slash false h k = dot (eqb a 46) h k refl
+
+    root : (b : Bool) → isRoot s ≡ b → Rel s t (s ++ a ∷ r) (joined s t (a ∷ r))
+    root true h = rw (root-is s h) (under-root t a r)
+    root false h = slash (eqb a 47) h refl
+
+pub replaced : (p s t q : Text) → isNil s ≡ false → isEnd s ≡ true → isEnd t ≡ true → legal p ≡ true → lacks 123 p ≡ true
+    → replacePrefix p s t ≡ some q → legal q ≡ true → Rel s t p q
+replaced p s t q n es et lp f e lq = go (drop (length s) p) (prefix-rest p s h .0) (prefix-rest p s h .1) (sym (replace-prefix p s t h) ∙ e)
+  where
+    h : hasPrefix p s ≡ true
+    h = replaced-prefix p s t q e
+
+    go : (r : Text) → p ≡ s ++ r → follows s r ≡ true → some (joined s t r) ≡ some q → Rel s t p q
+    go r k j i = let m : joined s t r ≡ q = cc in rw (k, ← m) (rests s t r n es et (rw k at lp) (rw k at f) j (rw (← m) at lq))
+
+-- the elements of p beyond those of s are as many as those of q beyond those of t
+count-stem : (f : Bool) (s y : Text) → isEnd s ≡ true → count f (stem s ++ 47 ∷ y) ≡ count f s + count f (47 ∷ y)
+unfolding isIdentifierCont
+count-stem f s y e = go (isRoot s) refl
+  where
+    go : (b : Bool) → isRoot s ≡ b → count f (stem s ++ 47 ∷ y) ≡ count f s + count f (47 ∷ y)
+    go true h = rw (root-is s h, stem-root, count-root f) (omega arith)
+    go false h = rw (stem-not s (47 ∷ y) h) (count-behind f s 47 y refl e h)
+
+pub weigh : {s t p q : Text} (f : Bool) → Rel s t p q → isEnd s ≡ true → isEnd t ≡ true → count f p + count f t ≡ count f q + count f s
+unfolding isIdentifierCont
+weigh f whole es et = omega arith
+weigh {s} {t} f (under x r) es et = omega (arith, count-stem f s (x ∷ r) es, count-stem f t (x ∷ r) et)
+weigh {s} {t} f (dotted r h k) es et = omega (arith, count-behind f s 46 r refl es h, count-behind f t 46 r refl et k)
+
+-- the made path has no selection either
+stem-lacks : (t : Text) → lacks 123 t ≡ true → lacks 123 (stem t) ≡ true
+unfolding stem lacks
+stem-lacks t f = go (isRoot t)
+  where
+    go : (b : Bool) → lacks 123 (cond b [] t) ≡ true
+    go true = refl
+    go false = f
+
+pub still-lacks : {s t p q : Text} → Rel s t p q → isEnd t ≡ true → lacks 123 p ≡ true → lacks 123 q ≡ true
+still-lacks {s} {t} whole et f = end-lacks t et
+still-lacks {s} {t} (under x r) et f =
+    lacks-join 123 (stem t) (47 ∷ x ∷ r) (stem-lacks t (end-lacks t et)) (lacks-behind 123 (stem s) (47 ∷ x ∷ r) f)
+still-lacks {s} {t} (dotted r h k) et f = lacks-join 123 t (46 ∷ r) (end-lacks t et) (lacks-behind 123 s (46 ∷ r) f)
