@@ -35,11 +35,11 @@ swap whole = whole
 swap (under x r) = under x r
 swap (dotted r h k) = dotted r k h
 
-stem-root : (y : Text) → stem (47 ∷ []) ++ y ≡ y
+pub stem-root : (y : Text) → stem (47 ∷ []) ++ y ≡ y
 unfolding stem
 stem-root y = refl
 
-stem-not : (s y : Text) → isRoot s ≡ false → stem s ++ y ≡ s ++ y
+pub stem-not : (s y : Text) → isRoot s ≡ false → stem s ++ y ≡ s ++ y
 unfolding stem
 stem-not s y h = rw h
 

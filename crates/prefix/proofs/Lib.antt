@@ -4,3 +4,4 @@ mod JoinWays
 pub mod CountLaws
 pub mod PrefixLaws
 pub mod JoinLaws
+pub mod JoinLegal

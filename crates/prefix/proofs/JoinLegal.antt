@@ -1,0 +1,112 @@
+-- When the joined text is legal. Assumes nothing.
+use mathlib.Core.Path.{_≡_, refl, sym, ap, _∙_}
+use mathlib.Core.Bool.{Bool, true, false, not, cond, _&&_, _||_, true≢false, false≢true}
+use mathlib.Core.List.{List, [], _∷_, _++_}
+use Prim.Native.Nat.{ℕ}
+use lib.Dec.{eqb}
+use borrow.Author.Tests.{eqb-true}
+use Rattle.text.specs.Text.{Text, isNil, lacks}
+use Rattle.text.proofs.BoolLaws.{and-l, and-r, and-no, or-right, or-false}
+use Rattle.text.proofs.TextLaws.{lacks-first, lacks-rest}
+use Rattle.grammar.specs.Legal.{State, Slash, Name, Dead, isIdentifierStart, isIdentifierCont, step, run, accept, isRoot, legal, isEnd}
+use Rattle.grammar.proofs.RunLaws.{run-app, run-dead}
+use Rattle.grammar.proofs.LegalLaws.{end-legal, end-lacks, end-close, root-is}
+use Rattle.prefix.specs.Prefix.{follows}
+use Rattle.prefix.specs.Join.{joined, hangs, spoils, JoinedLegal}
+use Rattle.prefix.proofs.JoinLaws.{stem, stem-root, stem-not, joined-none, joined-root, joined-slash, joined-other}
+
+-- without `{` and `.` the reader meets three states only
+data Plain : State → Type 0 where
+  slash : Plain Slash
+  name : Plain Name
+  dead : Plain Dead
+
+either : {x y : State} (b : Bool) → Plain x → Plain y → Plain (cond b x y)
+either true h k = h
+either false h k = k
+
+stays : {s : State} → Plain s → (a : ℕ) → eqb a 123 ≡ false → eqb a 46 ≡ false → Plain (step s a)
+unfolding step
+stays slash a h k = either (isIdentifierStart a) name dead
+stays name a h k = rw (h, k) (either (isIdentifierCont a) name (either (eqb a 47) slash dead))
+stays dead a h k = dead
+
+reads-plain : {s : State} → Plain s → (r : Text) → lacks 123 r ≡ true → lacks 46 r ≡ true → Plain (run s r)
+unfolding run
+reads-plain o [] f g = o
+reads-plain o (a ∷ r) f g =
+    reads-plain (stays o a (lacks-first 123 a r f) (lacks-first 46 a r g)) r (lacks-rest 123 a r f) (lacks-rest 46 a r g)
+
+accepts-name : {s : State} → Plain s → accept s ≡ true → s ≡ Name
+unfolding accept
+accepts-name slash e = absurd (false≢true e)
+accepts-name name e = refl
+accepts-name dead e = absurd (false≢true e)
+
+end-lacks-dot : (s : Text) → isEnd s ≡ true → lacks 46 s ≡ true
+unfolding isEnd
+end-lacks-dot s e = and-r (lacks 123 s) (lacks 46 s) (and-r (legal s) (lacks 123 s && lacks 46 s) e)
+
+-- behind a prim path the reader is in a name
+pub behind-end : (s y : Text) → isEnd s ≡ true → isNil s ≡ false → isRoot s ≡ false → legal (s ++ y) ≡ accept (run Name y)
+unfolding legal
+behind-end [] y e n h = absurd (true≢false n)
+behind-end (a ∷ []) y e n h = absurd (true≢false (sym (end-legal (a ∷ []) e) ∙ h))
+behind-end (a ∷ b ∷ x) y e n h =
+    let l : (eqb a 47 && accept (run Slash (b ∷ x))) ≡ true = end-legal (a ∷ b ∷ x) e in
+    let o : Plain (run Slash (b ∷ x)) =
+      reads-plain slash (b ∷ x) (lacks-rest 123 a (b ∷ x) (end-lacks (a ∷ b ∷ x) e)) (lacks-rest 46 a (b ∷ x) (end-lacks-dot (a ∷ b ∷ x) e)) in
+    rw (and-l (eqb a 47) (accept (run Slash (b ∷ x))) l, run-app Slash (b ∷ x) y, accepts-name o (and-r (eqb a 47) (accept (run Slash (b ∷ x))) l))
+
+-- what may follow a slash may follow it behind an end
+under-stem : (t y : Text) → isEnd t ≡ true → isNil t ≡ false → accept (run Slash y) ≡ true → legal (stem t ++ 47 ∷ y) ≡ true
+unfolding legal run step isIdentifierCont
+under-stem t y et nt e = go (isRoot t) refl
+  where
+    go : (b : Bool) → isRoot t ≡ b → legal (stem t ++ 47 ∷ y) ≡ true
+    go true h = rw (root-is t h, stem-root) (or-right (isNil y) (accept (run Slash y)) e)
+    go false h = rw (stem-not t (47 ∷ y) h) (behind-end t (47 ∷ y) et nt h ∙ e)
+
+-- `.` and `{` may not follow `/`
+dies : (a : ℕ) (r : Text) → step Slash a ≡ Dead → legal (47 ∷ a ∷ r) ≡ false
+unfolding legal run accept
+dies a r h = ap (λ (s : State). accept (run s r)) h ∙ rw (run-dead r)
+
+hang-dies : (a : ℕ) (r : Text) → (eqb a 46 || eqb a 123) ≡ true → legal (47 ∷ a ∷ r) ≡ false
+unfolding step isIdentifierStart
+hang-dies a r h = go (eqb a 46) (eqb a 123) refl refl h
+  where
+    go : (b c : Bool) → eqb a 46 ≡ b → eqb a 123 ≡ c → (b || c) ≡ true → legal (47 ∷ a ∷ r) ≡ false
+    go true c e f h = rw (eqb-true a 46 e) (dies 46 r refl)
+    go false true e f h = rw (eqb-true a 123 f) (dies 123 r refl)
+    go false false e f h = absurd (false≢true h)
+
+no-hang : (a : ℕ) (r : Text) → legal (47 ∷ a ∷ r) ≡ true → (eqb a 46 || eqb a 123) ≡ false
+no-hang a r l = go (eqb a 46 || eqb a 123) refl
+  where
+    go : (b : Bool) → (eqb a 46 || eqb a 123) ≡ b → b ≡ false
+    go true h = absurd (true≢false (sym l ∙ hang-dies a r h))
+    go false h = refl
+
+pub joined-legal : JoinedLegal
+unfolding spoils follows legal run step isIdentifierStart isIdentifierCont
+joined-legal s t [] l es ns et nt j = rw (joined-none s t, and-no (isRoot t)) (end-legal t et)
+joined-legal s t (a ∷ r) l es ns et nt j = root (isRoot s) refl
+  where
+    other : (b : Bool) → isRoot s ≡ false → eqb a 47 ≡ false → accept (run Name (a ∷ r)) ≡ true → isRoot t ≡ b
+        → legal (joined s t (a ∷ r)) ≡ not (spoils t (a ∷ r))
+    other true h k e i =
+        let g : (eqb a 46 || eqb a 123) ≡ true = sym (or-false (eqb a 46 || eqb a 123)) ∙ rw (h, k, end-close s es) at j in
+        rw (joined-other s t a r h (end-close s es) k, root-is t i, g) (hang-dies a r g)
+    other false h k e i = rw (joined-other s t a r h (end-close s es) k, i) (behind-end t (a ∷ r) et nt i ∙ e)
+
+    slashed : (b : Bool) → isRoot s ≡ false → accept (run Name (a ∷ r)) ≡ true → eqb a 47 ≡ b → legal (joined s t (a ∷ r)) ≡ not (spoils t (a ∷ r))
+    slashed true h e k =
+        rw (eqb-true a 47 k, joined-slash s t r h (end-close t et), and-no (isRoot t)) (under-stem t r et nt (rw (eqb-true a 47 k) at e))
+    slashed false h e k = other (isRoot t) h k e refl
+
+    root : (b : Bool) → isRoot s ≡ b → legal (joined s t (a ∷ r)) ≡ not (spoils t (a ∷ r))
+    root true h =
+        let i : legal (47 ∷ a ∷ r) ≡ true = rw (root-is s h) at l in
+        rw (root-is s h, joined-root t a r, no-hang a r i, and-no (isRoot t)) (under-stem t (a ∷ r) et nt i)
+    root false h = slashed (eqb a 47) h (sym (behind-end s (a ∷ r) es ns h) ∙ l) refl
