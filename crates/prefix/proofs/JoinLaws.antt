@@ -1,8 +1,8 @@
 -- Replacing a prefix, as a relation that can be read both ways. Assumes nothing.
-use mathlib.Core.Path.{_≡_, refl, sym, ap, _∙_}
-use mathlib.Core.Bool.{Bool, true, false, not, cond, _&&_, _||_, true≢false, false≢true}
-use mathlib.Core.List.{List, [], _∷_, _++_, append-nil}
-use mathlib.Core.Option.{Option, none, some}
+use mathlib.Core.Path.{_≡_, refl, sym, _∙_}
+use mathlib.Core.Bool.{Bool, true, false, cond, true≢false, false≢true}
+use mathlib.Core.List.{[], _∷_, _++_, append-nil}
+use mathlib.Core.Option.{some}
 use Prim.Native.Nat.{ℕ, _+_}
 use native.Mathlib.Omega.{arith}
 use lib.Dec.{eqb}
@@ -14,7 +14,7 @@ use Rattle.text.proofs.TextLaws.{last-snoc, lacks-first, lacks-behind, lacks-jo
 use Rattle.grammar.specs.Legal.{isIdentifierCont, isRoot, legal, isEnd}
 use Rattle.grammar.proofs.LegalLaws.{no-root-dot, legal-last, end-lacks, end-close, root-is}
 use Rattle.prefix.specs.Prefix.{follows, hasPrefix}
-use Rattle.prefix.specs.Join.{isChild, bare, slashUnless, joined, replacePrefix}
+use Rattle.prefix.specs.Join.{slashUnless, joined, replacePrefix}
 use Rattle.prefix.specs.Elements.{count}
 use Rattle.prefix.proofs.PrefixLaws.{prefix-made, prefix-rest, replace-made, replace-prefix, replaced-prefix}
 use Rattle.prefix.proofs.CountLaws.{count-root, count-behind}
@@ -22,6 +22,15 @@ use Rattle.prefix.proofs.CountLaws.{count-root, count-behind}
 -- a prim path, or nothing for `/`: what a slash and a name may follow
 pub stem : Text → Text
 stem s = cond (isRoot s) [] s
+
+-- with a text behind it
+pub stem-root : (y : Text) → stem (47 ∷ []) ++ y ≡ y
+unfolding stem
+stem-root y = refl
+
+pub stem-not : (s y : Text) → isRoot s ≡ false → stem s ++ y ≡ s ++ y
+unfolding stem
+stem-not s y h = rw h
 
 -- p is s and a rest, and q is t and the same rest: nothing, a slash and more, or a property
 pub data Rel (s t : Text) : Text → Text → Type 0 where
@@ -34,14 +43,6 @@ pub swap : {s t p q : Text} → Rel s t p q → Rel t s q p
 swap whole = whole
 swap (under x r) = under x r
 swap (dotted r h k) = dotted r k h
-
-pub stem-root : (y : Text) → stem (47 ∷ []) ++ y ≡ y
-unfolding stem
-stem-root y = refl
-
-pub stem-not : (s y : Text) → isRoot s ≡ false → stem s ++ y ≡ s ++ y
-unfolding stem
-stem-not s y h = rw h
 
 -- a slash is written where the new prefix is not one
 slash-stem : (t y : Text) → t ++ (slashUnless (isRoot t) ++ y) ≡ stem t ++ 47 ∷ y
@@ -83,7 +84,6 @@ back {s} {t} (under x r) es et = go (isRoot s) refl
     go false h = made s t (47 ∷ x ∷ r) _ _ (rw h) (sym (stem-not s (47 ∷ x ∷ r) h)) (joined-slash s t (x ∷ r) h (end-close t et))
 back {s} {t} (dotted r h k) es et = made s t (46 ∷ r) _ _ (rw h) refl (joined-other s t 46 r h (end-close s es) refl)
 
--- what replacing gives is so related
 under-root : (t : Text) (a : ℕ) (r : Text) → Rel (47 ∷ []) t (47 ∷ a ∷ r) (joined (47 ∷ []) t (a ∷ r))
 unfolding stem
 under-root t a r = rw (joined-root t a r) (under a r)
@@ -108,7 +108,7 @@ behind-dot s t r h es lq = go (isRoot t) refl
     go true k = absurd (no-root-dot r (rw (is, root-is t k) at lq))
     go false k = rw is (dotted r h k)
 
--- a rest joined to t
+-- a rest that may follow s, and the joined text, are so related ..
 pub rests : (s t r : Text) → isNil s ≡ false → isEnd s ≡ true → isEnd t ≡ true → legal (s ++ r) ≡ true → lacks 123 (s ++ r) ≡ true
     → follows s r ≡ true → legal (joined s t r) ≡ true → Rel s t (s ++ r) (joined s t r)
 unfolding follows
@@ -127,6 +127,7 @@ rests s t (a ∷ r) n es et lp f j lq = root (isRoot s) refl
     root true h = rw (root-is s h) (under-root t a r)
     root false h = slash (eqb a 47) h refl
 
+-- .. and so what replacing gives is
 pub replaced : (p s t q : Text) → isNil s ≡ false → isEnd s ≡ true → isEnd t ≡ true → legal p ≡ true → lacks 123 p ≡ true
     → replacePrefix p s t ≡ some q → legal q ≡ true → Rel s t p q
 replaced p s t q n es et lp f e lq = go (drop (length s) p) (prefix-rest p s h .0) (prefix-rest p s h .1) (sym (replace-prefix p s t h) ∙ e)
@@ -137,7 +138,6 @@ replaced p s t q n es et lp f e lq = go (drop (length s) p) (prefix-rest p s h .
     go : (r : Text) → p ≡ s ++ r → follows s r ≡ true → some (joined s t r) ≡ some q → Rel s t p q
     go r k j i = let m : joined s t r ≡ q = cc in rw (k, ← m) (rests s t r n es et (rw k at lp) (rw k at f) j (rw (← m) at lq))
 
--- the elements of p beyond those of s are as many as those of q beyond those of t
 count-stem : (f : Bool) (s y : Text) → isEnd s ≡ true → count f (stem s ++ 47 ∷ y) ≡ count f s + count f (47 ∷ y)
 unfolding isIdentifierCont
 count-stem f s y e = go (isRoot s) refl
@@ -146,13 +146,13 @@ count-stem f s y e = go (isRoot s) refl
     go true h = rw (root-is s h, stem-root, count-root f) (omega arith)
     go false h = rw (stem-not s (47 ∷ y) h) (count-behind f s 47 y refl e h)
 
+-- p has as many elements beyond those of s as q has beyond those of t
 pub weigh : {s t p q : Text} (f : Bool) → Rel s t p q → isEnd s ≡ true → isEnd t ≡ true → count f p + count f t ≡ count f q + count f s
 unfolding isIdentifierCont
 weigh f whole es et = omega arith
 weigh {s} {t} f (under x r) es et = omega (arith, count-stem f s (x ∷ r) es, count-stem f t (x ∷ r) et)
 weigh {s} {t} f (dotted r h k) es et = omega (arith, count-behind f s 46 r refl es h, count-behind f t 46 r refl et k)
 
--- the made path has no selection either
 stem-lacks : (t : Text) → lacks 123 t ≡ true → lacks 123 (stem t) ≡ true
 unfolding stem lacks
 stem-lacks t f = go (isRoot t)
@@ -161,6 +161,7 @@ stem-lacks t f = go (isRoot t)
     go true = refl
     go false = f
 
+-- where p has no selection, q has none
 pub still-lacks : {s t p q : Text} → Rel s t p q → isEnd t ≡ true → lacks 123 p ≡ true → lacks 123 q ≡ true
 still-lacks {s} {t} whole et f = end-lacks t et
 still-lacks {s} {t} (under x r) et f =

@@ -1,7 +1,7 @@
 -- When the joined text is legal. Assumes nothing.
 use mathlib.Core.Path.{_≡_, refl, sym, ap, _∙_}
 use mathlib.Core.Bool.{Bool, true, false, not, cond, _&&_, _||_, true≢false, false≢true}
-use mathlib.Core.List.{List, [], _∷_, _++_}
+use mathlib.Core.List.{[], _∷_, _++_}
 use Prim.Native.Nat.{ℕ}
 use lib.Dec.{eqb}
 use borrow.Author.Tests.{eqb-true}
@@ -12,7 +12,7 @@ use Rattle.grammar.specs.Legal.{State, Slash, Name, Dead, isIdentifierStart, is
 use Rattle.grammar.proofs.RunLaws.{run-app, run-dead}
 use Rattle.grammar.proofs.LegalLaws.{end-legal, end-lacks, end-close, root-is}
 use Rattle.prefix.specs.Prefix.{follows}
-use Rattle.prefix.specs.Join.{joined, hangs, spoils, JoinedLegal}
+use Rattle.prefix.specs.Join.{joined, spoils, JoinedLegal}
 use Rattle.prefix.proofs.JoinLaws.{stem, stem-root, stem-not, joined-none, joined-root, joined-slash, joined-other}
 
 -- without `{` and `.` the reader meets three states only
@@ -48,15 +48,19 @@ unfolding isEnd
 end-lacks-dot s e = and-r (lacks 123 s) (lacks 46 s) (and-r (legal s) (lacks 123 s && lacks 46 s) e)
 
 -- behind a prim path the reader is in a name
+in-name : (a b : ℕ) (x : Text) → isEnd (a ∷ b ∷ x) ≡ true → accept (run Slash (b ∷ x)) ≡ true → run Slash (b ∷ x) ≡ Name
+in-name a b x e h =
+    let s : Text = a ∷ b ∷ x in
+    accepts-name (reads-plain slash (b ∷ x) (lacks-rest 123 a (b ∷ x) (end-lacks s e)) (lacks-rest 46 a (b ∷ x) (end-lacks-dot s e))) h
+
 pub behind-end : (s y : Text) → isEnd s ≡ true → isNil s ≡ false → isRoot s ≡ false → legal (s ++ y) ≡ accept (run Name y)
 unfolding legal
 behind-end [] y e n h = absurd (true≢false n)
 behind-end (a ∷ []) y e n h = absurd (true≢false (sym (end-legal (a ∷ []) e) ∙ h))
 behind-end (a ∷ b ∷ x) y e n h =
-    let l : (eqb a 47 && accept (run Slash (b ∷ x))) ≡ true = end-legal (a ∷ b ∷ x) e in
-    let o : Plain (run Slash (b ∷ x)) =
-      reads-plain slash (b ∷ x) (lacks-rest 123 a (b ∷ x) (end-lacks (a ∷ b ∷ x) e)) (lacks-rest 46 a (b ∷ x) (end-lacks-dot (a ∷ b ∷ x) e)) in
-    rw (and-l (eqb a 47) (accept (run Slash (b ∷ x))) l, run-app Slash (b ∷ x) y, accepts-name o (and-r (eqb a 47) (accept (run Slash (b ∷ x))) l))
+    let c : Bool = accept (run Slash (b ∷ x)) in
+    let l : (eqb a 47 && c) ≡ true = end-legal (a ∷ b ∷ x) e in
+    rw (and-l (eqb a 47) c l, run-app Slash (b ∷ x) y, in-name a b x e (and-r (eqb a 47) c l))
 
 -- what may follow a slash may follow it behind an end
 under-stem : (t y : Text) → isEnd t ≡ true → isNil t ≡ false → accept (run Slash y) ≡ true → legal (stem t ++ 47 ∷ y) ≡ true
@@ -88,6 +92,7 @@ no-hang a r l = go (eqb a 46 || eqb a 123) refl
     go true h = absurd (true≢false (sym l ∙ hang-dies a r h))
     go false h = refl
 
+-- joining spoils a legal text only where the new prefix is `/` and the rest begins with `.` or `{`
 pub joined-legal : JoinedLegal
 unfolding spoils follows legal run step isIdentifierStart isIdentifierCont
 joined-legal s t [] l es ns et nt j = rw (joined-none s t, and-no (isRoot t)) (end-legal t et)

@@ -5,3 +5,4 @@ pub mod CountLaws
 pub mod PrefixLaws
 pub mod JoinLaws
 pub mod JoinLegal
+pub mod CountTheorem

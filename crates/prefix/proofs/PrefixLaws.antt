@@ -1,7 +1,7 @@
 -- Laws of prefixes, and of replacing one. Assumes nothing.
 use mathlib.Core.Path.{_≡_, refl, sym, ap, _∙_}
-use mathlib.Core.Bool.{Bool, true, false, cond, _&&_, _||_, true≢false, false≢true}
-use mathlib.Core.List.{List, [], _∷_, _++_, append-nil}
+use mathlib.Core.Bool.{Bool, true, false, _||_, true≢false, false≢true}
+use mathlib.Core.List.{[], _∷_, _++_, append-nil}
 use mathlib.Core.Option.{Option, none, some}
 use Prim.Native.Nat.{ℕ, _≤_}
 use lib.Dec.{eqb}
@@ -11,7 +11,7 @@ use borrow.Author.Tests.{eqb-true}
 use Rattle.text.specs.Text.{Text, isNil, isSome, after, starts}
 use Rattle.text.proofs.BoolLaws.{and-l, or-false}
 use Rattle.text.proofs.TextLaws.{no-text, after-up, after-down, starts-long}
-use Rattle.grammar.specs.Legal.{State, Slash, run, accept, legal}
+use Rattle.grammar.specs.Legal.{Slash, run, accept, legal}
 use Rattle.prefix.specs.Prefix.{follows, followsSome, hasPrefix}
 use Rattle.prefix.specs.Join.{joined, replacePrefix}
 
@@ -57,11 +57,12 @@ legal-prefix-root (a ∷ r) l n = rw (eqb-true a 47 (and-l (eqb a 47) (isNil r |
     go [] = refl
     go (b ∷ r) = refl
 
--- a text begins with its prefix, and is as long at least
+-- a text begins with its prefix ..
 pub prefix-starts : (p s : Text) → hasPrefix p s ≡ true → starts s p ≡ true
 unfolding starts
 prefix-starts p s h = rw (prefix-rest p s h .0) (ap isSome (after-down s (drop (length s) p)))
 
+-- .. and is as long at least
 pub prefix-long : (p s : Text) → hasPrefix p s ≡ true → length s ≤ length p
 prefix-long p s h = starts-long s p (prefix-starts p s h)
 
@@ -85,6 +86,7 @@ replace-other p s t h = go (after s p) refl
     go none e = rw e
     go (some r) e = let k : follows s r ≡ false = sym (ap (followsSome s) e) ∙ h in rw (e, k)
 
+-- what was replaced was a prefix
 pub replaced-prefix : (p s t q : Text) → replacePrefix p s t ≡ some q → hasPrefix p s ≡ true
 replaced-prefix p s t q e = go (hasPrefix p s) refl
   where

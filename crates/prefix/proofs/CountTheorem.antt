@@ -1,0 +1,143 @@
+-- The elements that a text counts are those of the path that it writes. Assumes nothing.
+use mathlib.Core.Path.{_≡_, refl, sym, ap, _∙_}
+use mathlib.Core.Bool.{Bool, true, false, cond, _&&_, true≢false, false≢true}
+use mathlib.Core.List.{List, [], _∷_, _++_, append-assoc}
+use mathlib.Core.Option.{Option, none, some}
+use Prim.Native.Nat.{ℕ, suc, _+_}
+use native.Mathlib.Omega.{arith}
+use lib.Dec.{eqb}
+use borrow.Author.Tests.{eqb-true}
+use Rattle.text.specs.Text.{Text}
+use Rattle.text.proofs.BoolLaws.{and-l, and-r, and-no, or-false}
+use Rattle.grammar.specs.Legal.{isIdentifierStart, isIdentifierCont, startsName}
+use Rattle.grammar.specs.Grammar as g
+use Rattle.grammar.specs.Grammar.{allCont, nameText, wordText, selectionText, selectionsText, joint, primsText, moreText, propertyText, render}
+use Rattle.prefix.specs.Elements.{count, selectionCount, primCount, pathCount, Counted}
+
+is-not : (a b : ℕ) → isIdentifierCont a ≡ true → isIdentifierCont b ≡ false → eqb a b ≡ false
+is-not a b h k = go (eqb a b) refl
+  where
+    go : (t : Bool) → eqb a b ≡ t → t ≡ false
+    go true e = absurd (true≢false (sym h ∙ rw (eqb-true a b e) k))
+    go false e = refl
+
+start-cont : (a : ℕ) → isIdentifierStart a ≡ true → isIdentifierCont a ≡ true
+unfolding isIdentifierCont
+start-cont a h = rw h
+
+-- prims begin with a name, a property does not
+prims-start : (p : g.Prim) (r : List g.Prim) (y : Text) → startsName (primsText p r ++ y) ≡ true
+unfolding primsText
+prims-start p [] y = start-cont (p .name .first) (p .name .first-is)
+prims-start p (q ∷ r) y = start-cont (p .name .first) (p .name .first-is)
+
+property-starts : (x : Option g.Property) → startsName (propertyText x) ≡ false
+unfolding propertyText isIdentifierCont
+property-starts none = refl
+property-starts (some x) = refl
+
+-- there are selections
+abbrev any : List g.Selection → Bool
+any [] = false
+any (s ∷ r) = true
+
+module _ (f : Bool) where
+  -- a byte but `/`, `{` and `}` adds nothing, and so no byte of a name does
+  other : (a : ℕ) (r : Text) → eqb a 47 ≡ false → eqb a 123 ≡ false → eqb a 125 ≡ false → count f (a ∷ r) ≡ count f r
+  unfolding count
+  other a r h k l = rw (h, k, l) (omega arith)
+
+  byte : (a : ℕ) (r : Text) → isIdentifierCont a ≡ true → count f (a ∷ r) ≡ count f r
+  unfolding isIdentifierCont
+  byte a r h = other a r (is-not a 47 h refl) (is-not a 123 h refl) (is-not a 125 h refl)
+
+  bytes : (t y : Text) → allCont t ≡ true → count f (t ++ y) ≡ count f y
+  unfolding allCont
+  bytes [] y e = refl
+  bytes (a ∷ t) y e = byte a (t ++ y) (and-l (isIdentifierCont a) (allCont t) e) ∙ bytes t y (and-r (isIdentifierCont a) (allCont t) e)
+
+  name : (n : g.Name) (y : Text) → count f (nameText n ++ y) ≡ count f y
+  unfolding nameText
+  name n y = byte (n .first) (n .more ++ y) (start-cont (n .first) (n .first-is)) ∙ bytes (n .more) y (n .more-are)
+
+  word : (w : g.Word) (y : Text) → count f (wordText w ++ y) ≡ count f y
+  unfolding wordText
+  word w y = byte (w .first) (w .more ++ y) (w .first-is) ∙ bytes (w .more) y (w .more-are)
+
+  -- what those three add
+  slash-adds : (y : Text) → startsName y ≡ true → count f (47 ∷ y) ≡ suc (count f y)
+  unfolding count
+  slash-adds [] h = absurd (false≢true h)
+  slash-adds (a ∷ y) h = omega arith
+
+  open-adds : (r : Text) → count f (123 ∷ r) ≡ cond f 1 0 + count f r
+  unfolding count
+  open-adds r = rw (or-false f)
+
+  close-adds : (r : Text) → count f (125 ∷ r) ≡ cond (startsName r) 1 0 + count f r
+  unfolding count
+  close-adds r = refl
+
+  selection : (s : g.Selection) (y : Text) → count f (selectionText s ++ y) ≡ cond f 1 0 + (cond (startsName y) 1 0 + count f y)
+  unfolding selectionText
+  selection s y =
+      rw (append-assoc (nameText (s .set)) (61 ∷ (wordText (s .chosen) ++ (125 ∷ []))) y, append-assoc (wordText (s .chosen)) (125 ∷ []) y)
+      (open-adds _ ∙ ap (λ (n : ℕ). cond f 1 0 + n) (name (s .set) _ ∙ other 61 _ refl refl refl ∙ word (s .chosen) (125 ∷ y) ∙ close-adds y))
+
+  selections : (r : List g.Selection) (y : Text)
+      → count f (selectionsText r ++ y) ≡ selectionCount f r + (cond (any r && startsName y) 1 0 + count f y)
+  unfolding selectionsText selectionCount isIdentifierCont
+  selections [] y = omega arith
+  selections (s ∷ []) y = rw (append-assoc (selectionText s) [] y) (selection s y ∙ omega arith)
+  selections (s ∷ u ∷ r) y =
+      rw (append-assoc (selectionText s) (selectionsText (u ∷ r)) y)
+      (selection s (selectionsText (u ∷ r) ++ y) ∙ omega (arith, selections (u ∷ r) y))
+
+  -- a property has none
+  more : (r : List g.Name) → count f (moreText r) ≡ 0
+  unfolding moreText count
+  more [] = refl
+  more (n ∷ r) = other 58 (nameText n ++ moreText r) refl refl refl ∙ name n (moreText r) ∙ more r
+
+  property : (x : Option g.Property) → count f (propertyText x) ≡ 0
+  unfolding propertyText count
+  property none = refl
+  property (some x) = other 46 (nameText (x .first) ++ moreText (x .more)) refl refl refl ∙ name (x .first) (moreText (x .more)) ∙ more (x .more)
+
+  -- what stands between two prims, with the second's name, adds one
+  next : (l : List g.Selection) (y : Text) → startsName y ≡ true
+      → cond (any l && startsName (joint l ++ y)) 1 0 + count f (joint l ++ y) ≡ suc (count f y)
+  unfolding joint
+  next [] y h = rw (slash-adds y h) (omega arith)
+  next (s ∷ l) y h = rw h (omega arith)
+
+  prims : (p : g.Prim) (r : List g.Prim) (x : Option g.Property) → suc (count f (primsText p r ++ propertyText x)) ≡ primCount f p r
+  unfolding primsText primCount
+  prims p [] x =
+      rw (
+        append-assoc (nameText (p .name)) (selectionsText (p .selections)) (propertyText x),
+        name (p .name) (selectionsText (p .selections) ++ propertyText x),
+        selections (p .selections) (propertyText x),
+        property-starts x,
+        property x,
+        and-no (any (p .selections)),
+      )
+      (omega arith)
+  prims p (q ∷ r) x =
+      rw (
+        append-assoc (nameText (p .name) ++ selectionsText (p .selections)) (joint (p .selections) ++ primsText q r) (propertyText x),
+        append-assoc (nameText (p .name)) (selectionsText (p .selections)) ((joint (p .selections) ++ primsText q r) ++ propertyText x),
+        name (p .name) (selectionsText (p .selections) ++ ((joint (p .selections) ++ primsText q r) ++ propertyText x)),
+        append-assoc (joint (p .selections)) (primsText q r) (propertyText x),
+        selections (p .selections) (joint (p .selections) ++ (primsText q r ++ propertyText x)),
+        next (p .selections) (primsText q r ++ propertyText x) (prims-start q r (propertyText x)),
+        prims q r x,
+      )
+      (omega arith)
+
+-- the count of a text is the count of its path
+pub counted : Counted
+unfolding render pathCount count
+counted f g.empty = refl
+counted f g.root = refl
+counted f (g.prims p r x) = slash-adds f (primsText p r ++ propertyText x) (prims-start p r (propertyText x)) ∙ prims f p r x
