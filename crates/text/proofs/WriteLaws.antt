@@ -9,8 +9,10 @@ use native.Mathlib.Omega.{arith}
 use lib.Dec.{leb}
 use lib.ListN.{length, getD, set, take, drop, length-set, length-append, length-drop, length-take, drop-of-length-le}
 use lib.Seq.{paste, paste-zero, paste-suc, take-append-seam, drop-append-add, drop-drop, take-all, take-at, take-length}
-use borrow.Author.Tests.{le-leb, lt-leb}
-use Rattle.text.specs.Text.{Text, written, over, placed}
+use borrow.Author.Tests.{le-leb, lt-leb, leb-true, leb-false}
+use Rattle.text.specs.Text.{Text, written, over, placed, fitted}
+use Rattle.text.specs.declared.Fit.{Fit}
+use Rattle.text.specs.declared.Fit.the-variants.{Written, Over}
 
 -- `write_at`
 pub put-begin : (d : Text) (at : ℕ) (s : Text) → d ≡ paste d at s 0
@@ -59,3 +61,28 @@ read-back t out = take-append-seam t (drop (length t) out)
 -- `&text[k..]` is what is left from k on
 pub rest-whole : (t : Text) (k : ℕ) → take (length t - k) (drop k t) ≡ drop k t
 rest-whole t k = take-all (length t - k) (drop k t) (simp length-drop (omega arith))
+
+-- what the answer of a function that writes a text says of the text
+pub fit-length : (t out : Text) (n : ℕ) → fitted t out ≡ Written n → n ≡ length t
+unfolding fitted
+fit-length t out n e = go (leb (length t) (length out)) e
+  where
+    go : (b : Bool) → cond b (Written (length t)) Over ≡ Written n → n ≡ length t
+    go true h = cc
+    go false h = cc
+
+pub fit-room : (t out : Text) (n : ℕ) → fitted t out ≡ Written n → length t ≤ length out
+unfolding fitted
+fit-room t out n e = go (leb (length t) (length out)) refl
+  where
+    go : (b : Bool) → leb (length t) (length out) ≡ b → length t ≤ length out
+    go true h = leb-true (length t) (length out) h
+    go false h = absurd (let z : _≡_ {A = Fit} Over (Written n) = rw h at e in let y : _≡_ {A = ℕ} 0 1 = cc in omega arith)
+
+pub fit-over : (t out : Text) → fitted t out ≡ Over → length out < length t
+unfolding fitted
+fit-over t out e = go (leb (length t) (length out)) refl
+  where
+    go : (b : Bool) → leb (length t) (length out) ≡ b → length out < length t
+    go true h = absurd (let z : _≡_ {A = Fit} (Written (length t)) Over = rw h at e in let y : _≡_ {A = ℕ} 0 1 = cc in omega arith)
+    go false h = leb-false (length t) (length out) h

@@ -1,0 +1,4 @@
+mod Opened
+mod AskWays
+mod CallWays
+mod MakeWays

@@ -1,0 +1,57 @@
+-- What each way through `write_joined` gives, for a text j that was made in memory of 255 bytes. Assumes nothing.
+use mathlib.Core.Path.{_≡_, refl, sym, ap, _∙_}
+use mathlib.Core.Bool.{Bool, true, false, not, cond}
+use mathlib.Core.List.{List, [], _∷_}
+use Prim.Native.Nat.{ℕ, _≤_, _<_}
+use native.Mathlib.Omega.{arith}
+use lib.ListN.{length, take, length-take}
+use borrow.Author.Tests.{le-leb, lt-leb}
+use Rattle.text.specs.Text.{Text, placed, fitted}
+use Rattle.text.specs.declared.Fit.{Fit}
+use Rattle.text.specs.declared.Fit.the-variants.{Written as WrittenFit, Over}
+use Rattle.text.proofs.BoolLaws.{told-false, told-true}
+use Rattle.text.proofs.WriteLaws.{placed-first, read-back, fit-length, fit-room, fit-over}
+use Rattle.grammar.specs.Legal.{legal, fits}
+use Rattle.path.specs.declared.Refusal.the-variants.{MadeTooLong, MadeIllegal}
+use Rattle.path.specs.declared.Reply.the-variants.{Written, Refused}
+use Rattle.path.specs.Outcome.{reply, memory, made}
+
+-- a path that was made and is legal
+pub made-legal : (q : Text) → length q ≤ 255 → legal q ≡ true → (out : Text) → 255 ≤ length out
+    → (Written (length q) ≡ reply (made q)) × (placed 0 q out ≡ memory (made q) out)
+unfolding reply memory made fits
+made-legal q h l out r = rw (le-leb (length q) 255 h, l) (refl, placed-first q out (omega arith))
+
+module _ (j buf : Text) (f : Fit) (h : f ≡ fitted j buf) (l : length buf ≡ 255) where
+  pub made-over : f ≡ Over → (out : Text) → (Refused MadeTooLong ≡ reply (made j)) × (out ≡ memory (made j) out)
+  unfolding reply memory made fits
+  made-over e out = rw (lt-leb (length j) 255 (omega (arith, fit-over j buf (sym h ∙ e)))) (refl, refl)
+
+  module _ (n : ℕ) (e : f ≡ WrittenFit n) where
+    made-length : n ≡ length j
+    made-length = fit-length j buf n (sym h ∙ e)
+
+    made-room : n ≤ 255
+    made-room = omega (arith, made-length, fit-room j buf n (sym h ∙ e))
+
+    module _ (mem : Text) (m : mem ≡ placed 0 j buf) where
+      made-back : take n mem ≡ j
+      made-back = rw (m, placed-first j buf (fit-room j buf n (sym h ∙ e)), made-length) (read-back j buf)
+
+      pub made-part : n ≡ length (take n mem)
+      made-part = made-length ∙ ap length (sym made-back)
+
+      pub made-inside : n ≤ length mem
+      made-inside = omega (arith, made-part, length-take n mem)
+
+      pub made-illegal : (x : Bool) → x ≡ legal (take n mem) → not x ≡ true → (out : Text) → (Refused MadeIllegal ≡ reply (made j)) × (out ≡ memory (made j) out)
+      unfolding reply memory made fits
+      made-illegal x g k out =
+          let b : legal j ≡ false = rw made-back at (told-false g k) in
+          rw (le-leb (length j) 255 (omega (arith, made-length, made-room)), b) (refl, refl)
+
+      pub made-written : (x : Bool) → x ≡ legal (take n mem) → not x ≡ false → (out out′ : Text) → 255 ≤ length out → out′ ≡ placed 0 (take n mem) out
+          → (Written n ≡ reply (made j)) × (out′ ≡ memory (made j) out)
+      made-written x g k out out′ r w =
+          let b : legal j ≡ true = rw made-back at (told-true g k) in
+          rw (w, made-back, made-length) (made-legal j (omega (arith, made-length, made-room)) b out r)
