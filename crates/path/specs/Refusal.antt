@@ -9,7 +9,7 @@ use Rattle.path.specs.declared.Refusal.the-variants.{TooLong, Illegal, N
 use Rattle.path.specs.declared.Asked.{Asked}
 use Rattle.path.specs.declared.Asked.the-variants.{Passed, Refused}
 
-unfoldable pub number : Refusal → ℕ
+abbrev pub number : Refusal → ℕ
 number TooLong = 1
 number Illegal = 2
 number NotAnEnd = 3

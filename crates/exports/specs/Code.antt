@@ -1,0 +1,32 @@
+-- A reply as one plain number, for Rust and C: 256 times the value, and document 01's number (0 for an answer) in the low byte.
+use Prim.Native.Nat.{ℕ, _*_, _%_}
+use mathlib.Core.Bool.{Bool, cond}
+use Rattle.path.specs.declared.Asked.{Asked}
+use Rattle.path.specs.declared.Asked.the-variants.{Passed, Refused as RefusedAsked}
+use Rattle.path.specs.declared.Test.{Test}
+use Rattle.path.specs.declared.Test.the-variants.{Holds, Refused as RefusedTest}
+use Rattle.path.specs.declared.Count.{Count}
+use Rattle.path.specs.declared.Count.the-variants.{Counted, Refused as RefusedCount}
+use Rattle.path.specs.declared.Reply.{Reply}
+use Rattle.path.specs.declared.Reply.the-variants.{Written, Refused}
+use Rattle.path.specs.Refusal.{number}
+
+-- an answer's value; it is at most 255 everywhere, so the remainder keeps it
+unfoldable pub answer : ℕ → ℕ
+answer n = 256 * (n % 72057594037927936)
+
+unfoldable pub askedCode : Asked → ℕ
+askedCode Passed = 0
+askedCode (RefusedAsked x) = number x
+
+unfoldable pub testCode : Test → ℕ
+testCode (Holds b) = cond b 256 0
+testCode (RefusedTest x) = number x
+
+unfoldable pub countCode : Count → ℕ
+countCode (Counted e) = answer (e .0)
+countCode (RefusedCount x) = number x
+
+unfoldable pub replyCode : Reply → ℕ
+replyCode (Written n) = answer n
+replyCode (Refused x) = number x

@@ -1,0 +1,133 @@
+// The calls for Rust and C, over plain numbers and byte strings. A reply is one number: 256 times the
+// value, and document 01's number (0 for an answer) in the low byte. A slice passes as a pointer and
+// then a length.
+ghost use mathlib.Core.Path.{_≡_};
+ghost use lib.ListN.{length};
+ghost use Rattle.path.specs.Refusal.{number};
+ghost use Rattle.path.specs.Outcome.{reply, memory};
+ghost use Rattle.path.specs.Calls.{newCall, isEndCall, hasVariantSelectionCall, elementCountCall, primElementCountCall, hasPrefixCall, replacePrefixCall};
+ghost use Rattle.exports.specs.Code.{answer, askedCode, testCode, countCode, replyCode};
+
+fn number_of(x: path::Refusal) -> usize
+    ensures { λ r. ⌜ r ≡ number x ⌝ }
+{
+    match x {
+        path::Refusal::TooLong => 1,
+        path::Refusal::Illegal => 2,
+        path::Refusal::NotAnEnd => 3,
+        path::Refusal::TooMany => 4,
+        path::Refusal::NoRoom => 5,
+        path::Refusal::NoPath => 6,
+        path::Refusal::MadeTooLong => 7,
+        path::Refusal::MadeIllegal => 8,
+    }
+}
+
+fn answer_of(n: usize) -> usize
+    ensures { λ r. ⌜ r ≡ answer n ⌝ }
+{
+    256 * (n % 72057594037927936)
+}
+
+fn asked_code(q: path::Asked) -> usize
+    ensures { λ r. ⌜ r ≡ askedCode q ⌝ }
+{
+    match q {
+        path::Asked::Passed => 0,
+        path::Asked::Refused(x) => number_of(x),
+    }
+}
+
+fn test_code(t: path::Test) -> usize
+    ensures { λ r. ⌜ r ≡ testCode t ⌝ }
+{
+    match t {
+        path::Test::Holds(b) => {
+            if b {
+                return 256;
+            }
+            0
+        }
+        path::Test::Refused(x) => number_of(x),
+    }
+}
+
+fn count_code(n: path::Count) -> usize
+    ensures { λ r. ⌜ r ≡ countCode n ⌝ }
+{
+    match n {
+        path::Count::Counted(e) => answer_of(e.0),
+        path::Count::Refused(x) => number_of(x),
+    }
+}
+
+fn reply_code(r: path::Reply) -> usize
+    ensures { λ a. ⌜ a ≡ replyCode r ⌝ }
+{
+    match r {
+        path::Reply::Written(n) => answer_of(n),
+        path::Reply::Refused(x) => number_of(x),
+    }
+}
+
+// Is the text a legal path of at most 255 bytes?
+#[no_mangle]
+pub extern "C" fn mudvizsor_path_new(path: &[u8]) -> usize
+    ensures { λ r. ⌜ r ≡ askedCode (newCall (now (path .entry))) ⌝ }
+{
+    asked_code(path::new(path))
+}
+
+// Is the path a prim path, `/` or empty?
+#[no_mangle]
+pub extern "C" fn mudvizsor_path_is_end(path: &[u8]) -> usize
+    ensures { λ r. ⌜ r ≡ testCode (isEndCall (now (path .entry))) ⌝ }
+{
+    test_code(path::is_end(path))
+}
+
+// Does the path have a selection?
+#[no_mangle]
+pub extern "C" fn mudvizsor_path_has_variant_selection(path: &[u8]) -> usize
+    ensures { λ r. ⌜ r ≡ testCode (hasVariantSelectionCall (now (path .entry))) ⌝ }
+{
+    test_code(path::has_variant_selection(path))
+}
+
+// How many names and selections does the path have?
+#[no_mangle]
+pub extern "C" fn mudvizsor_path_element_count(path: &[u8]) -> usize
+    ensures { λ r. ⌜ r ≡ countCode (elementCountCall (now (path .entry))) ⌝ }
+{
+    count_code(path::element_count(path))
+}
+
+// How many names does the path have?
+#[no_mangle]
+pub extern "C" fn mudvizsor_path_prim_element_count(path: &[u8]) -> usize
+    ensures { λ r. ⌜ r ≡ countCode (primElementCountCall (now (path .entry))) ⌝ }
+{
+    count_code(path::prim_element_count(path))
+}
+
+// Is the prefix a prefix of the path?
+#[no_mangle]
+pub extern "C" fn mudvizsor_path_has_prefix(path: &[u8], prefix: &[u8]) -> usize
+    ensures { λ r. ⌜ r ≡ testCode (hasPrefixCall (now (path .entry)) (now (prefix .entry))) ⌝ }
+{
+    test_code(path::has_prefix(path, prefix))
+}
+
+// The path with its old prefix replaced by the new one, written to out.
+#[no_mangle]
+pub extern "C" fn mudvizsor_path_replace_prefix(
+    path: &[u8],
+    old: &[u8],
+    new: &[u8],
+    out: &mut [u8],
+) -> usize
+    ensures { λ r. ⌜ r ≡ replyCode (reply (replacePrefixCall (now (path .entry)) (now (old .entry)) (now (new .entry)) (length (now (out .entry))))) ⌝ }
+    ensures { λ r. ⌜ now (out .exit) ≡ memory (replacePrefixCall (now (path .entry)) (now (old .entry)) (now (new .entry)) (length (now (out .entry)))) (now (out .entry)) ⌝ }
+{
+    reply_code(path::replace_prefix(path, old, new, out))
+}
