@@ -1,0 +1,105 @@
+//! Texts to be timed, the same in every run.
+
+use texts::random::Random;
+
+const LOWER: &[u8] = b"abcdefghijklmnopqrstuvwxyz";
+/// The first 53 may begin a name.
+const MIXED: &[u8] = b"abcdefghijklmnopqrstuvwxyzABCDEFGHIJKLMNOPQRSTUVWXYZ_0123456789";
+
+/// The bytes that names are made of.
+#[derive(Clone, Copy)]
+pub enum Names {
+    Mixed,
+    LowerCase,
+}
+
+impl Names {
+    pub fn title(self) -> &'static str {
+        match self {
+            Names::Mixed => "letters, digits, `_`",
+            Names::LowerCase => "lower case",
+        }
+    }
+
+    fn first_bytes(self) -> &'static [u8] {
+        match self {
+            Names::Mixed => &MIXED[..53],
+            Names::LowerCase => LOWER,
+        }
+    }
+
+    fn bytes(self) -> &'static [u8] {
+        match self {
+            Names::Mixed => MIXED,
+            Names::LowerCase => LOWER,
+        }
+    }
+}
+
+/// A path to be replaced with its old and new prefix.
+pub struct Replacement {
+    pub path: String,
+    pub old: String,
+    pub new: String,
+}
+
+/// So many paths of about `length` bytes.
+pub fn paths(names: Names, length: usize, count: usize) -> Vec<String> {
+    let random = &mut Random::new(length as u64);
+    (0..count).map(|_| path(random, names, length)).collect()
+}
+
+/// Paths of about `length` bytes, of which about a third is replaced by as much.
+pub fn replacements(length: usize, count: usize) -> Vec<Replacement> {
+    let random = &mut Random::new(length as u64);
+    (0..count).map(|_| replacement(random, length)).collect()
+}
+
+fn replacement(random: &mut Random, length: usize) -> Replacement {
+    let old = prim_path(random, Names::Mixed, length / 3);
+    let new = prim_path(random, Names::Mixed, length / 3);
+    let rest = path(random, Names::Mixed, length - old.len());
+    Replacement { path: format!("{old}{rest}"), old, new }
+}
+
+/// A path of names with a selection here and there, one in two with a property.
+fn path(random: &mut Random, names: Names, length: usize) -> String {
+    let mut text = String::new();
+    append_child(random, names, &mut text);
+    while text.len() + 10 < length {
+        if random.one_in(5) {
+            let (set, selection) = (name(random, names), name(random, names));
+            text += &format!("{{{set}={selection}}}");
+        } else {
+            append_child(random, names, &mut text);
+        }
+    }
+    if random.one_in(2) {
+        text += &format!(".{}", name(random, names));
+    }
+    text
+}
+
+fn prim_path(random: &mut Random, names: Names, length: usize) -> String {
+    let mut text = String::new();
+    while text.is_empty() || text.len() + 4 < length {
+        append_child(random, names, &mut text);
+    }
+    text
+}
+
+fn append_child(random: &mut Random, names: Names, text: &mut String) {
+    if !text.ends_with('}') {
+        text.push('/');
+    }
+    *text += &name(random, names);
+}
+
+/// A name of 4 to 12 bytes.
+fn name(random: &mut Random, names: Names) -> String {
+    let mut name = vec![*random.pick(names.first_bytes())];
+    for _ in 0..random.within(3..=11) {
+        name.push(*random.pick(names.bytes()));
+    }
+    name.into_iter().map(char::from).collect()
+}

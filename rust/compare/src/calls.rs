@@ -1,0 +1,115 @@
+//! The calls on paths: the library's entry beside the original's function, and the answer that is expected.
+
+use crate::text::{Answer, MADE_NOT_LEGAL, MADE_TOO_LONG, NO_PATH, TOO_LITTLE_MEMORY, Text, paths};
+use library::Reply;
+use original::sdf::Path;
+use texts::LONGEST;
+use texts::legal::is_legal;
+
+/// A call that answers one number about one text.
+pub struct NumberCall {
+    pub name: &'static str,
+    pub entry: fn(&[u8]) -> Reply,
+    original: fn(&Path) -> usize,
+}
+
+impl NumberCall {
+    pub fn expected(&self, text: &Text) -> Answer<usize> {
+        paths([text]).map(|[path]| (self.original)(path))
+    }
+}
+
+/// A call that makes one path of another.
+pub struct PathCall {
+    pub name: &'static str,
+    pub entry: fn(&[u8], &mut [u8]) -> Reply,
+    original: fn(&Path) -> Option<Path>,
+}
+
+impl PathCall {
+    pub fn expected(&self, text: &Text) -> Answer<Path> {
+        let [path] = paths([text])?;
+        accept((self.original)(path))
+    }
+}
+
+/// The original gives a path or an error, and no value beside the path.
+pub const NEW: NumberCall = NumberCall { name: "new", entry: library::new, original: |_| 0 };
+
+/// "A prim path, `/` or empty", and "a prim path has names only".
+pub const IS_END: NumberCall = NumberCall {
+    name: "is_end",
+    entry: library::is_end,
+    original: |path| {
+        let names_only = path.is_prim() && !path.has_variant_selection();
+        usize::from(path.is_empty() || path.is_abs_root() || names_only)
+    },
+};
+
+pub const HAS_VARIANT_SELECTION: NumberCall = NumberCall {
+    name: "has_variant_selection",
+    entry: library::has_variant_selection,
+    original: |path| usize::from(path.has_variant_selection()),
+};
+
+pub const ELEMENT_COUNT: NumberCall =
+    NumberCall { name: "element_count", entry: library::element_count, original: Path::element_count };
+
+pub const PRIM_ELEMENT_COUNT: NumberCall = NumberCall {
+    name: "prim_element_count",
+    entry: library::prim_element_count,
+    original: Path::prim_element_count,
+};
+
+pub const PARENT: PathCall = PathCall { name: "parent", entry: library::parent, original: Path::parent };
+
+pub const PRIM_PATH: PathCall =
+    PathCall { name: "prim_path", entry: library::prim_path, original: |path| Some(path.prim_path()) };
+
+pub const SPLIT_PROPERTY: PathCall = PathCall {
+    name: "split_property",
+    entry: library::split_property,
+    original: |path| path.split_property().map(|(prim, _)| prim),
+};
+
+pub const STRIP_VARIANT_SELECTIONS: PathCall = PathCall {
+    name: "strip_variant_selections",
+    entry: library::strip_variant_selections,
+    original: |path| Some(path.strip_variant_selections()),
+};
+
+pub fn has_prefix(text: &Text, prefix: &Text) -> Answer<bool> {
+    paths([text, prefix]).map(|[path, prefix]| path.has_prefix(prefix))
+}
+
+pub fn replace_prefix(text: &Text, old: &Text, new: &Text) -> Answer<Path> {
+    let [path, old, new] = paths([text, old, new])?;
+    accept(path.replace_prefix(old, new))
+}
+
+/// The lengths of the path and of its ancestors.
+pub fn ancestors(text: &Text) -> Answer<Vec<usize>> {
+    let [path] = paths([text])?;
+    Ok(path.ancestors().map(|path| path.as_str().len()).collect())
+}
+
+/// Questions 6, 7 and 8 put to what the definition gives.
+fn accept(made: Option<Path>) -> Answer<Path> {
+    let path = made.ok_or(NO_PATH)?;
+    if path.as_str().len() > LONGEST {
+        return Err(MADE_TOO_LONG);
+    }
+    if !is_legal(path.as_str().as_bytes()) {
+        return Err(MADE_NOT_LEGAL);
+    }
+    Ok(path)
+}
+
+/// `answer` where `room` is lent and `needed` is asked for: question 5 comes before 6, 7 and 8.
+pub fn within<T: Copy>(room: usize, needed: usize, answer: Answer<T>) -> Answer<T> {
+    match answer {
+        Err(number) if number < TOO_LITTLE_MEMORY => answer,
+        _ if room < needed => Err(TOO_LITTLE_MEMORY),
+        _ => answer,
+    }
+}

@@ -1,0 +1,54 @@
+//! Random cases: a path, a prefix that often is one of it, and a new prefix.
+
+use crate::comparison::Comparison;
+use crate::text::Text;
+use std::time::{Duration, Instant};
+use texts::damage::damaged;
+use texts::generate::{legal_text, length, new_prefix_for, prefix_for};
+use texts::random::Random;
+
+/// How long to go on.
+pub enum Limit {
+    Cases(u64),
+    Time(Duration),
+}
+
+impl Limit {
+    fn is_reached(&self, cases: u64, start: Instant) -> bool {
+        match self {
+            Limit::Cases(most) => cases >= *most,
+            Limit::Time(longest) => start.elapsed() >= *longest,
+        }
+    }
+}
+
+/// Makes cases until the limit is reached and gives their number.
+pub fn run(comparison: &mut Comparison, seed: u64, limit: &Limit) -> u64 {
+    let random = &mut Random::new(seed);
+    let start = Instant::now();
+    let mut cases = 0;
+    while !limit.is_reached(cases, start) {
+        let length = length(random);
+        case(comparison, random, length);
+        cases += 1;
+    }
+    cases
+}
+
+fn case(comparison: &mut Comparison, random: &mut Random, length: usize) {
+    let [path, old, new] = texts(random, length).map(|bytes| Text::new(&bytes));
+    comparison.one_text(&path);
+    comparison.facts(&path);
+    comparison.has_prefix(&path, &old);
+    comparison.prefix_facts(&path, &old);
+    comparison.replace_prefix(&path, &old, &new);
+}
+
+/// A path of `length` bytes, one in five damaged, with an old and a new prefix for it.
+pub fn texts(random: &mut Random, length: usize) -> [Vec<u8>; 3] {
+    let legal = legal_text(random, length);
+    let path = if random.one_in(5) { damaged(random, &legal) } else { legal };
+    let old = prefix_for(random, &path);
+    let new = new_prefix_for(random, &path, &old);
+    [path, old, new]
+}

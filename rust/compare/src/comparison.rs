@@ -1,0 +1,109 @@
+//! Calls both sides with the same texts and compares what they give.
+
+use crate::calls::{self, NumberCall, PathCall};
+use crate::lent::Lent;
+use crate::tally::{Call, Tally};
+use crate::text::{Answer, Text};
+use library::Reply;
+use original::sdf::Path;
+use std::collections::BTreeSet;
+use texts::LONGEST;
+
+const NUMBER_CALLS: [NumberCall; 5] = [
+    calls::NEW,
+    calls::IS_END,
+    calls::HAS_VARIANT_SELECTION,
+    calls::ELEMENT_COUNT,
+    calls::PRIM_ELEMENT_COUNT,
+];
+
+const PATH_CALLS: [PathCall; 4] =
+    [calls::PARENT, calls::PRIM_PATH, calls::SPLIT_PROPERTY, calls::STRIP_VARIANT_SELECTIONS];
+
+/// Bytes lent for a path.
+const ROOMS: [usize; 5] = [0, LONGEST - 1, LONGEST, LONGEST + 1, 300];
+
+/// Numbers lent for the lengths of ancestors, at most: one for each length, and three more.
+const NUMBERS: usize = LONGEST + 1 + 3;
+
+pub struct Comparison {
+    pub tally: Tally,
+    /// The legal texts that `Path::new` refuses.
+    pub refused_by_original: BTreeSet<Vec<u8>>,
+    bytes: Lent<u8>,
+    numbers: Lent<usize>,
+}
+
+impl Comparison {
+    pub fn new() -> Self {
+        Comparison {
+            tally: Tally::default(),
+            refused_by_original: BTreeSet::new(),
+            bytes: Lent::bytes(ROOMS[ROOMS.len() - 1]),
+            numbers: Lent::numbers(NUMBERS),
+        }
+    }
+
+    /// Every call that takes one text.
+    pub fn one_text(&mut self, text: &Text) {
+        for call in &NUMBER_CALLS {
+            let found = (call.entry)(&text.bytes);
+            self.number(call.name, &[text], call.expected(text), found);
+        }
+        for call in &PATH_CALLS {
+            let expected = call.expected(text);
+            self.path(call.name, &[text], &expected, |out| (call.entry)(&text.bytes, out));
+        }
+        self.ancestors(text);
+    }
+
+    pub fn has_prefix(&mut self, text: &Text, prefix: &Text) {
+        let expected = calls::has_prefix(text, prefix).map(usize::from);
+        let found = library::has_prefix(&text.bytes, &prefix.bytes);
+        self.number("has_prefix", &[text, prefix], expected, found);
+    }
+
+    pub fn replace_prefix(&mut self, text: &Text, old: &Text, new: &Text) {
+        let expected = calls::replace_prefix(text, old, new);
+        self.path("replace_prefix", &[text, old, new], &expected, |out| {
+            library::replace_prefix(&text.bytes, &old.bytes, &new.bytes, out)
+        });
+    }
+
+    fn number(&mut self, name: &'static str, texts: &[&Text], expected: Answer<usize>, found: Reply) {
+        let call = Call { name, texts, room: None };
+        self.tally.compare(call, expected, found, None);
+    }
+
+    /// A call that writes a path, with each size of lent memory.
+    fn path(
+        &mut self,
+        name: &'static str,
+        texts: &[&Text],
+        expected: &Answer<Path>,
+        entry: impl Fn(&mut [u8]) -> Reply,
+    ) {
+        let full = expected.as_ref().map(|path| path.as_str().as_bytes()).map_err(|number| *number);
+        for room in ROOMS {
+            let expected = calls::within(room, LONGEST, full);
+            let found = entry(self.bytes.lend(room));
+            let wrong = self.bytes.first_wrong(expected.unwrap_or_default());
+            let call = Call { name, texts, room: Some(room) };
+            self.tally.compare(call, expected.map(<[u8]>::len), found, wrong);
+        }
+    }
+
+    /// With one number too few, with just enough, and with more.
+    fn ancestors(&mut self, text: &Text) {
+        let full = calls::ancestors(text);
+        let full = full.as_ref().map(Vec::as_slice).map_err(|number| *number);
+        let needed = full.map_or(1, <[usize]>::len);
+        for room in [needed - 1, needed, needed + 3] {
+            let expected = calls::within(room, needed, full);
+            let found = library::ancestors(&text.bytes, self.numbers.lend(room));
+            let wrong = self.numbers.first_wrong(expected.unwrap_or_default());
+            let call = Call { name: "ancestors", texts: &[text], room: Some(room) };
+            self.tally.compare(call, expected.map(<[usize]>::len), found, wrong);
+        }
+    }
+}

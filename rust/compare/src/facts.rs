@@ -1,0 +1,57 @@
+//! What must hold of the original's answers, because the library's calls rest on it.
+
+use crate::comparison::Comparison;
+use crate::text::{Text, parsed};
+use original::sdf::Path;
+
+/// A legal path of at most 255 bytes has at most so many ancestors, itself counted.
+const MOST_ANCESTORS: usize = 128;
+
+impl Comparison {
+    /// The facts about one legal path.
+    pub fn facts(&mut self, text: &Text) {
+        let Some(path) = text.path() else {
+            return;
+        };
+        let refused = parsed(&text.bytes).is_none();
+        if refused {
+            self.refused_by_original.insert(text.bytes.clone());
+        }
+        let mut fact = |name, holds| self.tally.fact(name, &[text], holds);
+        fact("Path::new refuses no legal text but the empty one", refused == text.bytes.is_empty());
+        fact("a path has at most 128 ancestors", path.ancestors().count() <= MOST_ANCESTORS);
+        fact("an ancestor is a beginning of the path", path.ancestors().all(|up| begins(path, &up)));
+        fact("the prim path is a beginning of the path", begins(path, &path.prim_path()));
+        fact("the property's name is the text after the dot", splits_at_dot(path));
+    }
+
+    /// The facts about one legal path and a prefix.
+    pub fn prefix_facts(&mut self, text: &Text, prefix: &Text) {
+        let (Some(path), Some(old)) = (text.path(), prefix.path()) else {
+            return;
+        };
+        let has_prefix = path.has_prefix(old);
+        let mut fact = |name, holds| self.tally.fact(name, &[text, prefix], holds);
+        fact("has_prefix is as document 01 says", has_prefix == is_prefix(&text.bytes, &prefix.bytes));
+        fact(
+            "a prefix can be replaced, and nothing else",
+            has_prefix == path.replace_prefix(old, old).is_some(),
+        );
+    }
+}
+
+fn begins(path: &Path, beginning: &Path) -> bool {
+    path.as_str().starts_with(beginning.as_str())
+}
+
+fn splits_at_dot(path: &Path) -> bool {
+    path.split_property().is_none_or(|(prim, name)| format!("{prim}.{name}") == path.as_str())
+}
+
+/// "Equal texts; or the text begins with the prefix and the prefix is `/`, or the rest begins with `/`, `.` or
+/// `{`, or the prefix ends in `}`."
+fn is_prefix(text: &[u8], prefix: &[u8]) -> bool {
+    text.strip_prefix(prefix).is_some_and(|rest| {
+        rest.is_empty() || prefix == b"/" || matches!(rest[0], b'/' | b'.' | b'{') || prefix.ends_with(b"}")
+    })
+}

@@ -1,0 +1,58 @@
+//! A text with what is known of it before any call: its refusal, or the original's path.
+
+use original::sdf::Path;
+use texts::LONGEST;
+use texts::legal::is_legal;
+
+/// What a call answers, or document 01's number of its refusal.
+pub type Answer<T> = Result<T, u8>;
+
+pub const TOO_LONG: u8 = 1;
+pub const NOT_LEGAL: u8 = 2;
+pub const TOO_LITTLE_MEMORY: u8 = 5;
+pub const NO_PATH: u8 = 6;
+pub const MADE_TOO_LONG: u8 = 7;
+pub const MADE_NOT_LEGAL: u8 = 8;
+
+pub struct Text {
+    pub bytes: Vec<u8>,
+    path: Answer<Path>,
+}
+
+impl Text {
+    pub fn new(bytes: &[u8]) -> Self {
+        Text { bytes: bytes.to_vec(), path: path_of(bytes) }
+    }
+
+    pub fn path(&self) -> Option<&Path> {
+        self.path.as_ref().ok()
+    }
+}
+
+/// Questions 1 and 2 put to one text.
+fn path_of(bytes: &[u8]) -> Answer<Path> {
+    if bytes.len() > LONGEST {
+        return Err(TOO_LONG);
+    }
+    if !is_legal(bytes) {
+        return Err(NOT_LEGAL);
+    }
+    // `Path::new` refuses the empty text, which `Path::default` stands for; `facts` watches for others.
+    Ok(parsed(bytes).unwrap_or_default())
+}
+
+/// The original's path of a legal text, where `Path::new` accepts it.
+pub fn parsed(legal: &[u8]) -> Option<Path> {
+    let text = str::from_utf8(legal).expect("a legal text is ASCII");
+    Path::new(text).ok()
+}
+
+/// The paths of all texts. Question 1 is put to every text before question 2.
+pub fn paths<const N: usize>(texts: [&Text; N]) -> Answer<[&Path; N]> {
+    for number in [TOO_LONG, NOT_LEGAL] {
+        if texts.iter().any(|text| text.path.as_ref().err() == Some(&number)) {
+            return Err(number);
+        }
+    }
+    Ok(texts.map(|text| text.path().expect("questions 1 and 2 are answered")))
+}

@@ -1,0 +1,167 @@
+//! Random legal texts, and texts that stand in some relation to a given one.
+
+use crate::LONGEST;
+use crate::damage::{damaged, with_byte_inserted};
+use crate::random::Random;
+
+const LETTERS: &[u8] = b"abcdefghijklmnopqrstuvwxyzABCDEFGHIJKLMNOPQRSTUVWXYZ_";
+const NAME_BYTES: &[u8] = b"abcdefghijklmnopqrstuvwxyzABCDEFGHIJKLMNOPQRSTUVWXYZ_0123456789";
+
+/// The shortest selection is `{a=b}`.
+const SHORTEST_SELECTION: usize = 5;
+
+/// A length for a path: short, or around the limit, or anything.
+pub fn length(random: &mut Random) -> usize {
+    match random.below(5) {
+        0 | 1 => random.below(25),
+        2 | 3 => random.within(LONGEST - 5..=LONGEST + 5),
+        _ => random.below(300),
+    }
+}
+
+/// How the parts of one text are chosen.
+struct Style {
+    longest_name: usize,
+    /// Of four places where a selection can stand, how many have one.
+    selections: usize,
+}
+
+/// A legal text of exactly `length` bytes (the length limit is not looked at).
+pub fn legal_text(random: &mut Random, length: usize) -> Vec<u8> {
+    let style = Style { longest_name: *random.pick(&[1, 3, 8, 40]), selections: *random.pick(&[0, 1, 3]) };
+    let mut text = Vec::with_capacity(length);
+    if length > 0 {
+        text.push(b'/');
+    }
+    while text.len() < length {
+        append_part(random, &mut text, &style, length);
+    }
+    text
+}
+
+/// Appends a name, a selection, a property or one more byte of a name, within `length` bytes.
+fn append_part(random: &mut Random, text: &mut Vec<u8>, style: &Style, length: usize) {
+    let room = length - text.len();
+    let longest_name = style.longest_name;
+    if text == b"/" {
+        append_name(random, text, longest_name.min(room));
+    } else if room >= SHORTEST_SELECTION && random.below(4) < style.selections {
+        append_selection(random, text, longest_name, room);
+    } else if room >= 2 && random.one_in(if room < 20 { 3 } else { 40 }) {
+        append_property(random, text, longest_name, length);
+    } else if text.ends_with(b"}") {
+        append_name(random, text, longest_name.min(room));
+    } else if room >= 2 {
+        text.push(b'/');
+        append_name(random, text, longest_name.min(room - 1));
+    } else {
+        text.push(*random.pick(NAME_BYTES));
+    }
+}
+
+/// A name of 1 to `longest` bytes.
+fn append_name(random: &mut Random, text: &mut Vec<u8>, longest: usize) {
+    text.push(*random.pick(LETTERS));
+    append_name_bytes(random, text, longest - 1);
+}
+
+/// Up to `most` bytes that may go on a name.
+fn append_name_bytes(random: &mut Random, text: &mut Vec<u8>, most: usize) {
+    for _ in 0..random.within(0..=most) {
+        text.push(*random.pick(NAME_BYTES));
+    }
+}
+
+fn append_selection(random: &mut Random, text: &mut Vec<u8>, longest_name: usize, room: usize) {
+    let longest = longest_name.min((room - 3) / 2);
+    text.push(b'{');
+    append_name(random, text, longest);
+    text.push(b'=');
+    text.push(*random.pick(NAME_BYTES));
+    append_name_bytes(random, text, longest - 1);
+    text.push(b'}');
+}
+
+/// A property ends a path, so it fills the text up to `length`.
+fn append_property(random: &mut Random, text: &mut Vec<u8>, longest_name: usize, length: usize) {
+    text.push(b'.');
+    append_name(random, text, longest_name.min(length - text.len()));
+    while text.len() < length {
+        if length - text.len() >= 2 && random.one_in(2) {
+            text.push(b':');
+            append_name(random, text, longest_name.min(length - text.len()));
+        } else {
+            text.push(*random.pick(NAME_BYTES));
+        }
+    }
+}
+
+/// The beginnings of `text` that end before a separator or after a selection.
+pub fn beginnings(text: &[u8]) -> Vec<&[u8]> {
+    (0..=text.len()).filter(|at| is_boundary(text, *at)).map(|at| &text[..at]).collect()
+}
+
+fn is_boundary(text: &[u8], at: usize) -> bool {
+    at == 0 || at == text.len() || matches!(text[at], b'/' | b'.' | b'{') || text[at - 1] == b'}'
+}
+
+/// A candidate for a prefix of `text`: a beginning, or nearly one, or something else.
+pub fn prefix_for(random: &mut Random, text: &[u8]) -> Vec<u8> {
+    let beginning = random.pick(&beginnings(text)).to_vec();
+    match random.below(10) {
+        0 => Vec::new(),
+        1 => b"/".to_vec(),
+        2 => text.to_vec(),
+        3 => damaged(random, &beginning),
+        4 => text[..random.within(0..=text.len())].to_vec(),
+        5 => with_byte_inserted(&beginning, beginning.len(), *random.pick(NAME_BYTES)),
+        6 => {
+            let length = length(random);
+            legal_text(random, length)
+        }
+        _ => beginning,
+    }
+}
+
+/// A new prefix for `text` in place of `old`. Often the joined text comes to about the limit.
+pub fn new_prefix_for(random: &mut Random, text: &[u8], old: &[u8]) -> Vec<u8> {
+    let length = match random.below(8) {
+        0 => return Vec::new(),
+        1 => return b"/".to_vec(),
+        2 => length(random),
+        3 | 4 => random.below(25),
+        _ => joining_length(random, text, old),
+    };
+    let new = legal_text(random, length);
+    if random.one_in(30) { damaged(random, &new) } else { new }
+}
+
+/// A length that brings the joined text to 253 to 258 bytes, where that is possible.
+fn joining_length(random: &mut Random, text: &[u8], old: &[u8]) -> usize {
+    let rest = text.len().saturating_sub(old.len());
+    random.within(LONGEST - 2..=LONGEST + 3).saturating_sub(rest)
+}
+
+#[cfg(test)]
+mod tests {
+    use super::{beginnings, legal_text, length};
+    use crate::legal::is_legal;
+    use crate::random::Random;
+
+    #[test]
+    fn generated_texts_are_legal_and_of_the_length_asked() {
+        let random = &mut Random::new(1);
+        for _ in 0..20_000 {
+            let length = length(random);
+            let text = legal_text(random, length);
+            assert!(is_legal(&text), "{}", String::from_utf8_lossy(&text));
+            assert_eq!(text.len(), length);
+        }
+    }
+
+    #[test]
+    fn beginnings_end_at_separators() {
+        let expected: [&[u8]; 5] = [b"", b"/A", b"/A{v=p}", b"/A{v=p}B", b"/A{v=p}B.c"];
+        assert_eq!(beginnings(b"/A{v=p}B.c"), expected);
+    }
+}

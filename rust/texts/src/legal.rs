@@ -1,0 +1,160 @@
+//! The grammar of document 01, read sentence by sentence.
+//!
+//! Each reader takes the text that is left and gives what is left after it, or `None` where it does not find
+//! what it reads. The length limit is a question of its own and is not asked here.
+
+/// Whether `text` is a path of the grammar.
+///
+/// "It is empty, or `/`, or `/` and a name followed by elements, then perhaps a property."
+pub fn is_legal(text: &[u8]) -> bool {
+    match text {
+        b"" | b"/" => true,
+        [b'/', rest @ ..] => name(rest).and_then(after_name).is_some_and(|rest| rest.is_empty()),
+        _ => false,
+    }
+}
+
+/// "After a name come `/` and a name, or `{set=sel}`."
+fn after_name(rest: &[u8]) -> Option<&[u8]> {
+    match rest {
+        [b'/', rest @ ..] => after_name(name(rest)?),
+        [b'{', rest @ ..] => after_selection(selection(rest)?),
+        _ => property_or_end(rest),
+    }
+}
+
+/// "After a selection come another selection, or a name with no slash."
+fn after_selection(rest: &[u8]) -> Option<&[u8]> {
+    if let [b'{', rest @ ..] = rest {
+        return after_selection(selection(rest)?);
+    }
+    match name(rest) {
+        Some(rest) => after_name(rest),
+        None => property_or_end(rest),
+    }
+}
+
+/// "A property is `.` and names joined by single `:`."
+fn property_or_end(rest: &[u8]) -> Option<&[u8]> {
+    match rest {
+        [b'.', rest @ ..] => joined_names(rest),
+        _ => Some(rest),
+    }
+}
+
+fn joined_names(rest: &[u8]) -> Option<&[u8]> {
+    match name(rest)? {
+        [b':', rest @ ..] => joined_names(rest),
+        rest => Some(rest),
+    }
+}
+
+/// "`set` is a name; `sel` is one or more letters, digits, `_`." The opening brace is read already.
+fn selection(rest: &[u8]) -> Option<&[u8]> {
+    let rest = name(rest)?.strip_prefix(b"=")?;
+    let (first, rest) = rest.split_first()?;
+    if !is_name_byte(*first) {
+        return None;
+    }
+    skip_name_bytes(rest).strip_prefix(b"}")
+}
+
+/// "A name is a letter or `_`, then letters, digits, `_`."
+fn name(rest: &[u8]) -> Option<&[u8]> {
+    let (first, rest) = rest.split_first()?;
+    if !is_name_byte(*first) || first.is_ascii_digit() {
+        return None;
+    }
+    Some(skip_name_bytes(rest))
+}
+
+fn skip_name_bytes(rest: &[u8]) -> &[u8] {
+    match rest {
+        [byte, rest @ ..] if is_name_byte(*byte) => skip_name_bytes(rest),
+        _ => rest,
+    }
+}
+
+fn is_name_byte(byte: u8) -> bool {
+    byte.is_ascii_alphanumeric() || byte == b'_'
+}
+
+#[cfg(test)]
+mod tests {
+    use super::is_legal;
+
+    #[test]
+    fn texts_of_document_01_are_legal() {
+        for text in [
+            "",
+            "/",
+            "/A",
+            "/AB",
+            "/A/B",
+            "/A.b",
+            "/A{v=p}",
+            "/A{v=p}B",
+            "/C{v=p}B",
+            "/A{v=p}{w=q}B.c",
+            "/X/B/C",
+            "/R/a/b/d/b/d",
+        ] {
+            assert!(is_legal(text.as_bytes()), "{text}");
+        }
+    }
+
+    #[test]
+    fn names_selections_and_properties() {
+        for text in ["/_", "/_1", "/a1B_", "/A{v=1}", "/A{_=_}_/B{a=b}.c:d:e", "/A{v=p}.b"] {
+            assert!(is_legal(text.as_bytes()), "{text}");
+        }
+    }
+
+    #[test]
+    fn texts_that_the_grammar_leaves_out() {
+        for text in ["A", ".", "..", "//", "/A/", "/A//B", "/1", "/A/1", "/A b", "/é", "/.b", "/{v=p}"] {
+            assert!(!is_legal(text.as_bytes()), "{text}");
+        }
+    }
+
+    #[test]
+    fn misplaced_slashes_selections_and_dots() {
+        for text in ["/A{v=p}/B", "/A{v=p}1", "/A/{v=p}", "/A.b/C", "/A.b{v=p}", "/A.b.c", "/A/.b"] {
+            assert!(!is_legal(text.as_bytes()), "{text}");
+        }
+    }
+
+    #[test]
+    fn malformed_selections_and_properties() {
+        for text in [
+            "/A{",
+            "/A{}",
+            "/A{v}",
+            "/A{v=}",
+            "/A{=p}",
+            "/A{1=p}",
+            "/A{v=p",
+            "/A{v=p}}",
+            "/A{v=p-q}",
+            "/A{v==p}",
+            "/A.",
+            "/A.1",
+            "/A.:b",
+            "/A.b:",
+            "/A.b::c",
+            "/A.b:1",
+            "/A:b",
+            "/A.r[/B]",
+        ] {
+            assert!(!is_legal(text.as_bytes()), "{text}");
+        }
+    }
+
+    #[test]
+    fn bytes_outside_ascii_are_no_name_bytes() {
+        for byte in 0..=255u8 {
+            let expected = byte.is_ascii_alphanumeric() || byte == b'_';
+            assert_eq!(is_legal(&[b'/', b'A', byte]), expected, "{byte}");
+        }
+    }
+}

@@ -1,0 +1,13 @@
+//! Path texts: which are legal, and where test texts come from.
+//!
+//! This crate depends on nothing, neither on the original nor on the library that is compared with it, so that
+//! its idea of a legal path is its own.
+
+pub mod damage;
+pub mod enumerate;
+pub mod generate;
+pub mod legal;
+pub mod random;
+
+/// The longest path text that is accepted, in bytes.
+pub const LONGEST: usize = 255;
