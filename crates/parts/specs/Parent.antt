@@ -9,10 +9,19 @@ use lib.ListN.{length, take}
 use Rattle.text.specs.Text.{Text, isNil, lastIs, lacks}
 use Rattle.grammar.specs.Legal.{isRoot, isIdentifierCont, startsName}
 
--- A part is an element or the property. At the byte a before r one begins here, or right behind a `}`, or none begins.
-unfoldable pub partAt : ℕ → Text → Option ℕ
+-- A part is an element or the property. It begins at the byte a before r ..
+unfoldable pub beginsAt : ℕ → Text → Bool
+beginsAt a r = eqb a 47 && not (isNil r) || eqb a 123 || eqb a 46
+
+-- .. or right behind that byte, where it is a name behind a selection
+unfoldable pub beginsBehind : ℕ → Text → Bool
 unfolding isIdentifierCont
-partAt a r = cond (eqb a 47 && not (isNil r) || eqb a 123 || eqb a 46) (some 0) (cond (eqb a 125 && startsName r) (some 1) none)
+beginsBehind a r = eqb a 125 && startsName r
+
+-- where a part begins, counted from that byte
+unfoldable pub partAt : ℕ → Text → Option ℕ
+unfolding beginsAt beginsBehind
+partAt a r = cond (beginsAt a r) (some 0) (cond (beginsBehind a r) (some 1) none)
 
 abbrev pub later : Option ℕ → Option ℕ → Option ℕ
 later x none = x

@@ -1,7 +1,7 @@
 -- A path without its selections. OpenUSD: SdfPath::StripAllVariantSelections.
 use Prim.Native.Nat.{ℕ}
-use mathlib.Core.Bool.{Bool, true, false, cond}
-use mathlib.Core.List.{List, [], _∷_}
+use mathlib.Core.Bool.{Bool, true, false, not, cond, _&&_}
+use mathlib.Core.List.{List, [], _∷_, _++_}
 use lib.Dec.{eqb, leb}
 use lib.ListN.{length}
 use Rattle.text.specs.Text.{Text, written}
@@ -9,12 +9,22 @@ use Rattle.text.specs.declared.Fit.{Fit}
 use Rattle.text.specs.declared.Fit.the-variants.{Written, Over}
 use Rattle.grammar.specs.Legal.{isIdentifierCont, startsName}
 
--- `inside` is set between `{` and `}`
-unfoldable pub stripFrom : Bool → Text → Text
+-- what the byte a before r gives: inside a selection nothing, but a slash for the `}` that a name follows; outside itself, but for `{`
+unfoldable pub piece : Bool → ℕ → Text → Text
 unfolding isIdentifierCont
+piece true a r = cond (eqb a 125 && startsName r) (47 ∷ []) []
+piece false a r = cond (eqb a 123) [] (a ∷ [])
+
+-- is the reader inside a selection behind the byte a?
+abbrev pub turned : Bool → ℕ → Bool
+turned true a = not (eqb a 125)
+turned false a = eqb a 123
+
+-- the pieces of all bytes, from outside or inside a selection on
+unfoldable pub stripFrom : Bool → Text → Text
+unfolding piece
 stripFrom inside [] = []
-stripFrom true (a ∷ r) = cond (eqb a 125) (cond (startsName r) (47 ∷ stripFrom false r) (stripFrom false r)) (stripFrom true r)
-stripFrom false (a ∷ r) = cond (eqb a 123) (stripFrom true r) (a ∷ stripFrom false r)
+stripFrom inside (a ∷ r) = piece inside a r ++ stripFrom (turned inside a) r
 
 unfoldable pub strip : Text → Text
 unfolding stripFrom
