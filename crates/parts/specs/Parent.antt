@@ -1,6 +1,6 @@
 -- Parents, prim paths, properties and ancestors. All of them are beginnings of the path's own text.
 -- OpenUSD: SdfPath::GetParentPath, GetPrimPath, GetAncestorsRange.
-use Prim.Native.Nat.{ℕ, zero, suc}
+use Prim.Native.Nat.{ℕ, zero, suc, _-_}
 use mathlib.Core.Bool.{Bool, true, false, not, cond, _&&_, _||_}
 use mathlib.Core.List.{List, [], _∷_, map}
 use mathlib.Core.Option.{Option, none, some}
@@ -43,10 +43,13 @@ unfoldable pub parentLen : Text → ℕ
 unfolding lastPart
 parentLen p = endAt (lastPart p)
 
+abbrev pub hasParent : Text → Bool
+hasParent p = not (isNil p || isRoot p)
+
 -- "The parent of `/A.b` is `/A`, of `/A{v=p}B` is `/A{v=p}`, of `/A` is `/`. `/` and the empty path have none."
 unfoldable pub parent : Text → Option Text
 unfolding parentLen
-parent p = cond (isNil p || isRoot p) none (some (take (parentLen p) p))
+parent p = cond (hasParent p) (some (take (parentLen p) p)) none
 
 -- a property has a dot, and nothing else in a legal path has
 abbrev pub isProperty : Text → Bool
@@ -66,8 +69,8 @@ unfoldable pub splitProperty : Text → Option Text
 unfolding primPath lacks
 splitProperty p = cond (isProperty p) (some (primPath p)) none
 
--- Rust: ancestors, the path and then parent after parent. A parent is shorter than its path, so as many steps as the path has
--- bytes are enough (proved in proofs/AncestorLaws.antt).
+-- Rust: ancestors, the path and then parent after parent. A parent is shorter than its path, and a path of one byte has none, so
+-- fewer steps than the path has bytes are enough (proved in proofs/AncestorLaws.antt).
 abbrev pub onward : (Text → List Text) → Option Text → List Text
 onward go none = []
 onward go (some q) = go q
@@ -79,7 +82,7 @@ ancestorsIn (suc n) p = p ∷ onward (λ (q : Text). ancestorsIn n q) (parent p)
 
 unfoldable pub ancestors : Text → List Text
 unfolding ancestorsIn
-ancestors p = ancestorsIn (length p) p
+ancestors p = ancestorsIn (length p - 1) p
 
 -- "one number per path of `ancestors` (its length)"
 unfoldable pub ancestorLens : Text → List ℕ

@@ -1,18 +1,18 @@
 -- A path without its selections. OpenUSD: SdfPath::StripAllVariantSelections.
 use Prim.Native.Nat.{ℕ}
-use mathlib.Core.Bool.{Bool, true, false, not, cond, _&&_}
+use mathlib.Core.Bool.{Bool, true, false, not, cond}
 use mathlib.Core.List.{List, [], _∷_, _++_}
 use lib.Dec.{eqb, leb}
 use lib.ListN.{length}
 use Rattle.text.specs.Text.{Text, written}
 use Rattle.text.specs.declared.Fit.{Fit}
 use Rattle.text.specs.declared.Fit.the-variants.{Written, Over}
-use Rattle.grammar.specs.Legal.{isIdentifierCont, startsName}
+use Rattle.parts.specs.Parent.{beginsBehind}
 
 -- what the byte a before r gives: inside a selection nothing, but a slash for the `}` that a name follows; outside itself, but for `{`
 unfoldable pub piece : Bool → ℕ → Text → Text
-unfolding isIdentifierCont
-piece true a r = cond (eqb a 125 && startsName r) (47 ∷ []) []
+unfolding beginsBehind
+piece true a r = cond (beginsBehind a r) (47 ∷ []) []
 piece false a r = cond (eqb a 123) [] (a ∷ [])
 
 -- is the reader inside a selection behind the byte a?
