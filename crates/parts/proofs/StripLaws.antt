@@ -9,7 +9,7 @@ use native.Mathlib.Numerals.{add-one}
 use native.Mathlib.Omega.{arith}
 use lib.Dec.{eqb, leb}
 use lib.ListN.{length, getD, set, take, drop, length-append, take-append-drop, drop-of-length-le, length-drop}
-use lib.Seq.{set-split, drop-cons}
+use lib.Seq.{set-split, drop-cons, take-append-seam, drop-append-add, drop-drop}
 use borrow.Author.Tests.{le-leb, lt-leb, eq-eqb, ne-eqb}
 use Rattle.text.specs.Text.{Text, written, over}
 use Rattle.text.specs.declared.Fit.{Fit}
@@ -76,3 +76,75 @@ module _ (m : Bool) (a : ℕ) (r out : Text) (j : ℕ) where
     itself-over h l = rw (piece-itself h) (over-one j a out l)
 
 pub ruleset emits = (turned-inside, turned-outside, slash-long, slash-over, inside-long, inside-over, open-long, open-over, itself-long, itself-over)
+
+-- `strip_into`: what has been written, and what is left to write
+pub record Sofar (p out₀ out : Text) (m : Bool) (i j : ℕ) : Type 0 where
+  pub text : Text
+  pub long : length text ≡ j
+  pub wrote : out ≡ written text out₀
+  pub rest : text ++ stripFrom m (drop i p) ≡ strip p
+
+pub sofar-begin : (p out : Text) → Sofar p out out false 0 0
+unfolding strip
+sofar-begin p out = record { text = []; long = refl; wrote = refl; rest = refl }
+
+strip-next : (m : Bool) (p : Text) (i : ℕ) → i < length p
+    → stripFrom m (drop i p) ≡ piece m (getD p i 0) (drop (i + 1) p) ++ stripFrom (turned m (getD p i 0)) (drop (i + 1) p)
+unfolding stripFrom
+strip-next m p i h = rw add-one (ap (λ (s : Text). stripFrom m s) (drop-cons p i 0 h))
+
+over-written : (t g out : Text) → over (length t) g (written t out) ≡ written (t ++ g) out
+over-written t g out = simp (take-append-seam, drop-append-add, drop-drop, length-append, append-assoc)
+
+module _ (p out₀ out out′ : Text) (m m′ : Bool) (i j j′ : ℕ) where
+  pub sofar-on : Sofar p out₀ out m i j → i < length p → m′ ≡ turned m (getD p i 0)
+      → j′ ≡ j + length (piece m (getD p i 0) (drop (i + 1) p)) → out′ ≡ over j (piece m (getD p i 0) (drop (i + 1) p)) out
+      → Sofar p out₀ out′ m′ (i + 1) j′
+  sofar-on S h e l w =
+      let g : Text = piece m (getD p i 0) (drop (i + 1) p) in
+      record {
+        text = S .text ++ g;
+        long = length-append (S .text) g ∙ ap (λ (n : ℕ). n + length g) (S .long) ∙ sym l;
+        wrote = w ∙ rw (← S .long, S .wrote) (over-written (S .text) g out₀);
+        rest =
+            rw e (append-assoc (S .text) g (stripFrom (turned m (getD p i 0)) (drop (i + 1) p)))
+            ∙ ap (λ (t : Text). S .text ++ t) (sym (strip-next m p i h))
+            ∙ S .rest;
+      }
+
+-- a byte gives at most one byte
+either-short : (t : Bool) (x y : Text) → length x ≤ 1 → length y ≤ 1 → length (cond t x y) ≤ 1
+either-short true x y h k = h
+either-short false x y h k = k
+
+piece-short : (m : Bool) (a : ℕ) (r : Text) → length (piece m a r) ≤ 1
+unfolding piece
+piece-short true a r = either-short (beginsBehind a r) (47 ∷ []) [] (omega arith) (omega arith)
+piece-short false a r = either-short (eqb a 123) [] (a ∷ []) (omega arith) (omega arith)
+
+pub place-on : (m : Bool) (a : ℕ) (r : Text) (i j j′ : ℕ) → j ≤ i → j′ ≡ j + length (piece m a r) → j′ ≤ i + 1
+place-on m a r i j j′ h e = omega (arith, piece-short m a r)
+
+module _ (p d out : Text) (m : Bool) (i j : ℕ) (S : Sofar p d out m i j) (h : length p ≤ i) where
+  all-written : S .text ≡ strip p
+  unfolding stripFrom
+  all-written = sym (append-nil (S .text)) ∙ ap (λ (t : Text). S .text ++ stripFrom m t) (sym (drop-of-length-le p h)) ∙ S .rest
+
+  pub sofar-fit : length p ≤ length d → Written j ≡ stripFit p d
+  unfolding stripFit
+  sofar-fit l = rw (le-leb (length p) (length d) l, ← all-written, S .long)
+
+  pub sofar-end : length p ≤ length d → out ≡ stripMemory p d
+  unfolding stripMemory
+  sofar-end l = rw (le-leb (length p) (length d) l, ← all-written) (S .wrote)
+
+module _ (p d : Text) (h : length d < length p) where
+  pub strip-over : Over ≡ stripFit p d
+  unfolding stripFit
+  strip-over = rw (lt-leb (length p) (length d) h)
+
+  pub strip-kept : d ≡ stripMemory p d
+  unfolding stripMemory
+  strip-kept = rw (lt-leb (length p) (length d) h)
+
+pub ruleset strips = (sofar-begin, sofar-on, place-on, sofar-fit, sofar-end, strip-over, strip-kept)
