@@ -1,3 +1,4 @@
-pub mod PartLaws
-pub mod AncestorLaws
-pub mod StripLaws
+pub mod ParentLaws
+mod PartLaws
+mod WalkLaws
+mod EmitLaws

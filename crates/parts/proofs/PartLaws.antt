@@ -1,7 +1,7 @@
--- Where the last part of a text begins, and what each way through the functions that look for it gives. Assumes nothing.
+-- What each way through the functions that look for the last part gives. Assumes nothing.
 use mathlib.Core.Path.{_≡_, refl, sym, ap, _∙_}
 use mathlib.Core.Logic.{_≢_}
-use mathlib.Core.Bool.{Bool, true, false, not, cond, _&&_, _||_, false≢true}
+use mathlib.Core.Bool.{Bool, true, false, not, cond, _&&_, _||_}
 use mathlib.Core.List.{List, [], _∷_, _++_}
 use mathlib.Core.Option.{Option, none, some}
 use Prim.Native.Nat.{ℕ, zero, suc, _+_, _-_, _≤_, _<_}
@@ -13,9 +13,10 @@ use lib.ListN.{length, getD, take, drop, drop-of-length-le, length-take}
 use lib.Seq.{drop-cons, drop-length, drop-nil}
 use borrow.Author.Tests.{eqb-true, eq-eqb, ne-eqb, lt-ltb, le-ltb, ltb-true, ltb-false}
 use Rattle.text.specs.Text.{Text, isNil, lastIs, lacks}
-use Rattle.text.proofs.BoolLaws.{and-r, told, told-false, told-true, or-false, or-right}
+use Rattle.text.proofs.BoolLaws.{told, told-false, told-true, or-false, or-right}
 use Rattle.grammar.specs.Legal.{isIdentifierCont, startsName}
 use Rattle.parts.specs.Parent.{beginsAt, beginsBehind, partAt, later, lastPart, endAt, parentLen, isProperty, primLen}
+use Rattle.parts.proofs.ParentLaws.{no-part}
 
 -- `starts_name`
 pub name-none : (p : Text) (i : ℕ) → length p ≤ i → false ≡ startsName (drop i p)
@@ -53,18 +54,7 @@ pub behind-other : (r : Text) (a : ℕ) → a ≢ 125 → false ≡ beginsBehind
 unfolding beginsBehind
 behind-other r a d = rw (ne-eqb a 125 d)
 
-pub behind-name : (a : ℕ) (r : Text) → beginsBehind a r ≡ true → startsName r ≡ true
-unfolding beginsBehind
-behind-name a r e = and-r (eqb a 125) (startsName r) e
-
-pub name-long : (r : Text) → startsName r ≡ true → 0 < length r
-name-long [] e = absurd (false≢true e)
-name-long (a ∷ r) e = omega arith
-
 pub ruleset places = (name-none, name-some, at-slash, at-brace, at-other, behind-close, behind-other)
-
-no-part : {k : ℕ} → none ≡ some k → ⊥
-no-part {k} e = let z : _≡_ {A = ℕ} 0 1 = cc in omega arith
 
 -- `parent_len`: behind the place i no part begins
 pub last-behind : (p : Text) (i k : ℕ) → lastPart (drop i p) ≡ some k → lastPart p ≡ some (k + i)
@@ -115,29 +105,6 @@ unfolding parentLen
 parent-end p i h e = let k : i ≡ 0 = omega arith in rw (rw k at e)
 
 pub ruleset parents = (parent-first, parent-at, parent-behind, parent-on, parent-begin, parent-end)
-
--- a parent is no longer than its path
-pub last-part-lt : (p : Text) (k : ℕ) → lastPart p ≡ some k → k < length p
-unfolding lastPart
-last-part-lt [] k e = absurd (no-part e)
-last-part-lt (a ∷ r) k e = go (lastPart r) refl (λ j. last-part-lt r j)
-  where
-    here : (b c : Bool) → beginsBehind a r ≡ c → cond b (some 0) (cond c (some 1) none) ≡ some k → k < suc (length r)
-    here true c f h = let z : 0 ≡ k = cc in omega arith
-    here false true f h = let z : 1 ≡ k = cc in omega (arith, name-long r (behind-name a r f))
-    here false false f h = absurd (no-part h)
-    go : (o : Option ℕ) → lastPart r ≡ o → ((j : ℕ) → lastPart r ≡ some j → j < length r) → k < suc (length r)
-    go none h ih = here (beginsAt a r) (beginsBehind a r) refl (rw h at e)
-    go (some j) h ih = let z : suc j ≡ k = cc in omega (arith, ih j h)
-
-pub parent-len-le : (p : Text) → parentLen p ≤ length p
-unfolding parentLen
-parent-len-le p = go (lastPart p) refl
-  where
-    go : (o : Option ℕ) → lastPart p ≡ o → endAt o ≤ length p
-    go none h = omega arith
-    go (some zero) h = omega (arith, last-part-lt p zero h)
-    go (some (suc k)) h = omega (arith, last-part-lt p (suc k) h)
 
 -- `prim_len`
 module _ (p : Text) (b c : Bool) (f : b ≡ lacks 46 p) where

@@ -1,4 +1,4 @@
-use Rattle.parts.proofs.AncestorLaws.{counts}
+use Rattle.parts.proofs.WalkLaws.{counts}
 use borrow.Author.Needs.{needs}
 use mathlib.Core.Path.{_≡_}
 use Prim.Native.Nat.{_+_, _-_, _≤_}

@@ -1,4 +1,4 @@
-use Rattle.parts.proofs.AncestorLaws.{having}
+use Rattle.parts.proofs.WalkLaws.{having}
 use borrow.Author.Needs.{needs}
 use Rattle.parts.proofs.has_parent.Statement.{statement}
 use Rattle.parts.proofs.has_parent.Tie as tie

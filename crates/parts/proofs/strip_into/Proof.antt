@@ -1,4 +1,4 @@
-use Rattle.parts.proofs.StripLaws.{Sofar, strips}
+use Rattle.parts.proofs.EmitLaws.{Sofar, strips}
 use borrow.Author.Needs.{needs}
 use mathlib.Core.Path.{_≡_}
 use Prim.Native.Nat.{_-_, _≤_}

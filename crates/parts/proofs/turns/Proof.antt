@@ -1,4 +1,4 @@
-use Rattle.parts.proofs.StripLaws.{emits}
+use Rattle.parts.proofs.EmitLaws.{emits}
 use borrow.Author.Needs.{needs}
 use Rattle.parts.proofs.turns.Statement.{statement}
 use Rattle.parts.proofs.turns.Tie as tie

@@ -1,4 +1,4 @@
-use Rattle.parts.proofs.AncestorLaws.{Ahead, writes}
+use Rattle.parts.proofs.WalkLaws.{Ahead, writes}
 use borrow.Author.Needs.{needs}
 use mathlib.Core.Path.{_≡_}
 use Prim.Native.Nat.{_-_, _≤_}

@@ -18,7 +18,7 @@ use Rattle.text.proofs.WriteLaws.{put-begin, put-on, put-length, put-end, put-o
 use Rattle.text.proofs.BoolLaws.{told, told-false, told-true}
 use Rattle.grammar.specs.Legal.{isRoot}
 use Rattle.parts.specs.Parent.{parentLen, hasParent, parent, ancestorsIn, ancestors, ancestorLens}
-use Rattle.parts.proofs.PartLaws.{parent-len-le}
+use Rattle.parts.proofs.ParentLaws.{parent-len-le}
 
 -- `has_parent`
 pub parent-of-nil : (p : Text) → length p ≡ 0 → false ≡ hasParent p
