@@ -11,7 +11,7 @@ use lib.Seq.{take-length, length-take-le}
 use borrow.Author.Tests.{eqb-true}
 use Rattle.text.specs.Text.{Text, isNil, lastIs, lacks}
 use Rattle.text.proofs.TextLaws.{no-text}
-use Rattle.text.proofs.BoolLaws.{and-l, and-r, not-true, or-right}
+use Rattle.text.proofs.BoolLaws.{and-l, and-r, and-no, not-true, or-right}
 use Rattle.grammar.specs.Legal.{State, Slash, Name, Opened, Set, Equals, Sel, Closed, Dot, Prop, Dead, isIdentifierStart, isIdentifierCont, startsName, step, run, accept, isRoot, legal}
 use Rattle.grammar.proofs.RunLaws.{dead-refuses}
 use Rattle.parts.specs.Parent.{beginsAt, beginsBehind, partAt, lastPart, endAt, parentLen, hasParent, parent, isProperty, primLen, primPath}
@@ -228,3 +228,89 @@ prim-legal p e = go (isProperty p || lastIs 125 p)
 pub prim-short : (p : Text) → length (primPath p) ≤ length p
 unfolding primPath
 prim-short p = omega (arith, length-take (primLen p) p)
+
+-- no part begins at a byte of a name
+pub name-none : (a : ℕ) (r : Text) → isIdentifierCont a ≡ true → partAt a r ≡ none
+unfolding partAt isIdentifierCont
+name-none a r h = go (beginsAt a r) (beginsBehind a r) refl refl
+  where
+    go : (b c : Bool) → beginsAt a r ≡ b → beginsBehind a r ≡ c → partAt a r ≡ none
+    go true c f g = absurd (true≢false (sym h ∙ begins-byte (λ (x : ℕ). isIdentifierCont x ≡ false) refl refl refl a r f))
+    go false true f g = absurd (true≢false (sym h ∙ ap isIdentifierCont (behind-byte a r g)))
+    go false false f g = rw (f, g)
+
+pub start-cont : (a : ℕ) → isIdentifierStart a ≡ true → isIdentifierCont a ≡ true
+unfolding isIdentifierCont
+start-cont a h = rw h
+
+-- in a property no part begins
+property-none : (r : Text) → (accept (run Prop r) ≡ true → lastPart r ≡ none) × (accept (run Dot r) ≡ true → lastPart r ≡ none)
+unfolding run step lastPart
+property-none [] = (λ e. refl, λ e. refl)
+property-none (a ∷ r) = (λ e. prop (isIdentifierCont a) (eqb a 58) refl refl e (property-none r), λ e. dot (isIdentifierStart a) refl e (property-none r .0))
+  where
+    none-at : partAt a r ≡ none → lastPart r ≡ none → lastPart (a ∷ r) ≡ none
+    none-at f g = rw (g, f)
+    prop : (b c : Bool) → isIdentifierCont a ≡ b → eqb a 58 ≡ c → accept (run (cond b Prop (cond c Dot Dead)) r) ≡ true
+        → (accept (run Prop r) ≡ true → lastPart r ≡ none) × (accept (run Dot r) ≡ true → lastPart r ≡ none) → lastPart (a ∷ r) ≡ none
+    prop true c h k e ih = none-at (name-none a r h) (ih .0 e)
+    prop false true h k e ih = none-at (ap (λ (x : ℕ). partAt x r) (eqb-true a 58 k)) (ih .1 e)
+    prop false false h k e ih = absurd (dead-refuses r e)
+    dot : (b : Bool) → isIdentifierStart a ≡ b → accept (run (cond b Prop Dead) r) ≡ true
+        → (accept (run Prop r) ≡ true → lastPart r ≡ none) → lastPart (a ∷ r) ≡ none
+    dot true h e ih = none-at (name-none a r (start-cont a h)) (ih e)
+    dot false h e ih = absurd (dead-refuses r e)
+
+-- the dot of a property begins the last part
+dot-read : (s : State) (r : Text) → accept (run (step s 46) r) ≡ true → lastPart r ≡ none
+unfolding step
+dot-read Slash r e = absurd (dead-refuses r e)
+dot-read Name r e = property-none r .1 e
+dot-read Opened r e = absurd (dead-refuses r e)
+dot-read Set r e = absurd (dead-refuses r e)
+dot-read Equals r e = absurd (dead-refuses r e)
+dot-read Sel r e = absurd (dead-refuses r e)
+dot-read Closed r e = property-none r .1 e
+dot-read Dot r e = absurd (dead-refuses r e)
+dot-read Prop r e = absurd (dead-refuses r e)
+dot-read Dead r e = absurd (dead-refuses r e)
+
+pub record Dotted (r : Text) : Type 0 where
+  pub at : ℕ
+  pub last : lastPart r ≡ some at
+  pub joins : r ≡ take at r ++ 46 ∷ drop (suc at) r
+
+dotted : (s : State) (r : Text) → accept (run s r) ≡ true → lacks 46 r ≡ false → Dotted r
+unfolding run lastPart lacks
+dotted s [] e f = absurd (true≢false f)
+dotted s (a ∷ r) e f = go (eqb a 46) refl (λ g. dotted (step s a) r e g)
+  where
+    go : (t : Bool) → eqb a 46 ≡ t → (lacks 46 r ≡ false → Dotted r) → Dotted (a ∷ r)
+    go true h ih =
+        let z : a ≡ 46 = eqb-true a 46 h in
+        record { at = 0; last = rw (dot-read s r (rw z at e), z); joins = rw z }
+    go false h ih =
+        let d = ih (rw h at f) in
+        record { at = suc (d .at); last = rw (d .last); joins = ap (λ (t : Text). a ∷ t) (d .joins) }
+
+property-parent : (p : Text) → legal p ≡ true → isProperty p ≡ true → hasParent p ≡ true
+unfolding legal lacks
+property-parent [] e f = absurd (false≢true f)
+property-parent (a ∷ []) e f = absurd (false≢true (rw (eqb-true a 47 (and-l (eqb a 47) true e)) at f))
+property-parent (a ∷ b ∷ r) e f = rw (and-no (eqb a 47))
+
+property-len : (p : Text) → isProperty p ≡ true → primLen p ≡ parentLen p
+unfolding primLen
+property-len p f = rw f
+
+-- a property is its prim path, a dot and the property's name
+pub split-joins : (p : Text) → legal p ≡ true → isProperty p ≡ true → p ≡ primPath p ++ 46 ∷ drop (suc (primLen p)) p
+unfolding primPath lacks
+split-joins p e f = go (t .rest) (t .slash) (t .read) (dotted Slash (t .rest) (t .read) (not-true (lacks 46 (t .rest)) (rw (t .slash) at f)))
+  where
+    t : Rest p
+    t = legal-rest p e (property-parent p e f)
+    go : (r : Text) → p ≡ 47 ∷ r → accept (run Slash r) ≡ true → Dotted r → p ≡ primPath p ++ 46 ∷ drop (suc (primLen p)) p
+    go r s h d =
+        let n : primLen p ≡ suc (d .at) = property-len p f ∙ ap parentLen s ∙ slash-len r h ∙ ap (λ (o : Option ℕ). suc (before o)) (d .last) in
+        rw (n, s) (ap (λ (x : Text). 47 ∷ x) (d .joins))
