@@ -56,7 +56,7 @@ pub behind-name : (a : ℕ) (r : Text) → beginsBehind a r ≡ true → startsN
 unfolding beginsBehind
 behind-name a r e = and-r (eqb a 125) (startsName r) e
 
-name-long : (r : Text) → startsName r ≡ true → 0 < length r
+pub name-long : (r : Text) → startsName r ≡ true → 0 < length r
 name-long [] e = absurd (false≢true e)
 name-long (a ∷ r) e = omega arith
 
@@ -162,7 +162,7 @@ closes Dot r e = absurd (dead-refuses r e)
 closes Prop r e = absurd (dead-refuses r e)
 closes Dead r e = absurd (dead-refuses r e)
 
-last-legal : (s : State) {r : Text} {k : ℕ} → Last r k → accept (run s r) ≡ true → accept (run s (take k r)) ≡ true
+pub last-legal : (s : State) {r : Text} {k : ℕ} → Last r k → accept (run s r) ≡ true → accept (run s (take k r)) ≡ true
 unfolding run accept
 last-legal s (here a r b) e = may-end s a r b e
 last-legal s (behind a r b) e = let z : a ≡ 125 = behind-byte a r b in rw z (ap accept (closes s r (rw z at e)))
@@ -177,7 +177,7 @@ slash-legal r e = rw (slash-len r e) (go (lastPart r) refl)
     go (some k) h = or-right (isNil (take k r)) (accept (run Slash (take k r))) (last-legal Slash (last-view r k h) e)
 
 -- the text before the last part of a legal path is legal
-parent-take : (p : Text) → legal p ≡ true → legal (take (parentLen p) p) ≡ true
+pub parent-take : (p : Text) → legal p ≡ true → legal (take (parentLen p) p) ≡ true
 unfolding legal parentLen
 parent-take [] e = refl
 parent-take (a ∷ []) e = rw (eqb-true a 47 (and-l (eqb a 47) true e))
@@ -201,7 +201,7 @@ parent-starts p q f =
     let l : length q ≡ parentLen p = ap length (parent-is p q f .1) ∙ length-take-le (parentLen p) p (parent-len-le p) in
     rw l (sym (take-append-drop (parentLen p) p) ∙ ap (λ (t : Text). t ++ drop (parentLen p) p) (sym (parent-is p q f .1)))
 
-before-lt : (r : Text) → accept (run Slash r) ≡ true → before (lastPart r) < length r
+pub before-lt : (r : Text) → accept (run Slash r) ≡ true → before (lastPart r) < length r
 unfolding run accept
 before-lt [] e = absurd (false≢true e)
 before-lt (b ∷ r) e = go (lastPart (b ∷ r)) refl

@@ -19,6 +19,7 @@ use Rattle.text.proofs.BoolLaws.{told, told-false, told-true}
 use Rattle.grammar.specs.Legal.{isRoot}
 use Rattle.parts.specs.Parent.{parentLen, hasParent, parent, ancestorsIn, ancestors, ancestorLens}
 use Rattle.parts.proofs.ParentLaws.{parent-len-le}
+use Rattle.parts.proofs.AncestorLaws.{ancestors-none, ancestors-least, ancestors-some}
 
 -- `has_parent`
 pub parent-of-nil : (p : Text) → length p ≡ 0 → false ≡ hasParent p
@@ -30,20 +31,6 @@ parent-of-text [] b h e = absurd (h refl)
 parent-of-text (a ∷ p) b h e = ap not e
 
 pub ruleset having = (parent-of-nil, parent-of-text)
-
--- one step
-pub ancestors-none : (k : ℕ) (p : Text) → hasParent p ≡ false → ancestorsIn k p ≡ p ∷ []
-unfolding ancestorsIn
-ancestors-none zero p e = refl
-ancestors-none (suc k) p e = rw e
-
-pub ancestors-some : (k : ℕ) (p : Text) → hasParent p ≡ true → ancestorsIn (suc k) p ≡ p ∷ ancestorsIn k (take (parentLen p) p)
-unfolding ancestorsIn
-ancestors-some k p e = rw e
-
-ancestors-least : (p : Text) → ancestorsIn 0 p ≡ p ∷ []
-unfolding ancestorsIn
-ancestors-least p = refl
 
 -- the parent of a beginning of p is a beginning of p
 take-parent : (p : Text) (n m : ℕ) → n ≤ length p → m ≡ parentLen (take n p) → take m p ≡ take (parentLen (take n p)) (take n p)
