@@ -1,4 +1,4 @@
--- A text without its selections: what each way through the functions that write it gives. Assumes nothing.
+-- What each way through the functions that write a text without its selections gives. Assumes nothing.
 use mathlib.Core.Path.{_≡_, refl, sym, ap, _∙_}
 use mathlib.Core.Logic.{_≢_}
 use mathlib.Core.Bool.{Bool, true, false, not, cond}
@@ -17,6 +17,7 @@ use Rattle.text.specs.declared.Fit.the-variants.{Written, Over}
 use Rattle.text.proofs.BoolLaws.{told}
 use Rattle.parts.specs.Parent.{beginsBehind}
 use Rattle.parts.specs.Strip.{piece, turned, stripFrom, strip, stripFit, stripMemory}
+use Rattle.parts.proofs.StripLaws.{piece-short}
 
 -- `turns`
 pub turned-inside : (m : Bool) (a : ℕ) → m ≡ true → not (eqb a 125) ≡ turned m a
@@ -111,16 +112,6 @@ module _ (p out₀ out out′ : Text) (m m′ : Bool) (i j j′ : ℕ) where
             ∙ ap (λ (t : Text). S .text ++ t) (sym (strip-next m p i h))
             ∙ S .rest;
       }
-
--- a byte gives at most one byte
-either-short : (t : Bool) (x y : Text) → length x ≤ 1 → length y ≤ 1 → length (cond t x y) ≤ 1
-either-short true x y h k = h
-either-short false x y h k = k
-
-piece-short : (m : Bool) (a : ℕ) (r : Text) → length (piece m a r) ≤ 1
-unfolding piece
-piece-short true a r = either-short (beginsBehind a r) (47 ∷ []) [] (omega arith) (omega arith)
-piece-short false a r = either-short (eqb a 123) [] (a ∷ []) (omega arith) (omega arith)
 
 pub place-on : (m : Bool) (a : ℕ) (r : Text) (i j j′ : ℕ) → j ≤ i → j′ ≡ j + length (piece m a r) → j′ ≤ i + 1
 place-on m a r i j j′ h e = omega (arith, piece-short m a r)
