@@ -12,7 +12,9 @@ use Rattle.text.specs.Text.{Text}
 use Rattle.text.proofs.BoolLaws.{and-l}
 use Rattle.grammar.specs.Legal.{State, Slash, Name, Opened, Set, Equals, Sel, Closed, Dot, Prop, Dead, isIdentifierStart, isIdentifierCont, startsName, step, run, accept, legal}
 use Rattle.parts.specs.Parent.{beginsAt, beginsBehind, lastPart, parentLen, hasParent, parent, onward, ancestorsIn, ancestors}
-use Rattle.parts.proofs.ParentLaws.{Last, here, behind, beyond, last-view, begins-byte, behind-byte, behind-name, Rest, legal-rest, before, before-lt, name-long, last-legal, slash-len, may-end, closes, parent-take, parent-legal, parent-shorter}
+use Rattle.parts.proofs.ReadLaws.{Shape, empty, root, below, shape, closes}
+use Rattle.parts.proofs.LastLaws.{Last, here, behind, beyond, last, begins-byte, behind-byte, behind-name, may-end, last-legal, before, slash-len, before-lt}
+use Rattle.parts.proofs.ParentLaws.{parent-take, parent-less}
 
 -- one step
 pub ancestors-none : (k : ℕ) (p : Text) → hasParent p ≡ false → ancestorsIn k p ≡ p ∷ []
@@ -27,10 +29,6 @@ ancestors-some k p e = rw e
 pub ancestors-least : (p : Text) → ancestorsIn 0 p ≡ p ∷ []
 unfolding ancestorsIn
 ancestors-least p = refl
-
-pub parent-some : (p : Text) → hasParent p ≡ true → parent p ≡ some (take (parentLen p) p)
-unfolding parent
-parent-some p h = rw h
 
 -- every ancestor of a legal path is legal
 in-legal : (k : ℕ) (p : Text) (i : ℕ) → legal p ≡ true → legal (getD (ancestorsIn k p) i []) ≡ true
@@ -64,11 +62,13 @@ furthest-on x (suc k) q = go (onward (λ (t : Text). ancestorsIn k t) (parent q)
         let n : suc (length l) - 1 ≡ length l = omega arith in
         rw (m, n)
 
-parent-less : (p : Text) → legal p ≡ true → hasParent p ≡ true → length (take (parentLen p) p) < length p
-parent-less p e h = parent-shorter p (take (parentLen p) p) e (parent-some p h)
-
 legal-long : (p : Text) → legal p ≡ true → hasParent p ≡ true → 1 < length p
-legal-long p e h = let t = legal-rest p e h in omega (arith, before-lt (t .rest) (t .read), ap length (t .slash))
+legal-long p e h = go (shape p e) h
+  where
+    go : {q : Text} → Shape q → hasParent q ≡ true → 1 < length q
+    go empty h = absurd (false≢true h)
+    go root h = absurd (false≢true h)
+    go (below r f) h = omega (arith, before-lt r f)
 
 in-end : (k : ℕ) (p : Text) → legal p ≡ true → length p - 1 ≤ k → hasParent (furthest (ancestorsIn k p)) ≡ false
 in-end zero p e l = go (hasParent p) refl
@@ -198,18 +198,17 @@ in-most (suc k) r e = go (lastPart r) refl (λ x. in-most k x)
         → 2 * length (ancestorsIn (suc k) (47 ∷ r)) + weight (run Slash r) ≤ length r + 4
     go none h ih = rw (onwards none h, ancestors-none k (47 ∷ []) refl) (omega (arith, weight-run Slash r))
     go (some j) h ih =
-        let l = last-view r j h in
+        let l = last r j h in
         rw (onwards (some j) h) (omega (arith, ih (take j r) (last-legal Slash l e), falls Slash l e, length-take j r))
 
 -- a legal path has at most 128 ancestors, itself counted
 pub ancestors-most : (p : Text) → legal p ≡ true → length p ≤ 255 → length (ancestors p) ≤ 128
 unfolding ancestors
-ancestors-most p e l = go (hasParent p) refl
+ancestors-most p e l = go (shape p e) l
   where
-    most : (r : Text) → p ≡ 47 ∷ r → accept (run Slash r) ≡ true → length (ancestorsIn (length p - 1) p) ≤ 128
-    most r s f =
-        let m : suc (length r) ≤ 255 = rw s at l in
-        rw s (omega (arith, in-most (suc (length r) - 1) r f, accept-weight (run Slash r) f))
-    go : (t : Bool) → hasParent p ≡ t → length (ancestorsIn (length p - 1) p) ≤ 128
-    go true h = let t = legal-rest p e h in most (t .rest) (t .slash) (t .read)
-    go false h = rw (ancestors-none (length p - 1) p h) (omega arith)
+    alone : (k : ℕ) (q : Text) → hasParent q ≡ false → length (ancestorsIn k q) ≤ 128
+    alone k q h = rw (ancestors-none k q h) (omega arith)
+    go : {q : Text} → Shape q → length q ≤ 255 → length (ancestorsIn (length q - 1) q) ≤ 128
+    go empty l = alone (length {A = ℕ} [] - 1) [] refl
+    go root l = alone (1 - 1) (47 ∷ []) refl
+    go (below r f) l = omega (arith, in-most (suc (length r) - 1) r f, accept-weight (run Slash r) f)

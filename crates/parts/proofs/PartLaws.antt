@@ -16,7 +16,7 @@ use Rattle.text.specs.Text.{Text, isNil, lastIs, lacks}
 use Rattle.text.proofs.BoolLaws.{told, told-false, told-true, or-false, or-right}
 use Rattle.grammar.specs.Legal.{isIdentifierCont, startsName}
 use Rattle.parts.specs.Parent.{beginsAt, beginsBehind, partAt, later, lastPart, endAt, parentLen, isProperty, primLen}
-use Rattle.parts.proofs.ParentLaws.{no-part}
+use Rattle.parts.proofs.LastLaws.{no-part}
 
 -- `starts_name`
 pub name-none : (p : Text) (i : ℕ) → length p ≤ i → false ≡ startsName (drop i p)

@@ -15,7 +15,7 @@ use Rattle.grammar.specs.Legal.{State, Slash, Name, Opened, Set, Equals, Sel, C
 use Rattle.grammar.proofs.RunLaws.{run-app, dead-refuses}
 use Rattle.parts.specs.Parent.{beginsBehind}
 use Rattle.parts.specs.Strip.{piece, turned, stripFrom, strip}
-use Rattle.parts.proofs.ParentLaws.{start-cont}
+use Rattle.parts.proofs.ReadLaws.{Shape, empty, root, below, shape, choose, dies, start-cont, not-name}
 
 -- a byte gives at most one byte
 either-short : (t : Bool) (x y : Text) → length x ≤ 1 → length y ≤ 1 → length (cond t x y) ≤ 1
@@ -91,25 +91,8 @@ beside Dot r = Dot
 beside Prop r = Prop
 beside Dead r = Dead
 
-record Along (s : State) (a : ℕ) (r : Text) : Type 0 where
-  turns : turned (within s) a ≡ within (step s a)
-  moves : run (beside s (a ∷ r)) (piece (within s) a r) ≡ beside (step s a) r
-
-not-name : (a k : ℕ) → isIdentifierCont k ≡ false → isIdentifierCont a ≡ true → eqb a k ≡ false
-not-name a k n h = go (eqb a k) refl
-  where
-    go : (t : Bool) → eqb a k ≡ t → t ≡ false
-    go true e = absurd (true≢false (sym h ∙ rw (eqb-true a k e) n))
-    go false e = refl
-
--- a byte that the automaton can read in two ways
-choose : {G : Type 0} (b : Bool) (x y : State) (r : Text) → (b ≡ true → accept (run x r) ≡ true → G) → (b ≡ false → accept (run y r) ≡ true → G)
-    → accept (run (cond b x y) r) ≡ true → G
-choose true x y r f g e = f refl e
-choose false x y r f g e = g refl e
-
-dies : {G : Type 0} (r : Text) → accept (run Dead r) ≡ true → G
-dies r e = absurd (dead-refuses r e)
+abbrev Along : State → ℕ → Text → Type 0
+Along s a r = (turned (within s) a ≡ within (step s a)) × (run (beside s (a ∷ r)) (piece (within s) a r) ≡ beside (step s a) r)
 
 module _ (a : ℕ) (r : Text) where
   opens : isIdentifierCont a ≡ true → eqb a 123 ≡ false
@@ -125,7 +108,7 @@ module _ (a : ℕ) (r : Text) where
 
   closed-along : Along Sel 125 r
   unfolding step run piece
-  closed-along = record { turns = refl; moves = go (startsName r) }
+  closed-along = (refl, go (startsName r))
     where
       go : (t : Bool) → run Name (cond t (47 ∷ []) []) ≡ cond t Slash Name
       go true = refl
@@ -135,38 +118,38 @@ module _ (a : ℕ) (r : Text) where
   unfolding step run piece
   along Slash e =
       choose (isIdentifierStart a) Name Dead r
-      (λ h _. let n : eqb a 123 ≡ false = opens (start-cont a h) in record { turns = rw (n, h); moves = rw (n, h) })
+      (λ h _. rw (opens (start-cont a h), h) (refl, refl))
       (λ _ d. dies r d) e
   along Name e =
-      choose (isIdentifierCont a) Name _ r (λ h _. let n : eqb a 123 ≡ false = opens h in record { turns = rw (n, h); moves = rw (n, h) })
-      (λ _ f. choose (eqb a 47) Slash _ r (λ h _. at-byte Name 47 h (record { turns = refl; moves = refl }))
-      (λ _ g. choose (eqb a 123) Opened _ r (λ h _. at-byte Name 123 h (record { turns = refl; moves = refl }))
-      (λ _ i. choose (eqb a 46) Dot Dead r (λ h _. at-byte Name 46 h (record { turns = refl; moves = refl })) (λ _ d. dies r d) i) g) f) e
+      choose (isIdentifierCont a) Name _ r (λ h _. rw (opens h, h) (refl, refl))
+      (λ _ f. choose (eqb a 47) Slash _ r (λ h _. at-byte Name 47 h (refl, refl))
+      (λ _ g. choose (eqb a 123) Opened _ r (λ h _. at-byte Name 123 h (refl, refl))
+      (λ _ i. choose (eqb a 46) Dot Dead r (λ h _. at-byte Name 46 h (refl, refl)) (λ _ d. dies r d) i) g) f) e
   along Opened e =
       choose (isIdentifierStart a) Set Dead r
-      (λ h _. let n : eqb a 125 ≡ false = shuts (start-cont a h) in record { turns = rw (n, h); moves = rw (n, h) })
+      (λ h _. rw (shuts (start-cont a h), h) (refl, refl))
       (λ _ d. dies r d) e
   along Set e =
-      choose (isIdentifierCont a) Set _ r (λ h _. let n : eqb a 125 ≡ false = shuts h in record { turns = rw (n, h); moves = rw (n, h) })
-      (λ _ f. choose (eqb a 61) Equals Dead r (λ h _. at-byte Set 61 h (record { turns = refl; moves = refl })) (λ _ d. dies r d) f) e
+      choose (isIdentifierCont a) Set _ r (λ h _. rw (shuts h, h) (refl, refl))
+      (λ _ f. choose (eqb a 61) Equals Dead r (λ h _. at-byte Set 61 h (refl, refl)) (λ _ d. dies r d) f) e
   along Equals e =
-      choose (isIdentifierCont a) Sel Dead r (λ h _. let n : eqb a 125 ≡ false = shuts h in record { turns = rw (n, h); moves = rw (n, h) })
+      choose (isIdentifierCont a) Sel Dead r (λ h _. rw (shuts h, h) (refl, refl))
       (λ _ d. dies r d) e
   along Sel e =
-      choose (isIdentifierCont a) Sel _ r (λ h _. let n : eqb a 125 ≡ false = shuts h in record { turns = rw (n, h); moves = rw (n, h) })
+      choose (isIdentifierCont a) Sel _ r (λ h _. rw (shuts h, h) (refl, refl))
       (λ _ f. choose (eqb a 125) Closed Dead r (λ h _. at-byte Sel 125 h closed-along) (λ _ d. dies r d) f) e
   along Closed e =
       choose (isIdentifierStart a) Name _ r
-      (λ h _. let k : isIdentifierCont a ≡ true = start-cont a h in let n : eqb a 123 ≡ false = opens k in record { turns = rw (n, h); moves = rw (k, n, h) })
-      (λ _ g. choose (eqb a 123) Opened _ r (λ h _. at-byte Closed 123 h (record { turns = refl; moves = refl }))
-      (λ _ i. choose (eqb a 46) Dot Dead r (λ h _. at-byte Closed 46 h (record { turns = refl; moves = refl })) (λ _ d. dies r d) i) g) e
+      (λ h _. rw (opens (start-cont a h), start-cont a h, h) (refl, refl))
+      (λ _ g. choose (eqb a 123) Opened _ r (λ h _. at-byte Closed 123 h (refl, refl))
+      (λ _ i. choose (eqb a 46) Dot Dead r (λ h _. at-byte Closed 46 h (refl, refl)) (λ _ d. dies r d) i) g) e
   along Dot e =
       choose (isIdentifierStart a) Prop Dead r
-      (λ h _. let n : eqb a 123 ≡ false = opens (start-cont a h) in record { turns = rw (n, h); moves = rw (n, h) })
+      (λ h _. rw (opens (start-cont a h), h) (refl, refl))
       (λ _ d. dies r d) e
   along Prop e =
-      choose (isIdentifierCont a) Prop _ r (λ h _. let n : eqb a 123 ≡ false = opens h in record { turns = rw (n, h); moves = rw (n, h) })
-      (λ _ f. choose (eqb a 58) Dot Dead r (λ h _. at-byte Prop 58 h (record { turns = refl; moves = refl })) (λ _ d. dies r d) f) e
+      choose (isIdentifierCont a) Prop _ r (λ h _. rw (opens h, h) (refl, refl))
+      (λ _ f. choose (eqb a 58) Dot Dead r (λ h _. at-byte Prop 58 h (refl, refl)) (λ _ d. dies r d) f) e
   along Dead e = dies r e
 
 strip-end : (s : State) → accept s ≡ true → accept (beside s []) ≡ true
@@ -187,13 +170,13 @@ unfolding run stripFrom
 strip-run s [] e = strip-end s e
 strip-run s (a ∷ r) e =
     let t = along a r s e in
-    rw (t .turns, run-app (beside s (a ∷ r)) (piece (within s) a r) (stripFrom (within (step s a)) r), t .moves) (strip-run (step s a) r e)
+    rw (t .0, run-app (beside s (a ∷ r)) (piece (within s) a r) (stripFrom (within (step s a)) r), t .1) (strip-run (step s a) r e)
 
 pub strip-legal : (p : Text) → legal p ≡ true → legal (strip p) ≡ true
 unfolding legal strip
-strip-legal [] e = refl
-strip-legal (a ∷ []) e = rw (eqb-true a 47 (and-l (eqb a 47) true e))
-strip-legal (a ∷ b ∷ r) e =
-    let x : Text = stripFrom false (b ∷ r) in
-    rw (eqb-true a 47 (and-l (eqb a 47) (accept (run Slash (b ∷ r))) e))
-    (or-right (isNil x) (accept (run Slash x)) (strip-run Slash (b ∷ r) (and-r (eqb a 47) (accept (run Slash (b ∷ r))) e)))
+strip-legal p e = go (shape p e)
+  where
+    go : {q : Text} → Shape q → legal (strip q) ≡ true
+    go empty = refl
+    go root = refl
+    go (below r f) = or-right (isNil (stripFrom false r)) (accept (run Slash (stripFrom false r))) (strip-run Slash r f)
