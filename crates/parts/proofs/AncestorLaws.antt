@@ -1,17 +1,15 @@
 -- The ancestors of legal paths: they are legal, they end at `/` or the empty path, and there are at most 128. Assumes nothing.
-use mathlib.Core.Path.{_≡_, refl, sym, ap, _∙_}
-use mathlib.Core.Bool.{Bool, true, false, not, cond, _&&_, _||_, true≢false, false≢true}
-use mathlib.Core.List.{List, [], _∷_, _++_}
+use mathlib.Core.Path.{_≡_, refl, _∙_}
+use mathlib.Core.Bool.{Bool, true, false, cond, false≢true}
+use mathlib.Core.List.{List, [], _∷_}
 use mathlib.Core.Option.{Option, none, some}
 use Prim.Native.Nat.{ℕ, zero, suc, _+_, _-_, _*_, _≤_, _<_}
 use native.Mathlib.Omega.{arith}
 use lib.Dec.{eqb}
-use lib.ListN.{length, getD, take, length-take}
-use borrow.Author.Tests.{eqb-true}
+use lib.ListN.{length, getD, take, length-take, length-map}
 use Rattle.text.specs.Text.{Text}
-use Rattle.text.proofs.BoolLaws.{and-l}
 use Rattle.grammar.specs.Legal.{State, Slash, Name, Opened, Set, Equals, Sel, Closed, Dot, Prop, Dead, isIdentifierStart, isIdentifierCont, startsName, step, run, accept, legal}
-use Rattle.parts.specs.Parent.{beginsAt, beginsBehind, lastPart, parentLen, hasParent, parent, onward, ancestorsIn, ancestors}
+use Rattle.parts.specs.Parent.{beginsAt, lastPart, parentLen, hasParent, parent, onward, ancestorsIn, ancestors, ancestorLens}
 use Rattle.parts.proofs.ReadLaws.{Shape, empty, root, below, shape, closes}
 use Rattle.parts.proofs.LastLaws.{Last, here, behind, beyond, last, begins-byte, behind-byte, behind-name, may-end, last-legal, before, slash-len, before-lt}
 use Rattle.parts.proofs.ParentLaws.{parent-take, parent-less}
@@ -29,6 +27,11 @@ ancestors-some k p e = rw e
 pub ancestors-least : (p : Text) → ancestorsIn 0 p ≡ p ∷ []
 unfolding ancestorsIn
 ancestors-least p = refl
+
+-- one length for each
+pub lens-count : (p : Text) → length (ancestorLens p) ≡ length (ancestors p)
+unfolding ancestorLens
+lens-count p = length-map (ancestors p) length
 
 -- every ancestor of a legal path is legal
 in-legal : (k : ℕ) (p : Text) (i : ℕ) → legal p ≡ true → legal (getD (ancestorsIn k p) i []) ≡ true
@@ -80,6 +83,7 @@ in-end (suc k) p e l = go (hasParent p) refl (λ q. in-end k q)
   where
     q : Text
     q = take (parentLen p) p
+
     go : (t : Bool) → hasParent p ≡ t → ((q : Text) → legal q ≡ true → length q - 1 ≤ k → hasParent (furthest (ancestorsIn k q)) ≡ false)
         → hasParent (furthest (ancestorsIn (suc k) p)) ≡ false
     go true h ih = rw (ancestors-some k p h, furthest-on p k q) (ih q (parent-take p e) (omega (arith, parent-less p e h)))
@@ -193,6 +197,7 @@ in-most (suc k) r e = go (lastPart r) refl (λ x. in-most k x)
   where
     onwards : (o : Option ℕ) → lastPart r ≡ o → ancestorsIn (suc k) (47 ∷ r) ≡ (47 ∷ r) ∷ ancestorsIn k (47 ∷ take (before o) r)
     onwards o h = ancestors-some k (47 ∷ r) (slash-parent r e) ∙ rw (slash-len r e, h)
+
     go : (o : Option ℕ) → lastPart r ≡ o
         → ((x : Text) → accept (run Slash x) ≡ true → 2 * length (ancestorsIn k (47 ∷ x)) + weight (run Slash x) ≤ length x + 4)
         → 2 * length (ancestorsIn (suc k) (47 ∷ r)) + weight (run Slash r) ≤ length r + 4
@@ -208,7 +213,8 @@ ancestors-most p e l = go (shape p e) l
   where
     alone : (k : ℕ) (q : Text) → hasParent q ≡ false → length (ancestorsIn k q) ≤ 128
     alone k q h = rw (ancestors-none k q h) (omega arith)
+
     go : {q : Text} → Shape q → length q ≤ 255 → length (ancestorsIn (length q - 1) q) ≤ 128
-    go empty l = alone (length {A = ℕ} [] - 1) [] refl
+    go empty l = alone (0 - 1) [] refl
     go root l = alone (1 - 1) (47 ∷ []) refl
     go (below r f) l = omega (arith, in-most (suc (length r) - 1) r f, accept-weight (run Slash r) f)

@@ -1,18 +1,17 @@
 -- What each way through the functions that write a text without its selections gives. Assumes nothing.
 use mathlib.Core.Path.{_≡_, refl, sym, ap, _∙_}
 use mathlib.Core.Logic.{_≢_}
-use mathlib.Core.Bool.{Bool, true, false, not, cond}
-use mathlib.Core.List.{List, [], _∷_, _++_, append-assoc, append-nil}
-use Prim.Native.Nat.{ℕ, zero, suc, _+_, _-_, _≤_, _<_}
+use mathlib.Core.Bool.{Bool, true, false, not}
+use mathlib.Core.List.{[], _∷_, _++_, append-assoc, append-nil}
+use Prim.Native.Nat.{ℕ, _+_, _≤_, _<_}
 use native.Mathlib.Nat.{add-zero}
 use native.Mathlib.Numerals.{add-one}
 use native.Mathlib.Omega.{arith}
-use lib.Dec.{eqb, leb}
-use lib.ListN.{length, getD, set, take, drop, length-append, take-append-drop, drop-of-length-le, length-drop}
+use lib.Dec.{eqb}
+use lib.ListN.{length, getD, set, drop, length-append, take-append-drop, drop-of-length-le}
 use lib.Seq.{set-split, drop-cons, take-append-seam, drop-append-add, drop-drop}
-use borrow.Author.Tests.{le-leb, lt-leb, eq-eqb, ne-eqb}
+use borrow.Author.Tests.{le-leb, lt-leb, ne-eqb}
 use Rattle.text.specs.Text.{Text, written, over}
-use Rattle.text.specs.declared.Fit.{Fit}
 use Rattle.text.specs.declared.Fit.the-variants.{Written, Over}
 use Rattle.text.proofs.BoolLaws.{told}
 use Rattle.parts.specs.Parent.{beginsBehind}
@@ -31,7 +30,7 @@ over-none : (j : ℕ) (out : Text) → out ≡ over j [] out
 over-none j out = rw (add-zero, take-append-drop)
 
 over-one : (j b : ℕ) (out : Text) → j < length out → set out j b ≡ over j (b ∷ []) out
-over-one j b out h = rw (add-one) (set-split out j b h)
+over-one j b out h = rw add-one (set-split out j b h)
 
 module _ (m : Bool) (a : ℕ) (r out : Text) (j : ℕ) where
   module _ (b : Bool) (t : m ≡ true) (f : b ≡ beginsBehind a r) where
@@ -94,6 +93,7 @@ strip-next : (m : Bool) (p : Text) (i : ℕ) → i < length p
 unfolding stripFrom
 strip-next m p i h = rw add-one (ap (λ (s : Text). stripFrom m s) (drop-cons p i 0 h))
 
+-- one piece behind another
 over-written : (t g out : Text) → over (length t) g (written t out) ≡ written (t ++ g) out
 over-written t g out = simp (take-append-seam, drop-append-add, drop-drop, length-append, append-assoc)
 

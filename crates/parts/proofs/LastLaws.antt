@@ -1,9 +1,9 @@
 -- Where the last part of a text begins, and what stands before it. Assumes nothing.
 use mathlib.Core.Path.{_≡_, refl, sym, ap, _∙_}
 use mathlib.Core.Bool.{Bool, true, false, cond, true≢false, false≢true}
-use mathlib.Core.List.{List, [], _∷_, _++_}
+use mathlib.Core.List.{[], _∷_, _++_}
 use mathlib.Core.Option.{Option, none, some}
-use Prim.Native.Nat.{ℕ, zero, suc, _≤_, _<_}
+use Prim.Native.Nat.{ℕ, suc, _<_}
 use native.Mathlib.Omega.{arith}
 use lib.Dec.{eqb}
 use lib.ListN.{length, take, drop}
@@ -33,6 +33,7 @@ last (a ∷ r) k e = go (lastPart r) refl (λ j. last r j)
     first true c f g h = let z : k ≡ 0 = cc in rw z (here a r f)
     first false true f g h = let z : k ≡ 1 = cc in rw z (behind a r g)
     first false false f g h = absurd (no-part h)
+
     go : (o : Option ℕ) → lastPart r ≡ o → ((j : ℕ) → lastPart r ≡ some j → Last r j) → Last (a ∷ r) k
     go none h ih = first (beginsAt a r) (beginsBehind a r) refl refl (rw h at e)
     go (some j) h ih = let z : k ≡ suc j = cc in rw z (beyond a (ih j h))
@@ -153,7 +154,7 @@ unfolding run step lastPart
 property-part [] = (λ e. refl, λ e. refl)
 property-part (a ∷ r) = (
   λ e. choose (isIdentifierCont a) Prop _ r (λ h f. none-on a r (name-part a r h) (property-part r .0 f))
-  (λ _ g. choose (eqb a 58) Dot Dead r (λ h f. none-on a r (ap (λ (x : ℕ). partAt x r) (eqb-true a 58 h)) (property-part r .1 f)) (λ _ d. dies r d) g) e,
+      (λ _ g. choose (eqb a 58) Dot Dead r (λ h f. none-on a r (ap (λ (x : ℕ). partAt x r) (eqb-true a 58 h)) (property-part r .1 f)) (λ _ d. dies r d) g) e,
   λ e. choose (isIdentifierStart a) Prop Dead r (λ h f. none-on a r (name-part a r (start-cont a h)) (property-part r .0 f)) (λ _ d. dies r d) e,
 )
 

@@ -1,21 +1,21 @@
 -- What each way through the functions that look for the last part gives. Assumes nothing.
 use mathlib.Core.Path.{_≡_, refl, sym, ap, _∙_}
 use mathlib.Core.Logic.{_≢_}
-use mathlib.Core.Bool.{Bool, true, false, not, cond, _&&_, _||_}
-use mathlib.Core.List.{List, [], _∷_, _++_}
-use mathlib.Core.Option.{Option, none, some}
+use mathlib.Core.Bool.{Bool, true, false, not}
+use mathlib.Core.List.{[], _∷_}
+use mathlib.Core.Option.{none, some}
 use Prim.Native.Nat.{ℕ, zero, suc, _+_, _-_, _≤_, _<_}
 use native.Mathlib.Nat.{add-zero}
 use native.Mathlib.Numerals.{add-one}
 use native.Mathlib.Omega.{arith}
-use lib.Dec.{eqb, leb, ltb}
-use lib.ListN.{length, getD, take, drop, drop-of-length-le, length-take}
+use lib.Dec.{eqb, ltb}
+use lib.ListN.{length, getD, drop, drop-of-length-le}
 use lib.Seq.{drop-cons, drop-length, drop-nil}
-use borrow.Author.Tests.{eqb-true, eq-eqb, ne-eqb, lt-ltb, le-ltb, ltb-true, ltb-false}
+use borrow.Author.Tests.{ne-eqb, ltb-true, ltb-false}
 use Rattle.text.specs.Text.{Text, isNil, lastIs, lacks}
-use Rattle.text.proofs.BoolLaws.{told, told-false, told-true, or-false, or-right}
+use Rattle.text.proofs.BoolLaws.{told, told-false, told-true, or-false}
 use Rattle.grammar.specs.Legal.{isIdentifierCont, startsName}
-use Rattle.parts.specs.Parent.{beginsAt, beginsBehind, partAt, later, lastPart, endAt, parentLen, isProperty, primLen}
+use Rattle.parts.specs.Parent.{beginsAt, beginsBehind, partAt, lastPart, parentLen, primLen}
 use Rattle.parts.proofs.LastLaws.{no-part}
 
 -- `starts_name`

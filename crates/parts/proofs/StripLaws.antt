@@ -1,18 +1,18 @@
 -- A text without its selections: it is no longer than the text, it is legal where the text is, it has no selection, and a text
 -- without selections stays as it is. Assumes nothing.
-use mathlib.Core.Path.{_≡_, refl, sym, ap, _∙_}
-use mathlib.Core.Bool.{Bool, true, false, not, cond, _&&_, _||_, true≢false, false≢true}
-use mathlib.Core.List.{List, [], _∷_, _++_}
-use Prim.Native.Nat.{ℕ, _+_, _≤_}
+use mathlib.Core.Path.{_≡_, refl, ap}
+use mathlib.Core.Bool.{Bool, true, false, cond, false≢true}
+use mathlib.Core.List.{[], _∷_}
+use Prim.Native.Nat.{ℕ, _≤_}
 use native.Mathlib.Omega.{arith}
 use lib.Dec.{eqb}
 use lib.ListN.{length, length-append}
 use borrow.Author.Tests.{eqb-true}
 use Rattle.text.specs.Text.{Text, isNil, lacks}
-use Rattle.text.proofs.BoolLaws.{and-l, and-r, or-right}
+use Rattle.text.proofs.BoolLaws.{or-right}
 use Rattle.text.proofs.TextLaws.{lacks-first, lacks-rest, lacks-join}
 use Rattle.grammar.specs.Legal.{State, Slash, Name, Opened, Set, Equals, Sel, Closed, Dot, Prop, Dead, isIdentifierStart, isIdentifierCont, startsName, step, run, accept, legal}
-use Rattle.grammar.proofs.RunLaws.{run-app, dead-refuses}
+use Rattle.grammar.proofs.RunLaws.{run-app}
 use Rattle.parts.specs.Parent.{beginsBehind}
 use Rattle.parts.specs.Strip.{piece, turned, stripFrom, strip}
 use Rattle.parts.proofs.ReadLaws.{Shape, empty, root, below, shape, choose, dies, start-cont, not-name}
@@ -60,6 +60,7 @@ pub strip-lacks : (p : Text) → lacks 123 (strip p) ≡ true
 unfolding strip
 strip-lacks p = from-lacks false p
 
+-- a text without `{` stays as it is
 pub strip-same : (p : Text) → lacks 123 p ≡ true → strip p ≡ p
 unfolding strip
 strip-same [] f = refl
@@ -91,6 +92,7 @@ beside Dot r = Dot
 beside Prop r = Prop
 beside Dead r = Dead
 
+-- the two readers stay beside each other at the byte a before r
 abbrev Along : State → ℕ → Text → Type 0
 Along s a r = (turned (within s) a ≡ within (step s a)) × (run (beside s (a ∷ r)) (piece (within s) a r) ≡ beside (step s a) r)
 

@@ -1,25 +1,22 @@
 -- What each way through the functions that go from parent to parent gives. Assumes nothing.
 use mathlib.Core.Path.{_≡_, refl, sym, ap, _∙_}
 use mathlib.Core.Logic.{_≢_}
-use mathlib.Core.Bool.{Bool, true, false, not, cond, _&&_, _||_}
-use mathlib.Core.List.{List, [], _∷_, _++_, map}
-use mathlib.Core.Option.{Option, none, some}
+use mathlib.Core.Bool.{Bool, true, false, not}
+use mathlib.Core.List.{List, [], _∷_, map}
 use Prim.Native.Nat.{ℕ, zero, suc, _+_, _-_, _≤_, _<_}
-use native.Mathlib.Numerals.{add-one}
 use native.Mathlib.Omega.{arith}
 use native.Mathlib.Nat.{sub-zero, zero-add}
-use lib.ListN.{length, getD, set, take, drop, length-take, length-drop, length-map}
+use lib.ListN.{length, getD, set, take, drop, length-take, length-drop}
 use lib.Seq.{paste, take-take, take-length, length-take-le, drop-drop, drop-cons}
 use borrow.Author.Tests.{le-leb, lt-leb}
 use Rattle.text.specs.Text.{Text, fitted, placed}
-use Rattle.text.specs.declared.Fit.{Fit}
 use Rattle.text.specs.declared.Fit.the-variants.{Written, Over}
 use Rattle.text.proofs.WriteLaws.{put-begin, put-on, put-length, put-end, put-over}
-use Rattle.text.proofs.BoolLaws.{told, told-false, told-true}
+use Rattle.text.proofs.BoolLaws.{told-false, told-true}
 use Rattle.grammar.specs.Legal.{isRoot}
 use Rattle.parts.specs.Parent.{parentLen, hasParent, parent, ancestorsIn, ancestors, ancestorLens}
 use Rattle.parts.proofs.ParentLaws.{parent-len-le}
-use Rattle.parts.proofs.AncestorLaws.{ancestors-none, ancestors-least, ancestors-some}
+use Rattle.parts.proofs.AncestorLaws.{lens-count, ancestors-none, ancestors-least, ancestors-some}
 
 -- `has_parent`
 pub parent-of-nil : (p : Text) → length p ≡ 0 → false ≡ hasParent p
@@ -79,12 +76,16 @@ ahead-on p i n m a l e = record { rest = λ h. go h (hasParent q) refl (length p
   where
     q : Text
     q = take n p
+
     lens : List ℕ
     lens = ancestorLens p
+
     next : i + 1 < length lens → drop (i + 1) lens ≡ drop 1 (map length (ancestorsIn (length p - 1 - i) q))
     next h = sym (drop-drop 1 i lens) ∙ ap (λ (t : List ℕ). drop 1 t) (a .rest (omega arith))
+
     none-left : i + 1 < length lens → drop (i + 1) lens ≡ [] → ⊥
     none-left h f = omega (arith, length-drop (i + 1) lens, ap length f)
+
     go : i + 1 < length lens → (b : Bool) → hasParent q ≡ b → (k : ℕ) → length p - 1 - i ≡ k
         → drop (i + 1) lens ≡ map length (ancestorsIn (length p - 1 - (i + 1)) (take m p))
     go h false f k g = absurd (none-left h (rw (ancestors-none (length p - 1 - i) q f) at (next h)))
@@ -104,10 +105,6 @@ ahead-first p i n a l h =
     first-is (length p - 1 - i) (take n p) (getD (ancestorLens p) i 0) (drop (suc i) (ancestorLens p)) (rw (drop-cons (ancestorLens p) i 0 h) at (a .rest h))
     ∙ length-take-le n p l
 
-lens-count : (p : Text) → length (ancestorLens p) ≡ length (ancestors p)
-unfolding ancestorLens
-lens-count p = length-map (ancestors p) length
-
 module _ (p d : Text) (count : ℕ) (c : count ≡ length (ancestors p)) where
   pub lens-over : length d < count → Over ≡ fitted (ancestorLens p) d
   unfolding fitted
@@ -120,7 +117,7 @@ module _ (p d : Text) (count : ℕ) (c : count ≡ length (ancestors p)) where
     pub lens-on : (n : ℕ) → Ahead p i n → n ≤ length p → i < count → set now i n ≡ paste d 0 (ancestorLens p) (i + 1)
     lens-on n a l h =
         let k : i < length (ancestorLens p) = rw (lens-count p, ← c) h in
-        rw (zero-add, ahead-first p i n a l k) at (put-on d (ancestorLens p) now 0 i (omega arith) (rw (lens-count p, ← c, sub-zero) g) k e)
+        rw (zero-add i, ahead-first p i n a l k) at (put-on d (ancestorLens p) now 0 i (omega arith) (rw (lens-count p, ← c, sub-zero) g) k e)
 
     pub lens-end : count ≤ i → i ≤ count → now ≡ placed 0 (ancestorLens p) d
     lens-end h k = put-end d (ancestorLens p) now 0 i (omega arith) (rw (lens-count p, ← c, sub-zero) g) (rw (lens-count p, ← c) h) (rw (lens-count p, ← c) k) e

@@ -1,7 +1,7 @@
 -- Parents, prim paths, properties and ancestors. All of them are beginnings of the path's own text.
 -- OpenUSD: SdfPath::GetParentPath, GetPrimPath, GetAncestorsRange.
 use Prim.Native.Nat.{ℕ, zero, suc, _-_}
-use mathlib.Core.Bool.{Bool, true, false, not, cond, _&&_, _||_}
+use mathlib.Core.Bool.{Bool, not, cond, _&&_, _||_}
 use mathlib.Core.List.{List, [], _∷_, map}
 use mathlib.Core.Option.{Option, none, some}
 use lib.Dec.{eqb}
@@ -43,6 +43,7 @@ unfoldable pub parentLen : Text → ℕ
 unfolding lastPart
 parentLen p = endAt (lastPart p)
 
+-- every path but the empty one and `/` has one
 abbrev pub hasParent : Text → Bool
 hasParent p = not (isNil p || isRoot p)
 

@@ -1,7 +1,7 @@
--- A path without its selections. OpenUSD: SdfPath::StripAllVariantSelections.
+-- A path without its selections: `/A{v=p}B.c` becomes `/A/B.c`. OpenUSD: SdfPath::StripAllVariantSelections.
 use Prim.Native.Nat.{ℕ}
 use mathlib.Core.Bool.{Bool, true, false, not, cond}
-use mathlib.Core.List.{List, [], _∷_, _++_}
+use mathlib.Core.List.{[], _∷_, _++_}
 use lib.Dec.{eqb, leb}
 use lib.ListN.{length}
 use Rattle.text.specs.Text.{Text, written}
@@ -9,7 +9,8 @@ use Rattle.text.specs.declared.Fit.{Fit}
 use Rattle.text.specs.declared.Fit.the-variants.{Written, Over}
 use Rattle.parts.specs.Parent.{beginsBehind}
 
--- what the byte a before r gives: inside a selection nothing, but a slash for the `}` that a name follows; outside itself, but for `{`
+-- What the byte a before r gives: inside a selection nothing, or a slash for a `}` that a name follows; outside the byte itself, but
+-- nothing for a `{`.
 unfoldable pub piece : Bool → ℕ → Text → Text
 unfolding beginsBehind
 piece true a r = cond (beginsBehind a r) (47 ∷ []) []

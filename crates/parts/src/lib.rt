@@ -1,7 +1,7 @@
 // Parts of path texts: parents, prim paths, ancestors, and the text without its selections. Every
 // public function is defined for any bytes and asks nothing of its caller.
 ghost use mathlib.Core.Path.{_≡_};
-ghost use Prim.Native.Nat.{suc, _+_, _<_};
+ghost use Prim.Native.Nat.{_+_, _<_};
 ghost use lib.ListN.{length, getD, drop};
 ghost use Rattle.text.specs.Text.{over, fitted, placed};
 ghost use Rattle.grammar.specs.Legal.{startsName};

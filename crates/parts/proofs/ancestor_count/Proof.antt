@@ -6,10 +6,6 @@ use lib.ListN.{length, take}
 use Rattle.parts.specs.Parent.{ancestorsIn, ancestors}
 use Rattle.parts.proofs.ancestor_count.Statement.{statement}
 use Rattle.parts.proofs.ancestor_count.Tie as tie
-use Rattle.parts.proofs.ancestor_count.Reads as reads
-use Rattle.parts.proofs.ancestor_count.Lts as lts
-use Rattle.parts.proofs.has_parent.Reads as has-parent-reads
-use Rattle.parts.proofs.parent_len.Reads as parent-len-reads
 
 abbrev Inv-loop : tie.InvT-loop
 Inv-loop path n₀ count₀ n count = (n ≤ length path) × (1 + length (ancestors path) ≡ count + length (ancestorsIn (length path - count) (take n path)))
@@ -17,43 +13,33 @@ Inv-loop path n₀ count₀ n count = (n ≤ length path) × (1 + length (ancest
 abbrev μ-loop : tie.MeasureT-loop
 μ-loop path n₀ count₀ n count = length path - count
 
--- src/lib.rt:95:5
 loop-holds : tie.Need-loop-holds Inv-loop μ-loop
 loop-holds c = search (needs, counts)
 
--- src/lib.rt:96:24
 slice-aggregate-has-parent : tie.Need-slice-aggregate-has-parent Inv-loop μ-loop
 slice-aggregate-has-parent c = search (needs, counts)
 
--- src/lib.rt:96:13
 has-parent-requires : tie.Need-has-parent-requires Inv-loop μ-loop
 has-parent-requires c κs = search (needs, counts)
 
--- src/lib.rt:97:13
 returns : tie.Need-returns Inv-loop μ-loop
 returns c = search (needs, counts)
 
--- src/lib.rt:99:24
 slice-aggregate-parent-len : tie.Need-slice-aggregate-parent-len Inv-loop μ-loop
 slice-aggregate-parent-len c = search (needs, counts)
 
--- src/lib.rt:99:9
 parent-len-requires : tie.Need-parent-len-requires Inv-loop μ-loop
 parent-len-requires c κs = search (needs, counts)
 
--- src/lib.rt:100:9
 add-count : tie.Need-add-count Inv-loop μ-loop
 add-count c = search (needs, counts)
 
--- src/lib.rt:95:5
 loop-less : tie.Need-loop-less Inv-loop μ-loop
 loop-less c = search (needs, counts)
 
--- src/lib.rt:95:5
 loop-again : tie.Need-loop-again Inv-loop μ-loop
 loop-again c = search (needs, counts)
 
--- src/lib.rt:90:1
 returns-2 : tie.Need-returns-2 Inv-loop μ-loop
 returns-2 c = search (needs, counts)
 

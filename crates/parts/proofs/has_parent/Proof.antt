@@ -2,19 +2,13 @@ use Rattle.parts.proofs.WalkLaws.{having}
 use borrow.Author.Needs.{needs}
 use Rattle.parts.proofs.has_parent.Statement.{statement}
 use Rattle.parts.proofs.has_parent.Tie as tie
-use Rattle.parts.proofs.has_parent.Reads as reads
-use Rattle.parts.proofs.has_parent.Lts as lts
-use Rattle.grammar.proofs.is_root.Reads as is-root-reads
 
--- src/lib.rt:84:9
 returns : tie.Need-returns
 returns c = search (needs, having)
 
--- src/lib.rt:86:6
 is-root-requires : tie.Need-is-root-requires
 is-root-requires c κs = search needs
 
--- src/lib.rt:80:1
 returns-2 : tie.Need-returns-2
 returns-2 c = search (needs, having)
 

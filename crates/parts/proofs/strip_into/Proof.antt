@@ -5,10 +5,6 @@ use Prim.Native.Nat.{_-_, _≤_}
 use lib.ListN.{length}
 use Rattle.parts.proofs.strip_into.Statement.{statement}
 use Rattle.parts.proofs.strip_into.Tie as tie
-use Rattle.parts.proofs.strip_into.Reads as reads
-use Rattle.parts.proofs.strip_into.Lts as lts
-use Rattle.parts.proofs.emit.Reads as emit-reads
-use Rattle.parts.proofs.turns.Reads as turns-reads
 
 abbrev Inv-loop : tie.InvT-loop
 Inv-loop path out₀ inside₀ i₀ j₀ out inside i j = (i ≤ length path) × (j ≤ i) × (length out ≡ length out₀) × Sofar path out₀ out inside i j
@@ -16,43 +12,33 @@ Inv-loop path out₀ inside₀ i₀ j₀ out inside i j = (i ≤ length path) ×
 abbrev μ-loop : tie.MeasureT-loop
 μ-loop path out₀ inside₀ i₀ j₀ out inside i j = length path - i
 
--- src/lib.rt:163:9
 returns : tie.Need-returns Inv-loop μ-loop
 returns c = search (needs, strips)
 
--- src/lib.rt:168:5
 loop-holds : tie.Need-loop-holds Inv-loop μ-loop
 loop-holds c = search (needs, strips)
 
--- src/lib.rt:169:9
 emit-requires : tie.Need-emit-requires Inv-loop μ-loop
 emit-requires c κs = search (needs, strips)
 
--- src/lib.rt:170:32
 shared-slice-read-turns : tie.Need-shared-slice-read-turns Inv-loop μ-loop
 shared-slice-read-turns c = search (needs, strips)
 
--- src/lib.rt:170:9
 turns-requires : tie.Need-turns-requires Inv-loop μ-loop
 turns-requires c κs = search (needs, strips)
 
--- src/lib.rt:171:9
 add-i : tie.Need-add-i Inv-loop μ-loop
 add-i c = search (needs, strips)
 
--- src/lib.rt:168:5
 loop-less : tie.Need-loop-less Inv-loop μ-loop
 loop-less c = search (needs, strips)
 
--- src/lib.rt:168:5
 loop-again : tie.Need-loop-again Inv-loop μ-loop
 loop-again c = search (needs, strips)
 
--- src/lib.rt:158:1
 same-length : tie.Need-same-length Inv-loop μ-loop
 same-length c = search (needs, strips)
 
--- src/lib.rt:158:1
 returns-2 : tie.Need-returns-2 Inv-loop μ-loop
 returns-2 c = search (needs, strips)
 
