@@ -110,16 +110,18 @@ either-light : (b : Bool) (x y : State) (n : ℕ) → weight x ≤ n → weight 
 either-light true x y n h k = h
 either-light false x y n h k = k
 
+open-light : (a n : ℕ) → weight (cond (eqb a 123) Opened (cond (eqb a 46) Dot Dead)) ≤ n
+open-light a n = either-light (eqb a 123) Opened _ n (omega arith) (either-light (eqb a 46) Dot Dead n (omega arith) (omega arith))
+
 closed-light : (a : ℕ) → weight (step Closed a) ≤ 1
 unfolding step
-closed-light a =
-    either-light (isIdentifierStart a) Name _ 1 (omega arith)
-    (either-light (eqb a 123) Opened _ 1 (omega arith) (either-light (eqb a 46) Dot Dead 1 (omega arith) (omega arith)))
+closed-light a = either-light (isIdentifierStart a) Name _ 1 (omega arith) (open-light a 1)
 
 weight-step : (s : State) (a : ℕ) → weight (step s a) ≤ suc (weight s)
 unfolding step
 weight-step Slash a = either-light (isIdentifierStart a) Name Dead 1 (omega arith) (omega arith)
-weight-step Name a = either-light (isIdentifierCont a) Name _ 2 (omega arith) (either-light (eqb a 47) Slash _ 2 (omega arith) (either-light (eqb a 123) Opened _ 2 (omega arith) (either-light (eqb a 46) Dot Dead 2 (omega arith) (omega arith))))
+weight-step Name a =
+    either-light (isIdentifierCont a) Name _ 2 (omega arith) (either-light (eqb a 47) Slash _ 2 (omega arith) (open-light a 2))
 weight-step Opened a = either-light (isIdentifierStart a) Set Dead 1 (omega arith) (omega arith)
 weight-step Set a = either-light (isIdentifierCont a) Set _ 1 (omega arith) (either-light (eqb a 61) Equals Dead 1 (omega arith) (omega arith))
 weight-step Equals a = either-light (isIdentifierCont a) Sel Dead 1 (omega arith) (omega arith)
@@ -152,16 +154,12 @@ module _ (a : ℕ) (start : isIdentifierStart a ≡ false) (cont : isIdentifierC
   mark-light : (s : State) → weight (step s a) ≤ 0
   unfolding step
   mark-light Slash = rw start (omega arith)
-  mark-light Name =
-      rw cont
-      (either-light (eqb a 47) Slash _ 0 (omega arith)
-      (either-light (eqb a 123) Opened _ 0 (omega arith) (either-light (eqb a 46) Dot Dead 0 (omega arith) (omega arith))))
+  mark-light Name = rw cont (either-light (eqb a 47) Slash _ 0 (omega arith) (open-light a 0))
   mark-light Opened = rw start (omega arith)
   mark-light Set = rw cont (either-light (eqb a 61) Equals Dead 0 (omega arith) (omega arith))
   mark-light Equals = rw cont (omega arith)
   mark-light Sel = rw (cont, close) (omega arith)
-  mark-light Closed =
-      rw start (either-light (eqb a 123) Opened _ 0 (omega arith) (either-light (eqb a 46) Dot Dead 0 (omega arith) (omega arith)))
+  mark-light Closed = rw start (open-light a 0)
   mark-light Dot = rw start (omega arith)
   mark-light Prop = rw cont (either-light (eqb a 58) Dot Dead 0 (omega arith) (omega arith))
   mark-light Dead = omega arith
