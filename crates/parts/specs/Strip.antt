@@ -1,20 +1,31 @@
--- A path without its selections. OpenUSD: SdfPath::StripAllVariantSelections.
+-- A path without its selections: `/A{v=p}B.c` becomes `/A/B.c`. OpenUSD: SdfPath::StripAllVariantSelections.
 use Prim.Native.Nat.{ℕ}
-use mathlib.Core.Bool.{Bool, true, false, cond}
-use mathlib.Core.List.{List, [], _∷_}
+use mathlib.Core.Bool.{Bool, true, false, not, cond}
+use mathlib.Core.List.{[], _∷_, _++_}
 use lib.Dec.{eqb, leb}
 use lib.ListN.{length}
 use Rattle.text.specs.Text.{Text, written}
 use Rattle.text.specs.declared.Fit.{Fit}
 use Rattle.text.specs.declared.Fit.the-variants.{Written, Over}
-use Rattle.grammar.specs.Legal.{isIdentifierCont, startsName}
+use Rattle.parts.specs.Parent.{beginsBehind}
 
--- `inside` is set between `{` and `}`
+-- What the byte a before r gives: inside a selection nothing, or a slash for a `}` that a name follows; outside the byte itself, but
+-- nothing for a `{`.
+unfoldable pub piece : Bool → ℕ → Text → Text
+unfolding beginsBehind
+piece true a r = cond (beginsBehind a r) (47 ∷ []) []
+piece false a r = cond (eqb a 123) [] (a ∷ [])
+
+-- is the reader inside a selection behind the byte a?
+abbrev pub turned : Bool → ℕ → Bool
+turned true a = not (eqb a 125)
+turned false a = eqb a 123
+
+-- the pieces of all bytes, from outside or inside a selection on
 unfoldable pub stripFrom : Bool → Text → Text
-unfolding isIdentifierCont
+unfolding piece
 stripFrom inside [] = []
-stripFrom true (a ∷ r) = cond (eqb a 125) (cond (startsName r) (47 ∷ stripFrom false r) (stripFrom false r)) (stripFrom true r)
-stripFrom false (a ∷ r) = cond (eqb a 123) (stripFrom true r) (a ∷ stripFrom false r)
+stripFrom inside (a ∷ r) = piece inside a r ++ stripFrom (turned inside a) r
 
 unfoldable pub strip : Text → Text
 unfolding stripFrom

@@ -1,9 +1,174 @@
 // Parts of path texts: parents, prim paths, ancestors, and the text without its selections. Every
-// function is defined for any bytes and asks nothing of its caller.
+// public function is defined for any bytes and asks nothing of its caller.
 ghost use mathlib.Core.Path.{_≡_};
-ghost use Prim.Native.Nat.{_+_, _<_, _≤_};
-ghost use mathlib.Core.Bool.{Bool};
+ghost use Prim.Native.Nat.{_+_, _<_};
 ghost use lib.ListN.{length, getD, drop};
-ghost use Rattle.text.specs.Text.{fitted, placed};
-ghost use Rattle.parts.specs.Parent.{partAt, parentLen, primLen, ancestors, ancestorLens};
-ghost use Rattle.parts.specs.Strip.{strip, stripFit, stripMemory};
+ghost use Rattle.text.specs.Text.{over, fitted, placed};
+ghost use Rattle.grammar.specs.Legal.{startsName};
+ghost use Rattle.parts.specs.Parent.{beginsAt, beginsBehind, parentLen, hasParent, primLen, ancestors, ancestorLens};
+ghost use Rattle.parts.specs.Strip.{piece, turned, stripFit, stripMemory};
+
+// Does a byte of a name stand at the place i?
+fn starts_name(path: &[u8], i: usize) -> bool
+    ensures { λ r. ⌜ r ≡ startsName (drop i (now (path .entry))) ⌝ }
+{
+    if path.len() <= i {
+        return false;
+    }
+    grammar::is_identifier_cont(path[i])
+}
+
+// Does a part begin at the byte i?
+fn begins_at(path: &[u8], i: usize) -> bool
+    requires { ⌜ i < length (now path) ⌝ }
+    ensures { λ r. ⌜ r ≡ beginsAt (getD (now (path .entry)) i 0) (drop (i + 1) (now (path .entry))) ⌝ }
+{
+    if path[i] == b'/' {
+        return i + 1 < path.len();
+    }
+    if path[i] == b'{' {
+        return true;
+    }
+    path[i] == b'.'
+}
+
+// Does a part begin right behind the byte i?
+fn begins_behind(path: &[u8], i: usize) -> bool
+    requires { ⌜ i < length (now path) ⌝ }
+    ensures { λ r. ⌜ r ≡ beginsBehind (getD (now (path .entry)) i 0) (drop (i + 1) (now (path .entry))) ⌝ }
+{
+    if path[i] == b'}' {
+        return starts_name(path, i + 1);
+    }
+    false
+}
+
+// The length of the path's parent. It reads backwards to the place where the last part begins.
+pub fn parent_len(path: &[u8]) -> usize
+    ensures { λ r. ⌜ r ≡ parentLen (now (path .entry)) ⌝ }
+{
+    let mut i = path.len();
+    while 0 < i {
+        i -= 1;
+        if begins_at(path, i) {
+            if i == 0 {
+                return 1;
+            }
+            return i;
+        }
+        if begins_behind(path, i) {
+            return i + 1;
+        }
+    }
+    0
+}
+
+// The length of the path without its property, or without the last selection where it ends in one.
+pub fn prim_len(path: &[u8]) -> usize
+    ensures { λ r. ⌜ r ≡ primLen (now (path .entry)) ⌝ }
+{
+    if !text::lacks_byte(path, b'.') {
+        return parent_len(path);
+    }
+    if text::last_is(path, b'}') {
+        return parent_len(path);
+    }
+    path.len()
+}
+
+// Is the path neither empty nor `/`?
+fn has_parent(path: &[u8]) -> bool
+    ensures { λ r. ⌜ r ≡ hasParent (now (path .entry)) ⌝ }
+{
+    if path.len() == 0 {
+        return false;
+    }
+    !grammar::is_root(path)
+}
+
+// How many ancestors the path has, itself counted.
+pub fn ancestor_count(path: &[u8]) -> usize
+    ensures { λ r. ⌜ r ≡ length (ancestors (now (path .entry))) ⌝ }
+{
+    let mut n = path.len();
+    let mut count = 1;
+    while count < path.len() {
+        if !has_parent(&path[..n]) {
+            return count;
+        }
+        n = parent_len(&path[..n]);
+        count += 1;
+    }
+    count
+}
+
+// Writes the lengths of the path and its ancestors, where the lent numbers are enough; otherwise it
+// writes nothing.
+pub fn write_ancestors(path: &[u8], out: &mut [usize]) -> text::Fit
+    ensures { λ r. ⌜ r ≡ fitted (ancestorLens (now (path .entry))) (now (out .entry)) ⌝ }
+    ensures { λ r. ⌜ now (out .exit) ≡ placed 0 (ancestorLens (now (path .entry))) (now (out .entry)) ⌝ }
+{
+    let count = ancestor_count(path);
+    if out.len() < count {
+        return text::Fit::Over;
+    }
+    let mut n = path.len();
+    let mut i = 0;
+    while i < count {
+        out[i] = n;
+        n = parent_len(&path[..n]);
+        i += 1;
+    }
+    text::Fit::Written(count)
+}
+
+// Is the reader inside a selection behind the byte a?
+fn turns(inside: bool, a: u8) -> bool
+    ensures { λ r. ⌜ r ≡ turned inside a ⌝ }
+{
+    if inside {
+        return a != b'}';
+    }
+    a == b'{'
+}
+
+// Writes to the place j what the byte i of the path gives, and returns the place behind it.
+fn emit(path: &[u8], i: usize, inside: bool, out: &mut [u8], j: usize) -> usize
+    requires { ⌜ i < length (now path) ⌝ }
+    requires { ⌜ j < length (now out) ⌝ }
+    ensures { λ r. ⌜ r ≡ j + length (piece inside (getD (now (path .entry)) i 0) (drop (i + 1) (now (path .entry)))) ⌝ }
+    ensures { λ r. ⌜ now (out .exit) ≡ over j (piece inside (getD (now (path .entry)) i 0) (drop (i + 1) (now (path .entry)))) (now (out .entry)) ⌝ }
+{
+    if inside {
+        if begins_behind(path, i) {
+            out[j] = b'/';
+            return j + 1;
+        }
+        return j;
+    }
+    if path[i] == b'{' {
+        return j;
+    }
+    out[j] = path[i];
+    j + 1
+}
+
+// Writes the path without its selections, where the memory has room for the path as it was;
+// otherwise it writes nothing.
+pub fn strip_into(path: &[u8], out: &mut [u8]) -> text::Fit
+    ensures { λ r. ⌜ r ≡ stripFit (now (path .entry)) (now (out .entry)) ⌝ }
+    ensures { λ r. ⌜ now (out .exit) ≡ stripMemory (now (path .entry)) (now (out .entry)) ⌝ }
+{
+    if out.len() < path.len() {
+        return text::Fit::Over;
+    }
+    let mut inside = false;
+    let mut i = 0;
+    let mut j = 0;
+    while i < path.len() {
+        j = emit(path, i, inside, out, j);
+        inside = turns(inside, path[i]);
+        i += 1;
+    }
+    text::Fit::Written(j)
+}
