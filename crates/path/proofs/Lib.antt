@@ -2,3 +2,4 @@ mod Opened
 mod AskWays
 mod CallWays
 mod MakeWays
+mod PartWays

@@ -7,9 +7,10 @@ ghost use Prim.Native.Nat.{_≤_};
 ghost use lib.ListN.{length, drop};
 ghost use Rattle.prefix.specs.Prefix.{hasPrefix};
 ghost use Rattle.prefix.specs.Join.{joined};
+ghost use Rattle.parts.specs.Parent.{ancestorLens};
 ghost use Rattle.path.specs.Refusal.{allFit, allLegal, asked};
 ghost use Rattle.path.specs.Outcome.{reply, memory, made};
-ghost use Rattle.path.specs.Calls.{newCall, isEndCall, hasVariantSelectionCall, elementCountCall, primElementCountCall, hasPrefixCall, replacePrefixCall};
+ghost use Rattle.path.specs.Calls.{newCall, isEndCall, hasVariantSelectionCall, elementCountCall, primElementCountCall, hasPrefixCall, replacePrefixCall, parentCall, primPathCall, splitPropertyCall, stripCall, ancestorsReply, listed};
 
 // Why a call is refused; specs/Refusal.antt gives document 01's number of each.
 pub enum Refusal {
@@ -191,4 +192,97 @@ pub fn replace_prefix(path: &[u8], old: &[u8], new: &[u8], out: &mut [u8]) -> Re
     }
     let k = old.len();
     write_joined(old, new, &path[k..], out)
+}
+
+// The path without its last element or its property.
+pub fn parent(path: &[u8], out: &mut [u8]) -> Reply
+    ensures { λ r. ⌜ r ≡ reply (parentCall (now (path .entry)) (length (now (out .entry)))) ⌝ }
+    ensures { λ r. ⌜ now (out .exit) ≡ memory (parentCall (now (path .entry)) (length (now (out .entry)))) (now (out .entry)) ⌝ }
+{
+    let q = ask(path, b"", b"");
+    if let Asked::Refused(x) = q {
+        return Reply::Refused(x);
+    }
+    if out.len() < 255 {
+        return Reply::Refused(Refusal::NoRoom);
+    }
+    if path.len() == 0 {
+        return Reply::Refused(Refusal::NoPath);
+    }
+    if grammar::is_root(path) {
+        return Reply::Refused(Refusal::NoPath);
+    }
+    let n = parts::parent_len(path);
+    text::write_at(&path[..n], 0, out);
+    Reply::Written(n)
+}
+
+// The path without its property, or without the last selection where it ends in one.
+pub fn prim_path(path: &[u8], out: &mut [u8]) -> Reply
+    ensures { λ r. ⌜ r ≡ reply (primPathCall (now (path .entry)) (length (now (out .entry)))) ⌝ }
+    ensures { λ r. ⌜ now (out .exit) ≡ memory (primPathCall (now (path .entry)) (length (now (out .entry)))) (now (out .entry)) ⌝ }
+{
+    let q = ask(path, b"", b"");
+    if let Asked::Refused(x) = q {
+        return Reply::Refused(x);
+    }
+    if out.len() < 255 {
+        return Reply::Refused(Refusal::NoRoom);
+    }
+    let n = parts::prim_len(path);
+    text::write_at(&path[..n], 0, out);
+    Reply::Written(n)
+}
+
+// The prim path of a property; the property's name is the text behind the dot that follows it.
+pub fn split_property(path: &[u8], out: &mut [u8]) -> Reply
+    ensures { λ r. ⌜ r ≡ reply (splitPropertyCall (now (path .entry)) (length (now (out .entry)))) ⌝ }
+    ensures { λ r. ⌜ now (out .exit) ≡ memory (splitPropertyCall (now (path .entry)) (length (now (out .entry)))) (now (out .entry)) ⌝ }
+{
+    let q = ask(path, b"", b"");
+    if let Asked::Refused(x) = q {
+        return Reply::Refused(x);
+    }
+    if out.len() < 255 {
+        return Reply::Refused(Refusal::NoRoom);
+    }
+    if text::lacks_byte(path, b'.') {
+        return Reply::Refused(Refusal::NoPath);
+    }
+    let n = parts::prim_len(path);
+    text::write_at(&path[..n], 0, out);
+    Reply::Written(n)
+}
+
+// The path without its selections.
+pub fn strip_variant_selections(path: &[u8], out: &mut [u8]) -> Reply
+    ensures { λ r. ⌜ r ≡ reply (stripCall (now (path .entry)) (length (now (out .entry)))) ⌝ }
+    ensures { λ r. ⌜ now (out .exit) ≡ memory (stripCall (now (path .entry)) (length (now (out .entry)))) (now (out .entry)) ⌝ }
+{
+    let q = ask(path, b"", b"");
+    if let Asked::Refused(x) = q {
+        return Reply::Refused(x);
+    }
+    if out.len() < 255 {
+        return Reply::Refused(Refusal::NoRoom);
+    }
+    match parts::strip_into(path, out) {
+        text::Fit::Written(n) => Reply::Written(n),
+        text::Fit::Over => Reply::Refused(Refusal::NoRoom),
+    }
+}
+
+// The lengths of the path and its ancestors, each a beginning of the path.
+pub fn ancestors(path: &[u8], lengths: &mut [usize]) -> Reply
+    ensures { λ r. ⌜ r ≡ ancestorsReply (now (path .entry)) (length (now (lengths .entry))) ⌝ }
+    ensures { λ r. ⌜ now (lengths .exit) ≡ listed r (ancestorLens (now (path .entry))) (now (lengths .entry)) ⌝ }
+{
+    let q = ask(path, b"", b"");
+    if let Asked::Refused(x) = q {
+        return Reply::Refused(x);
+    }
+    match parts::write_ancestors(path, lengths) {
+        text::Fit::Written(n) => Reply::Written(n),
+        text::Fit::Over => Reply::Refused(Refusal::NoRoom),
+    }
 }

@@ -1,0 +1,132 @@
+-- What each way through `parent`, `prim_path`, `split_property`, `strip_variant_selections` and `ancestors` gives. Assumes nothing.
+use mathlib.Core.Path.{_≡_, refl, sym, ap, _∙_}
+use mathlib.Core.Logic.{_≢_}
+use mathlib.Core.Bool.{Bool, true, false, not, cond, _&&_, _||_, true≢false}
+use mathlib.Core.List.{List, [], _∷_}
+use mathlib.Core.Option.{Option, none, some}
+use Prim.Native.Nat.{ℕ, _≤_, _<_}
+use native.Mathlib.Nat.{zero-add}
+use native.Mathlib.Omega.{arith}
+use lib.Dec.{leb}
+use lib.ListN.{length, take}
+use lib.Seq.{length-take-le}
+use borrow.Author.Tests.{le-leb, lt-leb, leb-true}
+use Rattle.text.specs.Text.{Text, isNil, lacks, written, placed, fitted}
+use Rattle.text.specs.declared.Fit.{Fit}
+use Rattle.text.specs.declared.Fit.the-variants.{Written as WrittenFit, Over}
+use Rattle.text.proofs.BoolLaws.{and-l, told}
+use Rattle.text.proofs.WriteLaws.{placed-first, fit-length, fit-room, fit-over}
+use Rattle.grammar.specs.Legal.{legal, fits, isRoot}
+use Rattle.parts.specs.Parent.{parentLen, parent, primLen, primPath, splitProperty, ancestorLens}
+use Rattle.parts.specs.Strip.{strip, stripFit, stripMemory}
+use Rattle.parts.proofs.ParentLaws.{prim-len-le, prim-legal}
+use Rattle.parts.proofs.StripLaws.{strip-shorter, strip-legal}
+use Rattle.path.specs.declared.Refusal.the-variants.{TooLong, Illegal, NoRoom}
+use Rattle.path.specs.declared.Asked.{Asked}
+use Rattle.path.specs.declared.Asked.the-variants.{Passed, Refused as RefusedAsked}
+use Rattle.path.specs.declared.Reply.{Reply}
+use Rattle.path.specs.declared.Reply.the-variants.{Written, Refused}
+use Rattle.path.specs.Refusal.{asked, allFit, allLegal}
+use Rattle.path.specs.Outcome.{reply, memory, made}
+use Rattle.path.proofs.MakeWays.{made-legal}
+
+-- a text that passed is short and legal
+refused-not-passed : {x : Asked} → x ≡ Passed → (a b : Bool) → cond a (cond b Passed (RefusedAsked Illegal)) (RefusedAsked TooLong) ≡ x → (a ≡ true) × (b ≡ true)
+refused-not-passed {x} e true true h = (refl, refl)
+refused-not-passed {x} e true false h = absurd (let z : _≡_ {A = ℕ} 0 1 = cc in omega arith)
+refused-not-passed {x} e false b h = absurd (let z : _≡_ {A = ℕ} 0 1 = cc in omega arith)
+
+module _ (p : Text) (q : Asked) (h : q ≡ asked (p ∷ [] ∷ [] ∷ [])) (k : q ≡ Passed) where
+  passed : (allFit (p ∷ []) ≡ true) × (allLegal (p ∷ []) ≡ true)
+  unfolding asked
+  passed = refused-not-passed k (allFit (p ∷ [])) (allLegal (p ∷ [])) (sym h)
+
+  pub passed-short : length p ≤ 255
+  unfolding allFit
+  passed-short = leb-true (length p) 255 (and-l (leb (length p) 255) true (passed .0))
+
+  pub passed-legal : legal p ≡ true
+  unfolding allLegal
+  passed-legal = and-l (legal p) true (passed .1)
+
+-- a beginning of the path that is legal goes out as it is
+pub cut-written : (p : Text) (n m : ℕ) → n ≡ m → m ≤ length p → length p ≤ 255 → legal (take m p) ≡ true → (out out′ : Text) → 255 ≤ length out
+    → out′ ≡ placed 0 (take n p) out → (Written n ≡ reply (made (take m p))) × (out′ ≡ memory (made (take m p)) out)
+cut-written p n m a h s l out out′ r e =
+    let k : length (take m p) ≡ m = length-take-le m p h in
+    let w : (Written (length (take m p)) ≡ reply (made (take m p))) × (placed 0 (take m p) out ≡ memory (made (take m p)) out)
+    = made-legal (take m p) (omega arith) l out r in
+    (ap (λ (x : ℕ). Written x) (a ∙ sym k) ∙ w .0, (rw a at e) ∙ w .1)
+
+-- `&path[..n]` has n bytes
+pub cut-length : (p : Text) (n m : ℕ) → n ≡ m → m ≤ length p → n ≡ length (take n p)
+cut-length p n m a h = sym (length-take-le n p (omega arith))
+
+-- `parent`
+pub parent-empty : (p : Text) → length p ≡ 0 → parent p ≡ none
+unfolding parent
+parent-empty [] e = refl
+parent-empty (a ∷ p) e = absurd (omega arith)
+
+pub parent-root : (p : Text) (b : Bool) → length p ≢ 0 → b ≡ isRoot p → b ≡ true → parent p ≡ none
+unfolding parent
+parent-root [] b d h k = refl
+parent-root (a ∷ p) b d h k = rw (told h k)
+
+pub parent-cut : (p : Text) (b : Bool) → length p ≢ 0 → b ≡ isRoot p → b ≡ false → parent p ≡ some (take (parentLen p) p)
+unfolding parent
+parent-cut [] b d h k = absurd (d refl)
+parent-cut (a ∷ p) b d h k = rw (told h k)
+
+-- `prim_path`
+pub prim-written : (p : Text) (n : ℕ) → n ≡ primLen p → length p ≤ 255 → legal p ≡ true → (out out′ : Text) → 255 ≤ length out
+    → out′ ≡ placed 0 (take n p) out → (Written n ≡ reply (made (primPath p))) × (out′ ≡ memory (made (primPath p)) out)
+unfolding primPath
+prim-written p n a s l out out′ r e = cut-written p n (primLen p) a (prim-len-le p) s (prim-legal p l) out out′ r e
+
+-- `split_property`
+pub split-none : (p : Text) (b : Bool) → b ≡ lacks 46 p → b ≡ true → splitProperty p ≡ none
+unfolding splitProperty
+split-none p b h k = rw (told h k)
+
+pub split-some : (p : Text) (b : Bool) → b ≡ lacks 46 p → b ≡ false → splitProperty p ≡ some (primPath p)
+unfolding splitProperty
+split-some p b h k = rw (told h k)
+
+-- `strip_variant_selections`: the memory has room, since the path is short
+module _ (p out : Text) (f : Fit) (s : length p ≤ 255) (r : 255 ≤ length out) (h : f ≡ stripFit p out) where
+  strip-fits : stripFit p out ≡ WrittenFit (length (strip p))
+  unfolding stripFit
+  strip-fits = rw (le-leb (length p) (length out) (omega arith))
+
+  pub strip-written : (n : ℕ) (out′ : Text) → f ≡ WrittenFit n → legal p ≡ true → out′ ≡ stripMemory p out
+      → (Written n ≡ reply (made (strip p))) × (out′ ≡ memory (made (strip p)) out)
+  unfolding stripMemory
+  strip-written n out′ e l m =
+      let i : n ≡ length (strip p) = fit-is (sym e ∙ h ∙ strip-fits) in
+      let w : (Written (length (strip p)) ≡ reply (made (strip p))) × (placed 0 (strip p) out ≡ memory (made (strip p)) out)
+      = made-legal (strip p) (omega (arith, strip-shorter p)) (strip-legal p l) out r in
+      let o : out′ ≡ written (strip p) out = rw (le-leb (length p) (length out) (omega arith)) at m in
+      (ap (λ (x : ℕ). Written x) i ∙ w .0, o ∙ sym (placed-first (strip p) out (omega (arith, strip-shorter p))) ∙ w .1)
+    where
+      fit-is : {a b : ℕ} → WrittenFit a ≡ WrittenFit b → a ≡ b
+      fit-is {a} {b} z = cc
+
+  pub strip-room : f ≡ Over → ⊥
+  strip-room e = let x : Over ≡ WrittenFit (length (strip p)) = sym e ∙ h ∙ strip-fits in let z : _≡_ {A = ℕ} 0 1 = cc in omega arith
+
+-- `ancestors`
+module _ (lens out : Text) (f : Fit) (h : f ≡ fitted lens out) where
+  pub listed-written : (n : ℕ) → f ≡ WrittenFit n → Written n ≡ cond (leb (length lens) (length out)) (Written (length lens)) (Refused NoRoom)
+  listed-written n e =
+      rw (le-leb (length lens) (length out) (fit-room lens out n (sym h ∙ e)), fit-length lens out n (sym h ∙ e))
+
+  pub listed-over : f ≡ Over → Refused NoRoom ≡ cond (leb (length lens) (length out)) (Written (length lens)) (Refused NoRoom)
+  listed-over e = rw (lt-leb (length lens) (length out) (fit-over lens out (sym h ∙ e)))
+
+  pub listed-memory : (n : ℕ) (out′ : Text) → f ≡ WrittenFit n → out′ ≡ placed 0 lens out → out′ ≡ written lens out
+  listed-memory n out′ e m = m ∙ placed-first lens out (fit-room lens out n (sym h ∙ e))
+
+  pub listed-kept : (out′ : Text) → f ≡ Over → out′ ≡ placed 0 lens out → out′ ≡ out
+  unfolding placed
+  listed-kept out′ e m = rw (zero-add (length lens), lt-leb (length lens) (length out) (fit-over lens out (sym h ∙ e))) at m
