@@ -3,9 +3,10 @@
 // then a length.
 ghost use mathlib.Core.Path.{_≡_};
 ghost use lib.ListN.{length};
+ghost use Rattle.parts.specs.Parent.{ancestorLens};
 ghost use Rattle.path.specs.Refusal.{number};
 ghost use Rattle.path.specs.Outcome.{reply, memory};
-ghost use Rattle.path.specs.Calls.{newCall, isEndCall, hasVariantSelectionCall, elementCountCall, primElementCountCall, hasPrefixCall, replacePrefixCall};
+ghost use Rattle.path.specs.Calls.{newCall, isEndCall, hasVariantSelectionCall, elementCountCall, primElementCountCall, hasPrefixCall, replacePrefixCall, parentCall, primPathCall, splitPropertyCall, stripCall, ancestorsReply, listed};
 ghost use Rattle.exports.specs.Code.{answer, askedCode, testCode, countCode, replyCode};
 
 fn number_of(x: path::Refusal) -> usize
@@ -130,4 +131,49 @@ pub extern "C" fn mudvizsor_path_replace_prefix(
     ensures { λ r. ⌜ now (out .exit) ≡ memory (replacePrefixCall (now (path .entry)) (now (old .entry)) (now (new .entry)) (length (now (out .entry)))) (now (out .entry)) ⌝ }
 {
     reply_code(path::replace_prefix(path, old, new, out))
+}
+
+// The path without its last element or its property, written to out.
+#[no_mangle]
+pub extern "C" fn mudvizsor_path_parent(path: &[u8], out: &mut [u8]) -> usize
+    ensures { λ r. ⌜ r ≡ replyCode (reply (parentCall (now (path .entry)) (length (now (out .entry))))) ⌝ }
+    ensures { λ r. ⌜ now (out .exit) ≡ memory (parentCall (now (path .entry)) (length (now (out .entry)))) (now (out .entry)) ⌝ }
+{
+    reply_code(path::parent(path, out))
+}
+
+// The path without its property, or without the last selection where it ends in one, written to out.
+#[no_mangle]
+pub extern "C" fn mudvizsor_path_prim_path(path: &[u8], out: &mut [u8]) -> usize
+    ensures { λ r. ⌜ r ≡ replyCode (reply (primPathCall (now (path .entry)) (length (now (out .entry))))) ⌝ }
+    ensures { λ r. ⌜ now (out .exit) ≡ memory (primPathCall (now (path .entry)) (length (now (out .entry)))) (now (out .entry)) ⌝ }
+{
+    reply_code(path::prim_path(path, out))
+}
+
+// The prim path of a property, written to out; the name is the text behind the dot that follows it.
+#[no_mangle]
+pub extern "C" fn mudvizsor_path_split_property(path: &[u8], out: &mut [u8]) -> usize
+    ensures { λ r. ⌜ r ≡ replyCode (reply (splitPropertyCall (now (path .entry)) (length (now (out .entry))))) ⌝ }
+    ensures { λ r. ⌜ now (out .exit) ≡ memory (splitPropertyCall (now (path .entry)) (length (now (out .entry)))) (now (out .entry)) ⌝ }
+{
+    reply_code(path::split_property(path, out))
+}
+
+// The path without its selections, written to out.
+#[no_mangle]
+pub extern "C" fn mudvizsor_path_strip_variant_selections(path: &[u8], out: &mut [u8]) -> usize
+    ensures { λ r. ⌜ r ≡ replyCode (reply (stripCall (now (path .entry)) (length (now (out .entry))))) ⌝ }
+    ensures { λ r. ⌜ now (out .exit) ≡ memory (stripCall (now (path .entry)) (length (now (out .entry)))) (now (out .entry)) ⌝ }
+{
+    reply_code(path::strip_variant_selections(path, out))
+}
+
+// The lengths of the path and its ancestors, written to lengths.
+#[no_mangle]
+pub extern "C" fn mudvizsor_path_ancestors(path: &[u8], lengths: &mut [usize]) -> usize
+    ensures { λ r. ⌜ r ≡ replyCode (ancestorsReply (now (path .entry)) (length (now (lengths .entry)))) ⌝ }
+    ensures { λ r. ⌜ now (lengths .exit) ≡ listed (ancestorsReply (now (path .entry)) (length (now (lengths .entry)))) (ancestorLens (now (path .entry))) (now (lengths .entry)) ⌝ }
+{
+    reply_code(path::ancestors(path, lengths))
 }
