@@ -1,0 +1,4 @@
+pub mod Map
+pub mod New
+pub mod Compose
+pub mod Derive

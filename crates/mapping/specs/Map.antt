@@ -1,0 +1,67 @@
+-- Maps: "A map is a list of pairs, a root-identity mark and a time offset." The time offset plays no part in where a path goes and
+-- stands apart. OpenUSD: PcpMapFunction.
+use Prim.Native.Nat.{ℕ}
+use mathlib.Core.Bool.{Bool, true, false, cond}
+use mathlib.Core.List.{List}
+use mathlib.Core.Option.{Option, none, some}
+use lib.Dec.{eqb}
+use lib.ListN.{length}
+use Rattle.text.specs.Text.{Text, isNil}
+use Rattle.prefix.specs.Join.{replacePrefix}
+use Rattle.parts.specs.Strip.{strip}
+use Rattle.pairs.specs.Pair.{Pair, sourceAt, targetAt}
+use Rattle.pairs.specs.Best.{best}
+
+pub record Map : Type 0 where
+  pub pairs : List Pair
+  pub mark : Bool
+
+abbrev pub source : Map → ℕ → Text
+source m i = sourceAt (m .pairs) i
+
+abbrev pub target : Map → ℕ → Text
+target m i = targetAt (m .pairs) i
+
+abbrev pub size : Map → ℕ
+size m = length (m .pairs)
+
+-- the pair that serves a path on its way out, by the sources, and on its way home, by the targets
+unfoldable pub chosenOut : Map → Text → Option ℕ
+unfolding best
+chosenOut m p = best p (source m) (size m)
+
+unfoldable pub chosenHome : Map → Text → Option ℕ
+unfolding best
+chosenHome m q = best q (target m) (size m)
+
+-- "an empty target gives no path. With no pair, the mark returns the path itself." From the ends a to the ends b, by the pair chosen.
+abbrev pub by : Map → (ℕ → Text) → (ℕ → Text) → Text → Option ℕ → Option Text
+by m a b p none = cond (m .mark) (some p) none
+by m a b p (some i) = cond (isNil (target m i)) none (replacePrefix p (a i) (b i))
+
+-- Rust: map_source_to_target, "plain mapping"
+unfoldable pub plainOut : Map → Text → Option Text
+unfolding chosenOut replacePrefix
+plainOut m p = by m (source m) (target m) p (chosenOut m p)
+
+-- Rust: map_target_to_source, "plainly back .. whose keys are the targets"
+unfoldable pub plainHome : Map → Text → Option Text
+unfolding chosenHome replacePrefix
+plainHome m q = by m (target m) (source m) q (chosenHome m q)
+
+abbrev pub same : Option ℕ → Option ℕ → Bool
+same none none = true
+same none (some j) = false
+same (some i) none = false
+same (some i) (some j) = eqb i j
+
+-- "gives no path if plain mapping backwards would take another pair for the result, or any pair where none was used"
+unfoldable pub invertible : Map → Option ℕ → Option Text → Option Text
+unfolding chosenHome
+invertible m i none = none
+invertible m i (some q) = cond (same i (chosenHome m q)) (some q) none
+
+-- Rust: translate_to_target, which "strips selections, maps, then" asks that
+unfoldable pub translated : Map → Text → Option Text
+unfolding invertible chosenOut plainOut strip
+translated m p = invertible m (chosenOut m (strip p)) (plainOut m (strip p))

@@ -1,0 +1,3 @@
+pub mod Pair
+pub mod Places
+pub mod Best

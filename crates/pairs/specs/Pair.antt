@@ -1,0 +1,40 @@
+-- Pairs of paths, and document 01's questions 2 and 3 of a list of them.
+use mathlib.Core.Bool.{Bool, true, not, _&&_}
+use mathlib.Core.List.{List, [], _∷_}
+use Prim.Native.Nat.{ℕ}
+use lib.ListN.{length, getD}
+use Rattle.text.specs.Text.{Text, isNil}
+use Rattle.grammar.specs.Legal.{legal, isEnd}
+
+pub record Pair : Type 0 where
+  pub source : Text
+  pub target : Text
+
+abbrev pub nothing : Pair
+nothing = record { source = []; target = [] }
+
+-- the i-th pair, the source and the target of it
+abbrev pub pairAt : List Pair → ℕ → Pair
+pairAt l i = getD l i nothing
+
+abbrev pub sourceAt : List Pair → ℕ → Text
+sourceAt l i = (pairAt l i) .source
+
+abbrev pub targetAt : List Pair → ℕ → Text
+targetAt l i = (pairAt l i) .target
+
+-- "Is every text legal?"
+unfoldable pub bothLegal : List Pair → Bool
+unfolding legal
+bothLegal [] = true
+bothLegal (x ∷ xs) = legal (x .source) && legal (x .target) && bothLegal xs
+
+-- "Is every end a prim path, `/` or empty?"
+unfoldable pub allEnds : List Pair → Bool
+unfolding isEnd
+allEnds [] = true
+allEnds (x ∷ xs) = isEnd (x .source) && isEnd (x .target) && allEnds xs
+
+unfoldable pub noEmptySource : List Pair → Bool
+noEmptySource [] = true
+noEmptySource (x ∷ xs) = not (isNil (x .source)) && noEmptySource xs

@@ -1,0 +1,42 @@
+-- A list of pairs in lent memory: a store of bytes, and four numbers for each pair, where the source starts, its length, where the
+-- target starts, its length. This is the one place where such a list is read; everything else is defined on `List Pair`.
+use mathlib.Core.Bool.{Bool, true, cond, _&&_}
+use mathlib.Core.List.{List, [], _∷_, _++_}
+use Prim.Native.Nat.{ℕ, zero, suc, _+_, _*_}
+use lib.Dec.{leb}
+use lib.ListN.{length, getD, take, drop}
+use Rattle.text.specs.Text.{Text}
+use Rattle.pairs.specs.Pair.{Pair}
+
+-- the place j: a start and a length
+abbrev pub startAt : List ℕ → ℕ → ℕ
+startAt places j = getD places (2 * j) 0
+
+abbrev pub lengthAt : List ℕ → ℕ → ℕ
+lengthAt places j = getD places (2 * j + 1) 0
+
+-- the place lies in the store
+unfoldable pub inside : Text → List ℕ → ℕ → Bool
+inside store places j = leb (startAt places j + lengthAt places j) (length store)
+
+-- the text there; a place that reaches outside the store has none
+unfoldable pub textAt : Text → List ℕ → ℕ → Text
+unfolding inside
+textAt store places j = cond (inside store places j) (take (lengthAt places j) (drop (startAt places j) store)) []
+
+-- pair i has the places 2 i and 2 i + 1
+unfoldable pub placedPair : Text → List ℕ → ℕ → Pair
+unfolding textAt
+placedPair store places i = record { source = textAt store places (2 * i); target = textAt store places (2 * i + 1) }
+
+-- the first n pairs
+unfoldable pub placed : Text → List ℕ → ℕ → List Pair
+unfolding placedPair
+placed store places zero = []
+placed store places (suc n) = placed store places n ++ placedPair store places n ∷ []
+
+-- "Is every path text at most 255 bytes (a place that reaches outside its store counts as longer)?", for the first n places
+unfoldable pub placesFit : Text → List ℕ → ℕ → Bool
+unfolding inside
+placesFit store places zero = true
+placesFit store places (suc n) = placesFit store places n && (inside store places n && leb (lengthAt places n) 255)
