@@ -1,13 +1,14 @@
 -- Which pair serves a path. "Plain mapping takes, of the pairs whose key is a prefix of the path, the one whose key has most elements,
 -- the later on a tie; empty keys are skipped". OpenUSD: PcpMapFunction's search for the best match.
 use Prim.Native.Nat.{ℕ, zero, suc}
-use mathlib.Core.Bool.{Bool, true, not, cond, _&&_}
+use mathlib.Core.Bool.{Bool, true, not, cond, _&&_, _||_}
 use mathlib.Core.List.{List}
 use mathlib.Core.Option.{Option, none, some}
 use lib.Dec.{leb}
 use Rattle.text.specs.Text.{Text, isNil}
 use Rattle.prefix.specs.Prefix.{hasPrefix}
 use Rattle.prefix.specs.Elements.{count, elements}
+use Rattle.pairs.specs.declared.Found.{Found}
 
 -- the key at n is at least as good as the one chosen before
 abbrev pub better : (ℕ → Text) → Option ℕ → ℕ → Bool
@@ -28,3 +29,13 @@ serves p k = not (isNil k) && hasPrefix p k
 unfoldable pub best : Text → (ℕ → Text) → ℕ → Option ℕ
 unfolding bestBy serves
 best p key n = bestBy (serves p) key n
+
+-- what a search keeps as it goes on: whether a key was chosen, its place and its number of elements
+abbrev pub chosenIn : Found → Option ℕ
+chosenIn f = cond (f .found) (some (f .at)) none
+
+-- the better of what was found so far and the key k at i
+unfoldable pub considered : Found → Text → Text → ℕ → Found
+unfolding serves count
+considered f p k i =
+    cond (serves p k && (not (f .found) || leb (f .elements) (elements k))) (record { found = true; at = i; elements = elements k }) f

@@ -1,8 +1,8 @@
 -- A list of pairs in lent memory: a store of bytes, and four numbers for each pair, where the source starts, its length, where the
 -- target starts, its length. This is the one place where such a list is read; everything else is defined on `List Pair`.
-use mathlib.Core.Bool.{Bool, true, cond, _&&_}
+use mathlib.Core.Bool.{Bool, true, cond, _&&_, _||_}
 use mathlib.Core.List.{List, [], _∷_, _++_}
-use Prim.Native.Nat.{ℕ, zero, suc, _+_, _*_}
+use Prim.Native.Nat.{ℕ, zero, suc, _+_, _*_, _/_}
 use lib.Dec.{leb}
 use lib.ListN.{length, getD, take, drop}
 use Rattle.text.specs.Text.{Text}
@@ -35,8 +35,23 @@ unfolding placedPair
 placed store places zero = []
 placed store places (suc n) = placed store places n ++ placedPair store places n ∷ []
 
+-- the key of pair i: its source, or its target where the map is read backwards
+abbrev pub keyAt : Text → List ℕ → Bool → ℕ → Text
+keyAt store places invert i = textAt store places (2 * i + cond invert 1 0)
+
+-- the place j is short and in the store; one that is not there is asked nothing
+unfoldable pub fitsAt : Text → List ℕ → ℕ → Bool
+unfolding inside
+fitsAt store places j = leb (length places / 2) j || inside store places j && leb (lengthAt places j) 255
+
 -- "Is every path text at most 255 bytes (a place that reaches outside its store counts as longer)?", for the first n places
 unfoldable pub placesFit : Text → List ℕ → ℕ → Bool
-unfolding inside
+unfolding fitsAt
 placesFit store places zero = true
-placesFit store places (suc n) = placesFit store places n && (inside store places n && leb (lengthAt places n) 255)
+placesFit store places (suc n) = placesFit store places n && fitsAt store places n
+
+-- a test of the texts at the first n places, as questions 2 and 3 put it
+unfoldable pub placesAll : (Text → Bool) → Text → List ℕ → ℕ → Bool
+unfolding textAt
+placesAll passes store places zero = true
+placesAll passes store places (suc n) = placesAll passes store places n && passes (textAt store places n)

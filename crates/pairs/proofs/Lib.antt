@@ -1,0 +1,2 @@
+mod PlaceWays
+mod BestWays
