@@ -1,0 +1,262 @@
+// Replays a recorded sample of the original Rust's answers: the files stdin and stdout beside src/.
+// `cargo run -p compare -- --record IN OUT`, in rust/, made both, from the original's own functions
+// and document 01's questions, without asking this library.
+//
+// A line of the input is `PATH OLD NEW`, separated by one space each; a missing text is empty. Its
+// answers are one line of thirteen fields, separated by one space: a refusal as `!` and its number, a
+// test as `yes` or `no`, a path as its text, the empty path as `-`.
+ghost use Prim.Native.Nat.{_≤_};
+ghost use lib.ListN.{length};
+use libc::STDIN_FILENO;
+use libc::STDOUT_FILENO;
+
+// Puts the text into the line at a place, and answers the place behind it. A text that does not fit
+// is left out.
+fn put(text: &[u8], at: usize, line: &mut [u8]) -> usize {
+    if line.len() < at {
+        return at;
+    }
+    if line.len() - at < text.len() {
+        return at;
+    }
+    text::write_at(text, at, line);
+    at + text.len()
+}
+
+fn put_number(n: usize, at: usize, line: &mut [u8]) -> usize {
+    let mut digits = [0u8; 20];
+    let k = io::decimal(n as u64, &mut digits);
+    put(&digits[..k], at, line)
+}
+
+fn number_of(x: path::Refusal) -> usize {
+    match x {
+        path::Refusal::TooLong => 1,
+        path::Refusal::Illegal => 2,
+        path::Refusal::NotAnEnd => 3,
+        path::Refusal::TooMany => 4,
+        path::Refusal::NoRoom => 5,
+        path::Refusal::NoPath => 6,
+        path::Refusal::MadeTooLong => 7,
+        path::Refusal::MadeIllegal => 8,
+    }
+}
+
+fn put_refusal(x: path::Refusal, at: usize, line: &mut [u8]) -> usize {
+    let behind = put(b"!", at, line);
+    put_number(number_of(x), behind, line)
+}
+
+fn put_asked(q: path::Asked, at: usize, line: &mut [u8]) -> usize {
+    match q {
+        path::Asked::Passed => put(b"ok", at, line),
+        path::Asked::Refused(x) => put_refusal(x, at, line),
+    }
+}
+
+fn put_test(t: path::Test, at: usize, line: &mut [u8]) -> usize {
+    let start = put(b" ", at, line);
+    match t {
+        path::Test::Holds(b) => {
+            if b {
+                return put(b"yes", start, line);
+            }
+            put(b"no", start, line)
+        }
+        path::Test::Refused(x) => put_refusal(x, start, line),
+    }
+}
+
+fn put_count(n: path::Count, at: usize, line: &mut [u8]) -> usize {
+    let start = put(b" ", at, line);
+    match n {
+        path::Count::Counted(e) => put_number(e.0, start, line),
+        path::Count::Refused(x) => put_refusal(x, start, line),
+    }
+}
+
+// The path that a call wrote to the beginning of the memory. No call answers more than the memory has.
+fn put_path(r: path::Reply, memory: &[u8], at: usize, line: &mut [u8]) -> usize {
+    let start = put(b" ", at, line);
+    match r {
+        path::Reply::Written(n) => {
+            if n == 0 {
+                return put(b"-", start, line);
+            }
+            if memory.len() < n {
+                return start;
+            }
+            put(&memory[0..n], start, line)
+        }
+        path::Reply::Refused(x) => put_refusal(x, start, line),
+    }
+}
+
+// The property's name: what stands behind the dot that follows the prim path.
+fn put_name(r: path::Reply, path: &[u8], at: usize, line: &mut [u8]) -> usize {
+    let start = put(b" ", at, line);
+    match r {
+        path::Reply::Written(n) => {
+            if path.len() <= n {
+                return start;
+            }
+            let name = n + 1;
+            put(&path[name..], start, line)
+        }
+        path::Reply::Refused(x) => put_refusal(x, start, line),
+    }
+}
+
+// The lengths in decimal, with a comma between two.
+fn put_lengths(lengths: &[usize], at: usize, line: &mut [u8]) -> usize {
+    if lengths.len() == 0 {
+        return at;
+    }
+    let mut behind = put_number(lengths[0], at, line);
+    let mut i = 1;
+    while i < lengths.len() {
+        behind = put(b",", behind, line);
+        behind = put_number(lengths[i], behind, line);
+        i += 1;
+    }
+    behind
+}
+
+// The lengths of the path and its ancestors, at most 128.
+fn put_ancestors(path: &[u8], at: usize, line: &mut [u8]) -> usize {
+    let start = put(b" ", at, line);
+    let mut lengths = [0usize; 128];
+    match path::ancestors(path, &mut lengths) {
+        path::Reply::Written(n) => {
+            if 128 < n {
+                return start;
+            }
+            put_lengths(&lengths[0..n], start, line)
+        }
+        path::Reply::Refused(x) => put_refusal(x, start, line),
+    }
+}
+
+// The answers of the calls that write no path, from the line's beginning on.
+fn put_tests(path: &[u8], old: &[u8], line: &mut [u8]) -> usize {
+    let a = put_asked(path::new(path), 0, line);
+    let b = put_test(path::is_end(path), a, line);
+    let c = put_test(path::has_variant_selection(path), b, line);
+    let d = put_count(path::element_count(path), c, line);
+    let e = put_count(path::prim_element_count(path), d, line);
+    put_test(path::has_prefix(path, old), e, line)
+}
+
+fn put_replaced(path: &[u8], old: &[u8], new: &[u8], at: usize, line: &mut [u8]) -> usize {
+    let mut memory = [0u8; 255];
+    let r = path::replace_prefix(path, old, new, &mut memory);
+    put_path(r, &memory, at, line)
+}
+
+fn put_parent(path: &[u8], at: usize, line: &mut [u8]) -> usize {
+    let mut memory = [0u8; 255];
+    let r = path::parent(path, &mut memory);
+    put_path(r, &memory, at, line)
+}
+
+fn put_prim_path(path: &[u8], at: usize, line: &mut [u8]) -> usize {
+    let mut memory = [0u8; 255];
+    let r = path::prim_path(path, &mut memory);
+    put_path(r, &memory, at, line)
+}
+
+// The prim path of a property, and its name.
+fn put_split(path: &[u8], at: usize, line: &mut [u8]) -> usize {
+    let mut memory = [0u8; 255];
+    let r = path::split_property(path, &mut memory);
+    let behind = put_path(r, &memory, at, line);
+    put_name(r, path, behind, line)
+}
+
+fn put_stripped(path: &[u8], at: usize, line: &mut [u8]) -> usize {
+    let mut memory = [0u8; 255];
+    let r = path::strip_variant_selections(path, &mut memory);
+    put_path(r, &memory, at, line)
+}
+
+// The whole line of answers, from the line's beginning on.
+fn put_answers(path: &[u8], old: &[u8], new: &[u8], line: &mut [u8]) -> usize {
+    let a = put_tests(path, old, line);
+    let b = put_replaced(path, old, new, a, line);
+    let c = put_parent(path, b, line);
+    let d = put_prim_path(path, c, line);
+    let e = put_split(path, d, line);
+    let f = put_stripped(path, e, line);
+    let g = put_ancestors(path, f, line);
+    put(b"\n", g, line)
+}
+
+// The place of the first byte b, or the text's length where there is none.
+fn place_of(b: u8, text: &[u8]) -> usize
+    ensures { λ r. ⌜ r ≤ length (now (text .entry)) ⌝ }
+{
+    let mut i = 0;
+    while i < text.len() {
+        if text[i] == b {
+            return i;
+        }
+        i += 1;
+    }
+    i
+}
+
+// The place behind place n, or the text's length where n is beyond its last byte.
+fn place_behind(n: usize, text: &[u8]) -> usize
+    ensures { λ r. ⌜ r ≤ length (now (text .entry)) ⌝ }
+{
+    if n < text.len() {
+        return n + 1;
+    }
+    text.len()
+}
+
+// Answers a line of the input, and says whether the answers were written. They fit: six texts of at
+// most 255 bytes, at most 128 lengths, and a few short ones.
+fn answer(asked: &[u8]) -> bool {
+    let a = place_of(b' ', asked);
+    let from = place_behind(a, asked);
+    let rest = &asked[from..];
+    let b = place_of(b' ', rest);
+    let c = place_behind(b, rest);
+    let mut line = [0u8; 4096];
+    let n = put_answers(&asked[0..a], &rest[0..b], &rest[c..], &mut line);
+    if 4096 < n {
+        return false;
+    }
+    io::write_all(STDOUT_FILENO, &line[0..n])
+}
+
+// Answers the first line of the input, which may lack its newline, and says how many bytes it took:
+// none where the answers were not written.
+fn answer_first(input: &[u8]) -> usize
+    ensures { λ r. ⌜ r ≤ length (now (input .entry)) ⌝ }
+{
+    let n = place_of(b'\n', input);
+    if !answer(&input[0..n]) {
+        return 0;
+    }
+    place_behind(n, input)
+}
+
+fn answer_all(input: &[u8]) {
+    let mut at = 0;
+    while at < input.len() {
+        let took = answer_first(&input[at..]);
+        if took == 0 {
+            return;
+        }
+        at += took;
+    }
+}
+
+// Reads at most 262,144 bytes, more than the sample has.
+fn main() {
+    let mut input = [0u8; 262144];
+    let n = io::read_full(STDIN_FILENO, &mut input);
+    answer_all(&input[..n]);
+}
