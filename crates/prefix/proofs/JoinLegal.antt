@@ -6,7 +6,7 @@ use Prim.Native.Nat.{ℕ}
 use lib.Dec.{eqb}
 use borrow.Author.Tests.{eqb-true}
 use Rattle.text.specs.Text.{Text, isNil, lacks}
-use Rattle.text.proofs.BoolLaws.{and-l, and-r, and-no, or-right, or-false}
+use Rattle.text.proofs.BoolLaws.{and-l, and-r, and-no, and-yes, or-right, or-false}
 use Rattle.text.proofs.TextLaws.{lacks-first, lacks-rest}
 use Rattle.grammar.specs.Legal.{State, Slash, Name, Dead, isIdentifierStart, isIdentifierCont, step, run, accept, isRoot, legal, isEnd}
 use Rattle.grammar.proofs.RunLaws.{run-app, run-dead}
@@ -63,13 +63,19 @@ behind-end (a ∷ b ∷ x) y e n h =
     rw (and-l (eqb a 47) c l, run-app Slash (b ∷ x) y, in-name a b x e (and-r (eqb a 47) c l))
 
 -- what may follow a slash may follow it behind an end
-under-stem : (t y : Text) → isEnd t ≡ true → isNil t ≡ false → accept (run Slash y) ≡ true → legal (stem t ++ 47 ∷ y) ≡ true
+under-stem : (t y : Text) → isEnd t ≡ true → accept (run Slash y) ≡ true → legal (stem t ++ 47 ∷ y) ≡ true
 unfolding legal run step isIdentifierCont
-under-stem t y et nt e = go (isRoot t) refl
+under-stem [] y et e = rw (stem-not [] (47 ∷ y) refl) (or-right (isNil y) (accept (run Slash y)) e)
+under-stem (c ∷ t) y et e = go (isRoot (c ∷ t)) refl
   where
-    go : (b : Bool) → isRoot t ≡ b → legal (stem t ++ 47 ∷ y) ≡ true
-    go true h = rw (root-is t h, stem-root) (or-right (isNil y) (accept (run Slash y)) e)
-    go false h = rw (stem-not t (47 ∷ y) h) (behind-end t (47 ∷ y) et nt h ∙ e)
+    go : (b : Bool) → isRoot (c ∷ t) ≡ b → legal (stem (c ∷ t) ++ 47 ∷ y) ≡ true
+    go true h = rw (root-is (c ∷ t) h, stem-root) (or-right (isNil y) (accept (run Slash y)) e)
+    go false h = rw (stem-not (c ∷ t) (47 ∷ y) h) (behind-end (c ∷ t) (47 ∷ y) et refl h ∙ e)
+
+-- what a legal text has behind its first slash
+slash-legal : (a : ℕ) (r : Text) → legal (47 ∷ a ∷ r) ≡ true → accept (run Slash (a ∷ r)) ≡ true
+unfolding legal
+slash-legal a r e = e
 
 -- `.` and `{` may not follow `/`
 dies : (a : ℕ) (r : Text) → step Slash a ≡ Dead → legal (47 ∷ a ∷ r) ≡ false
@@ -92,26 +98,35 @@ no-hang a r l = go (eqb a 46 || eqb a 123) refl
     go true h = absurd (true≢false (sym l ∙ hang-dies a r h))
     go false h = refl
 
--- joining spoils a legal text only where the new prefix is `/` and the rest begins with `.` or `{`
-pub joined-legal : JoinedLegal
-unfolding spoils follows legal run step isIdentifierStart isIdentifierCont
-joined-legal s t [] l es ns et nt j = rw (joined-none s t, and-no (isRoot t)) (end-legal t et)
-joined-legal s t (a ∷ r) l es ns et nt j = root (isRoot s) refl
+-- a rest that begins with `.` or `{` stands behind a prim path only
+hang-legal : (t : Text) (a : ℕ) (r : Text) → isEnd t ≡ true → eqb a 47 ≡ false → (eqb a 46 || eqb a 123) ≡ true → accept (run Name (a ∷ r)) ≡ true
+    → legal (t ++ a ∷ r) ≡ not (isNil t || isRoot t)
+unfolding legal
+hang-legal [] a r et k g e = rw k
+hang-legal (c ∷ t) a r et k g e = go (isRoot (c ∷ t)) refl
   where
-    other : (b : Bool) → isRoot s ≡ false → eqb a 47 ≡ false → accept (run Name (a ∷ r)) ≡ true → isRoot t ≡ b
-        → legal (joined s t (a ∷ r)) ≡ not (spoils t (a ∷ r))
-    other true h k e i =
+    go : (b : Bool) → isRoot (c ∷ t) ≡ b → legal ((c ∷ t) ++ a ∷ r) ≡ not b
+    go true i = ap (λ (x : Text). legal (x ++ a ∷ r)) (root-is (c ∷ t) i) ∙ hang-dies a r g
+    go false i = behind-end (c ∷ t) (a ∷ r) et refl i ∙ e
+
+-- joining spoils a legal text only where the new prefix is `/` or empty and the rest begins with `.` or `{`
+pub joined-legal : JoinedLegal
+unfolding spoils follows run step isIdentifierStart isIdentifierCont
+joined-legal s t [] l es ns et j = rw (joined-none s t, and-no (isNil t || isRoot t)) (end-legal t et)
+joined-legal s t (a ∷ r) l es ns et j = root (isRoot s) refl
+  where
+    other : isRoot s ≡ false → eqb a 47 ≡ false → accept (run Name (a ∷ r)) ≡ true → legal (joined s t (a ∷ r)) ≡ not (spoils t (a ∷ r))
+    other h k e =
         let g : (eqb a 46 || eqb a 123) ≡ true = sym (or-false (eqb a 46 || eqb a 123)) ∙ rw (h, k, end-close s es) at j in
-        rw (joined-other s t a r h (end-close s es) k, root-is t i, g) (hang-dies a r g)
-    other false h k e i = rw (joined-other s t a r h (end-close s es) k, i) (behind-end t (a ∷ r) et nt i ∙ e)
+        rw (joined-other s t a r h (end-close s es) k, g, and-yes (isNil t || isRoot t)) (hang-legal t a r et k g e)
 
     slashed : (b : Bool) → isRoot s ≡ false → accept (run Name (a ∷ r)) ≡ true → eqb a 47 ≡ b → legal (joined s t (a ∷ r)) ≡ not (spoils t (a ∷ r))
     slashed true h e k =
-        rw (eqb-true a 47 k, joined-slash s t r h (end-close t et), and-no (isRoot t)) (under-stem t r et nt (rw (eqb-true a 47 k) at e))
-    slashed false h e k = other (isRoot t) h k e refl
+        rw (eqb-true a 47 k, joined-slash s t r h (end-close t et), and-no (isNil t || isRoot t)) (under-stem t r et (rw (eqb-true a 47 k) at e))
+    slashed false h e k = other h k e
 
     root : (b : Bool) → isRoot s ≡ b → legal (joined s t (a ∷ r)) ≡ not (spoils t (a ∷ r))
     root true h =
         let i : legal (47 ∷ a ∷ r) ≡ true = rw (root-is s h) at l in
-        rw (root-is s h, joined-root t a r, no-hang a r i, and-no (isRoot t)) (under-stem t (a ∷ r) et nt i)
+        rw (root-is s h, joined-root t a r, no-hang a r i, and-no (isNil t || isRoot t)) (under-stem t (a ∷ r) et (slash-legal a r i))
     root false h = slashed (eqb a 47) h (sym (behind-end s (a ∷ r) es ns h) ∙ l) refl

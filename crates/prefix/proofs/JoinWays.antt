@@ -10,10 +10,10 @@ use lib.Dec.{eqb, leb}
 use lib.ListN.{length, getD, take, drop, length-append}
 use lib.Seq.{length-take-le}
 use borrow.Author.Tests.{eq-eqb, ne-eqb, le-leb, lt-leb}
-use Rattle.text.specs.Text.{Text, lastIs, written, placed, fitted}
+use Rattle.text.specs.Text.{Text, isNil, lastIs, written, placed, fitted}
 use Rattle.text.specs.declared.Fit.{Fit}
 use Rattle.text.specs.declared.Fit.the-variants.{Written, Over}
-use Rattle.text.proofs.BoolLaws.{and-no, told, told-false, told-true}
+use Rattle.text.proofs.BoolLaws.{and-no, and-yes, or-right, or-false, told, told-false, told-true}
 use Rattle.text.proofs.WriteLaws.{placed-first, placed-next, rest-whole}
 use Rattle.grammar.specs.Legal.{isRoot, isIdentifierCont}
 use Rattle.prefix.specs.Join.{isChild, bare, slashUnless, separator, body, joined, spoils}
@@ -98,26 +98,37 @@ module _ (s r : Text) where
   unfolding body
   body-slash b e f h k = rw (cons r e, told h k, f)
 
-module _ (t r : Text) where
-  pub spoils-not : (b : Bool) → b ≡ isRoot t → not b ≡ true → false ≡ spoils t r
-  unfolding spoils
-  spoils-not b h k = rw (told-false h k)
+pub hangs-open : (a : ℕ) → a ≡ 123 → true ≡ (eqb a 46 || eqb a 123)
+hangs-open a e = sym (or-right (eqb a 46) (eqb a 123) (eq-eqb a 123 e))
 
-  pub spoils-none : (b : Bool) → b ≡ isRoot t → not b ≡ false → length r ≡ 0 → false ≡ spoils t r
+pub hangs-dot : (a : ℕ) → a ≢ 123 → eqb a 46 ≡ (eqb a 46 || eqb a 123)
+hangs-dot a d = rw (ne-eqb a 123 d) (sym (or-false (eqb a 46)))
+
+pub spoils-none : (t r : Text) → length r ≡ 0 → false ≡ spoils t r
+unfolding spoils
+spoils-none t [] e = sym (and-no (isNil t || isRoot t))
+spoils-none t (a ∷ r) e = absurd (omega arith)
+
+module _ (t r : Text) (b : Bool) (h : b ≡ (eqb (getD r 0 0) 46 || eqb (getD r 0 0) 123)) where
+  pub spoils-not : length r ≢ 0 → not b ≡ true → false ≡ spoils t r
   unfolding spoils
-  spoils-none b h k e = rw (told-true h k) (go r e)
+  spoils-not e k = rw (cons r e, told-false h k) (sym (and-no (isNil t || isRoot t)))
+
+  pub spoils-empty : length r ≢ 0 → not b ≡ false → length t ≡ 0 → true ≡ spoils t r
+  unfolding spoils
+  spoils-empty e k l = rw (cons r e, told-true h k) (go t l)
     where
-      go : (r : Text) → length r ≡ 0 → false ≡ spoils (47 ∷ []) r
-      go [] e = refl
-      go (a ∷ r) e = absurd (omega arith)
+      go : (t : Text) → length t ≡ 0 → true ≡ ((isNil t || isRoot t) && true)
+      go [] l = refl
+      go (a ∷ t) l = absurd (omega arith)
 
-  pub spoils-dot : (b : Bool) → b ≡ isRoot t → not b ≡ false → length r ≢ 0 → getD r 0 0 ≡ 46 → true ≡ spoils t r
+  pub spoils-root : (c : Bool) → length r ≢ 0 → not b ≡ false → length t ≢ 0 → c ≡ isRoot t → c ≡ spoils t r
   unfolding spoils
-  spoils-dot b h k e f = rw (cons r e, told-true h k, f)
-
-  pub spoils-open : (b : Bool) → b ≡ isRoot t → not b ≡ false → length r ≢ 0 → getD r 0 0 ≢ 46 → eqb (getD r 0 0) 123 ≡ spoils t r
-  unfolding spoils
-  spoils-open b h k e f = rw (cons r e, told-true h k, ne-eqb (getD r 0 0) 46 f)
+  spoils-root c e k l m = rw (cons r e, told-true h k) (m ∙ go t l)
+    where
+      go : (t : Text) → length t ≢ 0 → isRoot t ≡ ((isNil t || isRoot t) && true)
+      go [] l = absurd (l refl)
+      go (a ∷ t) l = sym (and-yes (isRoot (a ∷ t)))
 
 -- the separator, as the part that the code takes of a slash
 one-byte : (b : Bool) → length (slashUnless b) ≤ 1
@@ -193,4 +204,4 @@ module _ (s t r out : Text) where
           ),
         )
 
-pub ruleset joins = (child-slash, child-not, child-name, bare-root, bare-closed, separator-none, separator-roots, separator-root, separator-other, separator-bare, separator-slash, body-none, body-whole, body-root, body-slash, body-in, spoils-not, spoils-none, spoils-dot, spoils-open)
+pub ruleset joins = (child-slash, child-not, child-name, bare-root, bare-closed, separator-none, separator-roots, separator-root, separator-other, separator-bare, separator-slash, body-none, body-whole, body-root, body-slash, body-in, hangs-dot, hangs-open, spoils-none, spoils-not, spoils-empty, spoils-root)

@@ -54,13 +54,13 @@ unfoldable pub hangs : Text → Bool
 hangs [] = false
 hangs (a ∷ r) = eqb a 46 || eqb a 123
 
--- .. and so cannot stand behind `/`
+-- .. and so cannot stand behind `/` or behind nothing
 unfoldable pub spoils : Text → Text → Bool
 unfolding hangs
-spoils t r = isRoot t && hangs r
+spoils t r = (isNil t || isRoot t) && hangs r
 
--- for nonempty ends s and t that is all that can go wrong (proved in proofs/JoinLegal.antt)
+-- for ends s and t, s not empty, that is all that can go wrong (proved in proofs/JoinLegal.antt)
 abbrev pub JoinedLegal : Type 0
 JoinedLegal =
-    (s t r : Text) → legal (s ++ r) ≡ true → isEnd s ≡ true → isNil s ≡ false → isEnd t ≡ true → isNil t ≡ false → follows s r ≡ true
+    (s t r : Text) → legal (s ++ r) ≡ true → isEnd s ≡ true → isNil s ≡ false → isEnd t ≡ true → follows s r ≡ true
     → legal (joined s t r) ≡ not (spoils t r)

@@ -1,7 +1,8 @@
 // Prefixes of path texts, the join that replaces one, and how many elements a text has. Every
 // function is defined for any bytes and asks nothing of its caller.
 ghost use mathlib.Core.Path.{_≡_};
-ghost use mathlib.Core.Bool.{Bool, cond};
+ghost use mathlib.Core.Bool.{Bool, cond, _||_};
+ghost use lib.Dec.{eqb};
 ghost use Prim.Native.Nat.{_+_, _<_, _≤_};
 ghost use lib.ListN.{length, getD, drop};
 ghost use Rattle.text.specs.Text.{fitted, placed};
@@ -190,18 +191,28 @@ pub fn join(old: &[u8], new: &[u8], rest: &[u8], out: &mut [u8]) -> text::Fit
     text::Fit::Written(at + body.len())
 }
 
-// Is the new prefix `/`, behind which a rest that begins with `.` or `{` cannot stand?
+// Is the new prefix `/` or empty, behind which a rest that begins with `.` or `{` cannot stand?
 pub fn is_spoilt(new: &[u8], rest: &[u8]) -> bool
     ensures { λ r. ⌜ r ≡ spoils (now (new .entry)) (now (rest .entry)) ⌝ }
 {
-    if !grammar::is_root(new) {
-        return false;
-    }
     if rest.len() == 0 {
         return false;
     }
-    if rest[0] == b'.' {
+    if !hangs_at(rest[0]) {
+        return false;
+    }
+    if new.len() == 0 {
         return true;
     }
-    rest[0] == b'{'
+    grammar::is_root(new)
+}
+
+// Is the byte `.` or `{`?
+fn hangs_at(a: u8) -> bool
+    ensures { λ r. ⌜ r ≡ (eqb a 46 || eqb a 123) ⌝ }
+{
+    if a == b'{' {
+        return true;
+    }
+    a == b'.'
 }

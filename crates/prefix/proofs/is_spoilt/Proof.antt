@@ -3,23 +3,23 @@ use borrow.Author.Needs.{needs}
 use Rattle.prefix.proofs.is_spoilt.Statement.{statement}
 use Rattle.prefix.proofs.is_spoilt.Tie as tie
 
-is-root-requires : tie.Need-is-root-requires
-is-root-requires c κs = search needs
-
 returns : tie.Need-returns
 returns c = search (needs, joins)
+
+shared-slice-read-hangs-at : tie.Need-shared-slice-read-hangs-at
+shared-slice-read-hangs-at c = search needs
+
+hangs-at-requires : tie.Need-hangs-at-requires
+hangs-at-requires c κs = search needs
 
 returns-2 : tie.Need-returns-2
 returns-2 c = search (needs, joins)
 
-shared-slice-read-if3 : tie.Need-shared-slice-read-if3
-shared-slice-read-if3 c = search needs
-
 returns-3 : tie.Need-returns-3
 returns-3 c = search (needs, joins)
 
-shared-slice-read-result : tie.Need-shared-slice-read-result
-shared-slice-read-result c = search needs
+is-root-requires : tie.Need-is-root-requires
+is-root-requires c κs = search needs
 
 returns-4 : tie.Need-returns-4
 returns-4 c = search (needs, joins)
@@ -28,10 +28,10 @@ pub is-spoilt-spec : {M : Type 1} → statement M
 is-spoilt-spec =
     tie.close
     (tie.spec
-    is-root-requires
     returns
+    shared-slice-read-hangs-at
+    hangs-at-requires
     returns-2
-    shared-slice-read-if3
     returns-3
-    shared-slice-read-result
+    is-root-requires
     returns-4)
