@@ -1,8 +1,7 @@
 -- Document 01's table of cases, the rows marked P: what the definitions give at each. proofs/Holds.antt proves the whole table.
 use mathlib.Core.Path.{_≡_}
-use mathlib.Core.Bool.{Bool, true, false}
+use mathlib.Core.Bool.{true, false}
 use mathlib.Core.List.{List, [], _∷_}
-use Prim.Native.Nat.{ℕ}
 use Prim.Native.String.{String}
 use Rattle.text.specs.Text.{bytes}
 use Rattle.path.specs.declared.Refusal.the-variants.{NoPath}

@@ -67,10 +67,11 @@ module _ (ok : Pair → Bool) where
   pub fromParts-keeps : (l : List Pair) (mark : Bool) → all ok l ≡ true → all ok ((fromParts l mark) .pairs) ≡ true
   fromParts-keeps l mark = fewer-pass l ((fromParts l mark) .pairs) (fromParts-weight (λ x. cond (ok x) 0 1) l mark)
 
+  -- and so does every pair of a map that leaves out a source
   pub droppingSource-keeps : (m : Map) (s : Text) → all ok (m .pairs) ≡ true → all ok ((droppingSource m s) .pairs) ≡ true
   droppingSource-keeps m s = fewer-pass (m .pairs) ((droppingSource m s) .pairs) (droppingSource-weight (λ x. cond (ok x) 0 1) m s)
 
--- of ends: each map made of ends has only ends
+-- both ends of a pair are ends
 abbrev areEnds : Pair → Bool
 areEnds x = isEnd (x .source) && isEnd (x .target)
 
@@ -79,24 +80,30 @@ unfolding allEnds all
 ends-all [] = refl
 ends-all (x ∷ l) = ap (λ (b : Bool). areEnds x && b) (ends-all l)
 
+-- a map made of ends has only ends: with a mark, ..
 pub fromParts-ends : (l : List Pair) (mark : Bool) → allEnds l ≡ true → allEnds ((fromParts l mark) .pairs) ≡ true
 fromParts-ends l mark e = ends-all ((fromParts l mark) .pairs) ∙ fromParts-keeps areEnds l mark (sym (ends-all l) ∙ e)
 
+-- .. with the mark that its pairs bring, ..
 pub new-ends : (l : List Pair) → allEnds l ≡ true → allEnds ((new l) .pairs) ≡ true
 unfolding new
 new-ends l = fromParts-ends l false
 
+-- .. of one pair, ..
 pub fromPair-ends : (x : Pair) → allEnds (x ∷ []) ≡ true → allEnds ((fromPair x) .pairs) ≡ true
 unfolding fromPair
 fromPair-ends x e = e
 
+-- .. of one pair beside the mark, ..
 pub fromPairIdentity-ends : (x : Pair) → allEnds (x ∷ []) ≡ true → allEnds ((fromPairIdentity x) .pairs) ≡ true
 unfolding fromPairIdentity
 fromPairIdentity-ends x = fromParts-ends (x ∷ []) true
 
+-- .. without a source, ..
 pub droppingSource-ends : (m : Map) (s : Text) → allEnds (m .pairs) ≡ true → allEnds ((droppingSource m s) .pairs) ≡ true
 droppingSource-ends m s e = ends-all ((droppingSource m s) .pairs) ∙ droppingSource-keeps areEnds m s (sym (ends-all (m .pairs)) ∙ e)
 
+-- .. with the mark put to it, ..
 pub withRootIdentity-ends : (m : Map) → allEnds (m .pairs) ≡ true → allEnds ((withRootIdentity m) .pairs) ≡ true
 unfolding withRootIdentity
 withRootIdentity-ends m e = e
@@ -109,11 +116,12 @@ exchanged-ends (x ∷ l) e =
     let t : isEnd (x .target) ≡ true = search (and-l, and-r) in
     rw (s, t) (exchanged-ends l (search (and-l, and-r)))
 
+-- .. with its ends exchanged
 pub inverse-ends : (m : Map) → allEnds (m .pairs) ≡ true → allEnds ((inverse m) .pairs) ≡ true
 unfolding inverse
 inverse-ends m e = fromParts-ends (map (λ (x : Pair). exchanged x) (m .pairs)) (m .mark) (exchanged-ends (m .pairs) e)
 
--- of empty sources: none is added
+-- the source of a pair is not empty
 abbrev isFull : Pair → Bool
 isFull x = not (isNil (x .source))
 
@@ -122,13 +130,15 @@ unfolding noEmptySource all
 full-all [] = refl
 full-all (x ∷ l) = ap (λ (b : Bool). isFull x && b) (full-all l)
 
+-- a map made of pairs with no empty source has none ..
 pub fromParts-full : (l : List Pair) (mark : Bool) → noEmptySource l ≡ true → noEmptySource ((fromParts l mark) .pairs) ≡ true
 fromParts-full l mark e = full-all ((fromParts l mark) .pairs) ∙ fromParts-keeps isFull l mark (sym (full-all l) ∙ e)
 
+-- .. and so has what `new` makes
 pub new-full : (l : List Pair) → noEmptySource l ≡ true → noEmptySource ((new l) .pairs) ≡ true
 unfolding new
 new-full l = fromParts-full l false
 
--- of their number: it does not grow
+-- a map made of pairs has no more than they are
 pub fromParts-length : (l : List Pair) (mark : Bool) → length ((fromParts l mark) .pairs) ≤ length l
 fromParts-length l mark = omega (arith, fromParts-weight (λ x. 1) l mark, weight-length l, weight-length ((fromParts l mark) .pairs))

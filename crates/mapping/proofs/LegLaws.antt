@@ -81,18 +81,19 @@ module _ (m : Map) (p q : Text) (em : allEnds (m .pairs) ≡ true) (lp : legal p
       let r = out-rel i f e in
       rw (← (eqb-true i j s), by-target m (source m) (target m) p q i e) ((back (swap r) (et i) (es i)) .1, still-lacks r (et i) fp)
 
-  module _ (full : noEmptySource (m .pairs) ≡ true) where
-    -- the pair by which q goes home relates them too, and serves p on its way out
-    home-rel : (j : ℕ) → lacks 123 q ≡ true → Best (serves q) (target m) (size m) j → by m (target m) (source m) q (some j) ≡ some p
-        → Rel (source m j) (target m j) p q
-    home-rel j fq g h = swap (by-rel m (target m) (source m) q p (size m) j et es lq fq g h lp)
+  -- the pair by which q goes home relates them too ..
+  home-rel : (j : ℕ) → lacks 123 q ≡ true → Best (serves q) (target m) (size m) j → by m (target m) (source m) q (some j) ≡ some p
+      → Rel (source m j) (target m j) p q
+  home-rel j fq g h = swap (by-rel m (target m) (source m) q p (size m) j et es lq fq g h lp)
 
+  module _ (full : noEmptySource (m .pairs) ≡ true) where
+    -- .. and where no source is empty it serves p on its way out ..
     home-serves : (j : ℕ) → lacks 123 q ≡ true → Best (serves q) (target m) (size m) j → by m (target m) (source m) q (some j) ≡ some p
         → serves p (source m j) ≡ true
     home-serves j fq g h =
         prefix-serves p (source m j) (full-source (m .pairs) full j (g .in-range)) ((back (home-rel j fq g h) (es j) (et j)) .0)
 
-    -- so the two are one pair
+    -- .. so the two are one pair
     leg-same : (o o′ : Option ℕ) → Says (serves p) (source m) (size m) o → Says (serves q) (target m) (size m) o′
         → by m (source m) (target m) p o ≡ some q → by m (target m) (source m) q o′ ≡ some p → same o o′ ≡ true
     unfolding Says

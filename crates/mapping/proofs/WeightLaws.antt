@@ -1,8 +1,8 @@
 -- A map made from pairs weighs no more than they, whatever each pair weighs: nothing is added to them. Assumes nothing.
-use mathlib.Core.Path.{_≡_, refl, sym, ap, _∙_}
+use mathlib.Core.Path.{_≡_, refl, ap, _∙_}
 use mathlib.Core.Bool.{Bool, true, false, cond, _&&_, _||_}
 use mathlib.Core.List.{List, [], _∷_, _++_, map}
-use Prim.Native.Nat.{ℕ, suc, _+_, _≤_}
+use Prim.Native.Nat.{ℕ, _+_, _≤_}
 use native.Mathlib.Omega.{arith}
 use lib.Dec.{leb}
 use lib.ListN.{length}
@@ -88,7 +88,7 @@ module _ (w : Pair → ℕ) where
       let ih = withoutSource-weight s l in
       either (equal (x .source) s) (withoutSource s l) (x ∷ withoutSource s l) (w x + weight w l) (omega arith) (omega arith)
 
-  -- and so it is with the calls that make a map from a map
+  -- nor does leaving out the pairs of a source ..
   pub droppingSource-weight : (m : Map) (s : Text) → weight w ((droppingSource m s) .pairs) ≤ weight w (m .pairs)
   unfolding droppingSource
   droppingSource-weight m s = go (hasSource (m .pairs) s)
@@ -97,6 +97,7 @@ module _ (w : Pair → ℕ) where
       go true = omega (arith, fromParts-weight (withoutSource s (m .pairs)) (m .mark), withoutSource-weight s (m .pairs))
       go false = omega arith
 
+  -- .. nor exchanging the ends
   pub inverse-weight : (m : Map) → weight w ((inverse m) .pairs) ≤ weight (λ x. w (exchanged x)) (m .pairs)
   unfolding inverse
   inverse-weight m =
