@@ -1,7 +1,27 @@
 -- Every row of the table holds, by computing the definitions. Assumes nothing.
 use mathlib.Core.Path.{refl}
-use Rattle.cases.specs.Table.{Table, replacing, stripping}
+use Rattle.mapping.specs.New.{new}
+use Rattle.mapping.specs.Compose.{compose}
+use Rattle.cases.specs.Table.{Table, replacing, stripping, out, back, translated}
 
 pub holds : Table
-unfolding replacing stripping
-holds = record { no-boundary = refl; from-selection = refl; to-selection = refl; stripped = refl }
+unfolding replacing stripping new compose out back translated
+holds = record {
+  no-boundary = refl;
+  from-selection = refl;
+  to-selection = refl;
+  stripped = refl;
+  later = refl;
+  later-translated = refl;
+  dropped = refl;
+  dropped-out = refl;
+  dropped-translated = refl;
+  target-out = refl;
+  target-translated = refl;
+  empty-out = refl;
+  empty-back = refl;
+  empty-translated = refl;
+  composed = refl;
+  inner-out = refl;
+  outer-out = refl;
+}

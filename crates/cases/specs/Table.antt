@@ -1,11 +1,17 @@
 -- Document 01's table of cases, the rows marked P: what the definitions give at each. proofs/Holds.antt proves the whole table.
 use mathlib.Core.Path.{_≡_}
-use Prim.Native.Nat.{ℕ}
+use mathlib.Core.Bool.{true, false}
+use mathlib.Core.List.{List, [], _∷_}
 use Prim.Native.String.{String}
 use Rattle.text.specs.Text.{bytes}
 use Rattle.path.specs.declared.Refusal.the-variants.{NoPath}
-use Rattle.path.specs.Outcome.{Outcome, path, refused}
+use Rattle.path.specs.Outcome.{Outcome, path, refused, given}
 use Rattle.path.specs.Calls.{replacePrefixCall, stripCall}
+use Rattle.pairs.specs.Pair.{Pair}
+use Rattle.mapping.specs.Map.{Map, plainOut}
+use Rattle.mapping.specs.New.{new}
+use Rattle.mapping.specs.Compose.{compose}
+use Rattle.mapping.specs.Leg.{translate, home}
 
 -- the path, its prefix and the new prefix, with 255 bytes of lent memory
 unfoldable pub replacing : String → String → String → Outcome
@@ -16,6 +22,35 @@ unfoldable pub stripping : String → Outcome
 unfolding stripCall
 stripping p = stripCall (bytes p) 255
 
+abbrev pub pair : String → String → Pair
+pair s t = record { source = bytes s; target = bytes t }
+
+-- pairs as a map, without the mark and with it
+abbrev pub unmarked : List Pair → Map
+unmarked l = record { pairs = l; mark = false }
+
+abbrev pub marked : List Pair → Map
+marked l = record { pairs = l; mark = true }
+
+-- a path mapped plainly out, mapped plainly back, and translated
+unfoldable pub out : Map → String → Outcome
+unfolding plainOut given
+out m p = given (plainOut m (bytes p))
+
+unfoldable pub back : Map → String → Outcome
+unfolding home
+back m q = home m (bytes q)
+
+unfoldable pub translated : Map → String → Outcome
+unfolding translate
+translated m p = translate m (bytes p)
+
+abbrev pub inner : Map
+inner = unmarked (pair "/A" "/X" ∷ pair "/A/B" "/Y" ∷ [])
+
+abbrev pub outer : Map
+outer = unmarked (pair "/X/B/C" "/Z" ∷ pair "/Y" "/W" ∷ [])
+
 pub record Table : Type 0 where
   -- `/AB` by `/A`: 6
   pub no-boundary : replacing "/AB" "/A" "/C" ≡ refused NoPath
@@ -25,3 +60,21 @@ pub record Table : Type 0 where
   pub to-selection : replacing "/A/B" "/A" "/C{v=p}" ≡ path (bytes "/C{v=p}B")
   -- strip `/A{v=p}{w=q}B.c`: `/A/B.c`
   pub stripped : stripping "/A{v=p}{w=q}B.c" ≡ path (bytes "/A/B.c")
+  -- pairs `/A`→`/X`, `/A`→`/Y`: `/A/c` to `/Y/c`
+  pub later : out (unmarked (pair "/A" "/X" ∷ pair "/A" "/Y" ∷ [])) "/A/c" ≡ path (bytes "/Y/c")
+  pub later-translated : translated (unmarked (pair "/A" "/X" ∷ pair "/A" "/Y" ∷ [])) "/A/c" ≡ path (bytes "/Y/c")
+  -- `new` of `/A`→empty, `/A/B`→`/B`: second dropped; `/A/B/C`: 6
+  pub dropped : new (pair "/A" "" ∷ pair "/A/B" "/B" ∷ []) ≡ unmarked (pair "/A" "" ∷ [])
+  pub dropped-out : out (new (pair "/A" "" ∷ pair "/A/B" "/B" ∷ [])) "/A/B/C" ≡ refused NoPath
+  pub dropped-translated : translated (new (pair "/A" "" ∷ pair "/A/B" "/B" ∷ [])) "/A/B/C" ≡ refused NoPath
+  -- mark and `/A`→`/X`: `/X/y` maps plainly to itself; translated: 6
+  pub target-out : out (marked (pair "/A" "/X" ∷ [])) "/X/y" ≡ path (bytes "/X/y")
+  pub target-translated : translated (marked (pair "/A" "/X" ∷ [])) "/X/y" ≡ refused NoPath
+  -- mark and empty→`/`: `/A` maps plainly out and back to itself; translated: 6
+  pub empty-out : out (marked (pair "" "/" ∷ [])) "/A" ≡ path (bytes "/A")
+  pub empty-back : back (marked (pair "" "/" ∷ [])) "/A" ≡ path (bytes "/A")
+  pub empty-translated : translated (marked (pair "" "/" ∷ [])) "/A" ≡ refused NoPath
+  -- inner `/A`→`/X`, `/A/B`→`/Y`, outer `/X/B/C`→`/Z`, `/Y`→`/W`: composed takes `/A/B/C` to `/Z`; one after the other gives `/W/C`
+  pub composed : out (compose outer inner) "/A/B/C" ≡ path (bytes "/Z")
+  pub inner-out : out inner "/A/B/C" ≡ path (bytes "/Y/C")
+  pub outer-out : out outer "/Y/C" ≡ path (bytes "/W/C")

@@ -2,3 +2,4 @@ pub mod Map
 pub mod New
 pub mod Compose
 pub mod Derive
+pub mod Leg

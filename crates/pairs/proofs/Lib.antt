@@ -1,2 +1,3 @@
 mod PlaceWays
 mod BestWays
+pub mod BestLaws

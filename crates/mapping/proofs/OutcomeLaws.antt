@@ -1,0 +1,32 @@
+-- What an outcome that is a path says, and what is one. Assumes nothing.
+use mathlib.Core.Path.{_≡_, refl, ap}
+use mathlib.Core.Bool.{Bool, true, false, cond}
+use mathlib.Core.Option.{Option, none, some}
+use Prim.Native.Nat.{ℕ}
+use native.Mathlib.Omega.{arith}
+use Rattle.text.specs.Text.{Text}
+use Rattle.grammar.specs.Legal.{legal, fits}
+use Rattle.path.specs.declared.Refusal.{Refusal}
+use Rattle.path.specs.declared.Refusal.the-variants.{MadeTooLong, MadeIllegal}
+use Rattle.path.specs.Outcome.{path, refused, given}
+
+-- a refusal is no path
+pub no-path : {x : Refusal} {q : Text} → refused x ≡ path q → ⊥
+no-path {x} {q} e = let z : _≡_ {A = ℕ} 0 1 = cc in omega arith
+
+-- where a path comes out, the definition gave it, it is short and legal
+pub given-path : (o : Option Text) (q : Text) → given o ≡ path q → (o ≡ some q) × (fits q ≡ true) × (legal q ≡ true)
+unfolding given
+given-path none q e = absurd (no-path e)
+given-path (some r) q e = go (fits r) refl (legal r) refl e
+  where
+    go : (a : Bool) → fits r ≡ a → (b : Bool) → legal r ≡ b → cond a (cond b (path r) (refused MadeIllegal)) (refused MadeTooLong) ≡ path q
+        → (some r ≡ some q) × (fits q ≡ true) × (legal q ≡ true)
+    go true h true k e = let z : r ≡ q = cc in (ap some z, rw z at h, rw z at k)
+    go true h false k e = absurd (no-path e)
+    go false h b k e = absurd (no-path e)
+
+-- a short and legal path that the definition gives comes out
+pub path-given : (q : Text) → fits q ≡ true → legal q ≡ true → given (some q) ≡ path q
+unfolding given
+path-given q h k = rw (h, k)

@@ -1,0 +1,63 @@
+-- What the chosen key is: of those that pass the test one with most elements, and the last such. Assumes nothing.
+use mathlib.Core.Path.{_≡_, refl, sym, _∙_}
+use mathlib.Core.Bool.{Bool, true, false, cond, _&&_, false≢true}
+use mathlib.Core.Option.{Option, none, some}
+use Prim.Native.Nat.{ℕ, zero, suc, _≤_, _<_}
+use native.Mathlib.Omega.{arith}
+use native.Mathlib.Decide.{ℕ-discrete}
+use lib.Dec.{leb}
+use borrow.Author.Tests.{leb-true, leb-false}
+use Rattle.text.specs.Text.{Text}
+use Rattle.prefix.specs.Elements.{elements}
+use Rattle.pairs.specs.Best.{better, bestBy, serves, best}
+
+-- the key at i is the best of the first n: it passes, none that passes has more elements, and none with as many stands later
+pub record Best (passes : Text → Bool) (key : ℕ → Text) (n i : ℕ) : Type 0 where
+  pub in-range : i < n
+  pub does-pass : passes (key i) ≡ true
+  pub most : (k : ℕ) → k < n → passes (key k) ≡ true → elements (key k) ≤ elements (key i)
+  pub last : (k : ℕ) → k < n → passes (key k) ≡ true → elements (key i) ≤ elements (key k) → k ≤ i
+
+-- what an answer says of the first n keys: none passes, or the one named is the best
+unfoldable pub Says : (Text → Bool) → (ℕ → Text) → ℕ → Option ℕ → Type 0
+Says passes key n none = (k : ℕ) → k < n → passes (key k) ≡ true → ⊥
+Says passes key n (some i) = Best passes key n i
+
+up-to : (P : ℕ → Type 0) (n : ℕ) → ((k : ℕ) → k < n → P k) → P n → (k : ℕ) → k < suc n → P k
+up-to P n f z k h = elim (ℕ-discrete k n) [ yes e ↦ rw e z | no d ↦ f k (omega arith) ]
+
+-- the answer of `bestBy` is true
+pub says : (passes : Text → Bool) (key : ℕ → Text) (n : ℕ) → Says passes key n (bestBy passes key n)
+unfolding Says bestBy
+says passes key zero = λ k h s. omega arith
+says passes key (suc n) = go (bestBy passes key n) (says passes key n) (passes (key n)) refl
+  where
+    AtMost : ℕ → ℕ → Type 0
+    AtMost i k = passes (key k) ≡ true → elements (key k) ≤ elements (key i)
+
+    stays : (i : ℕ) → Best passes key n i → (passes (key n) ≡ true → elements (key n) < elements (key i)) → Best passes key (suc n) i
+    stays i f less = record {
+      in-range = omega arith;
+      does-pass = f .does-pass;
+      most = up-to (AtMost i) n (f .most) (λ s. omega (arith, less s));
+      last = up-to (λ k. passes (key k) ≡ true → elements (key i) ≤ elements (key k) → k ≤ i) n (f .last) (λ s l. omega (arith, less s));
+    }
+
+    comes : passes (key n) ≡ true → ((k : ℕ) → k < n → AtMost n k) → Best passes key (suc n) n
+    comes h f = record { in-range = omega arith; does-pass = h; most = up-to (AtMost n) n f (λ s. omega arith); last = λ k l s m. omega arith }
+
+    compared : (i : ℕ) → Best passes key n i → passes (key n) ≡ true → (c : Bool) → leb (elements (key i)) (elements (key n)) ≡ c
+        → Says passes key (suc n) (cond c (some n) (some i))
+    compared i f h true c = comes h (λ k l s. omega (arith, f .most k l s, leb-true))
+    compared i f h false c = stays i f (λ s. leb-false _ _ c)
+
+    go : (o : Option ℕ) → Says passes key n o → (b : Bool) → passes (key n) ≡ b → Says passes key (suc n) (cond (b && better key o n) (some n) o)
+    go none f true h = comes h (λ k l s. absurd (f k l s))
+    go none f false h = up-to (λ k. passes (key k) ≡ true → ⊥) n f (λ s. false≢true (sym h ∙ s))
+    go (some i) f true h = compared i f h (leb (elements (key i)) (elements (key n))) refl
+    go (some i) f false h = stays i f (λ s. absurd (false≢true (sym h ∙ s)))
+
+-- and so is that of `best`, of the keys that serve the path
+pub best-says : (p : Text) (key : ℕ → Text) (n : ℕ) → Says (serves p) key n (best p key n)
+unfolding best
+best-says p key n = says (serves p) key n
