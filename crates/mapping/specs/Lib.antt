@@ -3,3 +3,4 @@ pub mod New
 pub mod Compose
 pub mod Derive
 pub mod Leg
+pub mod Quick

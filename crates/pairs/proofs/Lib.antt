@@ -1,3 +1,4 @@
 mod PlaceWays
 mod BestWays
 pub mod BestLaws
+pub mod PlaceLaws

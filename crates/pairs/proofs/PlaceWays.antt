@@ -7,19 +7,14 @@ use native.Mathlib.Numerals.{add-one}
 use native.Mathlib.Omega.{arith}
 use native.Mathlib.Decide.{ℕ-discrete}
 use lib.Dec.{leb}
-use lib.ListN.{length, getD, take, drop}
+use lib.ListN.{length, getD, take, drop, List·getD-eq-default}
 use borrow.Author.Tests.{le-leb, lt-leb}
 use Rattle.text.specs.Text.{Text}
 use Rattle.text.proofs.BoolLaws.{and-no, told, told-false, told-true}
 use Rattle.pairs.specs.Places.{inside, textAt, keyAt, fitsAt, placesFit, placesAll}
 
-past : (l : List ℕ) (k : ℕ) → length l ≤ k → getD l k 0 ≡ 0
-past [] k h = refl
-past (x ∷ l) zero h = absurd (omega arith)
-past (x ∷ l) (suc k) h = past l k (omega arith)
-
 no-length : (places : List ℕ) (j : ℕ) → length places / 2 ≤ j → getD places (2 * j + 1) 0 ≡ 0
-no-length places j h = past places (2 * j + 1) (omega arith)
+no-length places j h = List·getD-eq-default places 0 (omega arith)
 
 -- an empty part, whichever way the test goes
 either : (b : Bool) (s : Text) → [] ≡ cond b (take 0 s) []

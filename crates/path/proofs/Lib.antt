@@ -1,5 +1,5 @@
 mod Opened
 mod AskWays
-mod CallWays
+pub mod CallWays
 mod MakeWays
 mod PartWays

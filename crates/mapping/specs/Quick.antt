@@ -1,0 +1,40 @@
+-- Plain mapping and translation as the code does them, on any bytes: question 8 is answered by the rule of `spoils`, without reading the
+-- joined path again. For ends and a legal path of at most 255 bytes this is what the questions ask (proofs/QuickLaws.antt).
+use Prim.Native.Nat.{ℕ}
+use mathlib.Core.Bool.{Bool, true, false, cond}
+use mathlib.Core.List.{List}
+use mathlib.Core.Option.{Option, none, some}
+use lib.ListN.{length, drop}
+use Rattle.text.specs.Text.{Text, isNil}
+use Rattle.grammar.specs.Legal.{fits}
+use Rattle.prefix.specs.Join.{joined, spoils}
+use Rattle.pairs.specs.Places.{placed}
+use Rattle.path.specs.declared.Refusal.the-variants.{NoPath, MadeTooLong, MadeIllegal}
+use Rattle.path.specs.Outcome.{Outcome, path, refused}
+use Rattle.mapping.specs.Map.{Map, source, target, chosenOut, chosenHome}
+
+-- the map in lent memory: the first n pairs, and the mark
+abbrev pub lentMap : Text → List ℕ → ℕ → Bool → Map
+lentMap store places n mark = record { pairs = placed store places n; mark = mark }
+
+-- the rest r behind t, which stood behind s: 8, then 7
+unfoldable pub joining : Text → Text → Text → Outcome
+unfolding spoils joined fits
+joining s t r = cond (spoils t r) (refused MadeIllegal) (cond (fits (joined s t r)) (path (joined s t r)) (refused MadeTooLong))
+
+-- the path itself, where the mark returns it
+unfoldable pub keeping : Bool → Text → Outcome
+unfolding fits
+keeping mark p = cond mark (cond (fits p) (path p) (refused MadeTooLong)) (refused NoPath)
+
+-- by the pair that was chosen, from the ends a to the ends b; t are the targets
+unfoldable pub quickBy : Bool → (ℕ → Text) → (ℕ → Text) → (ℕ → Text) → Text → Option ℕ → Outcome
+unfolding joining keeping
+quickBy mark a b t p none = keeping mark p
+quickBy mark a b t p (some i) = cond (isNil (t i)) (refused NoPath) (joining (a i) (b i) (drop (length (a i)) p))
+
+-- forward, and backwards where `invert` is set
+unfoldable pub quick : Bool → Map → Text → Outcome
+unfolding quickBy chosenOut chosenHome
+quick false m p = quickBy (m .mark) (source m) (target m) (target m) p (chosenOut m p)
+quick true m p = quickBy (m .mark) (target m) (source m) (target m) p (chosenHome m p)
