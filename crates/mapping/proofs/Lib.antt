@@ -4,3 +4,4 @@ pub mod OutcomeLaws
 pub mod LegLaws
 pub mod Sharp
 mod MapWays
+pub mod QuickLaws

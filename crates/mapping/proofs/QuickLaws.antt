@@ -1,0 +1,121 @@
+-- For ends and a legal path of at most 255 bytes the quick answers are those that the questions ask. Assumes nothing.
+use mathlib.Core.Path.{_≡_, refl, sym, ap, _∙_}
+use mathlib.Core.Bool.{Bool, true, false, not, cond, _&&_, _||_, true≢false, false≢true}
+use mathlib.Core.List.{List, [], _∷_, _++_}
+use mathlib.Core.Option.{Option, none, some}
+use Prim.Native.Nat.{ℕ, _+_, _≤_, _<_}
+use native.Mathlib.Omega.{arith}
+use lib.Dec.{eqb, leb}
+use lib.ListN.{length, drop, length-append}
+use borrow.Author.Tests.{le-leb, leb-true, eqb-true}
+use Rattle.text.specs.Text.{Text, isNil, lastIs}
+use Rattle.text.proofs.BoolLaws.{and-l, and-r, and-no, not-true}
+use Rattle.grammar.specs.Legal.{isIdentifierStart, isIdentifierCont, isRoot, legal, fits, isEnd}
+use Rattle.prefix.specs.Prefix.{hasPrefix, follows}
+use Rattle.prefix.specs.Join.{isChild, bare, slashUnless, separator, body, joined, replacePrefix, hangs, spoils}
+use Rattle.prefix.proofs.PrefixLaws.{prefix-rest, replace-prefix}
+use Rattle.prefix.proofs.JoinLegal.{joined-legal}
+use Rattle.pairs.specs.Pair.{Pair, allEnds}
+use Rattle.pairs.specs.Best.{best, serves}
+use Rattle.pairs.proofs.PlaceLaws.{chosen-best}
+use Rattle.path.specs.declared.Refusal.the-variants.{NoPath, MadeTooLong, MadeIllegal}
+use Rattle.path.specs.Outcome.{Outcome, path, refused, made, given}
+use Rattle.mapping.specs.Map.{Map, source, target, size, chosenOut, chosenHome, by, plainOut, plainHome}
+use Rattle.mapping.specs.Quick.{joining, keeping, quickBy, quick}
+use Rattle.mapping.proofs.EndLaws.{ends-source, ends-target}
+
+-- a join that is spoilt is no longer than the path: nothing but `/` stands before the rest
+hang-child : (s : Text) (a : ℕ) → (eqb a 46 || eqb a 123) ≡ true → isChild s a ≡ false
+unfolding isChild isIdentifierCont isIdentifierStart
+hang-child s a h = go (eqb a 46) refl (eqb a 123) refl h
+  where
+    go : (b : Bool) → eqb a 46 ≡ b → (c : Bool) → eqb a 123 ≡ c → (b || c) ≡ true → isChild s a ≡ false
+    go true e c f g = rw (eqb-true a 46 e) (and-no (lastIs 125 s))
+    go false e true f g = rw (eqb-true a 123 f) (and-no (lastIs 125 s))
+    go false e false f g = absurd (false≢true g)
+
+unslashed : (b : Bool) (a : ℕ) (r : Text) → length (cond b r (a ∷ r)) ≤ 1 + length r
+unslashed true a r = omega arith
+unslashed false a r = omega arith
+
+root-length : (t : Text) → (isNil t || isRoot t) ≡ true → length t + length (slashUnless (isRoot t)) ≡ 1
+root-length [] h = refl
+root-length (a ∷ []) h = rw h
+root-length (a ∷ b ∷ t) h = absurd (false≢true (sym (and-no (eqb a 47)) ∙ h))
+
+spoilt-short : (s t r : Text) → isNil s ≡ false → spoils t r ≡ true → length (joined s t r) ≤ length s + length r
+unfolding joined separator body spoils
+spoilt-short s t [] n h = absurd (false≢true (sym (and-no (isNil t || isRoot t)) ∙ h))
+spoilt-short [] t (a ∷ r) n h = absurd (true≢false n)
+spoilt-short (c ∷ s) t (a ∷ r) n h = go (isRoot (c ∷ s)) refl
+  where
+    one : length t + length (slashUnless (isRoot t)) ≡ 1
+    one = root-length t (and-l (isNil t || isRoot t) (hangs (a ∷ r)) h)
+
+    hang : (eqb a 46 || eqb a 123) ≡ true
+    hang = and-r (isNil t || isRoot t) (hangs (a ∷ r)) h
+
+    go : (b : Bool) → isRoot (c ∷ s) ≡ b → length (joined (c ∷ s) t (a ∷ r)) ≤ length (c ∷ s) + length (a ∷ r)
+    go true e = rw e (simp length-append (omega (arith, one)))
+    go false e = rw (e, hang-child (c ∷ s) a hang, length-append t (cond (eqb a 47) r (a ∷ r))) (omega (arith, one, unslashed (eqb a 47) a r))
+
+short-fits : (q : Text) → length q ≤ 255 → fits q ≡ true
+unfolding fits
+short-fits q h = le-leb (length q) 255 h
+
+-- the join of ends that the code makes, with questions 7 and 8 as they are asked
+joining-made : (s t p : Text) → isEnd s ≡ true → isNil s ≡ false → isEnd t ≡ true → legal p ≡ true → length p ≤ 255 → hasPrefix p s ≡ true
+    → joining s t (drop (length s) p) ≡ made (joined s t (drop (length s) p))
+unfolding joining made
+joining-made s t p es ns et lp sp h = go (spoils t r) refl
+  where
+    r : Text
+    r = drop (length s) p
+
+    whole : p ≡ s ++ r
+    whole = (prefix-rest p s h) .0
+
+    legal-is : legal (joined s t r) ≡ not (spoils t r)
+    legal-is = joined-legal s t r (rw whole at lp) es ns et ((prefix-rest p s h) .1)
+
+    long : length p ≡ length s + length r
+    long = ap length whole ∙ length-append s r
+
+    go : (b : Bool) → spoils t r ≡ b → joining s t r ≡ made (joined s t r)
+    go true e =
+        let f : fits (joined s t r) ≡ true = short-fits (joined s t r) (omega (arith, long, spoilt-short s t r ns e)) in
+        rw (legal-is, e, f)
+    go false e = rw (legal-is, e)
+
+served : (p : Text) (key : ℕ → Text) (n i : ℕ) → best p key n ≡ some i → (isNil (key i) ≡ false) × (hasPrefix p (key i) ≡ true)
+unfolding best serves
+served p key n i e =
+    let h : (not (isNil (key i)) && hasPrefix p (key i)) ≡ true = (chosen-best (serves p) key n i e) .does-pass in
+    (not-true (isNil (key i)) (and-l (not (isNil (key i))) (hasPrefix p (key i)) h), and-r (not (isNil (key i))) (hasPrefix p (key i)) h)
+
+module _ (m : Map) (a b : ℕ → Text) (p : Text) (ea : (i : ℕ) → isEnd (a i) ≡ true) (eb : (i : ℕ) → isEnd (b i) ≡ true) (lp : legal p ≡ true) (sp : length p ≤ 255) where
+  kept : (mark : Bool) → keeping mark p ≡ given (cond mark (some p) none)
+  unfolding keeping given made
+  kept true = rw (short-fits p sp, lp)
+  kept false = refl
+
+  carried : (i : ℕ) (c : Bool) → isNil (a i) ≡ false → hasPrefix p (a i) ≡ true
+      → cond c (refused NoPath) (joining (a i) (b i) (drop (length (a i)) p)) ≡ given (cond c none (replacePrefix p (a i) (b i)))
+  unfolding given
+  carried i true n h = refl
+  carried i false n h = joining-made (a i) (b i) p (ea i) n (eb i) lp sp h ∙ ap given (sym (replace-prefix p (a i) (b i) h))
+
+  quick-given : (n : ℕ) (o : Option ℕ) → best p a n ≡ o → quickBy (m .mark) a b (target m) p o ≡ given (by m a b p o)
+  unfolding quickBy
+  quick-given n none e = kept (m .mark)
+  quick-given n (some i) e = let w = served p a n i e in carried i (isNil (target m i)) (w .0) (w .1)
+
+-- the quick answers are the questions' answers
+module _ (m : Map) (p : Text) (em : allEnds (m .pairs) ≡ true) (lp : legal p ≡ true) (sp : length p ≤ 255) where
+  pub quick-out : quick false m p ≡ given (plainOut m p)
+  unfolding quick plainOut chosenOut
+  quick-out = quick-given m (source m) (target m) p (ends-source (m .pairs) em) (ends-target (m .pairs) em) lp sp (size m) (chosenOut m p) refl
+
+  pub quick-home : quick true m p ≡ given (plainHome m p)
+  unfolding quick plainHome chosenHome
+  quick-home = quick-given m (target m) (source m) p (ends-target (m .pairs) em) (ends-source (m .pairs) em) lp sp (size m) (chosenHome m p) refl
