@@ -11,26 +11,26 @@ use lib.Ieee.Compare.{differs-from-itself}
 use lib.Ieee.Fits.{up-pos, down-pos}
 use lib.Ieee.Scale.{round-same}
 use borrow.Author.Tests.{ltb-false, lt-ltb, le-ltb}
-use Rattle.layer_offset.specs.Number.{zero, tolerance, isFinite, magnitude, isSmall, pattern}
+use Rattle.layer_offset.specs.Number.{plusZero, tolerance, isFinite, magnitude, isSmall, pattern}
 
 -- a fraction that is zero rounds to zero
 pub round-zero : (s : Bool) (c : ℕ) → 0 < c → round binary64 s 0 c ≡ round binary64 s 0 1
 round-zero s c h = round-same binary64 s 0 c 0 1 h (omega arith) (omega arith)
 
 -- a number less itself is +0
-difference : (s : Bool) (a c : ℕ) → 0 < c → sum binary64 s a (not s) a c ≡ zero
+difference : (s : Bool) (a c : ℕ) → 0 < c → sum binary64 s a (not s) a c ≡ plusZero
 unfolding sum round
 difference true a c h = rw (le-ltb a a (omega arith), sub-self a) (round-zero false c h)
 difference false a c h = rw (le-ltb a a (omega arith), sub-self a) (round-zero false c h)
 
 -- `is_finite`
-pub less-itself : (x : Float) → eq (sub binary64 x x) zero ≡ isFinite x
+pub less-itself : (x : Float) → eq (sub binary64 x x) plusZero ≡ isFinite x
 unfolding eq sub add neg
 less-itself nan = refl
 less-itself (inf true) = refl
 less-itself (inf false) = refl
 less-itself (fin s m e) =
-    ap (λ (y : Float). eq y zero) (difference s (m * up e * down e) (down e * down e) (mul-pos (down-pos e) (down-pos e)))
+    ap (λ (y : Float). eq y plusZero) (difference s (m * up e * down e) (down e * down e) (mul-pos (down-pos e) (down-pos e)))
 
 -- `is_small`: between minus a bound above zero and the bound
 module _ (n : ℕ) (d : ℤ) (h : 0 < n) where

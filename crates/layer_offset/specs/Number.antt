@@ -5,8 +5,8 @@ use mathlib.Core.Bool.{Bool, true, false}
 use lib.IntN.{pos, negsuc}
 use lib.Ieee.{Float, nan, inf, fin, binary64, lt, toBits}
 
-abbrev pub zero : Float
-zero = fin false 0 (pos 0)
+abbrev pub plusZero : Float
+plusZero = fin false 0 (pos 0)
 
 abbrev pub one : Float
 one = fin false 1 (pos 0)

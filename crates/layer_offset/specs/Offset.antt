@@ -5,7 +5,7 @@ use lib.Dec.{eqb}
 use lib.Ieee.{Float, binary64, add, sub, mul, div, neg, eq, lt}
 use Rattle.layer_offset.specs.declared.LayerOffset.{LayerOffset}
 use Rattle.layer_offset.specs.declared.OffsetBits.{OffsetBits}
-use Rattle.layer_offset.specs.Number.{zero, one, isFinite, isSmall, pattern}
+use Rattle.layer_offset.specs.Number.{plusZero, one, isFinite, isSmall, pattern}
 
 -- "A time offset is two 64-bit floats, offset and scale."
 abbrev pub timed : Float → Float → LayerOffset
@@ -13,11 +13,11 @@ timed o s = record { offset = o; scale = s }
 
 -- (0, 1)
 abbrev pub identity : LayerOffset
-identity = timed zero one
+identity = timed plusZero one
 
 -- "Minus zero counts as offset 0 in `is_identity`." (`SdfLayerOffset::IsIdentity` has a tolerance)
 unfoldable pub isIdentity : LayerOffset → Bool
-isIdentity o = eq (o .offset) zero && eq (o .scale) one
+isIdentity o = eq (o .offset) plusZero && eq (o .scale) one
 
 -- `SdfLayerOffset::IsValid`: both numbers are finite
 unfoldable pub isValid : LayerOffset → Bool
@@ -25,7 +25,7 @@ isValid o = isFinite (o .offset) && isFinite (o .scale)
 
 -- fit for composition: valid, and the scale is above zero
 unfoldable pub isValidComposition : LayerOffset → Bool
-isValidComposition o = isValid o && lt zero (o .scale)
+isValidComposition o = isValid o && lt plusZero (o .scale)
 
 -- the offset where it is fit for composition, and the identity otherwise
 unfoldable pub sanitized : LayerOffset → LayerOffset
@@ -43,7 +43,7 @@ concatenated outer inner = timed (applied outer (inner .offset)) (mul binary64 (
 -- "`inverse` gives (0, 1) for scale 0 of either sign, else (−offset / scale, 1 / scale)." (`SdfLayerOffset::GetInverse`)
 unfoldable pub inverted : LayerOffset → LayerOffset
 inverted o =
-    cond (eq (o .scale) zero) identity
+    cond (eq (o .scale) plusZero) identity
     (timed (div binary64 (neg (o .offset)) (o .scale)) (div binary64 one (o .scale)))
 
 -- the bit patterns of both numbers

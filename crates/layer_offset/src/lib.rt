@@ -2,7 +2,7 @@
 // function is total: it asks nothing of its caller.
 ghost use mathlib.Core.Path.{_≡_};
 ghost use Rattle.layer_offset.specs.Offset.{timed, isIdentity, isValid, isValidComposition, sanitized, applied, concatenated, inverted, patterns, samePatterns, isNear, isClose};
-ghost use Rattle.layer_offset.specs.Number.{zero};
+ghost use Rattle.layer_offset.specs.Number.{plusZero};
 
 mod number;
 
@@ -38,7 +38,7 @@ impl LayerOffset {
 
     // A scale with no offset.
     pub fn scale_only(scale: f64) -> Self
-        ensures { λ r. ⌜ r ≡ timed zero scale ⌝ }
+        ensures { λ r. ⌜ r ≡ timed plusZero scale ⌝ }
     {
         Self { offset: 0.0, scale }
     }
