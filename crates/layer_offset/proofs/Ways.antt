@@ -6,6 +6,7 @@ use lib.Dec.{eqb}
 use borrow.Author.Tests.{eq-eqb, ne-eqb}
 use Rattle.layer_offset.specs.declared.LayerOffset.{LayerOffset}
 use Rattle.layer_offset.specs.declared.OffsetBits.{OffsetBits}
+use Rattle.layer_offset.specs.Number.{pattern}
 use Rattle.layer_offset.specs.Offset.{patterns, samePatterns}
 
 -- a conjunction whose first test passed, and one whose first test did not
@@ -25,7 +26,10 @@ same-left m n b h = rw (ne-eqb m n h)
 pub flipped : (a p : Bool) → p ≡ a → not p ≡ not a
 flipped a p h = rw h
 
--- the patterns of two offsets, compared
+-- the patterns of an offset, and those of two, compared
+pub patterned : (o : LayerOffset) (m n : ℕ) → m ≡ pattern (o .offset) → n ≡ pattern (o .scale) → record { 0 = m; 1 = n } ≡ patterns o
+patterned o m n h k = rw (h, k)
+
 pub compared : (a b : LayerOffset) (x y : OffsetBits) (r : Bool) → x ≡ patterns a → y ≡ patterns b → r ≡ samePatterns x y
     → r ≡ samePatterns (patterns a) (patterns b)
 compared a b x y r h k e = rw (h, k) at e
