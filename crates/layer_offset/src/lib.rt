@@ -16,6 +16,7 @@ pub struct LayerOffset {
 pub struct OffsetBits(pub u64, pub u64);
 
 impl OffsetBits {
+    // Are both patterns the same?
     fn is_same(self, other: OffsetBits) -> bool
         ensures { λ r. ⌜ r ≡ samePatterns self other ⌝ }
     {
@@ -30,6 +31,7 @@ impl LayerOffset {
         scale: 1.0,
     };
 
+    // The offset with these two numbers.
     pub fn new(offset: f64, scale: f64) -> Self
         ensures { λ r. ⌜ r ≡ timed offset scale ⌝ }
     {
@@ -43,12 +45,14 @@ impl LayerOffset {
         Self { offset: 0.0, scale }
     }
 
+    // Are both numbers finite?
     pub fn is_valid(self) -> bool
         ensures { λ r. ⌜ r ≡ isValid self ⌝ }
     {
         number::is_finite(self.offset) && number::is_finite(self.scale)
     }
 
+    // Is it (0, 1)? -0.0 equals 0.0.
     pub fn is_identity(self) -> bool
         ensures { λ r. ⌜ r ≡ isIdentity self ⌝ }
     {
@@ -66,6 +70,7 @@ impl LayerOffset {
         !other.is_valid() && self.to_bits().is_same(other.to_bits())
     }
 
+    // Are both numbers within 1e-6 of the other's?
     fn is_near(self, other: LayerOffset) -> bool
         ensures { λ r. ⌜ r ≡ isNear self other ⌝ }
     {
