@@ -4,4 +4,5 @@ pub mod OutcomeLaws
 pub mod LegLaws
 pub mod Sharp
 mod MapWays
+mod TranslateWays
 pub mod QuickLaws

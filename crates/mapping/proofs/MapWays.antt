@@ -30,11 +30,11 @@ use Rattle.mapping.specs.Map.{Map, source, target, size, chosenOut, chos
 use Rattle.mapping.specs.Quick.{lentMap, joining, keeping, quickBy, quick}
 
 -- a text's length and whether it is empty
-nil-length : (k : Text) → length k ≡ 0 → isNil k ≡ true
+pub nil-length : (k : Text) → length k ≡ 0 → isNil k ≡ true
 nil-length [] l = refl
 nil-length (a ∷ k) l = absurd (omega arith)
 
-not-nil-length : (k : Text) → length k ≢ 0 → isNil k ≡ false
+pub not-nil-length : (k : Text) → length k ≢ 0 → isNil k ≡ false
 not-nil-length [] l = absurd (l refl)
 not-nil-length (a ∷ k) l = refl
 
@@ -113,20 +113,28 @@ module _ (store : Text) (places : List ℕ) (n : ℕ) (mark : Bool) (p : Text) w
   unfolding best
   chosen-by l k same = rw (placed-length store places n) (best-same (serves p) l k n same)
 
-  ends-by : (invert : Bool) (i : ℕ) → best p (key invert) n ≡ some i → (source lent i ≡ key false i) × (target lent i ≡ key true i)
+  pub out-keys : chosenOut lent p ≡ best p (key false) n
+  unfolding chosenOut
+  out-keys = chosen-by (source lent) (key false) (placed-source store places n)
+
+  pub home-keys : chosenHome lent p ≡ best p (key true) n
+  unfolding chosenHome
+  home-keys = chosen-by (target lent) (key true) (placed-target store places n)
+
+  pub ends-by : (invert : Bool) (i : ℕ) → best p (key invert) n ≡ some i → (source lent i ≡ key false i) × (target lent i ≡ key true i)
   unfolding best
   ends-by invert i e =
       let h : i < n = (chosen-best (serves p) (key invert) n i e) .in-range in
       (placed-source store places n i h, placed-target store places n i h)
 
   quick-by : (invert : Bool) → quick invert lent p ≡ quickBy mark (key invert) (key (not invert)) (key true) p (best p (key invert) n)
-  unfolding quick chosenOut chosenHome
+  unfolding quick
   quick-by false =
-      ap (quickBy mark (source lent) (target lent) (target lent) p) (chosen-by (source lent) (key false) (placed-source store places n))
+      ap (quickBy mark (source lent) (target lent) (target lent) p) out-keys
       ∙ by-same mark p (source lent) (key false) (target lent) (key true) (target lent) (key true) (best p (key false) n)
       (λ i e. let z = ends-by false i e in (z .0, z .1, z .1))
   quick-by true =
-      ap (quickBy mark (target lent) (source lent) (target lent) p) (chosen-by (target lent) (key true) (placed-target store places n))
+      ap (quickBy mark (target lent) (source lent) (target lent) p) home-keys
       ∙ by-same mark p (target lent) (key true) (source lent) (key false) (target lent) (key true) (best p (key true) n)
       (λ i e. let z = ends-by true i e in (z .1, z .0, z .1))
 

@@ -4,13 +4,13 @@ use mathlib.Core.Bool.{Bool, true, false, not, cond}
 use mathlib.Core.List.{List, [], _∷_}
 use Prim.Native.Nat.{ℕ, _≤_, _<_}
 use native.Mathlib.Omega.{arith}
-use lib.ListN.{length, take, length-take}
+use lib.ListN.{length, take}
 use borrow.Author.Tests.{le-leb, lt-leb}
 use Rattle.text.specs.Text.{Text, placed, fitted}
 use Rattle.text.specs.declared.Fit.{Fit}
 use Rattle.text.specs.declared.Fit.the-variants.{Written as WrittenFit, Over}
 use Rattle.text.proofs.BoolLaws.{told-false, told-true}
-use Rattle.text.proofs.WriteLaws.{placed-first, read-back, fit-length, fit-room, fit-over}
+use Rattle.text.proofs.WriteLaws.{placed-first, fit-room, fit-over, fit-is, fit-back}
 use Rattle.grammar.specs.Legal.{legal, fits}
 use Rattle.path.specs.declared.Refusal.the-variants.{MadeTooLong, MadeIllegal}
 use Rattle.path.specs.declared.Reply.the-variants.{Written, Refused}
@@ -28,30 +28,18 @@ module _ (j buf : Text) (f : Fit) (h : f ≡ fitted j buf) (l : length buf ≡ 2
   made-over e out = rw (lt-leb (length j) 255 (omega (arith, fit-over j buf (sym h ∙ e)))) (refl, refl)
 
   module _ (n : ℕ) (e : f ≡ WrittenFit n) where
-    made-length : n ≡ length j
-    made-length = fit-length j buf n (sym h ∙ e)
-
-    made-room : n ≤ 255
-    made-room = omega (arith, made-length, fit-room j buf n (sym h ∙ e))
+    made-short : length j ≤ 255
+    made-short = omega (arith, fit-room j buf n (sym h ∙ e))
 
     module _ (mem : Text) (m : mem ≡ placed 0 j buf) where
-      made-back : take n mem ≡ j
-      made-back = rw (m, placed-first j buf (fit-room j buf n (sym h ∙ e)), made-length) (read-back j buf)
-
-      pub made-part : n ≡ length (take n mem)
-      made-part = made-length ∙ ap length (sym made-back)
-
-      pub made-inside : n ≤ length mem
-      made-inside = omega (arith, made-part, length-take n mem)
-
       pub made-illegal : (x : Bool) → x ≡ legal (take n mem) → not x ≡ true → (out : Text) → (Refused MadeIllegal ≡ reply (made j)) × (out ≡ memory (made j) out)
       unfolding reply memory made fits
       made-illegal x g k out =
-          let b : legal j ≡ false = rw made-back at (told-false g k) in
-          rw (le-leb (length j) 255 (omega (arith, made-length, made-room)), b) (refl, refl)
+          let b : legal j ≡ false = rw (fit-back j buf f h n e mem m) at (told-false g k) in
+          rw (le-leb (length j) 255 made-short, b) (refl, refl)
 
       pub made-written : (x : Bool) → x ≡ legal (take n mem) → not x ≡ false → (out out′ : Text) → 255 ≤ length out → out′ ≡ placed 0 (take n mem) out
           → (Written n ≡ reply (made j)) × (out′ ≡ memory (made j) out)
       made-written x g k out out′ r w =
-          let b : legal j ≡ true = rw made-back at (told-true g k) in
-          rw (w, made-back, made-length) (made-legal j (omega (arith, made-length, made-room)) b out r)
+          let b : legal j ≡ true = rw (fit-back j buf f h n e mem m) at (told-true g k) in
+          rw (w, fit-back j buf f h n e mem m, fit-is j buf f h n e) (made-legal j made-short b out r)

@@ -86,3 +86,18 @@ fit-over t out e = go (leb (length t) (length out)) refl
     go : (b : Bool) → leb (length t) (length out) ≡ b → length out < length t
     go true h = absurd (let z : _≡_ {A = Fit} (Written (length t)) Over = rw h at e in let y : _≡_ {A = ℕ} 0 1 = cc in omega arith)
     go false h = leb-false (length t) (length out) h
+
+-- a text that was written to memory of one's own, read back from it
+module _ (t buf : Text) (f : Fit) (h : f ≡ fitted t buf) (n : ℕ) (e : f ≡ Written n) where
+  pub fit-is : n ≡ length t
+  fit-is = fit-length t buf n (sym h ∙ e)
+
+  module _ (mem : Text) (m : mem ≡ placed 0 t buf) where
+    pub fit-back : take n mem ≡ t
+    fit-back = rw (m, placed-first t buf (fit-room t buf n (sym h ∙ e)), fit-is) (read-back t buf)
+
+    pub fit-part : n ≡ length (take n mem)
+    fit-part = fit-is ∙ ap length (sym fit-back)
+
+    pub fit-inside : n ≤ length mem
+    fit-inside = omega (arith, fit-part, length-take n mem)

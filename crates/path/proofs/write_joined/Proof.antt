@@ -1,5 +1,6 @@
 use mathlib.Core.Path.{refl}
-use Rattle.path.proofs.MakeWays.{made-over, made-inside, made-part, made-illegal, made-written}
+use Rattle.text.proofs.WriteLaws.{fit-part, fit-inside}
+use Rattle.path.proofs.MakeWays.{made-over, made-illegal, made-written}
 use borrow.Author.Needs.{needs}
 use Rattle.path.proofs.write_joined.Statement.{statement}
 use Rattle.path.proofs.write_joined.Tie as tie
@@ -20,10 +21,10 @@ returns : tie.Need-returns
 returns c = made-over _ _ _ (c .before .before .before .join .ensures .0) refl (c .enum-told .given .1) _
 
 array-share-prefix-made : tie.Need-array-share-prefix-made
-array-share-prefix-made c = made-inside _ _ _ (c .before .before .before .before .join .ensures .0) refl _ (c .before .fit .given .1) _ (c .before .before .before .before .join .ensures .1)
+array-share-prefix-made c = fit-inside _ _ _ (c .before .before .before .before .join .ensures .0) _ (c .before .fit .given .1) _ (c .before .before .before .before .join .ensures .1)
 
 slice-aggregate-is-legal : tie.Need-slice-aggregate-is-legal
-slice-aggregate-is-legal c = made-part _ _ _ (c .before .before .before .before .before .join .ensures .0) refl _ (c .before .before .fit .given .1) _ (c .before .before .before .before .before .join .ensures .1)
+slice-aggregate-is-legal c = fit-part _ _ _ (c .before .before .before .before .before .join .ensures .0) _ (c .before .before .fit .given .1) _ (c .before .before .before .before .before .join .ensures .1)
 
 is-legal-requires : tie.Need-is-legal-requires
 is-legal-requires c κs = search needs
@@ -32,10 +33,10 @@ returns-2 : tie.Need-returns-2
 returns-2 c = made-illegal _ _ _ (c .before .before .before .before .before .before .before .join .ensures .0) refl _ (c .before .before .before .before .fit .given .1) _ (c .before .before .before .before .before .before .before .join .ensures .1) _ (c .before .is-legal .ensures) (c .if1 .taken) _
 
 array-share-prefix-made-2 : tie.Need-array-share-prefix-made-2
-array-share-prefix-made-2 c = made-inside _ _ _ (c .before .before .before .before .before .before .before .join .ensures .0) refl _ (c .before .before .before .before .fit .given .1) _ (c .before .before .before .before .before .before .before .join .ensures .1)
+array-share-prefix-made-2 c = fit-inside _ _ _ (c .before .before .before .before .before .before .before .join .ensures .0) _ (c .before .before .before .before .fit .given .1) _ (c .before .before .before .before .before .before .before .join .ensures .1)
 
 slice-aggregate-write-at : tie.Need-slice-aggregate-write-at
-slice-aggregate-write-at c = made-part _ _ _ (c .before .before .before .before .before .before .before .before .join .ensures .0) refl _ (c .before .before .before .before .before .fit .given .1) _ (c .before .before .before .before .before .before .before .before .join .ensures .1)
+slice-aggregate-write-at c = fit-part _ _ _ (c .before .before .before .before .before .before .before .before .join .ensures .0) _ (c .before .before .before .before .before .fit .given .1) _ (c .before .before .before .before .before .before .before .before .join .ensures .1)
 
 write-at-requires : tie.Need-write-at-requires
 write-at-requires c κs = search needs
