@@ -1,18 +1,21 @@
 -- The list in lent memory, pair by pair. Assumes nothing.
 use mathlib.Core.Path.{_≡_, refl, sym, ap, _∙_}
-use mathlib.Core.Bool.{Bool, true, false, cond, _&&_}
+use mathlib.Core.Bool.{Bool, true, false, cond, _&&_, _||_}
 use mathlib.Core.List.{List, [], _∷_, _++_}
 use mathlib.Core.Option.{Option, none, some}
-use Prim.Native.Nat.{ℕ, zero, suc, _+_, _*_, _≤_, _<_}
+use Prim.Native.Nat.{ℕ, zero, suc, _+_, _*_, _/_, _≤_, _<_}
 use native.Mathlib.Omega.{arith}
 use native.Mathlib.Decide.{ℕ-discrete}
 use native.Mathlib.Numerals.{add-one}
 use lib.Dec.{leb}
-use lib.ListN.{length, getD, length-append, List·getD-append}
+use borrow.Author.Tests.{le-leb, leb-true}
+use lib.ListN.{length, getD, take, drop, length-append, length-take, List·getD-append, List·getD-eq-default}
 use lib.Seq.{getD-append-seam}
 use Rattle.text.specs.Text.{Text}
-use Rattle.pairs.specs.Pair.{Pair, nothing, pairAt, sourceAt, targetAt}
-use Rattle.pairs.specs.Places.{textAt, placedPair, placed, keyAt}
+use Rattle.text.proofs.BoolLaws.{and-l, and-r}
+use Rattle.grammar.specs.Legal.{fits}
+use Rattle.pairs.specs.Pair.{Pair, nothing, pairAt, sourceAt, targetAt, everyEnd}
+use Rattle.pairs.specs.Places.{startAt, lengthAt, inside, textAt, placedPair, placed, keyAt, fitsAt, placesFit, placesAll}
 use Rattle.pairs.specs.Best.{better, bestBy}
 use Rattle.pairs.proofs.BestLaws.{Best, Says, says}
 
@@ -64,3 +67,51 @@ module _ (passes : Text → Bool) (key key′ : ℕ → Text) where
   best-same (suc n) same =
       let e : bestBy passes key n ≡ bestBy passes key′ n = best-same n (λ i h. same i (omega arith)) in
       rw (e, better-same n (bestBy passes key′ n) refl same, same n (omega arith))
+
+-- what the questions say of the list, once they are asked of its places
+every-snoc : (passes : Text → Bool) (l : List Pair) (x : Pair) → everyEnd passes l ≡ true → passes (x .source) ≡ true → passes (x .target) ≡ true
+    → everyEnd passes (l ++ x ∷ []) ≡ true
+unfolding everyEnd
+every-snoc passes [] x e s t = rw (s, t)
+every-snoc passes (y ∷ l) x e s t =
+    let a : Bool = passes (y .source) && passes (y .target) in
+    rw (and-l a (everyEnd passes l) e) (every-snoc passes l x (and-r a (everyEnd passes l) e) s t)
+
+module _ (store : Text) (places : List ℕ) where
+  pub every-placed : (passes : Text → Bool) (n : ℕ) → placesAll passes store places (2 * n) ≡ true → everyEnd passes (placed store places n) ≡ true
+  unfolding placed placesAll placedPair everyEnd
+  every-placed passes zero h = refl
+  every-placed passes (suc n) h =
+      let e : 2 * suc n ≡ suc (2 * n + 1) = omega arith in
+      let g : (placesAll passes store places (2 * n + 1) && passes (textAt store places (2 * n + 1))) ≡ true = rw e at h in
+      let k : (placesAll passes store places (2 * n) && passes (textAt store places (2 * n))) ≡ true
+      = rw add-one at (and-l (placesAll passes store places (2 * n + 1)) (passes (textAt store places (2 * n + 1))) g) in
+      every-snoc passes (placed store places n) (placedPair store places n)
+      (every-placed passes n (and-l (placesAll passes store places (2 * n)) (passes (textAt store places (2 * n))) k))
+      (and-r (placesAll passes store places (2 * n)) (passes (textAt store places (2 * n))) k)
+      (and-r (placesAll passes store places (2 * n + 1)) (passes (textAt store places (2 * n + 1))) g)
+
+  -- a place that passed question 1 holds a short text
+  place-short : (j : ℕ) → fitsAt store places j ≡ true → lengthAt places j ≤ 255
+  unfolding fitsAt
+  place-short j h = go (leb (length places / 2) j) refl h
+    where
+      go : (b : Bool) → leb (length places / 2) j ≡ b → (b || inside store places j && leb (lengthAt places j) 255) ≡ true → lengthAt places j ≤ 255
+      go true e g =
+          let l : length places / 2 ≤ j = leb-true (length places / 2) j e in
+          rw (List·getD-eq-default places 0 {n = 2 * j + 1} (omega arith)) (omega arith)
+      go false e g = leb-true (lengthAt places j) 255 (and-r (inside store places j) (leb (lengthAt places j) 255) g)
+
+  fit-text : (j : ℕ) → fitsAt store places j ≡ true → fits (textAt store places j) ≡ true
+  unfolding textAt fits
+  fit-text j h = go (inside store places j) refl
+    where
+      go : (b : Bool) → inside store places j ≡ b → fits (cond b (take (lengthAt places j) (drop (startAt places j) store)) []) ≡ true
+      go false e = refl
+      go true e = le-leb (length (take (lengthAt places j) (drop (startAt places j) store))) 255 (simp length-take (omega (arith, place-short j h)))
+
+  pub fit-texts : (n : ℕ) → placesFit store places n ≡ true → placesAll fits store places n ≡ true
+  unfolding placesFit placesAll
+  fit-texts zero h = refl
+  fit-texts (suc n) h =
+      rw (fit-texts n (and-l (placesFit store places n) (fitsAt store places n) h)) (fit-text n (and-r (placesFit store places n) (fitsAt store places n) h))

@@ -1,10 +1,10 @@
--- Pairs of paths, and document 01's questions 2 and 3 of a list of them.
+-- Pairs of paths, and document 01's questions 1 and 3 of a list of them.
 use mathlib.Core.Bool.{Bool, true, not, _&&_}
 use mathlib.Core.List.{List, [], _∷_}
 use Prim.Native.Nat.{ℕ}
 use lib.ListN.{length, getD}
 use Rattle.text.specs.Text.{Text, isNil}
-use Rattle.grammar.specs.Legal.{legal, isEnd}
+use Rattle.grammar.specs.Legal.{fits, isEnd}
 
 pub record Pair : Type 0 where
   pub source : Text
@@ -23,17 +23,20 @@ sourceAt l i = (pairAt l i) .source
 abbrev pub targetAt : List Pair → ℕ → Text
 targetAt l i = (pairAt l i) .target
 
--- "Is every text legal?"
-unfoldable pub bothLegal : List Pair → Bool
-unfolding legal
-bothLegal [] = true
-bothLegal (x ∷ xs) = legal (x .source) && legal (x .target) && bothLegal xs
+-- a test of each end of each pair
+unfoldable pub everyEnd : (Text → Bool) → List Pair → Bool
+everyEnd passes [] = true
+everyEnd passes (x ∷ xs) = passes (x .source) && passes (x .target) && everyEnd passes xs
+
+-- "Is every path text at most 255 bytes?"
+unfoldable pub allShort : List Pair → Bool
+unfolding everyEnd fits
+allShort l = everyEnd fits l
 
 -- "Is every end a prim path, `/` or empty?"
 unfoldable pub allEnds : List Pair → Bool
-unfolding isEnd
-allEnds [] = true
-allEnds (x ∷ xs) = isEnd (x .source) && isEnd (x .target) && allEnds xs
+unfolding everyEnd isEnd
+allEnds l = everyEnd isEnd l
 
 unfoldable pub noEmptySource : List Pair → Bool
 noEmptySource [] = true
