@@ -3,10 +3,10 @@ use mathlib.Core.Path.{_≡_, refl, sym, ap, _∙_}
 use mathlib.Core.Bool.{Bool, true, false, not, cond, _&&_, _||_, true≢false, false≢true}
 use mathlib.Core.List.{List, [], _∷_, _++_}
 use mathlib.Core.Option.{Option, none, some}
-use Prim.Native.Nat.{ℕ, _+_, _≤_, _<_}
+use Prim.Native.Nat.{ℕ, zero, suc, _+_, _≤_, _<_}
 use native.Mathlib.Omega.{arith}
 use lib.Dec.{eqb, leb}
-use lib.ListN.{length, drop, length-append}
+use lib.ListN.{length, drop, length-append, length-drop}
 use borrow.Author.Tests.{le-leb, leb-true, eqb-true}
 use Rattle.text.specs.Text.{Text, isNil, lastIs}
 use Rattle.text.proofs.BoolLaws.{and-l, and-r, and-no, not-true}
@@ -14,14 +14,15 @@ use Rattle.grammar.specs.Legal.{isIdentifierStart, isIdentifierCont, isRoot, le
 use Rattle.prefix.specs.Prefix.{hasPrefix, follows}
 use Rattle.prefix.specs.Join.{isChild, bare, slashUnless, separator, body, joined, replacePrefix, hangs, spoils}
 use Rattle.prefix.proofs.PrefixLaws.{prefix-rest, replace-prefix}
+use Rattle.prefix.proofs.JoinWays.{joined-length, separator-short, body-short}
 use Rattle.prefix.proofs.JoinLegal.{joined-legal}
-use Rattle.pairs.specs.Pair.{Pair, allEnds}
+use Rattle.pairs.specs.Pair.{Pair, sourceAt, targetAt, allShort, allEnds}
 use Rattle.pairs.specs.Best.{best, serves}
 use Rattle.pairs.proofs.PlaceLaws.{chosen-best}
 use Rattle.path.specs.declared.Refusal.the-variants.{NoPath, MadeTooLong, MadeIllegal}
 use Rattle.path.specs.Outcome.{Outcome, path, refused, made, given}
-use Rattle.mapping.specs.Map.{Map, source, target, size, chosenOut, chosenHome, by, plainOut, plainHome}
-use Rattle.mapping.specs.Quick.{joining, keeping, quickBy, quick}
+use Rattle.mapping.specs.Map.{Map, source, target, size, chosenOut, chosenHome, by, plainOut, plainHome, same, invertible}
+use Rattle.mapping.specs.Quick.{joining, keeping, quickBy, quick, isNone, translateMarked, translatePair, translateBy, quickTranslate}
 use Rattle.mapping.proofs.EndLaws.{ends-source, ends-target}
 
 -- a join that is spoilt is no longer than the path: nothing but `/` stands before the rest
@@ -119,3 +120,73 @@ module _ (m : Map) (p : Text) (em : allEnds (m .pairs) ≡ true) (lp : legal p �
   pub quick-home : quick true m p ≡ given (plainHome m p)
   unfolding quick plainHome chosenHome
   quick-home = quick-given m (target m) (source m) p (ends-target (m .pairs) em) (ends-source (m .pairs) em) lp sp (size m) (chosenHome m p) refl
+
+chosen-opened : (m : Map) (p : Text) → best p (source m) (size m) ≡ chosenOut m p
+unfolding chosenOut
+chosen-opened m p = refl
+
+no-pair : (m : Map) (i : ℕ) → refused NoPath ≡ given (invertible m (some i) none)
+unfolding given invertible
+no-pair m i = refl
+
+-- translation of a path without selections
+shorts : (l : List Pair) → allShort l ≡ true → (i : ℕ) → (length (sourceAt l i) ≤ 255) × (length (targetAt l i) ≤ 255)
+unfolding allShort
+shorts [] e i = (omega arith, omega arith)
+shorts (x ∷ l) e zero =
+    let a : (fits (x .source) && fits (x .target)) ≡ true = and-l (fits (x .source) && fits (x .target)) (allShort l) e in
+    (leb-true (length (x .source)) 255 (and-l (fits (x .source)) (fits (x .target)) a), leb-true (length (x .target)) 255 (and-r (fits (x .source)) (fits (x .target)) a))
+shorts (x ∷ l) e (suc i) = shorts l (and-r (fits (x .source) && fits (x .target)) (allShort l) e) i
+
+joined-short : (s t r : Text) → length t ≤ 255 → length r ≤ 255 → length (joined s t r) ≤ 512
+joined-short s t r h k = rw (joined-length s t r) (omega (arith, separator-short s t r, body-short s r))
+
+module _ (m : Map) (p : Text) (em : allEnds (m .pairs) ≡ true) (sm : allShort (m .pairs) ≡ true) (lp : legal p ≡ true) (sp : length p ≤ 255) where
+  marked : (mark : Bool) (o : Option ℕ) → cond (mark && isNone o) (keeping true p) (refused NoPath) ≡ given (cond mark (cond (same none o) (some p) none) none)
+  unfolding given
+  marked true none = kept m (source m) (target m) p (ends-source (m .pairs) em) (ends-target (m .pairs) em) lp sp true
+  marked true (some j) = refl
+  marked false o = refl
+
+  lost : (mark : Bool) → invertible m none (cond mark (some p) none) ≡ cond mark (cond (same none (chosenHome m p)) (some p) none) none
+  unfolding invertible
+  lost true = refl
+  lost false = refl
+
+  module _ (i : ℕ) (n : isNil (source m i) ≡ false) (h : hasPrefix p (source m i) ≡ true) where
+    abbrev j : Text
+    j = joined (source m i) (target m i) (drop (length (source m i)) p)
+
+    pair : translatePair m i (source m i) (target m i) (drop (length (source m i)) p) ≡ given (invertible m (some i) (replacePrefix p (source m i) (target m i)))
+    unfolding translatePair invertible given
+    pair =
+        rw (
+          replace-prefix p (source m i) (target m i) h,
+          le-leb (length j) 512 (joined-short (source m i) (target m i) (drop (length (source m i)) p) (shorts (m .pairs) sm i .1) rest-short),
+        )
+        (go (same (some i) (chosenHome m j)))
+      where
+        rest-short : length (drop (length (source m i)) p) ≤ 255
+        rest-short = simp length-drop (omega arith)
+
+        go : (b : Bool) → cond b (joining (source m i) (target m i) (drop (length (source m i)) p)) (refused NoPath) ≡ given (cond b (some j) none)
+        go true = joining-made (source m i) (target m i) p (ends-source (m .pairs) em i) n (ends-target (m .pairs) em i) lp sp h
+        go false = refl
+
+  translate-by : (o : Option ℕ) → chosenOut m p ≡ o → translateBy m p o ≡ given (invertible m o (by m (source m) (target m) p o))
+  unfolding translateBy translateMarked
+  translate-by none e = rw (lost (m .mark)) (marked (m .mark) (chosenHome m p))
+  translate-by (some i) e = let w = served-out i e in blocked (isNil (target m i)) (pair i (w .0) (w .1))
+    where
+      served-out : (i : ℕ) → chosenOut m p ≡ some i → (isNil (source m i) ≡ false) × (hasPrefix p (source m i) ≡ true)
+      served-out i e = served p (source m) (size m) i (chosen-opened m p ∙ e)
+
+      blocked : (b : Bool) → translatePair m i (source m i) (target m i) (drop (length (source m i)) p) ≡ given (invertible m (some i) (replacePrefix p (source m i) (target m i)))
+          → cond b (refused NoPath) (translatePair m i (source m i) (target m i) (drop (length (source m i)) p))
+          ≡ given (invertible m (some i) (cond b none (replacePrefix p (source m i) (target m i))))
+      blocked true w = no-pair m i
+      blocked false w = w
+
+  pub quick-translated : quickTranslate m p ≡ given (invertible m (chosenOut m p) (plainOut m p))
+  unfolding quickTranslate plainOut
+  quick-translated = translate-by (chosenOut m p) refl

@@ -152,9 +152,18 @@ unfolding separator
 separator-taken s t [] = refl
 separator-taken s t (a ∷ r) = taken-byte (cond (isRoot s) (isRoot t) (not (isChild s a) || bare t))
 
-joined-length : (s t r : Text) → length (joined s t r) ≡ length t + (length (separator s t r) + length (body s r))
+pub joined-length : (s t r : Text) → length (joined s t r) ≡ length t + (length (separator s t r) + length (body s r))
 unfolding joined
 joined-length s t r = simp length-append
+
+pub body-short : (s r : Text) → length (body s r) ≤ length r
+unfolding body
+body-short s [] = omega arith
+body-short s (a ∷ r) = go (not (isRoot s) && eqb a 47)
+  where
+    go : (b : Bool) → length (cond b r (a ∷ r)) ≤ length (a ∷ r)
+    go true = omega arith
+    go false = omega arith
 
 -- a text that does not fit
 over-long : (t out : Text) → length out < length t → (Over ≡ fitted t out) × (out ≡ placed 0 t out)

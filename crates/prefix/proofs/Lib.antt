@@ -1,6 +1,6 @@
 mod PrefixWays
 mod CountWays
-mod JoinWays
+pub mod JoinWays
 pub mod CountLaws
 pub mod PrefixLaws
 pub mod JoinLaws
