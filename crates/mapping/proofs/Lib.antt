@@ -3,6 +3,7 @@ pub mod EndLaws
 pub mod OutcomeLaws
 pub mod LegLaws
 pub mod Sharp
+mod AskWays
 mod MapWays
 mod TranslateWays
 pub mod QuickLaws

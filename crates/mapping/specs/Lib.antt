@@ -4,3 +4,4 @@ pub mod Compose
 pub mod Derive
 pub mod Leg
 pub mod Quick
+pub mod Calls

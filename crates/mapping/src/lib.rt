@@ -6,6 +6,7 @@ ghost use Prim.Native.Nat.{_≤_};
 ghost use lib.ListN.{length, drop};
 ghost use Rattle.path.specs.Outcome.{reply, memory};
 ghost use Rattle.mapping.specs.Quick.{joining, keeping, quick, lentMap, translateMarked, finished, translatePair, quickTranslate};
+ghost use Rattle.mapping.specs.Calls.{present, askedList, mapSourceToTargetCall, mapTargetToSourceCall, translateToTargetCall};
 
 // The rest of the path behind the old prefix, behind the new one.
 fn carry(old: &[u8], new: &[u8], path: &[u8], out: &mut [u8; 255]) -> path::Reply
@@ -154,4 +155,51 @@ pub fn translate_text(
     let old = pairs::key_at(store, places, i, false);
     let k = old.len();
     translate_pair(store, places, n, mark, i, old, new, &path[k..], out)
+}
+
+// A map: how many pairs of the lent list are its own, the root-identity mark, and the time offset.
+pub struct MapFunction {
+    pub count: usize,
+    pub has_root_identity: bool,
+    pub time_offset: layer_offset::LayerOffset,
+}
+
+// How many places the slice has for the pairs that are counted.
+fn places_of(places: &[usize], count: usize) -> usize
+    ensures { λ r. ⌜ r ≡ present (now (places .entry)) count ⌝ }
+{
+    let held = places.len() / 4;
+    if count <= held {
+        return 2 * count;
+    }
+    2 * held
+}
+
+// Questions 1 to 4 of a path and a list of pairs.
+pub fn ask_list(store: &[u8], places: &[usize], count: usize, path: &[u8]) -> path::Asked
+    ensures { λ r. ⌜ r ≡ askedList (now (store .entry)) (now (places .entry)) count (now (path .entry)) ⌝ }
+{
+    let n = places_of(places, count);
+    if 255 < path.len() {
+        return path::Asked::Refused(path::Refusal::TooLong);
+    }
+    if !pairs::all_fit(store, places, n) {
+        return path::Asked::Refused(path::Refusal::TooLong);
+    }
+    if !grammar::is_legal(path) {
+        return path::Asked::Refused(path::Refusal::Illegal);
+    }
+    if !pairs::all_legal(store, places, n) {
+        return path::Asked::Refused(path::Refusal::Illegal);
+    }
+    if !pairs::all_ends(store, places, n) {
+        return path::Asked::Refused(path::Refusal::NotAnEnd);
+    }
+    if 64 < count {
+        return path::Asked::Refused(path::Refusal::TooMany);
+    }
+    if places.len() / 4 < count {
+        return path::Asked::Refused(path::Refusal::TooMany);
+    }
+    path::Asked::Passed
 }
