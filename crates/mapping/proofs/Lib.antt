@@ -4,6 +4,7 @@ pub mod OutcomeLaws
 pub mod LegLaws
 pub mod Sharp
 mod AskWays
+mod HandWays
 mod MapWays
 mod TranslateWays
 pub mod QuickLaws

@@ -1,16 +1,18 @@
 -- Plain mapping and translation as the code does them, on any bytes: question 8 is answered by the rule of `spoils`, without reading the
 -- joined path again. For ends and a legal path of at most 255 bytes this is what the questions ask (proofs/QuickLaws.antt).
-use Prim.Native.Nat.{ℕ}
+use Prim.Native.Nat.{ℕ, _≤_}
 use mathlib.Core.Bool.{Bool, true, false, cond, _&&_}
 use mathlib.Core.List.{List}
 use mathlib.Core.Option.{Option, none, some}
 use lib.Dec.{leb}
-use lib.ListN.{length, drop}
-use Rattle.text.specs.Text.{Text, isNil}
+use lib.ListN.{length, take, drop}
+use Rattle.text.specs.Text.{Text, isNil, placed as placedText}
 use Rattle.grammar.specs.Legal.{fits}
 use Rattle.prefix.specs.Join.{joined, spoils}
 use Rattle.pairs.specs.Places.{placed}
 use Rattle.path.specs.declared.Refusal.the-variants.{NoPath, MadeTooLong, MadeIllegal}
+use Rattle.path.specs.declared.Reply.{Reply}
+use Rattle.path.specs.declared.Reply.the-variants.{Written, Refused}
 use Rattle.path.specs.Outcome.{Outcome, path, refused}
 use Rattle.mapping.specs.Map.{Map, source, target, chosenOut, chosenHome, same}
 
@@ -67,3 +69,12 @@ translateBy m p (some i) = cond (isNil (target m i)) (refused NoPath) (translate
 unfoldable pub quickTranslate : Map → Text → Outcome
 unfolding translateBy chosenOut
 quickTranslate m p = translateBy m p (chosenOut m p)
+
+-- what was made in memory of the call's own goes out where it is a path
+abbrev pub within : Reply → ℕ → Type 0
+within (Written n) k = n ≤ k
+within (Refused x) k = Unit {0}
+
+abbrev pub handed : Reply → Text → Text → Text
+handed (Written n) made out = placedText 0 (take n made) out
+handed (Refused x) made out = out

@@ -4,8 +4,9 @@ ghost use mathlib.Core.Path.{_≡_};
 ghost use mathlib.Core.Bool.{Bool, cond};
 ghost use Prim.Native.Nat.{_≤_};
 ghost use lib.ListN.{length, drop};
+ghost use Rattle.parts.specs.Strip.{strip};
 ghost use Rattle.path.specs.Outcome.{reply, memory};
-ghost use Rattle.mapping.specs.Quick.{joining, keeping, quick, lentMap, translateMarked, finished, translatePair, quickTranslate};
+ghost use Rattle.mapping.specs.Quick.{joining, keeping, quick, lentMap, translateMarked, finished, translatePair, quickTranslate, within, handed};
 ghost use Rattle.mapping.specs.Calls.{present, askedList, mapSourceToTargetCall, mapTargetToSourceCall, translateToTargetCall};
 
 // The rest of the path behind the old prefix, behind the new one.
@@ -202,4 +203,79 @@ pub fn ask_list(store: &[u8], places: &[usize], count: usize, path: &[u8]) -> pa
         return path::Asked::Refused(path::Refusal::TooMany);
     }
     path::Asked::Passed
+}
+
+// Writes a path that was made in memory of the call's own; a refusal writes nothing.
+fn hand_out(r: path::Reply, made: &[u8; 255], out: &mut [u8]) -> path::Reply
+    requires { ⌜ within r (length (now made)) ⌝ }
+    ensures { λ a. ⌜ a ≡ r ⌝ }
+    ensures { λ a. ⌜ now (out .exit) ≡ handed r (now (made .entry)) (now (out .entry)) ⌝ }
+{
+    let path::Reply::Written(n) = r else {
+        return r;
+    };
+    let whole = &made[..];
+    text::write_at(&whole[..n], 0, out);
+    r
+}
+
+// Plain mapping into lent memory.
+fn map_out(
+    store: &[u8],
+    places: &[usize],
+    n: usize,
+    mark: bool,
+    invert: bool,
+    path: &[u8],
+    out: &mut [u8],
+) -> path::Reply
+    requires { ⌜ 255 ≤ length (now out) ⌝ }
+    ensures { λ r. ⌜ r ≡ reply (quick invert (lentMap (now (store .entry)) (now (places .entry)) n mark) (now (path .entry))) ⌝ }
+    ensures { λ r. ⌜ now (out .exit) ≡ memory (quick invert (lentMap (now (store .entry)) (now (places .entry)) n mark) (now (path .entry))) (now (out .entry)) ⌝ }
+{
+    let mut made = [0u8; 255];
+    let r = map_text(store, places, n, mark, invert, path, &mut made);
+    hand_out(r, &made, out)
+}
+
+// Translation of a path without selections into lent memory.
+fn translate_out(
+    store: &[u8],
+    places: &[usize],
+    n: usize,
+    mark: bool,
+    path: &[u8],
+    out: &mut [u8],
+) -> path::Reply
+    requires { ⌜ 255 ≤ length (now out) ⌝ }
+    ensures { λ r. ⌜ r ≡ reply (quickTranslate (lentMap (now (store .entry)) (now (places .entry)) n mark) (now (path .entry))) ⌝ }
+    ensures { λ r. ⌜ now (out .exit) ≡ memory (quickTranslate (lentMap (now (store .entry)) (now (places .entry)) n mark) (now (path .entry))) (now (out .entry)) ⌝ }
+{
+    let mut made = [0u8; 255];
+    let r = translate_text(store, places, n, mark, path, &mut made);
+    hand_out(r, &made, out)
+}
+
+// Translation into lent memory, the selections stripped first where there are any.
+fn translate_stripped(
+    store: &[u8],
+    places: &[usize],
+    n: usize,
+    mark: bool,
+    path: &[u8],
+    out: &mut [u8],
+) -> path::Reply
+    requires { ⌜ (length (now path) ≤ 255) × (255 ≤ length (now out)) ⌝ }
+    ensures { λ r. ⌜ r ≡ reply (quickTranslate (lentMap (now (store .entry)) (now (places .entry)) n mark) (strip (now (path .entry)))) ⌝ }
+    ensures { λ r. ⌜ now (out .exit) ≡ memory (quickTranslate (lentMap (now (store .entry)) (now (places .entry)) n mark) (strip (now (path .entry)))) (now (out .entry)) ⌝ }
+{
+    if text::lacks_byte(path, b'{') {
+        return translate_out(store, places, n, mark, path, out);
+    }
+    let mut plain = [0u8; 255];
+    let fit = parts::strip_into(path, &mut plain);
+    let text::Fit::Written(k) = fit else {
+        return path::Reply::Refused(path::Refusal::MadeTooLong);
+    };
+    translate_out(store, places, n, mark, &plain[..k], out)
 }
