@@ -8,3 +8,4 @@ mod HandWays
 mod MapWays
 mod TranslateWays
 pub mod QuickLaws
+mod CarryWays

@@ -12,6 +12,7 @@ use Rattle.path.specs.declared.Asked.{Asked}
 use Rattle.path.specs.declared.Asked.the-variants.{Passed, Refused}
 use Rattle.path.specs.Refusal.{unless}
 use Rattle.path.specs.Outcome.{Outcome, refused, lent, given}
+use Rattle.mapping.specs.declared.MapFunction.{MapFunction}
 use Rattle.mapping.specs.Map.{Map, plainOut, plainHome, translated}
 use Rattle.mapping.specs.Quick.{lentMap}
 
@@ -38,17 +39,18 @@ unfoldable pub carrying : Text → List ℕ → ℕ → Text → ℕ → Outcome
 unfolding askedList lent
 carrying store places count p room o = unless (askedList store places count p) refused (lent room o)
 
-unfoldable pub mapSourceToTargetCall : Text → List ℕ → ℕ → Bool → Text → ℕ → Outcome
+-- the map that a `MapFunction` and its lent list stand for
+abbrev pub mapOf : Text → List ℕ → MapFunction → Map
+mapOf store places f = lentMap store places (f .count) (f .«has_root_identity»)
+
+unfoldable pub mapSourceToTargetCall : Text → List ℕ → MapFunction → Text → ℕ → Outcome
 unfolding carrying given plainOut
-mapSourceToTargetCall store places count mark p room =
-    carrying store places count p room (given (plainOut (lentMap store places count mark) p))
+mapSourceToTargetCall store places f p room = carrying store places (f .count) p room (given (plainOut (mapOf store places f) p))
 
-unfoldable pub mapTargetToSourceCall : Text → List ℕ → ℕ → Bool → Text → ℕ → Outcome
+unfoldable pub mapTargetToSourceCall : Text → List ℕ → MapFunction → Text → ℕ → Outcome
 unfolding carrying given plainHome
-mapTargetToSourceCall store places count mark p room =
-    carrying store places count p room (given (plainHome (lentMap store places count mark) p))
+mapTargetToSourceCall store places f p room = carrying store places (f .count) p room (given (plainHome (mapOf store places f) p))
 
-unfoldable pub translateToTargetCall : Text → List ℕ → ℕ → Bool → Text → ℕ → Outcome
+unfoldable pub translateToTargetCall : Text → List ℕ → MapFunction → Text → ℕ → Outcome
 unfolding carrying given translated
-translateToTargetCall store places count mark p room =
-    carrying store places count p room (given (translated (lentMap store places count mark) p))
+translateToTargetCall store places f p room = carrying store places (f .count) p room (given (translated (mapOf store places f) p))

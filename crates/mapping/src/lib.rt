@@ -7,7 +7,7 @@ ghost use lib.ListN.{length, drop};
 ghost use Rattle.parts.specs.Strip.{strip};
 ghost use Rattle.path.specs.Outcome.{reply, memory};
 ghost use Rattle.mapping.specs.Quick.{joining, keeping, quick, lentMap, translateMarked, finished, translatePair, quickTranslate, within, handed};
-ghost use Rattle.mapping.specs.Calls.{present, askedList, mapSourceToTargetCall, mapTargetToSourceCall, translateToTargetCall};
+ghost use Rattle.mapping.specs.Calls.{present, askedList, carrying, mapSourceToTargetCall, mapTargetToSourceCall, translateToTargetCall};
 
 // The rest of the path behind the old prefix, behind the new one.
 fn carry(old: &[u8], new: &[u8], path: &[u8], out: &mut [u8; 255]) -> path::Reply
@@ -278,4 +278,94 @@ fn translate_stripped(
         return path::Reply::Refused(path::Refusal::MadeTooLong);
     };
     translate_out(store, places, n, mark, &plain[..k], out)
+}
+
+// Plain mapping with its questions, forward or backwards.
+fn map_asked(
+    store: &[u8],
+    places: &[usize],
+    count: usize,
+    mark: bool,
+    invert: bool,
+    path: &[u8],
+    out: &mut [u8],
+) -> path::Reply
+    ensures { λ r. ⌜ r ≡ reply (carrying (now (store .entry)) (now (places .entry)) count (now (path .entry)) (length (now (out .entry))) (quick invert (lentMap (now (store .entry)) (now (places .entry)) count mark) (now (path .entry)))) ⌝ }
+    ensures { λ r. ⌜ now (out .exit) ≡ memory (carrying (now (store .entry)) (now (places .entry)) count (now (path .entry)) (length (now (out .entry))) (quick invert (lentMap (now (store .entry)) (now (places .entry)) count mark) (now (path .entry)))) (now (out .entry)) ⌝ }
+{
+    let q = ask_list(store, places, count, path);
+    if let path::Asked::Refused(x) = q {
+        return path::Reply::Refused(x);
+    }
+    if out.len() < 255 {
+        return path::Reply::Refused(path::Refusal::NoRoom);
+    }
+    map_out(store, places, count, mark, invert, path, out)
+}
+
+// Where the map takes the path.
+pub fn map_source_to_target(
+    store: &[u8],
+    places: &[usize],
+    map: MapFunction,
+    path: &[u8],
+    out: &mut [u8],
+) -> path::Reply
+    ensures { λ r. ⌜ r ≡ reply (mapSourceToTargetCall (now (store .entry)) (now (places .entry)) map (now (path .entry)) (length (now (out .entry)))) ⌝ }
+    ensures { λ r. ⌜ now (out .exit) ≡ memory (mapSourceToTargetCall (now (store .entry)) (now (places .entry)) map (now (path .entry)) (length (now (out .entry)))) (now (out .entry)) ⌝ }
+{
+    map_asked(
+        store,
+        places,
+        map.count,
+        map.has_root_identity,
+        false,
+        path,
+        out,
+    )
+}
+
+// Where the map takes the path back to.
+pub fn map_target_to_source(
+    store: &[u8],
+    places: &[usize],
+    map: MapFunction,
+    path: &[u8],
+    out: &mut [u8],
+) -> path::Reply
+    ensures { λ r. ⌜ r ≡ reply (mapTargetToSourceCall (now (store .entry)) (now (places .entry)) map (now (path .entry)) (length (now (out .entry)))) ⌝ }
+    ensures { λ r. ⌜ now (out .exit) ≡ memory (mapTargetToSourceCall (now (store .entry)) (now (places .entry)) map (now (path .entry)) (length (now (out .entry)))) (now (out .entry)) ⌝ }
+{
+    map_asked(
+        store,
+        places,
+        map.count,
+        map.has_root_identity,
+        true,
+        path,
+        out,
+    )
+}
+
+// Where the map takes the path without its selections, if the same pair takes it back.
+pub fn translate_to_target(
+    store: &[u8],
+    places: &[usize],
+    map: MapFunction,
+    path: &[u8],
+    out: &mut [u8],
+) -> path::Reply
+    ensures { λ r. ⌜ r ≡ reply (translateToTargetCall (now (store .entry)) (now (places .entry)) map (now (path .entry)) (length (now (out .entry)))) ⌝ }
+    ensures { λ r. ⌜ now (out .exit) ≡ memory (translateToTargetCall (now (store .entry)) (now (places .entry)) map (now (path .entry)) (length (now (out .entry)))) (now (out .entry)) ⌝ }
+{
+    let count = map.count;
+    let mark = map.has_root_identity;
+    let q = ask_list(store, places, count, path);
+    if let path::Asked::Refused(x) = q {
+        return path::Reply::Refused(x);
+    }
+    if out.len() < 255 {
+        return path::Reply::Refused(path::Refusal::NoRoom);
+    }
+    translate_stripped(store, places, count, mark, path, out)
 }
