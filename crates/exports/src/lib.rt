@@ -7,6 +7,8 @@ ghost use Rattle.parts.specs.Parent.{ancestorLens};
 ghost use Rattle.path.specs.Refusal.{number};
 ghost use Rattle.path.specs.Outcome.{reply, memory};
 ghost use Rattle.path.specs.Calls.{newCall, isEndCall, hasVariantSelectionCall, elementCountCall, primElementCountCall, hasPrefixCall, replacePrefixCall, parentCall, primPathCall, splitPropertyCall, stripCall, ancestorsReply, listed};
+ghost use Rattle.mapping.specs.Calls.{mapSourceToTargetCall, mapTargetToSourceCall, translateToTargetCall};
+ghost use Rattle.exports.specs.Map.{timeless};
 ghost use Rattle.exports.specs.Code.{answer, askedCode, testCode, countCode, replyCode};
 
 fn number_of(x: path::Refusal) -> usize
@@ -176,4 +178,67 @@ pub extern "C" fn mudvizsor_path_ancestors(path: &[u8], lengths: &mut [usize]) -
     ensures { λ r. ⌜ now (lengths .exit) ≡ listed (ancestorsReply (now (path .entry)) (length (now (lengths .entry)))) (ancestorLens (now (path .entry))) (now (lengths .entry)) ⌝ }
 {
     reply_code(path::ancestors(path, lengths))
+}
+
+// The map of a list, with no time offset.
+fn map_of(count: usize, mark: bool) -> mapping::MapFunction
+    ensures { λ r. ⌜ r ≡ timeless count mark ⌝ }
+{
+    let time = layer_offset::LayerOffset::IDENTITY;
+    mapping::MapFunction {
+        count,
+        has_root_identity: mark,
+        time_offset: time,
+    }
+}
+
+// Where the map takes the path, written to out.
+#[no_mangle]
+pub extern "C" fn mudvizsor_map_source_to_target(
+    store: &[u8],
+    places: &[usize],
+    count: usize,
+    mark: bool,
+    path: &[u8],
+    out: &mut [u8],
+) -> usize
+    ensures { λ r. ⌜ r ≡ replyCode (reply (mapSourceToTargetCall (now (store .entry)) (now (places .entry)) (timeless count mark) (now (path .entry)) (length (now (out .entry))))) ⌝ }
+    ensures { λ r. ⌜ now (out .exit) ≡ memory (mapSourceToTargetCall (now (store .entry)) (now (places .entry)) (timeless count mark) (now (path .entry)) (length (now (out .entry)))) (now (out .entry)) ⌝ }
+{
+    let map = map_of(count, mark);
+    reply_code(mapping::map_source_to_target(store, places, map, path, out))
+}
+
+// Where the map takes the path back to, written to out.
+#[no_mangle]
+pub extern "C" fn mudvizsor_map_target_to_source(
+    store: &[u8],
+    places: &[usize],
+    count: usize,
+    mark: bool,
+    path: &[u8],
+    out: &mut [u8],
+) -> usize
+    ensures { λ r. ⌜ r ≡ replyCode (reply (mapTargetToSourceCall (now (store .entry)) (now (places .entry)) (timeless count mark) (now (path .entry)) (length (now (out .entry))))) ⌝ }
+    ensures { λ r. ⌜ now (out .exit) ≡ memory (mapTargetToSourceCall (now (store .entry)) (now (places .entry)) (timeless count mark) (now (path .entry)) (length (now (out .entry)))) (now (out .entry)) ⌝ }
+{
+    let map = map_of(count, mark);
+    reply_code(mapping::map_target_to_source(store, places, map, path, out))
+}
+
+// Where the map takes the path without its selections, if the same pair takes it back, written to out.
+#[no_mangle]
+pub extern "C" fn mudvizsor_translate_to_target(
+    store: &[u8],
+    places: &[usize],
+    count: usize,
+    mark: bool,
+    path: &[u8],
+    out: &mut [u8],
+) -> usize
+    ensures { λ r. ⌜ r ≡ replyCode (reply (translateToTargetCall (now (store .entry)) (now (places .entry)) (timeless count mark) (now (path .entry)) (length (now (out .entry))))) ⌝ }
+    ensures { λ r. ⌜ now (out .exit) ≡ memory (translateToTargetCall (now (store .entry)) (now (places .entry)) (timeless count mark) (now (path .entry)) (length (now (out .entry)))) (now (out .entry)) ⌝ }
+{
+    let map = map_of(count, mark);
+    reply_code(mapping::translate_to_target(store, places, map, path, out))
 }

@@ -1,0 +1,11 @@
+use mathlib.Core.Path.{refl}
+use lib.Ieee.{ofBits}
+use Rattle.exports.proofs.map_of.Statement.{statement}
+use Rattle.exports.proofs.map_of.Tie as tie
+
+returns : tie.Need-returns
+unfolding ofBits
+returns c = refl
+
+pub map-of-spec : {M : Type 1} → statement M
+map-of-spec = tie.close (tie.spec returns)
