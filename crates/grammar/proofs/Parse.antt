@@ -77,7 +77,7 @@ prims-text n x = go (x .rest)
         append-assoc (nameText n ++ selectionsText (x .selections)) (joint (x .selections) ++ primsText q r) (propertyText (x .property))
         ∙ append-assoc (nameText n) (selectionsText (x .selections)) ((joint (x .selections) ++ primsText q r) ++ propertyText (x .property))
 
-selection-text : (s : g.Selection) (y : Text) → selectionText s ++ y ≡ 123 ∷ (nameText (s .set) ++ (61 ∷ (wordText (s .chosen) ++ (125 ∷ y))))
+selection-text : (s : g.Selection) (y : Text) → selectionText s ++ y ≡ 123 ∷ (nameText (s .variantSet) ++ (61 ∷ (wordText (s .variant) ++ (125 ∷ y))))
 unfolding selectionText
 selection-text s y = simp append-assoc
 
@@ -114,7 +114,7 @@ with-prim n x =
 
 with-selection : g.Name → g.Word → After → After
 with-selection n w x =
-    record { selections = (record { set = n; chosen = w }) ∷ x .selections; rest = x .rest; property = x .property }
+    record { selections = (record { variantSet = n; variant = w }) ∷ x .selections; rest = x .rest; property = x .property }
 
 with-property : g.Name → List g.Name → After
 with-property n r = record { selections = []; rest = []; property = some (record { first = n; more = r }) }
@@ -131,14 +131,14 @@ prim-selection n x = prims-text n x
 more-name : (n : g.Name) (w : g.Word) (x : After) → behindName (with-selection n w x) ≡ 123 ∷ (nameText n ++ (61 ∷ (wordText w ++ (125 ∷ behindSelection x))))
 unfolding with-selection behindName behindSelection selectionsText joint
 more-name n w x =
-    append-assoc (selectionText (record { set = n; chosen = w })) (selectionsText (x .selections)) (follow [] (x .rest) ++ propertyText (x .property))
-    ∙ selection-text (record { set = n; chosen = w }) (behindSelection x)
+    append-assoc (selectionText (record { variantSet = n; variant = w })) (selectionsText (x .selections)) (follow [] (x .rest) ++ propertyText (x .property))
+    ∙ selection-text (record { variantSet = n; variant = w }) (behindSelection x)
 
 more-selection : (n : g.Name) (w : g.Word) (x : After) → behindSelection (with-selection n w x) ≡ 123 ∷ (nameText n ++ (61 ∷ (wordText w ++ (125 ∷ behindSelection x))))
 unfolding with-selection behindSelection selectionsText
 more-selection n w x =
-    append-assoc (selectionText (record { set = n; chosen = w })) (selectionsText (x .selections)) (follow [] (x .rest) ++ propertyText (x .property))
-    ∙ selection-text (record { set = n; chosen = w }) (behindSelection x)
+    append-assoc (selectionText (record { variantSet = n; variant = w })) (selectionsText (x .selections)) (follow [] (x .rest) ++ propertyText (x .property))
+    ∙ selection-text (record { variantSet = n; variant = w }) (behindSelection x)
 
 property-name : (n : g.Name) (r : List g.Name) → behindName (with-property n r) ≡ 46 ∷ (nameText n ++ moreText r)
 unfolding with-property behindName follow selectionsText propertyText

@@ -67,14 +67,14 @@ from-equals w =
     ap (λ (u : State). run u (w .more)) (equals-word (w .first) (w .first-is)) ∙ stays Sel sel-keeps (w .more) (w .more-are)
 
 -- a selection, behind a name or behind a selection
-inside : (s : g.Selection) → run Opened (nameText (s .set) ++ (61 ∷ (wordText (s .chosen) ++ (125 ∷ [])))) ≡ Closed
+inside : (s : g.Selection) → run Opened (nameText (s .variantSet) ++ (61 ∷ (wordText (s .variant) ++ (125 ∷ [])))) ≡ Closed
 unfolding run step isIdentifierStart isIdentifierCont
 inside s =
     rw (
-      run-app Opened (nameText (s .set)) (61 ∷ (wordText (s .chosen) ++ (125 ∷ []))),
-      from-opened (s .set),
-      run-app Equals (wordText (s .chosen)) (125 ∷ []),
-      from-equals (s .chosen),
+      run-app Opened (nameText (s .variantSet)) (61 ∷ (wordText (s .variant) ++ (125 ∷ []))),
+      from-opened (s .variantSet),
+      run-app Equals (wordText (s .variant)) (125 ∷ []),
+      from-equals (s .variant),
     )
 
 selection-name : (s : g.Selection) → run Name (selectionText s) ≡ Closed

@@ -30,8 +30,8 @@ pub record Word : Type 0 where
 
 -- "`{set=sel}`": "`set` is a name"
 pub record Selection : Type 0 where
-  pub set : Name
-  pub chosen : Word
+  pub variantSet : Name
+  pub variant : Word
 
 -- a name with the selections behind it
 pub record Prim : Type 0 where
@@ -58,7 +58,7 @@ wordText w = w .first ∷ w .more
 
 unfoldable pub selectionText : Selection → Text
 unfolding nameText wordText
-selectionText s = 123 ∷ (nameText (s .set) ++ (61 ∷ (wordText (s .chosen) ++ (125 ∷ []))))
+selectionText s = 123 ∷ (nameText (s .variantSet) ++ (61 ∷ (wordText (s .variant) ++ (125 ∷ []))))
 
 unfoldable pub selectionsText : List Selection → Text
 unfolding selectionText

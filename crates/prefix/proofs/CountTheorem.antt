@@ -81,8 +81,8 @@ module _ (f : Bool) where
   selection : (s : g.Selection) (y : Text) → count f (selectionText s ++ y) ≡ cond f 1 0 + (cond (startsName y) 1 0 + count f y)
   unfolding selectionText
   selection s y =
-      rw (append-assoc (nameText (s .set)) (61 ∷ (wordText (s .chosen) ++ (125 ∷ []))) y, append-assoc (wordText (s .chosen)) (125 ∷ []) y)
-      (open-adds _ ∙ ap (λ (n : ℕ). cond f 1 0 + n) (name (s .set) _ ∙ other 61 _ refl refl refl ∙ word (s .chosen) (125 ∷ y) ∙ close-adds y))
+      rw (append-assoc (nameText (s .variantSet)) (61 ∷ (wordText (s .variant) ++ (125 ∷ []))) y, append-assoc (wordText (s .variant)) (125 ∷ []) y)
+      (open-adds _ ∙ ap (λ (n : ℕ). cond f 1 0 + n) (name (s .variantSet) _ ∙ other 61 _ refl refl refl ∙ word (s .variant) (125 ∷ y) ∙ close-adds y))
 
   selections : (r : List g.Selection) (y : Text)
       → count f (selectionsText r ++ y) ≡ selectionCount f r + (cond (any r && startsName y) 1 0 + count f y)
