@@ -1,7 +1,7 @@
 -- Every row of the table holds, by computing the definitions. Assumes nothing.
 use mathlib.Core.Path.{refl}
-use Rattle.mapping.specs.New.{new}
-use Rattle.mapping.specs.Compose.{compose}
+use Rattle.maps.specs.New.{new}
+use Rattle.maps.specs.Compose.{compose}
 use Rattle.cases.specs.Table.{Table, replacing, stripping, out, back, translated}
 
 pub holds : Table

@@ -8,10 +8,10 @@ use Rattle.path.specs.declared.Refusal.the-variants.{NoPath}
 use Rattle.path.specs.Outcome.{Outcome, path, refused, given}
 use Rattle.path.specs.Calls.{replacePrefixCall, stripCall}
 use Rattle.pairs.specs.Pair.{Pair}
-use Rattle.mapping.specs.Map.{Map, plainOut}
-use Rattle.mapping.specs.New.{new}
-use Rattle.mapping.specs.Compose.{compose}
-use Rattle.mapping.specs.Leg.{translate, home}
+use Rattle.maps.specs.Map.{Map, plainOut}
+use Rattle.maps.specs.New.{new}
+use Rattle.maps.specs.Compose.{compose}
+use Rattle.maps.specs.Leg.{translate, home}
 
 -- the path, its prefix and the new prefix, with 255 bytes of lent memory
 unfoldable pub replacing : String → String → String → Outcome

@@ -15,10 +15,10 @@ use Rattle.path.specs.declared.Asked.{Asked}
 use Rattle.path.specs.declared.Asked.the-variants.{Passed, Refused as RefusedAsked}
 use Rattle.path.specs.Outcome.{Outcome, refused, lent, given}
 use Rattle.mapping.specs.declared.MapFunction.{MapFunction}
-use Rattle.mapping.specs.Map.{Map, plainOut, plainHome, translated}
-use Rattle.mapping.specs.Quick.{quick, quickTranslate}
+use Rattle.maps.specs.Map.{Map, plainOut, plainHome, translated}
+use Rattle.carry.specs.Quick.{quick, quickTranslate}
 use Rattle.mapping.specs.Calls.{askedList, carrying, mapOf, mapSourceToTargetCall, mapTargetToSourceCall, translateToTargetCall}
-use Rattle.mapping.proofs.QuickLaws.{quick-out, quick-home, quick-translated}
+use Rattle.carry.proofs.QuickLaws.{quick-out, quick-home, quick-translated}
 use Rattle.mapping.proofs.AskWays.{passed-short, passed-legal, passed-ends, passed-shorts}
 
 module _ (store : Text) (places : List ℕ) (count : ℕ) (p : Text) (room : ℕ) (o : Outcome) where

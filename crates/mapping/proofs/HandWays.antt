@@ -23,8 +23,9 @@ use Rattle.path.specs.declared.Refusal.the-variants.{NoPath, MadeTooLong, MadeI
 use Rattle.path.specs.declared.Reply.{Reply}
 use Rattle.path.specs.declared.Reply.the-variants.{Written, Refused}
 use Rattle.path.specs.Outcome.{Outcome, path, refused, reply, memory}
-use Rattle.mapping.specs.Map.{Map, source, target, chosenOut, chosenHome, same}
-use Rattle.mapping.specs.Quick.{joining, keeping, quickBy, quick, isNone, translateMarked, translatePair, translateBy, quickTranslate, within, handed}
+use Rattle.maps.specs.Map.{Map, source, target, chosenOut, chosenHome, same}
+use Rattle.carry.specs.Quick.{joining, keeping, quickBy, quick, isNone, translateMarked, translatePair, translateBy, quickTranslate}
+use Rattle.mapping.specs.Hand.{within, handed}
 
 -- every path that the quick answers give is short
 abbrev Short : Outcome → Type 0

@@ -13,8 +13,8 @@ use Rattle.path.specs.declared.Asked.the-variants.{Passed, Refused}
 use Rattle.path.specs.Refusal.{unless}
 use Rattle.path.specs.Outcome.{Outcome, refused, lent, given}
 use Rattle.mapping.specs.declared.MapFunction.{MapFunction}
-use Rattle.mapping.specs.Map.{Map, plainOut, plainHome, translated}
-use Rattle.mapping.specs.Quick.{lentMap}
+use Rattle.maps.specs.Map.{Map, plainOut, plainHome, translated}
+use Rattle.carry.specs.Quick.{lentMap}
 
 -- the places of the pairs that the slice holds: questions 1 to 3 go to those
 unfoldable pub present : List ℕ → ℕ → ℕ

@@ -1,7 +1,2 @@
-pub mod Map
-pub mod New
-pub mod Compose
-pub mod Derive
-pub mod Leg
-pub mod Quick
+pub mod Hand
 pub mod Calls

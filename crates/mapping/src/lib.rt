@@ -1,162 +1,14 @@
-// Maps of paths. The functions of this layer are defined for any bytes and any numbers: a caller that
-// has checked a list once maps many paths through it.
+// Document 01's calls that carry a path through a map in lent memory: the questions in their order,
+// then the answer.
 ghost use mathlib.Core.Path.{_≡_};
-ghost use mathlib.Core.Bool.{Bool, cond};
+ghost use mathlib.Core.Bool.{Bool};
 ghost use Prim.Native.Nat.{_≤_};
-ghost use lib.ListN.{length, drop};
+ghost use lib.ListN.{length};
 ghost use Rattle.parts.specs.Strip.{strip};
 ghost use Rattle.path.specs.Outcome.{reply, memory};
-ghost use Rattle.mapping.specs.Quick.{joining, keeping, quick, lentMap, translateMarked, finished, translatePair, quickTranslate, within, handed};
+ghost use Rattle.carry.specs.Quick.{quick, lentMap, quickTranslate};
+ghost use Rattle.mapping.specs.Hand.{within, handed};
 ghost use Rattle.mapping.specs.Calls.{present, askedList, carrying, mapSourceToTargetCall, mapTargetToSourceCall, translateToTargetCall};
-
-// The rest of the path behind the old prefix, behind the new one.
-fn carry(old: &[u8], new: &[u8], path: &[u8], out: &mut [u8; 255]) -> path::Reply
-    requires { ⌜ length (now old) ≤ length (now path) ⌝ }
-    ensures { λ r. ⌜ r ≡ reply (joining (now (old .entry)) (now (new .entry)) (drop (length (now (old .entry))) (now (path .entry)))) ⌝ }
-    ensures { λ r. ⌜ now (out .exit) ≡ memory (joining (now (old .entry)) (now (new .entry)) (drop (length (now (old .entry))) (now (path .entry)))) (now (out .entry)) ⌝ }
-{
-    let k = old.len();
-    if prefix::is_spoilt(new, &path[k..]) {
-        return path::Reply::Refused(path::Refusal::MadeIllegal);
-    }
-    let fit = prefix::join(old, new, &path[k..], out);
-    match fit {
-        text::Fit::Written(n) => path::Reply::Written(n),
-        text::Fit::Over => path::Reply::Refused(path::Refusal::MadeTooLong),
-    }
-}
-
-// The path itself where the map has the mark.
-fn keep(mark: bool, path: &[u8], out: &mut [u8; 255]) -> path::Reply
-    ensures { λ r. ⌜ r ≡ reply (keeping mark (now (path .entry))) ⌝ }
-    ensures { λ r. ⌜ now (out .exit) ≡ memory (keeping mark (now (path .entry))) (now (out .entry)) ⌝ }
-{
-    if !mark {
-        return path::Reply::Refused(path::Refusal::NoPath);
-    }
-    if 255 < path.len() {
-        return path::Reply::Refused(path::Refusal::MadeTooLong);
-    }
-    text::write_at(path, 0, out);
-    path::Reply::Written(path.len())
-}
-
-// Plain mapping through the first n pairs, forward or backwards.
-pub fn map_text(
-    store: &[u8],
-    places: &[usize],
-    n: usize,
-    mark: bool,
-    invert: bool,
-    path: &[u8],
-    out: &mut [u8; 255],
-) -> path::Reply
-    ensures { λ r. ⌜ r ≡ reply (quick invert (lentMap (now (store .entry)) (now (places .entry)) n mark) (now (path .entry))) ⌝ }
-    ensures { λ r. ⌜ now (out .exit) ≡ memory (quick invert (lentMap (now (store .entry)) (now (places .entry)) n mark) (now (path .entry))) (now (out .entry)) ⌝ }
-{
-    let f = pairs::best_prefix(store, places, n, invert, path);
-    if !f.found {
-        return keep(mark, path, out);
-    }
-    let i = f.at;
-    let block = pairs::key_at(store, places, i, true);
-    if block.len() == 0 {
-        return path::Reply::Refused(path::Refusal::NoPath);
-    }
-    let old = pairs::key_at(store, places, i, invert);
-    let new = pairs::key_at(store, places, i, !invert);
-    carry(old, new, path, out)
-}
-
-// Translation of a path that no pair carries: the mark returns it where no pair would take it back.
-fn translate_marked(
-    store: &[u8],
-    places: &[usize],
-    n: usize,
-    mark: bool,
-    path: &[u8],
-    out: &mut [u8; 255],
-) -> path::Reply
-    ensures { λ r. ⌜ r ≡ reply (translateMarked (lentMap (now (store .entry)) (now (places .entry)) n mark) (now (path .entry))) ⌝ }
-    ensures { λ r. ⌜ now (out .exit) ≡ memory (translateMarked (lentMap (now (store .entry)) (now (places .entry)) n mark) (now (path .entry))) (now (out .entry)) ⌝ }
-{
-    if !mark {
-        return path::Reply::Refused(path::Refusal::NoPath);
-    }
-    let home = pairs::best_prefix(store, places, n, true, path);
-    if home.found {
-        return path::Reply::Refused(path::Refusal::NoPath);
-    }
-    keep(mark, path, out)
-}
-
-// The path made of the first n bytes, with questions 8 and 7.
-fn finish(spoilt: bool, made: &[u8], out: &mut [u8; 255]) -> path::Reply
-    ensures { λ r. ⌜ r ≡ reply (finished spoilt (now (made .entry))) ⌝ }
-    ensures { λ r. ⌜ now (out .exit) ≡ memory (finished spoilt (now (made .entry))) (now (out .entry)) ⌝ }
-{
-    if spoilt {
-        return path::Reply::Refused(path::Refusal::MadeIllegal);
-    }
-    keep(true, made, out)
-}
-
-// Translation by pair i: the path that it makes must be taken back by the same pair.
-fn translate_pair(
-    store: &[u8],
-    places: &[usize],
-    n: usize,
-    mark: bool,
-    i: usize,
-    old: &[u8],
-    new: &[u8],
-    rest: &[u8],
-    out: &mut [u8; 255],
-) -> path::Reply
-    ensures { λ r. ⌜ r ≡ reply (translatePair (lentMap (now (store .entry)) (now (places .entry)) n mark) i (now (old .entry)) (now (new .entry)) (now (rest .entry))) ⌝ }
-    ensures { λ r. ⌜ now (out .exit) ≡ memory (translatePair (lentMap (now (store .entry)) (now (places .entry)) n mark) i (now (old .entry)) (now (new .entry)) (now (rest .entry))) (now (out .entry)) ⌝ }
-{
-    let mut made = [0u8; 512];
-    let fit = prefix::join(old, new, rest, &mut made);
-    let text::Fit::Written(len) = fit else {
-        return path::Reply::Refused(path::Refusal::MadeTooLong);
-    };
-    let home = pairs::best_prefix(store, places, n, true, &made[..len]);
-    if !home.found {
-        return path::Reply::Refused(path::Refusal::NoPath);
-    }
-    if home.at != i {
-        return path::Reply::Refused(path::Refusal::NoPath);
-    }
-    let spoilt = prefix::is_spoilt(new, rest);
-    finish(spoilt, &made[..len], out)
-}
-
-// Translation of a path without selections through the first n pairs.
-pub fn translate_text(
-    store: &[u8],
-    places: &[usize],
-    n: usize,
-    mark: bool,
-    path: &[u8],
-    out: &mut [u8; 255],
-) -> path::Reply
-    ensures { λ r. ⌜ r ≡ reply (quickTranslate (lentMap (now (store .entry)) (now (places .entry)) n mark) (now (path .entry))) ⌝ }
-    ensures { λ r. ⌜ now (out .exit) ≡ memory (quickTranslate (lentMap (now (store .entry)) (now (places .entry)) n mark) (now (path .entry))) (now (out .entry)) ⌝ }
-{
-    let f = pairs::best_prefix(store, places, n, false, path);
-    if !f.found {
-        return translate_marked(store, places, n, mark, path, out);
-    }
-    let i = f.at;
-    let new = pairs::key_at(store, places, i, true);
-    if new.len() == 0 {
-        return path::Reply::Refused(path::Refusal::NoPath);
-    }
-    let old = pairs::key_at(store, places, i, false);
-    let k = old.len();
-    translate_pair(store, places, n, mark, i, old, new, &path[k..], out)
-}
 
 // A map: how many pairs of the lent list are its own, the root-identity mark, and the time offset.
 pub struct MapFunction {
@@ -234,7 +86,7 @@ fn map_out(
     ensures { λ r. ⌜ now (out .exit) ≡ memory (quick invert (lentMap (now (store .entry)) (now (places .entry)) n mark) (now (path .entry))) (now (out .entry)) ⌝ }
 {
     let mut made = [0u8; 255];
-    let r = map_text(store, places, n, mark, invert, path, &mut made);
+    let r = carry::map_text(store, places, n, mark, invert, path, &mut made);
     hand_out(r, &made, out)
 }
 
@@ -252,7 +104,7 @@ fn translate_out(
     ensures { λ r. ⌜ now (out .exit) ≡ memory (quickTranslate (lentMap (now (store .entry)) (now (places .entry)) n mark) (now (path .entry))) (now (out .entry)) ⌝ }
 {
     let mut made = [0u8; 255];
-    let r = translate_text(store, places, n, mark, path, &mut made);
+    let r = carry::translate_text(store, places, n, mark, path, &mut made);
     hand_out(r, &made, out)
 }
 

@@ -1,0 +1,3 @@
+pub mod MapWays
+mod TranslateWays
+pub mod QuickLaws

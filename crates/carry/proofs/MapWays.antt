@@ -1,0 +1,172 @@
+-- What each way through `carry`, `keep` and `map_text` gives. Assumes nothing.
+use mathlib.Core.Path.{_≡_, refl, sym, ap, _∙_}
+use mathlib.Core.Logic.{_≢_}
+use mathlib.Core.Bool.{Bool, true, false, not, cond, _&&_}
+use mathlib.Core.List.{List, [], _∷_}
+use mathlib.Core.Option.{Option, none, some}
+use Prim.Native.Nat.{ℕ, _-_, _≤_, _<_}
+use native.Mathlib.Nat.{zero-add}
+use native.Mathlib.Omega.{arith}
+use lib.ListN.{length, take, drop}
+use borrow.Author.Tests.{le-leb, lt-leb}
+use Rattle.text.specs.Text.{Text, isNil, written, placed as placedText, fitted}
+use Rattle.text.specs.declared.Fit.{Fit}
+use Rattle.text.specs.declared.Fit.the-variants.{Written as WrittenFit, Over}
+use Rattle.text.proofs.BoolLaws.{and-r, not-true, not-false, told}
+use Rattle.text.proofs.WriteLaws.{placed-first, rest-whole, fit-length, fit-room, fit-over}
+use Rattle.grammar.specs.Legal.{fits}
+use Rattle.prefix.specs.Prefix.{hasPrefix}
+use Rattle.prefix.specs.Join.{joined, spoils}
+use Rattle.prefix.proofs.PrefixLaws.{prefix-long}
+use Rattle.pairs.specs.Places.{keyAt, placed}
+use Rattle.pairs.specs.Best.{best, serves, chosenIn}
+use Rattle.pairs.proofs.PlaceLaws.{placed-length, placed-source, placed-target, chosen-best, best-same}
+use Rattle.pairs.specs.declared.Found.{Found}
+use Rattle.path.specs.declared.Refusal.the-variants.{NoPath, MadeTooLong, MadeIllegal}
+use Rattle.path.specs.declared.Reply.{Reply}
+use Rattle.path.specs.declared.Reply.the-variants.{Written, Refused}
+use Rattle.path.specs.Outcome.{Outcome, path, refused, reply, memory}
+use Rattle.maps.specs.Map.{Map, source, target, size, chosenOut, chosenHome}
+use Rattle.carry.specs.Quick.{lentMap, joining, keeping, quickBy, quick}
+
+-- a text's length and whether it is empty
+pub nil-length : (k : Text) → length k ≡ 0 → isNil k ≡ true
+nil-length [] l = refl
+nil-length (a ∷ k) l = absurd (omega arith)
+
+pub not-nil-length : (k : Text) → length k ≢ 0 → isNil k ≡ false
+not-nil-length [] l = absurd (l refl)
+not-nil-length (a ∷ k) l = refl
+
+-- a key that serves is no longer than the path
+served-long : (p k : Text) → serves p k ≡ true → length k ≤ length p
+unfolding serves
+served-long p k e = prefix-long p k (and-r (not (isNil k)) (hasPrefix p k) e)
+
+-- what a text that fits 255 bytes leaves, and one that does not
+module _ (q out : Text) (f : Fit) (h : f ≡ fitted q out) (l : length out ≡ 255) where
+  pub path-written : (n : ℕ) (out′ : Text) → f ≡ WrittenFit n → out′ ≡ placedText 0 q out
+      → (Written n ≡ reply (cond (fits q) (path q) (refused MadeTooLong))) × (out′ ≡ memory (cond (fits q) (path q) (refused MadeTooLong)) out)
+  unfolding fits reply memory
+  path-written n out′ e m =
+      let r : length q ≤ length out = fit-room q out n (sym h ∙ e) in
+      rw (le-leb (length q) 255 (omega arith)) (ap (λ (k : ℕ). Written k) (fit-length q out n (sym h ∙ e)), m ∙ placed-first q out r)
+
+  pub path-over : (out′ : Text) → f ≡ Over → out′ ≡ placedText 0 q out
+      → (Refused MadeTooLong ≡ reply (cond (fits q) (path q) (refused MadeTooLong))) × (out′ ≡ memory (cond (fits q) (path q) (refused MadeTooLong)) out)
+  unfolding fits reply memory placedText
+  path-over out′ e m =
+      let r : length out < length q = fit-over q out (sym h ∙ e) in
+      let o : out′ ≡ out = rw (zero-add (length q), lt-leb (length q) (length out) r) at m in
+      rw (lt-leb (length q) 255 (omega arith)) (refl, o)
+
+-- `carry`: the rest as the code cuts it
+abbrev restOf : Text → Text → Text
+restOf s p = take (length p - length s) (drop (length s) p)
+
+module _ (s t p out : Text) (b : Bool) (h : b ≡ spoils t (restOf s p)) where
+  pub carry-spoilt : b ≡ true → (Refused MadeIllegal ≡ reply (joining s t (drop (length s) p))) × (out ≡ memory (joining s t (drop (length s) p)) out)
+  unfolding joining reply memory
+  carry-spoilt k = let e : spoils t (drop (length s) p) ≡ true = rw (rest-whole p (length s)) at (told h k) in rw e (refl, refl)
+
+  module _ (k : b ≡ false) where
+    unspoilt : spoils t (drop (length s) p) ≡ false
+    unspoilt = rw (rest-whole p (length s)) at (told h k)
+
+    pub carry-made : (r : Reply) (out′ : Text)
+        → (r ≡ reply (cond (fits (joined s t (restOf s p))) (path (joined s t (restOf s p))) (refused MadeTooLong)))
+        × (out′ ≡ memory (cond (fits (joined s t (restOf s p))) (path (joined s t (restOf s p))) (refused MadeTooLong)) out)
+        → (r ≡ reply (joining s t (drop (length s) p))) × (out′ ≡ memory (joining s t (drop (length s) p)) out)
+    unfolding joining
+    carry-made r out′ w = rw unspoilt (rw (rest-whole p (length s)) at w)
+
+-- `keep`
+module _ (mark : Bool) (p out : Text) where
+  pub keep-none : not mark ≡ true → (Refused NoPath ≡ reply (keeping mark p)) × (out ≡ memory (keeping mark p) out)
+  unfolding keeping reply memory
+  keep-none k = rw (not-true mark k) (refl, refl)
+
+  pub keep-long : not mark ≡ false → 255 < length p → (Refused MadeTooLong ≡ reply (keeping mark p)) × (out ≡ memory (keeping mark p) out)
+  unfolding keeping reply memory fits
+  keep-long k l = rw (not-false mark k, lt-leb (length p) 255 l) (refl, refl)
+
+  pub keep-whole : (out′ : Text) → not mark ≡ false → length p ≤ 255 → length out ≡ 255 → out′ ≡ placedText 0 p out
+      → (Written (length p) ≡ reply (keeping mark p)) × (out′ ≡ memory (keeping mark p) out)
+  unfolding keeping reply memory fits
+  keep-whole out′ k l e m = rw (not-false mark k, le-leb (length p) 255 l) (refl, m ∙ placed-first p out (omega arith))
+
+-- `map_text`: the keys that the code reads are the ends of the map in lent memory
+module _ (mark : Bool) (p : Text) (a a′ b b′ t t′ : ℕ → Text) where
+  by-same : (o : Option ℕ) → ((i : ℕ) → o ≡ some i → (a i ≡ a′ i) × (b i ≡ b′ i) × (t i ≡ t′ i)) → quickBy mark a b t p o ≡ quickBy mark a′ b′ t′ p o
+  unfolding quickBy
+  by-same none same = refl
+  by-same (some i) same = let e = same i refl in rw (e .0, e .1, e .2)
+
+module _ (store : Text) (places : List ℕ) (n : ℕ) (mark : Bool) (p : Text) where
+  abbrev key : Bool → ℕ → Text
+  key b = keyAt store places b
+
+  abbrev lent : Map
+  lent = lentMap store places n mark
+
+  chosen-by : (l : ℕ → Text) (k : ℕ → Text) → ((i : ℕ) → i < n → l i ≡ k i) → best p l (size lent) ≡ best p k n
+  unfolding best
+  chosen-by l k same = rw (placed-length store places n) (best-same (serves p) l k n same)
+
+  pub out-keys : chosenOut lent p ≡ best p (key false) n
+  unfolding chosenOut
+  out-keys = chosen-by (source lent) (key false) (placed-source store places n)
+
+  pub home-keys : chosenHome lent p ≡ best p (key true) n
+  unfolding chosenHome
+  home-keys = chosen-by (target lent) (key true) (placed-target store places n)
+
+  pub ends-by : (invert : Bool) (i : ℕ) → best p (key invert) n ≡ some i → (source lent i ≡ key false i) × (target lent i ≡ key true i)
+  unfolding best
+  ends-by invert i e =
+      let h : i < n = (chosen-best (serves p) (key invert) n i e) .in-range in
+      (placed-source store places n i h, placed-target store places n i h)
+
+  quick-by : (invert : Bool) → quick invert lent p ≡ quickBy mark (key invert) (key (not invert)) (key true) p (best p (key invert) n)
+  unfolding quick
+  quick-by false =
+      ap (quickBy mark (source lent) (target lent) (target lent) p) out-keys
+      ∙ by-same mark p (source lent) (key false) (target lent) (key true) (target lent) (key true) (best p (key false) n)
+      (λ i e. let z = ends-by false i e in (z .0, z .1, z .1))
+  quick-by true =
+      ap (quickBy mark (target lent) (source lent) (target lent) p) home-keys
+      ∙ by-same mark p (target lent) (key true) (source lent) (key false) (target lent) (key true) (best p (key true) n)
+      (λ i e. let z = ends-by true i e in (z .1, z .0, z .1))
+
+  module _ (invert : Bool) (f : Found) (h : chosenIn f ≡ best p (key invert) n) where
+    pub map-none : not (f .found) ≡ true → quick invert lent p ≡ keeping mark p
+    unfolding quickBy
+    map-none k = quick-by invert ∙ ap (quickBy mark (key invert) (key (not invert)) (key true) p) (sym h ∙ none-in)
+      where
+        none-in : chosenIn f ≡ none
+        none-in = rw (not-true (f .found) k)
+
+    module _ (k : not (f .found) ≡ false) where
+      chosen : best p (key invert) n ≡ some (f .at)
+      chosen = sym h ∙ rw (not-false (f .found) k)
+
+      pub map-block : (b : Text) → b ≡ key true (f .at) → length b ≡ 0 → quick invert lent p ≡ refused NoPath
+      unfolding quickBy
+      map-block b e l =
+          quick-by invert ∙ ap (quickBy mark (key invert) (key (not invert)) (key true) p) chosen ∙ ap blocked (nil-length (key true (f .at)) (rw e at l))
+        where
+          blocked : Bool → Outcome
+          blocked c = cond c (refused NoPath) (joining (key invert (f .at)) (key (not invert) (f .at)) (drop (length (key invert (f .at))) p))
+
+      pub map-carry : (b s t : Text) → b ≡ key true (f .at) → length b ≢ 0 → s ≡ key invert (f .at) → t ≡ key (not invert) (f .at)
+          → quick invert lent p ≡ joining s t (drop (length s) p)
+      unfolding quickBy
+      map-carry b s t e l es et =
+          rw (es, et) (quick-by invert ∙ ap (quickBy mark (key invert) (key (not invert)) (key true) p) chosen ∙ ap blocked (not-nil-length (key true (f .at)) (rw e at l)))
+        where
+          blocked : Bool → Outcome
+          blocked c = cond c (refused NoPath) (joining (key invert (f .at)) (key (not invert) (f .at)) (drop (length (key invert (f .at))) p))
+
+      pub map-inside : (s : Text) → s ≡ key invert (f .at) → length s ≤ length p
+      unfolding best
+      map-inside s e = rw e (served-long p (key invert (f .at)) ((chosen-best (serves p) (key invert) n (f .at) chosen) .does-pass))

@@ -1,0 +1,123 @@
+-- What each way through `finish`, `translate_marked`, `translate_pair` and `translate_text` gives. Assumes nothing.
+use mathlib.Core.Path.{_≡_, refl, sym, ap, _∙_}
+use mathlib.Core.Logic.{_≢_}
+use mathlib.Core.Bool.{Bool, true, false, not, cond, _&&_}
+use mathlib.Core.List.{List}
+use mathlib.Core.Option.{Option, none, some}
+use Prim.Native.Nat.{ℕ, _≤_, _<_}
+use native.Mathlib.Omega.{arith}
+use lib.ListN.{length, take, drop}
+use borrow.Author.Tests.{le-leb, lt-leb, eq-eqb, ne-eqb}
+use Rattle.text.specs.Text.{Text, isNil, placed as placedText, fitted}
+use Rattle.text.specs.declared.Fit.{Fit}
+use Rattle.text.specs.declared.Fit.the-variants.{Written as WrittenFit, Over}
+use Rattle.text.proofs.BoolLaws.{and-no, not-true, not-false}
+use Rattle.text.proofs.WriteLaws.{fit-room, fit-over, fit-back}
+use Rattle.prefix.specs.Join.{joined, spoils}
+use Rattle.pairs.specs.Places.{keyAt}
+use Rattle.pairs.specs.Best.{best, chosenIn}
+use Rattle.pairs.specs.declared.Found.{Found}
+use Rattle.path.specs.declared.Refusal.the-variants.{NoPath, MadeTooLong, MadeIllegal}
+use Rattle.path.specs.declared.Reply.{Reply}
+use Rattle.path.specs.declared.Reply.the-variants.{Refused}
+use Rattle.path.specs.Outcome.{Outcome, refused, reply, memory}
+use Rattle.maps.specs.Map.{Map, source, target, chosenOut, chosenHome, same}
+use Rattle.carry.specs.Quick.{lentMap, finished, joining, keeping, isNone, translateMarked, translatePair, translateBy, quickTranslate}
+use Rattle.carry.proofs.MapWays.{nil-length, not-nil-length, out-keys, home-keys, ends-by}
+
+-- `finish`
+module _ (b : Bool) (q out : Text) where
+  pub finish-spoilt : b ≡ true → (Refused MadeIllegal ≡ reply (finished b q)) × (out ≡ memory (finished b q) out)
+  unfolding reply memory
+  finish-spoilt h = rw h (refl, refl)
+
+  pub finish-kept : b ≡ false → (r : Reply) (out′ : Text) → (r ≡ reply (keeping true q)) × (out′ ≡ memory (keeping true q) out)
+      → (r ≡ reply (finished b q)) × (out′ ≡ memory (finished b q) out)
+  unfolding keeping
+  finish-kept h r out′ w = rw h w
+
+-- what was found is what is chosen
+found-none : (f : Found) (o : Option ℕ) → chosenIn f ≡ o → f .found ≡ false → o ≡ none
+found-none f o h k = sym h ∙ rw k
+
+found-some : (f : Found) (o : Option ℕ) → chosenIn f ≡ o → f .found ≡ true → o ≡ some (f .at)
+found-some f o h k = sym h ∙ rw k
+
+module _ (store : Text) (places : List ℕ) (n : ℕ) (mark : Bool) (p : Text) where
+  abbrev lent : Map
+  lent = lentMap store places n mark
+
+  -- `translate_marked`
+  pub marked-none : not mark ≡ true → translateMarked lent p ≡ refused NoPath
+  unfolding translateMarked
+  marked-none k = rw (not-true mark k)
+
+  module _ (f : Found) (h : chosenIn f ≡ best p (keyAt store places true) n) where
+    home-is : chosenIn f ≡ chosenHome lent p
+    home-is = h ∙ sym (home-keys store places n mark p)
+
+    pub marked-shadowed : f .found ≡ true → translateMarked lent p ≡ refused NoPath
+    unfolding translateMarked
+    marked-shadowed k = rw (found-some f (chosenHome lent p) home-is k, and-no mark)
+
+    pub marked-kept : not mark ≡ false → f .found ≡ false → translateMarked lent p ≡ keeping mark p
+    unfolding translateMarked
+    marked-kept k l = rw (found-none f (chosenHome lent p) home-is l, not-false mark k)
+
+  -- `translate_text`
+  module _ (f : Found) (h : chosenIn f ≡ best p (keyAt store places false) n) where
+    out-is : chosenIn f ≡ chosenOut lent p
+    out-is = h ∙ sym (out-keys store places n mark p)
+
+    pub text-none : not (f .found) ≡ true → quickTranslate lent p ≡ translateMarked lent p
+    unfolding quickTranslate translateBy
+    text-none k = rw (found-none f (chosenOut lent p) out-is (not-true (f .found) k))
+
+    module _ (k : not (f .found) ≡ false) where
+      chosen : best p (keyAt store places false) n ≡ some (f .at)
+      chosen = found-some f (best p (keyAt store places false) n) h (not-false (f .found) k)
+
+      by-pair : quickTranslate lent p
+          ≡ cond (isNil (keyAt store places true (f .at))) (refused NoPath)
+          (translatePair lent (f .at) (keyAt store places false (f .at)) (keyAt store places true (f .at)) (drop (length (keyAt store places false (f .at))) p))
+      unfolding quickTranslate translateBy
+      by-pair =
+          let e = ends-by store places n mark p false (f .at) chosen in
+          rw (found-some f (chosenOut lent p) out-is (not-false (f .found) k), e .0, e .1)
+
+      pub text-block : (t : Text) → t ≡ keyAt store places true (f .at) → length t ≡ 0 → quickTranslate lent p ≡ refused NoPath
+      text-block t e l = by-pair ∙ rw (← e, nil-length t l)
+
+      pub text-pair : (s t : Text) → t ≡ keyAt store places true (f .at) → length t ≢ 0 → s ≡ keyAt store places false (f .at)
+          → quickTranslate lent p ≡ translatePair lent (f .at) s t (drop (length s) p)
+      text-pair s t e l es = by-pair ∙ rw (← e, ← es, not-nil-length t l)
+
+-- `translate_pair`: the text j is made in memory of 512 bytes
+module _ (store : Text) (places : List ℕ) (n : ℕ) (mark : Bool) (i : ℕ) (s t r : Text) (buf : Text) (f : Fit) (h : f ≡ fitted (joined s t r) buf) (l : length buf ≡ 512) where
+  abbrev lentOne : Map
+  lentOne = lentMap store places n mark
+
+  pub pair-over : f ≡ Over → translatePair lentOne i s t r ≡ refused MadeTooLong
+  unfolding translatePair
+  pair-over e = rw (lt-leb (length (joined s t r)) 512 (omega (arith, fit-over (joined s t r) buf (sym h ∙ e))))
+
+  module _ (k : ℕ) (e : f ≡ WrittenFit k) (mem : Text) (m : mem ≡ placedText 0 (joined s t r) buf) (g : Found) (o : chosenIn g ≡ best (take k mem) (keyAt store places true) n) where
+    fits-512 : translatePair lentOne i s t r ≡ cond (same (some i) (chosenHome lentOne (joined s t r))) (joining s t r) (refused NoPath)
+    unfolding translatePair
+    fits-512 = rw (le-leb (length (joined s t r)) 512 (omega (arith, fit-room (joined s t r) buf k (sym h ∙ e))))
+
+    back-is : chosenIn g ≡ chosenHome lentOne (joined s t r)
+    back-is = (rw (fit-back (joined s t r) buf f h k e mem m) at o) ∙ sym (home-keys store places n mark (joined s t r))
+
+    pub pair-lost : not (g .found) ≡ true → translatePair lentOne i s t r ≡ refused NoPath
+    pair-lost q = fits-512 ∙ rw (found-none g (chosenHome lentOne (joined s t r)) back-is (not-true (g .found) q))
+
+    pub pair-other : not (g .found) ≡ false → g .at ≢ i → translatePair lentOne i s t r ≡ refused NoPath
+    pair-other q d =
+        fits-512 ∙ rw (found-some g (chosenHome lentOne (joined s t r)) back-is (not-false (g .found) q), ne-eqb i (g .at) (λ z. d (sym z)))
+
+    pub pair-same : (b : Bool) → not (g .found) ≡ false → g .at ≡ i → b ≡ spoils t r → translatePair lentOne i s t r ≡ finished b (take k mem)
+    unfolding joining
+    pair-same b q d z =
+        rw (fit-back (joined s t r) buf f h k e mem m, z)
+        (fits-512 ∙ rw (found-some g (chosenHome lentOne (joined s t r)) back-is (not-false (g .found) q), eq-eqb i (g .at) (sym d)))

@@ -1,0 +1,144 @@
+-- The ends of a map: what a list of ends says of each, and that a map made of ends has only ends. Assumes nothing.
+use mathlib.Core.Path.{_≡_, refl, sym, ap, _∙_}
+use mathlib.Core.Bool.{Bool, true, false, not, cond, _&&_}
+use mathlib.Core.List.{List, [], _∷_, map}
+use Prim.Native.Nat.{ℕ, zero, suc, _+_, _≤_, _<_}
+use native.Mathlib.Omega.{arith}
+use native.Mathlib.Nat.{not-suc-le-zero}
+use lib.ListN.{length}
+use Rattle.text.specs.Text.{Text, isNil}
+use Rattle.text.proofs.BoolLaws.{and-l, and-r, not-true}
+use Rattle.grammar.specs.Legal.{isEnd}
+use Rattle.pairs.specs.Pair.{Pair, sourceAt, targetAt, allEnds, noEmptySource}
+use Rattle.maps.specs.Map.{Map}
+use Rattle.maps.specs.New.{fromParts, new, fromPair, fromPairIdentity}
+use Rattle.maps.specs.Derive.{droppingSource, exchanged, inverse, withRootIdentity}
+use Rattle.maps.proofs.WeightLaws.{weight, weight-length, fromParts-weight, droppingSource-weight}
+
+-- every source of pairs whose ends are ends is one ..
+pub ends-source : (l : List Pair) → allEnds l ≡ true → (i : ℕ) → isEnd (sourceAt l i) ≡ true
+unfolding allEnds
+ends-source [] e i = refl
+ends-source (x ∷ l) e zero = search (and-l, and-r)
+ends-source (x ∷ l) e (suc i) = ends-source l (search (and-l, and-r)) i
+
+-- .. and so is every target
+pub ends-target : (l : List Pair) → allEnds l ≡ true → (i : ℕ) → isEnd (targetAt l i) ≡ true
+unfolding allEnds
+ends-target [] e i = refl
+ends-target (x ∷ l) e zero = search (and-l, and-r)
+ends-target (x ∷ l) e (suc i) = ends-target l (search (and-l, and-r)) i
+
+-- where no source is empty, each has a byte
+pub full-source : (l : List Pair) → noEmptySource l ≡ true → (i : ℕ) → i < length l → isNil (sourceAt l i) ≡ false
+unfolding noEmptySource
+full-source [] e i h = absurd (not-suc-le-zero h)
+full-source (x ∷ l) e zero h = not-true (isNil (x .source)) (search and-l)
+full-source (x ∷ l) e (suc i) h = full-source l (search (and-l, and-r)) i (omega arith)
+
+-- every pair of a list passes a test
+unfoldable pub all : (Pair → Bool) → List Pair → Bool
+all ok [] = true
+all ok (x ∷ l) = ok x && all ok l
+
+module _ (ok : Pair → Bool) where
+  -- the number of those that fail
+  abbrev failing : List Pair → ℕ
+  failing l = weight (λ x. cond (ok x) 0 1) l
+
+  none-fail : (l : List Pair) → all ok l ≡ true → failing l ≡ 0
+  unfolding weight all
+  none-fail [] e = refl
+  none-fail (x ∷ l) e = rw (and-l (ok x) (all ok l) e) (omega (arith, none-fail l (and-r (ok x) (all ok l) e)))
+
+  all-pass : (l : List Pair) → failing l ≡ 0 → all ok l ≡ true
+  unfolding weight all
+  all-pass [] e = refl
+  all-pass (x ∷ l) e = go (ok x) e (all-pass l)
+    where
+      go : (b : Bool) → cond b 0 1 + failing l ≡ 0 → (failing l ≡ 0 → all ok l ≡ true) → (b && all ok l) ≡ true
+      go true e ih = ih (omega arith)
+      go false e ih = absurd (omega arith)
+
+  fewer-pass : (l k : List Pair) → failing k ≤ failing l → all ok l ≡ true → all ok k ≡ true
+  fewer-pass l k h e = all-pass k (omega (arith, none-fail l e))
+
+  -- a test that every given pair passes, every pair of the map made of them passes
+  pub fromParts-keeps : (l : List Pair) (mark : Bool) → all ok l ≡ true → all ok ((fromParts l mark) .pairs) ≡ true
+  fromParts-keeps l mark = fewer-pass l ((fromParts l mark) .pairs) (fromParts-weight (λ x. cond (ok x) 0 1) l mark)
+
+  -- and so does every pair of a map that leaves out a source
+  pub droppingSource-keeps : (m : Map) (s : Text) → all ok (m .pairs) ≡ true → all ok ((droppingSource m s) .pairs) ≡ true
+  droppingSource-keeps m s = fewer-pass (m .pairs) ((droppingSource m s) .pairs) (droppingSource-weight (λ x. cond (ok x) 0 1) m s)
+
+-- both ends of a pair are ends
+abbrev areEnds : Pair → Bool
+areEnds x = isEnd (x .source) && isEnd (x .target)
+
+ends-all : (l : List Pair) → allEnds l ≡ all areEnds l
+unfolding allEnds all
+ends-all [] = refl
+ends-all (x ∷ l) = ap (λ (b : Bool). areEnds x && b) (ends-all l)
+
+-- a map made of ends has only ends: with a mark, ..
+pub fromParts-ends : (l : List Pair) (mark : Bool) → allEnds l ≡ true → allEnds ((fromParts l mark) .pairs) ≡ true
+fromParts-ends l mark e = ends-all ((fromParts l mark) .pairs) ∙ fromParts-keeps areEnds l mark (sym (ends-all l) ∙ e)
+
+-- .. with the mark that its pairs bring, ..
+pub new-ends : (l : List Pair) → allEnds l ≡ true → allEnds ((new l) .pairs) ≡ true
+unfolding new
+new-ends l = fromParts-ends l false
+
+-- .. of one pair, ..
+pub fromPair-ends : (x : Pair) → allEnds (x ∷ []) ≡ true → allEnds ((fromPair x) .pairs) ≡ true
+unfolding fromPair
+fromPair-ends x e = e
+
+-- .. of one pair beside the mark, ..
+pub fromPairIdentity-ends : (x : Pair) → allEnds (x ∷ []) ≡ true → allEnds ((fromPairIdentity x) .pairs) ≡ true
+unfolding fromPairIdentity
+fromPairIdentity-ends x = fromParts-ends (x ∷ []) true
+
+-- .. without a source, ..
+pub droppingSource-ends : (m : Map) (s : Text) → allEnds (m .pairs) ≡ true → allEnds ((droppingSource m s) .pairs) ≡ true
+droppingSource-ends m s e = ends-all ((droppingSource m s) .pairs) ∙ droppingSource-keeps areEnds m s (sym (ends-all (m .pairs)) ∙ e)
+
+-- .. with the mark put to it, ..
+pub withRootIdentity-ends : (m : Map) → allEnds (m .pairs) ≡ true → allEnds ((withRootIdentity m) .pairs) ≡ true
+unfolding withRootIdentity
+withRootIdentity-ends m e = e
+
+exchanged-ends : (l : List Pair) → allEnds l ≡ true → allEnds (map (λ (x : Pair). exchanged x) l) ≡ true
+unfolding allEnds
+exchanged-ends [] e = e
+exchanged-ends (x ∷ l) e =
+    let s : isEnd (x .source) ≡ true = search (and-l, and-r) in
+    let t : isEnd (x .target) ≡ true = search (and-l, and-r) in
+    rw (s, t) (exchanged-ends l (search (and-l, and-r)))
+
+-- .. with its ends exchanged
+pub inverse-ends : (m : Map) → allEnds (m .pairs) ≡ true → allEnds ((inverse m) .pairs) ≡ true
+unfolding inverse
+inverse-ends m e = fromParts-ends (map (λ (x : Pair). exchanged x) (m .pairs)) (m .mark) (exchanged-ends (m .pairs) e)
+
+-- the source of a pair is not empty
+abbrev isFull : Pair → Bool
+isFull x = not (isNil (x .source))
+
+full-all : (l : List Pair) → noEmptySource l ≡ all isFull l
+unfolding noEmptySource all
+full-all [] = refl
+full-all (x ∷ l) = ap (λ (b : Bool). isFull x && b) (full-all l)
+
+-- a map made of pairs with no empty source has none ..
+pub fromParts-full : (l : List Pair) (mark : Bool) → noEmptySource l ≡ true → noEmptySource ((fromParts l mark) .pairs) ≡ true
+fromParts-full l mark e = full-all ((fromParts l mark) .pairs) ∙ fromParts-keeps isFull l mark (sym (full-all l) ∙ e)
+
+-- .. and so has what `new` makes
+pub new-full : (l : List Pair) → noEmptySource l ≡ true → noEmptySource ((new l) .pairs) ≡ true
+unfolding new
+new-full l = fromParts-full l false
+
+-- a map made of pairs has no more than they are
+pub fromParts-length : (l : List Pair) (mark : Bool) → length ((fromParts l mark) .pairs) ≤ length l
+fromParts-length l mark = omega (arith, fromParts-weight (λ x. 1) l mark, weight-length l, weight-length ((fromParts l mark) .pairs))

@@ -1,0 +1,5 @@
+pub mod WeightLaws
+pub mod EndLaws
+pub mod OutcomeLaws
+pub mod LegLaws
+pub mod Sharp

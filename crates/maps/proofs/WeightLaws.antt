@@ -1,0 +1,104 @@
+-- A map made from pairs weighs no more than they, whatever each pair weighs: nothing is added to them. Assumes nothing.
+use mathlib.Core.Path.{_≡_, refl, ap, _∙_}
+use mathlib.Core.Bool.{Bool, true, false, cond, _&&_, _||_}
+use mathlib.Core.List.{List, [], _∷_, _++_, map}
+use Prim.Native.Nat.{ℕ, _+_, _≤_}
+use native.Mathlib.Omega.{arith}
+use lib.Dec.{leb}
+use lib.ListN.{length}
+use Rattle.text.specs.Text.{Text, equal}
+use Rattle.prefix.specs.Elements.{elements}
+use Rattle.pairs.specs.Pair.{Pair}
+use Rattle.maps.specs.Map.{Map}
+use Rattle.maps.specs.New.{isRoots, anyRoots, noRoots, insert, sorted, implied, keep, canonical, fromParts}
+use Rattle.maps.specs.Compose.{hasSource}
+use Rattle.maps.specs.Derive.{withoutSource, droppingSource, exchanged, inverse}
+
+-- what the pairs of a list weigh together, by what each weighs
+unfoldable pub weight : (Pair → ℕ) → List Pair → ℕ
+weight w [] = 0
+weight w (x ∷ l) = w x + weight w l
+
+-- where each weighs one, their number
+pub weight-length : (l : List Pair) → weight (λ x. 1) l ≡ length l
+unfolding weight
+weight-length [] = refl
+weight-length (x ∷ l) = omega (arith, weight-length l)
+
+module _ (w : Pair → ℕ) where
+  weight-snoc : (x : Pair) (l : List Pair) → weight w (l ++ x ∷ []) ≡ weight w l + w x
+  unfolding weight
+  weight-snoc x [] = omega arith
+  weight-snoc x (y ∷ l) = omega (arith, weight-snoc x l)
+
+  -- pairs changed one by one weigh what the changed ones weigh
+  pub weight-map : (f : Pair → Pair) (l : List Pair) → weight w (map f l) ≡ weight (λ x. w (f x)) l
+  unfolding weight
+  weight-map f [] = refl
+  weight-map f (x ∷ l) = ap (λ (n : ℕ). w (f x) + n) (weight-map f l)
+
+  either : (b : Bool) (x y : List Pair) (n : ℕ) → weight w x ≤ n → weight w y ≤ n → weight w (cond b x y) ≤ n
+  either true x y n h k = h
+  either false x y n h k = k
+
+  noRoots-weight : (l : List Pair) → weight w (noRoots l) ≤ weight w l
+  unfolding weight noRoots
+  noRoots-weight [] = omega arith
+  noRoots-weight (x ∷ l) =
+      let ih = noRoots-weight l in
+      either (isRoots x) (noRoots l) (x ∷ noRoots l) (w x + weight w l) (omega arith) (omega arith)
+
+  insert-weight : (x : Pair) (l : List Pair) → weight w (insert x l) ≡ w x + weight w l
+  unfolding weight insert
+  insert-weight x [] = refl
+  insert-weight x (y ∷ l) = go (leb (elements (x .source)) (elements (y .source))) (insert-weight x l)
+    where
+      go : (b : Bool) → weight w (insert x l) ≡ w x + weight w l → weight w (cond b (x ∷ y ∷ l) (y ∷ insert x l)) ≡ w x + (w y + weight w l)
+      go true ih = refl
+      go false ih = omega arith
+
+  sorted-weight : (l : List Pair) → weight w (sorted l) ≡ weight w l
+  unfolding weight sorted
+  sorted-weight [] = refl
+  sorted-weight (x ∷ l) = insert-weight x (sorted l) ∙ ap (λ (n : ℕ). w x + n) (sorted-weight l)
+
+  keep-weight : (mark : Bool) (kept l : List Pair) → weight w (keep mark kept l) ≤ weight w kept + weight w l
+  unfolding weight keep
+  keep-weight mark kept [] = omega arith
+  keep-weight mark kept (x ∷ l) =
+      let b : Bool = implied (record { pairs = kept; mark = mark }) x in
+      let k = either b kept (kept ++ x ∷ []) (weight w kept + w x) (omega arith) (omega (arith, weight-snoc x kept)) in
+      omega (arith, keep-weight mark (cond b kept (kept ++ x ∷ [])) l)
+
+  canonical-weight : (mark : Bool) (l : List Pair) → weight w (canonical mark l) ≤ weight w l
+  unfolding weight canonical
+  canonical-weight mark [] = omega arith
+  canonical-weight mark (x ∷ []) = either (mark && equal (x .source) (x .target)) [] (x ∷ []) (w x + 0) (omega arith) (omega arith)
+  canonical-weight mark (x ∷ y ∷ l) = omega (arith, keep-weight mark [] (sorted (x ∷ y ∷ l)), sorted-weight (x ∷ y ∷ l))
+
+  -- dropping adds nothing
+  pub fromParts-weight : (l : List Pair) (mark : Bool) → weight w ((fromParts l mark) .pairs) ≤ weight w l
+  unfolding fromParts
+  fromParts-weight l mark = omega (arith, canonical-weight (mark || anyRoots l) (noRoots l), noRoots-weight l)
+
+  withoutSource-weight : (s : Text) (l : List Pair) → weight w (withoutSource s l) ≤ weight w l
+  unfolding weight withoutSource
+  withoutSource-weight s [] = omega arith
+  withoutSource-weight s (x ∷ l) =
+      let ih = withoutSource-weight s l in
+      either (equal (x .source) s) (withoutSource s l) (x ∷ withoutSource s l) (w x + weight w l) (omega arith) (omega arith)
+
+  -- nor does leaving out the pairs of a source ..
+  pub droppingSource-weight : (m : Map) (s : Text) → weight w ((droppingSource m s) .pairs) ≤ weight w (m .pairs)
+  unfolding droppingSource
+  droppingSource-weight m s = go (hasSource (m .pairs) s)
+    where
+      go : (b : Bool) → weight w ((cond b (fromParts (withoutSource s (m .pairs)) (m .mark)) m) .pairs) ≤ weight w (m .pairs)
+      go true = omega (arith, fromParts-weight (withoutSource s (m .pairs)) (m .mark), withoutSource-weight s (m .pairs))
+      go false = omega arith
+
+  -- .. nor exchanging the ends
+  pub inverse-weight : (m : Map) → weight w ((inverse m) .pairs) ≤ weight (λ x. w (exchanged x)) (m .pairs)
+  unfolding inverse
+  inverse-weight m =
+      omega (arith, fromParts-weight (map (λ (x : Pair). exchanged x) (m .pairs)) (m .mark), weight-map (λ (x : Pair). exchanged x) (m .pairs))

@@ -1,0 +1,5 @@
+pub mod Map
+pub mod New
+pub mod Compose
+pub mod Derive
+pub mod Leg

@@ -1,0 +1,91 @@
+-- Making a map from pairs. OpenUSD: PcpMapFunction::Create.
+use Prim.Native.Nat.{ℕ}
+use mathlib.Core.Bool.{Bool, true, false, cond, _&&_, _||_}
+use mathlib.Core.List.{List, [], _∷_, _++_}
+use mathlib.Core.Option.{Option, none, some}
+use lib.Dec.{leb}
+use Rattle.text.specs.Text.{Text, equal}
+use Rattle.grammar.specs.Legal.{isRoot}
+use Rattle.prefix.specs.Elements.{count, elements}
+use Rattle.prefix.specs.Join.{replacePrefix}
+use Rattle.pairs.specs.Pair.{Pair}
+use Rattle.maps.specs.Map.{Map, source, target, chosenOut}
+
+-- "`new` turns each `/`→`/` into the mark."
+abbrev pub isRoots : Pair → Bool
+isRoots x = isRoot (x .source) && isRoot (x .target)
+
+unfoldable pub anyRoots : List Pair → Bool
+anyRoots [] = false
+anyRoots (x ∷ xs) = isRoots x || anyRoots xs
+
+unfoldable pub noRoots : List Pair → List Pair
+noRoots [] = []
+noRoots (x ∷ xs) = cond (isRoots x) (noRoots xs) (x ∷ noRoots xs)
+
+-- "pairs are sorted by source elements, stably"
+unfoldable pub insert : Pair → List Pair → List Pair
+unfolding count
+insert x [] = x ∷ []
+insert x (y ∷ ys) = cond (leb (elements (x .source)) (elements (y .source))) (x ∷ y ∷ ys) (y ∷ insert x ys)
+
+unfoldable pub sorted : List Pair → List Pair
+unfolding insert
+sorted [] = []
+sorted (x ∷ xs) = insert x (sorted xs)
+
+-- where the kept pairs and the mark carry a text, textually: an empty target is joined like any other (Rust: map_via)
+abbrev pub viaPair : Map → Text → Option ℕ → Option Text
+unfolding replacePrefix
+viaPair m p none = cond (m .mark) (some p) none
+viaPair m p (some i) = replacePrefix p (source m i) (target m i)
+
+unfoldable pub via : Map → Text → Option Text
+unfolding viaPair chosenOut
+via m p = viaPair m p (chosenOut m p)
+
+abbrev pub isText : Option Text → Text → Bool
+unfolding equal
+isText none t = false
+isText (some q) t = equal q t
+
+-- "a pair is dropped when the kept ones carry its source to its target textually"
+unfoldable pub implied : Map → Pair → Bool
+unfolding isText via
+implied m x = isText (via m (x .source)) (x .target)
+
+unfoldable pub keep : Bool → List Pair → List Pair → List Pair
+unfolding implied
+keep mark kept [] = kept
+keep mark kept (x ∷ xs) = keep mark (cond (implied (record { pairs = kept; mark = mark }) x) kept (kept ++ x ∷ [])) xs
+
+-- "A single pair stays unless marked and equal. Otherwise pairs are sorted .."
+unfoldable pub canonical : Bool → List Pair → List Pair
+unfolding equal keep sorted
+canonical mark [] = []
+canonical mark (x ∷ []) = cond (mark && equal (x .source) (x .target)) [] (x ∷ [])
+canonical mark (x ∷ y ∷ l) = keep mark [] (sorted (x ∷ y ∷ l))
+
+-- Rust: from_parts
+unfoldable pub fromParts : List Pair → Bool → Map
+unfolding anyRoots noRoots canonical
+fromParts l mark = record { pairs = canonical (mark || anyRoots l) (noRoots l); mark = mark || anyRoots l }
+
+unfoldable pub new : List Pair → Map
+unfolding fromParts
+new l = fromParts l false
+
+-- one pair as it stands, unmarked; and one pair beside the mark
+unfoldable pub fromPair : Pair → Map
+fromPair x = record { pairs = x ∷ []; mark = false }
+
+unfoldable pub fromPairIdentity : Pair → Map
+unfolding fromParts
+fromPairIdentity x = fromParts (x ∷ []) true
+
+-- the map that leaves every path as it is, and the one that maps nothing
+abbrev pub identity : Map
+identity = record { pairs = []; mark = true }
+
+abbrev pub null : Map
+null = record { pairs = []; mark = false }

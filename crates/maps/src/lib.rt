@@ -1,0 +1,1 @@
+// Maps of paths: definitions and theorems only (specs/, proofs/).
