@@ -1,11 +1,36 @@
 //! Finds the original's source tree and writes, for each of its folders, a file that declares the modules
-//! taken from it. The modules are compiled where they lie, unchanged.
+//! taken from it and holds the items cut from its `mod.rs`. A module is compiled where it lies, or, where
+//! something is added to it, from a copy that ends with the addition. The original's text is never changed.
 
 use std::path::{Path, PathBuf};
 use std::{env, fs};
 
-/// The folders of the original and the files taken from each.
-const FOLDERS: &[(&str, &[&str])] = &[("sdf", &["path"])];
+/// A folder of the original and what is taken from it.
+struct Folder {
+    name: &'static str,
+    files: &'static [File],
+    /// The first lines of items of `mod.rs`, after their comments and attributes.
+    items: &'static [&'static str],
+}
+
+struct File {
+    name: &'static str,
+    /// A file of ours whose text is added at the end.
+    addition: Option<&'static str>,
+}
+
+const FOLDERS: &[Folder] = &[
+    Folder {
+        name: "sdf",
+        files: &[File { name: "path", addition: None }],
+        items: &["pub struct LayerOffset {", "impl Default for LayerOffset {", "impl LayerOffset {"],
+    },
+    Folder {
+        name: "pcp",
+        files: &[File { name: "mapping", addition: Some("additions/mapping.rs") }],
+        items: &[],
+    },
+];
 
 /// Where the sources lie in the tree.
 const SOURCES: &str = "crates/openusd/src";
@@ -17,8 +42,8 @@ fn main() {
     println!("cargo::rerun-if-changed=build.rs");
     println!("cargo::rerun-if-env-changed=OPENUSD_SRC");
     let sources = tree().join(SOURCES);
-    for (folder, files) in FOLDERS {
-        write_modules(&sources.join(folder), folder, files);
+    for folder in FOLDERS {
+        write_folder(&sources.join(folder.name), folder);
     }
 }
 
@@ -39,8 +64,8 @@ fn named_tree(tree: PathBuf) -> PathBuf {
 }
 
 fn tree_beside_the_repository() -> PathBuf {
-    let here = PathBuf::from(variable("CARGO_MANIFEST_DIR"));
-    here.ancestors()
+    here()
+        .ancestors()
         .map(|folder| folder.join(BESIDE))
         .find(|tree| tree.join(SOURCES).is_dir())
         .unwrap_or_else(|| {
@@ -50,19 +75,69 @@ fn tree_beside_the_repository() -> PathBuf {
         })
 }
 
-/// Writes `folder.rs` with one module for each file.
-fn write_modules(from: &Path, folder: &str, files: &[&str]) {
-    let modules: String = files.iter().map(|file| module(from, file)).collect();
-    let to = PathBuf::from(variable("OUT_DIR")).join(format!("{folder}.rs"));
-    fs::write(to, modules).expect("the build's own folder can be written");
+/// Writes `folder.rs` with one module for each file, and the items.
+fn write_folder(from: &Path, folder: &Folder) {
+    let modules: String = folder.files.iter().map(|file| module(from, file)).collect();
+    write(&format!("{}.rs", folder.name), &(modules + &items(&from.join("mod.rs"), folder.items)));
 }
 
 /// The declaration of one module. Much of an original file is not called here.
-fn module(from: &Path, file: &str) -> String {
-    let path = from.join(format!("{file}.rs"));
+fn module(from: &Path, file: &File) -> String {
+    let name = file.name;
+    let path = from.join(format!("{name}.rs"));
     assert!(path.is_file(), "the original's file {} is missing", path.display());
     println!("cargo::rerun-if-changed={}", path.display());
-    format!("#[allow(dead_code)]\n#[path = {path:?}]\npub mod {file};\n")
+    let path = match file.addition {
+        Some(addition) => with_addition(&path, name, addition),
+        None => path,
+    };
+    format!("#[allow(dead_code)]\n#[path = {path:?}]\npub mod {name};\n")
+}
+
+/// A copy of the original's file in the build's own folder, with the addition at its end.
+fn with_addition(original: &Path, name: &str, addition: &str) -> PathBuf {
+    let addition = here().join(addition);
+    println!("cargo::rerun-if-changed={}", addition.display());
+    write(&format!("{name}_and_addition.rs"), &(read(original) + "\n" + &read(&addition)))
+}
+
+/// The text of the items whose first lines are given.
+fn items(file: &Path, first_lines: &[&str]) -> String {
+    if first_lines.is_empty() {
+        return String::new();
+    }
+    println!("cargo::rerun-if-changed={}", file.display());
+    let text = read(file);
+    let lines: Vec<&str> = text.lines().collect();
+    first_lines.iter().map(|first| item(file, &lines, first)).collect()
+}
+
+/// One item, from the blank line before its comments and attributes to its closing brace at the left margin.
+fn item(file: &Path, lines: &[&str], first: &str) -> String {
+    let places: Vec<usize> = (0..lines.len()).filter(|at| lines[*at] == first).collect();
+    let [at] = places[..] else {
+        panic!("{} has the line `{first}` {} times, not once", file.display(), places.len());
+    };
+    let start = lines[..at].iter().rposition(|line| line.is_empty()).map_or(0, |blank| blank + 1);
+    let Some(length) = lines[at..].iter().position(|line| *line == "}") else {
+        panic!("{}: nothing closes `{first}`", file.display());
+    };
+    lines[start..=at + length].join("\n") + "\n"
+}
+
+fn read(file: &Path) -> String {
+    fs::read_to_string(file).unwrap_or_else(|error| panic!("{}: {error}", file.display()))
+}
+
+/// Writes a file of the build's own folder and gives its path.
+fn write(name: &str, text: &str) -> PathBuf {
+    let path = PathBuf::from(variable("OUT_DIR")).join(name);
+    fs::write(&path, text).expect("the build's own folder can be written");
+    path
+}
+
+fn here() -> PathBuf {
+    PathBuf::from(variable("CARGO_MANIFEST_DIR"))
 }
 
 fn variable(name: &str) -> String {

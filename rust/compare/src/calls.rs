@@ -36,15 +36,8 @@ impl PathCall {
 /// The original gives a path or an error, and no value beside the path.
 pub const NEW: NumberCall = NumberCall { name: "new", entry: library::new, original: |_| 0 };
 
-/// "A prim path, `/` or empty", and "a prim path has names only".
-pub const IS_END: NumberCall = NumberCall {
-    name: "is_end",
-    entry: library::is_end,
-    original: |path| {
-        let names_only = path.is_prim() && !path.has_variant_selection();
-        usize::from(path.is_empty() || path.is_abs_root() || names_only)
-    },
-};
+pub const IS_END: NumberCall =
+    NumberCall { name: "is_end", entry: library::is_end, original: |path| usize::from(is_end(path)) };
 
 pub const HAS_VARIANT_SELECTION: NumberCall = NumberCall {
     name: "has_variant_selection",
@@ -78,6 +71,12 @@ pub const STRIP_VARIANT_SELECTIONS: PathCall = PathCall {
     original: |path| Some(path.strip_variant_selections()),
 };
 
+/// "A prim path, `/` or empty", and "a prim path has names only".
+pub fn is_end(path: &Path) -> bool {
+    let names_only = path.is_prim() && !path.has_variant_selection();
+    path.is_empty() || path.is_abs_root() || names_only
+}
+
 pub fn has_prefix(text: &Text, prefix: &Text) -> Answer<bool> {
     paths([text, prefix]).map(|[path, prefix]| path.has_prefix(prefix))
 }
@@ -94,7 +93,7 @@ pub fn ancestors(text: &Text) -> Answer<Vec<usize>> {
 }
 
 /// Questions 6, 7 and 8 put to what the definition gives.
-fn accept(made: Option<Path>) -> Answer<Path> {
+pub fn accept(made: Option<Path>) -> Answer<Path> {
     let path = made.ok_or(NO_PATH)?;
     if path.as_str().len() > LONGEST {
         return Err(MADE_TOO_LONG);

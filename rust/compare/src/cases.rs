@@ -2,40 +2,12 @@
 
 use crate::comparison::Comparison;
 use crate::text::Text;
-use std::time::{Duration, Instant};
 use texts::damage::damaged;
 use texts::generate::{legal_text, length, new_prefix_for, prefix_for};
 use texts::random::Random;
 
-/// How long to go on.
-pub enum Limit {
-    Cases(u64),
-    Time(Duration),
-}
-
-impl Limit {
-    fn is_reached(&self, cases: u64, start: Instant) -> bool {
-        match self {
-            Limit::Cases(most) => cases >= *most,
-            Limit::Time(longest) => start.elapsed() >= *longest,
-        }
-    }
-}
-
-/// Makes cases until the limit is reached and gives their number.
-pub fn run(comparison: &mut Comparison, seed: u64, limit: &Limit) -> u64 {
-    let random = &mut Random::new(seed);
-    let start = Instant::now();
-    let mut cases = 0;
-    while !limit.is_reached(cases, start) {
-        let length = length(random);
-        case(comparison, random, length);
-        cases += 1;
-    }
-    cases
-}
-
-fn case(comparison: &mut Comparison, random: &mut Random, length: usize) {
+pub fn case(comparison: &mut Comparison, random: &mut Random) {
+    let length = length(random);
     let [path, old, new] = texts(random, length).map(|bytes| Text::new(&bytes));
     comparison.one_text(&path);
     comparison.facts(&path);

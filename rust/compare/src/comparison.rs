@@ -2,8 +2,8 @@
 
 use crate::calls::{self, NumberCall, PathCall};
 use crate::lent::Lent;
-use crate::tally::{Call, Tally};
-use crate::text::{Answer, Text};
+use crate::tally::{Call, Given, Tally};
+use crate::text::{Answer, Text, Texts};
 use library::Reply;
 use original::sdf::Path;
 use std::collections::BTreeSet;
@@ -48,11 +48,12 @@ impl Comparison {
     pub fn one_text(&mut self, text: &Text) {
         for call in &NUMBER_CALLS {
             let found = (call.entry)(&text.bytes);
-            self.number(call.name, &[text], call.expected(text), found);
+            self.number(call.name, &Texts(&[text]), call.expected(text), found);
         }
         for call in &PATH_CALLS {
             let expected = call.expected(text);
-            self.path(call.name, &[text], &expected, |out| (call.entry)(&text.bytes, out));
+            let entry = |out: &mut [u8]| (call.entry)(&text.bytes, out);
+            self.path(call.name, &Texts(&[text]), &ROOMS, &expected, entry);
         }
         self.ancestors(text);
     }
@@ -60,35 +61,36 @@ impl Comparison {
     pub fn has_prefix(&mut self, text: &Text, prefix: &Text) {
         let expected = calls::has_prefix(text, prefix).map(usize::from);
         let found = library::has_prefix(&text.bytes, &prefix.bytes);
-        self.number("has_prefix", &[text, prefix], expected, found);
+        self.number("has_prefix", &Texts(&[text, prefix]), expected, found);
     }
 
     pub fn replace_prefix(&mut self, text: &Text, old: &Text, new: &Text) {
         let expected = calls::replace_prefix(text, old, new);
-        self.path("replace_prefix", &[text, old, new], &expected, |out| {
-            library::replace_prefix(&text.bytes, &old.bytes, &new.bytes, out)
-        });
+        let entry = |out: &mut [u8]| library::replace_prefix(&text.bytes, &old.bytes, &new.bytes, out);
+        self.path("replace_prefix", &Texts(&[text, old, new]), &ROOMS, &expected, entry);
     }
 
-    fn number(&mut self, name: &'static str, texts: &[&Text], expected: Answer<usize>, found: Reply) {
-        let call = Call { name, texts, room: None };
+    fn number(&mut self, name: &'static str, given: &dyn Given, expected: Answer<usize>, found: Reply) {
+        let call = Call { name, given, room: None };
         self.tally.compare(call, expected, found, None);
     }
 
-    /// A call that writes a path, with each size of lent memory.
-    fn path(
+    /// A call that writes a path, with each size of lent memory, of which none is above the greatest of
+    /// `ROOMS`.
+    pub fn path(
         &mut self,
         name: &'static str,
-        texts: &[&Text],
+        given: &dyn Given,
+        rooms: &[usize],
         expected: &Answer<Path>,
         entry: impl Fn(&mut [u8]) -> Reply,
     ) {
         let full = expected.as_ref().map(|path| path.as_str().as_bytes()).map_err(|number| *number);
-        for room in ROOMS {
+        for &room in rooms {
             let expected = calls::within(room, LONGEST, full);
             let found = entry(self.bytes.lend(room));
             let wrong = self.bytes.first_wrong(expected.unwrap_or_default());
-            let call = Call { name, texts, room: Some(room) };
+            let call = Call { name, given, room: Some(room) };
             self.tally.compare(call, expected.map(<[u8]>::len), found, wrong);
         }
     }
@@ -102,7 +104,7 @@ impl Comparison {
             let expected = calls::within(room, needed, full);
             let found = library::ancestors(&text.bytes, self.numbers.lend(room));
             let wrong = self.numbers.first_wrong(expected.unwrap_or_default());
-            let call = Call { name: "ancestors", texts: &[text], room: Some(room) };
+            let call = Call { name: "ancestors", given: &Texts(&[text]), room: Some(room) };
             self.tally.compare(call, expected.map(<[usize]>::len), found, wrong);
         }
     }

@@ -1,6 +1,7 @@
 //! All texts of small sets, and all pairs and triples of smaller ones.
 
 use crate::comparison::Comparison;
+use crate::phase::phase;
 use crate::text::Text;
 use texts::damage::{with_byte_changed, with_byte_inserted};
 use texts::enumerate::{all_texts, legal_texts, texts_near_legal};
@@ -25,13 +26,6 @@ pub fn run(comparison: &mut Comparison) {
         triples(comparison, &legal(b"/AB1{}=.:", 5));
         triples(comparison, &legal(b"/A{}=.", 9));
     });
-}
-
-/// Runs one phase and says how many comparisons it made.
-fn phase(comparison: &mut Comparison, name: &str, run: impl FnOnce(&mut Comparison)) {
-    let before = comparison.tally.comparisons();
-    run(comparison);
-    println!("{name}: {} comparisons", comparison.tally.comparisons() - before);
 }
 
 fn one_text(comparison: &mut Comparison, bytes: &[u8]) {

@@ -1,7 +1,7 @@
 //! What must hold of the original's answers, because the library's calls rest on it.
 
 use crate::comparison::Comparison;
-use crate::text::{Text, parsed};
+use crate::text::{Text, Texts, parsed};
 use original::sdf::Path;
 
 /// A legal path of at most 255 bytes has at most so many ancestors, itself counted.
@@ -17,7 +17,7 @@ impl Comparison {
         if refused {
             self.refused_by_original.insert(text.bytes.clone());
         }
-        let mut fact = |name, holds| self.tally.fact(name, &[text], holds);
+        let mut fact = |name, holds| self.tally.fact(name, &Texts(&[text]), holds);
         fact("Path::new refuses no legal text but the empty one", refused == text.bytes.is_empty());
         fact("a path has at most 128 ancestors", path.ancestors().count() <= MOST_ANCESTORS);
         fact("an ancestor is a beginning of the path", path.ancestors().all(|up| begins(path, &up)));
@@ -31,7 +31,7 @@ impl Comparison {
             return;
         };
         let has_prefix = path.has_prefix(old);
-        let mut fact = |name, holds| self.tally.fact(name, &[text, prefix], holds);
+        let mut fact = |name, holds| self.tally.fact(name, &Texts(&[text, prefix]), holds);
         fact("has_prefix is as document 01 says", has_prefix == is_prefix(&text.bytes, &prefix.bytes));
         fact(
             "a prefix can be replaced, and nothing else",

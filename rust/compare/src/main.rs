@@ -6,19 +6,36 @@ mod comparison;
 mod exhaustive;
 mod facts;
 mod lent;
+#[cfg(feature = "maps")]
+mod maps;
+mod phase;
 mod record;
 mod tally;
 mod text;
 
-use cases::Limit;
 use comparison::Comparison;
+use phase::{Limit, random_phase};
 use std::env;
 use std::process::ExitCode;
 use std::time::Duration;
 
-const USAGE: &str = "usage: compare [--seconds N | --cases N] [--seed S] [--record FILE_IN FILE_OUT]";
+const USAGE: &str =
+    "usage: compare [--only PART] [--seconds N | --cases N] [--seed S] [--record FILE_IN FILE_OUT]";
+
+/// A part of the comparison.
+struct Part {
+    name: &'static str,
+    run: fn(&mut Comparison, &Options),
+}
+
+const PARTS: &[Part] = &[
+    Part { name: "paths", run: compare_paths },
+    #[cfg(feature = "maps")]
+    Part { name: "maps", run: compare_maps },
+];
 
 struct Options {
+    parts: Vec<&'static Part>,
     limit: Limit,
     seed: u64,
     /// The two files of a recorded sample, where one is asked for in place of a comparison.
@@ -27,7 +44,8 @@ struct Options {
 
 fn main() -> ExitCode {
     let Some(options) = read_options(env::args().skip(1)) else {
-        eprintln!("{USAGE}");
+        let parts: Vec<_> = PARTS.iter().map(|part| part.name).collect();
+        eprintln!("{USAGE}\nparts: {}", parts.join(", "));
         return ExitCode::from(2);
     };
     match &options.record {
@@ -38,10 +56,12 @@ fn main() -> ExitCode {
 
 /// The options, or `None` where the arguments are no options.
 fn read_options(mut arguments: impl Iterator<Item = String>) -> Option<Options> {
-    let mut options = Options { limit: Limit::Time(Duration::from_secs(20)), seed: 1, record: None };
+    let limit = Limit::Time(Duration::from_secs(20));
+    let mut options = Options { parts: PARTS.iter().collect(), limit, seed: 1, record: None };
     while let Some(argument) = arguments.next() {
         let value = arguments.next()?;
         match argument.as_str() {
+            "--only" => options.parts = vec![PARTS.iter().find(|part| part.name == value)?],
             "--seconds" => options.limit = Limit::Time(Duration::from_secs(value.parse().ok()?)),
             "--cases" => options.limit = Limit::Cases(value.parse().ok()?),
             "--seed" => options.seed = value.parse().ok()?,
@@ -62,14 +82,23 @@ fn record(inputs: &str, answers: &str, seed: u64) -> ExitCode {
     }
 }
 
+fn compare_paths(comparison: &mut Comparison, options: &Options) {
+    exhaustive::run(comparison);
+    random_phase(comparison, "cases", options.seed, &options.limit, cases::case);
+    println!("legal texts that Path::new refuses: {}", comparison.refused_by_original.len());
+}
+
+#[cfg(feature = "maps")]
+fn compare_maps(comparison: &mut Comparison, options: &Options) {
+    maps::run(comparison, options.seed);
+    random_phase(comparison, "lists", options.seed, &options.limit, maps::cases::case);
+}
+
 fn compare(options: &Options) -> ExitCode {
     let comparison = &mut Comparison::new();
-    exhaustive::run(comparison);
-    let before = comparison.tally.comparisons();
-    let cases = cases::run(comparison, options.seed, &options.limit);
-    let made = comparison.tally.comparisons() - before;
-    println!("{cases} random cases, seed {}: {made} comparisons", options.seed);
-    println!("legal texts that Path::new refuses: {}", comparison.refused_by_original.len());
+    for part in &options.parts {
+        (part.run)(comparison, options);
+    }
     let tally = &comparison.tally;
     println!("facts checked of the original's answers: {}", tally.facts());
     print!("{tally}");

@@ -1,6 +1,6 @@
 //! Counts comparisons and keeps the smallest input of each kind of difference.
 
-use crate::text::{Answer, Text};
+use crate::text::Answer;
 use library::Reply;
 use std::collections::BTreeMap;
 use std::fmt::{self, Display};
@@ -28,16 +28,23 @@ enum What {
     Fact,
 }
 
+/// The input of a difference as it is shown, with its size.
 struct Input {
-    texts: Vec<Vec<u8>>,
-    details: String,
+    size: usize,
+    shown: String,
 }
 
-/// One call: its name, its texts and the items of lent memory.
+/// What a call is given, beside the memory lent for its answer.
+pub trait Given: Display {
+    /// Of two inputs the one of lesser size tells more.
+    fn size(&self) -> usize;
+}
+
+/// One call: its name, what it is given and the items of lent memory.
 #[derive(Clone, Copy)]
 pub struct Call<'a> {
     pub name: &'static str,
-    pub texts: &'a [&'a Text],
+    pub given: &'a dyn Given,
     pub room: Option<usize>,
 }
 
@@ -73,10 +80,10 @@ impl Tally {
     }
 
     /// Something that must hold of the original's answers; where it does not, that counts as a difference.
-    pub fn fact(&mut self, name: &'static str, texts: &[&Text], holds: bool) {
+    pub fn fact(&mut self, name: &'static str, given: &dyn Given, holds: bool) {
         self.facts += 1;
         if !holds {
-            let call = Call { name, texts, room: None };
+            let call = Call { name, given, room: None };
             self.note(call, What::Fact, String::from("does not hold"));
         }
     }
@@ -84,20 +91,14 @@ impl Tally {
     fn note(&mut self, call: Call, what: What, details: String) {
         self.differences += 1;
         let kind = Kind { call: call.name, what };
+        let size = call.given.size();
         let known = self.smallest.get(&kind);
-        if known.is_none_or(|known| length(call.texts) < known.length()) {
+        if known.is_none_or(|known| size < known.size) {
             let room = call.room.map_or(String::new(), |room| format!(" room {room}:"));
-            let input = Input {
-                texts: call.texts.iter().map(|text| text.bytes.clone()).collect(),
-                details: format!("{room} {details}"),
-            };
-            self.smallest.insert(kind, input);
+            let shown = format!("{}{room} {details}", call.given);
+            self.smallest.insert(kind, Input { size, shown });
         }
     }
-}
-
-fn length(texts: &[&Text]) -> usize {
-    texts.iter().map(|text| text.bytes.len()).sum()
 }
 
 fn shown(reply: Reply) -> String {
@@ -117,21 +118,11 @@ impl What {
     }
 }
 
-impl Input {
-    fn length(&self) -> usize {
-        self.texts.iter().map(Vec::len).sum()
-    }
-}
-
 impl Display for Tally {
     /// The smallest input of each kind of difference, a line each.
     fn fmt(&self, f: &mut fmt::Formatter<'_>) -> fmt::Result {
         for (kind, input) in &self.smallest {
-            write!(f, "{} ({}):", kind.call, kind.what)?;
-            for text in &input.texts {
-                write!(f, " \"{}\"", text.escape_ascii())?;
-            }
-            writeln!(f, "{}", input.details)?;
+            writeln!(f, "{} ({}):{}", kind.call, kind.what, input.shown)?;
         }
         Ok(())
     }

@@ -1,6 +1,8 @@
 //! A text with what is known of it before any call: its refusal, or the original's path.
 
+use crate::tally::Given;
 use original::sdf::Path;
+use std::fmt::{self, Display};
 use texts::LONGEST;
 use texts::legal::is_legal;
 
@@ -25,12 +27,32 @@ impl Text {
     }
 
     pub fn path(&self) -> Option<&Path> {
-        self.path.as_ref().ok()
+        self.answer().ok()
+    }
+
+    /// The path, or the first "no" of questions 1 and 2.
+    pub fn answer(&self) -> Answer<&Path> {
+        self.path.as_ref().map_err(|number| *number)
+    }
+}
+
+/// The texts that a call is given.
+pub struct Texts<'a>(pub &'a [&'a Text]);
+
+impl Given for Texts<'_> {
+    fn size(&self) -> usize {
+        self.0.iter().map(|text| text.bytes.len()).sum()
+    }
+}
+
+impl Display for Texts<'_> {
+    fn fmt(&self, f: &mut fmt::Formatter<'_>) -> fmt::Result {
+        self.0.iter().try_for_each(|text| write!(f, " \"{}\"", text.bytes.escape_ascii()))
     }
 }
 
 /// Questions 1 and 2 put to one text.
-fn path_of(bytes: &[u8]) -> Answer<Path> {
+pub fn path_of(bytes: &[u8]) -> Answer<Path> {
     if bytes.len() > LONGEST {
         return Err(TOO_LONG);
     }
@@ -50,7 +72,7 @@ pub fn parsed(legal: &[u8]) -> Option<Path> {
 /// The paths of all texts. Question 1 is put to every text before question 2.
 pub fn paths<const N: usize>(texts: [&Text; N]) -> Answer<[&Path; N]> {
     for number in [TOO_LONG, NOT_LEGAL] {
-        if texts.iter().any(|text| text.path.as_ref().err() == Some(&number)) {
+        if texts.iter().any(|text| text.answer() == Err(number)) {
             return Err(number);
         }
     }

@@ -3,6 +3,9 @@
 //! Nothing checks the declarations below against the library's source; the comparison with the original calls
 //! every one of them.
 
+#[cfg(feature = "maps")]
+pub mod maps;
+
 /// What an entry replies: 256 times a value, plus document 01's number (0 for an answer).
 #[derive(Debug, Clone, Copy, PartialEq, Eq)]
 pub struct Reply(pub usize);

@@ -4,11 +4,22 @@
 
 /// Folder `sdf` of the original.
 pub mod sdf {
+    use crate::vt::{TimeCode, TimeSampleMap, Value};
+    use bytemuck::{Pod, Zeroable};
+
     include!(concat!(env!("OUT_DIR"), "/sdf.rs"));
 
     pub use path::*;
 }
 
+/// Folder `pcp` of the original.
+pub mod pcp {
+    include!(concat!(env!("OUT_DIR"), "/pcp.rs"));
+
+    pub use mapping::MapFunction;
+}
+
 pub mod tf;
+pub mod vt;
 
 const _: () = assert!(!cfg!(debug_assertions), "the reference is the original without debug assertions");

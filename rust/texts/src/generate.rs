@@ -24,17 +24,45 @@ struct Style {
     longest_name: usize,
     /// Of four places where a selection can stand, how many have one.
     selections: usize,
+    properties: bool,
+}
+
+impl Style {
+    fn any(random: &mut Random) -> Self {
+        let names = Style::names_only(random);
+        Style { selections: *random.pick(&[0, 1, 3]), properties: true, ..names }
+    }
+
+    fn names_only(random: &mut Random) -> Self {
+        Style { longest_name: *random.pick(&[1, 3, 8, 40]), selections: 0, properties: false }
+    }
 }
 
 /// A legal text of exactly `length` bytes (the length limit is not looked at).
 pub fn legal_text(random: &mut Random, length: usize) -> Vec<u8> {
-    let style = Style { longest_name: *random.pick(&[1, 3, 8, 40]), selections: *random.pick(&[0, 1, 3]) };
-    let mut text = Vec::with_capacity(length);
-    if length > 0 {
+    let style = Style::any(random);
+    continued_in(random, b"", &style, length)
+}
+
+/// A prim path of exactly `length` bytes, or `/`, or the empty path.
+pub fn end_text(random: &mut Random, length: usize) -> Vec<u8> {
+    let style = Style::names_only(random);
+    continued_in(random, b"", &style, length)
+}
+
+/// A legal text of `length` bytes that begins with the end `end`, or `end` where that is no shorter.
+pub fn continued(random: &mut Random, end: &[u8], length: usize) -> Vec<u8> {
+    let style = Style::any(random);
+    continued_in(random, end, &style, length)
+}
+
+fn continued_in(random: &mut Random, end: &[u8], style: &Style, length: usize) -> Vec<u8> {
+    let mut text = end.to_vec();
+    if text.is_empty() && length > 0 {
         text.push(b'/');
     }
     while text.len() < length {
-        append_part(random, &mut text, &style, length);
+        append_part(random, &mut text, style, length);
     }
     text
 }
@@ -47,7 +75,7 @@ fn append_part(random: &mut Random, text: &mut Vec<u8>, style: &Style, length: u
         append_name(random, text, longest_name.min(room));
     } else if room >= SHORTEST_SELECTION && random.below(4) < style.selections {
         append_selection(random, text, longest_name, room);
-    } else if room >= 2 && random.one_in(if room < 20 { 3 } else { 40 }) {
+    } else if style.properties && room >= 2 && random.one_in(if room < 20 { 3 } else { 40 }) {
         append_property(random, text, longest_name, length);
     } else if text.ends_with(b"}") {
         append_name(random, text, longest_name.min(room));
@@ -144,7 +172,7 @@ fn joining_length(random: &mut Random, text: &[u8], old: &[u8]) -> usize {
 
 #[cfg(test)]
 mod tests {
-    use super::{beginnings, legal_text, length};
+    use super::{beginnings, continued, end_text, legal_text, length};
     use crate::legal::is_legal;
     use crate::random::Random;
 
@@ -156,6 +184,20 @@ mod tests {
             let text = legal_text(random, length);
             assert!(is_legal(&text), "{}", String::from_utf8_lossy(&text));
             assert_eq!(text.len(), length);
+        }
+    }
+
+    #[test]
+    fn generated_ends_have_names_only_and_go_on_to_legal_texts() {
+        let random = &mut Random::new(1);
+        for _ in 0..20_000 {
+            let length = length(random);
+            let end = end_text(random, length);
+            assert!(is_legal(&end) && !end.iter().any(|byte| b"{.".contains(byte)));
+            assert_eq!(end.len(), length);
+            let longer = continued(random, &end, length + 9);
+            assert!(is_legal(&longer) && longer.starts_with(&end), "{}", longer.escape_ascii());
+            assert_eq!(longer.len(), length + 9);
         }
     }
 

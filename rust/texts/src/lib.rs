@@ -4,6 +4,7 @@
 //! its idea of a legal path is its own.
 
 pub mod damage;
+pub mod ends;
 pub mod enumerate;
 pub mod generate;
 pub mod legal;

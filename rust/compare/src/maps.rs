@@ -1,0 +1,21 @@
+//! The calls on maps: lists of pairs, in all small sets, with flaws, and at random.
+
+mod calls;
+pub mod cases;
+mod flaws;
+mod list;
+mod small;
+mod table;
+
+use crate::comparison::Comparison;
+use crate::phase::phase;
+use texts::random::Random;
+
+pub fn run(comparison: &mut Comparison, seed: u64) {
+    phase(comparison, "document 01's cases on maps", table::run);
+    phase(comparison, "lists of at most two pairs", small::lists_of_at_most_two);
+    phase(comparison, "lists of three pairs", small::lists_of_three);
+    phase(comparison, "every set of flaws", |comparison| {
+        flaws::every_set(comparison, &mut Random::new(seed));
+    });
+}

@@ -1,0 +1,152 @@
+//! A list of pairs as it is lent, and what is known of it before any call: its refusal, or the original's map.
+
+use crate::calls::is_end;
+use crate::tally::Given;
+use crate::text::{Answer, TOO_LONG, path_of};
+use original::pcp::MapFunction;
+use original::sdf::Path;
+use std::fmt::{self, Display};
+
+const NOT_AN_END: u8 = 3;
+pub const TOO_MANY_PAIRS: u8 = 4;
+
+/// The most pairs that a list may have.
+pub const MOST_PAIRS: usize = 64;
+
+/// The memory of a list: the bytes of its ends, and where each of them stands.
+#[derive(Clone, Default)]
+pub struct LentList {
+    pub store: Vec<u8>,
+    pub places: Vec<usize>,
+    pub count: usize,
+    pub mark: bool,
+}
+
+impl LentList {
+    /// The ends one after the other.
+    pub fn packed<T: AsRef<[u8]>>(pairs: &[[T; 2]], mark: bool) -> Self {
+        let mut lent = LentList { count: pairs.len(), mark, ..LentList::default() };
+        for end in pairs.iter().flatten() {
+            let place = lent.stored(end.as_ref());
+            lent.places.extend(place);
+        }
+        lent
+    }
+
+    /// Puts a text at the end of the store and gives its place.
+    pub fn stored(&mut self, text: &[u8]) -> [usize; 2] {
+        let start = self.store.len();
+        self.store.extend(text);
+        [start, text.len()]
+    }
+
+    /// How many of the pairs counted have their places in the slice.
+    pub fn held(&self) -> usize {
+        self.count.min(self.places.len() / 4)
+    }
+
+    /// The places of the ends of the pairs held.
+    fn ends(&self) -> impl Iterator<Item = Place<'_>> {
+        let numbers = self.places[..4 * self.held()].chunks_exact(2);
+        numbers.map(|place| Place { store: &self.store, start: place[0], length: place[1] })
+    }
+}
+
+/// Where an end stands.
+struct Place<'a> {
+    store: &'a [u8],
+    start: usize,
+    length: usize,
+}
+
+impl<'a> Place<'a> {
+    /// The bytes, or `None` where the place reaches outside the store.
+    fn bytes(&self) -> Option<&'a [u8]> {
+        let end = self.start.checked_add(self.length)?;
+        self.store.get(self.start..end)
+    }
+
+    /// Questions 1, 2 and 3 put to the end.
+    fn path(&self) -> Answer<Path> {
+        let path = path_of(self.bytes().ok_or(TOO_LONG)?)?;
+        if is_end(&path) { Ok(path) } else { Err(NOT_AN_END) }
+    }
+}
+
+impl Display for Place<'_> {
+    fn fmt(&self, f: &mut fmt::Formatter<'_>) -> fmt::Result {
+        match self.bytes() {
+            Some(bytes) => write!(f, "\"{}\"", bytes.escape_ascii()),
+            None => write!(f, "{} bytes at {} of {}", self.length, self.start, self.store.len()),
+        }
+    }
+}
+
+pub struct List {
+    lent: LentList,
+    map: Answer<MapFunction>,
+}
+
+impl List {
+    pub fn new(lent: LentList) -> Self {
+        let map = map_of(&lent);
+        List { lent, map }
+    }
+
+    pub fn packed<T: AsRef<[u8]>>(pairs: &[[T; 2]], mark: bool) -> Self {
+        List::new(LentList::packed(pairs, mark))
+    }
+
+    pub fn for_library(&self) -> library::maps::List<'_> {
+        let LentList { store, places, count, mark } = &self.lent;
+        library::maps::List { store, places, count: *count, mark: *mark }
+    }
+
+    /// The original's map, or the first "no" of questions 1 to 4.
+    pub fn map(&self) -> Answer<&MapFunction> {
+        self.map.as_ref().map_err(|number| *number)
+    }
+
+    /// Whether `map` has the pairs and the mark that are lent.
+    pub fn is_exactly(&self, map: &MapFunction) -> bool {
+        let ends = map.path_pairs().iter().flat_map(|(source, target)| [source, target]);
+        ends.map(|path| Some(path.as_str().as_bytes())).eq(self.lent.ends().map(|end| end.bytes()))
+            && map.has_root_identity() == self.lent.mark
+    }
+}
+
+/// Each question is put to every end before the next, so the smallest number is the answer.
+fn map_of(lent: &LentList) -> Answer<MapFunction> {
+    let ends: Vec<Answer<Path>> = lent.ends().map(|end| end.path()).collect();
+    if let Some(number) = ends.iter().filter_map(|end| end.as_ref().err()).min() {
+        return Err(*number);
+    }
+    if lent.held() < lent.count || lent.count > MOST_PAIRS {
+        return Err(TOO_MANY_PAIRS);
+    }
+    let paths: Vec<Path> = ends.into_iter().flatten().collect();
+    let pairs = paths.chunks_exact(2).map(|pair| (pair[0].clone(), pair[1].clone())).collect();
+    Ok(MapFunction::with_exactly(pairs, lent.mark))
+}
+
+impl Given for List {
+    /// A pair counts as one byte more than its ends.
+    fn size(&self) -> usize {
+        let bytes: usize = self.lent.ends().filter_map(|end| end.bytes()).map(<[u8]>::len).sum();
+        bytes + self.lent.held()
+    }
+}
+
+impl Display for List {
+    fn fmt(&self, f: &mut fmt::Formatter<'_>) -> fmt::Result {
+        f.write_str(if self.lent.mark { " mark" } else { " no mark" })?;
+        let ends: Vec<Place> = self.lent.ends().collect();
+        for pair in ends.chunks_exact(2) {
+            write!(f, ", {} -> {}", pair[0], pair[1])?;
+        }
+        if self.lent.held() < self.lent.count {
+            write!(f, ", {} counted", self.lent.count)?;
+        }
+        f.write_str(";")
+    }
+}

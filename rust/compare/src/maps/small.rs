@@ -1,0 +1,98 @@
+//! Every list of few pairs over few ends, with and without the mark, and some short paths.
+
+use crate::comparison::Comparison;
+use crate::maps::list::List;
+use crate::text::Text;
+
+const ENDS: [&str; 10] = ["", "/", "/A", "/B", "/AB", "/A/A", "/A/B", "/B/A", "/A/B/C", "/A/B/C/A"];
+
+const FEW_ENDS: [&str; 5] = ["", "/", "/A", "/A/B", "/B"];
+
+const PATHS: [&str; 44] = [
+    "",
+    "/",
+    "/A",
+    "/B",
+    "/C",
+    "/AB",
+    "/ABC",
+    "/A/A",
+    "/A/B",
+    "/A/C",
+    "/B/A",
+    "/B/B",
+    "/AB/A",
+    "/A/B/C",
+    "/A/B/B",
+    "/A/BC",
+    "/B/A/B",
+    "/A/A/B/C",
+    "/A/B/C/A",
+    "/A/B/C/A/B",
+    "/A.a",
+    "/B.a:b",
+    "/AB.a",
+    "/A/A.a",
+    "/A/B.a",
+    "/B/A.a:b",
+    "/A/B/C.a",
+    "/A/B/C/A.a",
+    "/A{v=p}",
+    "/B{v=p}",
+    "/A{v=p}{w=q}",
+    "/A{v=p}B",
+    "/B{v=p}A",
+    "/A{v=p}.a",
+    "/A{v=p}B.a",
+    "/A/B{v=p}",
+    "/A/B{v=p}C",
+    "/A/B{v=p}.a",
+    "/A{v=p}B/C",
+    "/A{v=p}B{w=q}C",
+    "/A{v=p}{w=q}B/C.a:b",
+    "/C{v=p}A",
+    "/AB{v=p}A",
+    "/A/B/C{v=p}A.a",
+];
+
+pub fn lists_of_at_most_two(comparison: &mut Comparison) {
+    let texts = texts();
+    let pairs = pairs(&ENDS);
+    either_mark(comparison, &[], &texts);
+    for one in &pairs {
+        either_mark(comparison, &[*one], &texts);
+        for other in &pairs {
+            either_mark(comparison, &[*one, *other], &texts);
+        }
+    }
+}
+
+pub fn lists_of_three(comparison: &mut Comparison) {
+    let texts = texts();
+    let pairs = pairs(&FEW_ENDS);
+    for one in &pairs {
+        for two in &pairs {
+            for three in &pairs {
+                either_mark(comparison, &[*one, *two, *three], &texts);
+            }
+        }
+    }
+}
+
+fn texts() -> Vec<Text> {
+    PATHS.iter().map(|path| Text::new(path.as_bytes())).collect()
+}
+
+fn pairs(ends: &[&'static str]) -> Vec<[&'static str; 2]> {
+    ends.iter().flat_map(|source| ends.iter().map(|target| [*source, *target])).collect()
+}
+
+fn either_mark(comparison: &mut Comparison, pairs: &[[&str; 2]], texts: &[Text]) {
+    for mark in [false, true] {
+        let list = List::packed(pairs, mark);
+        comparison.list_facts(&list);
+        for text in texts {
+            comparison.map(&list, text);
+        }
+    }
+}

@@ -1,0 +1,55 @@
+//! Document 01's cases on maps: the answers expected are those that it names.
+
+use crate::comparison::Comparison;
+use crate::maps::calls::{BACK, ListAndText, MapCall, OUT, TRANSLATED};
+use crate::maps::list::{List, TOO_MANY_PAIRS};
+use crate::text::{Answer, MADE_NOT_LEGAL, NO_PATH, Text};
+
+struct Row {
+    pairs: &'static [[&'static str; 2]],
+    mark: bool,
+    path: &'static str,
+    call: MapCall,
+    answer: Answer<&'static str>,
+}
+
+const ROWS: &[Row] = &[
+    Row { pairs: &[["/A", "/X"], ["/A", "/Y"]], mark: false, path: "/A/c", call: OUT, answer: Ok("/Y/c") },
+    // What `new` leaves of `/A`→empty, `/A/B`→`/B`.
+    Row { pairs: &[["/A", ""]], mark: false, path: "/A/B/C", call: OUT, answer: Err(NO_PATH) },
+    Row { pairs: &[["/A", "/X"]], mark: true, path: "/X/y", call: OUT, answer: Ok("/X/y") },
+    Row { pairs: &[["/A", "/X"]], mark: true, path: "/X/y", call: TRANSLATED, answer: Err(NO_PATH) },
+    Row { pairs: &[["", "/"]], mark: true, path: "/A", call: OUT, answer: Ok("/A") },
+    Row { pairs: &[["", "/"]], mark: true, path: "/A", call: BACK, answer: Ok("/A") },
+    Row { pairs: &[["", "/"]], mark: true, path: "/A", call: TRANSLATED, answer: Err(NO_PATH) },
+    // One map after the other.
+    Row {
+        pairs: &[["/A", "/X"], ["/A/B", "/Y"]],
+        mark: false,
+        path: "/A/B/C",
+        call: OUT,
+        answer: Ok("/Y/C"),
+    },
+    Row {
+        pairs: &[["/X/B/C", "/Z"], ["/Y", "/W"]],
+        mark: false,
+        path: "/Y/C",
+        call: OUT,
+        answer: Ok("/W/C"),
+    },
+    Row { pairs: &[["/A", "/"]], mark: false, path: "/A.b", call: OUT, answer: Err(MADE_NOT_LEGAL) },
+    Row { pairs: &[["/A", "/B"]; 64], mark: false, path: "/A", call: OUT, answer: Ok("/B") },
+    Row { pairs: &[["/A", "/B"]; 65], mark: false, path: "/A", call: OUT, answer: Err(TOO_MANY_PAIRS) },
+];
+
+pub fn run(comparison: &mut Comparison) {
+    for row in ROWS {
+        let list = List::packed(row.pairs, row.mark);
+        let text = Text::new(row.path.as_bytes());
+        let expected = row.call.expected(&list, &text);
+        let agrees = expected.as_ref().map(|path| path.as_str()) == row.answer.as_ref().map(|text| *text);
+        let given = ListAndText { list: &list, text: &text };
+        comparison.tally.fact("document 01's case is answered as it says", &given, agrees);
+        comparison.map(&list, &text);
+    }
+}

@@ -1,0 +1,119 @@
+//! Ends of pairs that stand in some relation to one another, and paths that have them as prefixes.
+
+use crate::LONGEST;
+use crate::generate::{continued, end_text, length};
+use crate::random::Random;
+
+/// Few, so that ends are often nested or equal.
+const NAMES: [&[u8]; 4] = [b"A", b"B", b"AB", b"c1"];
+
+/// `size` ends, of which the first is `/`: nested, equal, nearly equal, empty, some around the limit.
+pub fn family(random: &mut Random, size: usize) -> Vec<Vec<u8>> {
+    let with_long_ends = random.one_in(2);
+    let mut family = vec![b"/".to_vec()];
+    while family.len() < size {
+        let end = relative(random, &family, with_long_ends);
+        family.push(end);
+    }
+    family
+}
+
+fn relative(random: &mut Random, family: &[Vec<u8>], with_long_ends: bool) -> Vec<u8> {
+    let (other, name) = (random.pick(family), *random.pick(&NAMES));
+    match random.below(10) {
+        0 => Vec::new(),
+        1 => other.clone(),
+        2 => above(other).to_vec(),
+        3 => fitting([other, name].concat(), other),
+        4 | 5 if with_long_ends => long_end(random),
+        4 => [b"/", name].concat(),
+        _ => below(other, name),
+    }
+}
+
+/// The end without its last name.
+fn above(end: &[u8]) -> &[u8] {
+    let slash = end.iter().rposition(|byte| *byte == b'/').unwrap_or(0);
+    &end[..slash.max(1).min(end.len())]
+}
+
+/// The end with one name more.
+fn below(end: &[u8], name: &[u8]) -> Vec<u8> {
+    let separator: &[u8] = if end == b"/" { b"" } else { b"/" };
+    fitting([end, separator, name].concat(), end)
+}
+
+/// An end of 200 to 255 bytes.
+fn long_end(random: &mut Random) -> Vec<u8> {
+    let length = random.within(200..=LONGEST);
+    end_text(random, length)
+}
+
+/// `longer`, where that is an end within the limit, else `end`.
+fn fitting(longer: Vec<u8>, end: &[u8]) -> Vec<u8> {
+    if longer.len() <= LONGEST && longer.starts_with(b"/") { longer } else { end.to_vec() }
+}
+
+/// A path for a list that has the pair `from`, `to`: mostly `from` or a path under it. Often its own length, or
+/// that of the path with `to` in place of `from`, comes to about the limit.
+pub fn path_under(random: &mut Random, from: &[u8], to: &[u8]) -> Vec<u8> {
+    let length = match random.below(6) {
+        0 => from.len(),
+        1 | 2 => from.len() + random.below(12),
+        3 => random.within(LONGEST - 2..=LONGEST),
+        4 => (from.len() + random.within(LONGEST - 2..=LONGEST + 3)).saturating_sub(to.len()),
+        _ => length(random),
+    };
+    let path = continued(random, from, length.min(LONGEST));
+    if random.one_in(4) { with_selections(random, &path) } else { path }
+}
+
+/// `path` with a selection in place of some of its slashes, within the limit.
+fn with_selections(random: &mut Random, path: &[u8]) -> Vec<u8> {
+    let mut dressed = path.to_vec();
+    for at in (1..path.len()).rev() {
+        if path[at] == b'/' && dressed.len() + 4 <= LONGEST && random.one_in(2) {
+            dressed.splice(at..=at, *b"{v=p}");
+        }
+    }
+    dressed
+}
+
+#[cfg(test)]
+mod tests {
+    use super::{above, family, path_under};
+    use crate::LONGEST;
+    use crate::legal::is_legal;
+    use crate::random::Random;
+
+    #[test]
+    fn families_are_legal_ends() {
+        let random = &mut Random::new(1);
+        for _ in 0..2_000 {
+            for end in family(random, 20) {
+                assert!(is_legal(&end) && end.len() <= LONGEST, "{}", end.escape_ascii());
+                assert!(!end.iter().any(|byte| b"{.".contains(byte)), "{}", end.escape_ascii());
+            }
+        }
+    }
+
+    #[test]
+    fn paths_under_ends_are_legal() {
+        let random = &mut Random::new(1);
+        for _ in 0..2_000 {
+            let ends = family(random, 6);
+            for _ in 0..10 {
+                let (from, to) = (random.pick(&ends), random.pick(&ends));
+                let path = path_under(random, from, to);
+                assert!(is_legal(&path) && path.len() <= LONGEST, "{}", path.escape_ascii());
+            }
+        }
+    }
+
+    #[test]
+    fn above_takes_one_name_off() {
+        for (end, expected) in [("", ""), ("/", "/"), ("/A", "/"), ("/A/B", "/A")] {
+            assert_eq!(above(end.as_bytes()), expected.as_bytes());
+        }
+    }
+}
