@@ -1,11 +1,12 @@
 -- A list of pairs in lent memory: a store of bytes, and four numbers for each pair, where the source starts, its length, where the
 -- target starts, its length. This is the one place where such a list is read; everything else is defined on `List Pair`.
+use mathlib.Core.Path.{_≡_}
 use mathlib.Core.Bool.{Bool, true, cond, _&&_, _||_}
 use mathlib.Core.List.{List, [], _∷_, _++_}
 use Prim.Native.Nat.{ℕ, zero, suc, _+_, _*_, _/_}
 use lib.Dec.{leb}
 use lib.ListN.{length, getD, take, drop}
-use Rattle.text.specs.Text.{Text}
+use Rattle.text.specs.Text.{Text, written}
 use Rattle.pairs.specs.Pair.{Pair}
 
 -- the place j: a start and a length
@@ -55,3 +56,23 @@ unfoldable pub placesAll : (Text → Bool) → Text → List ℕ → ℕ → Boo
 unfolding textAt
 placesAll passes store places zero = true
 placesAll passes store places (suc n) = placesAll passes store places n && passes (textAt store places n)
+
+-- How a list is written: its bytes stand one after the other, source then target, pair after pair, from the beginning of the store on ..
+unfoldable pub listText : List Pair → Text
+listText [] = []
+listText (x ∷ xs) = x .source ++ (x .target ++ listText xs)
+
+-- .. and the places say so; `at` is where the first pair stands
+unfoldable pub listPlaces : ℕ → List Pair → List ℕ
+listPlaces at [] = []
+listPlaces at (x ∷ xs) =
+    at ∷ length (x .source) ∷ (at + length (x .source)) ∷ length (x .target) ∷ listPlaces (at + length (x .source) + length (x .target)) xs
+
+-- "the sum of all end lengths .. for a list"
+unfoldable pub endBytes : List Pair → ℕ
+endBytes [] = 0
+endBytes (x ∷ xs) = length (x .source) + length (x .target) + endBytes xs
+
+-- a list that was written is read back as it was (proved in proofs/ListLaws.antt)
+abbrev pub ReadBack : Type 0
+ReadBack = (l : List Pair) (store : Text) (places : List ℕ) → placed (written (listText l) store) (written (listPlaces 0 l) places) (length l) ≡ l
