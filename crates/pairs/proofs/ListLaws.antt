@@ -11,7 +11,7 @@ use lib.Seq.{ext-getD, getD-append-add, take-append-seam, drop-append-seam, take
 use borrow.Author.Tests.{le-leb}
 use Rattle.text.specs.Text.{Text, written}
 use Rattle.pairs.specs.Pair.{Pair, nothing, pairAt}
-use Rattle.pairs.specs.Places.{inside, textAt, placedPair, placed, listText, listPlaces, endBytes, ReadBack}
+use Rattle.pairs.specs.Places.{inside, textAt, placedPair, placed, listText, fourOf, listPlaces, endBytes, ReadBack}
 use Rattle.pairs.proofs.PlaceLaws.{placed-length, placed-at}
 
 pub list-length : (l : List Pair) → length (listText l) ≡ endBytes l
@@ -32,30 +32,26 @@ read-text before t after places j s n =
     let r : length (before ++ (t ++ after)) ≡ length before + (length t + length after) = simp length-append in
     rw (s, n, le-leb (length before + length t) (length (before ++ (t ++ after))) (omega arith), drop-append-seam before (t ++ after), take-append-seam t after)
 
--- the four numbers of a pair that stands behind `at` bytes
-abbrev four : ℕ → Pair → List ℕ
-four at x = at ∷ length (x .source) ∷ (at + length (x .source)) ∷ length (x .target) ∷ []
-
 -- the pair behind k others, whose bytes are `before` and whose places are `earlier`
 module _ (x : Pair) (k : ℕ) (before rest : Text) (earlier later : List ℕ) (e : length earlier ≡ 4 * k) where
-  number : (n : ℕ) → getD (earlier ++ (four (length before) x ++ later)) (4 * k + n) 0 ≡ getD (four (length before) x ++ later) n 0
-  number n = rw (← e) (getD-append-add earlier (four (length before) x ++ later) n 0)
+  number : (n : ℕ) → getD (earlier ++ (fourOf (length before) (x .source) (x .target) ++ later)) (4 * k + n) 0 ≡ getD (fourOf (length before) (x .source) (x .target) ++ later) n 0
+  number n = rw (← e) (getD-append-add earlier (fourOf (length before) (x .source) (x .target) ++ later) n 0)
 
-  named : (j n : ℕ) → j ≡ 4 * k + n → getD (earlier ++ (four (length before) x ++ later)) j 0 ≡ getD (four (length before) x ++ later) n 0
+  named : (j n : ℕ) → j ≡ 4 * k + n → getD (earlier ++ (fourOf (length before) (x .source) (x .target) ++ later)) j 0 ≡ getD (fourOf (length before) (x .source) (x .target) ++ later) n 0
   named j n h = rw h (number n)
 
-  read-source : textAt (before ++ (x .source ++ (x .target ++ rest))) (earlier ++ (four (length before) x ++ later)) (2 * k) ≡ x .source
+  read-source : textAt (before ++ (x .source ++ (x .target ++ rest))) (earlier ++ (fourOf (length before) (x .source) (x .target) ++ later)) (2 * k) ≡ x .source
   read-source =
-      read-text before (x .source) (x .target ++ rest) (earlier ++ (four (length before) x ++ later)) (2 * k)
+      read-text before (x .source) (x .target ++ rest) (earlier ++ (fourOf (length before) (x .source) (x .target) ++ later)) (2 * k)
       (named (2 * (2 * k)) 0 (omega arith)) (named (2 * (2 * k) + 1) 1 (omega arith))
 
-  read-target : textAt (before ++ (x .source ++ (x .target ++ rest))) (earlier ++ (four (length before) x ++ later)) (2 * k + 1) ≡ x .target
+  read-target : textAt (before ++ (x .source ++ (x .target ++ rest))) (earlier ++ (fourOf (length before) (x .source) (x .target) ++ later)) (2 * k + 1) ≡ x .target
   read-target =
       rw (← (append-assoc before (x .source) (x .target ++ rest)))
-      (read-text (before ++ x .source) (x .target) rest (earlier ++ (four (length before) x ++ later)) (2 * k + 1)
+      (read-text (before ++ x .source) (x .target) rest (earlier ++ (fourOf (length before) (x .source) (x .target) ++ later)) (2 * k + 1)
       (named (2 * (2 * k + 1)) 2 (omega arith) ∙ sym (length-append before (x .source))) (named (2 * (2 * k + 1) + 1) 3 (omega arith)))
 
-  read-pair : placedPair (before ++ (x .source ++ (x .target ++ rest))) (earlier ++ (four (length before) x ++ later)) k ≡ x
+  read-pair : placedPair (before ++ (x .source ++ (x .target ++ rest))) (earlier ++ (fourOf (length before) (x .source) (x .target) ++ later)) k ≡ x
   unfolding placedPair
   read-pair = rw (read-source, read-target)
 
@@ -74,10 +70,10 @@ read-pairs (x ∷ l) (suc i) k before after earlier later e h =
     let n : length b ≡ length before + length (x .source) + length (x .target) = simp length-append (omega arith) in
     let z : k + suc i ≡ k + 1 + i = omega arith in
     let s : before ++ ((x .source ++ (x .target ++ listText l)) ++ after) ≡ b ++ (listText l ++ after) = simp append-assoc in
-    let q : length (earlier ++ four (length before) x) ≡ 4 * (k + 1) = simp length-append (omega arith) in
-    let p : earlier ++ (four (length before) x ++ (listPlaces (length b) l ++ later)) ≡ (earlier ++ four (length before) x) ++ (listPlaces (length b) l ++ later)
-    = sym (append-assoc earlier (four (length before) x) (listPlaces (length b) l ++ later)) in
-    rw (z, s, ← n, p) (read-pairs l i (k + 1) b after (earlier ++ four (length before) x) later q (omega arith))
+    let q : length (earlier ++ fourOf (length before) (x .source) (x .target)) ≡ 4 * (k + 1) = simp length-append (omega arith) in
+    let p : earlier ++ (fourOf (length before) (x .source) (x .target) ++ (listPlaces (length b) l ++ later)) ≡ (earlier ++ fourOf (length before) (x .source) (x .target)) ++ (listPlaces (length b) l ++ later)
+    = sym (append-assoc earlier (fourOf (length before) (x .source) (x .target)) (listPlaces (length b) l ++ later)) in
+    rw (z, s, ← n, p) (read-pairs l i (k + 1) b after (earlier ++ fourOf (length before) (x .source) (x .target)) later q (omega arith))
 
 pub read-back : ReadBack
 read-back l store places =

@@ -7,6 +7,8 @@ use Prim.Native.Nat.{ℕ, zero, suc, _+_, _*_, _/_}
 use lib.Dec.{leb}
 use lib.ListN.{length, getD, take, drop}
 use Rattle.text.specs.Text.{Text, written}
+use Rattle.text.specs.declared.Fit.{Fit}
+use Rattle.text.specs.declared.Fit.the-variants.{Written, Over}
 use Rattle.pairs.specs.Pair.{Pair}
 
 -- the place j: a start and a length
@@ -62,16 +64,29 @@ unfoldable pub listText : List Pair → Text
 listText [] = []
 listText (x ∷ xs) = x .source ++ (x .target ++ listText xs)
 
--- .. and the places say so; `at` is where the first pair stands
+-- .. and the places say so: four numbers for the texts s and t behind `at` bytes ..
+abbrev pub fourOf : ℕ → Text → Text → List ℕ
+fourOf at s t = at ∷ length s ∷ (at + length s) ∷ length t ∷ []
+
+-- .. for each pair
 unfoldable pub listPlaces : ℕ → List Pair → List ℕ
 listPlaces at [] = []
-listPlaces at (x ∷ xs) =
-    at ∷ length (x .source) ∷ (at + length (x .source)) ∷ length (x .target) ∷ listPlaces (at + length (x .source) + length (x .target)) xs
+listPlaces at (x ∷ xs) = fourOf at (x .source) (x .target) ++ listPlaces (at + length (x .source) + length (x .target)) xs
 
 -- "the sum of all end lengths .. for a list"
 unfoldable pub endBytes : List Pair → ℕ
 endBytes [] = 0
 endBytes (x ∷ xs) = length (x .source) + length (x .target) + endBytes xs
+
+-- the lent memory is enough: the bytes, and four numbers for each pair
+unfoldable pub listRoom : List Pair → Text → List ℕ → Bool
+unfolding endBytes
+listRoom l out slots = leb (endBytes l) (length out) && leb (length l) (length slots / 4)
+
+-- what writing a list answers and leaves: the list, or nothing where the memory is too short
+unfoldable pub listFit : List Pair → Text → List ℕ → Fit
+unfolding listRoom
+listFit l out slots = cond (listRoom l out slots) (Written (length l)) Over
 
 -- a list that was written is read back as it was (proved in proofs/ListLaws.antt)
 abbrev pub ReadBack : Type 0

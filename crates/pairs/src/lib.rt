@@ -1,10 +1,14 @@
 // Lists of pairs in lent memory: reading them, asking questions 1 to 3 of them, and finding the pair
 // that serves a path. Every public function is defined for any bytes and any numbers.
 ghost use mathlib.Core.Path.{_≡_};
-ghost use mathlib.Core.Bool.{Bool, cond};
-ghost use Prim.Native.Nat.{_+_, _*_};
+ghost use mathlib.Core.Bool.{Bool, true, false, cond};
+ghost use mathlib.Core.List.{_++_};
+ghost use lib.ListN.{length};
+ghost use Prim.Native.Nat.{_+_, _*_, _≤_};
+ghost use Rattle.text.specs.Text.{over};
 ghost use Rattle.grammar.specs.Legal.{legal, isEnd};
-ghost use Rattle.pairs.specs.Places.{fitsAt, textAt, keyAt, placesFit, placesAll};
+ghost use lib.Dec.{leb};
+ghost use Rattle.pairs.specs.Places.{placed, endBytes, fourOf, fitsAt, textAt, keyAt, placesFit, placesAll};
 ghost use Rattle.pairs.specs.Best.{serves, best, chosenIn, considered};
 
 // The text at the place j; empty where the place is not there or reaches outside the store.
@@ -151,4 +155,54 @@ pub fn best_prefix(store: &[u8], places: &[usize], n: usize, invert: bool, path:
         i += 1;
     }
     f
+}
+
+// Is the lent memory enough for the first n pairs, one behind the other?
+fn has_room(store: &[u8], places: &[usize], n: usize, room: usize) -> bool
+    ensures { λ r. ⌜ r ≡ leb (endBytes (placed (now (store .entry)) (now (places .entry)) n)) room ⌝ }
+{
+    let mut left = room;
+    let mut i = 0;
+    while i < n {
+        let s = key_at(store, places, i, false).len();
+        if left < s {
+            return false;
+        }
+        left -= s;
+        let t = key_at(store, places, i, true).len();
+        if left < t {
+            return false;
+        }
+        left -= t;
+        i += 1;
+    }
+    true
+}
+
+// Writes pair i behind `at` bytes, and its four numbers; the place behind it.
+fn write_pair(
+    store: &[u8],
+    places: &[usize],
+    i: usize,
+    at: usize,
+    out: &mut [u8],
+    slots: &mut [usize],
+) -> usize
+    requires { ⌜ at + (length (keyAt (now store) (now places) false i) + length (keyAt (now store) (now places) true i)) ≤ length (now out) ⌝ }
+    requires { ⌜ 4 * i + 4 ≤ length (now slots) ⌝ }
+    ensures { λ r. ⌜ r ≡ at + (length (keyAt (now (store .entry)) (now (places .entry)) false i) + length (keyAt (now (store .entry)) (now (places .entry)) true i)) ⌝ }
+    ensures { λ r. ⌜ now (out .exit) ≡ over at (keyAt (now (store .entry)) (now (places .entry)) false i ++ keyAt (now (store .entry)) (now (places .entry)) true i) (now (out .entry)) ⌝ }
+    ensures { λ r. ⌜ now (slots .exit) ≡ over (4 * i) (fourOf at (keyAt (now (store .entry)) (now (places .entry)) false i) (keyAt (now (store .entry)) (now (places .entry)) true i)) (now (slots .entry)) ⌝ }
+{
+    let s = key_at(store, places, i, false);
+    let t = key_at(store, places, i, true);
+    let m = at + s.len();
+    let j = 4 * i;
+    slots[j] = at;
+    slots[j + 1] = s.len();
+    slots[j + 2] = m;
+    slots[j + 3] = t.len();
+    text::write_at(s, at, out);
+    text::write_at(t, m, out);
+    m + t.len()
 }

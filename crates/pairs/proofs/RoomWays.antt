@@ -1,0 +1,56 @@
+-- What each way through `has_room` gives. Assumes nothing.
+use mathlib.Core.Path.{_≡_, refl, sym, ap, _∙_}
+use mathlib.Core.Bool.{Bool, true, false}
+use mathlib.Core.List.{List, [], _∷_, _++_}
+use Prim.Native.Nat.{ℕ, zero, suc, _+_, _*_, _-_, _≤_, _<_}
+use native.Mathlib.Omega.{arith}
+use native.Mathlib.Numerals.{add-one}
+use native.Mathlib.Decide.{ℕ-discrete}
+use lib.Dec.{leb}
+use lib.ListN.{length}
+use borrow.Author.Tests.{le-leb, lt-leb}
+use Rattle.text.specs.Text.{Text}
+use Rattle.pairs.specs.Pair.{Pair}
+use Rattle.pairs.specs.Places.{textAt, keyAt, placedPair, placed, endBytes}
+
+end-snoc : (l : List Pair) (x : Pair) → endBytes (l ++ x ∷ []) ≡ endBytes l + (length (x .source) + length (x .target))
+unfolding endBytes
+end-snoc [] x = omega arith
+end-snoc (y ∷ l) x = rw (end-snoc l x) (omega arith)
+
+module _ (store : Text) (places : List ℕ) where
+  pub end-next : (i : ℕ) → endBytes (placed store places (suc i)) ≡ endBytes (placed store places i) + (length (keyAt store places false i) + length (keyAt store places true i))
+  unfolding placed placedPair
+  end-next i =
+      let z : 2 * i + 0 ≡ 2 * i = omega arith in
+      rw z (end-snoc (placed store places i) (placedPair store places i))
+
+  end-grows : (n i : ℕ) → i ≤ n → endBytes (placed store places i) ≤ endBytes (placed store places n)
+  end-grows zero i h = let e : i ≡ 0 = omega arith in rw e (omega arith)
+  end-grows (suc n) i h =
+      elim (ℕ-discrete i (suc n)) [ yes e ↦ rw e (omega arith) | no d ↦ omega (arith, end-grows n i (omega arith), end-next n) ]
+
+  module _ (n room i left : ℕ) (h : i < n) (e : left + endBytes (placed store places i) ≡ room) (s : Text) (k : s ≡ keyAt store places false i) where
+    more : endBytes (placed store places i) + (length (keyAt store places false i) + length (keyAt store places true i)) ≤ endBytes (placed store places n)
+    more = omega (arith, end-next i, end-grows n (suc i) (omega arith))
+
+    pub room-source : left < length s → false ≡ leb (endBytes (placed store places n)) room
+    room-source l = sym (lt-leb (endBytes (placed store places n)) room (omega (arith, more, ap length k)))
+
+    module _ (t : Text) (j : t ≡ keyAt store places true i) where
+      pub room-target : length s ≤ left → left - length s < length t → false ≡ leb (endBytes (placed store places n)) room
+      room-target g l = sym (lt-leb (endBytes (placed store places n)) room (omega (arith, more, ap length k, ap length j)))
+
+      pub room-on : length s ≤ left → length t ≤ left - length s → left - length s - length t + endBytes (placed store places (i + 1)) ≡ room
+      room-on g l = rw (add-one i) (omega (arith, end-next i, ap length k, ap length j))
+
+  pub room-begin : (room : ℕ) → room + endBytes (placed store places 0) ≡ room
+  unfolding placed endBytes
+  room-begin room = omega arith
+
+  pub room-end : (n room i left : ℕ) → n ≤ i → i ≤ n → left + endBytes (placed store places i) ≡ room → true ≡ leb (endBytes (placed store places n)) room
+  room-end n room i left l m e =
+      let z : n ≡ i = omega arith in
+      rw z (sym (le-leb (endBytes (placed store places i)) room (omega arith)))
+
+pub ruleset rooms = (room-source, room-target, room-on, room-begin, room-end)
