@@ -25,7 +25,7 @@ module _ (store : Text) (places : List ℕ) where
       let z : 2 * i + 0 ≡ 2 * i = omega arith in
       rw z (end-snoc (placed store places i) (placedPair store places i))
 
-  end-grows : (n i : ℕ) → i ≤ n → endBytes (placed store places i) ≤ endBytes (placed store places n)
+  pub end-grows : (n i : ℕ) → i ≤ n → endBytes (placed store places i) ≤ endBytes (placed store places n)
   end-grows zero i h = let e : i ≡ 0 = omega arith in rw e (omega arith)
   end-grows (suc n) i h =
       elim (ℕ-discrete i (suc n)) [ yes e ↦ rw e (omega arith) | no d ↦ omega (arith, end-grows n i (omega arith), end-next n) ]

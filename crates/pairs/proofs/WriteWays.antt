@@ -1,19 +1,23 @@
 -- What each way through `write_pair` and `write_list` gives. Assumes nothing.
 use mathlib.Core.Path.{_≡_, refl, sym, ap, _∙_}
 use mathlib.Core.Bool.{Bool, true, false, not, cond, _&&_}
-use mathlib.Core.List.{List, [], _∷_, _++_, append-assoc}
+use mathlib.Core.List.{List, [], _∷_, _++_, append-assoc, append-nil}
 use Prim.Native.Nat.{ℕ, zero, suc, _+_, _*_, _-_, _/_, _≤_, _<_}
 use native.Mathlib.Omega.{arith}
 use native.Mathlib.Numerals.{add-one}
 use lib.Dec.{leb}
 use lib.ListN.{length, take, drop, set, length-append, length-take, length-drop}
 use lib.Seq.{sets, sets-eq, take-append-seam, take-append-add, drop-append-add, drop-drop, take-take, length-take-le}
-use borrow.Author.Tests.{le-leb, lt-leb}
+use borrow.Author.Tests.{le-leb, lt-leb, leb-true}
 use Rattle.text.specs.Text.{Text, written, over, placed as placedText}
-use Rattle.text.proofs.BoolLaws.{told-false, told-true}
+use Rattle.text.proofs.BoolLaws.{and-no, told-false, told-true}
+use Rattle.text.specs.declared.Fit.{Fit}
+use Rattle.text.specs.declared.Fit.the-variants.{Written, Over}
 use Rattle.pairs.specs.Pair.{Pair}
-use Rattle.pairs.specs.Places.{textAt, keyAt, placedPair, placed, fourOf, listText, listPlaces, endBytes, listRoom, listFit}
-use Rattle.pairs.proofs.RoomWays.{end-next}
+use Rattle.pairs.specs.Places.{textAt, keyAt, placedPair, placed, fourOf, listText, listPlaces, endBytes, listRoom, listFit, listBytes, listSlots}
+use Rattle.pairs.proofs.PlaceLaws.{placed-length}
+use Rattle.pairs.proofs.ListLaws.{list-length, places-length}
+use Rattle.pairs.proofs.RoomWays.{end-next, end-grows}
 
 -- four numbers stored one after the other
 pub four-stored : (l : List ℕ) (j a b c d : ℕ) → j + 4 ≤ length l
@@ -36,13 +40,13 @@ module _ (at : ℕ) (s t out : Text) (h : at + (length s + length t) ≤ length 
   up-to-second : take (at + length s) (over at s out) ≡ take at out ++ s
   up-to-second =
       let e : take (length (take at out) + length s) (take at out ++ (s ++ drop (at + length s) out)) ≡ take at out ++ take (length s) (s ++ drop (at + length s) out)
-            = take-append-add (take at out) (s ++ drop (at + length s) out) (length s) in
+      = take-append-add (take at out) (s ++ drop (at + length s) out) (length s) in
       (rw first-length at e) ∙ ap (λ (x : Text). take at out ++ x) (take-append-seam s (drop (at + length s) out))
 
   behind-second : drop (at + length s + length t) (over at s out) ≡ drop (at + length s + length t) out
   behind-second =
       let e : drop (length (take at out) + (length s + length t)) (take at out ++ (s ++ drop (at + length s) out)) ≡ drop (length s + length t) (s ++ drop (at + length s) out)
-            = drop-append-add (take at out) (s ++ drop (at + length s) out) (length s + length t) in
+      = drop-append-add (take at out) (s ++ drop (at + length s) out) (length s + length t) in
       let f : at + (length s + length t) ≡ at + length s + length t = omega arith in
       (rw (first-length, f) at e) ∙ drop-append-add s (drop (at + length s) out) (length t) ∙ drop-drop (length t) (at + length s) out
 
@@ -66,3 +70,91 @@ module _ (at : ℕ) (s t ks kt : Text) (e : s ≡ ks) (f : t ≡ kt) where
   pub pair-slots : (l : List ℕ) (j : ℕ) → j + 4 ≤ length l
       → set (set (set (set l j at) (j + 1) (length s)) (j + 2) (at + length s)) (j + 3) (length t) ≡ over j (fourOf at ks kt) l
   pair-slots l j h = four-stored l j at (length s) (at + length s) (length t) h ∙ rw (e, f) refl
+
+-- a list and one pair more
+list-snoc : (l : List Pair) (x : Pair) → listText (l ++ x ∷ []) ≡ listText l ++ (x .source ++ x .target)
+unfolding listText
+list-snoc [] x = simp append-nil
+list-snoc (y ∷ l) x = rw (list-snoc l x) (simp append-assoc)
+
+places-snoc : (at : ℕ) (l : List Pair) (x : Pair) → listPlaces at (l ++ x ∷ []) ≡ listPlaces at l ++ fourOf (at + endBytes l) (x .source) (x .target)
+unfolding listPlaces endBytes
+places-snoc at [] x = let z : at + 0 ≡ at = omega arith in rw z refl
+places-snoc at (y ∷ l) x =
+    let n : ℕ = at + length (y .source) + length (y .target) in
+    let z : n + endBytes l ≡ at + (length (y .source) + length (y .target) + endBytes l) = omega arith in
+    rw (places-snoc n l x, z) refl
+
+over-written : (t s out : Text) → over (length t) s (written t out) ≡ written (t ++ s) out
+over-written t s out = simp (take-append-seam, drop-append-add, drop-drop, length-append, append-assoc)
+
+-- `write_list`
+module _ (store : Text) (places : List ℕ) where
+  source-key : (i : ℕ) → (placedPair store places i) .source ≡ keyAt store places false i
+  unfolding placedPair
+  source-key i = let z : 2 * i ≡ 2 * i + 0 = omega arith in ap (λ (j : ℕ). textAt store places j) z
+
+  target-key : (i : ℕ) → (placedPair store places i) .target ≡ keyAt store places true i
+  unfolding placedPair
+  target-key i = refl
+
+  text-next : (i : ℕ) → listText (placed store places (i + 1)) ≡ listText (placed store places i) ++ (keyAt store places false i ++ keyAt store places true i)
+  unfolding placed
+  text-next i = rw (add-one i) (list-snoc (placed store places i) (placedPair store places i) ∙ rw (source-key i, target-key i) refl)
+
+  slots-next : (i : ℕ) → listPlaces 0 (placed store places (i + 1)) ≡ listPlaces 0 (placed store places i) ++ fourOf (endBytes (placed store places i)) (keyAt store places false i) (keyAt store places true i)
+  unfolding placed
+  slots-next i =
+      let z : 0 + endBytes (placed store places i) ≡ endBytes (placed store places i) = omega arith in
+      rw (add-one i) (places-snoc 0 (placed store places i) (placedPair store places i) ∙ rw (z, source-key i, target-key i) refl)
+
+  pub list-at : (i at end : ℕ) → at ≡ endBytes (placed store places i) → end ≡ at + (length (keyAt store places false i) + length (keyAt store places true i))
+      → end ≡ endBytes (placed store places (i + 1))
+  list-at i at end h e = rw (add-one i) (omega (arith, end-next store places i))
+
+  pub list-text : (i at : ℕ) (o out out′ : Text) → at ≡ endBytes (placed store places i) → out ≡ written (listText (placed store places i)) o
+      → out′ ≡ over at (keyAt store places false i ++ keyAt store places true i) out → out′ ≡ written (listText (placed store places (i + 1))) o
+  list-text i at o out out′ h w e =
+      e ∙ rw (w, h, ← (list-length (placed store places i)), text-next i) (over-written (listText (placed store places i)) (keyAt store places false i ++ keyAt store places true i) o)
+
+  pub list-slots : (i at : ℕ) (o slots slots′ : List ℕ) → at ≡ endBytes (placed store places i) → slots ≡ written (listPlaces 0 (placed store places i)) o
+      → slots′ ≡ over (4 * i) (fourOf at (keyAt store places false i) (keyAt store places true i)) slots → slots′ ≡ written (listPlaces 0 (placed store places (i + 1))) o
+  list-slots i at o slots slots′ h w e =
+      let n : 4 * i ≡ length (listPlaces 0 (placed store places i)) = sym (places-length 0 (placed store places i) ∙ ap (λ (k : ℕ). 4 * k) (placed-length store places i)) in
+      e ∙ rw (w, h, n, slots-next i) (over-written (listPlaces 0 (placed store places i)) (fourOf (endBytes (placed store places i)) (keyAt store places false i) (keyAt store places true i)) o)
+
+  module _ (n : ℕ) (o : Text) (p : List ℕ) where
+    abbrev list : List Pair
+    list = placed store places n
+
+    Left : Fit → Text → List ℕ → Type 0
+    Left r out slots = (r ≡ listFit list o p) × ((out ≡ listBytes list o p) × (slots ≡ listSlots list o p))
+
+    short : listRoom list o p ≡ false → Left Over o p
+    unfolding Left listFit listBytes listSlots
+    short h = rw h (refl, (refl, refl))
+
+    pub list-few : length p / 4 < n → (Over ≡ listFit list o p) × ((o ≡ listBytes list o p) × (p ≡ listSlots list o p))
+    unfolding Left listRoom
+    list-few h = short (rw (placed-length store places n, lt-leb n (length p / 4) h) (and-no (leb (endBytes list) (length o))))
+
+    pub list-full : (b : Bool) → b ≡ leb (endBytes list) (length o) → not b ≡ true → (Over ≡ listFit list o p) × ((o ≡ listBytes list o p) × (p ≡ listSlots list o p))
+    unfolding Left listRoom
+    list-full b h k = short (rw (told-false h k))
+
+    module _ (few : n ≤ length p / 4) (b : Bool) (h : b ≡ leb (endBytes list) (length o)) (k : not b ≡ false) where
+      pub list-done : (i : ℕ) (out : Text) (slots : List ℕ) → n ≤ i → i ≤ n → out ≡ written (listText (placed store places i)) o → slots ≡ written (listPlaces 0 (placed store places i)) p
+          → (Written n ≡ listFit list o p) × ((out ≡ listBytes list o p) × (slots ≡ listSlots list o p))
+      unfolding listRoom listFit listBytes listSlots
+      list-done i out slots l m w v =
+          let z : i ≡ n = omega arith in
+          rw (placed-length store places n, told-true h k, le-leb n (length p / 4) few) (refl, (w ∙ rw z refl, v ∙ rw z refl))
+
+      pub list-room : (i at : ℕ) (out : Text) → i < n → at ≡ endBytes (placed store places i) → out ≡ written (listText (placed store places i)) o
+          → at + (length (keyAt store places false i) + length (keyAt store places true i)) ≤ length out
+      list-room i at out l e w =
+          let r : endBytes list ≤ length o = leb-true (endBytes list) (length o) (told-true h k) in
+          rw w (simp (length-append, length-drop) (omega (arith, r, end-next store places i, end-grows store places n (suc i) (omega arith))))
+
+      pub list-slot : (i : ℕ) (slots : List ℕ) → i < n → slots ≡ written (listPlaces 0 (placed store places i)) p → 4 * i + 4 ≤ length slots
+      list-slot i slots l w = rw w (simp (length-append, length-drop) (omega arith))

@@ -88,6 +88,14 @@ unfoldable pub listFit : List Pair → Text → List ℕ → Fit
 unfolding listRoom
 listFit l out slots = cond (listRoom l out slots) (Written (length l)) Over
 
+unfoldable pub listBytes : List Pair → Text → List ℕ → Text
+unfolding listRoom listText
+listBytes l out slots = cond (listRoom l out slots) (written (listText l) out) out
+
+unfoldable pub listSlots : List Pair → Text → List ℕ → List ℕ
+unfolding listRoom listPlaces
+listSlots l out slots = cond (listRoom l out slots) (written (listPlaces 0 l) slots) slots
+
 -- a list that was written is read back as it was (proved in proofs/ListLaws.antt)
 abbrev pub ReadBack : Type 0
 ReadBack = (l : List Pair) (store : Text) (places : List ℕ) → placed (written (listText l) store) (written (listPlaces 0 l) places) (length l) ≡ l

@@ -8,7 +8,7 @@ ghost use Prim.Native.Nat.{_+_, _*_, _≤_};
 ghost use Rattle.text.specs.Text.{over};
 ghost use Rattle.grammar.specs.Legal.{legal, isEnd};
 ghost use lib.Dec.{leb};
-ghost use Rattle.pairs.specs.Places.{placed, endBytes, fourOf, fitsAt, textAt, keyAt, placesFit, placesAll};
+ghost use Rattle.pairs.specs.Places.{placed, endBytes, listFit, listBytes, listSlots, fourOf, fitsAt, textAt, keyAt, placesFit, placesAll};
 ghost use Rattle.pairs.specs.Best.{serves, best, chosenIn, considered};
 
 // The text at the place j; empty where the place is not there or reaches outside the store.
@@ -205,4 +205,32 @@ fn write_pair(
     text::write_at(s, at, out);
     text::write_at(t, m, out);
     m + t.len()
+}
+
+// Writes the first n pairs, one behind the other, and their places; nothing where the memory is too
+// short.
+pub fn write_list(
+    store: &[u8],
+    places: &[usize],
+    n: usize,
+    out: &mut [u8],
+    slots: &mut [usize],
+) -> text::Fit
+    ensures { λ r. ⌜ r ≡ listFit (placed (now (store .entry)) (now (places .entry)) n) (now (out .entry)) (now (slots .entry)) ⌝ }
+    ensures { λ r. ⌜ now (out .exit) ≡ listBytes (placed (now (store .entry)) (now (places .entry)) n) (now (out .entry)) (now (slots .entry)) ⌝ }
+    ensures { λ r. ⌜ now (slots .exit) ≡ listSlots (placed (now (store .entry)) (now (places .entry)) n) (now (out .entry)) (now (slots .entry)) ⌝ }
+{
+    if slots.len() / 4 < n {
+        return text::Fit::Over;
+    }
+    if !has_room(store, places, n, out.len()) {
+        return text::Fit::Over;
+    }
+    let mut at = 0;
+    let mut i = 0;
+    while i < n {
+        at = write_pair(store, places, i, at, out, slots);
+        i += 1;
+    }
+    text::Fit::Written(n)
 }

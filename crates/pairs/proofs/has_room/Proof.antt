@@ -5,9 +5,6 @@ use Prim.Native.Nat.{_+_, _-_, _≤_}
 use Rattle.pairs.specs.Places.{placed, endBytes}
 use Rattle.pairs.proofs.has_room.Statement.{statement}
 use Rattle.pairs.proofs.has_room.Tie as tie
-use Rattle.pairs.proofs.has_room.Reads as reads
-use Rattle.pairs.proofs.has_room.Lts as lts
-use Rattle.pairs.proofs.key_at.Reads as key-at-reads
 
 abbrev Inv-loop : tie.InvT-loop
 Inv-loop store places n room left₀ i₀ left i = (i ≤ n) × (left + endBytes (placed store places i) ≡ room)
@@ -15,39 +12,30 @@ Inv-loop store places n room left₀ i₀ left i = (i ≤ n) × (left + endBytes
 abbrev μ-loop : tie.MeasureT-loop
 μ-loop store places n room left₀ i₀ left i = n - i
 
--- src/lib.rt:163:5
 loop-holds : tie.Need-loop-holds Inv-loop μ-loop
 loop-holds c = search (needs, rooms)
 
--- src/lib.rt:164:17
 key-at-requires : tie.Need-key-at-requires Inv-loop μ-loop
 key-at-requires c κs = search (needs, rooms)
 
--- src/lib.rt:166:13
 returns : tie.Need-returns Inv-loop μ-loop
 returns c = search (needs, rooms)
 
--- src/lib.rt:169:17
 key-at-requires-2 : tie.Need-key-at-requires-2 Inv-loop μ-loop
 key-at-requires-2 c κs = search (needs, rooms)
 
--- src/lib.rt:171:13
 returns-2 : tie.Need-returns-2 Inv-loop μ-loop
 returns-2 c = search (needs, rooms)
 
--- src/lib.rt:174:9
 add-i : tie.Need-add-i Inv-loop μ-loop
 add-i c = search (needs, rooms)
 
--- src/lib.rt:163:5
 loop-less : tie.Need-loop-less Inv-loop μ-loop
 loop-less c = search (needs, rooms)
 
--- src/lib.rt:163:5
 loop-again : tie.Need-loop-again Inv-loop μ-loop
 loop-again c = search (needs, rooms)
 
--- src/lib.rt:158:1
 returns-3 : tie.Need-returns-3 Inv-loop μ-loop
 returns-3 c = search (needs, rooms)
 
