@@ -9,7 +9,7 @@ use native.Mathlib.Nat.{zero-add}
 use native.Mathlib.Omega.{arith}
 use lib.ListN.{length, take, drop}
 use borrow.Author.Tests.{le-leb, lt-leb}
-use Rattle.text.specs.Text.{Text, isNil, written, placed as placedText, fitted}
+use Rattle.text.specs.Text.{Text, isNil, written, placed, fitted}
 use Rattle.text.specs.declared.Fit.{Fit}
 use Rattle.text.specs.declared.Fit.the-variants.{Written as WrittenFit, Over}
 use Rattle.text.proofs.BoolLaws.{and-r, not-true, not-false, told}
@@ -18,9 +18,9 @@ use Rattle.grammar.specs.Legal.{fits}
 use Rattle.prefix.specs.Prefix.{hasPrefix}
 use Rattle.prefix.specs.Join.{joined, spoils}
 use Rattle.prefix.proofs.PrefixLaws.{prefix-long}
-use Rattle.pairs.specs.Places.{keyAt, placed}
+use Rattle.pairs.specs.Places.{keyAt, pairsIn}
 use Rattle.pairs.specs.Best.{best, serves, chosenIn}
-use Rattle.pairs.proofs.PlaceLaws.{placed-length, placed-source, placed-target, chosen-best, best-same}
+use Rattle.pairs.proofs.PlaceLaws.{pairsIn-length, pairsIn-source, pairsIn-target, chosen-best, best-same}
 use Rattle.pairs.specs.declared.Found.{Found}
 use Rattle.path.specs.declared.Refusal.the-variants.{NoPath, MadeTooLong, MadeIllegal}
 use Rattle.path.specs.declared.Reply.{Reply}
@@ -45,16 +45,16 @@ served-long p k e = prefix-long p k (and-r (not (isNil k)) (hasPrefix p k) e)
 
 -- what a text that fits 255 bytes leaves, and one that does not
 module _ (q out : Text) (f : Fit) (h : f ≡ fitted q out) (l : length out ≡ 255) where
-  pub path-written : (n : ℕ) (out′ : Text) → f ≡ WrittenFit n → out′ ≡ placedText 0 q out
+  pub path-written : (n : ℕ) (out′ : Text) → f ≡ WrittenFit n → out′ ≡ placed 0 q out
       → (Written n ≡ reply (cond (fits q) (path q) (refused MadeTooLong))) × (out′ ≡ memory (cond (fits q) (path q) (refused MadeTooLong)) out)
   unfolding fits reply memory
   path-written n out′ e m =
       let r : length q ≤ length out = fit-room q out n (sym h ∙ e) in
       rw (le-leb (length q) 255 (omega arith)) (ap (λ (k : ℕ). Written k) (fit-length q out n (sym h ∙ e)), m ∙ placed-first q out r)
 
-  pub path-over : (out′ : Text) → f ≡ Over → out′ ≡ placedText 0 q out
+  pub path-over : (out′ : Text) → f ≡ Over → out′ ≡ placed 0 q out
       → (Refused MadeTooLong ≡ reply (cond (fits q) (path q) (refused MadeTooLong))) × (out′ ≡ memory (cond (fits q) (path q) (refused MadeTooLong)) out)
-  unfolding fits reply memory placedText
+  unfolding fits reply memory placed
   path-over out′ e m =
       let r : length out < length q = fit-over q out (sym h ∙ e) in
       let o : out′ ≡ out = rw (zero-add (length q), lt-leb (length q) (length out) r) at m in
@@ -90,7 +90,7 @@ module _ (mark : Bool) (p out : Text) where
   unfolding keeping reply memory fits
   keep-long k l = rw (not-false mark k, lt-leb (length p) 255 l) (refl, refl)
 
-  pub keep-whole : (out′ : Text) → not mark ≡ false → length p ≤ 255 → length out ≡ 255 → out′ ≡ placedText 0 p out
+  pub keep-whole : (out′ : Text) → not mark ≡ false → length p ≤ 255 → length out ≡ 255 → out′ ≡ placed 0 p out
       → (Written (length p) ≡ reply (keeping mark p)) × (out′ ≡ memory (keeping mark p) out)
   unfolding keeping reply memory fits
   keep-whole out′ k l e m = rw (not-false mark k, le-leb (length p) 255 l) (refl, m ∙ placed-first p out (omega arith))
@@ -111,21 +111,21 @@ module _ (store : Text) (places : List ℕ) (n : ℕ) (mark : Bool) (p : Text) w
 
   chosen-by : (l : ℕ → Text) (k : ℕ → Text) → ((i : ℕ) → i < n → l i ≡ k i) → best p l (size lent) ≡ best p k n
   unfolding best
-  chosen-by l k same = rw (placed-length store places n) (best-same (serves p) l k n same)
+  chosen-by l k same = rw (pairsIn-length store places n) (best-same (serves p) l k n same)
 
   pub out-keys : chosenOut lent p ≡ best p (key false) n
   unfolding chosenOut
-  out-keys = chosen-by (source lent) (key false) (placed-source store places n)
+  out-keys = chosen-by (source lent) (key false) (pairsIn-source store places n)
 
   pub home-keys : chosenHome lent p ≡ best p (key true) n
   unfolding chosenHome
-  home-keys = chosen-by (target lent) (key true) (placed-target store places n)
+  home-keys = chosen-by (target lent) (key true) (pairsIn-target store places n)
 
   pub ends-by : (invert : Bool) (i : ℕ) → best p (key invert) n ≡ some i → (source lent i ≡ key false i) × (target lent i ≡ key true i)
   unfolding best
   ends-by invert i e =
       let h : i < n = (chosen-best (serves p) (key invert) n i e) .in-range in
-      (placed-source store places n i h, placed-target store places n i h)
+      (pairsIn-source store places n i h, pairsIn-target store places n i h)
 
   quick-by : (invert : Bool) → quick invert lent p ≡ quickBy mark (key invert) (key (not invert)) (key true) p (best p (key invert) n)
   unfolding quick

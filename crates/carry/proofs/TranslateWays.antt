@@ -8,7 +8,7 @@ use Prim.Native.Nat.{ℕ, _≤_, _<_}
 use native.Mathlib.Omega.{arith}
 use lib.ListN.{length, take, drop}
 use borrow.Author.Tests.{le-leb, lt-leb, eq-eqb, ne-eqb}
-use Rattle.text.specs.Text.{Text, isNil, placed as placedText, fitted}
+use Rattle.text.specs.Text.{Text, isNil, placed, fitted}
 use Rattle.text.specs.declared.Fit.{Fit}
 use Rattle.text.specs.declared.Fit.the-variants.{Written as WrittenFit, Over}
 use Rattle.text.proofs.BoolLaws.{and-no, not-true, not-false}
@@ -101,7 +101,7 @@ module _ (store : Text) (places : List ℕ) (n : ℕ) (mark : Bool) (i : ℕ) (s
   unfolding translatePair
   pair-over e = rw (lt-leb (length (joined s t r)) 512 (omega (arith, fit-over (joined s t r) buf (sym h ∙ e))))
 
-  module _ (k : ℕ) (e : f ≡ WrittenFit k) (mem : Text) (m : mem ≡ placedText 0 (joined s t r) buf) (g : Found) (o : chosenIn g ≡ best (take k mem) (keyAt store places true) n) where
+  module _ (k : ℕ) (e : f ≡ WrittenFit k) (mem : Text) (m : mem ≡ placed 0 (joined s t r) buf) (g : Found) (o : chosenIn g ≡ best (take k mem) (keyAt store places true) n) where
     fits-512 : translatePair lentOne i s t r ≡ cond (same (some i) (chosenHome lentOne (joined s t r))) (joining s t r) (refused NoPath)
     unfolding translatePair
     fits-512 = rw (le-leb (length (joined s t r)) 512 (omega (arith, fit-room (joined s t r) buf k (sym h ∙ e))))

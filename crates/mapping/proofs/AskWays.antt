@@ -11,8 +11,8 @@ use Rattle.text.specs.Text.{Text}
 use Rattle.text.proofs.BoolLaws.{and-l, and-r, and-no, told-false, told-true}
 use Rattle.grammar.specs.Legal.{legal, fits, isEnd}
 use Rattle.pairs.specs.Pair.{allShort, allEnds}
-use Rattle.pairs.specs.Places.{placed, placesFit, placesAll}
-use Rattle.pairs.proofs.PlaceLaws.{every-placed, fit-texts}
+use Rattle.pairs.specs.Places.{pairsIn, placesFit, placesAll}
+use Rattle.pairs.proofs.PlaceLaws.{every-pairIn, fit-texts}
 use Rattle.path.specs.declared.Refusal.the-variants.{TooLong, Illegal, NotAnEnd, TooMany}
 use Rattle.path.specs.declared.Asked.{Asked}
 use Rattle.path.specs.declared.Asked.the-variants.{Passed, Refused}
@@ -98,12 +98,12 @@ module _ (store : Text) (places : List ℕ) (count : ℕ) (p : Text) (q : Asked)
   pub passed-legal : legal p ≡ true
   passed-legal = and-l (legal p) (placesAll legal store places (present places count)) (yes-all .1)
 
-  pub passed-ends : allEnds (placed store places count) ≡ true
+  pub passed-ends : allEnds (pairsIn store places count) ≡ true
   unfolding allEnds
-  passed-ends = every-placed store places isEnd count (rw (present-all places count counted) (yes-all .2))
+  passed-ends = every-pairIn store places isEnd count (rw (present-all places count counted) (yes-all .2))
 
-  pub passed-shorts : allShort (placed store places count) ≡ true
+  pub passed-shorts : allShort (pairsIn store places count) ≡ true
   unfolding allShort
   passed-shorts =
-      every-placed store places fits count
+      every-pairIn store places fits count
       (fit-texts store places (2 * count) (rw (present-all places count counted) (and-r (fits p) (placesFit store places (present places count)) (yes-all .0))))

@@ -9,7 +9,7 @@ use lib.ListN.{length, take, drop, length-append, length-take}
 use lib.Seq.{length-take-le}
 use lib.Dec.{leb}
 use borrow.Author.Tests.{le-leb, leb-true}
-use Rattle.text.specs.Text.{Text, isNil, lacks, written, placed as placedText}
+use Rattle.text.specs.Text.{Text, isNil, lacks, written, placed}
 use Rattle.text.specs.declared.Fit.{Fit}
 use Rattle.text.specs.declared.Fit.the-variants.{Written as WrittenFit, Over}
 use Rattle.text.proofs.BoolLaws.{told}
@@ -87,7 +87,7 @@ module _ (r : Reply) (made : Text) (p : within r (length made)) (n : ℕ) (e : r
   pub hand-part : n ≡ length (take n made)
   hand-part = sym (length-take-le n made (rw e at p))
 
-pub hand-written : (r : Reply) (made out : Text) (n : ℕ) → r ≡ Written n → (out′ : Text) → out′ ≡ placedText 0 (take n made) out
+pub hand-written : (r : Reply) (made out : Text) (n : ℕ) → r ≡ Written n → (out′ : Text) → out′ ≡ placed 0 (take n made) out
     → (Written n ≡ r) × (out′ ≡ handed r made out)
 hand-written r made out n e out′ m = (sym e, rw e m)
 

@@ -11,8 +11,8 @@ use lib.Seq.{ext-getD, getD-append-add, take-append-seam, drop-append-seam, take
 use borrow.Author.Tests.{le-leb}
 use Rattle.text.specs.Text.{Text, written}
 use Rattle.pairs.specs.Pair.{Pair, nothing, pairAt}
-use Rattle.pairs.specs.Places.{inside, textAt, placedPair, placed, listText, fourOf, listPlaces, endBytes, ReadBack}
-use Rattle.pairs.proofs.PlaceLaws.{placed-length, placed-at}
+use Rattle.pairs.specs.Places.{inside, textAt, pairIn, pairsIn, listText, fourOf, listPlaces, endBytes, ReadBack}
+use Rattle.pairs.proofs.PlaceLaws.{pairsIn-length, pairsIn-at}
 
 pub list-length : (l : List Pair) → length (listText l) ≡ endBytes l
 unfolding listText endBytes
@@ -51,13 +51,13 @@ module _ (x : Pair) (k : ℕ) (before rest : Text) (earlier later : List ℕ) (e
       (read-text (before ++ x .source) (x .target) rest (earlier ++ (fourOf (length before) (x .source) (x .target) ++ later)) (2 * k + 1)
       (named (2 * (2 * k + 1)) 2 (omega arith) ∙ sym (length-append before (x .source))) (named (2 * (2 * k + 1) + 1) 3 (omega arith)))
 
-  read-pair : placedPair (before ++ (x .source ++ (x .target ++ rest))) (earlier ++ (fourOf (length before) (x .source) (x .target) ++ later)) k ≡ x
-  unfolding placedPair
+  read-pair : pairIn (before ++ (x .source ++ (x .target ++ rest))) (earlier ++ (fourOf (length before) (x .source) (x .target) ++ later)) k ≡ x
+  unfolding pairIn
   read-pair = rw (read-source, read-target)
 
 -- every pair of a list behind k others
 read-pairs : (l : List Pair) (i k : ℕ) (before after : Text) (earlier later : List ℕ) → length earlier ≡ 4 * k → i < length l
-    → placedPair (before ++ (listText l ++ after)) (earlier ++ (listPlaces (length before) l ++ later)) (k + i) ≡ pairAt l i
+    → pairIn (before ++ (listText l ++ after)) (earlier ++ (listPlaces (length before) l ++ later)) (k + i) ≡ pairAt l i
 unfolding listText listPlaces
 read-pairs [] i k before after earlier later e h = absurd (omega arith)
 read-pairs (x ∷ l) zero k before after earlier later e h =
@@ -77,11 +77,11 @@ read-pairs (x ∷ l) (suc i) k before after earlier later e h =
 
 pub read-back : ReadBack
 read-back l store places =
-    ext-getD nothing (placed (written (listText l) store) (written (listPlaces 0 l) places) (length l)) l
-    (placed-length (written (listText l) store) (written (listPlaces 0 l) places) (length l))
-    (λ i h. one i (rw (placed-length (written (listText l) store) (written (listPlaces 0 l) places) (length l)) at h))
+    ext-getD nothing (pairsIn (written (listText l) store) (written (listPlaces 0 l) places) (length l)) l
+    (pairsIn-length (written (listText l) store) (written (listPlaces 0 l) places) (length l))
+    (λ i h. one i (rw (pairsIn-length (written (listText l) store) (written (listPlaces 0 l) places) (length l)) at h))
   where
-    one : (i : ℕ) → i < length l → pairAt (placed (written (listText l) store) (written (listPlaces 0 l) places) (length l)) i ≡ pairAt l i
+    one : (i : ℕ) → i < length l → pairAt (pairsIn (written (listText l) store) (written (listPlaces 0 l) places) (length l)) i ≡ pairAt l i
     one i h =
-        placed-at (written (listText l) store) (written (listPlaces 0 l) places) (length l) i h
+        pairsIn-at (written (listText l) store) (written (listPlaces 0 l) places) (length l) i h
         ∙ rw (zero-add i) at (read-pairs l i 0 [] (drop (length (listText l)) store) [] (drop (length (listPlaces 0 l)) places) refl h)

@@ -15,38 +15,38 @@ use Rattle.text.specs.Text.{Text}
 use Rattle.text.proofs.BoolLaws.{and-l, and-r}
 use Rattle.grammar.specs.Legal.{fits}
 use Rattle.pairs.specs.Pair.{Pair, nothing, pairAt, sourceAt, targetAt, everyEnd}
-use Rattle.pairs.specs.Places.{startAt, lengthAt, inside, textAt, placedPair, placed, keyAt, fitsAt, placesFit, placesAll}
+use Rattle.pairs.specs.Places.{startAt, lengthAt, inside, textAt, pairIn, pairsIn, keyAt, fitsAt, placesFit, placesAll}
 use Rattle.pairs.specs.Best.{better, bestBy}
 use Rattle.pairs.proofs.BestLaws.{Best, Says, says}
 
 module _ (store : Text) (places : List ℕ) where
-  pub placed-length : (n : ℕ) → length (placed store places n) ≡ n
-  unfolding placed
-  placed-length zero = refl
-  placed-length (suc n) = rw (length-append (placed store places n) (placedPair store places n ∷ []), placed-length n) (omega arith)
+  pub pairsIn-length : (n : ℕ) → length (pairsIn store places n) ≡ n
+  unfolding pairsIn
+  pairsIn-length zero = refl
+  pairsIn-length (suc n) = rw (length-append (pairsIn store places n) (pairIn store places n ∷ []), pairsIn-length n) (omega arith)
 
-  pub placed-at : (n i : ℕ) → i < n → pairAt (placed store places n) i ≡ placedPair store places i
-  unfolding placed
-  placed-at zero i h = absurd (omega arith)
-  placed-at (suc n) i h = elim (ℕ-discrete i n) [ yes e ↦ last e | no d ↦ earlier (omega arith) (placed-at n i) ]
+  pub pairsIn-at : (n i : ℕ) → i < n → pairAt (pairsIn store places n) i ≡ pairIn store places i
+  unfolding pairsIn
+  pairsIn-at zero i h = absurd (omega arith)
+  pairsIn-at (suc n) i h = elim (ℕ-discrete i n) [ yes e ↦ last e | no d ↦ earlier (omega arith) (pairsIn-at n i) ]
     where
       all : List Pair
-      all = placed store places n
+      all = pairsIn store places n
 
-      last : i ≡ n → getD (all ++ placedPair store places n ∷ []) i nothing ≡ placedPair store places i
-      last e = rw e (rw (placed-length n) at (getD-append-seam all (placedPair store places n) [] nothing))
+      last : i ≡ n → getD (all ++ pairIn store places n ∷ []) i nothing ≡ pairIn store places i
+      last e = rw e (rw (pairsIn-length n) at (getD-append-seam all (pairIn store places n) [] nothing))
 
-      earlier : i < n → (i < n → pairAt all i ≡ placedPair store places i) → getD (all ++ placedPair store places n ∷ []) i nothing ≡ placedPair store places i
-      earlier l f = List·getD-append all (placedPair store places n ∷ []) nothing i (rw (placed-length n) l) ∙ f l
+      earlier : i < n → (i < n → pairAt all i ≡ pairIn store places i) → getD (all ++ pairIn store places n ∷ []) i nothing ≡ pairIn store places i
+      earlier l f = List·getD-append all (pairIn store places n ∷ []) nothing i (rw (pairsIn-length n) l) ∙ f l
 
   -- the sources and the targets, as keys
-  pub placed-source : (n i : ℕ) → i < n → sourceAt (placed store places n) i ≡ keyAt store places false i
-  unfolding placedPair
-  placed-source n i h = let z : 2 * i ≡ 2 * i + 0 = omega arith in ap (λ (x : Pair). x .source) (placed-at n i h) ∙ ap (λ (j : ℕ). textAt store places j) z
+  pub pairsIn-source : (n i : ℕ) → i < n → sourceAt (pairsIn store places n) i ≡ keyAt store places false i
+  unfolding pairIn
+  pairsIn-source n i h = let z : 2 * i ≡ 2 * i + 0 = omega arith in ap (λ (x : Pair). x .source) (pairsIn-at n i h) ∙ ap (λ (j : ℕ). textAt store places j) z
 
-  pub placed-target : (n i : ℕ) → i < n → targetAt (placed store places n) i ≡ keyAt store places true i
-  unfolding placedPair
-  placed-target n i h = ap (λ (x : Pair). x .target) (placed-at n i h)
+  pub pairsIn-target : (n i : ℕ) → i < n → targetAt (pairsIn store places n) i ≡ keyAt store places true i
+  unfolding pairIn
+  pairsIn-target n i h = ap (λ (x : Pair). x .target) (pairsIn-at n i h)
 
 -- the key that was chosen is the best
 pub chosen-best : (passes : Text → Bool) (key : ℕ → Text) (n i : ℕ) → bestBy passes key n ≡ some i → Best passes key n i
@@ -78,16 +78,16 @@ every-snoc passes (y ∷ l) x e s t =
     rw (and-l a (everyEnd passes l) e) (every-snoc passes l x (and-r a (everyEnd passes l) e) s t)
 
 module _ (store : Text) (places : List ℕ) where
-  pub every-placed : (passes : Text → Bool) (n : ℕ) → placesAll passes store places (2 * n) ≡ true → everyEnd passes (placed store places n) ≡ true
-  unfolding placed placesAll placedPair everyEnd
-  every-placed passes zero h = refl
-  every-placed passes (suc n) h =
+  pub every-pairIn : (passes : Text → Bool) (n : ℕ) → placesAll passes store places (2 * n) ≡ true → everyEnd passes (pairsIn store places n) ≡ true
+  unfolding pairsIn placesAll pairIn everyEnd
+  every-pairIn passes zero h = refl
+  every-pairIn passes (suc n) h =
       let e : 2 * suc n ≡ suc (2 * n + 1) = omega arith in
       let g : (placesAll passes store places (2 * n + 1) && passes (textAt store places (2 * n + 1))) ≡ true = rw e at h in
       let k : (placesAll passes store places (2 * n) && passes (textAt store places (2 * n))) ≡ true
       = rw add-one at (and-l (placesAll passes store places (2 * n + 1)) (passes (textAt store places (2 * n + 1))) g) in
-      every-snoc passes (placed store places n) (placedPair store places n)
-      (every-placed passes n (and-l (placesAll passes store places (2 * n)) (passes (textAt store places (2 * n))) k))
+      every-snoc passes (pairsIn store places n) (pairIn store places n)
+      (every-pairIn passes n (and-l (placesAll passes store places (2 * n)) (passes (textAt store places (2 * n))) k))
       (and-r (placesAll passes store places (2 * n)) (passes (textAt store places (2 * n))) k)
       (and-r (placesAll passes store places (2 * n + 1)) (passes (textAt store places (2 * n + 1))) g)
 

@@ -11,7 +11,7 @@ use lib.ListN.{length}
 use borrow.Author.Tests.{le-leb, lt-leb}
 use Rattle.text.specs.Text.{Text}
 use Rattle.pairs.specs.Pair.{Pair}
-use Rattle.pairs.specs.Places.{textAt, keyAt, placedPair, placed, endBytes}
+use Rattle.pairs.specs.Places.{textAt, keyAt, pairIn, pairsIn, endBytes}
 
 end-snoc : (l : List Pair) (x : Pair) → endBytes (l ++ x ∷ []) ≡ endBytes l + (length (x .source) + length (x .target))
 unfolding endBytes
@@ -19,38 +19,38 @@ end-snoc [] x = omega arith
 end-snoc (y ∷ l) x = rw (end-snoc l x) (omega arith)
 
 module _ (store : Text) (places : List ℕ) where
-  pub end-next : (i : ℕ) → endBytes (placed store places (suc i)) ≡ endBytes (placed store places i) + (length (keyAt store places false i) + length (keyAt store places true i))
-  unfolding placed placedPair
+  pub end-next : (i : ℕ) → endBytes (pairsIn store places (suc i)) ≡ endBytes (pairsIn store places i) + (length (keyAt store places false i) + length (keyAt store places true i))
+  unfolding pairsIn pairIn
   end-next i =
       let z : 2 * i + 0 ≡ 2 * i = omega arith in
-      rw z (end-snoc (placed store places i) (placedPair store places i))
+      rw z (end-snoc (pairsIn store places i) (pairIn store places i))
 
-  pub end-grows : (n i : ℕ) → i ≤ n → endBytes (placed store places i) ≤ endBytes (placed store places n)
+  pub end-grows : (n i : ℕ) → i ≤ n → endBytes (pairsIn store places i) ≤ endBytes (pairsIn store places n)
   end-grows zero i h = let e : i ≡ 0 = omega arith in rw e (omega arith)
   end-grows (suc n) i h =
       elim (ℕ-discrete i (suc n)) [ yes e ↦ rw e (omega arith) | no d ↦ omega (arith, end-grows n i (omega arith), end-next n) ]
 
-  module _ (n room i left : ℕ) (h : i < n) (e : left + endBytes (placed store places i) ≡ room) (s : Text) (k : s ≡ keyAt store places false i) where
-    more : endBytes (placed store places i) + (length (keyAt store places false i) + length (keyAt store places true i)) ≤ endBytes (placed store places n)
+  module _ (n room i left : ℕ) (h : i < n) (e : left + endBytes (pairsIn store places i) ≡ room) (s : Text) (k : s ≡ keyAt store places false i) where
+    more : endBytes (pairsIn store places i) + (length (keyAt store places false i) + length (keyAt store places true i)) ≤ endBytes (pairsIn store places n)
     more = omega (arith, end-next i, end-grows n (suc i) (omega arith))
 
-    pub room-source : left < length s → false ≡ leb (endBytes (placed store places n)) room
-    room-source l = sym (lt-leb (endBytes (placed store places n)) room (omega (arith, more, ap length k)))
+    pub room-source : left < length s → false ≡ leb (endBytes (pairsIn store places n)) room
+    room-source l = sym (lt-leb (endBytes (pairsIn store places n)) room (omega (arith, more, ap length k)))
 
     module _ (t : Text) (j : t ≡ keyAt store places true i) where
-      pub room-target : length s ≤ left → left - length s < length t → false ≡ leb (endBytes (placed store places n)) room
-      room-target g l = sym (lt-leb (endBytes (placed store places n)) room (omega (arith, more, ap length k, ap length j)))
+      pub room-target : length s ≤ left → left - length s < length t → false ≡ leb (endBytes (pairsIn store places n)) room
+      room-target g l = sym (lt-leb (endBytes (pairsIn store places n)) room (omega (arith, more, ap length k, ap length j)))
 
-      pub room-on : length s ≤ left → length t ≤ left - length s → left - length s - length t + endBytes (placed store places (i + 1)) ≡ room
+      pub room-on : length s ≤ left → length t ≤ left - length s → left - length s - length t + endBytes (pairsIn store places (i + 1)) ≡ room
       room-on g l = rw (add-one i) (omega (arith, end-next i, ap length k, ap length j))
 
-  pub room-begin : (room : ℕ) → room + endBytes (placed store places 0) ≡ room
-  unfolding placed endBytes
+  pub room-begin : (room : ℕ) → room + endBytes (pairsIn store places 0) ≡ room
+  unfolding pairsIn endBytes
   room-begin room = omega arith
 
-  pub room-end : (n room i left : ℕ) → n ≤ i → i ≤ n → left + endBytes (placed store places i) ≡ room → true ≡ leb (endBytes (placed store places n)) room
+  pub room-end : (n room i left : ℕ) → n ≤ i → i ≤ n → left + endBytes (pairsIn store places i) ≡ room → true ≡ leb (endBytes (pairsIn store places n)) room
   room-end n room i left l m e =
       let z : n ≡ i = omega arith in
-      rw z (sym (le-leb (endBytes (placed store places i)) room (omega arith)))
+      rw z (sym (le-leb (endBytes (pairsIn store places i)) room (omega arith)))
 
 pub ruleset rooms = (room-source, room-target, room-on, room-begin, room-end)

@@ -9,13 +9,13 @@ use lib.Dec.{leb}
 use lib.ListN.{length, take, drop, set, length-append, length-take, length-drop}
 use lib.Seq.{sets, sets-eq, take-append-seam, take-append-add, drop-append-add, drop-drop, take-take, length-take-le}
 use borrow.Author.Tests.{le-leb, lt-leb, leb-true}
-use Rattle.text.specs.Text.{Text, written, over, placed as placedText}
+use Rattle.text.specs.Text.{Text, written, over, placed}
 use Rattle.text.proofs.BoolLaws.{and-no, told-false, told-true}
 use Rattle.text.specs.declared.Fit.{Fit}
 use Rattle.text.specs.declared.Fit.the-variants.{Written, Over}
 use Rattle.pairs.specs.Pair.{Pair}
-use Rattle.pairs.specs.Places.{textAt, keyAt, placedPair, placed, fourOf, listText, listPlaces, endBytes, listRoom, listFit, listBytes, listSlots}
-use Rattle.pairs.proofs.PlaceLaws.{placed-length}
+use Rattle.pairs.specs.Places.{textAt, keyAt, pairIn, pairsIn, fourOf, listText, listPlaces, endBytes, listRoom, listFit, listBytes, listSlots}
+use Rattle.pairs.proofs.PlaceLaws.{pairsIn-length}
 use Rattle.pairs.proofs.ListLaws.{list-length, places-length}
 use Rattle.pairs.proofs.RoomWays.{end-next, end-grows}
 
@@ -50,8 +50,8 @@ module _ (at : ℕ) (s t out : Text) (h : at + (length s + length t) ≤ length 
       let f : at + (length s + length t) ≡ at + length s + length t = omega arith in
       (rw (first-length, f) at e) ∙ drop-append-add s (drop (at + length s) out) (length t) ∙ drop-drop (length t) (at + length s) out
 
-  pub over-over : placedText (at + length s) t (placedText at s out) ≡ over at (s ++ t) out
-  unfolding placedText
+  pub over-over : placed (at + length s) t (placed at s out) ≡ over at (s ++ t) out
+  unfolding placed
   over-over =
       let n : at + length (s ++ t) ≡ at + length s + length t = rw (length-append s t) (omega arith) in
       rw (le-leb (at + length s) (length out) (omega arith), once-length, le-leb (at + length s + length t) (length out) (omega arith), up-to-second, behind-second, n)
@@ -62,10 +62,10 @@ module _ (at : ℕ) (s t ks kt : Text) (e : s ≡ ks) (f : t ≡ kt) where
   pub pair-end : at + length s + length t ≡ at + (length ks + length kt)
   pair-end = omega (arith, ap length e, ap length f)
 
-  pub pair-text : (out once twice : Text) → at + (length ks + length kt) ≤ length out → once ≡ placedText at s out → twice ≡ placedText (at + length s) t once
+  pub pair-text : (out once twice : Text) → at + (length ks + length kt) ≤ length out → once ≡ placed at s out → twice ≡ placed (at + length s) t once
       → twice ≡ over at (ks ++ kt) out
   pair-text out once twice h o w =
-      w ∙ ap (λ (x : Text). placedText (at + length s) t x) o ∙ over-over at s t out (omega (arith, ap length e, ap length f)) ∙ rw (e, f) refl
+      w ∙ ap (λ (x : Text). placed (at + length s) t x) o ∙ over-over at s t out (omega (arith, ap length e, ap length f)) ∙ rw (e, f) refl
 
   pub pair-slots : (l : List ℕ) (j : ℕ) → j + 4 ≤ length l
       → set (set (set (set l j at) (j + 1) (length s)) (j + 2) (at + length s)) (j + 3) (length t) ≡ over j (fourOf at ks kt) l
@@ -90,42 +90,42 @@ over-written t s out = simp (take-append-seam, drop-append-add, drop-drop, lengt
 
 -- `write_list`
 module _ (store : Text) (places : List ℕ) where
-  source-key : (i : ℕ) → (placedPair store places i) .source ≡ keyAt store places false i
-  unfolding placedPair
+  source-key : (i : ℕ) → (pairIn store places i) .source ≡ keyAt store places false i
+  unfolding pairIn
   source-key i = let z : 2 * i ≡ 2 * i + 0 = omega arith in ap (λ (j : ℕ). textAt store places j) z
 
-  target-key : (i : ℕ) → (placedPair store places i) .target ≡ keyAt store places true i
-  unfolding placedPair
+  target-key : (i : ℕ) → (pairIn store places i) .target ≡ keyAt store places true i
+  unfolding pairIn
   target-key i = refl
 
-  text-next : (i : ℕ) → listText (placed store places (i + 1)) ≡ listText (placed store places i) ++ (keyAt store places false i ++ keyAt store places true i)
-  unfolding placed
-  text-next i = rw (add-one i) (list-snoc (placed store places i) (placedPair store places i) ∙ rw (source-key i, target-key i) refl)
+  text-next : (i : ℕ) → listText (pairsIn store places (i + 1)) ≡ listText (pairsIn store places i) ++ (keyAt store places false i ++ keyAt store places true i)
+  unfolding pairsIn
+  text-next i = rw (add-one i) (list-snoc (pairsIn store places i) (pairIn store places i) ∙ rw (source-key i, target-key i) refl)
 
-  slots-next : (i : ℕ) → listPlaces 0 (placed store places (i + 1)) ≡ listPlaces 0 (placed store places i) ++ fourOf (endBytes (placed store places i)) (keyAt store places false i) (keyAt store places true i)
-  unfolding placed
+  slots-next : (i : ℕ) → listPlaces 0 (pairsIn store places (i + 1)) ≡ listPlaces 0 (pairsIn store places i) ++ fourOf (endBytes (pairsIn store places i)) (keyAt store places false i) (keyAt store places true i)
+  unfolding pairsIn
   slots-next i =
-      let z : 0 + endBytes (placed store places i) ≡ endBytes (placed store places i) = omega arith in
-      rw (add-one i) (places-snoc 0 (placed store places i) (placedPair store places i) ∙ rw (z, source-key i, target-key i) refl)
+      let z : 0 + endBytes (pairsIn store places i) ≡ endBytes (pairsIn store places i) = omega arith in
+      rw (add-one i) (places-snoc 0 (pairsIn store places i) (pairIn store places i) ∙ rw (z, source-key i, target-key i) refl)
 
-  pub list-at : (i at end : ℕ) → at ≡ endBytes (placed store places i) → end ≡ at + (length (keyAt store places false i) + length (keyAt store places true i))
-      → end ≡ endBytes (placed store places (i + 1))
+  pub list-at : (i at end : ℕ) → at ≡ endBytes (pairsIn store places i) → end ≡ at + (length (keyAt store places false i) + length (keyAt store places true i))
+      → end ≡ endBytes (pairsIn store places (i + 1))
   list-at i at end h e = rw (add-one i) (omega (arith, end-next store places i))
 
-  pub list-text : (i at : ℕ) (o out out′ : Text) → at ≡ endBytes (placed store places i) → out ≡ written (listText (placed store places i)) o
-      → out′ ≡ over at (keyAt store places false i ++ keyAt store places true i) out → out′ ≡ written (listText (placed store places (i + 1))) o
+  pub list-text : (i at : ℕ) (o out out′ : Text) → at ≡ endBytes (pairsIn store places i) → out ≡ written (listText (pairsIn store places i)) o
+      → out′ ≡ over at (keyAt store places false i ++ keyAt store places true i) out → out′ ≡ written (listText (pairsIn store places (i + 1))) o
   list-text i at o out out′ h w e =
-      e ∙ rw (w, h, ← (list-length (placed store places i)), text-next i) (over-written (listText (placed store places i)) (keyAt store places false i ++ keyAt store places true i) o)
+      e ∙ rw (w, h, ← (list-length (pairsIn store places i)), text-next i) (over-written (listText (pairsIn store places i)) (keyAt store places false i ++ keyAt store places true i) o)
 
-  pub list-slots : (i at : ℕ) (o slots slots′ : List ℕ) → at ≡ endBytes (placed store places i) → slots ≡ written (listPlaces 0 (placed store places i)) o
-      → slots′ ≡ over (4 * i) (fourOf at (keyAt store places false i) (keyAt store places true i)) slots → slots′ ≡ written (listPlaces 0 (placed store places (i + 1))) o
+  pub list-slots : (i at : ℕ) (o slots slots′ : List ℕ) → at ≡ endBytes (pairsIn store places i) → slots ≡ written (listPlaces 0 (pairsIn store places i)) o
+      → slots′ ≡ over (4 * i) (fourOf at (keyAt store places false i) (keyAt store places true i)) slots → slots′ ≡ written (listPlaces 0 (pairsIn store places (i + 1))) o
   list-slots i at o slots slots′ h w e =
-      let n : 4 * i ≡ length (listPlaces 0 (placed store places i)) = sym (places-length 0 (placed store places i) ∙ ap (λ (k : ℕ). 4 * k) (placed-length store places i)) in
-      e ∙ rw (w, h, n, slots-next i) (over-written (listPlaces 0 (placed store places i)) (fourOf (endBytes (placed store places i)) (keyAt store places false i) (keyAt store places true i)) o)
+      let n : 4 * i ≡ length (listPlaces 0 (pairsIn store places i)) = sym (places-length 0 (pairsIn store places i) ∙ ap (λ (k : ℕ). 4 * k) (pairsIn-length store places i)) in
+      e ∙ rw (w, h, n, slots-next i) (over-written (listPlaces 0 (pairsIn store places i)) (fourOf (endBytes (pairsIn store places i)) (keyAt store places false i) (keyAt store places true i)) o)
 
   module _ (n : ℕ) (o : Text) (p : List ℕ) where
     abbrev list : List Pair
-    list = placed store places n
+    list = pairsIn store places n
 
     Left : Fit → Text → List ℕ → Type 0
     Left r out slots = (r ≡ listFit list o p) × ((out ≡ listBytes list o p) × (slots ≡ listSlots list o p))
@@ -136,25 +136,25 @@ module _ (store : Text) (places : List ℕ) where
 
     pub list-few : length p / 4 < n → (Over ≡ listFit list o p) × ((o ≡ listBytes list o p) × (p ≡ listSlots list o p))
     unfolding Left listRoom
-    list-few h = short (rw (placed-length store places n, lt-leb n (length p / 4) h) (and-no (leb (endBytes list) (length o))))
+    list-few h = short (rw (pairsIn-length store places n, lt-leb n (length p / 4) h) (and-no (leb (endBytes list) (length o))))
 
     pub list-full : (b : Bool) → b ≡ leb (endBytes list) (length o) → not b ≡ true → (Over ≡ listFit list o p) × ((o ≡ listBytes list o p) × (p ≡ listSlots list o p))
     unfolding Left listRoom
     list-full b h k = short (rw (told-false h k))
 
     module _ (few : n ≤ length p / 4) (b : Bool) (h : b ≡ leb (endBytes list) (length o)) (k : not b ≡ false) where
-      pub list-done : (i : ℕ) (out : Text) (slots : List ℕ) → n ≤ i → i ≤ n → out ≡ written (listText (placed store places i)) o → slots ≡ written (listPlaces 0 (placed store places i)) p
+      pub list-done : (i : ℕ) (out : Text) (slots : List ℕ) → n ≤ i → i ≤ n → out ≡ written (listText (pairsIn store places i)) o → slots ≡ written (listPlaces 0 (pairsIn store places i)) p
           → (Written n ≡ listFit list o p) × ((out ≡ listBytes list o p) × (slots ≡ listSlots list o p))
       unfolding listRoom listFit listBytes listSlots
       list-done i out slots l m w v =
           let z : i ≡ n = omega arith in
-          rw (placed-length store places n, told-true h k, le-leb n (length p / 4) few) (refl, (w ∙ rw z refl, v ∙ rw z refl))
+          rw (pairsIn-length store places n, told-true h k, le-leb n (length p / 4) few) (refl, (w ∙ rw z refl, v ∙ rw z refl))
 
-      pub list-room : (i at : ℕ) (out : Text) → i < n → at ≡ endBytes (placed store places i) → out ≡ written (listText (placed store places i)) o
+      pub list-room : (i at : ℕ) (out : Text) → i < n → at ≡ endBytes (pairsIn store places i) → out ≡ written (listText (pairsIn store places i)) o
           → at + (length (keyAt store places false i) + length (keyAt store places true i)) ≤ length out
       list-room i at out l e w =
           let r : endBytes list ≤ length o = leb-true (endBytes list) (length o) (told-true h k) in
           rw w (simp (length-append, length-drop) (omega (arith, r, end-next store places i, end-grows store places n (suc i) (omega arith))))
 
-      pub list-slot : (i : ℕ) (slots : List ℕ) → i < n → slots ≡ written (listPlaces 0 (placed store places i)) p → 4 * i + 4 ≤ length slots
+      pub list-slot : (i : ℕ) (slots : List ℕ) → i < n → slots ≡ written (listPlaces 0 (pairsIn store places i)) p → 4 * i + 4 ≤ length slots
       list-slot i slots l w = rw w (simp (length-append, length-drop) (omega arith))

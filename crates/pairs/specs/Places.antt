@@ -28,15 +28,15 @@ unfolding inside
 textAt store places j = cond (inside store places j) (take (lengthAt places j) (drop (startAt places j) store)) []
 
 -- pair i has the places 2 i and 2 i + 1
-unfoldable pub placedPair : Text → List ℕ → ℕ → Pair
+unfoldable pub pairIn : Text → List ℕ → ℕ → Pair
 unfolding textAt
-placedPair store places i = record { source = textAt store places (2 * i); target = textAt store places (2 * i + 1) }
+pairIn store places i = record { source = textAt store places (2 * i); target = textAt store places (2 * i + 1) }
 
 -- the first n pairs
-unfoldable pub placed : Text → List ℕ → ℕ → List Pair
-unfolding placedPair
-placed store places zero = []
-placed store places (suc n) = placed store places n ++ placedPair store places n ∷ []
+unfoldable pub pairsIn : Text → List ℕ → ℕ → List Pair
+unfolding pairIn
+pairsIn store places zero = []
+pairsIn store places (suc n) = pairsIn store places n ++ pairIn store places n ∷ []
 
 -- the key of pair i: its source, or its target where the map is read backwards
 abbrev pub keyAt : Text → List ℕ → Bool → ℕ → Text
@@ -98,4 +98,4 @@ listSlots l out slots = cond (listRoom l out slots) (written (listPlaces 0 l) sl
 
 -- a list that was written is read back as it was (proved in proofs/ListLaws.antt)
 abbrev pub ReadBack : Type 0
-ReadBack = (l : List Pair) (store : Text) (places : List ℕ) → placed (written (listText l) store) (written (listPlaces 0 l) places) (length l) ≡ l
+ReadBack = (l : List Pair) (store : Text) (places : List ℕ) → pairsIn (written (listText l) store) (written (listPlaces 0 l) places) (length l) ≡ l

@@ -8,7 +8,7 @@ ghost use Prim.Native.Nat.{_+_, _*_, _≤_};
 ghost use Rattle.text.specs.Text.{over};
 ghost use Rattle.grammar.specs.Legal.{legal, isEnd};
 ghost use lib.Dec.{leb};
-ghost use Rattle.pairs.specs.Places.{placed, endBytes, listFit, listBytes, listSlots, fourOf, fitsAt, textAt, keyAt, placesFit, placesAll};
+ghost use Rattle.pairs.specs.Places.{pairsIn, endBytes, listFit, listBytes, listSlots, fourOf, fitsAt, textAt, keyAt, placesFit, placesAll};
 ghost use Rattle.pairs.specs.Best.{serves, best, chosenIn, considered};
 
 // The text at the place j; empty where the place is not there or reaches outside the store.
@@ -159,7 +159,7 @@ pub fn best_prefix(store: &[u8], places: &[usize], n: usize, invert: bool, path:
 
 // Is the lent memory enough for the first n pairs, one behind the other?
 fn has_room(store: &[u8], places: &[usize], n: usize, room: usize) -> bool
-    ensures { λ r. ⌜ r ≡ leb (endBytes (placed (now (store .entry)) (now (places .entry)) n)) room ⌝ }
+    ensures { λ r. ⌜ r ≡ leb (endBytes (pairsIn (now (store .entry)) (now (places .entry)) n)) room ⌝ }
 {
     let mut left = room;
     let mut i = 0;
@@ -216,9 +216,9 @@ pub fn write_list(
     out: &mut [u8],
     slots: &mut [usize],
 ) -> text::Fit
-    ensures { λ r. ⌜ r ≡ listFit (placed (now (store .entry)) (now (places .entry)) n) (now (out .entry)) (now (slots .entry)) ⌝ }
-    ensures { λ r. ⌜ now (out .exit) ≡ listBytes (placed (now (store .entry)) (now (places .entry)) n) (now (out .entry)) (now (slots .entry)) ⌝ }
-    ensures { λ r. ⌜ now (slots .exit) ≡ listSlots (placed (now (store .entry)) (now (places .entry)) n) (now (out .entry)) (now (slots .entry)) ⌝ }
+    ensures { λ r. ⌜ r ≡ listFit (pairsIn (now (store .entry)) (now (places .entry)) n) (now (out .entry)) (now (slots .entry)) ⌝ }
+    ensures { λ r. ⌜ now (out .exit) ≡ listBytes (pairsIn (now (store .entry)) (now (places .entry)) n) (now (out .entry)) (now (slots .entry)) ⌝ }
+    ensures { λ r. ⌜ now (slots .exit) ≡ listSlots (pairsIn (now (store .entry)) (now (places .entry)) n) (now (out .entry)) (now (slots .entry)) ⌝ }
 {
     if slots.len() / 4 < n {
         return text::Fit::Over;

@@ -2,12 +2,12 @@ use Rattle.pairs.proofs.RoomWays.{rooms}
 use borrow.Author.Needs.{needs}
 use mathlib.Core.Path.{_≡_}
 use Prim.Native.Nat.{_+_, _-_, _≤_}
-use Rattle.pairs.specs.Places.{placed, endBytes}
+use Rattle.pairs.specs.Places.{pairsIn, endBytes}
 use Rattle.pairs.proofs.has_room.Statement.{statement}
 use Rattle.pairs.proofs.has_room.Tie as tie
 
 abbrev Inv-loop : tie.InvT-loop
-Inv-loop store places n room left₀ i₀ left i = (i ≤ n) × (left + endBytes (placed store places i) ≡ room)
+Inv-loop store places n room left₀ i₀ left i = (i ≤ n) × (left + endBytes (pairsIn store places i) ≡ room)
 
 abbrev μ-loop : tie.MeasureT-loop
 μ-loop store places n room left₀ i₀ left i = n - i

@@ -2,14 +2,14 @@ use mathlib.Core.Path.{_≡_, refl}
 use Prim.Native.Nat.{_≤_, _-_}
 use lib.ListN.{length}
 use Rattle.text.specs.Text.{written}
-use Rattle.pairs.specs.Places.{placed, endBytes, listText, listPlaces}
+use Rattle.pairs.specs.Places.{pairsIn, endBytes, listText, listPlaces}
 use Rattle.pairs.proofs.WriteWays.{list-few, list-full, list-done, list-room, list-slot, list-at, list-text, list-slots}
 use borrow.Author.Needs.{needs}
 use Rattle.pairs.proofs.write_list.Statement.{statement}
 use Rattle.pairs.proofs.write_list.Tie as tie
 
 abbrev Inv-loop : tie.InvT-loop
-Inv-loop store places n out₀ slots₀ at₀ i₀ out slots at i = (i ≤ n) × (at ≡ endBytes (placed store places i)) × (out ≡ written (listText (placed store places i)) out₀) × (slots ≡ written (listPlaces 0 (placed store places i)) slots₀) × (length out ≡ length out₀) × (length slots ≡ length slots₀)
+Inv-loop store places n out₀ slots₀ at₀ i₀ out slots at i = (i ≤ n) × (at ≡ endBytes (pairsIn store places i)) × (out ≡ written (listText (pairsIn store places i)) out₀) × (slots ≡ written (listPlaces 0 (pairsIn store places i)) slots₀) × (length out ≡ length out₀) × (length slots ≡ length slots₀)
 
 abbrev μ-loop : tie.MeasureT-loop
 μ-loop store places n out₀ slots₀ at₀ i₀ out slots at i = n - i
@@ -24,7 +24,7 @@ returns-2 : tie.Need-returns-2 Inv-loop μ-loop
 returns-2 c = list-full _ _ _ _ _ _ (c .before .has-room .ensures) (c .if2 .taken)
 
 loop-holds : tie.Need-loop-holds Inv-loop μ-loop
-unfolding placed listText listPlaces endBytes
+unfolding pairsIn listText listPlaces endBytes
 loop-holds c = (search needs, refl, refl, refl, refl, refl)
 
 write-pair-requires : tie.Need-write-pair-requires Inv-loop μ-loop
