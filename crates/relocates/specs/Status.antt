@@ -1,0 +1,90 @@
+-- A relocate's status: which of the pairs that modellers wrote into one layer stack take part. OpenUSD: Pcp_ComputeRelocationsForLayerStack.
+use Prim.Native.Nat.{ℕ, zero, suc}
+use mathlib.Core.Bool.{Bool, true, false, not, cond, _&&_, _||_}
+use mathlib.Core.List.{List, [], _∷_, _++_}
+use lib.Dec.{eqb}
+use lib.ListN.{length}
+use Rattle.text.specs.Text.{Text, isNil, equal}
+use Rattle.prefix.specs.Prefix.{hasPrefix}
+use Rattle.prefix.specs.Elements.{count, names}
+use Rattle.pairs.specs.Pair.{Pair, pairAt}
+use Rattle.maps.specs.Map.{Map}
+use Rattle.maps.specs.New.{new}
+use Rattle.relocates.specs.declared.RelocateOccurrence.{RelocateOccurrence}
+use Rattle.relocates.specs.declared.RelocateOccurrence.the-variants.{Active, DroppedStructural, DroppedDuplicateSource, DroppedConflict}
+
+-- "a status byte: 0 Active, 1 structural, 2 duplicate source, 3 conflict"
+abbrev pub statusByte : RelocateOccurrence → ℕ
+statusByte Active = 0
+statusByte DroppedStructural = 1
+statusByte DroppedDuplicateSource = 2
+statusByte DroppedConflict = 3
+
+-- a test passes at some number below n
+unfoldable pub someBelow : ℕ → (ℕ → Bool) → Bool
+someBelow zero passes = false
+someBelow (suc n) passes = someBelow n passes || passes n
+
+-- "An empty target is never structural. Otherwise structural means: the source has one name; the ends are equal; or one is a prefix of the
+-- other." (Rust: relocate_invalid_reason)
+unfoldable pub structural : Pair → Bool
+unfolding count equal hasPrefix
+structural x =
+    not (isNil (x .target))
+    && (eqb (names (x .source)) 1 || equal (x .source) (x .target) || hasPrefix (x .source) (x .target) || hasPrefix (x .target) (x .source))
+
+-- "2: an earlier non-structural pair has this source." (Rust: duplicate_source_mask)
+unfoldable pub duplicate : List Pair → ℕ → Bool
+unfolding someBelow structural equal
+duplicate l i = someBelow i (λ (k : ℕ). not (structural (pairAt l k)) && equal ((pairAt l k) .source) ((pairAt l i) .source))
+
+-- "pairs neither 1 nor 2"
+unfoldable pub canConflict : List Pair → ℕ → Bool
+unfolding structural duplicate
+canConflict l i = not (structural (pairAt l i)) && not (duplicate l i)
+
+-- "another has the same non-empty target"
+unfoldable pub sameTarget : Pair → Pair → Bool
+unfolding equal
+sameTarget a b = not (isNil (a .target)) && equal (a .target) (b .target)
+
+-- "or gives a reason in `relocate_pair_conflicts`": a's target is b's source or lies below it, a's source is b's target, or lies below
+-- b's source
+unfoldable pub pairConflicts : Pair → Pair → Bool
+unfolding equal hasPrefix
+pairConflicts a b =
+    not (isNil (a .target)) && hasPrefix (a .target) (b .source)
+    || not (isNil (b .target)) && equal (a .source) (b .target)
+    || not (equal (a .source) (b .source)) && hasPrefix (a .source) (b .source)
+
+-- "3: among pairs neither 1 nor 2" some other one stands against it; "A pair that is itself 3 still conflicts with others."
+unfoldable pub conflict : List Pair → ℕ → Bool
+unfolding someBelow canConflict sameTarget pairConflicts
+conflict l i =
+    someBelow (length l) (λ (j : ℕ). not (eqb i j) && canConflict l j && (sameTarget (pairAt l i) (pairAt l j) || pairConflicts (pairAt l i) (pairAt l j)))
+
+-- Rust: analyze_relocate_occurrences, at place i
+unfoldable pub occurrence : List Pair → ℕ → RelocateOccurrence
+unfolding structural duplicate conflict
+occurrence l i =
+    cond (structural (pairAt l i)) DroppedStructural (cond (duplicate l i) DroppedDuplicateSource (cond (conflict l i) DroppedConflict Active))
+
+-- the status bytes of the first n pairs
+unfoldable pub statuses : List Pair → ℕ → List ℕ
+unfolding occurrence
+statuses l zero = []
+statuses l (suc n) = statuses l n ++ statusByte (occurrence l n) ∷ []
+
+-- the Active ones of the first n pairs
+unfoldable pub active : List Pair → ℕ → List Pair
+unfolding occurrence
+active l zero = []
+active l (suc n) = cond (eqb (statusByte (occurrence l n)) 0) (active l n ++ pairAt l n ∷ []) (active l n)
+
+abbrev pub roots : Pair
+roots = record { source = 47 ∷ []; target = 47 ∷ [] }
+
+-- "a relocate list standing for `new` of its Active pairs and `/`→`/`"
+unfoldable pub relocateMap : List Pair → Map
+unfolding active new
+relocateMap l = new (active l (length l) ++ roots ∷ [])
