@@ -6,7 +6,8 @@ ghost use Prim.Native.Nat.{_≤_};
 ghost use lib.ListN.{length};
 ghost use Rattle.parts.specs.Strip.{strip};
 ghost use Rattle.path.specs.Outcome.{reply, memory};
-ghost use Rattle.carry.specs.Quick.{quick, lentMap, quickTranslate};
+ghost use Rattle.maps.specs.Map.{lentMap};
+ghost use Rattle.carry.specs.Quick.{quick, quickTranslate};
 ghost use Rattle.mapping.specs.Hand.{within, handed};
 ghost use Rattle.mapping.specs.Calls.{carrying, mapSourceToTargetCall, mapTargetToSourceCall, translateToTargetCall};
 
