@@ -10,6 +10,8 @@ use lib.Dec.{leb}
 use lib.ListN.{length, getD, length-append}
 use borrow.Author.Tests.{le-leb, lt-leb, leb-true}
 use Rattle.text.specs.Text.{Text, written}
+use Rattle.text.specs.declared.Fit.{Fit}
+use Rattle.text.specs.declared.Fit.the-variants.{Written, Over}
 use Rattle.text.proofs.BoolLaws.{and-no, told-false, told-true}
 use Rattle.prefix.specs.Elements.{elements}
 use Rattle.layer_offset.specs.declared.LayerOffset.{LayerOffset}
@@ -19,7 +21,7 @@ use Rattle.pairs.proofs.PlaceLaws.{pairsIn-length}
 use Rattle.pairs.proofs.WriteWays.{source-key}
 use Rattle.path.specs.declared.Refusal.{Refusal}
 use Rattle.path.specs.declared.Refusal.the-variants.{TooMany, NoRoom}
-use Rattle.asking.specs.Asking.{lentList, listCounts}
+use Rattle.asking.specs.Asking.{lentList}
 use Rattle.maps.specs.Map.{Map}
 use Rattle.maps.specs.New.{isRoots, noRoots, anyRoots, sorted, keep, canonical, fromParts}
 use Rattle.maps.proofs.WeightLaws.{weight, fromParts-weight}
@@ -27,7 +29,7 @@ use Rattle.maps.proofs.EndLaws.{fromParts-length}
 use Rattle.map_function.specs.declared.MapFunction.{MapFunction}
 use Rattle.map_function.specs.declared.MapReply.{MapReply}
 use Rattle.map_function.specs.declared.MapReply.the-variants.{Made, Refused}
-use Rattle.map_function.specs.Made.{MapOutcome, map, refused, mapReply, mapBytes, mapSlots, roomFor, fromPartsCall}
+use Rattle.map_function.specs.Made.{MapOutcome, map, refused, mapReply, mapBytes, mapSlots, roomFor, held, asItIs, fromPartsOutcome}
 use Rattle.map_function.specs.Level.{level, levels, layer, Keyed, Topped}
 use Rattle.map_function.proofs.LevelLaws.{Below, sorted-levels, levels-few, layer-append, keep-append, keep-few, canonical-keeps}
 
@@ -170,62 +172,108 @@ module _ (store : Text) (places : List ℕ) (n : ℕ) (mark : Bool) (time : Laye
   list = pairsIn store places n
 
   abbrev call : MapOutcome
-  call = fromPartsCall (lentList store places n) mark time out slots
+  call = held (lentList store places n) (fromPartsOutcome list mark time out slots)
+
+  abbrev copy : MapOutcome
+  copy = held (lentList store places n) (asItIs list mark time out slots)
+
+  -- a list that is too long, whatever becomes of it
+  many : (o : MapOutcome) → 64 < n → held (lentList store places n) (cond (leb (length list) 64) o (refused TooMany)) ≡ refused TooMany
+  unfolding held
+  many o h = rw (pairsIn-length store places n, lt-leb n 64 h) (same (leb n (length places / 4)))
+    where
+      same : (b : Bool) → cond b (refused TooMany) (refused TooMany) ≡ refused TooMany
+      same true = refl
+      same false = refl
 
   pub parts-many : 64 < n → call ≡ refused TooMany
-  unfolding fromPartsCall listCounts
-  parts-many h = rw (lt-leb n 64 h) refl
+  unfolding fromPartsOutcome
+  parts-many h = many (roomFor list out slots (map (fromParts list mark) time)) h
 
-  module _ (few : n ≤ 64) where
-    pub parts-beyond : length places / 4 < n → call ≡ refused TooMany
-    unfolding fromPartsCall listCounts
-    parts-beyond h = rw (le-leb n 64 few, lt-leb n (length places / 4) h) refl
+  pub copy-many : 64 < n → copy ≡ refused TooMany
+  unfolding asItIs
+  copy-many h = many (roomFor list out slots (map (record { pairs = list; mark = mark }) time)) h
 
-    module _ (held : n ≤ length places / 4) where
-      asked-room : call ≡ cond (listRoom list out slots) (map (fromParts list mark) time) (refused NoRoom)
-      unfolding fromPartsCall listCounts roomFor
-      asked-room = rw (le-leb n 64 few, le-leb n (length places / 4) held) refl
+  pub parts-beyond : length places / 4 < n → call ≡ refused TooMany
+  unfolding held
+  parts-beyond h = rw (lt-leb n (length places / 4) h) refl
 
-      pub parts-slots : length slots / 4 < n → call ≡ refused NoRoom
+  pub copy-beyond : length places / 4 < n → copy ≡ refused TooMany
+  unfolding held
+  copy-beyond h = rw (lt-leb n (length places / 4) h) refl
+
+  module _ (few : n ≤ 64) (h : n ≤ length places / 4) where
+    copy-room : copy ≡ cond (listRoom list out slots) (map (record { pairs = list; mark = mark }) time) (refused NoRoom)
+    unfolding held asItIs roomFor
+    copy-room = rw (le-leb n (length places / 4) h, pairsIn-length store places n, le-leb n 64 few) refl
+
+    module _ (f : Fit) (e : f ≡ listFit list out slots) where
+      pub copy-over : (out′ : Text) (slots′ : List ℕ) → f ≡ Over → out′ ≡ listBytes list out slots → slots′ ≡ listSlots list out slots
+          → (Refused NoRoom ≡ mapReply copy) × ((out′ ≡ mapBytes copy out) × (slots′ ≡ mapSlots copy slots))
+      unfolding listFit listBytes listSlots mapReply mapBytes mapSlots
+      copy-over out′ slots′ o p q = go (listRoom list out slots) refl
+        where
+          go : (b : Bool) → listRoom list out slots ≡ b → (Refused NoRoom ≡ mapReply copy) × ((out′ ≡ mapBytes copy out) × (slots′ ≡ mapSlots copy slots))
+          go true z = absurd (let y : Over ≡ Written (length list) = sym o ∙ e ∙ rw z refl in let x : _≡_ {A = ℕ} 0 1 = cc in omega arith)
+          go false z = rw (copy-room, z) (refl, (p ∙ rw z refl, q ∙ rw z refl))
+
+      pub copy-made : (w : ℕ) (out′ : Text) (slots′ : List ℕ) → f ≡ Written w → out′ ≡ listBytes list out slots → slots′ ≡ listSlots list out slots
+          → (Made (record { count = w; «has_root_identity» = mark; «time_offset» = time }) ≡ mapReply copy) × ((out′ ≡ mapBytes copy out) × (slots′ ≡ mapSlots copy slots))
+      unfolding listFit listBytes listSlots mapReply mapBytes mapSlots
+      copy-made w out′ slots′ o p q = go (listRoom list out slots) refl
+        where
+          go : (b : Bool) → listRoom list out slots ≡ b
+              → (Made (record { count = w; «has_root_identity» = mark; «time_offset» = time }) ≡ mapReply copy) × ((out′ ≡ mapBytes copy out) × (slots′ ≡ mapSlots copy slots))
+          go true z =
+              let y : Written w ≡ Written (length list) = sym o ∙ e ∙ rw z refl in
+              let x : w ≡ length list = cc in
+              rw (copy-room, z) (rw x refl, (p ∙ rw z refl, q ∙ rw z refl))
+          go false z = absurd (let y : Written w ≡ Over = sym o ∙ e ∙ rw z refl in let x : _≡_ {A = ℕ} 0 1 = cc in omega arith)
+
+    asked-room : call ≡ cond (listRoom list out slots) (map (fromParts list mark) time) (refused NoRoom)
+    unfolding held fromPartsOutcome roomFor
+    asked-room = rw (le-leb n (length places / 4) h, pairsIn-length store places n, le-leb n 64 few) refl
+
+    pub parts-slots : length slots / 4 < n → call ≡ refused NoRoom
+    unfolding listRoom
+    parts-slots h = asked-room ∙ rw (pairsIn-length store places n, lt-leb n (length slots / 4) h, and-no (leb (endBytes list) (length out))) refl
+
+    module _ (fit : n ≤ length slots / 4) (b : Bool) (e : b ≡ leb (endBytes list) (length out)) where
+      pub parts-bytes : not b ≡ true → call ≡ refused NoRoom
       unfolding listRoom
-      parts-slots h = asked-room ∙ rw (pairsIn-length store places n, lt-leb n (length slots / 4) h, and-no (leb (endBytes list) (length out))) refl
+      parts-bytes k = asked-room ∙ rw (told-false e k) refl
 
-      module _ (fit : n ≤ length slots / 4) (b : Bool) (e : b ≡ leb (endBytes list) (length out)) where
-        pub parts-bytes : not b ≡ true → call ≡ refused NoRoom
+      module _ (k : not b ≡ false) (any marked : Bool) (f : any ≡ anyRoots list) (g : marked ≡ (mark || any)) (kept : List ℕ) (w : ℕ)
+          (c : pairsIn store kept w ≡ canonical marked (noRoots list)) where
+        has-room : listRoom list out slots ≡ true
         unfolding listRoom
-        parts-bytes k = asked-room ∙ rw (told-false e k) refl
+        has-room = rw (told-true e k, pairsIn-length store places n, le-leb n (length slots / 4) fit) refl
 
-        module _ (k : not b ≡ false) (any marked : Bool) (f : any ≡ anyRoots list) (g : marked ≡ (mark || any)) (kept : List ℕ) (w : ℕ)
-            (c : pairsIn store kept w ≡ canonical marked (noRoots list)) where
-          has-room : listRoom list out slots ≡ true
-          unfolding listRoom
-          has-room = rw (told-true e k, pairsIn-length store places n, le-leb n (length slots / 4) fit) refl
+        mark-is : marked ≡ (fromParts list mark) .mark
+        unfolding fromParts
+        mark-is = g ∙ rw f refl
 
-          mark-is : marked ≡ (fromParts list mark) .mark
-          unfolding fromParts
-          mark-is = g ∙ rw f refl
+        pairs-are : pairsIn store kept w ≡ (fromParts list mark) .pairs
+        unfolding fromParts
+        pairs-are = c ∙ ap (λ (m : Bool). canonical m (noRoots list)) mark-is
 
-          pairs-are : pairsIn store kept w ≡ (fromParts list mark) .pairs
-          unfolding fromParts
-          pairs-are = c ∙ ap (λ (m : Bool). canonical m (noRoots list)) mark-is
+        count-is : w ≡ length ((fromParts list mark) .pairs)
+        count-is = sym (pairsIn-length store kept w) ∙ ap length pairs-are
 
-          count-is : w ≡ length ((fromParts list mark) .pairs)
-          count-is = sym (pairsIn-length store kept w) ∙ ap length pairs-are
+        room-still : listRoom (pairsIn store kept w) out slots ≡ true
+        unfolding listRoom
+        room-still =
+            let r : endBytes list ≤ length out = leb-true (endBytes list) (length out) (told-true e k) in
+            let d : length ((fromParts list mark) .pairs) ≤ length list = fromParts-length list mark in
+            rw (
+              pairs-are,
+              le-leb (endBytes ((fromParts list mark) .pairs)) (length out) (omega (arith, r, fromParts-bytes list mark)),
+              le-leb (length ((fromParts list mark) .pairs)) (length slots / 4) (omega (arith, d, pairsIn-length store places n, fit)),
+            ) refl
 
-          room-still : listRoom (pairsIn store kept w) out slots ≡ true
-          unfolding listRoom
-          room-still =
-              let r : endBytes list ≤ length out = leb-true (endBytes list) (length out) (told-true e k) in
-              let d : length ((fromParts list mark) .pairs) ≤ length list = fromParts-length list mark in
-              rw (
-                pairs-are,
-                le-leb (endBytes ((fromParts list mark) .pairs)) (length out) (omega (arith, r, fromParts-bytes list mark)),
-                le-leb (length ((fromParts list mark) .pairs)) (length slots / 4) (omega (arith, d, pairsIn-length store places n, fit)),
-              ) refl
-
-          pub parts-made : (out′ : Text) (slots′ : List ℕ) → out′ ≡ listBytes (pairsIn store kept w) out slots → slots′ ≡ listSlots (pairsIn store kept w) out slots
-              → (Made (record { count = w; «has_root_identity» = marked; «time_offset» = time }) ≡ mapReply call) × ((out′ ≡ mapBytes call out) × (slots′ ≡ mapSlots call slots))
-          unfolding mapReply mapBytes mapSlots listBytes listSlots
-          parts-made out′ slots′ p q =
-              let z : call ≡ map (fromParts list mark) time = asked-room ∙ rw has-room refl in
-              rw z (rw (count-is, mark-is) refl, (p ∙ rw (room-still, pairs-are) refl, q ∙ rw (room-still, pairs-are) refl))
+        pub parts-made : (out′ : Text) (slots′ : List ℕ) → out′ ≡ listBytes (pairsIn store kept w) out slots → slots′ ≡ listSlots (pairsIn store kept w) out slots
+            → (Made (record { count = w; «has_root_identity» = marked; «time_offset» = time }) ≡ mapReply call) × ((out′ ≡ mapBytes call out) × (slots′ ≡ mapSlots call slots))
+        unfolding mapReply mapBytes mapSlots listBytes listSlots
+        parts-made out′ slots′ p q =
+            let z : call ≡ map (fromParts list mark) time = asked-room ∙ rw has-room refl in
+            rw z (rw (count-is, mark-is) refl, (p ∙ rw (room-still, pairs-are) refl, q ∙ rw (room-still, pairs-are) refl))

@@ -12,7 +12,7 @@ ghost use Rattle.asking.specs.Asking.{lentList};
 ghost use Rattle.maps.specs.Map.{lentMap};
 ghost use Rattle.maps.specs.New.{isRoots, noRoots, anyRoots, implied, keep, canonical};
 ghost use Rattle.map_function.specs.Level.{layer, Keyed, Topped};
-ghost use Rattle.map_function.specs.Made.{mapReply, mapBytes, mapSlots, fromPartsCall};
+ghost use Rattle.map_function.specs.Made.{mapReply, mapBytes, mapSlots, held, asItIs, fromPartsOutcome};
 
 // A map: how many pairs of the lent list are its own, the root-identity mark, and the time offset.
 pub struct MapFunction {
@@ -202,9 +202,9 @@ pub fn from_parts(
     out: &mut [u8],
     slots: &mut [usize],
 ) -> MapReply
-    ensures { λ r. ⌜ r ≡ mapReply (fromPartsCall (lentList (now (store .entry)) (now (places .entry)) n) mark time (now (out .entry)) (now (slots .entry))) ⌝ }
-    ensures { λ r. ⌜ now (out .exit) ≡ mapBytes (fromPartsCall (lentList (now (store .entry)) (now (places .entry)) n) mark time (now (out .entry)) (now (slots .entry))) (now (out .entry)) ⌝ }
-    ensures { λ r. ⌜ now (slots .exit) ≡ mapSlots (fromPartsCall (lentList (now (store .entry)) (now (places .entry)) n) mark time (now (out .entry)) (now (slots .entry))) (now (slots .entry)) ⌝ }
+    ensures { λ r. ⌜ r ≡ mapReply (held (lentList (now (store .entry)) (now (places .entry)) n) (fromPartsOutcome (pairsIn (now (store .entry)) (now (places .entry)) n) mark time (now (out .entry)) (now (slots .entry)))) ⌝ }
+    ensures { λ r. ⌜ now (out .exit) ≡ mapBytes (held (lentList (now (store .entry)) (now (places .entry)) n) (fromPartsOutcome (pairsIn (now (store .entry)) (now (places .entry)) n) mark time (now (out .entry)) (now (slots .entry)))) (now (out .entry)) ⌝ }
+    ensures { λ r. ⌜ now (slots .exit) ≡ mapSlots (held (lentList (now (store .entry)) (now (places .entry)) n) (fromPartsOutcome (pairsIn (now (store .entry)) (now (places .entry)) n) mark time (now (out .entry)) (now (slots .entry)))) (now (slots .entry)) ⌝ }
 {
     if 64 < n {
         return MapReply::Refused(path::Refusal::TooMany);
@@ -225,6 +225,37 @@ pub fn from_parts(
     MapReply::Made(MapFunction {
         count: w,
         has_root_identity: marked,
+        time_offset: time,
+    })
+}
+
+// The first n pairs as they stand as a map, written to out and slots.
+pub fn as_it_is(
+    store: &[u8],
+    places: &[usize],
+    n: usize,
+    mark: bool,
+    time: layer_offset::LayerOffset,
+    out: &mut [u8],
+    slots: &mut [usize],
+) -> MapReply
+    ensures { λ r. ⌜ r ≡ mapReply (held (lentList (now (store .entry)) (now (places .entry)) n) (asItIs (pairsIn (now (store .entry)) (now (places .entry)) n) mark time (now (out .entry)) (now (slots .entry)))) ⌝ }
+    ensures { λ r. ⌜ now (out .exit) ≡ mapBytes (held (lentList (now (store .entry)) (now (places .entry)) n) (asItIs (pairsIn (now (store .entry)) (now (places .entry)) n) mark time (now (out .entry)) (now (slots .entry)))) (now (out .entry)) ⌝ }
+    ensures { λ r. ⌜ now (slots .exit) ≡ mapSlots (held (lentList (now (store .entry)) (now (places .entry)) n) (asItIs (pairsIn (now (store .entry)) (now (places .entry)) n) mark time (now (out .entry)) (now (slots .entry)))) (now (slots .entry)) ⌝ }
+{
+    if 64 < n {
+        return MapReply::Refused(path::Refusal::TooMany);
+    }
+    if places.len() / 4 < n {
+        return MapReply::Refused(path::Refusal::TooMany);
+    }
+    let fit = pairs::write_list(store, places, n, out, slots);
+    let text::Fit::Written(w) = fit else {
+        return MapReply::Refused(path::Refusal::NoRoom);
+    };
+    MapReply::Made(MapFunction {
+        count: w,
+        has_root_identity: mark,
         time_offset: time,
     })
 }

@@ -7,7 +7,7 @@ returns : tie.Need-returns
 returns c = refusing-map _ _ (parts-many _ _ _ _ _ _ _ (c .if1 .taken)) _ _
 
 returns-2 : tie.Need-returns-2
-returns-2 c = refusing-map _ _ (parts-beyond _ _ _ _ _ _ _ (c .before .if1 .left) (c .if2 .taken)) _ _
+returns-2 c = refusing-map _ _ (parts-beyond _ _ _ _ _ _ _ (c .if2 .taken)) _ _
 
 returns-3 : tie.Need-returns-3
 returns-3 c = refusing-map _ _ (parts-slots _ _ _ _ _ _ _ (c .before .before .if1 .left) (c .before .if2 .left) (c .if3 .taken)) _ _
