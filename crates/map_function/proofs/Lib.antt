@@ -2,3 +2,4 @@ pub mod LevelLaws
 pub mod PushLaws
 pub mod KeepWays
 pub mod NewWays
+pub mod ReadWays

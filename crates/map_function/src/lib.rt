@@ -10,15 +10,96 @@ ghost use Rattle.prefix.specs.Elements.{elements};
 ghost use Rattle.pairs.specs.Places.{keyAt, pairIn, pairsIn};
 ghost use Rattle.asking.specs.Asking.{lentList};
 ghost use Rattle.maps.specs.Map.{lentMap};
-ghost use Rattle.maps.specs.New.{isRoots, noRoots, anyRoots, implied, keep, canonical};
+ghost use Rattle.maps.specs.New.{isRoots, noRoots, anyRoots, implied, keep, canonical, identity, null};
 ghost use Rattle.map_function.specs.Level.{layer, Keyed, Topped};
-ghost use Rattle.map_function.specs.Made.{mapReply, mapBytes, mapSlots, held, asItIs, fromPartsOutcome};
+ghost use Rattle.layer_offset.specs.Offset.{identity as noOffset};
+ghost use Rattle.map_function.specs.Read.{isNull, isPathIdentity, isIdentityMap, timedMap};
+ghost use Rattle.map_function.specs.Made.{numbersOf, mapReply, mapBytes, mapSlots, held, asItIs, fromPartsOutcome};
 
 // A map: how many pairs of the lent list are its own, the root-identity mark, and the time offset.
 pub struct MapFunction {
     pub count: usize,
     pub has_root_identity: bool,
     pub time_offset: layer_offset::LayerOffset,
+}
+
+impl MapFunction {
+    // The map that leaves every path as it is.
+    pub fn identity() -> Self
+        ensures { λ r. ⌜ r ≡ numbersOf identity noOffset ⌝ }
+    {
+        Self {
+            count: 0,
+            has_root_identity: true,
+            time_offset: layer_offset::LayerOffset::IDENTITY,
+        }
+    }
+
+    // The map that maps nothing.
+    pub fn null() -> Self
+        ensures { λ r. ⌜ r ≡ numbersOf null noOffset ⌝ }
+    {
+        Self {
+            count: 0,
+            has_root_identity: false,
+            time_offset: layer_offset::LayerOffset::IDENTITY,
+        }
+    }
+
+    // Does it map nothing?
+    pub fn is_null(self) -> bool
+        ensures { λ r. ⌜ r ≡ isNull self ⌝ }
+    {
+        if self.count != 0 {
+            return false;
+        }
+        !self.has_root_identity
+    }
+
+    // Does it leave every path as it is?
+    pub fn path_is_identity(self) -> bool
+        ensures { λ r. ⌜ r ≡ isPathIdentity self ⌝ }
+    {
+        if self.count != 0 {
+            return false;
+        }
+        self.has_root_identity
+    }
+
+    // Does it change neither path nor time?
+    pub fn is_identity(self) -> bool
+        ensures { λ r. ⌜ r ≡ isIdentityMap self ⌝ }
+    {
+        if !self.path_is_identity() {
+            return false;
+        }
+        self.time_offset.is_identity()
+    }
+
+    // Its mark.
+    pub fn has_root_identity(self) -> bool
+        ensures { λ r. ⌜ r ≡ self .«has_root_identity» ⌝ }
+    {
+        self.has_root_identity
+    }
+
+    // Its time offset.
+    pub fn time_offset(self) -> layer_offset::LayerOffset
+        ensures { λ r. ⌜ r ≡ self .«time_offset» ⌝ }
+    {
+        self.time_offset
+    }
+
+    // The map with its time offset replaced; its pairs stay where they are.
+    pub fn with_time_offset(self, offset: layer_offset::LayerOffset) -> Self
+        ensures { λ r. ⌜ r ≡ timedMap self offset ⌝ }
+    {
+        Self {
+            count: self.count,
+            has_root_identity: self.has_root_identity,
+            time_offset: offset,
+        }
+    }
 }
 
 // The answer of a call that makes a map.
