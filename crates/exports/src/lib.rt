@@ -11,6 +11,8 @@ ghost use Rattle.mapping.specs.Calls.{mapSourceToTargetCall, mapTargetToSourceC
 ghost use Rattle.exports.specs.Map.{timeless};
 ghost use Rattle.exports.specs.Code.{answer, askedCode, testCode, countCode, replyCode};
 
+mod time;
+
 fn number_of(x: path::Refusal) -> usize
     ensures { λ r. ⌜ r ≡ number x ⌝ }
 {
