@@ -61,7 +61,37 @@ macro_rules! entries {
 
 entries! { mudvizsor_map_source_to_target mudvizsor_map_target_to_source mudvizsor_translate_to_target }
 
+unsafe extern "C" {
+    fn mudvizsor_map_all(
+        store: *const u8,
+        store_len: usize,
+        places: *const usize,
+        places_len: usize,
+        count: usize,
+        mark: bool,
+        way: usize,
+        texts: *const u8,
+        texts_len: usize,
+        spots: *const usize,
+        spots_len: usize,
+        n: usize,
+        out: *mut u8,
+        out_len: usize,
+        replies: *mut usize,
+        replies_len: usize,
+    ) -> usize;
+}
+
 impl Way {
+    /// The number that stands for it.
+    fn number(self) -> usize {
+        match self {
+            Way::Out => 0,
+            Way::Home => 1,
+            Way::Translated => 2,
+        }
+    }
+
     fn entry(self) -> Entry {
         match self {
             Way::Out => mudvizsor_map_source_to_target,
@@ -90,6 +120,47 @@ pub fn carry(way: Way, list: List, path: &[u8], out: &mut [u8]) -> Reply {
             path.len(),
             out.as_mut_ptr(),
             out.len(),
+        )
+    })
+}
+
+/// Paths as they are lent to a call that carries many.
+#[derive(Clone, Copy)]
+pub struct Paths<'a> {
+    /// The bytes of the paths.
+    pub texts: &'a [u8],
+    /// Two numbers for each path: start and length.
+    pub spots: &'a [usize],
+    /// How many paths.
+    pub count: usize,
+}
+
+/// Writes what the map makes of each path to 255 bytes of its own in `out`, and the reply of `carry` for it, as
+/// one number, to `replies`.
+pub fn carry_all(way: Way, list: List, paths: Paths, out: &mut [u8], replies: &mut [usize]) -> Reply {
+    let List { store, places, count, mark } = list;
+    let Paths { texts, spots, count: n } = paths;
+    // SAFETY: the entry reads the bytes of `store` and `texts` and the numbers of `places` and `spots`, of which
+    // it trusts none, writes at most the bytes of `out` and the numbers of `replies`, which are borrowed for
+    // this call alone, and keeps no pointer.
+    Reply(unsafe {
+        mudvizsor_map_all(
+            store.as_ptr(),
+            store.len(),
+            places.as_ptr(),
+            places.len(),
+            count,
+            mark,
+            way.number(),
+            texts.as_ptr(),
+            texts.len(),
+            spots.as_ptr(),
+            spots.len(),
+            n,
+            out.as_mut_ptr(),
+            out.len(),
+            replies.as_mut_ptr(),
+            replies.len(),
         )
     })
 }
