@@ -131,14 +131,21 @@ unfolding memory
 kept-length (path q) x s h = length-append q (drop (length q) x) ∙ rw (length-drop (length q) x) (omega (arith, s q refl, h))
 kept-length (refused r) x s h = h
 
+-- 255 k bytes behind 255 others
+next-place : (m : Text) (k : ℕ) → length m ≡ 255 → 255 * suc k ≡ length m + 255 * k
+next-place m k l = omega (arith, l)
+
+pub later : (m c : Text) (k : ℕ) → length m ≡ 255 → drop (255 * suc k) (m ++ c) ≡ drop (255 * k) c
+later m c k l = ap (λ (x : ℕ). drop x (m ++ c)) (next-place m k l) ∙ drop-append-add m c (255 * k)
+
+before : (m c : Text) (k : ℕ) → length m ≡ 255 → take (255 * suc k) (m ++ c) ≡ m ++ take (255 * k) c
+before m c k l = ap (λ (x : ℕ). take x (m ++ c)) (next-place m k l) ∙ take-append-add m c (255 * k)
+
 -- block k behind 255 bytes is block k + 1
 behind : (m c : Text) (k : ℕ) → length m ≡ 255 → (o : Outcome) → m ++ inBlock k o c ≡ inBlock (suc k) o (m ++ c)
 unfolding inBlock
 behind m c k l o =
-    let e : 255 * suc k ≡ length m + 255 * k = omega (arith, l) in
-    let t : take (255 * suc k) (m ++ c) ≡ m ++ take (255 * k) c = ap (λ (x : ℕ). take x (m ++ c)) e ∙ take-append-add m c (255 * k) in
-    let d : drop (255 * suc k) (m ++ c) ≡ drop (255 * k) c = ap (λ (x : ℕ). drop x (m ++ c)) e ∙ drop-append-add m c (255 * k) in
-    rw (t, d) (sym (append-assoc m (take (255 * k) c) (memory o (take 255 (drop (255 * k) c)) ++ drop 255 (drop (255 * k) c))))
+    rw (before m c k l, later m c k l) (sym (append-assoc m (take (255 * k) c) (memory o (take 255 (drop (255 * k) c)) ++ drop 255 (drop (255 * k) c))))
 
 module _ (o : ℕ → Outcome) (s : (j : ℕ) → Short (o j)) where
   pub blocks-next : (i k : ℕ) (out : Text) → 255 * k + 255 ≤ length out → blocks o i (suc k) out ≡ inBlock k (o (i + k)) (blocks o i k out)

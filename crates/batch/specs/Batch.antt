@@ -1,10 +1,11 @@
 -- Many paths through one map in one call. Path i is the text at spot i of `texts` (its start and its length); its reply goes to number i
 -- of `replies`, and its 255 bytes of lent memory are those from 255 i on.
-use Prim.Native.Nat.{ℕ, zero, suc, _*_}
+use mathlib.Core.Path.{_≡_}
+use Prim.Native.Nat.{ℕ, zero, suc, _*_, _≤_, _<_}
 use mathlib.Core.Bool.{Bool, cond, _&&_}
 use mathlib.Core.List.{List, _∷_, _++_}
 use lib.Dec.{leb}
-use lib.ListN.{length, take, drop}
+use lib.ListN.{length, getD, take, drop}
 use Rattle.text.specs.Text.{Text}
 use Rattle.pairs.specs.Places.{inside, textAt}
 use Rattle.path.specs.declared.Refusal.the-variants.{TooLong, NoRoom}
@@ -48,3 +49,16 @@ allBytes room o n out = cond room (blocks o 0 n out) out
 unfoldable pub allReplies : Bool → (ℕ → Outcome) → ℕ → List ℕ → List ℕ
 unfolding numbers
 allReplies room o n replies = cond room (numbers o 0 n replies) replies
+
+-- Path i has the 255 bytes and the reply of the single call, and nothing behind the n paths changes ..
+pub record Single (o : ℕ → Outcome) (n : ℕ) (out : Text) (replies : List ℕ) : Type 0 where
+  pub bytes : (i : ℕ) → i < n → take 255 (drop (255 * i) (blocks o 0 n out)) ≡ memory (o i) (take 255 (drop (255 * i) out))
+  pub bytes-behind : drop (255 * n) (blocks o 0 n out) ≡ drop (255 * n) out
+  pub replies-at : (i : ℕ) → i < n → getD (numbers o 0 n replies) i 0 ≡ replyCode (reply (o i))
+  pub replies-behind : drop n (numbers o 0 n replies) ≡ drop n replies
+
+-- .. in every call with enough lent memory (proved in proofs/EachLaws.antt)
+abbrev pub EachIsSingle : Type 0
+EachIsSingle =
+    (way : Way) (store : Text) (places : List ℕ) (f : MapFunction) (texts : Text) (spots : List ℕ) (n : ℕ) (out : Text) (replies : List ℕ) → 255 * n ≤ length out → n ≤ length replies
+    → Single (carriedAt way store places f texts spots) n out replies

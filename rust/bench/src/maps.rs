@@ -1,8 +1,9 @@
-//! Paths through a map, whose list the library checks at each call. The original's map is made once, before.
+//! Paths through a map, whose list the library checks at each call or once for all paths. The original's map is
+//! made once, before.
 
 use crate::inputs::{self, Carried};
 use crate::{COUNT, best_times, mean, print_row};
-use library::maps::{List, Way, carry};
+use library::maps::{List, Paths, Way, carry, carry_all};
 use original::pcp::MapFunction;
 use original::sdf::Path;
 use std::hint::black_box;
@@ -31,16 +32,16 @@ struct Setting {
     places: Vec<usize>,
     count: usize,
     texts: Vec<String>,
+    /// The texts one after the other, and where each of them is.
+    together: Vec<u8>,
+    spots: Vec<usize>,
     paths: Vec<Path>,
 }
 
 impl Setting {
     fn new(carried: Carried) -> Self {
-        let (mut store, mut places) = (Vec::new(), Vec::new());
-        for end in carried.pairs.iter().flatten() {
-            places.extend([store.len(), end.len()]);
-            store.extend(end.as_bytes());
-        }
+        let (store, places) = packed(carried.pairs.iter().flatten());
+        let (together, spots) = packed(&carried.paths);
         let pairs = carried.pairs.iter().map(|[source, target]| (parsed(source), parsed(target))).collect();
         Setting {
             map: MapFunction::with_exactly(pairs, false),
@@ -49,7 +50,13 @@ impl Setting {
             count: carried.pairs.len(),
             paths: carried.paths.iter().map(|text| parsed(text)).collect(),
             texts: carried.paths,
+            together,
+            spots,
         }
+    }
+
+    fn all(&self) -> Paths<'_> {
+        Paths { texts: &self.together, spots: &self.spots, count: self.texts.len() }
     }
 
     fn list(&self) -> List<'_> {
@@ -57,12 +64,23 @@ impl Setting {
     }
 }
 
+/// The bytes of the texts, one after the other, and the start and length of each.
+fn packed<'a>(texts: impl IntoIterator<Item = &'a String>) -> (Vec<u8>, Vec<usize>) {
+    let (mut bytes, mut places) = (Vec::new(), Vec::new());
+    for text in texts {
+        places.extend([bytes.len(), text.len()]);
+        bytes.extend(text.as_bytes());
+    }
+    (bytes, places)
+}
+
 /// Times each call on a map of so many pairs and paths of about `length` bytes: against the original with its
-/// path parsed before, then from text to text.
+/// paths parsed before, then from text to text; the list checked at each call, then once for all paths.
 pub fn time(pairs: usize, length: usize) {
     let setting = &Setting::new(inputs::carried(pairs, length, COUNT));
     for call in &CALLS {
         assert!(setting.texts.iter().all(|text| sides_agree(call, setting, text)));
+        assert!(all_agree(call, setting));
         time_from_paths(call, setting);
         time_from_texts(call, setting);
     }
@@ -87,16 +105,24 @@ fn time_from_texts(call: &MapCall, setting: &Setting) {
     time_against(call, setting, "text to text", original);
 }
 
-fn time_against(call: &MapCall, setting: &Setting, kind: &str, original: impl FnMut()) {
+fn time_against(call: &MapCall, setting: &Setting, kind: &str, mut original: impl FnMut()) {
     let mut out = [0; LONGEST];
-    let library = || {
+    let each = || {
         for text in &setting.texts {
             black_box(library_carry(call, setting, black_box(text), &mut out));
         }
     };
-    let times = best_times(original, library);
+    let times = best_times(&mut original, each);
     let texts = format!("pairs: {}, {kind}", setting.count);
-    print_row(call.name, &texts, mean(setting.texts.iter().map(String::len)), times);
+    let mean = mean(setting.texts.iter().map(String::len));
+    print_row(call.name, &texts, mean, times);
+    let (mut out, mut replies) = room_for_all();
+    let all = || {
+        black_box(library_carry_all(call, setting, &mut out, &mut replies));
+        black_box((&out, &replies));
+    };
+    let times = best_times(original, all);
+    print_row(call.name, &format!("{texts}, list checked once"), mean, times);
 }
 
 /// The path is read, mapped, and the bytes of the result are copied.
@@ -109,6 +135,26 @@ fn original_carry(call: &MapCall, setting: &Setting, text: &str, out: &mut [u8])
 
 fn library_carry(call: &MapCall, setting: &Setting, text: &str, out: &mut [u8]) -> usize {
     carry(call.way, setting.list(), text.as_bytes(), out).0
+}
+
+/// Memory for the bytes and the replies of all paths.
+fn room_for_all() -> (Vec<u8>, Vec<usize>) {
+    (vec![0; LONGEST * COUNT], vec![0; COUNT])
+}
+
+fn library_carry_all(call: &MapCall, setting: &Setting, out: &mut [u8], replies: &mut [usize]) -> usize {
+    carry_all(call.way, setting.list(), black_box(setting.all()), out, replies).0
+}
+
+fn all_agree(call: &MapCall, setting: &Setting) -> bool {
+    let (mut out, mut replies) = room_for_all();
+    assert_eq!(library_carry_all(call, setting, &mut out, &mut replies), 0);
+    let blocks = out.chunks_exact(LONGEST).zip(replies);
+    setting.texts.iter().zip(blocks).all(|(text, (block, reply))| {
+        let mut expected = [0; LONGEST];
+        let length = original_carry(call, setting, text, &mut expected);
+        reply == 256 * length && block == expected
+    })
 }
 
 fn sides_agree(call: &MapCall, setting: &Setting, text: &str) -> bool {

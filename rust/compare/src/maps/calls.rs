@@ -14,7 +14,7 @@ use texts::LONGEST;
 /// A call that makes one path of another by a map.
 pub struct MapCall {
     name: &'static str,
-    way: Way,
+    pub way: Way,
     original: fn(&MapFunction, &Path) -> Option<Path>,
 }
 
@@ -27,7 +27,7 @@ pub const BACK: MapCall =
 pub const TRANSLATED: MapCall =
     MapCall { name: "translate_to_target", way: Way::Translated, original: MapFunction::translate_to_target };
 
-const CALLS: [MapCall; 3] = [OUT, BACK, TRANSLATED];
+pub const CALLS: [MapCall; 3] = [OUT, BACK, TRANSLATED];
 
 /// Bytes lent for the path.
 const ROOMS: [usize; 3] = [LONGEST - 1, LONGEST, 300];
