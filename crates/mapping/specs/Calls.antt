@@ -5,8 +5,7 @@ use Rattle.text.specs.Text.{Text}
 use Rattle.path.specs.Outcome.{Outcome, answered, given}
 use Rattle.asking.specs.Asking.{lentList, asked}
 use Rattle.mapping.specs.declared.MapFunction.{MapFunction}
-use Rattle.maps.specs.Map.{Map, plainOut, plainHome, translated}
-use Rattle.carry.specs.Quick.{lentMap}
+use Rattle.maps.specs.Map.{Map, lentMap, plainOut, plainHome, translated}
 
 -- questions 1 to 5 of a path and a list of pairs, and 6 to 8 of what the map gives
 abbrev pub carrying : Text → List ℕ → ℕ → Text → ℕ → Outcome → Outcome

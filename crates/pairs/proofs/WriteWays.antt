@@ -90,11 +90,11 @@ over-written t s out = simp (take-append-seam, drop-append-add, drop-drop, lengt
 
 -- `write_list`
 module _ (store : Text) (places : List ℕ) where
-  source-key : (i : ℕ) → (pairIn store places i) .source ≡ keyAt store places false i
+  pub source-key : (i : ℕ) → (pairIn store places i) .source ≡ keyAt store places false i
   unfolding pairIn
   source-key i = let z : 2 * i ≡ 2 * i + 0 = omega arith in ap (λ (j : ℕ). textAt store places j) z
 
-  target-key : (i : ℕ) → (pairIn store places i) .target ≡ keyAt store places true i
+  pub target-key : (i : ℕ) → (pairIn store places i) .target ≡ keyAt store places true i
   unfolding pairIn
   target-key i = refl
 
