@@ -4,81 +4,21 @@
 ghost use mathlib.Core.Path.{_≡_};
 ghost use lib.ListN.{length};
 ghost use Rattle.parts.specs.Parent.{ancestorLens};
-ghost use Rattle.path.specs.Refusal.{number};
 ghost use Rattle.path.specs.Outcome.{reply, memory};
 ghost use Rattle.path.specs.Calls.{newCall, isEndCall, hasVariantSelectionCall, elementCountCall, primElementCountCall, hasPrefixCall, replacePrefixCall, parentCall, primPathCall, splitPropertyCall, stripCall, ancestorsReply, listed};
 ghost use Rattle.mapping.specs.Calls.{mapSourceToTargetCall, mapTargetToSourceCall, translateToTargetCall};
-ghost use Rattle.exports.specs.Map.{timeless};
-ghost use Rattle.exports.specs.Code.{answer, askedCode, testCode, countCode, replyCode};
+ghost use Rattle.batch.specs.Batch.{carriedAt, enough, allAsked, allBytes, allReplies};
+ghost use Rattle.exports.specs.Map.{timeless, wayOf};
+ghost use Rattle.codes.specs.Code.{askedCode, testCode, countCode, replyCode};
 
-fn number_of(x: path::Refusal) -> usize
-    ensures { λ r. ⌜ r ≡ number x ⌝ }
-{
-    match x {
-        path::Refusal::TooLong => 1,
-        path::Refusal::Illegal => 2,
-        path::Refusal::NotAnEnd => 3,
-        path::Refusal::TooMany => 4,
-        path::Refusal::NoRoom => 5,
-        path::Refusal::NoPath => 6,
-        path::Refusal::MadeTooLong => 7,
-        path::Refusal::MadeIllegal => 8,
-    }
-}
-
-fn answer_of(n: usize) -> usize
-    ensures { λ r. ⌜ r ≡ answer n ⌝ }
-{
-    256 * (n % 72057594037927936)
-}
-
-fn asked_code(q: path::Asked) -> usize
-    ensures { λ r. ⌜ r ≡ askedCode q ⌝ }
-{
-    match q {
-        path::Asked::Passed => 0,
-        path::Asked::Refused(x) => number_of(x),
-    }
-}
-
-fn test_code(t: path::Test) -> usize
-    ensures { λ r. ⌜ r ≡ testCode t ⌝ }
-{
-    match t {
-        path::Test::Holds(b) => {
-            if b {
-                return 256;
-            }
-            0
-        }
-        path::Test::Refused(x) => number_of(x),
-    }
-}
-
-fn count_code(n: path::Count) -> usize
-    ensures { λ r. ⌜ r ≡ countCode n ⌝ }
-{
-    match n {
-        path::Count::Counted(e) => answer_of(e.0),
-        path::Count::Refused(x) => number_of(x),
-    }
-}
-
-fn reply_code(r: path::Reply) -> usize
-    ensures { λ a. ⌜ a ≡ replyCode r ⌝ }
-{
-    match r {
-        path::Reply::Written(n) => answer_of(n),
-        path::Reply::Refused(x) => number_of(x),
-    }
-}
+mod time;
 
 // Is the text a legal path of at most 255 bytes?
 #[no_mangle]
 pub extern "C" fn mudvizsor_path_new(path: &[u8]) -> usize
     ensures { λ r. ⌜ r ≡ askedCode (newCall (now (path .entry))) ⌝ }
 {
-    asked_code(path::new(path))
+    codes::asked_code(path::new(path))
 }
 
 // Is the path a prim path, `/` or empty?
@@ -86,7 +26,7 @@ pub extern "C" fn mudvizsor_path_new(path: &[u8]) -> usize
 pub extern "C" fn mudvizsor_path_is_end(path: &[u8]) -> usize
     ensures { λ r. ⌜ r ≡ testCode (isEndCall (now (path .entry))) ⌝ }
 {
-    test_code(path::is_end(path))
+    codes::test_code(path::is_end(path))
 }
 
 // Does the path have a selection?
@@ -94,7 +34,7 @@ pub extern "C" fn mudvizsor_path_is_end(path: &[u8]) -> usize
 pub extern "C" fn mudvizsor_path_has_variant_selection(path: &[u8]) -> usize
     ensures { λ r. ⌜ r ≡ testCode (hasVariantSelectionCall (now (path .entry))) ⌝ }
 {
-    test_code(path::has_variant_selection(path))
+    codes::test_code(path::has_variant_selection(path))
 }
 
 // How many names and selections does the path have?
@@ -102,7 +42,7 @@ pub extern "C" fn mudvizsor_path_has_variant_selection(path: &[u8]) -> usize
 pub extern "C" fn mudvizsor_path_element_count(path: &[u8]) -> usize
     ensures { λ r. ⌜ r ≡ countCode (elementCountCall (now (path .entry))) ⌝ }
 {
-    count_code(path::element_count(path))
+    codes::count_code(path::element_count(path))
 }
 
 // How many names does the path have?
@@ -110,7 +50,7 @@ pub extern "C" fn mudvizsor_path_element_count(path: &[u8]) -> usize
 pub extern "C" fn mudvizsor_path_prim_element_count(path: &[u8]) -> usize
     ensures { λ r. ⌜ r ≡ countCode (primElementCountCall (now (path .entry))) ⌝ }
 {
-    count_code(path::prim_element_count(path))
+    codes::count_code(path::prim_element_count(path))
 }
 
 // Is the prefix a prefix of the path?
@@ -118,7 +58,7 @@ pub extern "C" fn mudvizsor_path_prim_element_count(path: &[u8]) -> usize
 pub extern "C" fn mudvizsor_path_has_prefix(path: &[u8], prefix: &[u8]) -> usize
     ensures { λ r. ⌜ r ≡ testCode (hasPrefixCall (now (path .entry)) (now (prefix .entry))) ⌝ }
 {
-    test_code(path::has_prefix(path, prefix))
+    codes::test_code(path::has_prefix(path, prefix))
 }
 
 // The path with its old prefix replaced by the new one, written to out.
@@ -132,7 +72,7 @@ pub extern "C" fn mudvizsor_path_replace_prefix(
     ensures { λ r. ⌜ r ≡ replyCode (reply (replacePrefixCall (now (path .entry)) (now (old .entry)) (now (new .entry)) (length (now (out .entry))))) ⌝ }
     ensures { λ r. ⌜ now (out .exit) ≡ memory (replacePrefixCall (now (path .entry)) (now (old .entry)) (now (new .entry)) (length (now (out .entry)))) (now (out .entry)) ⌝ }
 {
-    reply_code(path::replace_prefix(path, old, new, out))
+    codes::reply_code(path::replace_prefix(path, old, new, out))
 }
 
 // The path without its last element or its property, written to out.
@@ -141,7 +81,7 @@ pub extern "C" fn mudvizsor_path_parent(path: &[u8], out: &mut [u8]) -> usize
     ensures { λ r. ⌜ r ≡ replyCode (reply (parentCall (now (path .entry)) (length (now (out .entry))))) ⌝ }
     ensures { λ r. ⌜ now (out .exit) ≡ memory (parentCall (now (path .entry)) (length (now (out .entry)))) (now (out .entry)) ⌝ }
 {
-    reply_code(path::parent(path, out))
+    codes::reply_code(path::parent(path, out))
 }
 
 // The path without its property, or without the last selection where it ends in one, written to out.
@@ -150,7 +90,7 @@ pub extern "C" fn mudvizsor_path_prim_path(path: &[u8], out: &mut [u8]) -> usize
     ensures { λ r. ⌜ r ≡ replyCode (reply (primPathCall (now (path .entry)) (length (now (out .entry))))) ⌝ }
     ensures { λ r. ⌜ now (out .exit) ≡ memory (primPathCall (now (path .entry)) (length (now (out .entry)))) (now (out .entry)) ⌝ }
 {
-    reply_code(path::prim_path(path, out))
+    codes::reply_code(path::prim_path(path, out))
 }
 
 // The prim path of a property, written to out; the name is the text behind the dot that follows it.
@@ -159,7 +99,7 @@ pub extern "C" fn mudvizsor_path_split_property(path: &[u8], out: &mut [u8]) -> 
     ensures { λ r. ⌜ r ≡ replyCode (reply (splitPropertyCall (now (path .entry)) (length (now (out .entry))))) ⌝ }
     ensures { λ r. ⌜ now (out .exit) ≡ memory (splitPropertyCall (now (path .entry)) (length (now (out .entry)))) (now (out .entry)) ⌝ }
 {
-    reply_code(path::split_property(path, out))
+    codes::reply_code(path::split_property(path, out))
 }
 
 // The path without its selections, written to out.
@@ -168,7 +108,7 @@ pub extern "C" fn mudvizsor_path_strip_variant_selections(path: &[u8], out: &mut
     ensures { λ r. ⌜ r ≡ replyCode (reply (stripCall (now (path .entry)) (length (now (out .entry))))) ⌝ }
     ensures { λ r. ⌜ now (out .exit) ≡ memory (stripCall (now (path .entry)) (length (now (out .entry)))) (now (out .entry)) ⌝ }
 {
-    reply_code(path::strip_variant_selections(path, out))
+    codes::reply_code(path::strip_variant_selections(path, out))
 }
 
 // The lengths of the path and its ancestors, written to lengths.
@@ -177,7 +117,7 @@ pub extern "C" fn mudvizsor_path_ancestors(path: &[u8], lengths: &mut [usize]) -
     ensures { λ r. ⌜ r ≡ replyCode (ancestorsReply (now (path .entry)) (length (now (lengths .entry)))) ⌝ }
     ensures { λ r. ⌜ now (lengths .exit) ≡ listed (ancestorsReply (now (path .entry)) (length (now (lengths .entry)))) (ancestorLens (now (path .entry))) (now (lengths .entry)) ⌝ }
 {
-    reply_code(path::ancestors(path, lengths))
+    codes::reply_code(path::ancestors(path, lengths))
 }
 
 // The map of a list, with no time offset.
@@ -206,7 +146,7 @@ pub extern "C" fn mudvizsor_map_source_to_target(
     ensures { λ r. ⌜ now (out .exit) ≡ memory (mapSourceToTargetCall (now (store .entry)) (now (places .entry)) (timeless count mark) (now (path .entry)) (length (now (out .entry)))) (now (out .entry)) ⌝ }
 {
     let map = map_of(count, mark);
-    reply_code(mapping::map_source_to_target(store, places, map, path, out))
+    codes::reply_code(mapping::map_source_to_target(store, places, map, path, out))
 }
 
 // Where the map takes the path back to, written to out.
@@ -223,7 +163,7 @@ pub extern "C" fn mudvizsor_map_target_to_source(
     ensures { λ r. ⌜ now (out .exit) ≡ memory (mapTargetToSourceCall (now (store .entry)) (now (places .entry)) (timeless count mark) (now (path .entry)) (length (now (out .entry)))) (now (out .entry)) ⌝ }
 {
     let map = map_of(count, mark);
-    reply_code(mapping::map_target_to_source(store, places, map, path, out))
+    codes::reply_code(mapping::map_target_to_source(store, places, map, path, out))
 }
 
 // Where the map takes the path without its selections, if the same pair takes it back, written to out.
@@ -240,5 +180,42 @@ pub extern "C" fn mudvizsor_translate_to_target(
     ensures { λ r. ⌜ now (out .exit) ≡ memory (translateToTargetCall (now (store .entry)) (now (places .entry)) (timeless count mark) (now (path .entry)) (length (now (out .entry)))) (now (out .entry)) ⌝ }
 {
     let map = map_of(count, mark);
-    reply_code(mapping::translate_to_target(store, places, map, path, out))
+    codes::reply_code(mapping::translate_to_target(store, places, map, path, out))
+}
+
+// The way that a number stands for.
+fn way_of(way: usize) -> mapping::Way
+    ensures { λ r. ⌜ r ≡ wayOf way ⌝ }
+{
+    if way == 0 {
+        return mapping::Way::Out;
+    }
+    if way == 1 {
+        return mapping::Way::Home;
+    }
+    mapping::Way::Translated
+}
+
+// Where the map takes each of n paths, the list checked once. Path i is the text at spot i, its reply
+// goes to number i of replies and its bytes to the 255 bytes of out from 255 i on.
+#[no_mangle]
+pub extern "C" fn mudvizsor_map_all(
+    store: &[u8],
+    places: &[usize],
+    count: usize,
+    mark: bool,
+    way: usize,
+    texts: &[u8],
+    spots: &[usize],
+    n: usize,
+    out: &mut [u8],
+    replies: &mut [usize],
+) -> usize
+    ensures { λ r. ⌜ r ≡ askedCode (allAsked (enough n (length (now (spots .entry))) (length (now (out .entry))) (length (now (replies .entry))))) ⌝ }
+    ensures { λ r. ⌜ now (out .exit) ≡ allBytes (enough n (length (now (spots .entry))) (length (now (out .entry))) (length (now (replies .entry)))) (carriedAt (wayOf way) (now (store .entry)) (now (places .entry)) (timeless count mark) (now (texts .entry)) (now (spots .entry))) n (now (out .entry)) ⌝ }
+    ensures { λ r. ⌜ now (replies .exit) ≡ allReplies (enough n (length (now (spots .entry))) (length (now (out .entry))) (length (now (replies .entry)))) (carriedAt (wayOf way) (now (store .entry)) (now (places .entry)) (timeless count mark) (now (texts .entry)) (now (spots .entry))) n (now (replies .entry)) ⌝ }
+{
+    let map = map_of(count, mark);
+    let way = way_of(way);
+    codes::asked_code(batch::carry_all(store, places, map, way, texts, spots, n, out, replies))
 }

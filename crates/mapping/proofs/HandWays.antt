@@ -28,13 +28,13 @@ use Rattle.carry.specs.Quick.{joining, keeping, quickBy, quick, isNone, transla
 use Rattle.mapping.specs.Hand.{within, handed}
 
 -- every path that the quick answers give is short
-abbrev Short : Outcome → Type 0
+abbrev pub Short : Outcome → Type 0
 Short o = (q : Text) → o ≡ path q → length q ≤ 255
 
-short-refused : (x : Refusal) → Short (refused x)
+pub short-refused : (x : Refusal) → Short (refused x)
 short-refused x q e = absurd (let z : _≡_ {A = ℕ} 0 1 = cc in omega arith)
 
-short-cond : (b : Bool) (x y : Outcome) → Short x → Short y → Short (cond b x y)
+pub short-cond : (b : Bool) (x y : Outcome) → Short x → Short y → Short (cond b x y)
 short-cond true x y h k = h
 short-cond false x y h k = k
 

@@ -1,2 +1,3 @@
-mod HandWays
-mod CarryWays
+pub mod HandWays
+pub mod CarryWays
+pub mod WayLaws

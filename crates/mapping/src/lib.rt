@@ -10,12 +10,23 @@ ghost use Rattle.maps.specs.Map.{lentMap};
 ghost use Rattle.carry.specs.Quick.{quick, quickTranslate};
 ghost use Rattle.mapping.specs.Hand.{within, handed};
 ghost use Rattle.mapping.specs.Calls.{carrying, mapSourceToTargetCall, mapTargetToSourceCall, translateToTargetCall};
+ghost use Rattle.mapping.specs.Way.{earlierOf, quickWay, afterList};
 
 // A map: how many pairs of the lent list are its own, the root-identity mark, and the time offset.
 pub struct MapFunction {
     pub count: usize,
     pub has_root_identity: bool,
     pub time_offset: layer_offset::LayerOffset,
+}
+
+// Which way a path goes through a map.
+pub enum Way {
+    // as by `map_source_to_target`
+    Out,
+    // as by `map_target_to_source`
+    Home,
+    // as by `translate_to_target`
+    Translated,
 }
 
 // Writes a path that was made in memory of the call's own; a refusal writes nothing.
@@ -181,4 +192,67 @@ pub fn translate_to_target(
         return path::Reply::Refused(path::Refusal::NoRoom);
     }
     translate_stripped(store, places, count, mark, path, out)
+}
+
+// Of two answers the earlier refusal.
+fn earlier(a: path::Asked, b: path::Asked) -> path::Asked
+    ensures { λ r. ⌜ r ≡ earlierOf a b ⌝ }
+{
+    let path::Asked::Refused(x) = a else {
+        return b;
+    };
+    let path::Asked::Refused(y) = b else {
+        return a;
+    };
+    if codes::number_of(x) <= codes::number_of(y) {
+        return a;
+    }
+    b
+}
+
+// One of the three ways into lent memory.
+fn go(
+    store: &[u8],
+    places: &[usize],
+    n: usize,
+    mark: bool,
+    way: Way,
+    path: &[u8],
+    out: &mut [u8],
+) -> path::Reply
+    requires { ⌜ (length (now path) ≤ 255) × (255 ≤ length (now out)) ⌝ }
+    ensures { λ r. ⌜ r ≡ reply (quickWay way (lentMap (now (store .entry)) (now (places .entry)) n mark) (now (path .entry))) ⌝ }
+    ensures { λ r. ⌜ now (out .exit) ≡ memory (quickWay way (lentMap (now (store .entry)) (now (places .entry)) n mark) (now (path .entry))) (now (out .entry)) ⌝ }
+{
+    match way {
+        Way::Out => map_out(store, places, n, mark, false, path, out),
+        Way::Home => map_out(store, places, n, mark, true, path, out),
+        Way::Translated => translate_stripped(store, places, n, mark, path, out),
+    }
+}
+
+// One of the three calls, where `list` is the answer that the list's own questions have got: only those
+// of the path are put here.
+pub fn carry_after(
+    list: path::Asked,
+    store: &[u8],
+    places: &[usize],
+    map: MapFunction,
+    way: Way,
+    path: &[u8],
+    out: &mut [u8],
+) -> path::Reply
+    ensures { λ r. ⌜ r ≡ reply (afterList list way (now (store .entry)) (now (places .entry)) map (now (path .entry)) (length (now (out .entry)))) ⌝ }
+    ensures { λ r. ⌜ now (out .exit) ≡ memory (afterList list way (now (store .entry)) (now (places .entry)) map (now (path .entry)) (length (now (out .entry)))) (now (out .entry)) ⌝ }
+{
+    let count = map.count;
+    let mark = map.has_root_identity;
+    let q = earlier(list, path::new(path));
+    if let path::Asked::Refused(x) = q {
+        return path::Reply::Refused(x);
+    }
+    if out.len() < 255 {
+        return path::Reply::Refused(path::Refusal::NoRoom);
+    }
+    go(store, places, count, mark, way, path, out)
 }

@@ -43,6 +43,12 @@ pub struct Replacement {
     pub new: String,
 }
 
+/// A map as a list of pairs, and paths that it carries out.
+pub struct Carried {
+    pub pairs: Vec<[String; 2]>,
+    pub paths: Vec<String>,
+}
+
 /// So many paths of about `length` bytes.
 pub fn paths(names: Names, length: usize, count: usize) -> Vec<String> {
     let random = &mut Random::new(length as u64);
@@ -53,6 +59,21 @@ pub fn paths(names: Names, length: usize, count: usize) -> Vec<String> {
 pub fn replacements(length: usize, count: usize) -> Vec<Replacement> {
     let random = &mut Random::new(length as u64);
     (0..count).map(|_| replacement(random, length)).collect()
+}
+
+/// A map of so many pairs, and paths of about `length` bytes, of which about a third is the source of one of them.
+pub fn carried(pairs: usize, length: usize, count: usize) -> Carried {
+    let random = &mut Random::new(pairs as u64);
+    let pairs: Vec<_> =
+        (0..pairs).map(|_| [(); 2].map(|_| prim_path(random, Names::Mixed, length / 3))).collect();
+    let paths = (0..count).map(|_| path_of_one(random, &pairs, length)).collect();
+    Carried { pairs, paths }
+}
+
+fn path_of_one(random: &mut Random, pairs: &[[String; 2]], length: usize) -> String {
+    let [source, _] = random.pick(pairs);
+    let rest = path(random, Names::Mixed, length - source.len());
+    format!("{source}{rest}")
 }
 
 fn replacement(random: &mut Random, length: usize) -> Replacement {

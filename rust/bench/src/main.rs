@@ -1,6 +1,7 @@
 //! Times the library beside the original on the same texts, in one run, and prints the ratios.
 
 mod inputs;
+mod maps;
 
 use inputs::{Names, Replacement};
 use original::sdf::Path;
@@ -27,6 +28,9 @@ fn main() {
     }
     for length in [40, 100, 200] {
         time_replace_prefix(length);
+    }
+    for pairs in [1, 8, 64] {
+        maps::time(pairs, 40);
     }
 }
 

@@ -33,6 +33,11 @@ impl<T: Copy + PartialEq> Lent<T> {
         &mut self.memory[MARGIN..MARGIN + room]
     }
 
+    /// What `room` lent items hold before the call.
+    pub fn before(&self, room: usize) -> &[T] {
+        &self.pattern[MARGIN..MARGIN + room]
+    }
+
     /// The first place that is not as it should be where `written` was written to the beginning of what was
     /// lent, and nothing else anywhere. A place before the lent memory is negative.
     pub fn first_wrong(&self, written: &[T]) -> Option<isize> {

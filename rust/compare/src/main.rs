@@ -12,6 +12,7 @@ mod phase;
 mod record;
 mod tally;
 mod text;
+mod times;
 
 use comparison::Comparison;
 use phase::{Limit, random_phase};
@@ -32,6 +33,7 @@ const PARTS: &[Part] = &[
     Part { name: "paths", run: compare_paths },
     #[cfg(feature = "maps")]
     Part { name: "maps", run: compare_maps },
+    Part { name: "times", run: compare_times },
 ];
 
 struct Options {
@@ -92,6 +94,11 @@ fn compare_paths(comparison: &mut Comparison, options: &Options) {
 fn compare_maps(comparison: &mut Comparison, options: &Options) {
     maps::run(comparison, options.seed);
     random_phase(comparison, "lists", options.seed, &options.limit, maps::cases::case);
+}
+
+fn compare_times(comparison: &mut Comparison, options: &Options) {
+    times::run(comparison);
+    random_phase(comparison, "offsets", options.seed, &options.limit, times::cases::case);
 }
 
 fn compare(options: &Options) -> ExitCode {

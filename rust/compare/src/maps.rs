@@ -1,5 +1,6 @@
 //! The calls on maps: lists of pairs, in all small sets, with flaws, and at random.
 
+mod batch;
 mod calls;
 pub mod cases;
 mod flaws;

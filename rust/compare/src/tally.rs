@@ -3,7 +3,7 @@
 use crate::text::Answer;
 use library::Reply;
 use std::collections::BTreeMap;
-use std::fmt::{self, Display};
+use std::fmt::{self, Debug, Display};
 
 #[derive(Default)]
 pub struct Tally {
@@ -76,6 +76,14 @@ impl Tally {
         } else if let Some(at) = wrong {
             let details = format!("{} as expected, but the lent memory is wrong at {at}", shown(found));
             self.note(call, What::Memory, details);
+        }
+    }
+
+    /// Compares what was found with what is expected, where both are no reply: they agree or not.
+    pub fn values(&mut self, call: Call, agree: bool, expected: impl Debug, found: impl Debug) {
+        self.comparisons += 1;
+        if !agree {
+            self.note(call, What::Value, format!("expected {expected:?}, found {found:?}"));
         }
     }
 

@@ -5,6 +5,7 @@
 
 #[cfg(feature = "maps")]
 pub mod maps;
+pub mod times;
 
 /// What an entry replies: 256 times a value, plus document 01's number (0 for an answer).
 #[derive(Debug, Clone, Copy, PartialEq, Eq)]

@@ -1,5 +1,5 @@
 use mathlib.Core.Path.{ap, _∙_}
-use Rattle.exports.specs.Code.{countCode}
+use Rattle.codes.specs.Code.{countCode}
 use borrow.Author.Needs.{needs}
 use Rattle.exports.proofs.mudvizsor_path_element_count.Statement.{statement}
 use Rattle.exports.proofs.mudvizsor_path_element_count.Tie as tie

@@ -1,5 +1,5 @@
 use mathlib.Core.Path.{ap, _∙_}
-use Rattle.exports.specs.Code.{testCode}
+use Rattle.codes.specs.Code.{testCode}
 use borrow.Author.Needs.{needs}
 use Rattle.exports.proofs.mudvizsor_path_is_end.Statement.{statement}
 use Rattle.exports.proofs.mudvizsor_path_is_end.Tie as tie

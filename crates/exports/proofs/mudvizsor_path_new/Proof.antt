@@ -1,5 +1,5 @@
 use mathlib.Core.Path.{ap, _∙_}
-use Rattle.exports.specs.Code.{askedCode}
+use Rattle.codes.specs.Code.{askedCode}
 use borrow.Author.Needs.{needs}
 use Rattle.exports.proofs.mudvizsor_path_new.Statement.{statement}
 use Rattle.exports.proofs.mudvizsor_path_new.Tie as tie

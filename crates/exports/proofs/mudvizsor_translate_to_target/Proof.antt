@@ -1,5 +1,5 @@
 use mathlib.Core.Path.{ap, _∙_}
-use Rattle.exports.specs.Code.{replyCode}
+use Rattle.codes.specs.Code.{replyCode}
 use borrow.Author.Needs.{needs}
 use Rattle.exports.proofs.mudvizsor_translate_to_target.Statement.{statement}
 use Rattle.exports.proofs.mudvizsor_translate_to_target.Tie as tie

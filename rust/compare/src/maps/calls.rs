@@ -5,7 +5,7 @@ use crate::comparison::Comparison;
 use crate::maps::list::List;
 use crate::tally::Given;
 use crate::text::{Answer, Text};
-use library::Reply;
+use library::maps::{Way, carry};
 use original::pcp::MapFunction;
 use original::sdf::Path;
 use std::fmt::{self, Display};
@@ -14,29 +14,20 @@ use texts::LONGEST;
 /// A call that makes one path of another by a map.
 pub struct MapCall {
     name: &'static str,
-    entry: fn(library::maps::List, &[u8], &mut [u8]) -> Reply,
+    pub way: Way,
     original: fn(&MapFunction, &Path) -> Option<Path>,
 }
 
-pub const OUT: MapCall = MapCall {
-    name: "map_source_to_target",
-    entry: library::maps::map_source_to_target,
-    original: MapFunction::map_source_to_target,
-};
+pub const OUT: MapCall =
+    MapCall { name: "map_source_to_target", way: Way::Out, original: MapFunction::map_source_to_target };
 
-pub const BACK: MapCall = MapCall {
-    name: "map_target_to_source",
-    entry: library::maps::map_target_to_source,
-    original: MapFunction::map_target_to_source,
-};
+pub const BACK: MapCall =
+    MapCall { name: "map_target_to_source", way: Way::Home, original: MapFunction::map_target_to_source };
 
-pub const TRANSLATED: MapCall = MapCall {
-    name: "translate_to_target",
-    entry: library::maps::translate_to_target,
-    original: MapFunction::translate_to_target,
-};
+pub const TRANSLATED: MapCall =
+    MapCall { name: "translate_to_target", way: Way::Translated, original: MapFunction::translate_to_target };
 
-const CALLS: [MapCall; 3] = [OUT, BACK, TRANSLATED];
+pub const CALLS: [MapCall; 3] = [OUT, BACK, TRANSLATED];
 
 /// Bytes lent for the path.
 const ROOMS: [usize; 3] = [LONGEST - 1, LONGEST, 300];
@@ -80,7 +71,7 @@ impl Comparison {
     pub fn map(&mut self, list: &List, text: &Text) {
         for call in &CALLS {
             let expected = call.expected(list, text);
-            let entry = |out: &mut [u8]| (call.entry)(list.for_library(), &text.bytes, out);
+            let entry = |out: &mut [u8]| carry(call.way, list.for_library(), &text.bytes, out);
             self.path(call.name, &ListAndText { list, text }, &ROOMS, &expected, entry);
         }
     }

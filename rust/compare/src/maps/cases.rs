@@ -23,10 +23,11 @@ pub fn case(comparison: &mut Comparison, random: &mut Random) {
     }
     let list = List::new(lent);
     comparison.list_facts(&list);
-    for _ in 0..PATHS {
-        let path = path_for(random, &pairs);
-        comparison.map(&list, &Text::new(&path));
+    let texts = [(); PATHS].map(|()| Text::new(&path_for(random, &pairs)));
+    for text in &texts {
+        comparison.map(&list, text);
     }
+    comparison.map_all(&list, &texts);
 }
 
 fn flawed_call(comparison: &mut Comparison, random: &mut Random, pairs: &[Pair], mut lent: LentList) {
@@ -35,7 +36,10 @@ fn flawed_call(comparison: &mut Comparison, random: &mut Random, pairs: &[Pair],
         let flaw = *random.pick(&FLAWS);
         flaw(random, &mut lent, &mut path);
     }
-    comparison.map(&List::new(lent), &Text::new(&path));
+    let (list, text) = (List::new(lent), Text::new(&path));
+    comparison.map(&list, &text);
+    let other = Text::new(&path_for(random, pairs));
+    comparison.map_all(&list, &[text, other]);
 }
 
 /// Fewer different ends than pairs, so that keys are often equal.

@@ -51,7 +51,9 @@ fn with_flaws(comparison: &mut Comparison, random: &mut Random, set: usize) {
             flaw(random, &mut list, &mut path);
         }
     }
-    comparison.map(&List::new(list), &Text::new(&path));
+    let (list, text) = (List::new(list), Text::new(&path));
+    comparison.map(&list, &text);
+    comparison.map_all(&list, &[text, Text::new(b"/A/C")]);
 }
 
 fn long_path(random: &mut Random, _: &mut LentList, path: &mut Vec<u8>) {

@@ -1,7 +1,7 @@
-use Rattle.exports.specs.Code.{answer}
+use Rattle.codes.specs.Code.{answer}
 use borrow.Author.Needs.{needs}
-use Rattle.exports.proofs.answer_of.Statement.{statement}
-use Rattle.exports.proofs.answer_of.Tie as tie
+use Rattle.codes.proofs.answer_of.Statement.{statement}
+use Rattle.codes.proofs.answer_of.Tie as tie
 
 mul-result : tie.Need-mul-result
 mul-result c = search needs

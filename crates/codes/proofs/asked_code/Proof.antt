@@ -1,7 +1,7 @@
-use Rattle.exports.specs.Code.{askedCode}
+use Rattle.codes.specs.Code.{askedCode}
 use borrow.Author.Needs.{needs}
-use Rattle.exports.proofs.asked_code.Statement.{statement}
-use Rattle.exports.proofs.asked_code.Tie as tie
+use Rattle.codes.proofs.asked_code.Statement.{statement}
+use Rattle.codes.proofs.asked_code.Tie as tie
 
 enum-told : tie.Need-enum-told
 enum-told c = search needs

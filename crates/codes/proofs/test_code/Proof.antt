@@ -1,7 +1,7 @@
-use Rattle.exports.specs.Code.{testCode}
+use Rattle.codes.specs.Code.{testCode}
 use borrow.Author.Needs.{needs}
-use Rattle.exports.proofs.test_code.Statement.{statement}
-use Rattle.exports.proofs.test_code.Tie as tie
+use Rattle.codes.proofs.test_code.Statement.{statement}
+use Rattle.codes.proofs.test_code.Tie as tie
 
 enum-known-t : tie.Need-enum-known-t
 enum-known-t c = search needs

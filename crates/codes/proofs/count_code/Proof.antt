@@ -1,7 +1,7 @@
-use Rattle.exports.specs.Code.{countCode}
+use Rattle.codes.specs.Code.{countCode}
 use borrow.Author.Needs.{needs}
-use Rattle.exports.proofs.count_code.Statement.{statement}
-use Rattle.exports.proofs.count_code.Tie as tie
+use Rattle.codes.proofs.count_code.Statement.{statement}
+use Rattle.codes.proofs.count_code.Tie as tie
 
 enum-known-n : tie.Need-enum-known-n
 enum-known-n c = search needs

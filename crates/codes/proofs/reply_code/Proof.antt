@@ -1,7 +1,7 @@
-use Rattle.exports.specs.Code.{replyCode}
+use Rattle.codes.specs.Code.{replyCode}
 use borrow.Author.Needs.{needs}
-use Rattle.exports.proofs.reply_code.Statement.{statement}
-use Rattle.exports.proofs.reply_code.Tie as tie
+use Rattle.codes.proofs.reply_code.Statement.{statement}
+use Rattle.codes.proofs.reply_code.Tie as tie
 
 enum-known-r : tie.Need-enum-known-r
 enum-known-r c = search needs

@@ -1,0 +1,64 @@
+-- Many paths through one map in one call. Path i is the text at spot i of `texts` (its start and its length); its reply goes to number i
+-- of `replies`, and its 255 bytes of lent memory are those from 255 i on.
+use mathlib.Core.Path.{_≡_}
+use Prim.Native.Nat.{ℕ, zero, suc, _*_, _≤_, _<_}
+use mathlib.Core.Bool.{Bool, cond, _&&_}
+use mathlib.Core.List.{List, _∷_, _++_}
+use lib.Dec.{leb}
+use lib.ListN.{length, getD, take, drop}
+use Rattle.text.specs.Text.{Text}
+use Rattle.pairs.specs.Places.{inside, textAt}
+use Rattle.path.specs.declared.Refusal.the-variants.{TooLong, NoRoom}
+use Rattle.path.specs.declared.Asked.{Asked}
+use Rattle.path.specs.declared.Asked.the-variants.{Passed, Refused}
+use Rattle.path.specs.Outcome.{Outcome, refused, reply, memory}
+use Rattle.codes.specs.Code.{replyCode}
+use Rattle.mapping.specs.declared.MapFunction.{MapFunction}
+use Rattle.mapping.specs.declared.Way.{Way}
+use Rattle.mapping.specs.Way.{wayCall}
+
+-- what the single call gives for path i with 255 bytes lent; "a place that reaches outside its store counts as longer"
+unfoldable pub carriedAt : Way → Text → List ℕ → MapFunction → Text → List ℕ → ℕ → Outcome
+unfolding inside textAt wayCall
+carriedAt way store places f texts spots i = cond (inside texts spots i) (wayCall way store places f (textAt texts spots i) 255) (refused TooLong)
+
+-- lent memory after n single calls from call i on, each with 255 bytes of its own
+unfoldable pub blocks : (ℕ → Outcome) → ℕ → ℕ → Text → Text
+unfolding memory
+blocks o i zero out = out
+blocks o i (suc n) out = memory (o i) (take 255 out) ++ blocks o (suc i) n (drop 255 out)
+
+-- lent numbers after them: each call's reply as one number
+unfoldable pub numbers : (ℕ → Outcome) → ℕ → ℕ → List ℕ → List ℕ
+unfolding reply replyCode
+numbers o i zero replies = replies
+numbers o i (suc n) replies = replyCode (reply (o i)) ∷ numbers o (suc i) n (drop 1 replies)
+
+-- question 5 of the whole: two numbers for each spot, 255 bytes and a number for each answer
+unfoldable pub enough : ℕ → ℕ → ℕ → ℕ → Bool
+enough n spots bytes replies = leb (2 * n) spots && leb (255 * n) bytes && leb n replies
+
+-- what the call answers and leaves: nothing is written where anything lent is too short
+unfoldable pub allAsked : Bool → Asked
+allAsked room = cond room Passed (Refused NoRoom)
+
+unfoldable pub allBytes : Bool → (ℕ → Outcome) → ℕ → Text → Text
+unfolding blocks
+allBytes room o n out = cond room (blocks o 0 n out) out
+
+unfoldable pub allReplies : Bool → (ℕ → Outcome) → ℕ → List ℕ → List ℕ
+unfolding numbers
+allReplies room o n replies = cond room (numbers o 0 n replies) replies
+
+-- Path i has the 255 bytes and the reply of the single call, and nothing behind the n paths changes ..
+pub record Single (o : ℕ → Outcome) (n : ℕ) (out : Text) (replies : List ℕ) : Type 0 where
+  pub bytes : (i : ℕ) → i < n → take 255 (drop (255 * i) (blocks o 0 n out)) ≡ memory (o i) (take 255 (drop (255 * i) out))
+  pub bytes-behind : drop (255 * n) (blocks o 0 n out) ≡ drop (255 * n) out
+  pub replies-at : (i : ℕ) → i < n → getD (numbers o 0 n replies) i 0 ≡ replyCode (reply (o i))
+  pub replies-behind : drop n (numbers o 0 n replies) ≡ drop n replies
+
+-- .. in every call with enough lent memory (proved in proofs/EachLaws.antt)
+abbrev pub EachIsSingle : Type 0
+EachIsSingle =
+    (way : Way) (store : Text) (places : List ℕ) (f : MapFunction) (texts : Text) (spots : List ℕ) (n : ℕ) (out : Text) (replies : List ℕ) → 255 * n ≤ length out → n ≤ length replies
+    → Single (carriedAt way store places f texts spots) n out replies

@@ -1,0 +1,136 @@
+// The calls on time offsets. An offset passes as its two floats; one that is made is written to two lent
+// floats, offset and scale.
+ghost use mathlib.Core.Path.{_≡_};
+ghost use Rattle.layer_offset.specs.Number.{plusZero};
+ghost use Rattle.layer_offset.specs.Offset.{timed, isIdentity, isValid, isValidComposition, sanitized, applied, concatenated, inverted, patterns, isClose};
+ghost use Rattle.exports.specs.Time.{floats, bitPatterns};
+
+// Writes offset and scale.
+fn put(made: layer_offset::LayerOffset, out: &mut [f64; 2])
+    ensures { λ r. ⌜ now (out .exit) ≡ floats made ⌝ }
+{
+    *out = [made.offset, made.scale];
+}
+
+// Writes the bits of offset and scale.
+fn put_bits(bits: layer_offset::OffsetBits, out: &mut [u64; 2])
+    ensures { λ r. ⌜ now (out .exit) ≡ bitPatterns bits ⌝ }
+{
+    *out = [bits.0, bits.1];
+}
+
+// The offset with these two numbers.
+#[no_mangle]
+pub extern "C" fn mudvizsor_layer_offset_new(offset: f64, scale: f64, out: &mut [f64; 2])
+    ensures { λ r. ⌜ now (out .exit) ≡ floats (timed offset scale) ⌝ }
+{
+    put(layer_offset::LayerOffset::new(offset, scale), out)
+}
+
+// A scale with no offset.
+#[no_mangle]
+pub extern "C" fn mudvizsor_layer_offset_scale_only(scale: f64, out: &mut [f64; 2])
+    ensures { λ r. ⌜ now (out .exit) ≡ floats (timed plusZero scale) ⌝ }
+{
+    put(layer_offset::LayerOffset::scale_only(scale), out)
+}
+
+// Are both numbers finite?
+#[no_mangle]
+pub extern "C" fn mudvizsor_layer_offset_is_valid(offset: f64, scale: f64) -> bool
+    ensures { λ r. ⌜ r ≡ isValid (timed offset scale) ⌝ }
+{
+    let given = layer_offset::LayerOffset { offset, scale };
+    given.is_valid()
+}
+
+// Is it (0, 1)?
+#[no_mangle]
+pub extern "C" fn mudvizsor_layer_offset_is_identity(offset: f64, scale: f64) -> bool
+    ensures { λ r. ⌜ r ≡ isIdentity (timed offset scale) ⌝ }
+{
+    let given = layer_offset::LayerOffset { offset, scale };
+    given.is_identity()
+}
+
+// Are both within 1e-6 of each other, or both invalid with the same bits?
+#[no_mangle]
+pub extern "C" fn mudvizsor_layer_offset_is_close(
+    offset: f64,
+    scale: f64,
+    other_offset: f64,
+    other_scale: f64,
+) -> bool
+    ensures { λ r. ⌜ r ≡ isClose (timed offset scale) (timed «other_offset» «other_scale») ⌝ }
+{
+    let other = layer_offset::LayerOffset {
+        offset: other_offset,
+        scale: other_scale,
+    };
+    let given = layer_offset::LayerOffset { offset, scale };
+    given.is_close(other)
+}
+
+// The bits of both numbers; of any NaN, 0x7ff8_0000_0000_0000.
+#[no_mangle]
+pub extern "C" fn mudvizsor_layer_offset_to_bits(offset: f64, scale: f64, out: &mut [u64; 2])
+    ensures { λ r. ⌜ now (out .exit) ≡ bitPatterns (patterns (timed offset scale)) ⌝ }
+{
+    let given = layer_offset::LayerOffset { offset, scale };
+    put_bits(given.to_bits(), out)
+}
+
+// The time that `time` becomes.
+#[no_mangle]
+pub extern "C" fn mudvizsor_layer_offset_apply(offset: f64, scale: f64, time: f64) -> f64
+    ensures { λ r. ⌜ r ≡ applied (timed offset scale) time ⌝ }
+{
+    let given = layer_offset::LayerOffset { offset, scale };
+    given.apply(time)
+}
+
+// The offset that undoes it; (0, 1) where the scale is zero.
+#[no_mangle]
+pub extern "C" fn mudvizsor_layer_offset_inverse(offset: f64, scale: f64, out: &mut [f64; 2])
+    ensures { λ r. ⌜ now (out .exit) ≡ floats (inverted (timed offset scale)) ⌝ }
+{
+    let given = layer_offset::LayerOffset { offset, scale };
+    put(given.inverse(), out)
+}
+
+// Can it be composed?
+#[no_mangle]
+pub extern "C" fn mudvizsor_layer_offset_is_valid_composition(offset: f64, scale: f64) -> bool
+    ensures { λ r. ⌜ r ≡ isValidComposition (timed offset scale) ⌝ }
+{
+    let given = layer_offset::LayerOffset { offset, scale };
+    given.is_valid_composition()
+}
+
+// The offset itself, or (0, 1) where it cannot be composed.
+#[no_mangle]
+pub extern "C" fn mudvizsor_layer_offset_sanitized(offset: f64, scale: f64, out: &mut [f64; 2])
+    ensures { λ r. ⌜ now (out .exit) ≡ floats (sanitized (timed offset scale)) ⌝ }
+{
+    let given = layer_offset::LayerOffset { offset, scale };
+    put(given.sanitized(), out)
+}
+
+// The outer offset after the inner one.
+#[no_mangle]
+pub extern "C" fn mudvizsor_layer_offset_concatenate(
+    offset: f64,
+    scale: f64,
+    inner_offset: f64,
+    inner_scale: f64,
+    out: &mut [f64; 2],
+)
+    ensures { λ r. ⌜ now (out .exit) ≡ floats (concatenated (timed offset scale) (timed «inner_offset» «inner_scale»)) ⌝ }
+{
+    let inner = layer_offset::LayerOffset {
+        offset: inner_offset,
+        scale: inner_scale,
+    };
+    let given = layer_offset::LayerOffset { offset, scale };
+    put(given.concatenate(inner), out)
+}

@@ -1,0 +1,46 @@
+use Rattle.path.proofs.CallWays.{refusing, answering}
+use Rattle.mapping.proofs.WayLaws.{after-refused, after-short, after-passed, after-length}
+use borrow.Author.Needs.{needs}
+use Rattle.mapping.proofs.carry_after.Statement.{statement}
+use Rattle.mapping.proofs.carry_after.Tie as tie
+
+new-requires : tie.Need-new-requires
+new-requires c κs = search needs
+
+earlier-requires : tie.Need-earlier-requires
+earlier-requires c κs = search needs
+
+enum-known-q : tie.Need-enum-known-q
+enum-known-q c = search needs
+
+returns : tie.Need-returns
+returns c = refusing _ _ (after-refused _ _ _ _ _ _ _ _ _ (c .before .before .before .before .new .ensures) (c .before .before .before .earlier .ensures) _ (c .before .q .given .1)) _
+
+enum-told : tie.Need-enum-told
+enum-told c = search needs
+
+returns-2 : tie.Need-returns-2
+returns-2 c = refusing _ _ (after-short _ _ _ _ _ _ _ _ _ (c .before .before .before .before .new .ensures) (c .before .before .before .earlier .ensures) (c .before .enum-told .given .1) (c .if1 .taken)) _
+
+go-requires : tie.Need-go-requires
+go-requires c κs = (after-length _ _ _ _ (c .before .before .before .before .before .new .ensures) (c .before .before .before .before .earlier .ensures) (c .before .before .enum-told .given .1), c .before .if1 .left)
+
+same-length : tie.Need-same-length
+same-length c = search needs
+
+returns-3 : tie.Need-returns-3
+returns-3 c = answering _ _ (after-passed _ _ _ _ _ _ _ _ _ (c .before .before .before .before .before .before .before .before .new .ensures) (c .before .before .before .before .before .before .before .earlier .ensures) (c .before .before .before .before .before .enum-told .given .1) (c .before .before .before .before .if1 .left)) _ _ _ (c .before .before .go .ensures)
+
+pub carry-after-spec : {M : Type 1} → statement M
+carry-after-spec =
+    tie.close
+    (tie.spec
+    new-requires
+    earlier-requires
+    enum-known-q
+    returns
+    enum-told
+    returns-2
+    go-requires
+    same-length
+    returns-3)

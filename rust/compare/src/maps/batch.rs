@@ -1,0 +1,123 @@
+//! The call that carries many paths: each must get what the single call gives it with 255 bytes lent.
+
+use crate::comparison::Comparison;
+use crate::lent::Lent;
+use crate::maps::calls::{CALLS, ListAndText, MapCall};
+use crate::maps::list::List;
+use crate::tally::Call;
+use crate::text::{Answer, TOO_LITTLE_MEMORY, TOO_LONG, Text};
+use library::Reply;
+use library::maps::{Paths, carry_all};
+use original::sdf::Path;
+use texts::LONGEST;
+
+const NAME: &str = "map_all";
+
+/// Bytes and numbers lent beyond those needed.
+const MORE: usize = 7;
+
+/// Paths as they are lent: the texts one after the other, then one path whose spot lies outside them.
+struct LentPaths {
+    texts: Vec<u8>,
+    spots: Vec<usize>,
+    count: usize,
+}
+
+impl LentPaths {
+    fn new(texts: &[Text]) -> Self {
+        let mut lent = LentPaths { texts: Vec::new(), spots: Vec::new(), count: texts.len() + 1 };
+        for text in texts {
+            lent.spots.extend([lent.texts.len(), text.bytes.len()]);
+            lent.texts.extend(&text.bytes);
+        }
+        let end = lent.texts.len();
+        let outside = [[end, 1], [end + 1, 0], [usize::MAX, 2], [0, usize::MAX]];
+        lent.spots.extend(outside[end % outside.len()]);
+        lent
+    }
+
+    /// All paths, with so many of the numbers that say where they are.
+    fn lend(&self, spots: usize) -> Paths<'_> {
+        Paths { texts: &self.texts, spots: &self.spots[..spots], count: self.count }
+    }
+}
+
+/// So many spots, bytes and replies are lent.
+#[derive(Clone, Copy)]
+struct Room {
+    spots: usize,
+    bytes: usize,
+    replies: usize,
+}
+
+impl Comparison {
+    /// Each way for all paths in one call: with what is needed, with more, and with one too few of each kind.
+    pub fn map_all(&mut self, list: &List, texts: &[Text]) {
+        let lent = &LentPaths::new(texts);
+        let count = lent.count;
+        let needed = Room { spots: 2 * count, bytes: LONGEST * count, replies: count };
+        let more = Room { bytes: needed.bytes + MORE, replies: needed.replies + MORE, ..needed };
+        let short = [
+            Room { spots: needed.spots - 1, ..needed },
+            Room { bytes: needed.bytes - 1, ..needed },
+            Room { replies: needed.replies - 1, ..needed },
+        ];
+        for call in &CALLS {
+            let mut expected: Vec<_> = texts.iter().map(|text| call.expected(list, text)).collect();
+            expected.push(Err(TOO_LONG));
+            for room in [needed, more] {
+                self.all_carried(call, list, texts, lent, room, &expected);
+            }
+            for room in short {
+                self.all_refused(call, list, lent, room);
+            }
+        }
+    }
+
+    fn all_carried(
+        &mut self,
+        call: &MapCall,
+        list: &List,
+        texts: &[Text],
+        lent: &LentPaths,
+        room: Room,
+        expected: &[Answer<Path>],
+    ) {
+        let (mut bytes, mut numbers) = (Lent::bytes(room.bytes), Lent::numbers(room.replies));
+        let replies = numbers.lend(room.replies);
+        let found =
+            carry_all(call.way, list.for_library(), lent.lend(room.spots), bytes.lend(room.bytes), replies);
+        let replies = replies.to_vec();
+        let nowhere = Text::new(b"");
+        for (i, text) in texts.iter().chain([&nowhere]).enumerate() {
+            let answer = expected[i].as_ref().map(|path| path.as_str().len()).map_err(|number| *number);
+            let of_one = Call { name: NAME, given: &ListAndText { list, text }, room: Some(room.bytes) };
+            self.tally.compare(of_one, answer, Reply(replies[i]), None);
+        }
+        let memory = memory_after(bytes.before(room.bytes), expected);
+        let wrong = bytes.first_wrong(&memory).or(numbers.first_wrong(&replies[..lent.count]));
+        let of_all = Call { name: NAME, given: list, room: Some(room.bytes) };
+        self.tally.compare(of_all, Ok(0), found, wrong);
+    }
+
+    fn all_refused(&mut self, call: &MapCall, list: &List, lent: &LentPaths, room: Room) {
+        let (mut bytes, mut numbers) = (Lent::bytes(room.bytes), Lent::numbers(room.replies));
+        let (out, replies) = (bytes.lend(room.bytes), numbers.lend(room.replies));
+        let found = carry_all(call.way, list.for_library(), lent.lend(room.spots), out, replies);
+        let wrong = bytes.first_wrong(&[]).or(numbers.first_wrong(&[]));
+        let of_all = Call { name: NAME, given: list, room: Some(room.bytes) };
+        self.tally.compare(of_all, Err(TOO_LITTLE_MEMORY), found, wrong);
+    }
+}
+
+/// Lent memory with each path at the beginning of its 255 bytes.
+fn memory_after(before: &[u8], expected: &[Answer<Path>]) -> Vec<u8> {
+    let mut memory = before.to_vec();
+    for (i, path) in expected.iter().enumerate() {
+        if let Ok(path) = path {
+            let text = path.as_str().as_bytes();
+            memory[LONGEST * i..][..text.len()].copy_from_slice(text);
+        }
+    }
+    memory
+}
