@@ -3,6 +3,7 @@ use mathlib.Core.Path.{_≡_, refl, sym, _∙_}
 use mathlib.Core.Bool.{Bool, true, false, not, cond, _&&_}
 use mathlib.Core.List.{List, [], _∷_}
 use Prim.Native.Nat.{ℕ, _*_, _/_, _≤_, _<_}
+use native.Mathlib.Omega.{arith}
 use lib.Dec.{leb}
 use lib.ListN.{length}
 use borrow.Author.Tests.{le-leb, lt-leb}
@@ -135,3 +136,11 @@ module _ (store : Text) (places : List ℕ) (count : ℕ) where
 pub ask-one : (l : Lent) (p e : Text) → e ≡ [] → asked (l ∷ []) (p ∷ e ∷ []) (e ∷ e ∷ []) ≡ asked (l ∷ []) (p ∷ []) []
 unfolding asked every fits legal isEnd
 ask-one l p e h = rw h refl
+
+pub ask-none : (l : Lent) (e : Text) → e ≡ [] → asked (l ∷ []) (e ∷ e ∷ []) (e ∷ e ∷ []) ≡ asked (l ∷ []) [] []
+unfolding asked every fits legal isEnd
+ask-none l e h = rw h refl
+
+pub ask-empty : (store : Text) (places : List ℕ) (ts es : List Text) → asked (lentList store places 0 ∷ []) ts es ≡ asked [] ts es
+unfolding asked every listFits listAll listCounts present placesFit placesAll
+ask-empty store places ts es = rw (le-leb 0 (length places / 4) (omega arith)) refl

@@ -121,6 +121,22 @@ pub fn ask_path(store: &[u8], places: &[usize], count: usize, p: &[u8]) -> path:
     ask_list(store, places, count, p, e, e, e)
 }
 
+// Questions 1 to 4 of a list.
+pub fn ask_pairs(store: &[u8], places: &[usize], count: usize) -> path::Asked
+    ensures { λ r. ⌜ r ≡ asked (lentList (now (store .entry)) (now (places .entry)) count ∷ []) [] [] ⌝ }
+{
+    let e = &store[..0];
+    ask_list(store, places, count, e, e, e, e)
+}
+
+// Questions 1 to 3 of two ends.
+pub fn ask_ends(e: &[u8], f: &[u8]) -> path::Asked
+    ensures { λ r. ⌜ r ≡ asked [] (now (e .entry) ∷ now (f .entry) ∷ []) (now (e .entry) ∷ now (f .entry) ∷ []) ⌝ }
+{
+    let none = [0usize; 1];
+    ask_list(e, &none, 0, e, f, e, f)
+}
+
 // Questions 1 to 4 of two lists: each to both of them before the next.
 pub fn ask_lists(
     store: &[u8],

@@ -29,7 +29,7 @@ use Rattle.maps.proofs.EndLaws.{fromParts-length}
 use Rattle.map_function.specs.declared.MapFunction.{MapFunction}
 use Rattle.map_function.specs.declared.MapReply.{MapReply}
 use Rattle.map_function.specs.declared.MapReply.the-variants.{Made, Refused}
-use Rattle.map_function.specs.Made.{MapOutcome, map, refused, mapReply, mapBytes, mapSlots, roomFor, held, asItIs, fromPartsOutcome}
+use Rattle.map_function.specs.Made.{MapOutcome, map, refused, mapReply, mapBytes, mapSlots, roomFor, weighed, held, asItIs, fromPartsOutcome}
 use Rattle.map_function.specs.Level.{level, levels, layer, Keyed, Topped}
 use Rattle.map_function.proofs.LevelLaws.{Below, sorted-levels, levels-few, layer-append, keep-append, keep-few, canonical-keeps}
 
@@ -187,11 +187,11 @@ module _ (store : Text) (places : List ℕ) (n : ℕ) (mark : Bool) (time : Laye
       same false = refl
 
   pub parts-many : 64 < n → call ≡ refused TooMany
-  unfolding fromPartsOutcome
+  unfolding fromPartsOutcome weighed
   parts-many h = many (roomFor list out slots (map (fromParts list mark) time)) h
 
   pub copy-many : 64 < n → copy ≡ refused TooMany
-  unfolding asItIs
+  unfolding asItIs weighed
   copy-many h = many (roomFor list out slots (map (record { pairs = list; mark = mark }) time)) h
 
   pub parts-beyond : length places / 4 < n → call ≡ refused TooMany
@@ -204,7 +204,7 @@ module _ (store : Text) (places : List ℕ) (n : ℕ) (mark : Bool) (time : Laye
 
   module _ (few : n ≤ 64) (h : n ≤ length places / 4) where
     copy-room : copy ≡ cond (listRoom list out slots) (map (record { pairs = list; mark = mark }) time) (refused NoRoom)
-    unfolding held asItIs roomFor
+    unfolding held asItIs weighed roomFor
     copy-room = rw (le-leb n (length places / 4) h, pairsIn-length store places n, le-leb n 64 few) refl
 
     module _ (f : Fit) (e : f ≡ listFit list out slots) where
@@ -231,7 +231,7 @@ module _ (store : Text) (places : List ℕ) (n : ℕ) (mark : Bool) (time : Laye
           go false z = absurd (let y : Written w ≡ Over = sym o ∙ e ∙ rw z refl in let x : _≡_ {A = ℕ} 0 1 = cc in omega arith)
 
     asked-room : call ≡ cond (listRoom list out slots) (map (fromParts list mark) time) (refused NoRoom)
-    unfolding held fromPartsOutcome roomFor
+    unfolding held fromPartsOutcome weighed roomFor
     asked-room = rw (le-leb n (length places / 4) h, pairsIn-length store places n, le-leb n 64 few) refl
 
     pub parts-slots : length slots / 4 < n → call ≡ refused NoRoom

@@ -47,15 +47,21 @@ unfoldable pub roomFor : List Pair → Text → List ℕ → MapOutcome → MapO
 unfolding listRoom
 roomFor l out slots o = cond (listRoom l out slots) o (refused NoRoom)
 
--- a map whose pairs are just these, with questions 4 and 5 put to them: "where that isn't run, the list read or answered"
-unfoldable pub asItIs : List Pair → Bool → LayerOffset → Text → List ℕ → MapOutcome
+-- the map m, with questions 4 and 5 put to the list l: "the list that the dropping in `new` starts from .. where that isn't run, the list
+-- read or answered"
+unfoldable pub weighed : List Pair → Map → LayerOffset → Text → List ℕ → MapOutcome
 unfolding roomFor
-asItIs l mark time out slots = cond (leb (length l) 64) (roomFor l out slots (map (record { pairs = l; mark = mark }) time)) (refused TooMany)
+weighed l m time out slots = cond (leb (length l) 64) (roomFor l out slots (map m time)) (refused TooMany)
 
--- a map made of these pairs, with questions 4 and 5 put to "the list that the dropping in `new` starts from"
+-- a map whose pairs are just these
+unfoldable pub asItIs : List Pair → Bool → LayerOffset → Text → List ℕ → MapOutcome
+unfolding weighed
+asItIs l mark time out slots = weighed l (record { pairs = l; mark = mark }) time out slots
+
+-- a map made of these pairs
 unfoldable pub fromPartsOutcome : List Pair → Bool → LayerOffset → Text → List ℕ → MapOutcome
-unfolding roomFor fromParts
-fromPartsOutcome l mark time out slots = cond (leb (length l) 64) (roomFor l out slots (map (fromParts l mark) time)) (refused TooMany)
+unfolding weighed fromParts
+fromPartsOutcome l mark time out slots = weighed l (fromParts l mark) time out slots
 
 -- what is done with a lent list: "A count beyond its slice counts as over 64."
 unfoldable pub held : Lent → MapOutcome → MapOutcome
