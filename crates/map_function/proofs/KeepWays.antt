@@ -10,7 +10,7 @@ use native.Mathlib.Numerals.{add-one}
 use native.Mathlib.Decide.{ℕ-discrete}
 use lib.ListN.{length, getD, take, drop, set}
 use lib.Seq.{getD-set-same, getD-set-other}
-use Rattle.text.specs.Text.{Text, over, equal}
+use Rattle.text.specs.Text.{Text, equal}
 use Rattle.text.proofs.BoolLaws.{told, told-false, told-true, not-true, not-false, or-right, or-false}
 use Rattle.text.proofs.WriteLaws.{rest-whole}
 use Rattle.grammar.specs.Legal.{isRoot}
@@ -18,17 +18,17 @@ use Rattle.prefix.specs.Elements.{elements}
 use Rattle.prefix.specs.Join.{joined, replacePrefix}
 use Rattle.prefix.proofs.PrefixLaws.{replace-prefix}
 use Rattle.pairs.specs.Pair.{Pair}
-use Rattle.pairs.specs.Places.{textAt, keyAt, pairIn, pairsIn}
+use Rattle.pairs.specs.Places.{keyAt, pairIn, pairsIn, copied}
 use Rattle.pairs.specs.Best.{best, serves, chosenIn}
 use Rattle.pairs.specs.declared.Found.{Found}
 use Rattle.pairs.proofs.PlaceLaws.{chosen-best}
 use Rattle.pairs.proofs.WriteWays.{source-key, target-key}
+use Rattle.pairs.proofs.CopyLaws.{copied-over, pushed}
 use Rattle.maps.specs.Map.{Map, lentMap, source, target, chosenOut}
 use Rattle.maps.specs.New.{isRoots, anyRoots, viaPair, via, isText, implied, keep}
 use Rattle.maps.proofs.LentLaws.{serves-prefix, served-long, out-keys, ends-by}
 use Rattle.map_function.specs.Level.{layer, Keyed, Topped}
 use Rattle.map_function.proofs.LevelLaws.{layer-other, layer-roots, layer-here}
-use Rattle.map_function.proofs.PushLaws.{four, pushed}
 
 -- `is_roots`
 module _ (store : Text) (places : List ℕ) (i : ℕ) (k : Text) (e : k ≡ keyAt store places false i) (b : Bool) (h : b ≡ isRoot k) where
@@ -188,7 +188,7 @@ module _ (store : Text) (places : List ℕ) (i key e : ℕ) (mark : Bool) (kept 
       here : layer e (pair ∷ []) ≡ pair ∷ []
       here = layer-here e pair (told r l) (key-told ∙ k)
 
-      pub pair-room : 4 * (w + length (layer e (pair ∷ []))) ≤ length kept → 4 * w + 4 ≤ length kept
+      pair-room : 4 * (w + length (layer e (pair ∷ []))) ≤ length kept → 4 * w + 4 ≤ length kept
       pair-room m = omega (arith, m, ap length here)
 
       module _ (s t : Text) (f : s ≡ keyAt store places false i) (g : t ≡ keyAt store places true i) (c : Bool)
@@ -206,6 +206,8 @@ module _ (store : Text) (places : List ℕ) (i key e : ℕ) (mark : Bool) (kept 
         pub pair-implied : c ≡ true → before ≡ keep mark before (layer e (pair ∷ []))
         pair-implied n = sym (one-kept ∙ rw n refl)
 
-        pub pair-kept : c ≡ false → 4 * w + 4 ≤ length kept → (kept′ : List ℕ) → kept′ ≡ over (4 * w) (four places i) kept
+        pub pair-kept : c ≡ false → 4 * i + 4 ≤ length places → 4 * (w + length (layer e (pair ∷ []))) ≤ length kept → (kept′ : List ℕ) → kept′ ≡ copied places i w kept
             → pairsIn store kept′ (w + 1) ≡ keep mark before (layer e (pair ∷ []))
-        pair-kept n o kept′ p = rw (add-one w, p) (pushed store places i kept w o ∙ sym (one-kept ∙ rw n refl))
+        pair-kept n o q kept′ p =
+            let r = pair-room q in
+            rw (add-one w, p, copied-over places i w kept o r) (pushed store places i kept w r ∙ sym (one-kept ∙ rw n refl))

@@ -3,9 +3,8 @@
 ghost use mathlib.Core.Path.{_≡_};
 ghost use mathlib.Core.Bool.{Bool, false, _||_};
 ghost use mathlib.Core.List.{[], _∷_};
-ghost use lib.ListN.{length, getD};
+ghost use lib.ListN.{length};
 ghost use Prim.Native.Nat.{_+_, _*_, _≤_, _<_};
-ghost use Rattle.text.specs.Text.{over};
 ghost use Rattle.prefix.specs.Elements.{elements};
 ghost use Rattle.pairs.specs.Places.{keyAt, pairIn, pairsIn};
 ghost use Rattle.asking.specs.Asking.{lentList};
@@ -173,20 +172,6 @@ fn is_implied(store: &[u8], kept: &[usize], n: usize, mark: bool, s: &[u8], t: &
     text::is_equal(s, t)
 }
 
-// Puts the places of pair i behind the w pairs that are kept.
-fn push(places: &[usize], i: usize, kept: &mut [usize], w: usize)
-    requires { ⌜ 4 * i + 4 ≤ length (now places) ⌝ }
-    requires { ⌜ 4 * w + 4 ≤ length (now kept) ⌝ }
-    ensures { λ _. ⌜ now (kept .exit) ≡ over (4 * w) (getD (now (places .entry)) (4 * i) 0 ∷ getD (now (places .entry)) (4 * i + 1) 0 ∷ getD (now (places .entry)) (4 * i + 2) 0 ∷ getD (now (places .entry)) (4 * i + 3) 0 ∷ []) (now (kept .entry)) ⌝ }
-{
-    let j = 4 * w;
-    let k = 4 * i;
-    kept[j] = places[k];
-    kept[j + 1] = places[k + 1];
-    kept[j + 2] = places[k + 2];
-    kept[j + 3] = places[k + 3];
-}
-
 // Keeps pair i, whose source has `key` elements, where it is of the level e, no `/`→`/`, and not
 // implied by the w pairs that are kept.
 fn keep_pair(
@@ -215,7 +200,7 @@ fn keep_pair(
     if is_implied(store, kept, w, mark, s, t) {
         return w;
     }
-    push(places, i, kept, w);
+    pairs::copy_pair(places, i, w, kept);
     w + 1
 }
 

@@ -5,3 +5,4 @@ pub mod WriteWays
 pub mod BestLaws
 pub mod PlaceLaws
 pub mod ListLaws
+pub mod CopyLaws

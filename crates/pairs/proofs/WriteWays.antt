@@ -14,7 +14,7 @@ use Rattle.text.proofs.BoolLaws.{and-no, told-false, told-true}
 use Rattle.text.specs.declared.Fit.{Fit}
 use Rattle.text.specs.declared.Fit.the-variants.{Written, Over}
 use Rattle.pairs.specs.Pair.{Pair}
-use Rattle.pairs.specs.Places.{textAt, keyAt, pairIn, pairsIn, fourOf, listText, listPlaces, endBytes, listRoom, listFit, listBytes, listSlots}
+use Rattle.pairs.specs.Places.{textAt, keyAt, pairIn, pairsIn, four, copied, fourOf, listText, listPlaces, endBytes, listRoom, listFit, listBytes, listSlots}
 use Rattle.pairs.proofs.PlaceLaws.{pairsIn-length}
 use Rattle.pairs.proofs.ListLaws.{list-length, places-length}
 use Rattle.pairs.proofs.RoomWays.{end-next, end-grows}
@@ -28,6 +28,25 @@ four-stored l j a b c d h =
     let f : j + 2 ≡ suc (suc j) = omega arith in
     let g : j + 3 ≡ suc (suc (suc j)) = omega arith in
     rw (e, f, g) (sets-eq v l j h ∙ append-assoc (take j l) v (drop (j + 4) l))
+
+-- `write_four` and `copy_pair`
+module _ (w a b c d : ℕ) (slots : List ℕ) where
+  pub four-over : length slots / 4 ≤ w → slots ≡ placed (4 * w) (a ∷ b ∷ c ∷ d ∷ []) slots
+  unfolding placed
+  four-over h = rw (lt-leb (4 * w + 4) (length slots) (omega arith)) refl
+
+  pub four-fits : w < length slots / 4 → set (set (set (set slots (4 * w) a) (4 * w + 1) b) (4 * w + 2) c) (4 * w + 3) d ≡ placed (4 * w) (a ∷ b ∷ c ∷ d ∷ []) slots
+  unfolding placed
+  four-fits h = rw (le-leb (4 * w + 4) (length slots) (omega arith)) (four-stored slots (4 * w) a b c d (omega arith))
+
+module _ (places : List ℕ) (i w : ℕ) (slots : List ℕ) where
+  pub copy-none : length places / 4 ≤ i → slots ≡ copied places i w slots
+  unfolding copied
+  copy-none h = rw (le-leb (length places / 4) i h) refl
+
+  pub copy-some : i < length places / 4 → (slots′ : List ℕ) → slots′ ≡ placed (4 * w) (four places i) slots → slots′ ≡ copied places i w slots
+  unfolding copied
+  copy-some h slots′ e = rw (lt-leb (length places / 4) i h) e
 
 -- one text behind another, over memory
 module _ (at : ℕ) (s t out : Text) (h : at + (length s + length t) ≤ length out) where
@@ -67,9 +86,9 @@ module _ (at : ℕ) (s t ks kt : Text) (e : s ≡ ks) (f : t ≡ kt) where
   pair-text out once twice h o w =
       w ∙ ap (λ (x : Text). placed (at + length s) t x) o ∙ over-over at s t out (omega (arith, ap length e, ap length f)) ∙ rw (e, f) refl
 
-  pub pair-slots : (l : List ℕ) (j : ℕ) → j + 4 ≤ length l
-      → set (set (set (set l j at) (j + 1) (length s)) (j + 2) (at + length s)) (j + 3) (length t) ≡ over j (fourOf at ks kt) l
-  pair-slots l j h = four-stored l j at (length s) (at + length s) (length t) h ∙ rw (e, f) refl
+  pub pair-slots : (l l′ : List ℕ) (i : ℕ) → 4 * i + 4 ≤ length l → l′ ≡ placed (4 * i) (at ∷ length s ∷ (at + length s) ∷ length t ∷ []) l → l′ ≡ over (4 * i) (fourOf at ks kt) l
+  unfolding placed
+  pair-slots l l′ i h w = w ∙ rw (le-leb (4 * i + 4) (length l) h, e, f) refl
 
 -- a list and one pair more
 list-snoc : (l : List Pair) (x : Pair) → listText (l ++ x ∷ []) ≡ listText l ++ (x .source ++ x .target)

@@ -6,7 +6,7 @@ use mathlib.Core.List.{List, [], _∷_, _++_}
 use Prim.Native.Nat.{ℕ, zero, suc, _+_, _*_, _/_}
 use lib.Dec.{leb}
 use lib.ListN.{length, getD, take, drop}
-use Rattle.text.specs.Text.{Text, written}
+use Rattle.text.specs.Text.{Text, written, placed}
 use Rattle.text.specs.declared.Fit.{Fit}
 use Rattle.text.specs.declared.Fit.the-variants.{Written, Over}
 use Rattle.pairs.specs.Pair.{Pair}
@@ -99,3 +99,12 @@ listSlots l out slots = cond (listRoom l out slots) (written (listPlaces 0 l) sl
 -- a list that was written is read back as it was (proved in proofs/ListLaws.antt)
 abbrev pub ReadBack : Type 0
 ReadBack = (l : List Pair) (store : Text) (places : List ℕ) → pairsIn (written (listText l) store) (written (listPlaces 0 l) places) (length l) ≡ l
+
+-- the four numbers of pair i
+abbrev pub four : List ℕ → ℕ → List ℕ
+four places i = getD places (4 * i) 0 ∷ getD places (4 * i + 1) 0 ∷ getD places (4 * i + 2) 0 ∷ getD places (4 * i + 3) 0 ∷ []
+
+-- numbers with pair i of other places over pair w; one that is not there leaves them as they were
+unfoldable pub copied : List ℕ → ℕ → ℕ → List ℕ → List ℕ
+unfolding placed
+copied places i w slots = cond (leb (length places / 4) i) slots (placed (4 * w) (four places i) slots)

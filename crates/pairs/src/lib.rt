@@ -2,13 +2,13 @@
 // that serves a path. Every public function is defined for any bytes and any numbers.
 ghost use mathlib.Core.Path.{_≡_};
 ghost use mathlib.Core.Bool.{Bool, true, false, cond};
-ghost use mathlib.Core.List.{_++_};
+ghost use mathlib.Core.List.{[], _∷_, _++_};
 ghost use lib.ListN.{length};
 ghost use Prim.Native.Nat.{_+_, _*_, _≤_};
-ghost use Rattle.text.specs.Text.{over};
+ghost use Rattle.text.specs.Text.{over, placed};
 ghost use Rattle.grammar.specs.Legal.{legal, isEnd};
 ghost use lib.Dec.{leb};
-ghost use Rattle.pairs.specs.Places.{pairsIn, endBytes, listFit, listBytes, listSlots, fourOf, fitsAt, textAt, keyAt, placesFit, placesAll};
+ghost use Rattle.pairs.specs.Places.{pairsIn, copied, endBytes, listFit, listBytes, listSlots, fourOf, fitsAt, textAt, keyAt, placesFit, placesAll};
 ghost use Rattle.pairs.specs.Best.{serves, best, chosenIn, considered};
 
 // The text at the place j; empty where the place is not there or reaches outside the store.
@@ -179,6 +179,38 @@ pub fn has_room(store: &[u8], places: &[usize], n: usize, room: usize) -> bool
     true
 }
 
+// Writes the four numbers of pair w, where the slice has room for them.
+pub fn write_four(w: usize, a: usize, b: usize, c: usize, d: usize, slots: &mut [usize])
+    ensures { λ _. ⌜ now (slots .exit) ≡ placed (4 * w) (a ∷ b ∷ c ∷ d ∷ []) (now (slots .entry)) ⌝ }
+{
+    if slots.len() / 4 <= w {
+        return;
+    }
+    let j = 4 * w;
+    slots[j] = a;
+    slots[j + 1] = b;
+    slots[j + 2] = c;
+    slots[j + 3] = d;
+}
+
+// Copies the numbers of pair i over those of pair w in another slice.
+pub fn copy_pair(places: &[usize], i: usize, w: usize, slots: &mut [usize])
+    ensures { λ _. ⌜ now (slots .exit) ≡ copied (now (places .entry)) i w (now (slots .entry)) ⌝ }
+{
+    if places.len() / 4 <= i {
+        return;
+    }
+    let j = 4 * i;
+    write_four(
+        w,
+        places[j],
+        places[j + 1],
+        places[j + 2],
+        places[j + 3],
+        slots,
+    );
+}
+
 // Writes pair i behind `at` bytes, and its four numbers; the place behind it.
 fn write_pair(
     store: &[u8],
@@ -197,11 +229,7 @@ fn write_pair(
     let s = key_at(store, places, i, false);
     let t = key_at(store, places, i, true);
     let m = at + s.len();
-    let j = 4 * i;
-    slots[j] = at;
-    slots[j + 1] = s.len();
-    slots[j + 2] = m;
-    slots[j + 3] = t.len();
+    write_four(i, at, s.len(), m, t.len(), slots);
     text::write_at(s, at, out);
     text::write_at(t, m, out);
     m + t.len()
