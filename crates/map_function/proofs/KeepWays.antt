@@ -59,7 +59,7 @@ module _ (store : Text) (places : List ℕ) where
   any-at : (n i : ℕ) → i < n → isRoots (pairIn store places i) ≡ true → anyRoots (pairsIn store places n) ≡ true
   any-at zero i h e = absurd (omega arith)
   any-at (suc n) i h e = elim (ℕ-discrete i n) [
-    yes k ↦ any-next n ∙ or-right (anyRoots (pairsIn store places n)) (isRoots (pairIn store places n)) (rw k at e)
+    | yes k ↦ any-next n ∙ or-right (anyRoots (pairsIn store places n)) (isRoots (pairIn store places n)) (rw k at e)
     | no k ↦ any-next n ∙ rw (any-at n i (omega arith) e) refl
   ]
 
@@ -93,7 +93,7 @@ module _ (store : Text) (places : List ℕ) where
       → Keyed store places (n + 1) (set keys n e)
   unfolding Keyed
   keyed-on n keys e k l h m f i j = elim (ℕ-discrete i n) [
-    yes z ↦ rw z (getD-set-same keys n e 0 l ∙ m ∙ ap elements h)
+    | yes z ↦ rw z (getD-set-same keys n e 0 l ∙ m ∙ ap elements h)
     | no z ↦ getD-set-other keys n i e 0 z ∙ f i (omega arith)
   ]
 
@@ -101,7 +101,7 @@ module _ (store : Text) (places : List ℕ) where
       → Topped store places (n + 1) top′
   unfolding Topped
   topped-on n top top′ e k h m g f i j = elim (ℕ-discrete i n) [
-    yes z ↦ rw z (omega (arith, g .1, m, ap elements h))
+    | yes z ↦ rw z (omega (arith, g .1, m, ap elements h))
     | no z ↦ omega (arith, g .0, f i (omega arith))
   ]
 

@@ -62,7 +62,7 @@ insert-on x y l h = rw (lt-leb (key x) (key y) h)
 pass : (x : Pair) (e : ℕ) (l b : List Pair) → e < key x → insert x (level e l ++ b) ≡ level e l ++ insert x b
 pass x e [] b h = rw (level-nil e)
 pass x e (y ∷ l) b h = elim (ℕ-discrete (key y) e) [
-  yes k ↦ rw (level-in e y l k) (insert-on x y (level e l ++ b) (omega arith) ∙ ap (λ (z : List Pair). y ∷ z) (pass x e l b h))
+  | yes k ↦ rw (level-in e y l k) (insert-on x y (level e l ++ b) (omega arith) ∙ ap (λ (z : List Pair). y ∷ z) (pass x e l b h))
   | no k ↦ rw (level-out e y l k) (pass x e l b h)
 ]
 
@@ -79,7 +79,7 @@ pass-all x (suc e) l b h =
 first : (x : Pair) (e : ℕ) (l : List Pair) → key x ≤ e → insert x (level e l) ≡ x ∷ level e l
 first x e [] h = rw (level-nil e) (insert-nil x)
 first x e (y ∷ l) h = elim (ℕ-discrete (key y) e) [
-  yes k ↦ rw (level-in e y l k) (insert-here x y (level e l) (omega arith))
+  | yes k ↦ rw (level-in e y l k) (insert-here x y (level e l) (omega arith))
   | no k ↦ rw (level-out e y l k) (first x e l h)
 ]
 
@@ -96,7 +96,7 @@ before x (y ∷ a) b h = go (leb (key x) (key y)) (before x a b h)
 insert-levels : (x : Pair) (e : ℕ) (l : List Pair) → key x < e → insert x (levels e l) ≡ levels e (x ∷ l)
 insert-levels x zero l h = absurd (omega arith)
 insert-levels x (suc e) l h = elim (ℕ-discrete (key x) e) [
-  yes k ↦ rw (levels-suc e l, levels-suc e (x ∷ l), levels-above e x l (omega arith), level-in e x l k) (pass-all x e l (level e l) (omega arith) ∙ ap (λ (z : List Pair). levels e l ++ z) (first x e l (omega arith)))
+  | yes k ↦ rw (levels-suc e l, levels-suc e (x ∷ l), levels-above e x l (omega arith), level-in e x l k) (pass-all x e l (level e l) (omega arith) ∙ ap (λ (z : List Pair). levels e l ++ z) (first x e l (omega arith)))
   | no k ↦ rw (levels-suc e l, levels-suc e (x ∷ l), level-out e x l k, ← insert-levels x e l (omega arith)) (before x (levels e l) (level e l) (first x e l (omega arith)))
 ]
 
@@ -115,7 +115,7 @@ more : (x : Pair) (e : ℕ) (l : List Pair) → length (levels e (x ∷ l)) ≤ 
 unfolding levels
 more x zero l = omega arith
 more x (suc e) l = elim (ℕ-discrete (key x) e) [
-  yes k ↦ rw (levels-above e x l (omega arith), level-in e x l k, length-append (levels e l) (x ∷ level e l), length-append (levels e l) (level e l)) (omega arith)
+  | yes k ↦ rw (levels-above e x l (omega arith), level-in e x l k, length-append (levels e l) (x ∷ level e l), length-append (levels e l) (level e l)) (omega arith)
   | no k ↦ rw (level-out e x l k, length-append (levels e (x ∷ l)) (level e l), length-append (levels e l) (level e l)) (omega (arith, more x e l))
 ]
 

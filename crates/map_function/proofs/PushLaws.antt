@@ -27,8 +27,10 @@ pair-same store a b i j h =
     let g′ : 4 * j + 2 ≡ 2 * (2 * j + 1) = omega arith in
     let k : 4 * i + 3 ≡ 2 * (2 * i + 1) + 1 = omega arith in
     let k′ : 4 * j + 3 ≡ 2 * (2 * j + 1) + 1 = omega arith in
-    rw (text-same store a b (2 * i) (2 * j) (rw (e, e′) at (h 0 (omega arith))) (rw (f, f′) at (h 1 (omega arith))),
-    text-same store a b (2 * i + 1) (2 * j + 1) (rw (g, g′) at (h 2 (omega arith))) (rw (k, k′) at (h 3 (omega arith)))) refl
+    rw (
+      text-same store a b (2 * i) (2 * j) (rw (e, e′) at (h 0 (omega arith))) (rw (f, f′) at (h 1 (omega arith))),
+      text-same store a b (2 * i + 1) (2 * j + 1) (rw (g, g′) at (h 2 (omega arith))) (rw (k, k′) at (h 3 (omega arith))),
+    ) refl
 
 -- and a list on the numbers of its pairs
 pub list-same : (store : Text) (a b : List ℕ) (n : ℕ) → ((k : ℕ) → k < 4 * n → getD a k 0 ≡ getD b k 0) → pairsIn store a n ≡ pairsIn store b n
@@ -60,5 +62,7 @@ pub pushed : (store : Text) (places : List ℕ) (i : ℕ) (kept : List ℕ) (w :
     → pairsIn store (over (4 * w) (four places i) kept) (suc w) ≡ pairsIn store kept w ++ pairIn store places i ∷ []
 unfolding pairsIn
 pushed store places i kept w h =
-    rw (list-same store (over (4 * w) (four places i) kept) kept w (λ k l. over-below (4 * w) (four places i) kept k (omega arith) l),
-    pair-same store (over (4 * w) (four places i) kept) places w i (λ k l. over-inside (4 * w) (four places i) kept k (omega arith) l ∙ four-at places i k l)) refl
+    rw (
+      list-same store (over (4 * w) (four places i) kept) kept w (λ k l. over-below (4 * w) (four places i) kept k (omega arith) l),
+      pair-same store (over (4 * w) (four places i) kept) places w i (λ k l. over-inside (4 * w) (four places i) kept k (omega arith) l ∙ four-at places i k l),
+    ) refl
