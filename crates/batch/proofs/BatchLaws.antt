@@ -21,7 +21,7 @@ use Rattle.codes.specs.Code.{replyCode}
 use Rattle.asking.specs.Asking.{lentList, asked}
 use Rattle.parts.specs.Strip.{strip}
 use Rattle.carry.specs.Quick.{quick, quickTranslate}
-use Rattle.mapping.specs.declared.MapFunction.{MapFunction}
+use Rattle.map_function.specs.declared.MapFunction.{MapFunction}
 use Rattle.mapping.specs.declared.Way.{Way}
 use Rattle.mapping.specs.declared.Way.the-variants.{Out, Home, Translated}
 use Rattle.mapping.specs.Calls.{mapOf}

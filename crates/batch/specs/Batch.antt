@@ -13,7 +13,7 @@ use Rattle.path.specs.declared.Asked.{Asked}
 use Rattle.path.specs.declared.Asked.the-variants.{Passed, Refused}
 use Rattle.path.specs.Outcome.{Outcome, refused, reply, memory}
 use Rattle.codes.specs.Code.{replyCode}
-use Rattle.mapping.specs.declared.MapFunction.{MapFunction}
+use Rattle.map_function.specs.declared.MapFunction.{MapFunction}
 use Rattle.mapping.specs.declared.Way.{Way}
 use Rattle.mapping.specs.Way.{wayCall}
 

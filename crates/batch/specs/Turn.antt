@@ -8,7 +8,7 @@ use Rattle.pairs.specs.Places.{inside, textAt}
 use Rattle.path.specs.declared.Refusal.the-variants.{TooLong}
 use Rattle.path.specs.declared.Asked.{Asked}
 use Rattle.path.specs.Outcome.{Outcome, refused, memory}
-use Rattle.mapping.specs.declared.MapFunction.{MapFunction}
+use Rattle.map_function.specs.declared.MapFunction.{MapFunction}
 use Rattle.mapping.specs.declared.Way.{Way}
 use Rattle.mapping.specs.Way.{afterList}
 

@@ -121,11 +121,11 @@ pub extern "C" fn mudvizsor_path_ancestors(path: &[u8], lengths: &mut [usize]) -
 }
 
 // The map of a list, with no time offset.
-fn map_of(count: usize, mark: bool) -> mapping::MapFunction
+fn map_of(count: usize, mark: bool) -> map_function::MapFunction
     ensures { λ r. ⌜ r ≡ timeless count mark ⌝ }
 {
     let time = layer_offset::LayerOffset::IDENTITY;
-    mapping::MapFunction {
+    map_function::MapFunction {
         count,
         has_root_identity: mark,
         time_offset: time,

@@ -1,3 +1,5 @@
 pub mod LevelLaws
 pub mod PushLaws
 pub mod KeepWays
+pub mod NewWays
+pub mod ReadWays

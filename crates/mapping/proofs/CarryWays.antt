@@ -19,7 +19,7 @@ use Rattle.asking.proofs.PassLaws.{first-sound, text-short, text-legal}
 use Rattle.maps.specs.Map.{Map, plainOut, plainHome, translated}
 use Rattle.carry.specs.Quick.{quick, quickTranslate}
 use Rattle.carry.proofs.QuickLaws.{quick-out, quick-home, quick-translated}
-use Rattle.mapping.specs.declared.MapFunction.{MapFunction}
+use Rattle.map_function.specs.declared.MapFunction.{MapFunction}
 use Rattle.mapping.specs.Calls.{carrying, mapOf, mapSourceToTargetCall, mapTargetToSourceCall, translateToTargetCall}
 
 module _ (store : Text) (places : List ℕ) (f : MapFunction) (p : Text) (room : ℕ) where

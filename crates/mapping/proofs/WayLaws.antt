@@ -22,7 +22,7 @@ use Rattle.parts.specs.Strip.{strip}
 use Rattle.asking.specs.Asking.{Lent, lentList, listFits, listAll, listCounts, every, firstNo, asked}
 use Rattle.maps.specs.Map.{Map}
 use Rattle.carry.specs.Quick.{quick, quickTranslate}
-use Rattle.mapping.specs.declared.MapFunction.{MapFunction}
+use Rattle.map_function.specs.declared.MapFunction.{MapFunction}
 use Rattle.mapping.specs.declared.Way.{Way}
 use Rattle.mapping.specs.declared.Way.the-variants.{Out, Home, Translated}
 use Rattle.mapping.specs.Calls.{mapOf}

@@ -4,7 +4,7 @@ use mathlib.Core.List.{List, [], _∷_}
 use Rattle.text.specs.Text.{Text}
 use Rattle.path.specs.Outcome.{Outcome, answered, given}
 use Rattle.asking.specs.Asking.{lentList, asked}
-use Rattle.mapping.specs.declared.MapFunction.{MapFunction}
+use Rattle.map_function.specs.declared.MapFunction.{MapFunction}
 use Rattle.maps.specs.Map.{Map, lentMap, plainOut, plainHome, translated}
 
 -- questions 1 to 5 of a path and a list of pairs, and 6 to 8 of what the map gives

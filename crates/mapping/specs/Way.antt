@@ -12,7 +12,7 @@ use Rattle.path.specs.Outcome.{Outcome, answered}
 use Rattle.path.specs.Calls.{newCall}
 use Rattle.maps.specs.Map.{Map}
 use Rattle.carry.specs.Quick.{quick, quickTranslate}
-use Rattle.mapping.specs.declared.MapFunction.{MapFunction}
+use Rattle.map_function.specs.declared.MapFunction.{MapFunction}
 use Rattle.mapping.specs.declared.Way.{Way}
 use Rattle.mapping.specs.declared.Way.the-variants.{Out, Home, Translated}
 use Rattle.mapping.specs.Calls.{mapOf, mapSourceToTargetCall, mapTargetToSourceCall, translateToTargetCall}

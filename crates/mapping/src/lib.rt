@@ -12,13 +12,6 @@ ghost use Rattle.mapping.specs.Hand.{within, handed};
 ghost use Rattle.mapping.specs.Calls.{mapSourceToTargetCall, mapTargetToSourceCall, translateToTargetCall};
 ghost use Rattle.mapping.specs.Way.{wayCall, earlierOf, quickWay, afterList};
 
-// A map: how many pairs of the lent list are its own, the root-identity mark, and the time offset.
-pub struct MapFunction {
-    pub count: usize,
-    pub has_root_identity: bool,
-    pub time_offset: layer_offset::LayerOffset,
-}
-
 // Which way a path goes through a map.
 pub enum Way {
     // as by `map_source_to_target`
@@ -147,7 +140,7 @@ pub fn carry_after(
     list: path::Asked,
     store: &[u8],
     places: &[usize],
-    map: MapFunction,
+    map: map_function::MapFunction,
     way: Way,
     path: &[u8],
     out: &mut [u8],
@@ -171,7 +164,7 @@ pub fn carry_after(
 fn call(
     store: &[u8],
     places: &[usize],
-    map: MapFunction,
+    map: map_function::MapFunction,
     way: Way,
     path: &[u8],
     out: &mut [u8],
@@ -187,7 +180,7 @@ fn call(
 pub fn map_source_to_target(
     store: &[u8],
     places: &[usize],
-    map: MapFunction,
+    map: map_function::MapFunction,
     path: &[u8],
     out: &mut [u8],
 ) -> path::Reply
@@ -201,7 +194,7 @@ pub fn map_source_to_target(
 pub fn map_target_to_source(
     store: &[u8],
     places: &[usize],
-    map: MapFunction,
+    map: map_function::MapFunction,
     path: &[u8],
     out: &mut [u8],
 ) -> path::Reply
@@ -215,7 +208,7 @@ pub fn map_target_to_source(
 pub fn translate_to_target(
     store: &[u8],
     places: &[usize],
-    map: MapFunction,
+    map: map_function::MapFunction,
     path: &[u8],
     out: &mut [u8],
 ) -> path::Reply

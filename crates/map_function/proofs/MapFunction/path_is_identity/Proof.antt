@@ -1,0 +1,13 @@
+use borrow.Author.Needs.{needs}
+use Rattle.map_function.proofs.ReadWays.{reading}
+use Rattle.map_function.proofs.MapFunction.path_is_identity.Statement.{statement}
+use Rattle.map_function.proofs.MapFunction.path_is_identity.Tie as tie
+
+returns : tie.Need-returns
+returns c = search (needs, reading)
+
+returns-2 : tie.Need-returns-2
+returns-2 c = search (needs, reading)
+
+pub path-is-identity-spec : {M : Type 1} → statement M
+path-is-identity-spec = tie.close (tie.spec returns returns-2)
