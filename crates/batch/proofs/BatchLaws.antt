@@ -10,7 +10,6 @@ use lib.Seq.{length-take-le, take-append-add, drop-append-add}
 use borrow.Author.Tests.{le-leb, lt-leb, leb-true, leb-false}
 use Rattle.text.specs.Text.{Text}
 use Rattle.text.proofs.BoolLaws.{told-true, told-false, and-l, and-r}
-use Rattle.grammar.specs.Legal.{legal, fits}
 use Rattle.pairs.specs.Places.{inside, textAt}
 use Rattle.path.specs.declared.Refusal.{Refusal}
 use Rattle.path.specs.declared.Refusal.the-variants.{TooLong, NoRoom}
@@ -19,7 +18,7 @@ use Rattle.path.specs.declared.Asked.the-variants.{Passed, Refused}
 use Rattle.path.specs.declared.Reply.{Reply}
 use Rattle.path.specs.Outcome.{Outcome, path, refused, reply, memory, lent, answered}
 use Rattle.codes.specs.Code.{replyCode}
-use Rattle.asking.specs.Asking.{Lent, lentList, every, asked}
+use Rattle.asking.specs.Asking.{lentList, asked}
 use Rattle.parts.specs.Strip.{strip}
 use Rattle.carry.specs.Quick.{quick, quickTranslate}
 use Rattle.map_function.specs.declared.MapFunction.{MapFunction}
@@ -29,7 +28,7 @@ use Rattle.mapping.specs.Calls.{mapOf}
 use Rattle.mapping.specs.Way.{wayCall, afterList}
 use Rattle.mapping.proofs.HandWays.{Short, short-refused, short-cond, short-quick, short-translate}
 use Rattle.mapping.proofs.CarryWays.{out-asked, home-asked, translate-asked}
-use Rattle.mapping.proofs.WayLaws.{after-is-call}
+use Rattle.mapping.proofs.WayLaws.{call-is-after}
 use Rattle.batch.specs.Batch.{carriedAt, blocks, numbers, enough, allAsked, allBytes, allReplies}
 use Rattle.batch.specs.Turn.{spotAfter, inBlock}
 
@@ -95,17 +94,11 @@ module _ (o : ℕ → Outcome) (i : ℕ) (out : Text) (h : 255 * i + 255 ≤ len
   block-reply r a e f = f ∙ rw (e, size, long)
 
 -- with the list's own answer a turn gives what the single call gives
-ask-empty : (l : Lent) → asked (l ∷ []) ([] ∷ []) [] ≡ asked (l ∷ []) [] []
-unfolding asked every fits legal
-ask-empty l = refl
-
 module _ (way : Way) (store : Text) (places : List ℕ) (f : MapFunction) (texts : Text) (spots : List ℕ) where
   pub spot-is : (list : Asked) → list ≡ asked (lentList store places (f .count) ∷ []) ([] ∷ []) [] → (i : ℕ)
       → spotAfter list way store places f texts spots i 255 ≡ carriedAt way store places f texts spots i
   unfolding spotAfter carriedAt
-  spot-is list h i =
-      rw (h, ask-empty (lentList store places (f .count)))
-      (ap (λ (o : Outcome). cond (inside texts spots i) o (refused TooLong)) (after-is-call way store places f (textAt texts spots i) 255))
+  spot-is list h i = ap (λ (o : Outcome). cond (inside texts spots i) o (refused TooLong)) (sym (call-is-after way store places f (textAt texts spots i) 255 list h))
 
   -- it never makes a path of more than 255 bytes
   short-answered : (a : Asked) (room : ℕ) (o : Outcome) → Short o → Short (answered a room o)

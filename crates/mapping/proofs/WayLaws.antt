@@ -137,3 +137,13 @@ unfolding afterList wayCall quickWay
 after-is-call Out store places f p room = rw (one-by-one (lentList store places (f .count)) p) (sym (out-asked store places f p room))
 after-is-call Home store places f p room = rw (one-by-one (lentList store places (f .count)) p) (sym (home-asked store places f p room))
 after-is-call Translated store places f p room = rw (one-by-one (lentList store places (f .count)) p) (sym (translate-asked store places f p room))
+
+-- the list's own questions may be put with an empty path, which passes them all
+ask-empty : (l : Lent) → asked (l ∷ []) ([] ∷ []) [] ≡ asked (l ∷ []) [] []
+unfolding asked every fits legal
+ask-empty l = refl
+
+pub call-is-after : (way : Way) (store : Text) (places : List ℕ) (f : MapFunction) (p : Text) (room : ℕ) (list : Asked)
+    → list ≡ asked (lentList store places (f .count) ∷ []) ([] ∷ []) [] → wayCall way store places f p room ≡ afterList list way store places f p room
+call-is-after way store places f p room list h =
+    sym (after-is-call way store places f p room) ∙ ap (λ (a : Asked). afterList a way store places f p room) (sym (h ∙ ask-empty (lentList store places (f .count))))

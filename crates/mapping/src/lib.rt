@@ -9,8 +9,8 @@ ghost use Rattle.path.specs.Outcome.{reply, memory};
 ghost use Rattle.maps.specs.Map.{lentMap};
 ghost use Rattle.carry.specs.Quick.{quick, quickTranslate};
 ghost use Rattle.mapping.specs.Hand.{within, handed};
-ghost use Rattle.mapping.specs.Calls.{carrying, mapSourceToTargetCall, mapTargetToSourceCall, translateToTargetCall};
-ghost use Rattle.mapping.specs.Way.{earlierOf, quickWay, afterList};
+ghost use Rattle.mapping.specs.Calls.{mapSourceToTargetCall, mapTargetToSourceCall, translateToTargetCall};
+ghost use Rattle.mapping.specs.Way.{wayCall, earlierOf, quickWay, afterList};
 
 // Which way a path goes through a map.
 pub enum Way {
@@ -97,96 +97,6 @@ fn translate_stripped(
     translate_out(store, places, n, mark, &plain[..k], out)
 }
 
-// Plain mapping with its questions, forward or backwards.
-fn map_asked(
-    store: &[u8],
-    places: &[usize],
-    count: usize,
-    mark: bool,
-    invert: bool,
-    path: &[u8],
-    out: &mut [u8],
-) -> path::Reply
-    ensures { λ r. ⌜ r ≡ reply (carrying (now (store .entry)) (now (places .entry)) count (now (path .entry)) (length (now (out .entry))) (quick invert (lentMap (now (store .entry)) (now (places .entry)) count mark) (now (path .entry)))) ⌝ }
-    ensures { λ r. ⌜ now (out .exit) ≡ memory (carrying (now (store .entry)) (now (places .entry)) count (now (path .entry)) (length (now (out .entry))) (quick invert (lentMap (now (store .entry)) (now (places .entry)) count mark) (now (path .entry)))) (now (out .entry)) ⌝ }
-{
-    let q = asking::ask_path(store, places, count, path);
-    if let path::Asked::Refused(x) = q {
-        return path::Reply::Refused(x);
-    }
-    if out.len() < 255 {
-        return path::Reply::Refused(path::Refusal::NoRoom);
-    }
-    map_out(store, places, count, mark, invert, path, out)
-}
-
-// Where the map takes the path.
-pub fn map_source_to_target(
-    store: &[u8],
-    places: &[usize],
-    map: map_function::MapFunction,
-    path: &[u8],
-    out: &mut [u8],
-) -> path::Reply
-    ensures { λ r. ⌜ r ≡ reply (mapSourceToTargetCall (now (store .entry)) (now (places .entry)) map (now (path .entry)) (length (now (out .entry)))) ⌝ }
-    ensures { λ r. ⌜ now (out .exit) ≡ memory (mapSourceToTargetCall (now (store .entry)) (now (places .entry)) map (now (path .entry)) (length (now (out .entry)))) (now (out .entry)) ⌝ }
-{
-    map_asked(
-        store,
-        places,
-        map.count,
-        map.has_root_identity,
-        false,
-        path,
-        out,
-    )
-}
-
-// Where the map takes the path back to.
-pub fn map_target_to_source(
-    store: &[u8],
-    places: &[usize],
-    map: map_function::MapFunction,
-    path: &[u8],
-    out: &mut [u8],
-) -> path::Reply
-    ensures { λ r. ⌜ r ≡ reply (mapTargetToSourceCall (now (store .entry)) (now (places .entry)) map (now (path .entry)) (length (now (out .entry)))) ⌝ }
-    ensures { λ r. ⌜ now (out .exit) ≡ memory (mapTargetToSourceCall (now (store .entry)) (now (places .entry)) map (now (path .entry)) (length (now (out .entry)))) (now (out .entry)) ⌝ }
-{
-    map_asked(
-        store,
-        places,
-        map.count,
-        map.has_root_identity,
-        true,
-        path,
-        out,
-    )
-}
-
-// Where the map takes the path without its selections, if the same pair takes it back.
-pub fn translate_to_target(
-    store: &[u8],
-    places: &[usize],
-    map: map_function::MapFunction,
-    path: &[u8],
-    out: &mut [u8],
-) -> path::Reply
-    ensures { λ r. ⌜ r ≡ reply (translateToTargetCall (now (store .entry)) (now (places .entry)) map (now (path .entry)) (length (now (out .entry)))) ⌝ }
-    ensures { λ r. ⌜ now (out .exit) ≡ memory (translateToTargetCall (now (store .entry)) (now (places .entry)) map (now (path .entry)) (length (now (out .entry)))) (now (out .entry)) ⌝ }
-{
-    let count = map.count;
-    let mark = map.has_root_identity;
-    let q = asking::ask_path(store, places, count, path);
-    if let path::Asked::Refused(x) = q {
-        return path::Reply::Refused(x);
-    }
-    if out.len() < 255 {
-        return path::Reply::Refused(path::Refusal::NoRoom);
-    }
-    translate_stripped(store, places, count, mark, path, out)
-}
-
 // Of two answers the earlier refusal.
 fn earlier(a: path::Asked, b: path::Asked) -> path::Asked
     ensures { λ r. ⌜ r ≡ earlierOf a b ⌝ }
@@ -248,4 +158,62 @@ pub fn carry_after(
         return path::Reply::Refused(path::Refusal::NoRoom);
     }
     go(store, places, count, mark, way, path, out)
+}
+
+// One of the three calls: the list's own questions, then the path's.
+fn call(
+    store: &[u8],
+    places: &[usize],
+    map: map_function::MapFunction,
+    way: Way,
+    path: &[u8],
+    out: &mut [u8],
+) -> path::Reply
+    ensures { λ r. ⌜ r ≡ reply (wayCall way (now (store .entry)) (now (places .entry)) map (now (path .entry)) (length (now (out .entry)))) ⌝ }
+    ensures { λ r. ⌜ now (out .exit) ≡ memory (wayCall way (now (store .entry)) (now (places .entry)) map (now (path .entry)) (length (now (out .entry)))) (now (out .entry)) ⌝ }
+{
+    let list = asking::ask_path(store, places, map.count, &path[..0]);
+    carry_after(list, store, places, map, way, path, out)
+}
+
+// Where the map takes the path.
+pub fn map_source_to_target(
+    store: &[u8],
+    places: &[usize],
+    map: map_function::MapFunction,
+    path: &[u8],
+    out: &mut [u8],
+) -> path::Reply
+    ensures { λ r. ⌜ r ≡ reply (mapSourceToTargetCall (now (store .entry)) (now (places .entry)) map (now (path .entry)) (length (now (out .entry)))) ⌝ }
+    ensures { λ r. ⌜ now (out .exit) ≡ memory (mapSourceToTargetCall (now (store .entry)) (now (places .entry)) map (now (path .entry)) (length (now (out .entry)))) (now (out .entry)) ⌝ }
+{
+    call(store, places, map, Way::Out, path, out)
+}
+
+// Where the map takes the path back to.
+pub fn map_target_to_source(
+    store: &[u8],
+    places: &[usize],
+    map: map_function::MapFunction,
+    path: &[u8],
+    out: &mut [u8],
+) -> path::Reply
+    ensures { λ r. ⌜ r ≡ reply (mapTargetToSourceCall (now (store .entry)) (now (places .entry)) map (now (path .entry)) (length (now (out .entry)))) ⌝ }
+    ensures { λ r. ⌜ now (out .exit) ≡ memory (mapTargetToSourceCall (now (store .entry)) (now (places .entry)) map (now (path .entry)) (length (now (out .entry)))) (now (out .entry)) ⌝ }
+{
+    call(store, places, map, Way::Home, path, out)
+}
+
+// Where the map takes the path without its selections, if the same pair takes it back.
+pub fn translate_to_target(
+    store: &[u8],
+    places: &[usize],
+    map: map_function::MapFunction,
+    path: &[u8],
+    out: &mut [u8],
+) -> path::Reply
+    ensures { λ r. ⌜ r ≡ reply (translateToTargetCall (now (store .entry)) (now (places .entry)) map (now (path .entry)) (length (now (out .entry)))) ⌝ }
+    ensures { λ r. ⌜ now (out .exit) ≡ memory (translateToTargetCall (now (store .entry)) (now (places .entry)) map (now (path .entry)) (length (now (out .entry)))) (now (out .entry)) ⌝ }
+{
+    call(store, places, map, Way::Translated, path, out)
 }
