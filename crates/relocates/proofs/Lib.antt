@@ -1,1 +1,2 @@
 mod StatusWays
+mod MarkWays

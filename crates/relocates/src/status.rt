@@ -2,12 +2,14 @@
 // numbers.
 ghost use mathlib.Core.Path.{_≡_};
 ghost use mathlib.Core.Bool.{not, _&&_};
-ghost use Prim.Native.Nat.{_+_};
+ghost use Prim.Native.Nat.{_+_, _≤_};
 ghost use lib.Dec.{eqb};
-ghost use Rattle.text.specs.Text.{isNil, equal};
+ghost use lib.ListN.{length};
+ghost use Rattle.text.specs.Text.{isNil, equal, written};
 ghost use Rattle.prefix.specs.Prefix.{hasPrefix};
 ghost use Rattle.pairs.specs.Places.{pairIn, pairsIn};
-ghost use Rattle.relocates.specs.Status.{pairOf, structural, reserves, duplicate, alike, pairConflicts, against};
+ghost use Rattle.relocates.specs.declared.RelocateOccurrence.the-variants.{Active};
+ghost use Rattle.relocates.specs.Status.{pairOf, structural, reserves, duplicate, alike, pairConflicts, against, occurrenceOr, statusByte, marks, statuses, marked};
 
 // Is the pair dropped whatever stands beside it? (Rust: relocate_invalid_reason)
 pub fn is_structural(source: &[u8], target: &[u8]) -> bool
@@ -118,4 +120,82 @@ fn conflicts_with(store: &[u8], places: &[usize], i: usize, j: usize, mark: u8) 
         return true;
     }
     relocate_pair_conflicts(sa, ta, sb, tb)
+}
+
+// What becomes of pair i before conflicts are sought.
+fn first_occurrence(store: &[u8], places: &[usize], i: usize) -> crate::RelocateOccurrence
+    ensures { λ r. ⌜ r ≡ occurrenceOr Active (pairsIn (now (store .entry)) (now (places .entry)) (i + 1)) i ⌝ }
+{
+    let s = pairs::key_at(store, places, i, false);
+    let t = pairs::key_at(store, places, i, true);
+    if is_structural(s, t) {
+        return crate::RelocateOccurrence::DroppedStructural;
+    }
+    if is_duplicate(store, places, i) {
+        return crate::RelocateOccurrence::DroppedDuplicateSource;
+    }
+    crate::RelocateOccurrence::Active
+}
+
+// Document 01's byte of a status.
+pub fn status_byte(o: crate::RelocateOccurrence) -> u8
+    ensures { λ r. ⌜ r ≡ statusByte o ⌝ }
+{
+    match o {
+        crate::RelocateOccurrence::Active => 0,
+        crate::RelocateOccurrence::DroppedStructural => 1,
+        crate::RelocateOccurrence::DroppedDuplicateSource => 2,
+        crate::RelocateOccurrence::DroppedConflict => 3,
+    }
+}
+
+// Writes the statuses of the first n pairs before conflicts are sought.
+fn mark_pairs(store: &[u8], places: &[usize], n: usize, out: &mut [u8])
+    requires { ⌜ n ≤ length (now out) ⌝ }
+    ensures { λ _. ⌜ now (out .exit) ≡ written (marks (pairsIn (now (store .entry)) (now (places .entry)) n) n) (now (out .entry)) ⌝ }
+{
+    let mut i = 0;
+    while i < n {
+        out[i] = status_byte(first_occurrence(store, places, i));
+        i += 1;
+    }
+}
+
+// Writes the statuses of the first n pairs. The search over the other pairs stops at the first reason
+// found.
+fn settle_pairs(store: &[u8], places: &[usize], n: usize, mark: &[u8; 64], out: &mut [u8])
+    requires { ⌜ (n ≤ 64) × (n ≤ length (now out)) ⌝ }
+    requires { ⌜ marked (pairsIn (now store) (now places) n) (now mark) ⌝ }
+    ensures { λ _. ⌜ now (out .exit) ≡ written (statuses (pairsIn (now (store .entry)) (now (places .entry)) n) n) (now (out .entry)) ⌝ }
+{
+    let mut i = 0;
+    'pairs: while i < n {
+        let own = mark[i];
+        if own != 0 {
+            out[i] = own;
+            i += 1;
+            continue 'pairs;
+        }
+        let mut j = 0;
+        while j < n {
+            if conflicts_with(store, places, i, j, mark[j]) {
+                out[i] = status_byte(crate::RelocateOccurrence::DroppedConflict);
+                i += 1;
+                continue 'pairs;
+            }
+            j += 1;
+        }
+        out[i] = status_byte(crate::RelocateOccurrence::Active);
+        i += 1;
+    }
+}
+
+// Writes the statuses of the first n pairs.
+pub(crate) fn write_statuses(store: &[u8], places: &[usize], n: usize, out: &mut [u8])
+    requires { ⌜ (n ≤ 64) × (n ≤ length (now out)) ⌝ }
+    ensures { λ _. ⌜ now (out .exit) ≡ written (statuses (pairsIn (now (store .entry)) (now (places .entry)) n) n) (now (out .entry)) ⌝ }
+{
+    let mut mark = [0u8; 64];
+    mark_pairs(store, places, n, &mut mark);
+    settle_pairs(store, places, n, &mark, out);
 }
