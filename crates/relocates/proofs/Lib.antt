@@ -1,2 +1,4 @@
 mod StatusWays
 mod MarkWays
+mod SearchWays
+mod StepWays

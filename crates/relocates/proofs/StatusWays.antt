@@ -19,11 +19,11 @@ use Rattle.pairs.specs.Places.{textAt, pairIn, pairsIn, keyAt}
 use Rattle.pairs.proofs.PlaceLaws.{pairsIn-at, pairsIn-length}
 use Rattle.relocates.specs.Status.{pairOf, someBelow, structural, reserves, duplicate, alike, pairConflicts, against}
 
-nil-length : (t : Text) → length t ≡ 0 → isNil t ≡ true
+pub nil-length : (t : Text) → length t ≡ 0 → isNil t ≡ true
 nil-length [] h = refl
 nil-length (a ∷ t) h = absurd (omega arith)
 
-nil-not : (t : Text) → length t ≢ 0 → isNil t ≡ false
+pub nil-not : (t : Text) → length t ≢ 0 → isNil t ≡ false
 nil-not [] h = absurd (h refl)
 nil-not (a ∷ t) h = refl
 

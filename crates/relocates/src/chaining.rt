@@ -1,0 +1,115 @@
+// Carrying a path through a relocate list. Maps measure a key in elements, chaining measures it in bytes.
+ghost use mathlib.Core.Path.{_≡_};
+ghost use mathlib.Core.Bool.{cond};
+ghost use mathlib.Core.Option.{some};
+ghost use Prim.Native.Nat.{_≤_};
+ghost use lib.ListN.{length};
+ghost use Rattle.text.specs.Text.{isSome};
+ghost use Rattle.prefix.specs.Join.{replacePrefix};
+ghost use Rattle.pairs.specs.Places.{pairsIn};
+ghost use Rattle.relocates.specs.Status.{pairOf};
+ghost use Rattle.relocates.specs.Chain.{isSkipped, altered, tried, longest, nearest, chain};
+ghost use Rattle.relocates.specs.Search.{skipOf, chosenOf, considered, stepOf, stepMemory, chainedIn, within};
+
+// A number of bytes: how chaining measures a key.
+pub struct Bytes(pub usize);
+
+// What a search has found so far.
+pub struct Longest {
+    pub found: bool,
+    pub at: usize,
+    pub bytes: Bytes,
+}
+
+// What one replacement comes to.
+pub enum Step {
+    // no pair gives a path
+    Still,
+    // how many bytes were made
+    Made(usize),
+    Refused(path::Refusal),
+}
+
+// Are the pairs with this source left aside?
+fn is_skipped(skips: bool, skipped: &[u8], source: &[u8]) -> bool
+    ensures { λ r. ⌜ r ≡ isSkipped (skipOf skips (now (skipped .entry))) (now (source .entry)) ⌝ }
+{
+    if !skips {
+        return false;
+    }
+    text::is_equal(source, skipped)
+}
+
+// Does the path have the old prefix and, where that counts, become another one by the new one?
+fn does_replace(alters: bool, path: &[u8], old: &[u8], new: &[u8]) -> bool
+    ensures { λ r. ⌜ r ≡ isSome (cond alters (altered (now (path .entry)) (replacePrefix (now (path .entry)) (now (old .entry)) (now (new .entry)))) (replacePrefix (now (path .entry)) (now (old .entry)) (now (new .entry)))) ⌝ }
+{
+    if !prefix::has_prefix(path, old) {
+        return false;
+    }
+    if !alters {
+        return true;
+    }
+    let k = old.len();
+    !prefix::is_join(old, new, &path[k..], path)
+}
+
+// Does the pair of the old and the new prefix give a path?
+fn does_try(alters: bool, skips: bool, skipped: &[u8], path: &[u8], old: &[u8], new: &[u8]) -> bool
+    ensures { λ r. ⌜ r ≡ isSome (tried alters (skipOf skips (now (skipped .entry))) (now (path .entry)) (pairOf (now (old .entry)) (now (new .entry)))) ⌝ }
+{
+    if new.len() == 0 {
+        return false;
+    }
+    if is_skipped(skips, skipped, old) {
+        return false;
+    }
+    does_replace(alters, path, old, new)
+}
+
+// The longer of what was found and the key at i, where that gives a path.
+fn consider(f: Longest, tries: bool, key: &[u8], i: usize) -> Longest
+    ensures { λ r. ⌜ r ≡ considered f tries (now (key .entry)) i ⌝ }
+{
+    if !tries {
+        return f;
+    }
+    let n = Bytes(key.len());
+    if f.found {
+        if n.0 < f.bytes.0 {
+            return f;
+        }
+    }
+    Longest {
+        found: true,
+        at: i,
+        bytes: n,
+    }
+}
+
+// The pair that gives a path and whose source is longest in bytes, the last on a tie.
+pub fn longest_source(
+    store: &[u8],
+    places: &[usize],
+    n: usize,
+    alters: bool,
+    skips: bool,
+    skipped: &[u8],
+    path: &[u8],
+) -> Longest
+    ensures { λ r. ⌜ chosenOf r ≡ longest (tried alters (skipOf skips (now (skipped .entry))) (now (path .entry))) (pairsIn (now (store .entry)) (now (places .entry)) n) n ⌝ }
+{
+    let mut f = Longest {
+        found: false,
+        at: 0,
+        bytes: Bytes(0),
+    };
+    let mut i = 0;
+    while i < n {
+        let old = pairs::key_at(store, places, i, false);
+        let new = pairs::key_at(store, places, i, true);
+        f = consider(f, does_try(alters, skips, skipped, path, old, new), old, i);
+        i += 1;
+    }
+    f
+}
