@@ -113,3 +113,35 @@ pub fn longest_source(
     }
     f
 }
+
+// One replacement by that pair, made in memory of the caller's own, with questions 7 and 8.
+pub(crate) fn replace_once(
+    store: &[u8],
+    places: &[usize],
+    n: usize,
+    alters: bool,
+    skips: bool,
+    skipped: &[u8],
+    path: &[u8],
+    made: &mut [u8],
+) -> Step
+    requires { ⌜ length (now made) ≡ 255 ⌝ }
+    ensures { λ r. ⌜ r ≡ stepOf (nearest (tried alters (skipOf skips (now (skipped .entry))) (now (path .entry))) (pairsIn (now (store .entry)) (now (places .entry)) n)) ⌝ }
+    ensures { λ r. ⌜ now (made .exit) ≡ stepMemory (nearest (tried alters (skipOf skips (now (skipped .entry))) (now (path .entry))) (pairsIn (now (store .entry)) (now (places .entry)) n)) (now (made .entry)) ⌝ }
+{
+    let f = longest_source(store, places, n, alters, skips, skipped, path);
+    if !f.found {
+        return Step::Still;
+    }
+    let old = pairs::key_at(store, places, f.at, false);
+    let new = pairs::key_at(store, places, f.at, true);
+    let k = old.len();
+    let fit = prefix::join(old, new, &path[k..], made);
+    let text::Fit::Written(len) = fit else {
+        return Step::Refused(path::Refusal::MadeTooLong);
+    };
+    if !grammar::is_legal(&made[..len]) {
+        return Step::Refused(path::Refusal::MadeIllegal);
+    }
+    Step::Made(len)
+}
