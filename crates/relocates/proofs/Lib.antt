@@ -2,3 +2,4 @@ mod StatusWays
 mod MarkWays
 mod SearchWays
 mod StepWays
+mod ChainWays

@@ -65,7 +65,7 @@ abbrev pub going : (Text → ℕ → Chained) → ℕ → Outcome → Chained
 going on k (path q) = on q (suc k)
 going on k (refused x) = stopped x
 
-abbrev pub goingOn : (Text → ℕ → Chained) → Text → ℕ → Option Text → Chained
+unfoldable pub goingOn : (Text → ℕ → Chained) → Text → ℕ → Option Text → Chained
 unfolding made
 goingOn on p k none = chained p k
 goingOn on p k (some q) = going on k (made q)

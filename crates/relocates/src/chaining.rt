@@ -145,3 +145,45 @@ pub(crate) fn replace_once(
     }
     Step::Made(len)
 }
+
+// The path at the end of the chain, at the beginning of memory of the caller's own.
+pub(crate) fn chain_into(
+    store: &[u8],
+    places: &[usize],
+    n: usize,
+    skips: bool,
+    skipped: &[u8],
+    path: &[u8],
+    current: &mut [u8],
+) -> crate::Chain
+    requires { ⌜ (length (now path) ≤ 255) × (length (now current) ≡ 255) ⌝ }
+    ensures { λ r. ⌜ chainedIn r (now (current .exit)) ≡ chain (skipOf skips (now (skipped .entry))) (pairsIn (now (store .entry)) (now (places .entry)) n) (now (path .entry)) ⌝ }
+    ensures { λ r. ⌜ within r 255 ⌝ }
+{
+    let mut made = [0u8; 255];
+    let mut len = path.len();
+    text::write_at(path, 0, current);
+    let mut k = 0;
+    while k < n {
+        let s = replace_once(
+            store,
+            places,
+            n,
+            true,
+            skips,
+            skipped,
+            &current[..len],
+            &mut made,
+        );
+        match s {
+            Step::Still => return crate::Chain::Chained(len, k),
+            Step::Refused(x) => return crate::Chain::Refused(x),
+            Step::Made(m) => {
+                text::write_at(&made[..m], 0, current);
+                len = m;
+            }
+        }
+        k += 1;
+    }
+    crate::Chain::Chained(len, k)
+}
