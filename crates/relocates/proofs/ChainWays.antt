@@ -2,7 +2,7 @@
 use mathlib.Core.Path.{_≡_, refl, sym, ap, _∙_}
 use mathlib.Core.Bool.{Bool, true, false, cond}
 use mathlib.Core.List.{List}
-use mathlib.Core.Option.{Option, none, some}
+use mathlib.Core.Option.{Option, none, some, Option·getD}
 use Prim.Native.Nat.{ℕ, zero, suc, _+_, _-_, _≤_, _<_}
 use native.Mathlib.Omega.{arith}
 use native.Mathlib.Numerals.{add-one}
@@ -27,13 +27,21 @@ use Rattle.relocates.specs.Search.{stepOutcome, stepOf, stepMemory}
 pub first-back : (t out : Text) → length t ≤ length out → take (length t) (placed 0 t out) ≡ t
 first-back t out h = rw (placed-first t out h) (read-back t out)
 
-made-passed : (q : Text) → fits q ≡ true → legal q ≡ true → made q ≡ path q
+pub made-passed : (q : Text) → fits q ≡ true → legal q ≡ true → made q ≡ path q
 unfolding made
 made-passed q a b = rw (a, b)
 
 fits-short : (q : Text) → fits q ≡ true → length q ≤ 255
 unfolding fits
 fits-short q a = leb-true (length q) 255 a
+
+pub made-short : (q : Text) → made q ≡ path q → length q ≤ 255
+unfolding made
+made-short q e = go (fits q) refl
+  where
+    go : (b : Bool) → fits q ≡ b → length q ≤ 255
+    go true h = fits-short q h
+    go false h = absurd (let z : _≡_ {A = Outcome} (refused MadeTooLong) (path q) = rw h at e in let y : _≡_ {A = ℕ} 0 1 = cc in omega arith)
 
 -- what the answer to a replacement says of it
 pub record Went (o : Option Text) (m : ℕ) : Type 0 where
@@ -61,7 +69,7 @@ went (some q) m e = go (fits q) (legal q) refl refl
     go true false ha hb = absurd (let z : _≡_ {A = ℕ} 2 1 = ap kind (rw (ha, hb) at e) in omega arith)
     go false b ha hb = absurd (let z : _≡_ {A = ℕ} 2 1 = ap kind (rw ha at e) in omega arith)
 
-still : (o : Option Text) → stepOf o ≡ Still → o ≡ none
+pub still : (o : Option Text) → stepOf o ≡ Still → o ≡ none
 unfolding stepOf
 still none e = refl
 still (some q) e = go (made q) refl
@@ -79,14 +87,33 @@ ended on p k (some q) x e = go (made q) refl
     go (path t) h = absurd (let z : _≡_ {A = ℕ} 1 2 = ap kind (rw h at e) in omega arith)
     go (refused y) h = let z : Refused y ≡ Refused x = rw h at e in let w : y ≡ x = cc in rw (h, w)
 
+pub blocked : (o : Option Text) (p : Text) (x : Refusal) → stepOf o ≡ Refused x → made (Option·getD o p) ≡ refused x
+unfolding stepOf
+blocked none p x e = absurd (let z : _≡_ {A = ℕ} 0 2 = ap kind e in omega arith)
+blocked (some q) p x e = go (made q) refl
+  where
+    go : (r : Outcome) → made q ≡ r → made q ≡ refused x
+    go (path t) h = absurd (let z : _≡_ {A = ℕ} 1 2 = ap kind (rw h at e) in omega arith)
+    go (refused y) h = let z : Refused y ≡ Refused x = rw h at e in let w : y ≡ x = cc in rw (h, w)
+
 went-on : (on : Text → ℕ → Chained) (p : Text) (k : ℕ) (o : Option Text) (m : ℕ) (w : Went o m) → goingOn on p k o ≡ on (w .text) (suc k)
 unfolding goingOn
 went-on on p k o m w = rw (w .made-it, w .passed)
 
 -- what was made is read back
-back : (q : Text) (m : ℕ) (o : Option Text) (mem mem₀ : Text) → o ≡ some q → m ≡ length q → m ≤ 255 → length mem₀ ≡ 255 → mem ≡ stepMemory o mem₀ → take m mem ≡ q
+pub back : (q : Text) (m : ℕ) (o : Option Text) (mem mem₀ : Text) → o ≡ some q → m ≡ length q → m ≤ 255 → length mem₀ ≡ 255 → mem ≡ stepMemory o mem₀ → take m mem ≡ q
 unfolding stepMemory
 back q m o mem mem₀ e l h r a = rw (a, e, l) (first-back q mem₀ (omega arith))
+
+module _ (o : Option Text) (m : ℕ) (w : Went o m) (mem mem₀ : Text) (r : length mem₀ ≡ 255) (a : mem ≡ stepMemory o mem₀) where
+  pub back-text : take m mem ≡ w .text
+  back-text = back (w .text) m o mem mem₀ (w .made-it) (w .long) (w .short) r a
+
+  pub back-part : m ≡ length (take m mem)
+  back-part = w .long ∙ ap length (sym back-text)
+
+  pub back-inside : m ≤ length mem
+  back-inside = omega (arith, back-part, length-take m mem)
 
 back-again : (q : Text) (m : ℕ) (part cur cur′ : Text) → part ≡ q → m ≡ length q → m ≤ 255 → length cur ≡ 255 → cur′ ≡ placed 0 part cur → take m cur′ ≡ q
 back-again q m part cur cur′ e l h r b = rw (b, e, l) (first-back q cur (omega arith))
@@ -118,18 +145,15 @@ module _ (sk : Option Text) (l : List Pair) (p : Text) (n k len : ℕ) (cur : Te
       chain-short = w .short
 
       module _ (mem mem₀ : Text) (a : mem ≡ stepMemory (nearest (tried true sk (take len cur)) l) mem₀) (r : length mem₀ ≡ 255) where
-        chain-text : take m mem ≡ w .text
-        chain-text = back (w .text) m (nearest (tried true sk (take len cur)) l) mem mem₀ (w .made-it) (w .long) (w .short) r a
-
         pub chain-part : m ≡ length (take m mem)
-        chain-part = w .long ∙ ap length (sym chain-text)
+        chain-part = back-part (nearest (tried true sk (take len cur)) l) m w mem mem₀ r a
 
         pub chain-inside : m ≤ length mem
-        chain-inside = omega (arith, chain-part, length-take m mem)
+        chain-inside = back-inside (nearest (tried true sk (take len cur)) l) m w mem mem₀ r a
 
         pub chain-on : (cur′ : Text) → cur′ ≡ placed 0 (take m mem) cur → length cur ≡ 255 → chain sk l p ≡ chainFor sk l (n - (k + 1)) (take m cur′) (k + 1)
         chain-on cur′ b f =
-            let t : take m cur′ ≡ w .text = back-again (w .text) m (take m mem) cur cur′ chain-text (w .long) (w .short) f b in
+            let t : take m cur′ ≡ w .text = back-again (w .text) m (take m mem) cur cur′ (back-text (nearest (tried true sk (take len cur)) l) m w mem mem₀ r a) (w .long) (w .short) f b in
             turn
             ∙ went-on (chainFor sk l (n - (k + 1))) (take len cur) k (nearest (tried true sk (take len cur)) l) m w
             ∙ sym (ap (λ (q : Text). chainFor sk l (n - (k + 1)) q (suc k)) t)

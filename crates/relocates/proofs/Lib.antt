@@ -3,3 +3,4 @@ mod MarkWays
 mod SearchWays
 mod StepWays
 mod ChainWays
+mod CallWays

@@ -1,3 +1,4 @@
 pub mod Status
 pub mod Chain
 pub mod Search
+pub mod Calls
