@@ -105,11 +105,14 @@ unfolding longest
 holds-none t l = record { chosen = refl; counted = λ h. absurd (false≢true h) }
 
 module _ (t : Pair → Option Text) (l : List Pair) (i : ℕ) where
+  tested : (at e : ℕ) (c : Bool) → e ≡ length ((pairAt l at) .source) → leb e (length ((pairAt l i) .source)) ≡ c → longer l (some at) i ≡ c
+  tested at e c k g = ap (λ (m : ℕ). leb m (length ((pairAt l i) .source))) (sym k) ∙ g
+
   compared : (at e : ℕ) (c : Bool) → some at ≡ longest t l i → e ≡ length ((pairAt l at) .source) → isSome (t (pairAt l i)) ≡ true → leb e (length ((pairAt l i) .source)) ≡ c
       → Holds t l (suc i) (cond c (record { found = true; at = i; bytes = record { 0 = length ((pairAt l i) .source) } }) (record { found = true; at = at; bytes = record { 0 = e } }))
   unfolding longest
-  compared at e true h k s c = record { chosen = rw (s, ← h, ← k, c); counted = λ z. refl }
-  compared at e false h k s c = record { chosen = rw (s, ← h, ← k, c); counted = λ z. k }
+  compared at e true h k s c = record { chosen = rw (s, ← h, tested at e true k c); counted = λ z. refl }
+  compared at e false h k s c = record { chosen = rw (s, ← h, tested at e false k c); counted = λ z. k }
 
   cases : (found : Bool) (at e : ℕ) (b : Bool) → Holds t l i (record { found = found; at = at; bytes = record { 0 = e } }) → isSome (t (pairAt l i)) ≡ b
       → Holds t l (suc i) (considered (record { found = found; at = at; bytes = record { 0 = e } }) b ((pairAt l i) .source) i)

@@ -132,7 +132,8 @@ pub fn chain_through_relocates(
     if let path::Asked::Refused(x) = q {
         return Chain::Refused(x);
     }
-    if out.len() < 255 {
+    let room = out.len();
+    if room < 255 {
         return Chain::Refused(path::Refusal::NoRoom);
     }
     chain_out(store, places, count, skips, skipped, path, out)

@@ -1,3 +1,4 @@
+use lib.ListN.{length}
 use mathlib.Core.Path.{refl, _∙_}
 use Rattle.relocates.specs.Search.{skipOf}
 use Rattle.relocates.proofs.CallWays.{ask-skip, chain-refused, chain-no-room, chain-short-path, chain-passed}
@@ -24,7 +25,7 @@ enum-told : tie.Need-enum-told
 enum-told c = search needs
 
 returns-2 : tie.Need-returns-2
-returns-2 c = chain-no-room _ _ _ _ _ (c .before .before .before .ask-list .ensures ∙ ask-skip _ _ _ _ (c .before .before .before .before .before .before .before .before .before .before .before .args .skipped .now) (c .before .before .before .before .before .before .before .before .before .before .before .args .skips) (c .before .before .before .before .skipped-text .ensures) refl) (c .before .enum-told .given .1) (c .if1 .taken) _
+returns-2 c = chain-no-room _ _ _ (length (c .before .before .before .before .before .before .before .before .before .before .before .args .out .now)) _ (c .before .before .before .ask-list .ensures ∙ ask-skip _ _ _ _ (c .before .before .before .before .before .before .before .before .before .before .before .args .skipped .now) (c .before .before .before .before .before .before .before .before .before .before .before .args .skips) (c .before .before .before .before .skipped-text .ensures) refl) (c .before .enum-told .given .1) (c .if1 .taken) _
 
 chain-out-requires : tie.Need-chain-out-requires
 chain-out-requires c κs = (chain-short-path _ (skipOf (c .before .before .before .before .before .before .before .before .before .before .before .before .args .skips) (c .before .before .before .before .before .before .before .before .before .before .before .before .args .skipped .now)) _ _ (c .before .before .before .before .ask-list .ensures ∙ ask-skip _ _ _ _ (c .before .before .before .before .before .before .before .before .before .before .before .before .args .skipped .now) (c .before .before .before .before .before .before .before .before .before .before .before .before .args .skips) (c .before .before .before .before .before .skipped-text .ensures) refl) (c .before .before .enum-told .given .1), c .before .if1 .left)
