@@ -4,3 +4,4 @@ mod SearchWays
 mod StepWays
 mod ChainWays
 mod CallWays
+mod AnalyzeWays

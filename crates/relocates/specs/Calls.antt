@@ -7,12 +7,25 @@ use lib.Dec.{leb}
 use lib.ListN.{length}
 use Rattle.text.specs.Text.{Text, written}
 use Rattle.path.specs.declared.Refusal.the-variants.{NoRoom}
+use Rattle.path.specs.declared.Reply.{Reply}
+use Rattle.path.specs.declared.Reply.the-variants.{Written, Refused as RefusedReply}
 use Rattle.path.specs.Refusal.{unless}
 use Rattle.path.specs.Outcome.{Outcome, answered, made}
+use Rattle.path.specs.Calls.{listed}
 use Rattle.asking.specs.Asking.{Lent, pairsOf, asked}
 use Rattle.relocates.specs.declared.Chain.{Chain}
 use Rattle.relocates.specs.declared.Chain.the-variants.{Chained as ChainedTo, Refused}
+use Rattle.relocates.specs.Status.{statuses}
 use Rattle.relocates.specs.Chain.{Chained, chained, stopped, chain, shifted}
+
+-- question 5: "a byte per status"
+unfoldable pub analyzeReply : Lent → ℕ → Reply
+unfolding asked
+analyzeReply l room = unless (asked (l ∷ []) [] []) RefusedReply (cond (leb (l .count) room) (Written (l .count)) (RefusedReply NoRoom))
+
+-- the status bytes over the beginning of lent memory; a refused call writes nothing
+abbrev pub analyzeMemory : Reply → Lent → Text → Text
+analyzeMemory r l out = listed r (statuses (pairsOf l) (l .count)) out
 
 unfoldable pub shiftCall : Lent → Text → ℕ → Outcome
 unfolding asked answered made shifted

@@ -13,7 +13,7 @@ ghost use Rattle.path.specs.Outcome.{path, reply, memory, made};
 ghost use Rattle.asking.specs.Asking.{lentList};
 ghost use Rattle.relocates.specs.Chain.{chain, shifted};
 ghost use Rattle.relocates.specs.Search.{skipOf};
-ghost use Rattle.relocates.specs.Calls.{shiftCall, chainCall, chainReply, chainMemory};
+ghost use Rattle.relocates.specs.Calls.{analyzeReply, analyzeMemory, shiftCall, chainCall, chainReply, chainMemory};
 
 // What becomes of a pair of a relocate list; specs/Status.antt gives document 01's status byte of each.
 pub enum RelocateOccurrence {
@@ -137,4 +137,25 @@ pub fn chain_through_relocates(
         return Chain::Refused(path::Refusal::NoRoom);
     }
     chain_out(store, places, count, skips, skipped, path, out)
+}
+
+// The status byte of each pair.
+pub fn analyze_relocate_occurrences(
+    store: &[u8],
+    places: &[usize],
+    count: usize,
+    out: &mut [u8],
+) -> path::Reply
+    ensures { λ r. ⌜ r ≡ analyzeReply (lentList (now (store .entry)) (now (places .entry)) count) (length (now (out .entry))) ⌝ }
+    ensures { λ r. ⌜ now (out .exit) ≡ analyzeMemory r (lentList (now (store .entry)) (now (places .entry)) count) (now (out .entry)) ⌝ }
+{
+    let q = asking::ask_path(store, places, count, b"");
+    if let path::Asked::Refused(x) = q {
+        return path::Reply::Refused(x);
+    }
+    if out.len() < count {
+        return path::Reply::Refused(path::Refusal::NoRoom);
+    }
+    status::write_statuses(store, places, count, out);
+    path::Reply::Written(count)
 }
