@@ -25,27 +25,35 @@ abbrev pub triedAt : (Pair → Option Text) → List Pair → Option ℕ → Opt
 triedAt tried l none = none
 triedAt tried l (some i) = tried (pairAt l i)
 
+unfoldable pub nearest : (Pair → Option Text) → List Pair → Option Text
+unfolding longest
+nearest tried l = triedAt tried l (longest tried l (length l))
+
 -- "pairs with the skipped source, where the caller names one, are left aside"
-abbrev pub isSkipped : Option Text → Text → Bool
+unfoldable pub isSkipped : Option Text → Text → Bool
 unfolding equal
 isSkipped none s = false
 isSkipped (some k) s = equal s k
 
 -- a path that differs from p
-abbrev pub altered : Text → Option Text → Option Text
+unfoldable pub altered : Text → Option Text → Option Text
 unfolding equal
 altered p none = none
 altered p (some q) = cond (equal q p) none (some q)
 
--- what a pair makes of the path: "among non-empty targets that alter the path"
-unfoldable pub stepped : Option Text → Text → Pair → Option Text
+-- what a pair makes of the path, where its target is not empty and its source is not skipped; a path that it leaves as it is counts
+-- where `alters` is not set
+unfoldable pub tried : Bool → Option Text → Text → Pair → Option Text
 unfolding isSkipped altered replacePrefix
-stepped skip p x = cond (isNil (x .target)) none (cond (isSkipped skip (x .source)) none (altered p (replacePrefix p (x .source) (x .target))))
+tried alters skip p x =
+    cond (isNil (x .target)) none
+    (cond (isSkipped skip (x .source)) none
+    (cond alters (altered p (replacePrefix p (x .source) (x .target))) (replacePrefix p (x .source) (x .target))))
 
--- one replacement
+-- one replacement: "among non-empty targets that alter the path"
 unfoldable pub next : Option Text → List Pair → Text → Option Text
-unfolding longest stepped
-next skip l p = triedAt (stepped skip p) l (longest (stepped skip p) l (length l))
+unfolding nearest tried
+next skip l p = nearest (tried true skip p) l
 
 -- where a chain ends and how many replacements were made, or why it stopped
 pub data Chained : Type 0 where
@@ -57,7 +65,7 @@ abbrev pub going : (Text → ℕ → Chained) → ℕ → Outcome → Chained
 going on k (path q) = on q (suc k)
 going on k (refused x) = stopped x
 
-abbrev pub goingOn : (Text → ℕ → Chained) → Text → ℕ → Option Text → Chained
+unfoldable pub goingOn : (Text → ℕ → Chained) → Text → ℕ → Option Text → Chained
 unfolding made
 goingOn on p k none = chained p k
 goingOn on p k (some q) = going on k (made q)
@@ -72,12 +80,7 @@ unfoldable pub chain : Option Text → List Pair → Text → Chained
 unfolding chainFor
 chain skip l p = chainFor skip l (length l) p 0
 
--- what a rename above the endpoint makes of it
-unfoldable pub shiftedBy : Text → Pair → Option Text
-unfolding equal replacePrefix
-shiftedBy p x = cond (isNil (x .target)) none (cond (equal (x .source) p) none (replacePrefix p (x .source) (x .target)))
-
--- Rust: shift_through_nearest_ancestor, the endpoint itself where no rename stands above it
+-- Rust: shift_through_nearest_ancestor: a rename above the endpoint, whose own pairs are left aside; without one the endpoint itself
 unfoldable pub shifted : List Pair → Text → Text
-unfolding longest shiftedBy
-shifted l p = Option·getD (triedAt (shiftedBy p) l (longest (shiftedBy p) l (length l))) p
+unfolding nearest tried
+shifted l p = Option·getD (nearest (tried false (some p) p) l) p

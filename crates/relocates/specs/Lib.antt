@@ -1,2 +1,4 @@
 pub mod Status
 pub mod Chain
+pub mod Search
+pub mod Calls

@@ -1,9 +1,10 @@
 -- A relocate's status: which of the pairs that modellers wrote into one layer stack take part. OpenUSD: Pcp_ComputeRelocationsForLayerStack.
-use Prim.Native.Nat.{ℕ, zero, suc}
+use mathlib.Core.Path.{_≡_}
+use Prim.Native.Nat.{ℕ, zero, suc, _<_}
 use mathlib.Core.Bool.{Bool, true, false, not, cond, _&&_, _||_}
 use mathlib.Core.List.{List, [], _∷_, _++_}
 use lib.Dec.{eqb}
-use lib.ListN.{length}
+use lib.ListN.{length, getD}
 use Rattle.text.specs.Text.{Text, isNil, equal}
 use Rattle.prefix.specs.Prefix.{hasPrefix}
 use Rattle.prefix.specs.Elements.{count, names}
@@ -20,6 +21,9 @@ statusByte DroppedStructural = 1
 statusByte DroppedDuplicateSource = 2
 statusByte DroppedConflict = 3
 
+abbrev pub pairOf : Text → Text → Pair
+pairOf s t = record { source = s; target = t }
+
 -- a test passes at some number below n
 unfoldable pub someBelow : ℕ → (ℕ → Bool) → Bool
 someBelow zero passes = false
@@ -33,47 +37,73 @@ structural x =
     not (isNil (x .target))
     && (eqb (names (x .source)) 1 || equal (x .source) (x .target) || hasPrefix (x .source) (x .target) || hasPrefix (x .target) (x .source))
 
+-- a non-structural pair with the source s
+unfoldable pub reserves : Pair → Text → Bool
+unfolding structural equal
+reserves x s = not (structural x) && equal (x .source) s
+
 -- "2: an earlier non-structural pair has this source." (Rust: duplicate_source_mask)
 unfoldable pub duplicate : List Pair → ℕ → Bool
-unfolding someBelow structural equal
-duplicate l i = someBelow i (λ (k : ℕ). not (structural (pairAt l k)) && equal ((pairAt l k) .source) ((pairAt l i) .source))
+unfolding someBelow reserves
+duplicate l i = someBelow i (λ (k : ℕ). reserves (pairAt l k) ((pairAt l i) .source))
 
 -- "pairs neither 1 nor 2"
 unfoldable pub canConflict : List Pair → ℕ → Bool
 unfolding structural duplicate
 canConflict l i = not (structural (pairAt l i)) && not (duplicate l i)
 
--- "another has the same non-empty target"
-unfoldable pub sameTarget : Pair → Pair → Bool
+-- the same text, and not empty
+unfoldable pub alike : Text → Text → Bool
 unfolding equal
-sameTarget a b = not (isNil (a .target)) && equal (a .target) (b .target)
+alike a b = not (isNil b) && equal a b
 
 -- "or gives a reason in `relocate_pair_conflicts`": a's target is b's source or lies below it, a's source is b's target, or lies below
 -- b's source
 unfoldable pub pairConflicts : Pair → Pair → Bool
-unfolding equal hasPrefix
+unfolding alike equal hasPrefix
 pairConflicts a b =
     not (isNil (a .target)) && hasPrefix (a .target) (b .source)
-    || not (isNil (b .target)) && equal (a .source) (b .target)
+    || alike (a .source) (b .target)
     || not (equal (a .source) (b .source)) && hasPrefix (a .source) (b .source)
+
+-- the pair b is a reason to drop a: "another has the same non-empty target", or `pairConflicts`
+unfoldable pub against : Pair → Pair → Bool
+unfolding alike pairConflicts
+against a b = alike (a .target) (b .target) || pairConflicts a b
 
 -- "3: among pairs neither 1 nor 2" some other one stands against it; "A pair that is itself 3 still conflicts with others."
 unfoldable pub conflict : List Pair → ℕ → Bool
-unfolding someBelow canConflict sameTarget pairConflicts
-conflict l i =
-    someBelow (length l) (λ (j : ℕ). not (eqb i j) && canConflict l j && (sameTarget (pairAt l i) (pairAt l j) || pairConflicts (pairAt l i) (pairAt l j)))
+unfolding someBelow canConflict against
+conflict l i = someBelow (length l) (λ (j : ℕ). not (eqb i j) && canConflict l j && against (pairAt l i) (pairAt l j))
 
--- Rust: analyze_relocate_occurrences, at place i
+-- Rust: analyze_relocate_occurrences, at place i; `kept` says what becomes of a pair that is neither 1 nor 2
+unfoldable pub occurrenceOr : RelocateOccurrence → List Pair → ℕ → RelocateOccurrence
+unfolding structural duplicate
+occurrenceOr kept l i = cond (structural (pairAt l i)) DroppedStructural (cond (duplicate l i) DroppedDuplicateSource kept)
+
 unfoldable pub occurrence : List Pair → ℕ → RelocateOccurrence
-unfolding structural duplicate conflict
-occurrence l i =
-    cond (structural (pairAt l i)) DroppedStructural (cond (duplicate l i) DroppedDuplicateSource (cond (conflict l i) DroppedConflict Active))
+unfolding occurrenceOr conflict
+occurrence l i = occurrenceOr (cond (conflict l i) DroppedConflict Active) l i
+
+-- the byte of each number below n
+abbrev pub bytesOf : (ℕ → RelocateOccurrence) → ℕ → List ℕ
+bytesOf f zero = []
+bytesOf f (suc n) = bytesOf f n ++ statusByte (f n) ∷ []
 
 -- the status bytes of the first n pairs
 unfoldable pub statuses : List Pair → ℕ → List ℕ
 unfolding occurrence
-statuses l zero = []
-statuses l (suc n) = statuses l n ++ statusByte (occurrence l n) ∷ []
+statuses l n = bytesOf (occurrence l) n
+
+-- the same before conflicts are sought
+unfoldable pub marks : List Pair → ℕ → List ℕ
+unfolding occurrenceOr
+marks l n = bytesOf (occurrenceOr Active l) n
+
+-- memory holds them
+unfoldable pub marked : List Pair → List ℕ → Type 0
+unfolding occurrenceOr
+marked l mark = (i : ℕ) → i < length l → getD mark i 0 ≡ statusByte (occurrenceOr Active l i)
 
 -- the Active ones of the first n pairs
 unfoldable pub active : List Pair → ℕ → List Pair

@@ -1,0 +1,7 @@
+mod StatusWays
+mod MarkWays
+mod SearchWays
+mod StepWays
+mod ChainWays
+mod CallWays
+mod AnalyzeWays

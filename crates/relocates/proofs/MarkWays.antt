@@ -1,0 +1,191 @@
+-- What each way through the functions that write statuses gives. Assumes nothing.
+use mathlib.Core.Path.{_≡_, refl, sym, ap, _∙_}
+use mathlib.Core.Logic.{_≢_}
+use mathlib.Core.Bool.{Bool, true, false, not, cond, _&&_, _||_}
+use mathlib.Core.List.{List, [], _∷_, _++_, append-assoc}
+use Prim.Native.Nat.{ℕ, zero, suc, _+_, _*_, _≤_, _<_}
+use native.Mathlib.Omega.{arith}
+use native.Mathlib.Numerals.{add-one}
+use native.Mathlib.Decide.{ℕ-discrete}
+use lib.Dec.{eqb}
+use lib.ListN.{length, getD, set, drop, length-append, length-drop, List·getD-append}
+use lib.Seq.{drop-cons, set-at, getD-at}
+use borrow.Author.Tests.{eq-eqb, ne-eqb}
+use Rattle.text.specs.Text.{Text, written}
+use Rattle.text.proofs.BoolLaws.{told}
+use Rattle.pairs.specs.Pair.{Pair, pairAt}
+use Rattle.pairs.specs.Places.{pairIn, pairsIn, keyAt}
+use Rattle.pairs.proofs.PlaceLaws.{pairsIn-at, pairsIn-length}
+use Rattle.relocates.specs.declared.RelocateOccurrence.{RelocateOccurrence}
+use Rattle.relocates.specs.declared.RelocateOccurrence.the-variants.{Active, DroppedStructural, DroppedDuplicateSource, DroppedConflict}
+use Rattle.relocates.specs.Status.{pairOf, statusByte, someBelow, structural, reserves, duplicate, canConflict, against, conflict, occurrenceOr, occurrence, bytesOf, marks, statuses, marked}
+use Rattle.relocates.proofs.StatusWays.{pair-is, some-same, some-hit, some-none, some-on, duplicate-in}
+
+-- `first_occurrence`
+module _ (store : Text) (places : List ℕ) (i : ℕ) (s t : Text) (hs : s ≡ keyAt store places false i) (ht : t ≡ keyAt store places true i)
+    (a : Bool) (ha : a ≡ structural (pairOf s t)) where
+  own-structural : structural (pairAt (pairsIn store places (i + 1)) i) ≡ a
+  own-structural = rw (pairsIn-at store places (i + 1) i (omega arith), ← (pair-is store places i s t hs ht)) (sym ha)
+
+  pub first-structural : a ≡ true → DroppedStructural ≡ occurrenceOr Active (pairsIn store places (i + 1)) i
+  unfolding occurrenceOr
+  first-structural l = rw (own-structural, l)
+
+  module _ (la : a ≡ false) (b : Bool) (hb : b ≡ duplicate (pairsIn store places (i + 1)) i) where
+    pub first-duplicate : b ≡ true → DroppedDuplicateSource ≡ occurrenceOr Active (pairsIn store places (i + 1)) i
+    unfolding occurrenceOr
+    first-duplicate l = rw (own-structural, la, told hb l)
+
+    pub first-active : b ≡ false → Active ≡ occurrenceOr Active (pairsIn store places (i + 1)) i
+    unfolding occurrenceOr
+    first-active l = rw (own-structural, la, told hb l)
+
+pub ruleset firsts = (first-structural, first-duplicate, first-active)
+
+-- status bytes one behind the other
+pub bytes-length : (f : ℕ → RelocateOccurrence) (n : ℕ) → length (bytesOf f n) ≡ n
+bytes-length f zero = refl
+bytes-length f (suc n) = rw (length-append (bytesOf f n) (statusByte (f n) ∷ []), bytes-length f n) (omega arith)
+
+module _ (f : ℕ → RelocateOccurrence) (out₀ out : Text) (i : ℕ) where
+  pub bytes-room : i ≤ length out₀ → out ≡ written (bytesOf f i) out₀ → length out ≡ length out₀
+  bytes-room h e = rw (e, length-append (bytesOf f i) (drop (length (bytesOf f i)) out₀), bytes-length f i, length-drop i out₀) (omega arith)
+
+  pub bytes-on : (v : ℕ) → i < length out₀ → out ≡ written (bytesOf f i) out₀ → v ≡ statusByte (f i) → set out i v ≡ written (bytesOf f (i + 1)) out₀
+  bytes-on v h e k =
+      let b : Text = bytesOf f i in
+      let n : length (b ++ v ∷ []) ≡ suc i = rw (length-append b (v ∷ []), bytes-length f i) (omega arith) in
+      rw (add-one i, ← k, n, e, bytes-length f i, drop-cons out₀ i 0 h, set-at b (getD out₀ i 0) (drop (suc i) out₀) v i (bytes-length f i), append-assoc b (v ∷ []) (drop (suc i) out₀))
+
+pub bytes-at : (f : ℕ → RelocateOccurrence) (out : Text) (n i : ℕ) → i < n → getD (written (bytesOf f n) out) i 0 ≡ statusByte (f i)
+bytes-at f out n i h =
+    List·getD-append (bytesOf f n) (drop (length (bytesOf f n)) out) 0 i (rw (bytes-length f n) h) ∙ inside n h
+  where
+    inside : (n : ℕ) → i < n → getD (bytesOf f n) i 0 ≡ statusByte (f i)
+    inside zero h = absurd (omega arith)
+    inside (suc n) h = elim (ℕ-discrete i n) [ yes e ↦ rw e (getD-at (bytesOf f n) (statusByte (f n)) [] 0 n (bytes-length f n)) | no d ↦ earlier (omega arith) (inside n) ]
+      where
+        earlier : i < n → (i < n → getD (bytesOf f n) i 0 ≡ statusByte (f i)) → getD (bytesOf f n ++ statusByte (f n) ∷ []) i 0 ≡ statusByte (f i)
+        earlier l ih = List·getD-append (bytesOf f n) (statusByte (f n) ∷ []) 0 i (rw (bytes-length f n) l) ∙ ih l
+
+by-tests : (l : List Pair) (i : ℕ) (a b : Bool) → structural (pairAt l i) ≡ a → duplicate l i ≡ b
+    → occurrenceOr Active l i ≡ cond a DroppedStructural (cond b DroppedDuplicateSource Active)
+unfolding occurrenceOr
+by-tests l i a b ea eb = rw (ea, eb)
+
+-- `mark_pairs`
+module _ (store : Text) (places : List ℕ) where
+  -- the list's length does not matter
+  pub first-same : (n i : ℕ) → i < n → occurrenceOr Active (pairsIn store places (i + 1)) i ≡ occurrenceOr Active (pairsIn store places n) i
+  first-same n i h =
+      let a : Bool = structural (pairIn store places i) in
+      let b : Bool = someBelow i (λ (k : ℕ). reserves (pairIn store places k) ((pairIn store places i) .source)) in
+      let g : i < i + 1 = omega arith in
+      by-tests (pairsIn store places (i + 1)) i a b (ap structural (pairsIn-at store places (i + 1) i g)) (duplicate-in store places (i + 1) i g)
+      ∙ sym (by-tests (pairsIn store places n) i a b (ap structural (pairsIn-at store places n i h)) (duplicate-in store places n i h))
+
+  module _ (n : ℕ) (out₀ : Text) where
+    pub mark-begin : out₀ ≡ written (marks (pairsIn store places n) 0) out₀
+    unfolding marks
+    mark-begin = refl
+
+    pub mark-on : (out : Text) (i : ℕ) → n ≤ length out₀ → i < n → out ≡ written (marks (pairsIn store places n) i) out₀
+        → (o : RelocateOccurrence) → o ≡ occurrenceOr Active (pairsIn store places (i + 1)) i → (v : ℕ) → v ≡ statusByte o
+        → set out i v ≡ written (marks (pairsIn store places n) (i + 1)) out₀
+    unfolding marks
+    mark-on out i g h e o ho v hv =
+        bytes-on (occurrenceOr Active (pairsIn store places n)) out₀ out i v (omega arith) e (hv ∙ ap statusByte (ho ∙ first-same n i h))
+
+    pub mark-end : (out : Text) (i : ℕ) → n ≤ i → i ≤ n → out ≡ written (marks (pairsIn store places n) i) out₀ → out ≡ written (marks (pairsIn store places n) n) out₀
+    mark-end out i g h e = let z : i ≡ n = omega arith in rw z at e
+
+pub ruleset marking = (mark-begin, mark-on, mark-end)
+
+-- what marks say
+pub is-marked : (store : Text) (places : List ℕ) (n : ℕ) (buf mem : Text) → mem ≡ written (marks (pairsIn store places n) n) buf → marked (pairsIn store places n) mem
+unfolding marks marked
+is-marked store places n buf mem e =
+    λ i h. rw e (bytes-at (occurrenceOr Active (pairsIn store places n)) buf n i (rw (pairsIn-length store places n) at h))
+
+module _ (l : List Pair) (i : ℕ) where
+  -- a mark that is not 0 is the status; with the mark 0 conflicts decide
+  kept : (a b : Bool) (m : ℕ) → structural (pairAt l i) ≡ a → duplicate l i ≡ b → m ≡ statusByte (occurrenceOr Active l i) → m ≢ 0 → m ≡ statusByte (occurrence l i)
+  unfolding occurrenceOr occurrence
+  kept true b m ea eb e d = rw ea (rw ea at e)
+  kept false true m ea eb e d = rw (ea, eb) (rw (ea, eb) at e)
+  kept false false m ea eb e d = absurd (d (rw (ea, eb) at e))
+
+  decided : (a b : Bool) → structural (pairAt l i) ≡ a → duplicate l i ≡ b → 0 ≡ statusByte (occurrenceOr Active l i) → occurrence l i ≡ cond (conflict l i) DroppedConflict Active
+  unfolding occurrenceOr occurrence
+  decided true b ea eb e = absurd (let z : _≡_ {A = ℕ} 0 1 = rw ea at e in omega arith)
+  decided false true ea eb e = absurd (let z : _≡_ {A = ℕ} 0 2 = rw (ea, eb) at e in omega arith)
+  decided false false ea eb e = rw (ea, eb)
+
+  conflicting : (a b : Bool) → structural (pairAt l i) ≡ a → duplicate l i ≡ b → eqb (statusByte (occurrenceOr Active l i)) 0 ≡ canConflict l i
+  unfolding occurrenceOr canConflict
+  conflicting true b ea eb = rw ea
+  conflicting false true ea eb = rw (ea, eb)
+  conflicting false false ea eb = rw (ea, eb)
+
+conflict-is : (l : List Pair) (i : ℕ) → conflict l i ≡ someBelow (length l) (λ (j : ℕ). not (eqb i j) && canConflict l j && against (pairAt l i) (pairAt l j))
+unfolding conflict
+conflict-is l i = refl
+
+-- pair j is a reason to drop pair i
+abbrev pub reason : Text → List ℕ → List ℕ → ℕ → ℕ → Bool
+reason store places mark i j = not (eqb i j) && eqb (getD mark j 0) 0 && against (pairIn store places i) (pairIn store places j)
+
+-- `settle_pairs`
+module _ (store : Text) (places : List ℕ) (n : ℕ) (out₀ : Text) where
+  pub settle-begin : out₀ ≡ written (statuses (pairsIn store places n) 0) out₀
+  unfolding statuses
+  settle-begin = refl
+
+  settle-by : (out : Text) (i v : ℕ) → n ≤ length out₀ → i < n → out ≡ written (statuses (pairsIn store places n) i) out₀ → v ≡ statusByte (occurrence (pairsIn store places n) i)
+      → set out i v ≡ written (statuses (pairsIn store places n) (i + 1)) out₀
+  unfolding statuses
+  settle-by out i v g h e k = bytes-on (occurrence (pairsIn store places n)) out₀ out i v (omega arith) e k
+
+  pub settle-end : (out : Text) (i : ℕ) → n ≤ i → i ≤ n → out ≡ written (statuses (pairsIn store places n) i) out₀ → out ≡ written (statuses (pairsIn store places n) n) out₀
+  settle-end out i g h e = let z : i ≡ n = omega arith in rw z at e
+
+  module _ (mark : List ℕ) (m : marked (pairsIn store places n) mark) where
+    at-mark : (i : ℕ) → i < n → getD mark i 0 ≡ statusByte (occurrenceOr Active (pairsIn store places n) i)
+    unfolding marked
+    at-mark i h = m i (rw (pairsIn-length store places n) h)
+
+    conflict-in : (i : ℕ) → i < n → conflict (pairsIn store places n) i ≡ someBelow n (reason store places mark i)
+    conflict-in i h =
+        let l : List Pair = pairsIn store places n in
+        conflict-is l i ∙ ap (λ (k : ℕ). someBelow k (λ (j : ℕ). not (eqb i j) && canConflict l j && against (pairAt l i) (pairAt l j))) (pairsIn-length store places n)
+        ∙ some-same (λ (j : ℕ). not (eqb i j) && canConflict l j && against (pairAt l i) (pairAt l j)) (reason store places mark i) n
+        (λ j k. rw (pairsIn-at store places n i h, pairsIn-at store places n j k, at-mark j k, conflicting l j (structural (pairAt l j)) (duplicate l j) refl refl))
+
+    -- at pair i, with the statuses before it written
+    module _ (i : ℕ) (h : i < n) (out : Text) (e : out ≡ written (statuses (pairsIn store places n) i) out₀) (g : n ≤ length out₀) where
+      pub settle-dropped : getD mark i 0 ≢ 0 → set out i (getD mark i 0) ≡ written (statuses (pairsIn store places n) (i + 1)) out₀
+      settle-dropped d =
+          let l : List Pair = pairsIn store places n in
+          settle-by out i (getD mark i 0) g h e (kept l i (structural (pairAt l i)) (duplicate l i) (getD mark i 0) refl refl (at-mark i h) d)
+
+      module _ (z : getD mark i 0 ≡ 0) (now : Text) (at j v : ℕ) (s : at ≡ i) (u : now ≡ out) where
+        settled : (b : Bool) → someBelow n (reason store places mark i) ≡ b → occurrence (pairsIn store places n) i ≡ cond b DroppedConflict Active
+        settled b k =
+            let l : List Pair = pairsIn store places n in
+            decided l i (structural (pairAt l i)) (duplicate l i) refl refl (sym z ∙ at-mark i h) ∙ rw (conflict-in i h, k)
+
+        pub settle-conflict : j < n → (b : Bool) → b ≡ reason store places mark at j → b ≡ true → v ≡ 3 → set now at v ≡ written (statuses (pairsIn store places n) (at + 1)) out₀
+        settle-conflict k b r t w =
+            rw (s, u)
+            (settle-by out i v g h e (w ∙ ap statusByte (sym (settled true (some-hit (reason store places mark i) n j k (rw s at (told r t)))))))
+
+        pub settle-active : n ≤ j → j ≤ n → someBelow j (reason store places mark at) ≡ false → v ≡ 0 → set now at v ≡ written (statuses (pairsIn store places n) (at + 1)) out₀
+        settle-active k f r w =
+            let y : j ≡ n = omega arith in
+            rw (s, u) (settle-by out i v g h e (w ∙ ap statusByte (sym (settled false (rw (y, s) at r)))))
+
+pub seek-begin : (f : ℕ → Bool) → someBelow 0 f ≡ false
+seek-begin f = some-none f
+
+pub seek-on : (f : ℕ → Bool) (j : ℕ) (b : Bool) → someBelow j f ≡ false → b ≡ f j → b ≡ false → someBelow (j + 1) f ≡ false
+seek-on f j b h e l = some-on f j h (told e l)

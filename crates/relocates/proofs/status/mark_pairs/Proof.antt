@@ -1,0 +1,59 @@
+use Rattle.relocates.proofs.MarkWays.{marking}
+use mathlib.Core.Path.{_≡_}
+use Prim.Native.Nat.{_≤_, _-_}
+use lib.ListN.{length}
+use Rattle.text.specs.Text.{written}
+use Rattle.pairs.specs.Places.{pairsIn}
+use Rattle.relocates.specs.Status.{marks}
+use borrow.Author.Needs.{needs}
+use Rattle.relocates.proofs.status.mark_pairs.Statement.{statement}
+use Rattle.relocates.proofs.status.mark_pairs.Tie as tie
+
+abbrev Inv-loop : tie.InvT-loop
+Inv-loop store places n out₀ i₀ out i = (i ≤ n) × (length out ≡ length out₀) × (out ≡ written (marks (pairsIn store places n) i) out₀)
+
+abbrev μ-loop : tie.MeasureT-loop
+μ-loop store places n out₀ i₀ out i = n - i
+
+loop-holds : tie.Need-loop-holds Inv-loop μ-loop
+loop-holds c = search (needs, marking)
+
+first-occurrence-requires : tie.Need-first-occurrence-requires Inv-loop μ-loop
+first-occurrence-requires c κs = search (needs, marking)
+
+status-byte-requires : tie.Need-status-byte-requires Inv-loop μ-loop
+status-byte-requires c κs = search (needs, marking)
+
+slice-write-out : tie.Need-slice-write-out Inv-loop μ-loop
+slice-write-out c = search (needs, marking)
+
+add-i : tie.Need-add-i Inv-loop μ-loop
+add-i c = search (needs, marking)
+
+loop-less : tie.Need-loop-less Inv-loop μ-loop
+loop-less c = search (needs, marking)
+
+loop-again : tie.Need-loop-again Inv-loop μ-loop
+loop-again c = search (needs, marking)
+
+same-length : tie.Need-same-length Inv-loop μ-loop
+same-length c = search (needs, marking)
+
+returns : tie.Need-returns Inv-loop μ-loop
+returns c = search (needs, marking)
+
+pub mark-pairs-spec : {M : Type 1} → statement M
+mark-pairs-spec =
+    tie.close
+    (tie.spec
+    Inv-loop
+    μ-loop
+    loop-holds
+    first-occurrence-requires
+    status-byte-requires
+    slice-write-out
+    add-i
+    loop-less
+    loop-again
+    same-length
+    returns)

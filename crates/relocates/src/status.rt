@@ -1,0 +1,201 @@
+// Which pairs of a relocate list take part. Every public function is defined for any bytes and any
+// numbers.
+ghost use mathlib.Core.Path.{_≡_};
+ghost use mathlib.Core.Bool.{not, _&&_};
+ghost use Prim.Native.Nat.{_+_, _≤_};
+ghost use lib.Dec.{eqb};
+ghost use lib.ListN.{length};
+ghost use Rattle.text.specs.Text.{isNil, equal, written};
+ghost use Rattle.prefix.specs.Prefix.{hasPrefix};
+ghost use Rattle.pairs.specs.Places.{pairIn, pairsIn};
+ghost use Rattle.relocates.specs.declared.RelocateOccurrence.the-variants.{Active};
+ghost use Rattle.relocates.specs.Status.{pairOf, structural, reserves, duplicate, alike, pairConflicts, against, occurrenceOr, statusByte, marks, statuses, marked};
+
+// Is the pair dropped whatever stands beside it? (Rust: relocate_invalid_reason)
+pub fn is_structural(source: &[u8], target: &[u8]) -> bool
+    ensures { λ r. ⌜ r ≡ structural (pairOf (now (source .entry)) (now (target .entry))) ⌝ }
+{
+    if target.len() == 0 {
+        return false;
+    }
+    let n = prefix::prim_element_count(source).0;
+    if n == 1 {
+        return true;
+    }
+    if text::is_equal(source, target) {
+        return true;
+    }
+    if prefix::has_prefix(source, target) {
+        return true;
+    }
+    prefix::has_prefix(target, source)
+}
+
+// Is pair k one with this source, and not structural?
+fn does_reserve(store: &[u8], places: &[usize], k: usize, source: &[u8]) -> bool
+    ensures { λ r. ⌜ r ≡ reserves (pairIn (now (store .entry)) (now (places .entry)) k) (now (source .entry)) ⌝ }
+{
+    let s = pairs::key_at(store, places, k, false);
+    if !text::is_equal(s, source) {
+        return false;
+    }
+    let t = pairs::key_at(store, places, k, true);
+    !is_structural(s, t)
+}
+
+// Has an earlier pair, which is not structural, the source of pair i? (Rust: duplicate_source_mask)
+pub fn is_duplicate(store: &[u8], places: &[usize], i: usize) -> bool
+    ensures { λ r. ⌜ r ≡ duplicate (pairsIn (now (store .entry)) (now (places .entry)) (i + 1)) i ⌝ }
+{
+    let source = pairs::key_at(store, places, i, false);
+    let mut k = 0;
+    while k < i {
+        if does_reserve(store, places, k, source) {
+            return true;
+        }
+        k += 1;
+    }
+    false
+}
+
+// Are the texts the same, and not empty?
+fn is_alike(a: &[u8], b: &[u8]) -> bool
+    ensures { λ r. ⌜ r ≡ alike (now (a .entry)) (now (b .entry)) ⌝ }
+{
+    if b.len() == 0 {
+        return false;
+    }
+    text::is_equal(a, b)
+}
+
+// Is the target, not empty, the other source or below it?
+fn is_target_below(target: &[u8], other: &[u8]) -> bool
+    ensures { λ r. ⌜ r ≡ (not (isNil (now (target .entry))) && hasPrefix (now (target .entry)) (now (other .entry))) ⌝ }
+{
+    if target.len() == 0 {
+        return false;
+    }
+    prefix::has_prefix(target, other)
+}
+
+// Is the source below the other source?
+fn is_source_below(source: &[u8], other: &[u8]) -> bool
+    ensures { λ r. ⌜ r ≡ (not (equal (now (source .entry)) (now (other .entry))) && hasPrefix (now (source .entry)) (now (other .entry))) ⌝ }
+{
+    if text::is_equal(source, other) {
+        return false;
+    }
+    prefix::has_prefix(source, other)
+}
+
+// Does the pair of sa and ta have a reason to be dropped in that of sb and tb?
+pub fn relocate_pair_conflicts(sa: &[u8], ta: &[u8], sb: &[u8], tb: &[u8]) -> bool
+    ensures { λ r. ⌜ r ≡ pairConflicts (pairOf (now (sa .entry)) (now (ta .entry))) (pairOf (now (sb .entry)) (now (tb .entry))) ⌝ }
+{
+    if is_target_below(ta, sb) {
+        return true;
+    }
+    if is_alike(sa, tb) {
+        return true;
+    }
+    is_source_below(sa, sb)
+}
+
+// The same of pair i and pair j, or the same target. The mark of pair j is 0 where it is neither
+// structural nor a duplicate.
+fn conflicts_with(store: &[u8], places: &[usize], i: usize, j: usize, mark: u8) -> bool
+    ensures { λ r. ⌜ r ≡ (not (eqb i j) && eqb mark 0 && against (pairIn (now (store .entry)) (now (places .entry)) i) (pairIn (now (store .entry)) (now (places .entry)) j)) ⌝ }
+{
+    if i == j {
+        return false;
+    }
+    if mark != 0 {
+        return false;
+    }
+    let sa = pairs::key_at(store, places, i, false);
+    let ta = pairs::key_at(store, places, i, true);
+    let sb = pairs::key_at(store, places, j, false);
+    let tb = pairs::key_at(store, places, j, true);
+    if is_alike(ta, tb) {
+        return true;
+    }
+    relocate_pair_conflicts(sa, ta, sb, tb)
+}
+
+// What becomes of pair i before conflicts are sought.
+fn first_occurrence(store: &[u8], places: &[usize], i: usize) -> crate::RelocateOccurrence
+    ensures { λ r. ⌜ r ≡ occurrenceOr Active (pairsIn (now (store .entry)) (now (places .entry)) (i + 1)) i ⌝ }
+{
+    let s = pairs::key_at(store, places, i, false);
+    let t = pairs::key_at(store, places, i, true);
+    if is_structural(s, t) {
+        return crate::RelocateOccurrence::DroppedStructural;
+    }
+    if is_duplicate(store, places, i) {
+        return crate::RelocateOccurrence::DroppedDuplicateSource;
+    }
+    crate::RelocateOccurrence::Active
+}
+
+// Document 01's byte of a status.
+pub fn status_byte(o: crate::RelocateOccurrence) -> u8
+    ensures { λ r. ⌜ r ≡ statusByte o ⌝ }
+{
+    match o {
+        crate::RelocateOccurrence::Active => 0,
+        crate::RelocateOccurrence::DroppedStructural => 1,
+        crate::RelocateOccurrence::DroppedDuplicateSource => 2,
+        crate::RelocateOccurrence::DroppedConflict => 3,
+    }
+}
+
+// Writes the statuses of the first n pairs before conflicts are sought.
+fn mark_pairs(store: &[u8], places: &[usize], n: usize, out: &mut [u8])
+    requires { ⌜ n ≤ length (now out) ⌝ }
+    ensures { λ _. ⌜ now (out .exit) ≡ written (marks (pairsIn (now (store .entry)) (now (places .entry)) n) n) (now (out .entry)) ⌝ }
+{
+    let mut i = 0;
+    while i < n {
+        out[i] = status_byte(first_occurrence(store, places, i));
+        i += 1;
+    }
+}
+
+// Writes the statuses of the first n pairs. The search over the other pairs stops at the first reason
+// found.
+fn settle_pairs(store: &[u8], places: &[usize], n: usize, mark: &[u8; 64], out: &mut [u8])
+    requires { ⌜ (n ≤ 64) × (n ≤ length (now out)) ⌝ }
+    requires { ⌜ marked (pairsIn (now store) (now places) n) (now mark) ⌝ }
+    ensures { λ _. ⌜ now (out .exit) ≡ written (statuses (pairsIn (now (store .entry)) (now (places .entry)) n) n) (now (out .entry)) ⌝ }
+{
+    let mut i = 0;
+    'pairs: while i < n {
+        let own = mark[i];
+        if own != 0 {
+            out[i] = own;
+            i += 1;
+            continue 'pairs;
+        }
+        let mut j = 0;
+        while j < n {
+            if conflicts_with(store, places, i, j, mark[j]) {
+                out[i] = status_byte(crate::RelocateOccurrence::DroppedConflict);
+                i += 1;
+                continue 'pairs;
+            }
+            j += 1;
+        }
+        out[i] = status_byte(crate::RelocateOccurrence::Active);
+        i += 1;
+    }
+}
+
+// Writes the statuses of the first n pairs.
+pub(crate) fn write_statuses(store: &[u8], places: &[usize], n: usize, out: &mut [u8])
+    requires { ⌜ (n ≤ 64) × (n ≤ length (now out)) ⌝ }
+    ensures { λ _. ⌜ now (out .exit) ≡ written (statuses (pairsIn (now (store .entry)) (now (places .entry)) n) n) (now (out .entry)) ⌝ }
+{
+    let mut mark = [0u8; 64];
+    mark_pairs(store, places, n, &mut mark);
+    settle_pairs(store, places, n, &mark, out);
+}
