@@ -17,8 +17,8 @@ use Rattle.maps.specs.Leg.{translate, home, PlainPath, ThereAndBack}
 use Rattle.maps.proofs.OutcomeLaws.{no-path}
 use Rattle.maps.proofs.LegLaws.{leg-next, leg-home, leg-exact}
 use Rattle.route.specs.Leg.{Leg, by-map, by-relocates, legMap, legEnds, outward, homeward}
-use Rattle.route.specs.Route.{routeEnds, along, met, Returns, Demand3}
-use Rattle.route.proofs.RelocateLaws.{relocate-ends}
+use Rattle.route.specs.Route.{routeEnds, along, met, Returns, Demand3, RelocatesExact}
+use Rattle.route.proofs.RelocateLaws.{relocate-ends, relocate-full}
 
 -- a leg's map has such ends as the leg
 pub map-ends : (x : Leg) → legEnds x ≡ true → allEnds ((legMap x) .pairs) ≡ true
@@ -137,3 +137,10 @@ demand-3 legs p ends c = record {
   home-again = λ q e. way-home legs p q ends c e;
   exact = λ k x r h g full q. let d = reached legs p ends c k x r h g in step-exact x (d .0) r q (d .1) full;
 }
+
+-- of a relocate list the second half holds with no hypothesis: its map has no empty source
+pub relocates-exact : RelocatesExact
+unfolding legEnds legMap
+relocates-exact legs p ends c k l r h g q =
+    let d = reached legs p ends c k (by-relocates l) r h g in
+    (demand-3 legs p ends c) .exact k (by-relocates l) r h g (relocate-full l (d .0)) q

@@ -7,10 +7,11 @@ use mathlib.Core.Option.{some}
 use Prim.Native.Nat.{ℕ}
 use lib.ListN.{getElem?}
 use Rattle.text.specs.Text.{Text}
-use Rattle.pairs.specs.Pair.{noEmptySource}
+use Rattle.pairs.specs.Pair.{Pair, noEmptySource}
 use Rattle.path.specs.Outcome.{Outcome, path, refused}
 use Rattle.maps.specs.Leg.{PlainPath, ThereAndBack}
-use Rattle.route.specs.Leg.{Leg, legMap, legEnds, outward, homeward}
+use Rattle.relocates.specs.Status.{relocateMap}
+use Rattle.route.specs.Leg.{Leg, by-relocates, legMap, legEnds, outward, homeward}
 
 -- the ends of all pairs of all legs are ends
 unfoldable pub routeEnds : List Leg → Bool
@@ -50,3 +51,10 @@ pub record Returns (legs : List Leg) (p : Text) : Type 0 where
 -- for every list of legs, maps and relocate lists in any order, and every legal path free of variant selections
 abbrev pub Demand3 : Type 0
 Demand3 = (legs : List Leg) (p : Text) → routeEnds legs ≡ true → PlainPath p → Returns legs p
+
+-- A relocate list's map never has an empty source, so there the second half holds without that condition.
+abbrev pub RelocatesExact : Type 0
+RelocatesExact =
+    (legs : List Leg) (p : Text) → routeEnds legs ≡ true → PlainPath p
+    → (k : ℕ) (l : List Pair) (r : Text) → getElem? legs k ≡ some (by-relocates l) → getElem? (met outward legs p) k ≡ some r
+    → (q : Text) → (outward (by-relocates l) r ≡ path q) ↔ ThereAndBack (relocateMap l) r q
