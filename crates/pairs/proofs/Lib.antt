@@ -1,7 +1,7 @@
 mod PlaceWays
 mod BestWays
-mod RoomWays
-mod WriteWays
+pub mod RoomWays
+pub mod WriteWays
 pub mod BestLaws
 pub mod PlaceLaws
 pub mod ListLaws

@@ -72,12 +72,12 @@ module _ (at : ℕ) (s t ks kt : Text) (e : s ≡ ks) (f : t ≡ kt) where
   pair-slots l j h = four-stored l j at (length s) (at + length s) (length t) h ∙ rw (e, f) refl
 
 -- a list and one pair more
-list-snoc : (l : List Pair) (x : Pair) → listText (l ++ x ∷ []) ≡ listText l ++ (x .source ++ x .target)
+pub list-snoc : (l : List Pair) (x : Pair) → listText (l ++ x ∷ []) ≡ listText l ++ (x .source ++ x .target)
 unfolding listText
 list-snoc [] x = simp append-nil
 list-snoc (y ∷ l) x = rw (list-snoc l x) (simp append-assoc)
 
-places-snoc : (at : ℕ) (l : List Pair) (x : Pair) → listPlaces at (l ++ x ∷ []) ≡ listPlaces at l ++ fourOf (at + endBytes l) (x .source) (x .target)
+pub places-snoc : (at : ℕ) (l : List Pair) (x : Pair) → listPlaces at (l ++ x ∷ []) ≡ listPlaces at l ++ fourOf (at + endBytes l) (x .source) (x .target)
 unfolding listPlaces endBytes
 places-snoc at [] x = let z : at + 0 ≡ at = omega arith in rw z refl
 places-snoc at (y ∷ l) x =
@@ -85,7 +85,7 @@ places-snoc at (y ∷ l) x =
     let z : n + endBytes l ≡ at + (length (y .source) + length (y .target) + endBytes l) = omega arith in
     rw (places-snoc n l x, z) refl
 
-over-written : (t s out : Text) → over (length t) s (written t out) ≡ written (t ++ s) out
+pub over-written : (t s out : Text) → over (length t) s (written t out) ≡ written (t ++ s) out
 over-written t s out = simp (take-append-seam, drop-append-add, drop-drop, length-append, append-assoc)
 
 -- `write_list`

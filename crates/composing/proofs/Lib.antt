@@ -1,0 +1,4 @@
+pub mod PlainWays
+pub mod ScratchLaws
+pub mod SourceLaws
+pub mod PullWays
