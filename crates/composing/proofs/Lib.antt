@@ -2,3 +2,5 @@ pub mod PlainWays
 pub mod ScratchLaws
 pub mod SourceLaws
 pub mod PullWays
+pub mod LengthLaws
+pub mod BuildWays

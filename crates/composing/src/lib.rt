@@ -201,3 +201,111 @@ fn pull_pair(
     write_places(n, at, k, end, t.len(), slots);
     next
 }
+
+// The first half of the composed list: each inner pair with its target carried through the outer
+// map; the place behind them.
+fn carry_all(
+    store: &[u8],
+    places: &[usize],
+    count: usize,
+    mark: bool,
+    istore: &[u8],
+    iplaces: &[usize],
+    inner: usize,
+    bytes: &mut [u8],
+    slots: &mut [usize],
+) -> usize
+    requires { ⌜ everyEnd modest (pairsIn (now store) (now places) count) ≡ true ⌝ }
+    requires { ⌜ everyEnd modest (pairsIn (now istore) (now iplaces) inner) ≡ true ⌝ }
+    requires { ⌜ 1534 * inner ≤ length (now bytes) ⌝ }
+    requires { ⌜ 4 * inner ≤ length (now slots) ⌝ }
+    ensures { λ r. ⌜ Holds (map (carried (lentMap (now (store .entry)) (now (places .entry)) count mark)) (pairsIn (now (istore .entry)) (now (iplaces .entry)) inner)) inner r (now (bytes .exit)) (now (slots .exit)) ⌝ }
+    ensures { λ r. ⌜ r ≤ 1534 * inner ⌝ }
+{
+    let mut at = 0;
+    let mut i = 0;
+    while i < inner {
+        let s = pairs::key_at(istore, iplaces, i, false);
+        let t = pairs::key_at(istore, iplaces, i, true);
+        at = carry_pair(store, places, count, mark, s, t, i, at, bytes, slots);
+        i += 1;
+    }
+    at
+}
+
+// The second half behind the first: each outer pair whose source goes back through the inner map to a
+// source that is not there yet.
+fn pull_all(
+    store: &[u8],
+    places: &[usize],
+    count: usize,
+    istore: &[u8],
+    iplaces: &[usize],
+    inner: usize,
+    mark: bool,
+    at: usize,
+    bytes: &mut [u8],
+    slots: &mut [usize],
+) -> Built
+    requires { ⌜ everyEnd modest (pairsIn (now store) (now places) count) ≡ true ⌝ }
+    requires { ⌜ everyEnd modest (pairsIn (now istore) (now iplaces) inner) ≡ true ⌝ }
+    requires { ⌜ 1534 * (inner + count) ≤ length (now bytes) ⌝ }
+    requires { ⌜ 4 * (inner + count) ≤ length (now slots) ⌝ }
+    requires { ⌜ Holds (pairsIn (now bytes) (now slots) inner) inner at (now bytes) (now slots) ⌝ }
+    requires { ⌜ at ≤ 1534 * inner ⌝ }
+    ensures { λ r. ⌜ Holds (pulled (lentMap (now (istore .entry)) (now (iplaces .entry)) inner mark) (pairsIn (now (bytes .entry)) (now (slots .entry)) inner) (pairsIn (now (store .entry)) (now (places .entry)) count)) (r .n) (r .at) (now (bytes .exit)) (now (slots .exit)) ⌝ }
+{
+    let mut b = Built { n: inner, at: at };
+    let mut i = 0;
+    while i < count {
+        let s = pairs::key_at(store, places, i, false);
+        let t = pairs::key_at(store, places, i, true);
+        b = pull_pair(istore, iplaces, inner, mark, s, t, b, bytes, slots);
+        i += 1;
+    }
+    b
+}
+
+// The composed list, before dropping.
+fn compose_into(
+    store: &[u8],
+    places: &[usize],
+    count: usize,
+    mark: bool,
+    istore: &[u8],
+    iplaces: &[usize],
+    inner: usize,
+    imark: bool,
+    bytes: &mut [u8],
+    slots: &mut [usize],
+) -> Built
+    requires { ⌜ everyEnd modest (pairsIn (now store) (now places) count) ≡ true ⌝ }
+    requires { ⌜ everyEnd modest (pairsIn (now istore) (now iplaces) inner) ≡ true ⌝ }
+    requires { ⌜ 1534 * (inner + count) ≤ length (now bytes) ⌝ }
+    requires { ⌜ 4 * (inner + count) ≤ length (now slots) ⌝ }
+    ensures { λ r. ⌜ Holds (composedPairs (lentMap (now (store .entry)) (now (places .entry)) count mark) (lentMap (now (istore .entry)) (now (iplaces .entry)) inner imark)) (r .n) (r .at) (now (bytes .exit)) (now (slots .exit)) ⌝ }
+{
+    let at = carry_all(
+        store,
+        places,
+        count,
+        mark,
+        istore,
+        iplaces,
+        inner,
+        bytes,
+        slots,
+    );
+    pull_all(
+        store,
+        places,
+        count,
+        istore,
+        iplaces,
+        inner,
+        imark,
+        at,
+        bytes,
+        slots,
+    )
+}
