@@ -12,22 +12,21 @@ use borrow.Author.Tests.{le-leb, lt-leb}
 use Rattle.text.specs.Text.{Text, isNil, written, placed, fitted}
 use Rattle.text.specs.declared.Fit.{Fit}
 use Rattle.text.specs.declared.Fit.the-variants.{Written as WrittenFit, Over}
-use Rattle.text.proofs.BoolLaws.{and-r, not-true, not-false, told}
+use Rattle.text.proofs.BoolLaws.{not-true, not-false, told}
 use Rattle.text.proofs.WriteLaws.{placed-first, rest-whole, fit-length, fit-room, fit-over}
 use Rattle.grammar.specs.Legal.{fits}
-use Rattle.prefix.specs.Prefix.{hasPrefix}
 use Rattle.prefix.specs.Join.{joined, spoils}
-use Rattle.prefix.proofs.PrefixLaws.{prefix-long}
-use Rattle.pairs.specs.Places.{keyAt, pairsIn}
+use Rattle.pairs.specs.Places.{keyAt}
 use Rattle.pairs.specs.Best.{best, serves, chosenIn}
-use Rattle.pairs.proofs.PlaceLaws.{pairsIn-length, pairsIn-source, pairsIn-target, chosen-best, best-same}
+use Rattle.pairs.proofs.PlaceLaws.{chosen-best}
 use Rattle.pairs.specs.declared.Found.{Found}
 use Rattle.path.specs.declared.Refusal.the-variants.{NoPath, MadeTooLong, MadeIllegal}
 use Rattle.path.specs.declared.Reply.{Reply}
 use Rattle.path.specs.declared.Reply.the-variants.{Written, Refused}
 use Rattle.path.specs.Outcome.{Outcome, path, refused, reply, memory}
-use Rattle.maps.specs.Map.{Map, source, target, size, chosenOut, chosenHome}
-use Rattle.carry.specs.Quick.{lentMap, joining, keeping, quickBy, quick}
+use Rattle.maps.specs.Map.{Map, lentMap, source, target, chosenOut, chosenHome}
+use Rattle.maps.proofs.LentLaws.{served-long, out-keys, home-keys, ends-by}
+use Rattle.carry.specs.Quick.{joining, keeping, quickBy, quick}
 
 -- a text's length and whether it is empty
 pub nil-length : (k : Text) → length k ≡ 0 → isNil k ≡ true
@@ -37,11 +36,6 @@ nil-length (a ∷ k) l = absurd (omega arith)
 pub not-nil-length : (k : Text) → length k ≢ 0 → isNil k ≡ false
 not-nil-length [] l = absurd (l refl)
 not-nil-length (a ∷ k) l = refl
-
--- a key that serves is no longer than the path
-served-long : (p k : Text) → serves p k ≡ true → length k ≤ length p
-unfolding serves
-served-long p k e = prefix-long p k (and-r (not (isNil k)) (hasPrefix p k) e)
 
 -- what a text that fits 255 bytes leaves, and one that does not
 module _ (q out : Text) (f : Fit) (h : f ≡ fitted q out) (l : length out ≡ 255) where
@@ -109,34 +103,16 @@ module _ (store : Text) (places : List ℕ) (n : ℕ) (mark : Bool) (p : Text) w
   abbrev lent : Map
   lent = lentMap store places n mark
 
-  chosen-by : (l : ℕ → Text) (k : ℕ → Text) → ((i : ℕ) → i < n → l i ≡ k i) → best p l (size lent) ≡ best p k n
-  unfolding best
-  chosen-by l k same = rw (pairsIn-length store places n) (best-same (serves p) l k n same)
-
-  pub out-keys : chosenOut lent p ≡ best p (key false) n
-  unfolding chosenOut
-  out-keys = chosen-by (source lent) (key false) (pairsIn-source store places n)
-
-  pub home-keys : chosenHome lent p ≡ best p (key true) n
-  unfolding chosenHome
-  home-keys = chosen-by (target lent) (key true) (pairsIn-target store places n)
-
-  pub ends-by : (invert : Bool) (i : ℕ) → best p (key invert) n ≡ some i → (source lent i ≡ key false i) × (target lent i ≡ key true i)
-  unfolding best
-  ends-by invert i e =
-      let h : i < n = (chosen-best (serves p) (key invert) n i e) .in-range in
-      (pairsIn-source store places n i h, pairsIn-target store places n i h)
-
   quick-by : (invert : Bool) → quick invert lent p ≡ quickBy mark (key invert) (key (not invert)) (key true) p (best p (key invert) n)
   unfolding quick
   quick-by false =
-      ap (quickBy mark (source lent) (target lent) (target lent) p) out-keys
+      ap (quickBy mark (source lent) (target lent) (target lent) p) (out-keys store places n mark p)
       ∙ by-same mark p (source lent) (key false) (target lent) (key true) (target lent) (key true) (best p (key false) n)
-      (λ i e. let z = ends-by false i e in (z .0, z .1, z .1))
+      (λ i e. let z = ends-by store places n mark p false i e in (z .0, z .1, z .1))
   quick-by true =
-      ap (quickBy mark (target lent) (source lent) (target lent) p) home-keys
+      ap (quickBy mark (target lent) (source lent) (target lent) p) (home-keys store places n mark p)
       ∙ by-same mark p (target lent) (key true) (source lent) (key false) (target lent) (key true) (best p (key true) n)
-      (λ i e. let z = ends-by true i e in (z .1, z .0, z .1))
+      (λ i e. let z = ends-by store places n mark p true i e in (z .1, z .0, z .1))
 
   module _ (invert : Bool) (f : Found) (h : chosenIn f ≡ best p (key invert) n) where
     pub map-none : not (f .found) ≡ true → quick invert lent p ≡ keeping mark p

@@ -21,9 +21,10 @@ use Rattle.path.specs.declared.Refusal.the-variants.{NoPath, MadeTooLong, MadeI
 use Rattle.path.specs.declared.Reply.{Reply}
 use Rattle.path.specs.declared.Reply.the-variants.{Refused}
 use Rattle.path.specs.Outcome.{Outcome, refused, reply, memory}
-use Rattle.maps.specs.Map.{Map, source, target, chosenOut, chosenHome, same}
-use Rattle.carry.specs.Quick.{lentMap, finished, joining, keeping, isNone, translateMarked, translatePair, translateBy, quickTranslate}
-use Rattle.carry.proofs.MapWays.{nil-length, not-nil-length, out-keys, home-keys, ends-by}
+use Rattle.maps.specs.Map.{lentMap, Map, source, target, chosenOut, chosenHome, same}
+use Rattle.carry.specs.Quick.{finished, joining, keeping, isNone, translateMarked, translatePair, translateBy, quickTranslate}
+use Rattle.maps.proofs.LentLaws.{out-keys, home-keys, ends-by}
+use Rattle.carry.proofs.MapWays.{nil-length, not-nil-length}
 
 -- `finish`
 module _ (b : Bool) (q out : Text) where

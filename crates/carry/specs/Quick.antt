@@ -2,21 +2,15 @@
 -- joined path again. For ends and a legal path of at most 255 bytes this is what the questions ask (proofs/QuickLaws.antt).
 use Prim.Native.Nat.{ℕ}
 use mathlib.Core.Bool.{Bool, true, false, cond, _&&_}
-use mathlib.Core.List.{List}
 use mathlib.Core.Option.{Option, none, some}
 use lib.Dec.{leb}
 use lib.ListN.{length, drop}
 use Rattle.text.specs.Text.{Text, isNil}
 use Rattle.grammar.specs.Legal.{fits}
 use Rattle.prefix.specs.Join.{joined, spoils}
-use Rattle.pairs.specs.Places.{pairsIn}
 use Rattle.path.specs.declared.Refusal.the-variants.{NoPath, MadeTooLong, MadeIllegal}
 use Rattle.path.specs.Outcome.{Outcome, path, refused}
 use Rattle.maps.specs.Map.{Map, source, target, chosenOut, chosenHome, same}
-
--- the map in lent memory: the first n pairs, and the mark
-abbrev pub lentMap : Text → List ℕ → ℕ → Bool → Map
-lentMap store places n mark = record { pairs = pairsIn store places n; mark = mark }
 
 -- the path made, spoilt or not: 8, then 7
 abbrev pub finished : Bool → Text → Outcome

@@ -5,7 +5,8 @@ ghost use mathlib.Core.Bool.{Bool, cond};
 ghost use Prim.Native.Nat.{_≤_};
 ghost use lib.ListN.{length, drop};
 ghost use Rattle.path.specs.Outcome.{reply, memory};
-ghost use Rattle.carry.specs.Quick.{joining, keeping, quick, lentMap, translateMarked, finished, translatePair, quickTranslate};
+ghost use Rattle.maps.specs.Map.{lentMap};
+ghost use Rattle.carry.specs.Quick.{joining, keeping, quick, translateMarked, finished, translatePair, quickTranslate};
 
 // The rest of the path behind the old prefix, behind the new one.
 fn carry(old: &[u8], new: &[u8], path: &[u8], out: &mut [u8; 255]) -> path::Reply

@@ -4,3 +4,5 @@ pub mod SourceLaws
 pub mod PullWays
 pub mod LengthLaws
 pub mod BuildWays
+pub mod CallWays
+pub mod ComposedEnds

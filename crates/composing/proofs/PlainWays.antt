@@ -24,8 +24,9 @@ use Rattle.pairs.specs.Best.{best, serves, chosenIn}
 use Rattle.pairs.proofs.PlaceLaws.{chosen-best}
 use Rattle.pairs.specs.declared.Found.{Found}
 use Rattle.maps.specs.Map.{Map, source, target, by, plainOut, plainHome}
-use Rattle.carry.specs.Quick.{lentMap}
-use Rattle.carry.proofs.MapWays.{nil-length, not-nil-length, out-keys, home-keys, ends-by}
+use Rattle.maps.specs.Map.{lentMap}
+use Rattle.maps.proofs.LentLaws.{out-keys, home-keys, ends-by}
+use Rattle.carry.proofs.MapWays.{nil-length, not-nil-length}
 use Rattle.composing.specs.declared.Image.{Image}
 use Rattle.composing.specs.declared.Image.the-variants.{Nothing, Made}
 use Rattle.composing.specs.Scratch.{plain, marked, image, needed, imaged, carriedTo}

@@ -1,16 +1,19 @@
 // Two maps as one. The composed list is built in memory of the call's own: source then target, pair
 // after pair.
 ghost use mathlib.Core.Path.{_≡_};
-ghost use mathlib.Core.Bool.{Bool, true, false};
-ghost use mathlib.Core.List.{[], _∷_, _++_, map};
+ghost use mathlib.Core.Bool.{Bool, true, false, _&&_};
+ghost use mathlib.Core.List.{[], _∷_, _++_, map as mapped};
+ghost use lib.Dec.{eqb};
 ghost use Prim.Native.Nat.{_+_, _*_, _-_, _≤_};
 ghost use lib.ListN.{length, take, drop};
 ghost use Rattle.text.specs.Text.{over, placed};
 ghost use Rattle.prefix.specs.Join.{joined};
-ghost use Rattle.pairs.specs.Pair.{everyEnd};
+ghost use Rattle.layer_offset.specs.Offset.{isIdentity};
+ghost use Rattle.pairs.specs.Pair.{everyEnd, allShort};
 ghost use Rattle.pairs.specs.Places.{pairsIn, fourOf};
 ghost use Rattle.maps.specs.Compose.{carried, hasSource, added, pulled, composedPairs};
-ghost use Rattle.carry.specs.Quick.{lentMap};
+ghost use Rattle.maps.specs.Map.{lentMap};
+ghost use Rattle.composing.specs.Calls.{composedTime};
 ghost use Rattle.composing.specs.Scratch.{plain, marked, image, needed, imaged, carriedTo, modest, Holds};
 
 // What mapping a text answers: no path, or the length of the path made.
@@ -219,7 +222,7 @@ fn carry_all(
     requires { ⌜ everyEnd modest (pairsIn (now istore) (now iplaces) inner) ≡ true ⌝ }
     requires { ⌜ 1534 * inner ≤ length (now bytes) ⌝ }
     requires { ⌜ 4 * inner ≤ length (now slots) ⌝ }
-    ensures { λ r. ⌜ Holds (map (carried (lentMap (now (store .entry)) (now (places .entry)) count mark)) (pairsIn (now (istore .entry)) (now (iplaces .entry)) inner)) inner r (now (bytes .exit)) (now (slots .exit)) ⌝ }
+    ensures { λ r. ⌜ Holds (mapped (carried (lentMap (now (store .entry)) (now (places .entry)) count mark)) (pairsIn (now (istore .entry)) (now (iplaces .entry)) inner)) inner r (now (bytes .exit)) (now (slots .exit)) ⌝ }
     ensures { λ r. ⌜ r ≤ 1534 * inner ⌝ }
 {
     let mut at = 0;
@@ -308,4 +311,54 @@ fn compose_into(
         bytes,
         slots,
     )
+}
+
+// Are both offsets the identity?
+fn are_identities(outer: layer_offset::LayerOffset, inner: layer_offset::LayerOffset) -> bool
+    ensures { λ r. ⌜ r ≡ (isIdentity outer && isIdentity inner) ⌝ }
+{
+    if !outer.is_identity() {
+        return false;
+    }
+    inner.is_identity()
+}
+
+// The time offset of the composed map.
+fn composed_time(
+    outer: layer_offset::LayerOffset,
+    inner: layer_offset::LayerOffset,
+) -> layer_offset::LayerOffset
+    ensures { λ r. ⌜ r ≡ composedTime outer inner ⌝ }
+{
+    if are_identities(outer, inner) {
+        return layer_offset::LayerOffset::IDENTITY;
+    }
+    outer.concatenate(inner)
+}
+
+// Does a map of so many pairs leave every path as it is?
+fn is_path_identity(count: usize, mark: bool) -> bool
+    ensures { λ r. ⌜ r ≡ (eqb count 0 && mark) ⌝ }
+{
+    if count != 0 {
+        return false;
+    }
+    mark
+}
+
+// Question 7 of the first n pairs.
+fn are_short(store: &[u8], places: &[usize], n: usize) -> bool
+    ensures { λ r. ⌜ r ≡ allShort (pairsIn (now (store .entry)) (now (places .entry)) n) ⌝ }
+{
+    let mut i = 0;
+    while i < n {
+        if 255 < pairs::key_at(store, places, i, false).len() {
+            return false;
+        }
+        if 255 < pairs::key_at(store, places, i, true).len() {
+            return false;
+        }
+        i += 1;
+    }
+    true
 }

@@ -1,3 +1,2 @@
-mod AskWays
 mod HandWays
 mod CarryWays

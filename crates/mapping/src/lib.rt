@@ -6,55 +6,16 @@ ghost use Prim.Native.Nat.{_≤_};
 ghost use lib.ListN.{length};
 ghost use Rattle.parts.specs.Strip.{strip};
 ghost use Rattle.path.specs.Outcome.{reply, memory};
-ghost use Rattle.carry.specs.Quick.{quick, lentMap, quickTranslate};
+ghost use Rattle.maps.specs.Map.{lentMap};
+ghost use Rattle.carry.specs.Quick.{quick, quickTranslate};
 ghost use Rattle.mapping.specs.Hand.{within, handed};
-ghost use Rattle.mapping.specs.Calls.{present, askedList, carrying, mapSourceToTargetCall, mapTargetToSourceCall, translateToTargetCall};
+ghost use Rattle.mapping.specs.Calls.{carrying, mapSourceToTargetCall, mapTargetToSourceCall, translateToTargetCall};
 
 // A map: how many pairs of the lent list are its own, the root-identity mark, and the time offset.
 pub struct MapFunction {
     pub count: usize,
     pub has_root_identity: bool,
     pub time_offset: layer_offset::LayerOffset,
-}
-
-// How many places the slice has for the pairs that are counted.
-fn places_of(places: &[usize], count: usize) -> usize
-    ensures { λ r. ⌜ r ≡ present (now (places .entry)) count ⌝ }
-{
-    let held = places.len() / 4;
-    if count <= held {
-        return 2 * count;
-    }
-    2 * held
-}
-
-// Questions 1 to 4 of a path and a list of pairs.
-pub fn ask_list(store: &[u8], places: &[usize], count: usize, path: &[u8]) -> path::Asked
-    ensures { λ r. ⌜ r ≡ askedList (now (store .entry)) (now (places .entry)) count (now (path .entry)) ⌝ }
-{
-    let n = places_of(places, count);
-    if 255 < path.len() {
-        return path::Asked::Refused(path::Refusal::TooLong);
-    }
-    if !pairs::all_fit(store, places, n) {
-        return path::Asked::Refused(path::Refusal::TooLong);
-    }
-    if !grammar::is_legal(path) {
-        return path::Asked::Refused(path::Refusal::Illegal);
-    }
-    if !pairs::all_legal(store, places, n) {
-        return path::Asked::Refused(path::Refusal::Illegal);
-    }
-    if !pairs::all_ends(store, places, n) {
-        return path::Asked::Refused(path::Refusal::NotAnEnd);
-    }
-    if 64 < count {
-        return path::Asked::Refused(path::Refusal::TooMany);
-    }
-    if places.len() / 4 < count {
-        return path::Asked::Refused(path::Refusal::TooMany);
-    }
-    path::Asked::Passed
 }
 
 // Writes a path that was made in memory of the call's own; a refusal writes nothing.
@@ -145,7 +106,7 @@ fn map_asked(
     ensures { λ r. ⌜ r ≡ reply (carrying (now (store .entry)) (now (places .entry)) count (now (path .entry)) (length (now (out .entry))) (quick invert (lentMap (now (store .entry)) (now (places .entry)) count mark) (now (path .entry)))) ⌝ }
     ensures { λ r. ⌜ now (out .exit) ≡ memory (carrying (now (store .entry)) (now (places .entry)) count (now (path .entry)) (length (now (out .entry))) (quick invert (lentMap (now (store .entry)) (now (places .entry)) count mark) (now (path .entry)))) (now (out .entry)) ⌝ }
 {
-    let q = ask_list(store, places, count, path);
+    let q = asking::ask_path(store, places, count, path);
     if let path::Asked::Refused(x) = q {
         return path::Reply::Refused(x);
     }
@@ -212,7 +173,7 @@ pub fn translate_to_target(
 {
     let count = map.count;
     let mark = map.has_root_identity;
-    let q = ask_list(store, places, count, path);
+    let q = asking::ask_path(store, places, count, path);
     if let path::Asked::Refused(x) = q {
         return path::Reply::Refused(x);
     }

@@ -3,3 +3,4 @@ pub mod EndLaws
 pub mod OutcomeLaws
 pub mod LegLaws
 pub mod Sharp
+pub mod LentLaws

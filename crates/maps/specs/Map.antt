@@ -10,11 +10,16 @@ use Rattle.text.specs.Text.{Text, isNil}
 use Rattle.prefix.specs.Join.{replacePrefix}
 use Rattle.parts.specs.Strip.{strip}
 use Rattle.pairs.specs.Pair.{Pair, sourceAt, targetAt}
+use Rattle.pairs.specs.Places.{pairsIn}
 use Rattle.pairs.specs.Best.{best}
 
 pub record Map : Type 0 where
   pub pairs : List Pair
   pub mark : Bool
+
+-- the map in lent memory: the first n pairs, and the mark
+abbrev pub lentMap : Text → List ℕ → ℕ → Bool → Map
+lentMap store places n mark = record { pairs = pairsIn store places n; mark = mark }
 
 abbrev pub source : Map → ℕ → Text
 source m i = sourceAt (m .pairs) i

@@ -35,7 +35,7 @@ sorted [] = []
 sorted (x ∷ xs) = insert x (sorted xs)
 
 -- where the kept pairs and the mark carry a text, textually: an empty target is joined like any other (Rust: map_via)
-abbrev pub viaPair : Map → Text → Option ℕ → Option Text
+unfoldable pub viaPair : Map → Text → Option ℕ → Option Text
 unfolding replacePrefix
 viaPair m p none = cond (m .mark) (some p) none
 viaPair m p (some i) = replacePrefix p (source m i) (target m i)
@@ -44,7 +44,7 @@ unfoldable pub via : Map → Text → Option Text
 unfolding viaPair chosenOut
 via m p = viaPair m p (chosenOut m p)
 
-abbrev pub isText : Option Text → Text → Bool
+unfoldable pub isText : Option Text → Text → Bool
 unfolding equal
 isText none t = false
 isText (some q) t = equal q t

@@ -85,16 +85,16 @@ places-snoc at (y ∷ l) x =
     let z : n + endBytes l ≡ at + (length (y .source) + length (y .target) + endBytes l) = omega arith in
     rw (places-snoc n l x, z) refl
 
-pub over-written : (t s out : Text) → over (length t) s (written t out) ≡ written (t ++ s) out
+over-written : (t s out : Text) → over (length t) s (written t out) ≡ written (t ++ s) out
 over-written t s out = simp (take-append-seam, drop-append-add, drop-drop, length-append, append-assoc)
 
 -- `write_list`
 module _ (store : Text) (places : List ℕ) where
-  source-key : (i : ℕ) → (pairIn store places i) .source ≡ keyAt store places false i
+  pub source-key : (i : ℕ) → (pairIn store places i) .source ≡ keyAt store places false i
   unfolding pairIn
   source-key i = let z : 2 * i ≡ 2 * i + 0 = omega arith in ap (λ (j : ℕ). textAt store places j) z
 
-  target-key : (i : ℕ) → (pairIn store places i) .target ≡ keyAt store places true i
+  pub target-key : (i : ℕ) → (pairIn store places i) .target ≡ keyAt store places true i
   unfolding pairIn
   target-key i = refl
 

@@ -158,7 +158,7 @@ pub fn best_prefix(store: &[u8], places: &[usize], n: usize, invert: bool, path:
 }
 
 // Is the lent memory enough for the first n pairs, one behind the other?
-fn has_room(store: &[u8], places: &[usize], n: usize, room: usize) -> bool
+pub fn has_room(store: &[u8], places: &[usize], n: usize, room: usize) -> bool
     ensures { λ r. ⌜ r ≡ leb (endBytes (pairsIn (now (store .entry)) (now (places .entry)) n)) room ⌝ }
 {
     let mut left = room;

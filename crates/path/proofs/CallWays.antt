@@ -1,9 +1,8 @@
 -- What each way through the calls gives. Assumes nothing.
 use mathlib.Core.Path.{_≡_, refl, sym, ap, _∙_}
 use mathlib.Core.Bool.{Bool, true, false, not}
-use mathlib.Core.List.{List}
 use Prim.Native.Nat.{ℕ, _≤_, _<_}
-use lib.ListN.{length, take, drop}
+use lib.ListN.{length}
 use borrow.Author.Tests.{le-leb, lt-leb}
 use Rattle.text.specs.Text.{Text}
 use Rattle.path.specs.declared.Refusal.{Refusal}
@@ -12,31 +11,40 @@ use Rattle.path.specs.declared.Asked.{Asked}
 use Rattle.path.specs.declared.Asked.the-variants.{Passed, Refused as RefusedAsked}
 use Rattle.path.specs.declared.Reply.{Reply}
 use Rattle.path.specs.declared.Reply.the-variants.{Written, Refused}
-use Rattle.path.specs.Refusal.{asked, unless}
-use Rattle.path.specs.Outcome.{Outcome, refused, reply, memory, lent}
-use Rattle.path.specs.Calls.{making}
+use Rattle.path.specs.Refusal.{unless}
+use Rattle.path.specs.Outcome.{Outcome, refused, reply, memory, lent, answered}
 
--- whatever the answer's type: a refusal goes out as it is, and a text that passed is answered
-module _ {A : Type 0} (refuse : Refusal → A) (answer : A) (ts : List Text) (q : Asked) where
-  pub unless-refused : (x : Refusal) → q ≡ asked ts → q ≡ RefusedAsked x → refuse x ≡ unless (asked ts) refuse answer
+-- whatever the answer's type: a refusal goes out as it is, and a call whose questions passed is answered
+module _ {A : Type 0} (refuse : Refusal → A) (answer : A) (a q : Asked) where
+  pub unless-refused : (x : Refusal) → q ≡ a → q ≡ RefusedAsked x → refuse x ≡ unless a refuse answer
   unless-refused x h k = rw (← h, k)
 
-  pub unless-passed : (a : A) → q ≡ asked ts → q ≡ Passed → a ≡ answer → a ≡ unless (asked ts) refuse answer
-  unless-passed a h k e = rw (← h, k) e
+  pub unless-passed : (y : A) → q ≡ a → q ≡ Passed → y ≡ answer → y ≡ unless a refuse answer
+  unless-passed y h k e = rw (← h, k) e
 
--- a path made of texts that were asked
-module _ (ts : List Text) (room : ℕ) (o : Outcome) (q : Asked) (h : q ≡ asked ts) where
-  pub making-refused : (x : Refusal) → q ≡ RefusedAsked x → making ts room o ≡ refused x
-  unfolding making
-  making-refused x k = rw (← h, k)
+-- a call that writes a path
+module _ (a : Asked) (room : ℕ) (o : Outcome) where
+  module _ (q : Asked) (h : q ≡ a) where
+    pub answered-refused : (x : Refusal) → q ≡ RefusedAsked x → answered a room o ≡ refused x
+    unfolding answered
+    answered-refused x k = rw (← h, k)
 
-  pub making-short : q ≡ Passed → room < 255 → making ts room o ≡ refused NoRoom
-  unfolding making lent
-  making-short k l = rw (← h, k, lt-leb 255 room l)
+    pub answered-short : q ≡ Passed → room < 255 → answered a room o ≡ refused NoRoom
+    unfolding answered lent
+    answered-short k l = rw (← h, k, lt-leb 255 room l)
 
-  pub making-passed : q ≡ Passed → 255 ≤ room → making ts room o ≡ o
-  unfolding making lent
-  making-passed k l = rw (← h, k, le-leb 255 room l)
+    pub answered-passed : q ≡ Passed → 255 ≤ room → answered a room o ≡ o
+    unfolding answered lent
+    answered-passed k l = rw (← h, k, le-leb 255 room l)
+
+  -- what is the same once the questions passed is the same answer
+  pub answered-same : (o′ : Outcome) → (a ≡ Passed → o ≡ o′) → answered a room o ≡ answered a room o′
+  unfolding answered
+  answered-same o′ f = go a refl
+    where
+      go : (b : Asked) → a ≡ b → unless b refused (lent room o) ≡ unless b refused (lent room o′)
+      go Passed e = ap (λ (x : Outcome). lent room x) (f e)
+      go (RefusedAsked x) e = refl
 
 -- what the call answers and leaves in memory, once its outcome is known
 pub refusing : (o : Outcome) (x : Refusal) → o ≡ refused x → (out : Text) → (Refused x ≡ reply o) × (out ≡ memory o out)

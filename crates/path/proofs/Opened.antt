@@ -17,8 +17,8 @@ use Rattle.path.specs.declared.Refusal.the-variants.{NoRoom}
 use Rattle.path.specs.declared.Reply.the-variants.{Written, Refused}
 use Rattle.path.specs.declared.Count.the-variants.{Counted, Refused as RefusedCount}
 use Rattle.path.specs.Refusal.{asked, unless}
-use Rattle.path.specs.Outcome.{made, given}
-use Rattle.path.specs.Calls.{isEndCall, hasVariantSelectionCall, elementCountCall, primElementCountCall, hasPrefixCall, making, replacePrefixCall, parentCall, primPathCall, splitPropertyCall, stripCall, ancestorsReply}
+use Rattle.path.specs.Outcome.{answered, made, given}
+use Rattle.path.specs.Calls.{isEndCall, hasVariantSelectionCall, elementCountCall, primElementCountCall, hasPrefixCall, replacePrefixCall, parentCall, primPathCall, splitPropertyCall, stripCall, ancestorsReply}
 
 module _ (p : Text) where
   pub is-end-opened : isEndCall p ≡ unless (asked (p ∷ [] ∷ [] ∷ [])) RefusedTest (Holds (isEnd p))
@@ -42,23 +42,23 @@ module _ (p : Text) where
   prefix-opened s = refl
 
   module _ (room : ℕ) where
-    pub replace-opened : (s t : Text) → replacePrefixCall p s t room ≡ making (p ∷ s ∷ t ∷ []) room (given (replacePrefix p s t))
+    pub replace-opened : (s t : Text) → replacePrefixCall p s t room ≡ answered (asked (p ∷ s ∷ t ∷ [])) room (given (replacePrefix p s t))
     unfolding replacePrefixCall
     replace-opened s t = refl
 
-    pub parent-opened : parentCall p room ≡ making (p ∷ [] ∷ [] ∷ []) room (given (parent p))
+    pub parent-opened : parentCall p room ≡ answered (asked (p ∷ [] ∷ [] ∷ [])) room (given (parent p))
     unfolding parentCall
     parent-opened = refl
 
-    pub prim-opened : primPathCall p room ≡ making (p ∷ [] ∷ [] ∷ []) room (made (primPath p))
+    pub prim-opened : primPathCall p room ≡ answered (asked (p ∷ [] ∷ [] ∷ [])) room (made (primPath p))
     unfolding primPathCall
     prim-opened = refl
 
-    pub split-opened : splitPropertyCall p room ≡ making (p ∷ [] ∷ [] ∷ []) room (given (splitProperty p))
+    pub split-opened : splitPropertyCall p room ≡ answered (asked (p ∷ [] ∷ [] ∷ [])) room (given (splitProperty p))
     unfolding splitPropertyCall
     split-opened = refl
 
-    pub strip-opened : stripCall p room ≡ making (p ∷ [] ∷ [] ∷ []) room (made (strip p))
+    pub strip-opened : stripCall p room ≡ answered (asked (p ∷ [] ∷ [] ∷ [])) room (made (strip p))
     unfolding stripCall
     strip-opened = refl
 

@@ -23,7 +23,7 @@ use Rattle.path.specs.declared.Count.the-variants.{Counted, Refused as R
 use Rattle.path.specs.declared.Reply.{Reply}
 use Rattle.path.specs.declared.Reply.the-variants.{Written, Refused}
 use Rattle.path.specs.Refusal.{asked, unless}
-use Rattle.path.specs.Outcome.{Outcome, refused, lent, made, given}
+use Rattle.path.specs.Outcome.{Outcome, answered, made, given}
 
 -- Rust: Path::new, which refuses the empty text; document 01 counts it as legal.
 unfoldable pub newCall : Text → Asked
@@ -61,30 +61,25 @@ unfoldable pub primElementCountCall : Text → Count
 unfolding counted
 primElementCountCall p = counted p (names p)
 
--- a path made of legal texts
-unfoldable pub making : List Text → ℕ → Outcome → Outcome
-unfolding asked lent
-making ts room o = unless (asked ts) refused (lent room o)
-
 unfoldable pub replacePrefixCall : Text → Text → Text → ℕ → Outcome
-unfolding making given replacePrefix
-replacePrefixCall p s t room = making (p ∷ s ∷ t ∷ []) room (given (replacePrefix p s t))
+unfolding answered asked given replacePrefix
+replacePrefixCall p s t room = answered (asked (p ∷ s ∷ t ∷ [])) room (given (replacePrefix p s t))
 
 unfoldable pub parentCall : Text → ℕ → Outcome
-unfolding making given parent
-parentCall p room = making (p ∷ []) room (given (parent p))
+unfolding answered asked given parent
+parentCall p room = answered (asked (p ∷ [])) room (given (parent p))
 
 unfoldable pub primPathCall : Text → ℕ → Outcome
-unfolding making made primPath
-primPathCall p room = making (p ∷ []) room (made (primPath p))
+unfolding answered asked made primPath
+primPathCall p room = answered (asked (p ∷ [])) room (made (primPath p))
 
 unfoldable pub splitPropertyCall : Text → ℕ → Outcome
-unfolding making given splitProperty
-splitPropertyCall p room = making (p ∷ []) room (given (splitProperty p))
+unfolding answered asked given splitProperty
+splitPropertyCall p room = answered (asked (p ∷ [])) room (given (splitProperty p))
 
 unfoldable pub stripCall : Text → ℕ → Outcome
-unfolding making made strip
-stripCall p room = making (p ∷ []) room (made (strip p))
+unfolding answered asked made strip
+stripCall p room = answered (asked (p ∷ [])) room (made (strip p))
 
 -- question 5 for `ancestors`: "one number per path of `ancestors` (its length)"
 unfoldable pub ancestorsReply : Text → ℕ → Reply

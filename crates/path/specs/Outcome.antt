@@ -9,8 +9,10 @@ use Rattle.text.specs.Text.{Text, written}
 use Rattle.grammar.specs.Legal.{legal, fits}
 use Rattle.path.specs.declared.Refusal.{Refusal}
 use Rattle.path.specs.declared.Refusal.the-variants.{NoRoom, NoPath, MadeTooLong, MadeIllegal}
+use Rattle.path.specs.declared.Asked.{Asked}
 use Rattle.path.specs.declared.Reply.{Reply}
 use Rattle.path.specs.declared.Reply.the-variants.{Written, Refused}
+use Rattle.path.specs.Refusal.{unless}
 
 pub data Outcome : Type 0 where
   path : Text → Outcome
@@ -28,6 +30,11 @@ memory (refused x) out = out
 -- question 5: "255 bytes for a path"
 unfoldable pub lent : ℕ → Outcome → Outcome
 lent room o = cond (leb 255 room) o (refused NoRoom)
+
+-- a call that writes a path: the questions before 5 come first, then question 5, then what is made
+unfoldable pub answered : Asked → ℕ → Outcome → Outcome
+unfolding lent
+answered a room o = unless a refused (lent room o)
 
 -- questions 7 and 8: "Is every path made at most 255 bytes? .. legal?"
 unfoldable pub made : Text → Outcome

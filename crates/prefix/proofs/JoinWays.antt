@@ -10,10 +10,11 @@ use lib.Dec.{eqb, leb}
 use lib.ListN.{length, getD, take, drop, length-append}
 use lib.Seq.{length-take-le}
 use borrow.Author.Tests.{eq-eqb, ne-eqb, le-leb, lt-leb}
-use Rattle.text.specs.Text.{Text, isNil, lastIs, written, placed, fitted}
+use Rattle.text.specs.Text.{Text, isNil, equal, starts, lastIs, written, placed, fitted}
 use Rattle.text.specs.declared.Fit.{Fit}
 use Rattle.text.specs.declared.Fit.the-variants.{Written, Over}
 use Rattle.text.proofs.BoolLaws.{and-no, and-yes, or-right, or-false, told, told-false, told-true}
+use Rattle.text.proofs.TextLaws.{equal-append, starts-long}
 use Rattle.text.proofs.WriteLaws.{placed-first, placed-next, rest-whole}
 use Rattle.grammar.specs.Legal.{isRoot, isIdentifierCont}
 use Rattle.prefix.specs.Join.{isChild, bare, slashUnless, separator, body, joined, spoils}
@@ -214,3 +215,30 @@ module _ (s t r out : Text) where
         )
 
 pub ruleset joins = (child-slash, child-not, child-name, bare-root, bare-closed, separator-none, separator-roots, separator-root, separator-other, separator-bare, separator-slash, body-none, body-whole, body-root, body-slash, body-in, hangs-dot, hangs-open, spoils-none, spoils-not, spoils-empty, spoils-root)
+
+-- `is_join`
+module _ (s t r x : Text) where
+  join-equal : equal (joined s t r) x ≡ (starts t x && (starts (separator s t r) (drop (length t) x) && equal (body s r) (drop (length (separator s t r)) (drop (length t) x))))
+  unfolding joined
+  join-equal = equal-append t (separator s t r ++ body s r) x ∙ ap (λ (b : Bool). starts t x && b) (equal-append (separator s t r) (body s r) (drop (length t) x))
+
+  module _ (a : Bool) (h : a ≡ starts t x) where
+    pub join-other : not a ≡ true → false ≡ equal (joined s t r) x
+    join-other k = sym (join-equal ∙ rw (told-false h k))
+
+    module _ (l : not a ≡ false) (k : ℕ) (e : k ≡ length (separator s t r)) (b : Bool)
+        (g : b ≡ starts (take k (47 ∷ [])) (take (length x - length t) (drop (length t) x))) where
+      slash-told : b ≡ starts (separator s t r) (drop (length t) x)
+      slash-told = g ∙ rw (e, separator-taken s t r, rest-whole x (length t)) refl
+
+      pub join-unslashed : not b ≡ true → false ≡ equal (joined s t r) x
+      join-unslashed m = sym (join-equal ∙ rw (told-true h l, told-false slash-told m))
+
+      pub join-tail : not b ≡ false → k ≤ length (take (length x - length t) (drop (length t) x))
+      join-tail m = rw (e, rest-whole x (length t)) (starts-long (separator s t r) (drop (length t) x) (told-true slash-told m))
+
+      pub join-same : not b ≡ false → (f : ℕ) → drop f r ≡ body s r → (c : Bool)
+          → c ≡ equal (take (length r - f) (drop f r)) (take (length (take (length x - length t) (drop (length t) x)) - k) (drop k (take (length x - length t) (drop (length t) x))))
+          → c ≡ equal (joined s t r) x
+      join-same m f i c n =
+          n ∙ rw (rest-whole r f, i, rest-whole (take (length x - length t) (drop (length t) x)) k, rest-whole x (length t), e) (sym (join-equal ∙ rw (told-true h l, told-true slash-told m)))

@@ -5,7 +5,7 @@ ghost use mathlib.Core.Bool.{Bool, cond, _||_};
 ghost use lib.Dec.{eqb};
 ghost use Prim.Native.Nat.{_+_, _<_, _≤_};
 ghost use lib.ListN.{length, getD, drop};
-ghost use Rattle.text.specs.Text.{fitted, placed};
+ghost use Rattle.text.specs.Text.{equal, fitted, placed};
 ghost use Rattle.prefix.specs.Elements.{begins, count, elements, names};
 ghost use Rattle.prefix.specs.Prefix.{boundary, hasPrefix};
 ghost use Rattle.prefix.specs.Join.{isChild, bare, separator, body, joined, spoils};
@@ -189,6 +189,24 @@ pub fn join(old: &[u8], new: &[u8], rest: &[u8], out: &mut [u8]) -> text::Fit
     text::write_at(&slash[..k], n, out);
     text::write_at(body, at, out);
     text::Fit::Written(at + body.len())
+}
+
+// Is the text what the rest, which stood behind the old prefix, gives behind the new one?
+pub fn is_join(old: &[u8], new: &[u8], rest: &[u8], text: &[u8]) -> bool
+    ensures { λ r. ⌜ r ≡ equal (joined (now (old .entry)) (now (new .entry)) (now (rest .entry))) (now (text .entry)) ⌝ }
+{
+    if !text::starts_with(text, new) {
+        return false;
+    }
+    let n = new.len();
+    let tail = &text[n..];
+    let k = separator_len(old, new, rest);
+    let slash = [b'/'; 1];
+    if !text::starts_with(tail, &slash[..k]) {
+        return false;
+    }
+    let from = body_at(old, rest);
+    text::is_equal(&rest[from..], &tail[k..])
 }
 
 // Is the new prefix `/` or empty, behind which a rest that begins with `.` or `{` cannot stand?

@@ -1,7 +1,7 @@
 -- Laws of texts, and what each way through the comparing functions gives. Assumes nothing.
 use mathlib.Core.Path.{_≡_, refl, sym, ap, _∙_}
 use mathlib.Core.Logic.{_≢_}
-use mathlib.Core.Bool.{Bool, true, false, not, _&&_, true≢false}
+use mathlib.Core.Bool.{Bool, true, false, not, cond, _&&_, true≢false}
 use mathlib.Core.List.{List, [], _∷_, _++_}
 use mathlib.Core.Option.{Option, none, some}
 use Prim.Native.Nat.{ℕ, zero, suc, _+_, _-_, _≤_, _<_}
@@ -119,6 +119,18 @@ equal-self [] = refl
 equal-self (x ∷ a) = rw (eqb-self x) (equal-self a)
 
 -- `last_is`
+-- a text is s and then r exactly where it starts with s and r is what follows
+pub equal-append : (s r t : Text) → equal (s ++ r) t ≡ (starts s t && equal r (drop (length s) t))
+unfolding equal starts after
+equal-append [] r t = refl
+equal-append (a ∷ s) r [] = refl
+equal-append (a ∷ s) r (b ∷ t) = go (eqb a b) (equal-append s r t)
+  where
+    go : (e : Bool) → equal (s ++ r) t ≡ (isSome (after s t) && equal r (drop (length s) t))
+        → (e && equal (s ++ r) t) ≡ (isSome (cond e (after s t) none) && equal r (drop (length s) t))
+    go true h = h
+    go false h = refl
+
 pub last-none : (b : ℕ) (s : Text) → length s ≡ 0 → false ≡ lastIs b s
 unfolding lastIs
 last-none b [] l = refl

@@ -5,7 +5,7 @@ use native.Mathlib.Omega.{arith}
 use lib.ListN.{length}
 use Rattle.pairs.specs.Places.{pairsIn}
 use Rattle.maps.specs.Compose.{carried}
-use Rattle.carry.specs.Quick.{lentMap}
+use Rattle.maps.specs.Map.{lentMap}
 use Rattle.composing.specs.Scratch.{Holds}
 use Rattle.composing.proofs.BuildWays.{carry-begin, carry-room, carry-bound, carry-next, carry-end}
 use borrow.Author.Needs.{needs}

@@ -1,5 +1,5 @@
 use native.Mathlib.Omega.{arith}
-use Rattle.carry.specs.Quick.{lentMap}
+use Rattle.maps.specs.Map.{lentMap}
 use Rattle.composing.proofs.BuildWays.{holds-own, composed}
 use borrow.Author.Needs.{needs}
 use Rattle.composing.proofs.compose_into.Statement.{statement}

@@ -4,7 +4,7 @@ use native.Mathlib.Omega.{arith}
 use lib.ListN.{length}
 use Rattle.pairs.specs.Places.{pairsIn}
 use Rattle.maps.specs.Compose.{pulled}
-use Rattle.carry.specs.Quick.{lentMap}
+use Rattle.maps.specs.Map.{lentMap}
 use Rattle.composing.specs.Scratch.{Holds}
 use Rattle.composing.proofs.BuildWays.{holds-own, pull-begin, pull-room, pull-slot, pull-number, pull-bound, pull-next, pull-end}
 use borrow.Author.Needs.{needs}

@@ -1,7 +1,7 @@
 use mathlib.Core.Bool.{true}
 use native.Mathlib.Omega.{arith}
 use Rattle.pairs.specs.Places.{pairsIn}
-use Rattle.carry.specs.Quick.{lentMap}
+use Rattle.maps.specs.Map.{lentMap}
 use Rattle.composing.specs.Scratch.{plain}
 use Rattle.composing.proofs.PullWays.{pull-none, pull-sum, pull-inside, pull-there, pull-new}
 use borrow.Author.Needs.{needs}

@@ -2,7 +2,7 @@ use mathlib.Core.Path.{ap, _∙_}
 use Rattle.parts.proofs.ParentLaws.{parent-len-le, parent-take}
 use Rattle.path.specs.Outcome.{given}
 use Rattle.path.proofs.Opened.{parent-opened}
-use Rattle.path.proofs.CallWays.{making-refused, making-short, making-passed, refusing, answering}
+use Rattle.path.proofs.CallWays.{answered-refused, answered-short, answered-passed, refusing, answering}
 use Rattle.path.proofs.PartWays.{passed-short, passed-legal, cut-written, cut-length, parent-empty, parent-root, parent-cut}
 use borrow.Author.Needs.{needs}
 use Rattle.path.proofs.parent.Statement.{statement}
@@ -21,19 +21,19 @@ enum-known-q : tie.Need-enum-known-q
 enum-known-q c = search needs
 
 returns : tie.Need-returns
-returns c = refusing _ _ (parent-opened _ _ ∙ making-refused _ _ _ _ (c .before .before .before .ask .ensures) _ (c .before .q .given .1)) _
+returns c = refusing _ _ (parent-opened _ _ ∙ answered-refused _ _ _ _ (c .before .before .before .ask .ensures) _ (c .before .q .given .1)) _
 
 enum-told : tie.Need-enum-told
 enum-told c = search needs
 
 returns-2 : tie.Need-returns-2
-returns-2 c = refusing _ _ (parent-opened _ _ ∙ making-short _ _ _ _ (c .before .before .before .ask .ensures) (c .before .enum-told .given .1) (c .if1 .taken)) _
+returns-2 c = refusing _ _ (parent-opened _ _ ∙ answered-short _ _ _ _ (c .before .before .before .ask .ensures) (c .before .enum-told .given .1) (c .if1 .taken)) _
 
 returns-3 : tie.Need-returns-3
 unfolding given
 returns-3 c =
     refusing _ _
-    (parent-opened _ _ ∙ making-passed _ _ _ _ (c .before .before .before .before .ask .ensures) (c .before .before .enum-told .given .1) (c .before .if1 .left) ∙ ap given (parent-empty _ (c .if2 .taken))) _
+    (parent-opened _ _ ∙ answered-passed _ _ _ _ (c .before .before .before .before .ask .ensures) (c .before .before .enum-told .given .1) (c .before .if1 .left) ∙ ap given (parent-empty _ (c .if2 .taken))) _
 
 is-root-requires : tie.Need-is-root-requires
 is-root-requires c κs = search needs
@@ -42,7 +42,7 @@ returns-4 : tie.Need-returns-4
 unfolding given
 returns-4 c =
     refusing _ _
-    (parent-opened _ _ ∙ making-passed _ _ _ _ (c .before .before .before .before .before .before .ask .ensures) (c .before .before .before .before .enum-told .given .1) (c .before .before .before .if1 .left)
+    (parent-opened _ _ ∙ answered-passed _ _ _ _ (c .before .before .before .before .before .before .ask .ensures) (c .before .before .before .before .enum-told .given .1) (c .before .before .before .if1 .left)
     ∙ ap given (parent-root _ _ (c .before .before .if2 .left) (c .before .is-root .ensures) (c .if3 .taken))) _
 
 parent-len-requires : tie.Need-parent-len-requires
@@ -61,7 +61,7 @@ returns-5 : tie.Need-returns-5
 unfolding given
 returns-5 c =
     answering _ _
-    (parent-opened _ _ ∙ making-passed _ _ _ _ (c .before .before .before .before .before .before .before .before .before .before .before .before .ask .ensures) (c .before .before .before .before .before .before .before .before .before .before .enum-told .given .1) (c .before .before .before .before .before .before .before .before .before .if1 .left)
+    (parent-opened _ _ ∙ answered-passed _ _ _ _ (c .before .before .before .before .before .before .before .before .before .before .before .before .ask .ensures) (c .before .before .before .before .before .before .before .before .before .before .enum-told .given .1) (c .before .before .before .before .before .before .before .before .before .if1 .left)
     ∙ ap given (parent-cut _ _ (c .before .before .before .before .before .before .before .before .if2 .left) (c .before .before .before .before .before .before .before .is-root .ensures) (c .before .before .before .before .before .before .if3 .left))) _ _ _
     (cut-written _ _ _ (c .before .before .before .before .before .parent-len .ensures) (parent-len-le _) (passed-short _ _ (c .before .before .before .before .before .before .before .before .before .before .before .before .ask .ensures) (c .before .before .before .before .before .before .before .before .before .before .enum-told .given .1))
     (parent-take _ (passed-legal _ _ (c .before .before .before .before .before .before .before .before .before .before .before .before .ask .ensures) (c .before .before .before .before .before .before .before .before .before .before .enum-told .given .1))) _ _ (c .before .before .before .before .before .before .before .before .before .if1 .left) (c .before .before .write-at .ensures))

@@ -5,7 +5,7 @@ use Rattle.text.proofs.WriteLaws.{rest-whole}
 use Rattle.prefix.proofs.PrefixLaws.{prefix-long, replace-prefix, replace-other}
 use Rattle.path.specs.Outcome.{given}
 use Rattle.path.proofs.Opened.{replace-opened}
-use Rattle.path.proofs.CallWays.{making-refused, making-short, making-passed, refusing, answering}
+use Rattle.path.proofs.CallWays.{answered-refused, answered-short, answered-passed, refusing, answering}
 use borrow.Author.Needs.{needs}
 use Rattle.path.proofs.replace_prefix.Statement.{statement}
 use Rattle.path.proofs.replace_prefix.Tie as tie
@@ -17,13 +17,13 @@ enum-known-q : tie.Need-enum-known-q
 enum-known-q c = search needs
 
 returns : tie.Need-returns
-returns c = refusing _ _ (replace-opened _ _ _ _ ∙ making-refused _ _ _ _ (c .before .before .before .ask .ensures) _ (c .before .q .given .1)) _
+returns c = refusing _ _ (replace-opened _ _ _ _ ∙ answered-refused _ _ _ _ (c .before .before .before .ask .ensures) _ (c .before .q .given .1)) _
 
 enum-told : tie.Need-enum-told
 enum-told c = search needs
 
 returns-2 : tie.Need-returns-2
-returns-2 c = refusing _ _ (replace-opened _ _ _ _ ∙ making-short _ _ _ _ (c .before .before .before .ask .ensures) (c .before .enum-told .given .1) (c .if1 .taken)) _
+returns-2 c = refusing _ _ (replace-opened _ _ _ _ ∙ answered-short _ _ _ _ (c .before .before .before .ask .ensures) (c .before .enum-told .given .1) (c .if1 .taken)) _
 
 has-prefix-requires : tie.Need-has-prefix-requires
 has-prefix-requires c κs = search needs
@@ -32,7 +32,7 @@ returns-3 : tie.Need-returns-3
 unfolding given
 returns-3 c =
     refusing _ _
-    (replace-opened _ _ _ _ ∙ making-passed _ _ _ _ (c .before .before .before .before .before .ask .ensures) (c .before .before .before .enum-told .given .1) (c .before .before .if1 .left)
+    (replace-opened _ _ _ _ ∙ answered-passed _ _ _ _ (c .before .before .before .before .before .ask .ensures) (c .before .before .before .enum-told .given .1) (c .before .before .if1 .left)
     ∙ ap given (replace-other _ _ _ (told-false (c .before .has-prefix .ensures) (c .if2 .taken)))) _
 
 sub-write-joined : tie.Need-sub-write-joined
@@ -54,7 +54,7 @@ returns-4 : tie.Need-returns-4
 unfolding given
 returns-4 c =
     answering _ _
-    (replace-opened _ _ _ _ ∙ making-passed _ _ _ _ (c .before .before .before .before .before .before .before .before .before .before .ask .ensures) (c .before .before .before .before .before .before .before .before .enum-told .given .1) (c .before .before .before .before .before .before .before .if1 .left)
+    (replace-opened _ _ _ _ ∙ answered-passed _ _ _ _ (c .before .before .before .before .before .before .before .before .before .before .ask .ensures) (c .before .before .before .before .before .before .before .before .enum-told .given .1) (c .before .before .before .before .before .before .before .if1 .left)
     ∙ ap given (replace-prefix _ _ _ (told-true (c .before .before .before .before .before .before .has-prefix .ensures) (c .before .before .before .before .before .if2 .left)))) _ _ _
     (rw (rest-whole (c .before .before .before .before .before .before .before .before .before .before .before .before .before .before .before .args .path .now) (length (c .before .before .before .before .before .before .before .before .before .before .before .before .before .before .before .args .old .now))) at (c .before .before .write-joined .ensures))
 

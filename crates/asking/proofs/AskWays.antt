@@ -1,0 +1,137 @@
+-- What each way through the functions that ask gives. Assumes nothing.
+use mathlib.Core.Path.{_≡_, refl, sym, _∙_}
+use mathlib.Core.Bool.{Bool, true, false, not, cond, _&&_}
+use mathlib.Core.List.{List, [], _∷_}
+use Prim.Native.Nat.{ℕ, _*_, _/_, _≤_, _<_}
+use lib.Dec.{leb}
+use lib.ListN.{length}
+use borrow.Author.Tests.{le-leb, lt-leb}
+use Rattle.text.specs.Text.{Text}
+use Rattle.text.proofs.BoolLaws.{and-no, and-yes, told-false, told-true, not-true, not-false}
+use Rattle.grammar.specs.Legal.{legal, fits, isEnd}
+use Rattle.pairs.specs.Places.{placesFit, placesAll}
+use Rattle.path.specs.declared.Refusal.the-variants.{TooLong, Illegal, NotAnEnd, TooMany}
+use Rattle.path.specs.declared.Asked.{Asked}
+use Rattle.path.specs.declared.Asked.the-variants.{Passed, Refused}
+use Rattle.asking.specs.Asking.{Lent, lentList, present, listFits, listAll, listCounts, every, firstNo, asked}
+
+pub held-all : (places : List ℕ) (count : ℕ) → count ≤ length places / 4 → 2 * count ≡ present (lentList [] places count)
+unfolding present
+held-all places count h = rw (le-leb count (length places / 4) h)
+
+pub held-part : (places : List ℕ) (count : ℕ) → length places / 4 < count → 2 * (length places / 4) ≡ present (lentList [] places count)
+unfolding present
+held-part places count h = rw (lt-leb count (length places / 4) h)
+
+-- question 1
+module _ (store : Text) (places : List ℕ) (count : ℕ) (p q : Text) where
+  pub first-long : 255 < length p → false ≡ (every fits (p ∷ q ∷ []) && listFits (lentList store places count))
+  unfolding every fits
+  first-long h = rw (lt-leb (length p) 255 h)
+
+  pub second-long : length p ≤ 255 → 255 < length q → false ≡ (every fits (p ∷ q ∷ []) && listFits (lentList store places count))
+  unfolding every fits
+  second-long h k = rw (le-leb (length p) 255 h, lt-leb (length q) 255 k)
+
+  pub list-short : length p ≤ 255 → length q ≤ 255 → (n : ℕ) → n ≡ present (lentList [] places count) → (r : Bool) → r ≡ placesFit store places n
+      → r ≡ (every fits (p ∷ q ∷ []) && listFits (lentList store places count))
+  unfolding every fits listFits present
+  list-short h k n e r f = rw (le-leb (length p) 255 h, le-leb (length q) 255 k, ← e) f
+
+-- questions 2 and 3
+module _ (passes : Text → Bool) (store : Text) (places : List ℕ) (count : ℕ) (p q : Text) (a : Bool) (e : a ≡ passes p) where
+  pub first-fails : not a ≡ true → false ≡ (every passes (p ∷ q ∷ []) && listAll passes (lentList store places count))
+  unfolding every
+  first-fails h = rw (told-false e h)
+
+  module _ (h : not a ≡ false) (b : Bool) (f : b ≡ passes q) where
+    pub second-fails : not b ≡ true → false ≡ (every passes (p ∷ q ∷ []) && listAll passes (lentList store places count))
+    unfolding every
+    second-fails k = rw (told-true e h, told-false f k)
+
+    pub list-passes : not b ≡ false → (n : ℕ) → n ≡ present (lentList [] places count) → (r : Bool) → r ≡ placesAll passes store places n
+        → r ≡ (every passes (p ∷ q ∷ []) && listAll passes (lentList store places count))
+    unfolding every listAll present
+    list-passes k n g r i = rw (told-true e h, told-true f k, ← g) i
+
+-- question 4
+module _ (places : List ℕ) (count : ℕ) where
+  pub over-many : 64 < count → false ≡ listCounts (lentList [] places count)
+  unfolding listCounts
+  over-many h = rw (lt-leb count 64 h)
+
+  pub few-held : count ≤ 64 → leb count (length places / 4) ≡ listCounts (lentList [] places count)
+  unfolding listCounts
+  few-held h = rw (le-leb count 64 h)
+
+module _ (a b c d : Bool) where
+  pub no-1 : not a ≡ true → Refused TooLong ≡ firstNo a b c d
+  unfolding firstNo
+  no-1 h = rw (not-true a h)
+
+  pub no-2 : not a ≡ false → not b ≡ true → Refused Illegal ≡ firstNo a b c d
+  unfolding firstNo
+  no-2 h k = rw (not-false a h, not-true b k)
+
+  pub no-3 : not a ≡ false → not b ≡ false → not c ≡ true → Refused NotAnEnd ≡ firstNo a b c d
+  unfolding firstNo
+  no-3 h k l = rw (not-false a h, not-false b k, not-true c l)
+
+  pub no-4 : not a ≡ false → not b ≡ false → not c ≡ false → not d ≡ true → Refused TooMany ≡ firstNo a b c d
+  unfolding firstNo
+  no-4 h k l m = rw (not-false a h, not-false b k, not-false c l, not-true d m)
+
+  pub all-pass : not a ≡ false → not b ≡ false → not c ≡ false → not d ≡ false → Passed ≡ firstNo a b c d
+  unfolding firstNo
+  all-pass h k l m = rw (not-false a h, not-false b k, not-false c l, not-false d m)
+
+pub both-false : (a b : Bool) → not a ≡ true → false ≡ (a && b)
+both-false a b h = rw (not-true a h)
+
+pub both-second : (a b : Bool) → not a ≡ false → b ≡ (a && b)
+both-second a b h = rw (not-false a h)
+
+pub ruleset asks = (held-all, held-part, first-long, second-long, over-many, no-1, no-2, no-3, no-4, all-pass, both-false, both-second)
+
+-- the questions of one list, and of two
+module _ (store : Text) (places : List ℕ) (count : ℕ) where
+  pub one-list : (p q e f : Text) (a b c d : Bool) → a ≡ (every fits (p ∷ q ∷ []) && listFits (lentList store places count))
+      → b ≡ (every legal (p ∷ q ∷ []) && listAll legal (lentList store places count))
+      → c ≡ (every isEnd (e ∷ f ∷ []) && listAll isEnd (lentList store places count)) → d ≡ listCounts (lentList [] places count)
+      → (r : Asked) → r ≡ firstNo a b c d → r ≡ asked (lentList store places count ∷ []) (p ∷ q ∷ []) (e ∷ f ∷ [])
+  unfolding asked every listCounts
+  one-list p q e f a b c d ha hb hc hd r h =
+      h ∙ rw (ha, hb, hc, hd, and-yes (listFits (lentList store places count)), and-yes (listAll legal (lentList store places count)), and-yes (listAll isEnd (lentList store places count)), and-yes (listCounts (lentList store places count))) refl
+
+  module _ (store2 : Text) (places2 : List ℕ) (count2 : ℕ) where
+    pub two-lists : (e : Text) → e ≡ [] → (a a2 a12 b b2 b12 c c2 c12 d d2 d12 : Bool)
+        → a ≡ (every fits (e ∷ e ∷ []) && listFits (lentList store places count)) → a2 ≡ (every fits (e ∷ e ∷ []) && listFits (lentList store2 places2 count2)) → a12 ≡ (a && a2)
+        → b ≡ (every legal (e ∷ e ∷ []) && listAll legal (lentList store places count)) → b2 ≡ (every legal (e ∷ e ∷ []) && listAll legal (lentList store2 places2 count2)) → b12 ≡ (b && b2)
+        → c ≡ (every isEnd (e ∷ e ∷ []) && listAll isEnd (lentList store places count)) → c2 ≡ (every isEnd (e ∷ e ∷ []) && listAll isEnd (lentList store2 places2 count2)) → c12 ≡ (c && c2)
+        → d ≡ listCounts (lentList [] places count) → d2 ≡ listCounts (lentList [] places2 count2) → d12 ≡ (d && d2)
+        → (r : Asked) → r ≡ firstNo a12 b12 c12 d12 → r ≡ asked (lentList store places count ∷ lentList store2 places2 count2 ∷ []) [] []
+    unfolding asked every listCounts fits legal isEnd
+    two-lists e n a a2 a12 b b2 b12 c c2 c12 d d2 d12 ha ha2 ha12 hb hb2 hb12 hc hc2 hc12 hd hd2 hd12 r h =
+        h ∙ rw (
+          ha12,
+          ha,
+          ha2,
+          hb12,
+          hb,
+          hb2,
+          hc12,
+          hc,
+          hc2,
+          hd12,
+          hd,
+          hd2,
+          n,
+          and-yes (listFits (lentList store2 places2 count2)),
+          and-yes (listAll legal (lentList store2 places2 count2)),
+          and-yes (listAll isEnd (lentList store2 places2 count2)),
+          and-yes (listCounts (lentList store2 places2 count2)),
+        ) refl
+
+pub ask-one : (l : Lent) (p e : Text) → e ≡ [] → asked (l ∷ []) (p ∷ e ∷ []) (e ∷ e ∷ []) ≡ asked (l ∷ []) (p ∷ []) []
+unfolding asked every fits legal isEnd
+ask-one l p e h = rw h refl

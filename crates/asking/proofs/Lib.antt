@@ -1,0 +1,2 @@
+pub mod AskWays
+pub mod PassLaws

@@ -1,0 +1,154 @@
+// Document 01's questions 1 to 4. Each is put to the whole call; the first "no" counts. An empty text
+// passes them all, so it stands for a text that a call does not have.
+ghost use mathlib.Core.Path.{_≡_};
+ghost use mathlib.Core.Bool.{Bool, _&&_};
+ghost use mathlib.Core.List.{[], _∷_};
+ghost use Rattle.grammar.specs.Legal.{legal, fits, isEnd};
+ghost use Rattle.asking.specs.Asking.{lentList, present, listFits, listAll, listCounts, every, firstNo, asked};
+
+// How many places the slice has for the pairs that are counted.
+fn places_of(places: &[usize], count: usize) -> usize
+    ensures { λ r. ⌜ r ≡ present (lentList [] (now (places .entry)) count) ⌝ }
+{
+    let held = places.len() / 4;
+    if count <= held {
+        return 2 * count;
+    }
+    2 * held
+}
+
+// Question 1 of a list and two texts.
+fn are_short(store: &[u8], places: &[usize], count: usize, p: &[u8], q: &[u8]) -> bool
+    ensures { λ r. ⌜ r ≡ (every fits (now (p .entry) ∷ now (q .entry) ∷ []) && listFits (lentList (now (store .entry)) (now (places .entry)) count)) ⌝ }
+{
+    if 255 < p.len() {
+        return false;
+    }
+    if 255 < q.len() {
+        return false;
+    }
+    pairs::all_fit(store, places, places_of(places, count))
+}
+
+// Question 2 of a list and two texts.
+fn are_legal(store: &[u8], places: &[usize], count: usize, p: &[u8], q: &[u8]) -> bool
+    ensures { λ r. ⌜ r ≡ (every legal (now (p .entry) ∷ now (q .entry) ∷ []) && listAll legal (lentList (now (store .entry)) (now (places .entry)) count)) ⌝ }
+{
+    if !grammar::is_legal(p) {
+        return false;
+    }
+    if !grammar::is_legal(q) {
+        return false;
+    }
+    pairs::all_legal(store, places, places_of(places, count))
+}
+
+// Question 3 of a list and two texts.
+fn are_ends(store: &[u8], places: &[usize], count: usize, e: &[u8], f: &[u8]) -> bool
+    ensures { λ r. ⌜ r ≡ (every isEnd (now (e .entry) ∷ now (f .entry) ∷ []) && listAll isEnd (lentList (now (store .entry)) (now (places .entry)) count)) ⌝ }
+{
+    if !grammar::is_end(e) {
+        return false;
+    }
+    if !grammar::is_end(f) {
+        return false;
+    }
+    pairs::all_ends(store, places, places_of(places, count))
+}
+
+// Question 4 of a list.
+fn is_counted(places: &[usize], count: usize) -> bool
+    ensures { λ r. ⌜ r ≡ listCounts (lentList [] (now (places .entry)) count) ⌝ }
+{
+    if 64 < count {
+        return false;
+    }
+    count <= places.len() / 4
+}
+
+// The first "no" of four answers.
+fn first_no(short: bool, legal: bool, ends: bool, counted: bool) -> path::Asked
+    ensures { λ r. ⌜ r ≡ firstNo short legal ends counted ⌝ }
+{
+    if !short {
+        return path::Asked::Refused(path::Refusal::TooLong);
+    }
+    if !legal {
+        return path::Asked::Refused(path::Refusal::Illegal);
+    }
+    if !ends {
+        return path::Asked::Refused(path::Refusal::NotAnEnd);
+    }
+    if !counted {
+        return path::Asked::Refused(path::Refusal::TooMany);
+    }
+    path::Asked::Passed
+}
+
+// Is the answer yes both times?
+fn both(a: bool, b: bool) -> bool
+    ensures { λ r. ⌜ r ≡ (a && b) ⌝ }
+{
+    if !a {
+        return false;
+    }
+    b
+}
+
+// Questions 1 to 4 of a list and of the texts p and q; e and f count as ends.
+pub fn ask_list(
+    store: &[u8],
+    places: &[usize],
+    count: usize,
+    p: &[u8],
+    q: &[u8],
+    e: &[u8],
+    f: &[u8],
+) -> path::Asked
+    ensures { λ r. ⌜ r ≡ asked (lentList (now (store .entry)) (now (places .entry)) count ∷ []) (now (p .entry) ∷ now (q .entry) ∷ []) (now (e .entry) ∷ now (f .entry) ∷ []) ⌝ }
+{
+    let short = are_short(store, places, count, p, q);
+    let legal = are_legal(store, places, count, p, q);
+    let ends = are_ends(store, places, count, e, f);
+    first_no(short, legal, ends, is_counted(places, count))
+}
+
+// Questions 1 to 4 of a list and of a path.
+pub fn ask_path(store: &[u8], places: &[usize], count: usize, p: &[u8]) -> path::Asked
+    ensures { λ r. ⌜ r ≡ asked (lentList (now (store .entry)) (now (places .entry)) count ∷ []) (now (p .entry) ∷ []) [] ⌝ }
+{
+    let e = &p[..0];
+    ask_list(store, places, count, p, e, e, e)
+}
+
+// Questions 1 to 4 of two lists: each to both of them before the next.
+pub fn ask_lists(
+    store: &[u8],
+    places: &[usize],
+    count: usize,
+    store2: &[u8],
+    places2: &[usize],
+    count2: usize,
+) -> path::Asked
+    ensures { λ r. ⌜ r ≡ asked (lentList (now (store .entry)) (now (places .entry)) count ∷ lentList (now (store2 .entry)) (now (places2 .entry)) count2 ∷ []) [] [] ⌝ }
+{
+    let e = &store[..0];
+    let short = both(
+        are_short(store, places, count, e, e),
+        are_short(store2, places2, count2, e, e),
+    );
+    let legal = both(
+        are_legal(store, places, count, e, e),
+        are_legal(store2, places2, count2, e, e),
+    );
+    let ends = both(
+        are_ends(store, places, count, e, e),
+        are_ends(store2, places2, count2, e, e),
+    );
+    first_no(
+        short,
+        legal,
+        ends,
+        both(is_counted(places, count), is_counted(places2, count2)),
+    )
+}

@@ -1,0 +1,207 @@
+-- What each way through the functions that choose which pairs are kept gives. Assumes nothing.
+use mathlib.Core.Path.{_≡_, refl, sym, ap, _∙_}
+use mathlib.Core.Logic.{_≢_}
+use mathlib.Core.Bool.{Bool, true, false, not, cond, _&&_, _||_}
+use mathlib.Core.List.{List, [], _∷_, _++_}
+use mathlib.Core.Option.{Option, none, some}
+use Prim.Native.Nat.{ℕ, zero, suc, _+_, _*_, _-_, _≤_, _<_}
+use native.Mathlib.Omega.{arith}
+use native.Mathlib.Numerals.{add-one}
+use native.Mathlib.Decide.{ℕ-discrete}
+use lib.ListN.{length, getD, take, drop, set}
+use lib.Seq.{getD-set-same, getD-set-other}
+use Rattle.text.specs.Text.{Text, over, equal}
+use Rattle.text.proofs.BoolLaws.{told, told-false, told-true, not-true, not-false, or-right, or-false}
+use Rattle.text.proofs.WriteLaws.{rest-whole}
+use Rattle.grammar.specs.Legal.{isRoot}
+use Rattle.prefix.specs.Elements.{elements}
+use Rattle.prefix.specs.Join.{joined, replacePrefix}
+use Rattle.prefix.proofs.PrefixLaws.{replace-prefix}
+use Rattle.pairs.specs.Pair.{Pair}
+use Rattle.pairs.specs.Places.{textAt, keyAt, pairIn, pairsIn}
+use Rattle.pairs.specs.Best.{best, serves, chosenIn}
+use Rattle.pairs.specs.declared.Found.{Found}
+use Rattle.pairs.proofs.PlaceLaws.{chosen-best}
+use Rattle.pairs.proofs.WriteWays.{source-key, target-key}
+use Rattle.maps.specs.Map.{Map, lentMap, source, target, chosenOut}
+use Rattle.maps.specs.New.{isRoots, anyRoots, viaPair, via, isText, implied, keep}
+use Rattle.maps.proofs.LentLaws.{serves-prefix, served-long, out-keys, ends-by}
+use Rattle.map_function.specs.Level.{layer, Keyed, Topped}
+use Rattle.map_function.proofs.LevelLaws.{layer-other, layer-roots, layer-here}
+use Rattle.map_function.proofs.PushLaws.{four, pushed}
+
+-- `is_roots`
+module _ (store : Text) (places : List ℕ) (i : ℕ) (k : Text) (e : k ≡ keyAt store places false i) (b : Bool) (h : b ≡ isRoot k) where
+  source-told : b ≡ isRoot ((pairIn store places i) .source)
+  source-told = h ∙ ap isRoot (e ∙ sym (source-key store places i))
+
+  pub roots-not : not b ≡ true → false ≡ isRoots (pairIn store places i)
+  roots-not l = rw (told-false source-told l)
+
+  pub roots-both : not b ≡ false → (t : Text) → t ≡ keyAt store places true i → (c : Bool) → c ≡ isRoot t → c ≡ isRoots (pairIn store places i)
+  roots-both l t f c m = rw (told-true source-told l) (m ∙ ap isRoot (f ∙ sym (target-key store places i)))
+
+-- `any_roots`
+any-append : (a b : List Pair) → anyRoots (a ++ b) ≡ (anyRoots a || anyRoots b)
+unfolding anyRoots
+any-append [] b = refl
+any-append (x ∷ a) b = go (isRoots x) (any-append a b)
+  where
+    go : (t : Bool) → anyRoots (a ++ b) ≡ (anyRoots a || anyRoots b) → (t || anyRoots (a ++ b)) ≡ (t || anyRoots a || anyRoots b)
+    go true ih = refl
+    go false ih = ih
+
+module _ (store : Text) (places : List ℕ) where
+  any-next : (i : ℕ) → anyRoots (pairsIn store places (suc i)) ≡ (anyRoots (pairsIn store places i) || isRoots (pairIn store places i))
+  unfolding pairsIn anyRoots
+  any-next i = any-append (pairsIn store places i) (pairIn store places i ∷ []) ∙ ap (λ (b : Bool). anyRoots (pairsIn store places i) || b) (or-false (isRoots (pairIn store places i)))
+
+  any-at : (n i : ℕ) → i < n → isRoots (pairIn store places i) ≡ true → anyRoots (pairsIn store places n) ≡ true
+  any-at zero i h e = absurd (omega arith)
+  any-at (suc n) i h e = elim (ℕ-discrete i n) [
+    | yes k ↦ any-next n ∙ or-right (anyRoots (pairsIn store places n)) (isRoots (pairIn store places n)) (rw k at e)
+    | no k ↦ any-next n ∙ rw (any-at n i (omega arith) e) refl
+  ]
+
+  module _ (i : ℕ) (b : Bool) (h : b ≡ isRoots (pairIn store places i)) where
+    pub any-found : (n : ℕ) → i < n → b ≡ true → true ≡ anyRoots (pairsIn store places n)
+    any-found n l k = sym (any-at n i l (told h k))
+
+    pub any-on : false ≡ anyRoots (pairsIn store places i) → b ≡ false → false ≡ anyRoots (pairsIn store places (i + 1))
+    any-on e k = rw add-one (sym (any-next i ∙ rw (← e, told h k) refl))
+
+  pub any-none : false ≡ anyRoots (pairsIn store places 0)
+  unfolding pairsIn anyRoots
+  any-none = refl
+
+  pub any-end : (n i : ℕ) → n ≤ i → i ≤ n → false ≡ anyRoots (pairsIn store places i) → false ≡ anyRoots (pairsIn store places n)
+  any-end n i h k e = let z : i ≡ n = omega arith in rw z at e
+
+pub ruleset rooting = (any-found, any-on, any-none, any-end)
+
+-- `fill_keys`
+module _ (store : Text) (places : List ℕ) where
+  pub keyed-none : (keys : List ℕ) → Keyed store places 0 keys
+  unfolding Keyed
+  keyed-none keys i h = absurd (omega arith)
+
+  pub topped-none : (top : ℕ) → Topped store places 0 top
+  unfolding Topped
+  topped-none top i h = absurd (omega arith)
+
+  pub keyed-on : (n : ℕ) (keys : List ℕ) (e : ℕ) (k : Text) → n < length keys → k ≡ keyAt store places false n → e ≡ elements k → Keyed store places n keys
+      → Keyed store places (n + 1) (set keys n e)
+  unfolding Keyed
+  keyed-on n keys e k l h m f i j = elim (ℕ-discrete i n) [
+    | yes z ↦ rw z (getD-set-same keys n e 0 l ∙ m ∙ ap elements h)
+    | no z ↦ getD-set-other keys n i e 0 z ∙ f i (omega arith)
+  ]
+
+  pub topped-on : (n top top′ e : ℕ) (k : Text) → k ≡ keyAt store places false n → e ≡ elements k → (top ≤ top′) × (e ≤ top′) → Topped store places n top
+      → Topped store places (n + 1) top′
+  unfolding Topped
+  topped-on n top top′ e k h m g f i j = elim (ℕ-discrete i n) [
+    | yes z ↦ rw z (omega (arith, g .1, m, ap elements h))
+    | no z ↦ omega (arith, g .0, f i (omega arith))
+  ]
+
+  pub keyed-end : (n i : ℕ) (keys : List ℕ) → n ≤ i → Keyed store places i keys → Keyed store places n keys
+  unfolding Keyed
+  keyed-end n i keys h f j l = f j (omega arith)
+
+  pub topped-end : (n i top : ℕ) → n ≤ i → Topped store places i top → Topped store places n top
+  unfolding Topped
+  topped-end n i top h f j l = f j (omega arith)
+
+-- `is_implied`
+module _ (store : Text) (kept : List ℕ) (n : ℕ) (mark : Bool) (s t : Text) (f : Found) (h : chosenIn f ≡ best s (keyAt store kept false) n) where
+  abbrev lent : Map
+  lent = lentMap store kept n mark
+
+  abbrev x : Pair
+  x = record { source = s; target = t }
+
+  implied-by : (o : Option ℕ) → best s (keyAt store kept false) n ≡ o → implied lent x ≡ isText (viaPair lent s o) t
+  unfolding implied via
+  implied-by o e = rw (out-keys store kept n mark s, e) refl
+
+  module _ (k : f .found ≡ true) where
+    chosen : best s (keyAt store kept false) n ≡ some (f .at)
+    chosen = sym h ∙ rw k refl
+
+    serving : serves s (keyAt store kept false (f .at)) ≡ true
+    unfolding best
+    serving = (chosen-best (serves s) (keyAt store kept false) n (f .at) chosen) .does-pass
+
+    pub implied-inside : (old : Text) → old ≡ keyAt store kept false (f .at) → length old ≤ length s
+    implied-inside old e = rw e (served-long s (keyAt store kept false (f .at)) serving)
+
+    pub implied-join : (old new : Text) → old ≡ keyAt store kept false (f .at) → new ≡ keyAt store kept true (f .at) → (r : Bool)
+        → r ≡ equal (joined old new (take (length s - length old) (drop (length old) s))) t → r ≡ implied lent x
+    unfolding isText viaPair
+    implied-join old new e g r m =
+        let z = ends-by store kept n mark s false (f .at) chosen in
+        let p : replacePrefix s (source lent (f .at)) (target lent (f .at)) ≡ some (joined old new (drop (length old) s))
+        = rw (z .0, z .1, ← e, ← g) (replace-prefix s old new (rw (← e) at (serves-prefix s (keyAt store kept false (f .at)) serving))) in
+        m ∙ rw (rest-whole s (length old)) (sym (implied-by (some (f .at)) chosen ∙ rw p refl))
+
+  module _ (k : f .found ≡ false) where
+    left-out : best s (keyAt store kept false) n ≡ none
+    left-out = sym h ∙ rw k refl
+
+    pub implied-none : not mark ≡ true → false ≡ implied lent x
+    unfolding isText viaPair
+    implied-none l = sym (implied-by none left-out ∙ rw (not-true mark l) refl)
+
+    pub implied-mark : not mark ≡ false → (r : Bool) → r ≡ equal s t → r ≡ implied lent x
+    unfolding isText viaPair
+    implied-mark l r m = m ∙ sym (implied-by none left-out ∙ rw (not-false mark l) refl)
+
+-- `keep_pair`
+module _ (store : Text) (places : List ℕ) (i key e : ℕ) (mark : Bool) (kept : List ℕ) (w : ℕ) (h : key ≡ elements (keyAt store places false i)) where
+  abbrev pair : Pair
+  pair = pairIn store places i
+
+  abbrev before : List Pair
+  before = pairsIn store kept w
+
+  key-told : elements (pair .source) ≡ key
+  key-told = ap elements (source-key store places i) ∙ sym h
+
+  -- nothing is kept of an empty layer
+  stays : layer e (pair ∷ []) ≡ [] → before ≡ keep mark before (layer e (pair ∷ []))
+  unfolding keep
+  stays z = rw z refl
+
+  pub pair-other : key ≢ e → before ≡ keep mark before (layer e (pair ∷ []))
+  pair-other k = stays (layer-other e pair (λ z. k (sym key-told ∙ z)))
+
+  module _ (k : key ≡ e) (b : Bool) (r : b ≡ isRoots pair) where
+    pub pair-roots : b ≡ true → before ≡ keep mark before (layer e (pair ∷ []))
+    pair-roots l = stays (layer-roots e pair (told r l))
+
+    module _ (l : b ≡ false) where
+      here : layer e (pair ∷ []) ≡ pair ∷ []
+      here = layer-here e pair (told r l) (key-told ∙ k)
+
+      pub pair-room : 4 * (w + length (layer e (pair ∷ []))) ≤ length kept → 4 * w + 4 ≤ length kept
+      pair-room m = omega (arith, m, ap length here)
+
+      module _ (s t : Text) (f : s ≡ keyAt store places false i) (g : t ≡ keyAt store places true i) (c : Bool)
+          (m : c ≡ implied (lentMap store kept w mark) (record { source = s; target = t })) where
+        implied-told : c ≡ implied (lentMap store kept w mark) pair
+        implied-told = m ∙ ap (λ (z : Pair). implied (lentMap store kept w mark) z) whole
+          where
+            whole : record { source = s; target = t } ≡ pair
+            whole = rw (f ∙ sym (source-key store places i), g ∙ sym (target-key store places i)) refl
+
+        one-kept : keep mark before (layer e (pair ∷ [])) ≡ cond c before (before ++ pair ∷ [])
+        unfolding keep
+        one-kept = rw (here, implied-told) refl
+
+        pub pair-implied : c ≡ true → before ≡ keep mark before (layer e (pair ∷ []))
+        pair-implied n = sym (one-kept ∙ rw n refl)
+
+        pub pair-kept : c ≡ false → 4 * w + 4 ≤ length kept → (kept′ : List ℕ) → kept′ ≡ over (4 * w) (four places i) kept
+            → pairsIn store kept′ (w + 1) ≡ keep mark before (layer e (pair ∷ []))
+        pair-kept n o kept′ p = rw (add-one w, p) (pushed store places i kept w o ∙ sym (one-kept ∙ rw n refl))

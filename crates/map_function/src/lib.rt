@@ -1,0 +1,139 @@
+// A map and its own numbers, and how pairs become a map: the mark, and the pairs that carry
+// something of their own.
+ghost use mathlib.Core.Path.{_≡_};
+ghost use mathlib.Core.Bool.{Bool, false, _||_};
+ghost use mathlib.Core.List.{[], _∷_};
+ghost use lib.ListN.{length, getD};
+ghost use Prim.Native.Nat.{_+_, _*_, _≤_, _<_};
+ghost use Rattle.text.specs.Text.{over};
+ghost use Rattle.prefix.specs.Elements.{elements};
+ghost use Rattle.pairs.specs.Places.{keyAt, pairIn, pairsIn};
+ghost use Rattle.asking.specs.Asking.{lentList};
+ghost use Rattle.maps.specs.Map.{lentMap};
+ghost use Rattle.maps.specs.New.{isRoots, anyRoots, implied, keep, fromParts};
+ghost use Rattle.map_function.specs.Level.{layer, Keyed, Topped};
+ghost use Rattle.map_function.specs.Made.{mapReply, mapBytes, mapSlots, fromPartsCall};
+
+// A map: how many pairs of the lent list are its own, the root-identity mark, and the time offset.
+pub struct MapFunction {
+    pub count: usize,
+    pub has_root_identity: bool,
+    pub time_offset: layer_offset::LayerOffset,
+}
+
+// The answer of a call that makes a map.
+pub enum MapReply {
+    Made(MapFunction),
+    Refused(path::Refusal),
+}
+
+// Is pair i `/`→`/`?
+fn is_roots(store: &[u8], places: &[usize], i: usize) -> bool
+    ensures { λ r. ⌜ r ≡ isRoots (pairIn (now (store .entry)) (now (places .entry)) i) ⌝ }
+{
+    if !grammar::is_root(pairs::key_at(store, places, i, false)) {
+        return false;
+    }
+    grammar::is_root(pairs::key_at(store, places, i, true))
+}
+
+// Is one of the first n pairs `/`→`/`?
+fn any_roots(store: &[u8], places: &[usize], n: usize) -> bool
+    ensures { λ r. ⌜ r ≡ anyRoots (pairsIn (now (store .entry)) (now (places .entry)) n) ⌝ }
+{
+    let mut i = 0;
+    while i < n {
+        if is_roots(store, places, i) {
+            return true;
+        }
+        i += 1;
+    }
+    false
+}
+
+// The larger of two numbers.
+fn max(a: usize, b: usize) -> usize
+    ensures { λ r. ⌜ (a ≤ r) × (b ≤ r) ⌝ }
+{
+    if a < b { b } else { a }
+}
+
+// How many elements each of the first n sources has, and a number that none of them passes.
+fn fill_keys(store: &[u8], places: &[usize], n: usize, keys: &mut [usize]) -> usize
+    requires { ⌜ n ≤ length (now keys) ⌝ }
+    ensures { λ r. ⌜ Keyed (now (store .entry)) (now (places .entry)) n (now (keys .exit)) ⌝ }
+    ensures { λ r. ⌜ Topped (now (store .entry)) (now (places .entry)) n r ⌝ }
+{
+    let mut top = 0;
+    let mut i = 0;
+    while i < n {
+        let e = prefix::element_count(pairs::key_at(store, places, i, false)).0;
+        keys[i] = e;
+        top = max(top, e);
+        i += 1;
+    }
+    top
+}
+
+// Do the first n kept pairs, or the mark, carry the source to the target?
+fn is_implied(store: &[u8], kept: &[usize], n: usize, mark: bool, s: &[u8], t: &[u8]) -> bool
+    ensures { λ r. ⌜ r ≡ implied (lentMap (now (store .entry)) (now (kept .entry)) n mark) (record { source = now (s .entry); target = now (t .entry) }) ⌝ }
+{
+    let f = pairs::best_prefix(store, kept, n, false, s);
+    if f.found {
+        let old = pairs::key_at(store, kept, f.at, false);
+        let new = pairs::key_at(store, kept, f.at, true);
+        let k = old.len();
+        return prefix::is_join(old, new, &s[k..], t);
+    }
+    if !mark {
+        return false;
+    }
+    text::is_equal(s, t)
+}
+
+// Puts the places of pair i behind the w pairs that are kept.
+fn push(places: &[usize], i: usize, kept: &mut [usize], w: usize)
+    requires { ⌜ 4 * i + 4 ≤ length (now places) ⌝ }
+    requires { ⌜ 4 * w + 4 ≤ length (now kept) ⌝ }
+    ensures { λ _. ⌜ now (kept .exit) ≡ over (4 * w) (getD (now (places .entry)) (4 * i) 0 ∷ getD (now (places .entry)) (4 * i + 1) 0 ∷ getD (now (places .entry)) (4 * i + 2) 0 ∷ getD (now (places .entry)) (4 * i + 3) 0 ∷ []) (now (kept .entry)) ⌝ }
+{
+    let j = 4 * w;
+    let k = 4 * i;
+    kept[j] = places[k];
+    kept[j + 1] = places[k + 1];
+    kept[j + 2] = places[k + 2];
+    kept[j + 3] = places[k + 3];
+}
+
+// Keeps pair i, whose source has `key` elements, where it is of the level e, no `/`→`/`, and not
+// implied by the w pairs that are kept.
+fn keep_pair(
+    store: &[u8],
+    places: &[usize],
+    i: usize,
+    key: usize,
+    e: usize,
+    mark: bool,
+    kept: &mut [usize],
+    w: usize,
+) -> usize
+    requires { ⌜ 4 * i + 4 ≤ length (now places) ⌝ }
+    requires { ⌜ key ≡ elements (keyAt (now store) (now places) false i) ⌝ }
+    requires { ⌜ 4 * (w + length (layer e (pairIn (now store) (now places) i ∷ []))) ≤ length (now kept) ⌝ }
+    ensures { λ r. ⌜ pairsIn (now (store .entry)) (now (kept .exit)) r ≡ keep mark (pairsIn (now (store .entry)) (now (kept .entry)) w) (layer e (pairIn (now (store .entry)) (now (places .entry)) i ∷ [])) ⌝ }
+{
+    if key != e {
+        return w;
+    }
+    if is_roots(store, places, i) {
+        return w;
+    }
+    let s = pairs::key_at(store, places, i, false);
+    let t = pairs::key_at(store, places, i, true);
+    if is_implied(store, kept, w, mark, s, t) {
+        return w;
+    }
+    push(places, i, kept, w);
+    w + 1
+}
