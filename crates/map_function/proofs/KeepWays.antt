@@ -105,6 +105,10 @@ module _ (store : Text) (places : List ℕ) where
     | no z ↦ omega (arith, g .0, f i (omega arith))
   ]
 
+  pub keyed-at : (n : ℕ) (keys : List ℕ) (i : ℕ) → i < n → Keyed store places n keys → getD keys i 0 ≡ elements (keyAt store places false i)
+  unfolding Keyed
+  keyed-at n keys i h f = f i h
+
   pub keyed-end : (n i : ℕ) (keys : List ℕ) → n ≤ i → Keyed store places i keys → Keyed store places n keys
   unfolding Keyed
   keyed-end n i keys h f j l = f j (omega arith)

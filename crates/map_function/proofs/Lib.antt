@@ -1,3 +1,4 @@
 pub mod LevelLaws
 pub mod PushLaws
 pub mod KeepWays
+pub mod NewWays

@@ -1,14 +1,16 @@
 -- What a call that makes a map comes to: its reply and what lent memory holds afterwards are read off one outcome.
-use Prim.Native.Nat.{ℕ}
+use Prim.Native.Nat.{ℕ, _/_}
 use mathlib.Core.Bool.{Bool, cond}
 use mathlib.Core.List.{List}
+use lib.Dec.{leb}
+use lib.ListN.{length}
 use Rattle.text.specs.Text.{Text, written}
 use Rattle.layer_offset.specs.declared.LayerOffset.{LayerOffset}
 use Rattle.pairs.specs.Pair.{Pair}
 use Rattle.pairs.specs.Places.{listText, listPlaces, listRoom}
 use Rattle.path.specs.declared.Refusal.{Refusal}
 use Rattle.path.specs.declared.Refusal.the-variants.{TooMany, NoRoom}
-use Rattle.asking.specs.Asking.{Lent, pairsOf, listCounts}
+use Rattle.asking.specs.Asking.{Lent}
 use Rattle.maps.specs.Map.{Map, size}
 use Rattle.maps.specs.New.{fromParts}
 use Rattle.map_function.specs.declared.MapFunction.{MapFunction}
@@ -45,8 +47,16 @@ unfoldable pub roomFor : List Pair → Text → List ℕ → MapOutcome → MapO
 unfolding listRoom
 roomFor l out slots o = cond (listRoom l out slots) o (refused NoRoom)
 
--- questions 4 and 5 of a lent list that dropping starts from, then the dropping
-unfoldable pub fromPartsCall : Lent → Bool → LayerOffset → Text → List ℕ → MapOutcome
-unfolding listCounts roomFor fromParts
-fromPartsCall l mark time out slots =
-    cond (listCounts l) (roomFor (pairsOf l) out slots (map (fromParts (pairsOf l) mark) time)) (refused TooMany)
+-- a map whose pairs are just these, with questions 4 and 5 put to them: "where that isn't run, the list read or answered"
+unfoldable pub asItIs : List Pair → Bool → LayerOffset → Text → List ℕ → MapOutcome
+unfolding roomFor
+asItIs l mark time out slots = cond (leb (length l) 64) (roomFor l out slots (map (record { pairs = l; mark = mark }) time)) (refused TooMany)
+
+-- a map made of these pairs, with questions 4 and 5 put to "the list that the dropping in `new` starts from"
+unfoldable pub fromPartsOutcome : List Pair → Bool → LayerOffset → Text → List ℕ → MapOutcome
+unfolding roomFor fromParts
+fromPartsOutcome l mark time out slots = cond (leb (length l) 64) (roomFor l out slots (map (fromParts l mark) time)) (refused TooMany)
+
+-- what is done with a lent list: "A count beyond its slice counts as over 64."
+unfoldable pub held : Lent → MapOutcome → MapOutcome
+held l o = cond (leb (l .count) (length (l .places) / 4)) o (refused TooMany)

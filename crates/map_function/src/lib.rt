@@ -10,9 +10,9 @@ ghost use Rattle.prefix.specs.Elements.{elements};
 ghost use Rattle.pairs.specs.Places.{keyAt, pairIn, pairsIn};
 ghost use Rattle.asking.specs.Asking.{lentList};
 ghost use Rattle.maps.specs.Map.{lentMap};
-ghost use Rattle.maps.specs.New.{isRoots, anyRoots, implied, keep, fromParts};
+ghost use Rattle.maps.specs.New.{isRoots, noRoots, anyRoots, implied, keep, canonical};
 ghost use Rattle.map_function.specs.Level.{layer, Keyed, Topped};
-ghost use Rattle.map_function.specs.Made.{mapReply, mapBytes, mapSlots, fromPartsCall};
+ghost use Rattle.map_function.specs.Made.{mapReply, mapBytes, mapSlots, held, asItIs, fromPartsOutcome};
 
 // A map: how many pairs of the lent list are its own, the root-identity mark, and the time offset.
 pub struct MapFunction {
@@ -136,4 +136,126 @@ fn keep_pair(
     }
     push(places, i, kept, w);
     w + 1
+}
+
+// Keeps what is to be kept of the level e, behind the w pairs that are kept.
+fn keep_level(
+    store: &[u8],
+    places: &[usize],
+    n: usize,
+    keys: &[usize],
+    e: usize,
+    mark: bool,
+    kept: &mut [usize],
+    w: usize,
+) -> usize
+    requires { ⌜ (4 * n ≤ length (now places)) × (n ≤ length (now keys)) ⌝ }
+    requires { ⌜ Keyed (now store) (now places) n (now keys) ⌝ }
+    requires { ⌜ 4 * (w + length (layer e (pairsIn (now store) (now places) n))) ≤ length (now kept) ⌝ }
+    ensures { λ r. ⌜ pairsIn (now (store .entry)) (now (kept .exit)) r ≡ keep mark (pairsIn (now (store .entry)) (now (kept .entry)) w) (layer e (pairsIn (now (store .entry)) (now (places .entry)) n)) ⌝ }
+{
+    let mut k = w;
+    let mut i = 0;
+    while i < n {
+        k = keep_pair(store, places, i, keys[i], e, mark, kept, k);
+        i += 1;
+    }
+    k
+}
+
+// The pairs of the map: those that are neither `/`→`/` nor implied by the ones before them, the
+// sources with fewer elements first. Rust: canonicalize.
+fn canonicalize(store: &[u8], places: &[usize], n: usize, mark: bool, kept: &mut [usize]) -> usize
+    requires { ⌜ (n ≤ 64) × (4 * n ≤ length (now places)) ⌝ }
+    requires { ⌜ 256 ≤ length (now kept) ⌝ }
+    ensures { λ r. ⌜ pairsIn (now (store .entry)) (now (kept .exit)) r ≡ canonical mark (noRoots (pairsIn (now (store .entry)) (now (places .entry)) n)) ⌝ }
+{
+    let mut keys = [0usize; 64];
+    let top = fill_keys(store, places, n, &mut keys);
+    let mut w = 0;
+    let mut e = 0;
+    while e < top {
+        w = keep_level(store, places, n, &keys, e, mark, kept, w);
+        e += 1;
+    }
+    keep_level(store, places, n, &keys, top, mark, kept, w)
+}
+
+// Is one of the two set?
+fn either(a: bool, b: bool) -> bool
+    ensures { λ r. ⌜ r ≡ (a || b) ⌝ }
+{
+    if a {
+        return true;
+    }
+    b
+}
+
+// The map of the first n pairs, written to out and slots. Questions 4 and 5 are put to the list
+// before anything is dropped. Rust: from_parts.
+pub fn from_parts(
+    store: &[u8],
+    places: &[usize],
+    n: usize,
+    mark: bool,
+    time: layer_offset::LayerOffset,
+    out: &mut [u8],
+    slots: &mut [usize],
+) -> MapReply
+    ensures { λ r. ⌜ r ≡ mapReply (held (lentList (now (store .entry)) (now (places .entry)) n) (fromPartsOutcome (pairsIn (now (store .entry)) (now (places .entry)) n) mark time (now (out .entry)) (now (slots .entry)))) ⌝ }
+    ensures { λ r. ⌜ now (out .exit) ≡ mapBytes (held (lentList (now (store .entry)) (now (places .entry)) n) (fromPartsOutcome (pairsIn (now (store .entry)) (now (places .entry)) n) mark time (now (out .entry)) (now (slots .entry)))) (now (out .entry)) ⌝ }
+    ensures { λ r. ⌜ now (slots .exit) ≡ mapSlots (held (lentList (now (store .entry)) (now (places .entry)) n) (fromPartsOutcome (pairsIn (now (store .entry)) (now (places .entry)) n) mark time (now (out .entry)) (now (slots .entry)))) (now (slots .entry)) ⌝ }
+{
+    if 64 < n {
+        return MapReply::Refused(path::Refusal::TooMany);
+    }
+    if places.len() / 4 < n {
+        return MapReply::Refused(path::Refusal::TooMany);
+    }
+    if slots.len() / 4 < n {
+        return MapReply::Refused(path::Refusal::NoRoom);
+    }
+    if !pairs::has_room(store, places, n, out.len()) {
+        return MapReply::Refused(path::Refusal::NoRoom);
+    }
+    let marked = either(mark, any_roots(store, places, n));
+    let mut kept = [0usize; 256];
+    let w = canonicalize(store, places, n, marked, &mut kept);
+    pairs::write_list(store, &kept, w, out, slots);
+    MapReply::Made(MapFunction {
+        count: w,
+        has_root_identity: marked,
+        time_offset: time,
+    })
+}
+
+// The first n pairs as they stand as a map, written to out and slots.
+pub fn as_it_is(
+    store: &[u8],
+    places: &[usize],
+    n: usize,
+    mark: bool,
+    time: layer_offset::LayerOffset,
+    out: &mut [u8],
+    slots: &mut [usize],
+) -> MapReply
+    ensures { λ r. ⌜ r ≡ mapReply (held (lentList (now (store .entry)) (now (places .entry)) n) (asItIs (pairsIn (now (store .entry)) (now (places .entry)) n) mark time (now (out .entry)) (now (slots .entry)))) ⌝ }
+    ensures { λ r. ⌜ now (out .exit) ≡ mapBytes (held (lentList (now (store .entry)) (now (places .entry)) n) (asItIs (pairsIn (now (store .entry)) (now (places .entry)) n) mark time (now (out .entry)) (now (slots .entry)))) (now (out .entry)) ⌝ }
+    ensures { λ r. ⌜ now (slots .exit) ≡ mapSlots (held (lentList (now (store .entry)) (now (places .entry)) n) (asItIs (pairsIn (now (store .entry)) (now (places .entry)) n) mark time (now (out .entry)) (now (slots .entry)))) (now (slots .entry)) ⌝ }
+{
+    if 64 < n {
+        return MapReply::Refused(path::Refusal::TooMany);
+    }
+    if places.len() / 4 < n {
+        return MapReply::Refused(path::Refusal::TooMany);
+    }
+    let fit = pairs::write_list(store, places, n, out, slots);
+    let text::Fit::Written(w) = fit else {
+        return MapReply::Refused(path::Refusal::NoRoom);
+    };
+    MapReply::Made(MapFunction {
+        count: w,
+        has_root_identity: mark,
+        time_offset: time,
+    })
 }

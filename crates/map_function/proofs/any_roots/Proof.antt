@@ -7,9 +7,6 @@ use Rattle.map_function.proofs.KeepWays.{rooting}
 use borrow.Author.Needs.{needs}
 use Rattle.map_function.proofs.any_roots.Statement.{statement}
 use Rattle.map_function.proofs.any_roots.Tie as tie
-use Rattle.map_function.proofs.any_roots.Reads as reads
-use Rattle.map_function.proofs.any_roots.Lts as lts
-use Rattle.map_function.proofs.is_roots.Reads as is-roots-reads
 
 abbrev Inv-loop : tie.InvT-loop
 Inv-loop store places n i₀ i = (i ≤ n) × (false ≡ anyRoots (pairsIn store places i))
@@ -17,31 +14,24 @@ Inv-loop store places n i₀ i = (i ≤ n) × (false ≡ anyRoots (pairsIn store
 abbrev μ-loop : tie.MeasureT-loop
 μ-loop store places n i₀ i = n - i
 
--- src/lib.rt:45:5
 loop-holds : tie.Need-loop-holds Inv-loop μ-loop
 loop-holds c = search (needs, rooting)
 
--- src/lib.rt:46:12
 is-roots-requires : tie.Need-is-roots-requires Inv-loop μ-loop
 is-roots-requires c κs = search (needs, rooting)
 
--- src/lib.rt:47:13
 returns : tie.Need-returns Inv-loop μ-loop
 returns c = search (needs, rooting)
 
--- src/lib.rt:49:9
 add-i : tie.Need-add-i Inv-loop μ-loop
 add-i c = search (needs, rooting)
 
--- src/lib.rt:45:5
 loop-less : tie.Need-loop-less Inv-loop μ-loop
 loop-less c = search (needs, rooting)
 
--- src/lib.rt:45:5
 loop-again : tie.Need-loop-again Inv-loop μ-loop
 loop-again c = search (needs, rooting)
 
--- src/lib.rt:41:1
 returns-2 : tie.Need-returns-2 Inv-loop μ-loop
 returns-2 c = search (needs, rooting)
 

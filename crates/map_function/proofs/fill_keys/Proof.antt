@@ -7,11 +7,6 @@ use Rattle.map_function.proofs.KeepWays.{keyed-none, topped-none, keyed
 use borrow.Author.Needs.{needs}
 use Rattle.map_function.proofs.fill_keys.Statement.{statement}
 use Rattle.map_function.proofs.fill_keys.Tie as tie
-use Rattle.map_function.proofs.fill_keys.Reads as reads
-use Rattle.map_function.proofs.fill_keys.Lts as lts
-use Rattle.map_function.proofs.max.Reads as max-reads
-use Rattle.pairs.proofs.key_at.Reads as key-at-reads
-use Rattle.prefix.proofs.element_count.Reads as element-count-reads
 
 abbrev Inv-loop : tie.InvT-loop
 Inv-loop store places n keys₀ top₀ i₀ keys top i = (i ≤ n) × (n ≤ length keys) × Keyed store places i keys × Topped store places i top × (length keys ≡ length keys₀)
@@ -19,47 +14,36 @@ Inv-loop store places n keys₀ top₀ i₀ keys top i = (i ≤ n) × (n ≤ len
 abbrev μ-loop : tie.MeasureT-loop
 μ-loop store places n keys₀ top₀ i₀ keys top i = n - i
 
--- src/lib.rt:69:5
 loop-holds : tie.Need-loop-holds Inv-loop μ-loop
 loop-holds c = (search needs, c .before .before .before .pre, keyed-none _ _ _, topped-none _ _ _, refl)
 
--- src/lib.rt:70:39
 key-at-requires : tie.Need-key-at-requires Inv-loop μ-loop
 key-at-requires c κs = search needs
 
--- src/lib.rt:70:17
 element-count-requires : tie.Need-element-count-requires Inv-loop μ-loop
 element-count-requires c κs = search needs
 
--- src/lib.rt:71:9
 mul-keys : tie.Need-mul-keys Inv-loop μ-loop
 mul-keys c = search needs
 
--- src/lib.rt:71:9
 slice-write-keys : tie.Need-slice-write-keys Inv-loop μ-loop
 slice-write-keys c = omega (arith, c .before .before .loop-test .taken, c .before .before .before .loop .inv .1)
 
--- src/lib.rt:72:9
 max-requires : tie.Need-max-requires Inv-loop μ-loop
 max-requires c κs = search needs
 
--- src/lib.rt:73:9
 add-i : tie.Need-add-i Inv-loop μ-loop
 add-i c = search needs
 
--- src/lib.rt:69:5
 loop-less : tie.Need-loop-less Inv-loop μ-loop
 loop-less c = search needs
 
--- src/lib.rt:69:5
 loop-again : tie.Need-loop-again Inv-loop μ-loop
 loop-again c = (search needs, simp length-set (omega (arith, c .before .before .before .before .loop .inv .1)), keyed-on _ _ _ _ _ _ (omega (arith, c .before .before .before .loop-test .taken, c .before .before .before .before .loop .inv .1)) (c .before .before .key-at .ensures) (c .before .element-count .ensures) (c .before .before .before .before .loop .inv .2), topped-on _ _ _ _ _ _ _ (c .before .before .key-at .ensures) (c .before .element-count .ensures) (c .max .ensures) (c .before .before .before .before .loop .inv .3), simp length-set (c .before .before .before .before .loop .inv .4))
 
--- src/lib.rt:62:1
 same-length : tie.Need-same-length Inv-loop μ-loop
 same-length c = search needs
 
--- src/lib.rt:62:1
 returns : tie.Need-returns Inv-loop μ-loop
 returns c = (keyed-end _ _ _ _ _ (c .loop-test .left) (c .before .loop .inv .2), topped-end _ _ _ _ _ (c .loop-test .left) (c .before .loop .inv .3))
 

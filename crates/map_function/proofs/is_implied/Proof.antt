@@ -2,54 +2,37 @@ use Rattle.map_function.proofs.KeepWays.{implied-inside, implied-join, 
 use borrow.Author.Needs.{needs}
 use Rattle.map_function.proofs.is_implied.Statement.{statement}
 use Rattle.map_function.proofs.is_implied.Tie as tie
-use Rattle.map_function.proofs.is_implied.Reads as reads
-use Rattle.map_function.proofs.is_implied.Lts as lts
-use Rattle.pairs.proofs.best_prefix.Reads as best-prefix-reads
-use Rattle.pairs.proofs.key_at.Reads as key-at-reads
-use Rattle.prefix.proofs.is_join.Reads as is-join-reads
-use Rattle.text.proofs.is_equal.Reads as is-equal-reads
 
--- src/lib.rt:82:9
 best-prefix-requires : tie.Need-best-prefix-requires
 best-prefix-requires c κs = search needs
 
--- src/lib.rt:84:13
 key-at-requires : tie.Need-key-at-requires
 key-at-requires c κs = search needs
 
--- src/lib.rt:85:13
 key-at-requires-2 : tie.Need-key-at-requires-2
 key-at-requires-2 c κs = search needs
 
--- src/lib.rt:87:42
 sub-is-join : tie.Need-sub-is-join
 sub-is-join c = implied-inside _ _ _ (c .before .before .before .before .before .before .before .before .args .mark) _ (c .before .before .before .before .before .before .before .before .args .t .now) (c .before .before .before .best-prefix .result) (c .before .before .before .best-prefix .ensures) (c .before .before .if1 .taken) _ (c .before .key-at .ensures)
 
--- src/lib.rt:87:42
 part-is-join-start : tie.Need-part-is-join-start
 part-is-join-start c = implied-inside _ _ _ (c .before .before .before .before .before .before .before .before .args .mark) _ (c .before .before .before .before .before .before .before .before .args .t .now) (c .before .before .before .best-prefix .result) (c .before .before .before .best-prefix .ensures) (c .before .before .if1 .taken) _ (c .before .key-at .ensures)
 
--- src/lib.rt:87:42
 part-is-join-end : tie.Need-part-is-join-end
 part-is-join-end c = search needs
 
--- src/lib.rt:87:9
 is-join-requires : tie.Need-is-join-requires
 is-join-requires c κs = search needs
 
--- src/lib.rt:87:9
 returns : tie.Need-returns
 returns c = implied-join _ _ _ _ _ _ (c .before .before .before .before .before .best-prefix .result) (c .before .before .before .before .before .best-prefix .ensures) (c .before .before .before .before .if1 .taken) _ _ (c .before .before .before .key-at .ensures) (c .before .before .key-at2 .ensures) _ (c .is-join .ensures)
 
--- src/lib.rt:90:9
 returns-2 : tie.Need-returns-2
 returns-2 c = implied-none _ _ _ _ _ _ (c .before .before .best-prefix .result) (c .before .before .best-prefix .ensures) (c .before .if1 .left) (c .if2 .taken)
 
--- src/lib.rt:92:5
 is-equal-requires : tie.Need-is-equal-requires
 is-equal-requires c κs = search needs
 
--- src/lib.rt:79:1
 returns-3 : tie.Need-returns-3
 returns-3 c = implied-mark _ _ _ _ _ _ (c .before .before .before .best-prefix .result) (c .before .before .before .best-prefix .ensures) (c .before .before .if1 .left) (c .before .if2 .left) _ (c .is-equal .ensures)
 

@@ -2,32 +2,22 @@ use Rattle.map_function.proofs.KeepWays.{roots-not, roots-both}
 use borrow.Author.Needs.{needs}
 use Rattle.map_function.proofs.is_roots.Statement.{statement}
 use Rattle.map_function.proofs.is_roots.Tie as tie
-use Rattle.map_function.proofs.is_roots.Reads as reads
-use Rattle.map_function.proofs.is_roots.Lts as lts
-use Rattle.grammar.proofs.is_root.Reads as is-root-reads
-use Rattle.pairs.proofs.key_at.Reads as key-at-reads
 
--- src/lib.rt:34:26
 key-at-requires : tie.Need-key-at-requires
 key-at-requires c κs = search needs
 
--- src/lib.rt:34:9
 is-root-requires : tie.Need-is-root-requires
 is-root-requires c κs = search needs
 
--- src/lib.rt:35:9
 returns : tie.Need-returns
 returns c = roots-not _ _ _ _ (c .before .before .key-at .ensures) _ (c .before .is-root .ensures) (c .if1 .taken)
 
--- src/lib.rt:37:22
 key-at-requires-2 : tie.Need-key-at-requires-2
 key-at-requires-2 c κs = search needs
 
--- src/lib.rt:37:5
 is-root-requires-2 : tie.Need-is-root-requires-2
 is-root-requires-2 c κs = search needs
 
--- src/lib.rt:31:1
 returns-2 : tie.Need-returns-2
 returns-2 c = roots-both _ _ _ _ (c .before .before .before .before .key-at .ensures) _ (c .before .before .before .is-root .ensures) (c .before .before .if1 .left) _ (c .before .key-at2 .ensures) _ (c .is-root2 .ensures)
 

@@ -2,58 +2,40 @@ use Rattle.map_function.proofs.KeepWays.{pair-other, pair-roots, pair-r
 use borrow.Author.Needs.{needs}
 use Rattle.map_function.proofs.keep_pair.Statement.{statement}
 use Rattle.map_function.proofs.keep_pair.Tie as tie
-use Rattle.map_function.proofs.keep_pair.Reads as reads
-use Rattle.map_function.proofs.keep_pair.Lts as lts
-use Rattle.map_function.proofs.is_implied.Reads as is-implied-reads
-use Rattle.map_function.proofs.is_roots.Reads as is-roots-reads
-use Rattle.map_function.proofs.push.Reads as push-reads
-use Rattle.pairs.proofs.key_at.Reads as key-at-reads
 
--- src/lib.rt:127:9
 returns : tie.Need-returns
 returns c = pair-other _ _ _ _ _ _ _ _ (c .before .before .before .before .pre .1 .0) (c .if1 .taken)
 
--- src/lib.rt:129:8
 is-roots-requires : tie.Need-is-roots-requires
 is-roots-requires c κs = search needs
 
--- src/lib.rt:130:9
 returns-2 : tie.Need-returns-2
 returns-2 c = pair-roots _ _ _ _ _ _ _ _ (c .before .before .before .before .before .before .pre .1 .0) (c .before .before .if1 .left) _ (c .before .is-roots .ensures) (c .if2 .taken)
 
--- src/lib.rt:132:9
 key-at-requires : tie.Need-key-at-requires
 key-at-requires c κs = search needs
 
--- src/lib.rt:133:9
 key-at-requires-2 : tie.Need-key-at-requires-2
 key-at-requires-2 c κs = search needs
 
--- src/lib.rt:134:8
 is-implied-requires : tie.Need-is-implied-requires
 is-implied-requires c κs = search needs
 
--- src/lib.rt:135:9
 same-length : tie.Need-same-length
 same-length c = search needs
 
--- src/lib.rt:135:9
 returns-3 : tie.Need-returns-3
 returns-3 c = pair-implied _ _ _ _ _ _ _ _ (c .before .before .before .before .before .before .before .before .before .before .before .pre .1 .0) (c .before .before .before .before .before .before .before .if1 .left) _ (c .before .before .before .before .before .before .is-roots .ensures) (c .before .before .before .before .before .if2 .left) _ _ (c .before .before .before .before .key-at .ensures) (c .before .before .before .key-at2 .ensures) _ (c .before .is-implied .ensures) (c .if3 .taken)
 
--- src/lib.rt:137:5
 push-requires : tie.Need-push-requires
 push-requires c κs = (c .before .before .before .before .before .before .before .before .before .before .before .before .pre .0, pair-room _ _ _ _ _ (c .before .before .before .before .before .before .before .before .before .before .before .before .args .mark) (c .before .before .before .before .before .before .before .before .before .before .before .before .args .kept .now) _ (c .before .before .before .before .before .before .before .before .before .before .before .before .pre .1 .0) (c .before .before .before .before .before .before .before .before .if1 .left) _ (c .before .before .before .before .before .before .before .is-roots .ensures) (c .before .before .before .before .before .before .if2 .left) (c .before .before .before .before .before .before .before .before .before .before .before .before .pre .1 .1))
 
--- src/lib.rt:138:5
 add-result : tie.Need-add-result
 add-result c = search needs
 
--- src/lib.rt:111:1
 same-length-2 : tie.Need-same-length-2
 same-length-2 c = search needs
 
--- src/lib.rt:111:1
 returns-4 : tie.Need-returns-4
 returns-4 c = pair-kept _ _ _ _ _ _ _ _ (c .before .before .before .before .before .before .before .before .before .before .before .before .before .before .before .pre .1 .0) (c .before .before .before .before .before .before .before .before .before .before .before .if1 .left) _ (c .before .before .before .before .before .before .before .before .before .before .is-roots .ensures) (c .before .before .before .before .before .before .before .before .before .if2 .left) _ _ (c .before .before .before .before .before .before .before .before .key-at .ensures) (c .before .before .before .before .before .before .before .key-at2 .ensures) _ (c .before .before .before .before .before .is-implied .ensures) (c .before .before .before .before .if3 .left) (pair-room _ _ _ _ _ (c .before .before .before .before .before .before .before .before .before .before .before .before .before .before .before .args .mark) (c .before .before .before .before .before .before .before .before .before .before .before .before .before .before .before .args .kept .now) _ (c .before .before .before .before .before .before .before .before .before .before .before .before .before .before .before .pre .1 .0) (c .before .before .before .before .before .before .before .before .before .before .before .if1 .left) _ (c .before .before .before .before .before .before .before .before .before .before .is-roots .ensures) (c .before .before .before .before .before .before .before .before .before .if2 .left) (c .before .before .before .before .before .before .before .before .before .before .before .before .before .before .before .pre .1 .1)) _ (c .before .before .push .ensures)
 

@@ -1,0 +1,65 @@
+use Rattle.map_function.proofs.NewWays.{refusing-map, parts-many, parts-beyond, parts-slots, parts-bytes, parts-made}
+use borrow.Author.Needs.{needs}
+use Rattle.map_function.proofs.from_parts.Statement.{statement}
+use Rattle.map_function.proofs.from_parts.Tie as tie
+
+returns : tie.Need-returns
+returns c = refusing-map _ _ (parts-many _ _ _ _ _ _ _ (c .if1 .taken)) _ _
+
+returns-2 : tie.Need-returns-2
+returns-2 c = refusing-map _ _ (parts-beyond _ _ _ _ _ _ _ (c .if2 .taken)) _ _
+
+returns-3 : tie.Need-returns-3
+returns-3 c = refusing-map _ _ (parts-slots _ _ _ _ _ _ _ (c .before .before .if1 .left) (c .before .if2 .left) (c .if3 .taken)) _ _
+
+has-room-requires : tie.Need-has-room-requires
+has-room-requires c κs = search needs
+
+returns-4 : tie.Need-returns-4
+returns-4 c = refusing-map _ _ (parts-bytes _ _ _ _ _ _ _ (c .before .before .before .before .if1 .left) (c .before .before .before .if2 .left) (c .before .before .if3 .left) _ (c .before .has-room .ensures) (c .if4 .taken)) _ _
+
+any-roots-requires : tie.Need-any-roots-requires
+any-roots-requires c κs = search needs
+
+either-requires : tie.Need-either-requires
+either-requires c κs = search needs
+
+slice-aggregate-canonicalize : tie.Need-slice-aggregate-canonicalize
+slice-aggregate-canonicalize c = search needs
+
+canonicalize-requires : tie.Need-canonicalize-requires
+canonicalize-requires c κs = search needs
+
+slice-aggregate-write-list : tie.Need-slice-aggregate-write-list
+slice-aggregate-write-list c = search needs
+
+write-list-requires : tie.Need-write-list-requires
+write-list-requires c κs = search needs
+
+same-length : tie.Need-same-length
+same-length c = search needs
+
+same-length-2 : tie.Need-same-length-2
+same-length-2 c = search needs
+
+returns-5 : tie.Need-returns-5
+returns-5 c = parts-made _ _ _ _ _ _ _ (c .before .before .before .before .before .before .before .before .before .before .before .before .before .before .before .before .before .if1 .left) (c .before .before .before .before .before .before .before .before .before .before .before .before .before .before .before .before .if2 .left) (c .before .before .before .before .before .before .before .before .before .before .before .before .before .before .before .if3 .left) _ (c .before .before .before .before .before .before .before .before .before .before .before .before .before .before .has-room .ensures) (c .before .before .before .before .before .before .before .before .before .before .before .before .before .if4 .left) _ _ (c .before .before .before .before .before .before .before .before .before .before .before .before .any-roots .ensures) (c .before .before .before .before .before .before .before .before .before .before .before .either .ensures) _ _ (c .before .before .before .before .before .before .before .before .before .canonicalize .ensures) _ _ (c .before .before .before .before .write-list .ensures .1 .0) (c .before .before .before .before .write-list .ensures .1 .1)
+
+pub from-parts-spec : {M : Type 1} → statement M
+from-parts-spec =
+    tie.close
+    (tie.spec
+    returns
+    returns-2
+    returns-3
+    has-room-requires
+    returns-4
+    any-roots-requires
+    either-requires
+    slice-aggregate-canonicalize
+    canonicalize-requires
+    slice-aggregate-write-list
+    write-list-requires
+    same-length
+    same-length-2
+    returns-5)
