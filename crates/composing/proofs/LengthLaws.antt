@@ -6,14 +6,15 @@ use mathlib.Core.Option.{Option, none, some, Option·getD}
 use Prim.Native.Nat.{ℕ, zero, suc, _+_, _≤_, _<_}
 use native.Mathlib.Omega.{arith}
 use lib.ListN.{length, length-append}
-use borrow.Author.Tests.{leb-true}
+use borrow.Author.Tests.{leb-true, le-leb}
 use Rattle.text.specs.Text.{Text, isNil, after}
 use Rattle.text.proofs.BoolLaws.{and-l, and-r}
 use Rattle.text.proofs.TextLaws.{after-up}
+use Rattle.grammar.specs.Legal.{fits}
 use Rattle.prefix.specs.Prefix.{follows}
 use Rattle.prefix.specs.Join.{joined, joinedSome, replacePrefix}
 use Rattle.prefix.proofs.JoinWays.{joined-length, separator-short, body-short}
-use Rattle.pairs.specs.Pair.{Pair, sourceAt, targetAt, everyEnd}
+use Rattle.pairs.specs.Pair.{Pair, sourceAt, targetAt, everyEnd, allShort}
 use Rattle.pairs.specs.Places.{keyAt, pairsIn}
 use Rattle.pairs.proofs.PlaceLaws.{pairsIn-source, pairsIn-target}
 use Rattle.maps.specs.Map.{Map, source, target, by, chosenOut, chosenHome, plainOut, plainHome}
@@ -76,3 +77,16 @@ carried-length m t e l = go (isNil t)
     go : (c : Bool) → length (cond c [] (Option·getD (plainOut m t) [])) ≤ 1023
     go true = omega arith
     go false = some-is (plainOut m t) (plain-length false m t e l)
+
+-- short ends are modest
+fits-modest : (t : Text) → fits t ≡ true → modest t ≡ true
+unfolding fits
+fits-modest t e = le-leb (length t) 511 (omega (arith, leb-true (length t) 255 e))
+
+pub short-modest : (l : List Pair) → allShort l ≡ true → everyEnd modest l ≡ true
+unfolding allShort everyEnd
+short-modest [] e = refl
+short-modest (x ∷ l) e =
+    let a : (fits (x .source) && fits (x .target)) ≡ true = and-l (fits (x .source) && fits (x .target)) (allShort l) e in
+    rw (fits-modest (x .source) (and-l (fits (x .source)) (fits (x .target)) a), fits-modest (x .target) (and-r (fits (x .source)) (fits (x .target)) a))
+    (short-modest l (and-r (fits (x .source) && fits (x .target)) (allShort l) e))

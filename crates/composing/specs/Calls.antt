@@ -13,31 +13,44 @@ use Rattle.path.specs.Refusal.{unless}
 use Rattle.path.specs.declared.Refusal.the-variants.{TooMany, MadeTooLong}
 use Rattle.asking.specs.Asking.{lentList, asked}
 use Rattle.maps.specs.Map.{Map, lentMap}
+use Rattle.maps.specs.New.{fromParts}
 use Rattle.maps.specs.Compose.{isPathIdentity, composedPairs, compose}
 use Rattle.map_function.specs.declared.MapFunction.{MapFunction}
-use Rattle.map_function.specs.Made.{MapOutcome, map, refused, roomFor}
+use Rattle.map_function.specs.Made.{MapOutcome, map, refused, roomFor, asItIs}
 
 -- "Two identity offsets compose to exactly (0, 1)."
 unfoldable pub composedTime : LayerOffset → LayerOffset → LayerOffset
 unfolding isIdentity
 composedTime outer inner = cond (isIdentity outer && isIdentity inner) identity (concatenated outer inner)
 
--- the list that questions 4 and 5 count: the one "that the dropping in `new` starts from .. where that isn't run, the list .. answered"
-unfoldable pub countedPairs : Map → Map → List Pair
-unfolding composedPairs
-countedPairs outer inner = cond (isPathIdentity outer) (inner .pairs) (cond (isPathIdentity inner) (outer .pairs) (composedPairs outer inner))
+abbrev pub timeOf : MapFunction → MapFunction → LayerOffset
+timeOf outer inner = composedTime (outer .«time_offset») (inner .«time_offset»)
 
 -- question 7: "Is every path made at most 255 bytes?" The ends of the list are made from ends, and legal, so 8 never comes.
 unfoldable pub madeShort : List Pair → MapOutcome → MapOutcome
 unfolding allShort
 madeShort l o = cond (allShort l) o (refused MadeTooLong)
 
--- questions 4, 5 and 7 of that list, then the map; "a None target becomes an empty one, so 6 never comes there"
+-- the map made of a list that was made itself: questions 4 and 5 put to "the list that the dropping in `new` starts from", then 7
+unfoldable pub fromMade : List Pair → Bool → LayerOffset → Text → List ℕ → MapOutcome
+unfolding roomFor madeShort fromParts
+fromMade l mark time out slots = cond (leb (length l) 64) (roomFor l out slots (madeShort l (map (fromParts l mark) time))) (refused TooMany)
+
+-- two maps that are no identities; "a None target becomes an empty one, so 6 never comes there"
+unfoldable pub composed : Map → Map → LayerOffset → Text → List ℕ → MapOutcome
+unfolding composedPairs fromMade
+composed outer inner time out slots = fromMade (composedPairs outer inner) (outer .mark && inner .mark) time out slots
+
+-- one that leaves every path as it is gives the other as it stands, with the composed time offset
 unfoldable pub composing : Map → Map → LayerOffset → Text → List ℕ → MapOutcome
-unfolding countedPairs roomFor madeShort compose
+unfolding asItIs composed
 composing outer inner time out slots =
-    cond (leb (length (countedPairs outer inner)) 64)
-    (roomFor (countedPairs outer inner) out slots (madeShort (countedPairs outer inner) (map (compose outer inner) time))) (refused TooMany)
+    cond (isPathIdentity outer) (asItIs (inner .pairs) (inner .mark) time out slots)
+    (cond (isPathIdentity inner) (asItIs (outer .pairs) (outer .mark) time out slots) (composed outer inner time out slots))
+
+-- a map that comes out is the composed one (proved in proofs/CallWays.antt)
+abbrev pub ComposesTo : Type 0
+ComposesTo = (outer inner m : Map) (time t : LayerOffset) (out : Text) (slots : List ℕ) → composing outer inner time out slots ≡ map m t → m ≡ compose outer inner
 
 -- the map of lent pairs that its own numbers describe
 abbrev pub lentBy : Text → List ℕ → MapFunction → Map
@@ -48,7 +61,7 @@ unfoldable pub composeCall : Text → List ℕ → MapFunction → Text → List
 unfolding asked composing composedTime
 composeCall store places outer istore iplaces inner out slots =
     unless (asked (lentList store places (outer .count) ∷ lentList istore iplaces (inner .count) ∷ []) [] []) refused
-    (composing (lentBy store places outer) (lentBy istore iplaces inner) (composedTime (outer .«time_offset») (inner .«time_offset»)) out slots)
+    (composing (lentBy store places outer) (lentBy istore iplaces inner) (timeOf outer inner) out slots)
 
 -- every end that composing makes is a prim path, `/` or empty, so question 8 has nothing to refuse (proved in proofs/ComposedEnds.antt)
 abbrev pub ComposedEnds : Type 0

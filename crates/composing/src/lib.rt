@@ -1,19 +1,18 @@
 // Two maps as one. The composed list is built in memory of the call's own: source then target, pair
 // after pair.
 ghost use mathlib.Core.Path.{_≡_};
-ghost use mathlib.Core.Bool.{Bool, true, false, _&&_};
+ghost use mathlib.Core.Bool.{Bool, true, false};
 ghost use mathlib.Core.List.{[], _∷_, _++_, map as mapped};
-ghost use lib.Dec.{eqb};
 ghost use Prim.Native.Nat.{_+_, _*_, _-_, _≤_};
 ghost use lib.ListN.{length, take, drop};
 ghost use Rattle.text.specs.Text.{over, placed};
 ghost use Rattle.prefix.specs.Join.{joined};
-ghost use Rattle.layer_offset.specs.Offset.{isIdentity};
 ghost use Rattle.pairs.specs.Pair.{everyEnd, allShort};
 ghost use Rattle.pairs.specs.Places.{pairsIn, fourOf};
 ghost use Rattle.maps.specs.Compose.{carried, hasSource, added, pulled, composedPairs};
 ghost use Rattle.maps.specs.Map.{lentMap};
-ghost use Rattle.composing.specs.Calls.{composedTime};
+ghost use Rattle.map_function.specs.Made.{mapReply, mapBytes, mapSlots};
+ghost use Rattle.composing.specs.Calls.{composedTime, timeOf, fromMade, lentBy, composed, composeCall};
 ghost use Rattle.composing.specs.Scratch.{plain, marked, image, needed, imaged, carriedTo, modest, Holds};
 
 // What mapping a text answers: no path, or the length of the path made.
@@ -313,16 +312,6 @@ fn compose_into(
     )
 }
 
-// Are both offsets the identity?
-fn are_identities(outer: layer_offset::LayerOffset, inner: layer_offset::LayerOffset) -> bool
-    ensures { λ r. ⌜ r ≡ (isIdentity outer && isIdentity inner) ⌝ }
-{
-    if !outer.is_identity() {
-        return false;
-    }
-    inner.is_identity()
-}
-
 // The time offset of the composed map.
 fn composed_time(
     outer: layer_offset::LayerOffset,
@@ -330,20 +319,10 @@ fn composed_time(
 ) -> layer_offset::LayerOffset
     ensures { λ r. ⌜ r ≡ composedTime outer inner ⌝ }
 {
-    if are_identities(outer, inner) {
+    if asking::both(outer.is_identity(), inner.is_identity()) {
         return layer_offset::LayerOffset::IDENTITY;
     }
     outer.concatenate(inner)
-}
-
-// Does a map of so many pairs leave every path as it is?
-fn is_path_identity(count: usize, mark: bool) -> bool
-    ensures { λ r. ⌜ r ≡ (eqb count 0 && mark) ⌝ }
-{
-    if count != 0 {
-        return false;
-    }
-    mark
 }
 
 // Question 7 of the first n pairs.
@@ -361,4 +340,177 @@ fn are_short(store: &[u8], places: &[usize], n: usize) -> bool
         i += 1;
     }
     true
+}
+
+// The map made of the first n pairs, which were made themselves: questions 4 and 5, then 7.
+fn from_made(
+    store: &[u8],
+    places: &[usize],
+    n: usize,
+    mark: bool,
+    time: layer_offset::LayerOffset,
+    out: &mut [u8],
+    slots: &mut [usize],
+) -> map_function::MapReply
+    requires { ⌜ 4 * n ≤ length (now places) ⌝ }
+    ensures { λ r. ⌜ r ≡ mapReply (fromMade (pairsIn (now (store .entry)) (now (places .entry)) n) mark time (now (out .entry)) (now (slots .entry))) ⌝ }
+    ensures { λ r. ⌜ now (out .exit) ≡ mapBytes (fromMade (pairsIn (now (store .entry)) (now (places .entry)) n) mark time (now (out .entry)) (now (slots .entry))) (now (out .entry)) ⌝ }
+    ensures { λ r. ⌜ now (slots .exit) ≡ mapSlots (fromMade (pairsIn (now (store .entry)) (now (places .entry)) n) mark time (now (out .entry)) (now (slots .entry))) (now (slots .entry)) ⌝ }
+{
+    if are_short(store, places, n) {
+        return map_function::from_parts(store, places, n, mark, time, out, slots);
+    }
+    if 64 < n {
+        return map_function::MapReply::Refused(path::Refusal::TooMany);
+    }
+    if slots.len() / 4 < n {
+        return map_function::MapReply::Refused(path::Refusal::NoRoom);
+    }
+    if !pairs::has_room(store, places, n, out.len()) {
+        return map_function::MapReply::Refused(path::Refusal::NoRoom);
+    }
+    map_function::MapReply::Refused(path::Refusal::MadeTooLong)
+}
+
+// Composes two maps that passed the questions and are no identities, with memory to build in.
+fn compose_in(
+    store: &[u8],
+    places: &[usize],
+    outer: map_function::MapFunction,
+    istore: &[u8],
+    iplaces: &[usize],
+    inner: map_function::MapFunction,
+    bytes: &mut [u8],
+    own: &mut [usize],
+    out: &mut [u8],
+    slots: &mut [usize],
+) -> map_function::MapReply
+    requires { ⌜ everyEnd modest (pairsIn (now store) (now places) (outer .count)) ≡ true ⌝ }
+    requires { ⌜ everyEnd modest (pairsIn (now istore) (now iplaces) (inner .count)) ≡ true ⌝ }
+    requires { ⌜ 1534 * (inner .count + outer .count) ≤ length (now bytes) ⌝ }
+    requires { ⌜ 4 * (inner .count + outer .count) ≤ length (now own) ⌝ }
+    ensures { λ r. ⌜ r ≡ mapReply (composed (lentBy (now (store .entry)) (now (places .entry)) outer) (lentBy (now (istore .entry)) (now (iplaces .entry)) inner) (timeOf outer inner) (now (out .entry)) (now (slots .entry))) ⌝ }
+    ensures { λ r. ⌜ now (out .exit) ≡ mapBytes (composed (lentBy (now (store .entry)) (now (places .entry)) outer) (lentBy (now (istore .entry)) (now (iplaces .entry)) inner) (timeOf outer inner) (now (out .entry)) (now (slots .entry))) (now (out .entry)) ⌝ }
+    ensures { λ r. ⌜ now (slots .exit) ≡ mapSlots (composed (lentBy (now (store .entry)) (now (places .entry)) outer) (lentBy (now (istore .entry)) (now (iplaces .entry)) inner) (timeOf outer inner) (now (out .entry)) (now (slots .entry))) (now (slots .entry)) ⌝ }
+{
+    let mark = outer.has_root_identity;
+    let imark = inner.has_root_identity;
+    let b = compose_into(
+        store,
+        places,
+        outer.count,
+        mark,
+        istore,
+        iplaces,
+        inner.count,
+        imark,
+        bytes,
+        own,
+    );
+    let time = composed_time(outer.time_offset, inner.time_offset);
+    from_made(bytes, own, b.n, asking::both(mark, imark), time, out, slots)
+}
+
+// The same for at most four pairs together: a small piece of memory is quickly cleared.
+fn compose_few(
+    store: &[u8],
+    places: &[usize],
+    outer: map_function::MapFunction,
+    istore: &[u8],
+    iplaces: &[usize],
+    inner: map_function::MapFunction,
+    out: &mut [u8],
+    slots: &mut [usize],
+) -> map_function::MapReply
+    requires { ⌜ everyEnd modest (pairsIn (now store) (now places) (outer .count)) ≡ true ⌝ }
+    requires { ⌜ everyEnd modest (pairsIn (now istore) (now iplaces) (inner .count)) ≡ true ⌝ }
+    requires { ⌜ inner .count + outer .count ≤ 4 ⌝ }
+    ensures { λ r. ⌜ r ≡ mapReply (composed (lentBy (now (store .entry)) (now (places .entry)) outer) (lentBy (now (istore .entry)) (now (iplaces .entry)) inner) (timeOf outer inner) (now (out .entry)) (now (slots .entry))) ⌝ }
+    ensures { λ r. ⌜ now (out .exit) ≡ mapBytes (composed (lentBy (now (store .entry)) (now (places .entry)) outer) (lentBy (now (istore .entry)) (now (iplaces .entry)) inner) (timeOf outer inner) (now (out .entry)) (now (slots .entry))) (now (out .entry)) ⌝ }
+    ensures { λ r. ⌜ now (slots .exit) ≡ mapSlots (composed (lentBy (now (store .entry)) (now (places .entry)) outer) (lentBy (now (istore .entry)) (now (iplaces .entry)) inner) (timeOf outer inner) (now (out .entry)) (now (slots .entry))) (now (slots .entry)) ⌝ }
+{
+    let mut bytes = [0u8; 6136];
+    let mut own = [0usize; 16];
+    compose_in(
+        store,
+        places,
+        outer,
+        istore,
+        iplaces,
+        inner,
+        &mut bytes,
+        &mut own,
+        out,
+        slots,
+    )
+}
+
+// The same for as many pairs as two lists have.
+fn compose_many(
+    store: &[u8],
+    places: &[usize],
+    outer: map_function::MapFunction,
+    istore: &[u8],
+    iplaces: &[usize],
+    inner: map_function::MapFunction,
+    out: &mut [u8],
+    slots: &mut [usize],
+) -> map_function::MapReply
+    requires { ⌜ everyEnd modest (pairsIn (now store) (now places) (outer .count)) ≡ true ⌝ }
+    requires { ⌜ everyEnd modest (pairsIn (now istore) (now iplaces) (inner .count)) ≡ true ⌝ }
+    requires { ⌜ inner .count + outer .count ≤ 128 ⌝ }
+    ensures { λ r. ⌜ r ≡ mapReply (composed (lentBy (now (store .entry)) (now (places .entry)) outer) (lentBy (now (istore .entry)) (now (iplaces .entry)) inner) (timeOf outer inner) (now (out .entry)) (now (slots .entry))) ⌝ }
+    ensures { λ r. ⌜ now (out .exit) ≡ mapBytes (composed (lentBy (now (store .entry)) (now (places .entry)) outer) (lentBy (now (istore .entry)) (now (iplaces .entry)) inner) (timeOf outer inner) (now (out .entry)) (now (slots .entry))) (now (out .entry)) ⌝ }
+    ensures { λ r. ⌜ now (slots .exit) ≡ mapSlots (composed (lentBy (now (store .entry)) (now (places .entry)) outer) (lentBy (now (istore .entry)) (now (iplaces .entry)) inner) (timeOf outer inner) (now (out .entry)) (now (slots .entry))) (now (slots .entry)) ⌝ }
+{
+    let mut bytes = [0u8; 196352];
+    let mut own = [0usize; 512];
+    compose_in(
+        store,
+        places,
+        outer,
+        istore,
+        iplaces,
+        inner,
+        &mut bytes,
+        &mut own,
+        out,
+        slots,
+    )
+}
+
+// The outer map after the inner one, as one map.
+pub fn compose(
+    store: &[u8],
+    places: &[usize],
+    outer: map_function::MapFunction,
+    istore: &[u8],
+    iplaces: &[usize],
+    inner: map_function::MapFunction,
+    out: &mut [u8],
+    slots: &mut [usize],
+) -> map_function::MapReply
+    ensures { λ r. ⌜ r ≡ mapReply (composeCall (now (store .entry)) (now (places .entry)) outer (now (istore .entry)) (now (iplaces .entry)) inner (now (out .entry)) (now (slots .entry))) ⌝ }
+    ensures { λ r. ⌜ now (out .exit) ≡ mapBytes (composeCall (now (store .entry)) (now (places .entry)) outer (now (istore .entry)) (now (iplaces .entry)) inner (now (out .entry)) (now (slots .entry))) (now (out .entry)) ⌝ }
+    ensures { λ r. ⌜ now (slots .exit) ≡ mapSlots (composeCall (now (store .entry)) (now (places .entry)) outer (now (istore .entry)) (now (iplaces .entry)) inner (now (out .entry)) (now (slots .entry))) (now (slots .entry)) ⌝ }
+{
+    let n = outer.count;
+    let mark = outer.has_root_identity;
+    let k = inner.count;
+    let imark = inner.has_root_identity;
+    let q = asking::ask_lists(store, places, n, istore, iplaces, k);
+    if let path::Asked::Refused(x) = q {
+        return map_function::MapReply::Refused(x);
+    }
+    let time = composed_time(outer.time_offset, inner.time_offset);
+    if asking::both(n == 0, mark) {
+        return map_function::as_it_is(istore, iplaces, k, imark, time, out, slots);
+    }
+    if asking::both(k == 0, imark) {
+        return map_function::as_it_is(store, places, n, mark, time, out, slots);
+    }
+    if k + n <= 4 {
+        return compose_few(store, places, outer, istore, iplaces, inner, out, slots);
+    }
+    compose_many(store, places, outer, istore, iplaces, inner, out, slots)
 }
