@@ -86,7 +86,7 @@ fn first_no(short: bool, legal: bool, ends: bool, counted: bool) -> path::Asked
 }
 
 // Is the answer yes both times?
-fn both(a: bool, b: bool) -> bool
+pub fn both(a: bool, b: bool) -> bool
     ensures { λ r. ⌜ r ≡ (a && b) ⌝ }
 {
     if !a {

@@ -72,10 +72,10 @@ module _ (ok : Pair → Bool) where
   droppingSource-keeps m s = fewer-pass (m .pairs) ((droppingSource m s) .pairs) (droppingSource-weight (λ x. cond (ok x) 0 1) m s)
 
 -- both ends of a pair are ends
-abbrev areEnds : Pair → Bool
+abbrev pub areEnds : Pair → Bool
 areEnds x = isEnd (x .source) && isEnd (x .target)
 
-ends-all : (l : List Pair) → allEnds l ≡ all areEnds l
+pub ends-all : (l : List Pair) → allEnds l ≡ all areEnds l
 unfolding allEnds all
 ends-all [] = refl
 ends-all (x ∷ l) = ap (λ (b : Bool). areEnds x && b) (ends-all l)
@@ -122,10 +122,10 @@ unfolding inverse
 inverse-ends m e = fromParts-ends (map (λ (x : Pair). exchanged x) (m .pairs)) (m .mark) (exchanged-ends (m .pairs) e)
 
 -- the source of a pair is not empty
-abbrev isFull : Pair → Bool
+abbrev pub isFull : Pair → Bool
 isFull x = not (isNil (x .source))
 
-full-all : (l : List Pair) → noEmptySource l ≡ all isFull l
+pub full-all : (l : List Pair) → noEmptySource l ≡ all isFull l
 unfolding noEmptySource all
 full-all [] = refl
 full-all (x ∷ l) = ap (λ (b : Bool). isFull x && b) (full-all l)

@@ -18,7 +18,7 @@ hasSource [] s = false
 hasSource (x ∷ xs) s = equal (x .source) s || hasSource xs s
 
 -- each outer pair whose source goes back through the inner map to a source that is not there yet
-abbrev pub added : List Pair → Text → Option Text → List Pair
+unfoldable pub added : List Pair → Text → Option Text → List Pair
 unfolding hasSource
 added l t none = l
 added l t (some s) = cond (hasSource l s) l (l ++ record { source = s; target = t } ∷ [])

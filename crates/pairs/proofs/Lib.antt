@@ -1,6 +1,6 @@
 mod PlaceWays
 mod BestWays
-mod RoomWays
+pub mod RoomWays
 pub mod WriteWays
 pub mod BestLaws
 pub mod PlaceLaws

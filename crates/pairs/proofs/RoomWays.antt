@@ -13,7 +13,7 @@ use Rattle.text.specs.Text.{Text}
 use Rattle.pairs.specs.Pair.{Pair}
 use Rattle.pairs.specs.Places.{textAt, keyAt, pairIn, pairsIn, endBytes}
 
-end-snoc : (l : List Pair) (x : Pair) → endBytes (l ++ x ∷ []) ≡ endBytes l + (length (x .source) + length (x .target))
+pub end-snoc : (l : List Pair) (x : Pair) → endBytes (l ++ x ∷ []) ≡ endBytes l + (length (x .source) + length (x .target))
 unfolding endBytes
 end-snoc [] x = omega arith
 end-snoc (y ∷ l) x = rw (end-snoc l x) (omega arith)

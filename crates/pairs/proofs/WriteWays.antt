@@ -91,12 +91,12 @@ module _ (at : ℕ) (s t ks kt : Text) (e : s ≡ ks) (f : t ≡ kt) where
   pair-slots l l′ i h w = w ∙ rw (le-leb (4 * i + 4) (length l) h, e, f) refl
 
 -- a list and one pair more
-list-snoc : (l : List Pair) (x : Pair) → listText (l ++ x ∷ []) ≡ listText l ++ (x .source ++ x .target)
+pub list-snoc : (l : List Pair) (x : Pair) → listText (l ++ x ∷ []) ≡ listText l ++ (x .source ++ x .target)
 unfolding listText
 list-snoc [] x = simp append-nil
 list-snoc (y ∷ l) x = rw (list-snoc l x) (simp append-assoc)
 
-places-snoc : (at : ℕ) (l : List Pair) (x : Pair) → listPlaces at (l ++ x ∷ []) ≡ listPlaces at l ++ fourOf (at + endBytes l) (x .source) (x .target)
+pub places-snoc : (at : ℕ) (l : List Pair) (x : Pair) → listPlaces at (l ++ x ∷ []) ≡ listPlaces at l ++ fourOf (at + endBytes l) (x .source) (x .target)
 unfolding listPlaces endBytes
 places-snoc at [] x = let z : at + 0 ≡ at = omega arith in rw z refl
 places-snoc at (y ∷ l) x =

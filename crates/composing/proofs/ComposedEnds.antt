@@ -1,0 +1,163 @@
+-- Composing ends gives ends: nothing that it makes is illegal. Assumes nothing.
+use mathlib.Core.Path.{_≡_, refl, sym, ap, _∙_}
+use mathlib.Core.Bool.{Bool, true, false, not, cond, _&&_, _||_, false≢true}
+use mathlib.Core.List.{List, [], _∷_, _++_, map}
+use mathlib.Core.Option.{Option, none, some, Option·getD}
+use Prim.Native.Nat.{ℕ}
+use lib.Dec.{eqb}
+use lib.ListN.{length, drop}
+use Rattle.text.specs.Text.{Text, isNil, lacks}
+use Rattle.text.proofs.BoolLaws.{and-l, and-r, and-no, not-true}
+use Rattle.text.proofs.TextLaws.{no-text, lacks-first, lacks-rest, lacks-behind, lacks-join}
+use Rattle.grammar.specs.Legal.{isRoot, legal, isEnd}
+use Rattle.grammar.proofs.LegalLaws.{end-legal, end-lacks}
+use Rattle.prefix.specs.Prefix.{hasPrefix, follows}
+use Rattle.prefix.specs.Join.{isChild, bare, slashUnless, separator, body, joined, replacePrefix, hangs, spoils}
+use Rattle.prefix.proofs.PrefixLaws.{prefix-rest, replace-prefix}
+use Rattle.prefix.proofs.JoinLegal.{joined-legal}
+use Rattle.pairs.specs.Pair.{Pair, allEnds}
+use Rattle.pairs.specs.Best.{best, serves}
+use Rattle.pairs.proofs.PlaceLaws.{chosen-best}
+use Rattle.maps.specs.Map.{Map, source, target, size, by, chosenOut, chosenHome, plainOut, plainHome}
+use Rattle.maps.specs.Compose.{carried, hasSource, added, pulled, composedPairs}
+use Rattle.maps.proofs.EndLaws.{ends-source, ends-target}
+use Rattle.composing.specs.Calls.{ComposedEnds}
+
+-- a byte that is no slash and stands in neither text does not stand in their join
+slash-lacks : (b : ℕ) → eqb 47 b ≡ false → (c : Bool) → lacks b (slashUnless c) ≡ true
+unfolding lacks
+slash-lacks b h true = refl
+slash-lacks b h false = rw h
+
+separator-lacks : (b : ℕ) → eqb 47 b ≡ false → (s t r : Text) → lacks b (separator s t r) ≡ true
+unfolding separator lacks
+separator-lacks b h s t [] = refl
+separator-lacks b h s t (a ∷ r) = slash-lacks b h (cond (isRoot s) (isRoot t) (not (isChild s a) || bare t))
+
+body-lacks : (b : ℕ) (s r : Text) → lacks b r ≡ true → lacks b (body s r) ≡ true
+unfolding body
+body-lacks b s [] e = e
+body-lacks b s (a ∷ r) e = go (not (isRoot s) && eqb a 47)
+  where
+    go : (c : Bool) → lacks b (cond c r (a ∷ r)) ≡ true
+    go true = lacks-rest b a r e
+    go false = e
+
+joined-lacks : (b : ℕ) → eqb 47 b ≡ false → (s t r : Text) → lacks b t ≡ true → lacks b r ≡ true → lacks b (joined s t r) ≡ true
+unfolding joined
+joined-lacks b h s t r e f =
+    lacks-join b t (separator s t r ++ body s r) e (lacks-join b (separator s t r) (body s r) (separator-lacks b h s t r) (body-lacks b s r f))
+
+end-undotted : (s : Text) → isEnd s ≡ true → lacks 46 s ≡ true
+unfolding isEnd
+end-undotted s e = and-r (lacks 123 s) (lacks 46 s) (and-r (legal s) (lacks 123 s && lacks 46 s) e)
+
+-- what follows a prefix of an end is no property and no selection
+no-hang : (r : Text) → lacks 123 r ≡ true → lacks 46 r ≡ true → hangs r ≡ false
+unfolding hangs
+no-hang [] e f = refl
+no-hang (a ∷ r) e f = rw (lacks-first 46 a r f, lacks-first 123 a r e)
+
+-- the join of ends is an end
+joined-end : (s t r : Text) → isEnd (s ++ r) ≡ true → isEnd s ≡ true → isNil s ≡ false → isEnd t ≡ true → follows s r ≡ true → isEnd (joined s t r) ≡ true
+unfolding isEnd spoils
+joined-end s t r ep es ns et f =
+    let e : lacks 123 r ≡ true = lacks-behind 123 s r (end-lacks (s ++ r) ep) in
+    let g : lacks 46 r ≡ true = lacks-behind 46 s r (end-undotted (s ++ r) ep) in
+    let l : legal (joined s t r) ≡ true
+    = joined-legal s t r (end-legal (s ++ r) ep) es ns et f ∙ ap not (ap (λ (b : Bool). (isNil t || isRoot t) && b) (no-hang r e g) ∙ and-no (isNil t || isRoot t)) in
+    rw (l, joined-lacks 123 refl s t r (end-lacks t et) e, joined-lacks 46 refl s t r (end-undotted t et) g)
+
+replaced-end : (p s t q : Text) → isEnd p ≡ true → isEnd s ≡ true → isNil s ≡ false → isEnd t ≡ true → hasPrefix p s ≡ true → replacePrefix p s t ≡ some q
+    → isEnd q ≡ true
+replaced-end p s t q ep es ns et h e =
+    let w = prefix-rest p s h in
+    let z : q ≡ joined s t (drop (length s) p) = let y : some q ≡ some (joined s t (drop (length s) p)) = sym e ∙ replace-prefix p s t h in cc in
+    rw z (joined-end s t (drop (length s) p) (rw (w .0) at ep) es ns et (w .1))
+
+served : (p : Text) (key : ℕ → Text) (n i : ℕ) → best p key n ≡ some i → (not (isNil (key i)) && hasPrefix p (key i)) ≡ true
+unfolding best serves
+served p key n i e = (chosen-best (serves p) key n i e) .does-pass
+
+-- plain mapping of an end by ends gives an end
+by-end : (m : Map) (a b : ℕ → Text) (p q : Text) (n : ℕ) (o : Option ℕ) → best p a n ≡ o → ((i : ℕ) → isEnd (a i) ≡ true) → ((i : ℕ) → isEnd (b i) ≡ true)
+    → isEnd p ≡ true → by m a b p o ≡ some q → isEnd q ≡ true
+by-end m a b p q n none c ea eb ep e = go (m .mark) e
+  where
+    go : (t : Bool) → cond t (some p) none ≡ some q → isEnd q ≡ true
+    go true e = let z : p ≡ q = cc in rw z at ep
+    go false e = absurd (no-text e)
+by-end m a b p q n (some i) c ea eb ep e = go (isNil (target m i)) e
+  where
+    passes : (not (isNil (a i)) && hasPrefix p (a i)) ≡ true
+    passes = served p a n i c
+
+    go : (t : Bool) → cond t none (replacePrefix p (a i) (b i)) ≡ some q → isEnd q ≡ true
+    go true e = absurd (no-text e)
+    go false e =
+        replaced-end p (a i) (b i) q ep (ea i) (not-true (isNil (a i)) (and-l (not (isNil (a i))) (hasPrefix p (a i)) passes)) (eb i)
+        (and-r (not (isNil (a i))) (hasPrefix p (a i)) passes) e
+
+out-end : (m : Map) → allEnds (m .pairs) ≡ true → (p q : Text) → isEnd p ≡ true → plainOut m p ≡ some q → isEnd q ≡ true
+unfolding plainOut chosenOut
+out-end m em p q ep e = by-end m (source m) (target m) p q (size m) (chosenOut m p) refl (ends-source (m .pairs) em) (ends-target (m .pairs) em) ep e
+
+home-end : (m : Map) → allEnds (m .pairs) ≡ true → (p q : Text) → isEnd p ≡ true → plainHome m p ≡ some q → isEnd q ≡ true
+unfolding plainHome chosenHome
+home-end m em p q ep e = by-end m (target m) (source m) p q (size m) (chosenHome m p) refl (ends-target (m .pairs) em) (ends-source (m .pairs) em) ep e
+
+-- the first half
+no-end : isEnd [] ≡ true
+unfolding isEnd
+no-end = refl
+
+carried-end : (m : Map) → allEnds (m .pairs) ≡ true → (x : Pair) → isEnd (x .target) ≡ true → isEnd ((carried m x) .target) ≡ true
+unfolding carried
+carried-end m em x e = go (isNil (x .target))
+  where
+    some-end : (o : Option Text) → ((q : Text) → o ≡ some q → isEnd q ≡ true) → isEnd (Option·getD o []) ≡ true
+    some-end none f = no-end
+    some-end (some q) f = f q refl
+
+    go : (b : Bool) → isEnd (cond b [] (Option·getD (plainOut m (x .target)) [])) ≡ true
+    go true = no-end
+    go false = some-end (plainOut m (x .target)) (λ q. out-end m em (x .target) q e)
+
+first-half : (m : Map) → allEnds (m .pairs) ≡ true → (l : List Pair) → allEnds l ≡ true → allEnds (map (carried m) l) ≡ true
+unfolding allEnds carried
+first-half m em [] e = refl
+first-half m em (x ∷ l) e =
+    let s : isEnd (x .source) ≡ true = search (and-l, and-r) in
+    let t : isEnd (x .target) ≡ true = search (and-l, and-r) in
+    rw (s, carried-end m em x t) (first-half m em l (search (and-l, and-r)))
+
+-- the second
+one-more : (l : List Pair) (s t : Text) → allEnds l ≡ true → isEnd s ≡ true → isEnd t ≡ true → allEnds (l ++ record { source = s; target = t } ∷ []) ≡ true
+unfolding allEnds
+one-more [] s t e h k = rw (h, k)
+one-more (y ∷ l) s t e h k =
+    let a : isEnd (y .source) ≡ true = search (and-l, and-r) in
+    let b : isEnd (y .target) ≡ true = search (and-l, and-r) in
+    rw (a, b) (one-more l s t (search (and-l, and-r)) h k)
+
+added-ends : (l : List Pair) (t : Text) (o : Option Text) → allEnds l ≡ true → isEnd t ≡ true → ((q : Text) → o ≡ some q → isEnd q ≡ true) → allEnds (added l t o) ≡ true
+unfolding added
+added-ends l t none e h f = e
+added-ends l t (some s) e h f = go (hasSource l s)
+  where
+    go : (b : Bool) → allEnds (cond b l (l ++ record { source = s; target = t } ∷ [])) ≡ true
+    go true = e
+    go false = one-more l s t e (f s refl) h
+
+pulled-ends : (m : Map) → allEnds (m .pairs) ≡ true → (l xs : List Pair) → allEnds l ≡ true → allEnds xs ≡ true → allEnds (pulled m l xs) ≡ true
+unfolding pulled allEnds
+pulled-ends m em l [] e f = e
+pulled-ends m em l (x ∷ xs) e f =
+    let s : isEnd (x .source) ≡ true = search (and-l, and-r) in
+    let t : isEnd (x .target) ≡ true = search (and-l, and-r) in
+    pulled-ends m em (added l (x .target) (plainHome m (x .source))) xs
+    (added-ends l (x .target) (plainHome m (x .source)) e t (λ q. home-end m em (x .source) q s)) (search (and-l, and-r))
+
+pub composed-ends : ComposedEnds
+unfolding composedPairs
+composed-ends outer inner eo ei = pulled-ends inner ei (map (carried outer) (inner .pairs)) (outer .pairs) (first-half outer eo (inner .pairs) ei) eo

@@ -1,0 +1,92 @@
+-- How long a composed end can be: two ends and a slash. Assumes nothing.
+use mathlib.Core.Path.{_≡_, refl, sym, ap, _∙_}
+use mathlib.Core.Bool.{Bool, true, false, cond, _&&_}
+use mathlib.Core.List.{List, [], _∷_, _++_}
+use mathlib.Core.Option.{Option, none, some, Option·getD}
+use Prim.Native.Nat.{ℕ, zero, suc, _+_, _≤_, _<_}
+use native.Mathlib.Omega.{arith}
+use lib.ListN.{length, length-append}
+use borrow.Author.Tests.{leb-true, le-leb}
+use Rattle.text.specs.Text.{Text, isNil, after}
+use Rattle.text.proofs.BoolLaws.{and-l, and-r}
+use Rattle.text.proofs.TextLaws.{after-up}
+use Rattle.grammar.specs.Legal.{fits}
+use Rattle.prefix.specs.Prefix.{follows}
+use Rattle.prefix.specs.Join.{joined, joinedSome, replacePrefix}
+use Rattle.prefix.proofs.JoinWays.{joined-length, separator-short, body-short}
+use Rattle.pairs.specs.Pair.{Pair, sourceAt, targetAt, everyEnd, allShort}
+use Rattle.pairs.specs.Places.{keyAt, pairsIn}
+use Rattle.pairs.proofs.PlaceLaws.{pairsIn-source, pairsIn-target}
+use Rattle.maps.specs.Map.{Map, source, target, by, chosenOut, chosenHome, plainOut, plainHome}
+use Rattle.composing.specs.Scratch.{plain, needed, carriedTo, modest}
+
+modest-ends : (l : List Pair) → everyEnd modest l ≡ true → (i : ℕ) → (length (sourceAt l i) ≤ 511) × (length (targetAt l i) ≤ 511)
+unfolding everyEnd
+modest-ends [] e i = (omega arith, omega arith)
+modest-ends (x ∷ l) e zero =
+    let a : (modest (x .source) && modest (x .target)) ≡ true = and-l (modest (x .source) && modest (x .target)) (everyEnd modest l) e in
+    (leb-true (length (x .source)) 511 (and-l (modest (x .source)) (modest (x .target)) a), leb-true (length (x .target)) 511 (and-r (modest (x .source)) (modest (x .target)) a))
+modest-ends (x ∷ l) e (suc i) = modest-ends l (and-r (modest (x .source) && modest (x .target)) (everyEnd modest l) e) i
+
+pub modest-keys : (store : Text) (places : List ℕ) (n i : ℕ) → everyEnd modest (pairsIn store places n) ≡ true → i < n
+    → (length (keyAt store places false i) ≤ 511) × (length (keyAt store places true i) ≤ 511)
+modest-keys store places n i e h =
+    let z = modest-ends (pairsIn store places n) e i in
+    (omega (arith, z .0, ap length (pairsIn-source store places n i h)), omega (arith, z .1, ap length (pairsIn-target store places n i h)))
+
+replace-length : (p s t : Text) → needed (replacePrefix p s t) ≤ length t + 1 + length p
+unfolding replacePrefix
+replace-length p s t = go (after s p) refl
+  where
+    joined-is : (r : Text) → p ≡ s ++ r → length (joined s t r) ≤ length t + 1 + length p
+    joined-is r e = omega (arith, joined-length s t r, separator-short s t r, body-short s r, ap length e, length-append s r)
+
+    some-is : (r : Text) (b : Bool) → p ≡ s ++ r → needed (cond b (some (joined s t r)) none) ≤ length t + 1 + length p
+    some-is r true e = joined-is r e
+    some-is r false e = omega arith
+
+    go : (o : Option Text) → after s p ≡ o → needed (replacePrefix p s t) ≤ length t + 1 + length p
+    go none e = rw e (omega arith)
+    go (some r) e = rw e (some-is r (follows s r) (after-up s p r e))
+
+by-length : (m : Map) (a b : ℕ → Text) (p : Text) (o : Option ℕ) → ((i : ℕ) → length (b i) ≤ 511) → length p ≤ 511 → needed (by m a b p o) ≤ 1023
+by-length m a b p none h l = go (m .mark)
+  where
+    go : (c : Bool) → needed (cond c (some p) none) ≤ 1023
+    go true = omega arith
+    go false = omega arith
+by-length m a b p (some i) h l = go (isNil (target m i))
+  where
+    go : (c : Bool) → needed (cond c none (replacePrefix p (a i) (b i))) ≤ 1023
+    go true = omega arith
+    go false = omega (arith, replace-length p (a i) (b i), h i)
+
+pub plain-length : (invert : Bool) (m : Map) (p : Text) → everyEnd modest (m .pairs) ≡ true → length p ≤ 511 → needed (plain invert m p) ≤ 1023
+unfolding plain plainOut plainHome
+plain-length false m p e l = by-length m (source m) (target m) p (chosenOut m p) (λ i. modest-ends (m .pairs) e i .1) l
+plain-length true m p e l = by-length m (target m) (source m) p (chosenHome m p) (λ i. modest-ends (m .pairs) e i .0) l
+
+pub carried-length : (m : Map) (t : Text) → everyEnd modest (m .pairs) ≡ true → length t ≤ 511 → length (carriedTo m t) ≤ 1023
+unfolding carriedTo plain
+carried-length m t e l = go (isNil t)
+  where
+    some-is : (o : Option Text) → needed o ≤ 1023 → length (Option·getD o []) ≤ 1023
+    some-is none h = omega arith
+    some-is (some q) h = h
+
+    go : (c : Bool) → length (cond c [] (Option·getD (plainOut m t) [])) ≤ 1023
+    go true = omega arith
+    go false = some-is (plainOut m t) (plain-length false m t e l)
+
+-- short ends are modest
+fits-modest : (t : Text) → fits t ≡ true → modest t ≡ true
+unfolding fits
+fits-modest t e = le-leb (length t) 511 (omega (arith, leb-true (length t) 255 e))
+
+pub short-modest : (l : List Pair) → allShort l ≡ true → everyEnd modest l ≡ true
+unfolding allShort everyEnd
+short-modest [] e = refl
+short-modest (x ∷ l) e =
+    let a : (fits (x .source) && fits (x .target)) ≡ true = and-l (fits (x .source) && fits (x .target)) (allShort l) e in
+    rw (fits-modest (x .source) (and-l (fits (x .source)) (fits (x .target)) a), fits-modest (x .target) (and-r (fits (x .source)) (fits (x .target)) a))
+    (short-modest l (and-r (fits (x .source) && fits (x .target)) (allShort l) e))

@@ -1,0 +1,46 @@
+use Rattle.composing.specs.Calls.{timeOf, lentBy}
+use Rattle.composing.proofs.CallWays.{answering-map, built-map, built-held}
+use borrow.Author.Needs.{needs}
+use Rattle.composing.proofs.compose_in.Statement.{statement}
+use Rattle.composing.proofs.compose_in.Tie as tie
+
+compose-into-requires : tie.Need-compose-into-requires
+compose-into-requires c κs = search needs
+
+composed-time-requires : tie.Need-composed-time-requires
+composed-time-requires c κs = search needs
+
+both-requires : tie.Need-both-requires
+both-requires c κs = search needs
+
+from-made-requires : tie.Need-from-made-requires
+from-made-requires c κs = built-held _ _ _ _ _ (c .before .before .before .before .before .before .before .before .before .before .compose-into .ensures)
+
+same-length : tie.Need-same-length
+same-length c = search needs
+
+same-length-2 : tie.Need-same-length-2
+same-length-2 c = search needs
+
+same-length-3 : tie.Need-same-length-3
+same-length-3 c = search needs
+
+same-length-4 : tie.Need-same-length-4
+same-length-4 c = search needs
+
+returns : tie.Need-returns
+returns c = answering-map _ _ (built-map (lentBy (c .before .before .before .before .before .before .before .before .before .before .before .before .before .before .before .before .before .before .before .before .before .before .before .before .before .before .args .store .now) (c .before .before .before .before .before .before .before .before .before .before .before .before .before .before .before .before .before .before .before .before .before .before .before .before .before .before .args .places .now) (c .before .before .before .before .before .before .before .before .before .before .before .before .before .before .before .before .before .before .before .before .before .before .before .before .before .before .args .outer)) (lentBy (c .before .before .before .before .before .before .before .before .before .before .before .before .before .before .before .before .before .before .before .before .before .before .before .before .before .before .args .istore .now) (c .before .before .before .before .before .before .before .before .before .before .before .before .before .before .before .before .before .before .before .before .before .before .before .before .before .before .args .iplaces .now) (c .before .before .before .before .before .before .before .before .before .before .before .before .before .before .before .before .before .before .before .before .before .before .before .before .before .before .args .inner)) (timeOf (c .before .before .before .before .before .before .before .before .before .before .before .before .before .before .before .before .before .before .before .before .before .before .before .before .before .before .args .outer) (c .before .before .before .before .before .before .before .before .before .before .before .before .before .before .before .before .before .before .before .before .before .before .before .before .before .before .args .inner)) (c .before .before .before .before .before .before .before .before .before .before .before .before .before .before .before .before .before .before .before .before .before .before .before .before .before .before .args .out .now) (c .before .before .before .before .before .before .before .before .before .before .before .before .before .before .before .before .before .before .before .before .before .before .before .before .before .before .args .slots .now) _ _ _ _ (c .before .before .before .before .before .before .before .before .before .before .before .before .before .before .before .compose-into .ensures) _ (c .before .before .before .before .before .before .before .both .ensures) _ (c .before .before .before .before .before .before .before .before .before .before .composed-time .ensures)) _ _ _ _ _ (c .before .before .before .before .from-made .ensures)
+
+pub compose-in-spec : {M : Type 1} → statement M
+compose-in-spec =
+    tie.close
+    (tie.spec
+    compose-into-requires
+    composed-time-requires
+    both-requires
+    from-made-requires
+    same-length
+    same-length-2
+    same-length-3
+    same-length-4
+    returns)

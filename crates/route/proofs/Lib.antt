@@ -1,0 +1,3 @@
+pub mod RelocateLaws
+pub mod Theorem
+pub mod Sharp

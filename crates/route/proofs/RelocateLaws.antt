@@ -1,0 +1,156 @@
+-- The map of a relocate list: its ends are ends that were given, and no source of it is empty. Assumes nothing.
+use mathlib.Core.Path.{_≡_, refl, sym, ap, _∙_}
+use mathlib.Core.Bool.{Bool, true, false, not, cond, _&&_, _||_, false≢true}
+use mathlib.Core.List.{List, [], _∷_, _++_}
+use Prim.Native.Nat.{ℕ, zero, suc}
+use mathlib.Core.Option.{none}
+use lib.Dec.{eqb}
+use lib.ListN.{length}
+use Rattle.text.specs.Text.{Text, isNil, equal, after}
+use Rattle.text.proofs.BoolLaws.{and-l, and-r, or-right}
+use Rattle.grammar.specs.Legal.{isEnd}
+use Rattle.grammar.proofs.LegalLaws.{end-legal}
+use Rattle.prefix.specs.Prefix.{hasPrefix}
+use Rattle.prefix.specs.Elements.{names}
+use Rattle.prefix.proofs.PrefixLaws.{legal-prefix-empty}
+use Rattle.pairs.specs.Pair.{Pair, nothing, pairAt, sourceAt, allEnds, noEmptySource}
+use Rattle.pairs.specs.Best.{bestBy, serves, best}
+use Rattle.maps.specs.Map.{Map, chosenOut}
+use Rattle.maps.specs.New.{isRoots, anyRoots, noRoots, sorted, via, implied, keep, canonical, new}
+use Rattle.maps.proofs.EndLaws.{ends-source, ends-target, all, areEnds, ends-all, isFull, full-all, fromParts-keeps}
+use Rattle.relocates.specs.Status.{structural, statusByte, occurrence, active, roots, relocateMap}
+
+module _ (ok : Pair → Bool) where
+  all-more : (l : List Pair) (x : Pair) → all ok l ≡ true → ok x ≡ true → all ok (l ++ x ∷ []) ≡ true
+  unfolding all
+  all-more [] x e h = rw h
+  all-more (y ∷ l) x e h = rw (and-l (ok y) (all ok l) e) (all-more l x (and-r (ok y) (all ok l) e) h)
+
+  -- a test that each Active pair passes, and `/`→`/`, every pair of the map passes
+  active-keeps : (l : List Pair) → ((n : ℕ) → eqb (statusByte (occurrence l n)) 0 ≡ true → ok (pairAt l n) ≡ true)
+      → (n : ℕ) → all ok (active l n) ≡ true
+  unfolding active all
+  active-keeps l each zero = refl
+  active-keeps l each (suc n) = go (eqb (statusByte (occurrence l n)) 0) refl (active-keeps l each n)
+    where
+      go : (b : Bool) → eqb (statusByte (occurrence l n)) 0 ≡ b → all ok (active l n) ≡ true
+          → all ok (cond b (active l n ++ pairAt l n ∷ []) (active l n)) ≡ true
+      go true h ih = all-more (active l n) (pairAt l n) ih (each n h)
+      go false h ih = ih
+
+  relocate-keeps : (l : List Pair) → ((n : ℕ) → eqb (statusByte (occurrence l n)) 0 ≡ true → ok (pairAt l n) ≡ true) → ok roots ≡ true
+      → all ok ((relocateMap l) .pairs) ≡ true
+  unfolding relocateMap new
+  relocate-keeps l each h =
+      fromParts-keeps ok (active l (length l) ++ roots ∷ []) false (all-more (active l (length l)) roots (active-keeps l each (length l)) h)
+
+root-ends : areEnds roots ≡ true
+unfolding isEnd
+root-ends = refl
+
+pub relocate-ends : (l : List Pair) → allEnds l ≡ true → allEnds ((relocateMap l) .pairs) ≡ true
+relocate-ends l e =
+    ends-all ((relocateMap l) .pairs) ∙ relocate-keeps areEnds l (λ n h. rw (ends-source l e n, ends-target l e n)) root-ends
+
+-- an Active pair has an empty target beside an empty source: otherwise it is structural
+abbrev fullOrGone : Pair → Bool
+fullOrGone x = isFull x || isNil (x .target)
+
+loose : (x : Pair) → isEnd (x .target) ≡ true → structural x ≡ false → fullOrGone x ≡ true
+unfolding structural
+loose x e f = go (x .source) (x .target) (legal-prefix-empty (x .target) (end-legal (x .target) e)) f
+  where
+    go : (s t : Text) → hasPrefix t [] ≡ true → structural (record { source = s; target = t }) ≡ false → (not (isNil s) || isNil t) ≡ true
+    go (a ∷ s) t h f = refl
+    go [] [] h f = refl
+    go [] (a ∷ t) h f = absurd (false≢true (sym f ∙ or-right (eqb (names []) 1 || equal [] (a ∷ t) || hasPrefix [] (a ∷ t)) (hasPrefix (a ∷ t) []) h))
+
+active-loose : (l : List Pair) → allEnds l ≡ true → (n : ℕ) → eqb (statusByte (occurrence l n)) 0 ≡ true → fullOrGone (pairAt l n) ≡ true
+unfolding occurrence
+active-loose l e n h = go (structural (pairAt l n)) refl
+  where
+    go : (b : Bool) → structural (pairAt l n) ≡ b → fullOrGone (pairAt l n) ≡ true
+    go true k = absurd (false≢true (rw k at h))
+    go false k = loose (pairAt l n) (ends-target l e n) k
+
+-- under the mark a pair of two empty ends is dropped
+abbrev isThere : Pair → Bool
+isThere x = not (isNil (x .source) && isNil (x .target))
+
+no-serve : (k : Text) → serves [] k ≡ false
+unfolding serves hasPrefix after
+no-serve [] = refl
+no-serve (a ∷ k) = refl
+
+no-key : (key : ℕ → Text) (n : ℕ) → best [] key n ≡ none
+unfolding best bestBy
+no-key key zero = refl
+no-key key (suc n) = rw (no-serve (key n)) (no-key key n)
+
+implies-nothing : (kept : List Pair) → implied (record { pairs = kept; mark = true }) nothing ≡ true
+unfolding implied via chosenOut equal
+implies-nothing kept = rw (no-key (sourceAt kept) (length kept))
+
+not-implied : (kept : List Pair) (x : Pair) → implied (record { pairs = kept; mark = true }) x ≡ false → isThere x ≡ true
+not-implied kept x h = go (x .source) (x .target) h
+  where
+    go : (s t : Text) → implied (record { pairs = kept; mark = true }) (record { source = s; target = t }) ≡ false → not (isNil s && isNil t) ≡ true
+    go [] [] h = absurd (false≢true (sym h ∙ implies-nothing kept))
+    go [] (a ∷ t) h = refl
+    go (a ∷ s) t h = refl
+
+keep-there : (kept l : List Pair) → all isThere kept ≡ true → all isThere (keep true kept l) ≡ true
+unfolding keep
+keep-there kept [] h = h
+keep-there kept (x ∷ l) h = go (implied (record { pairs = kept; mark = true }) x) refl (λ k. keep-there k l)
+  where
+    go : (b : Bool) → implied (record { pairs = kept; mark = true }) x ≡ b → ((k : List Pair) → all isThere k ≡ true → all isThere (keep true k l) ≡ true)
+        → all isThere (keep true (cond b kept (kept ++ x ∷ [])) l) ≡ true
+    go true e ih = ih kept h
+    go false e ih = ih (kept ++ x ∷ []) (all-more isThere kept x h (not-implied kept x e))
+
+alone-there : (x : Pair) → all isThere (cond (equal (x .source) (x .target)) [] (x ∷ [])) ≡ true
+unfolding all equal
+alone-there x = go (x .source) (x .target)
+  where
+    go : (s t : Text) → all isThere (cond (equal s t) [] (record { source = s; target = t } ∷ [])) ≡ true
+    go [] [] = refl
+    go [] (a ∷ t) = refl
+    go (a ∷ s) t = either (equal (a ∷ s) t)
+      where
+        either : (b : Bool) → all isThere (cond b [] (record { source = a ∷ s; target = t } ∷ [])) ≡ true
+        either true = refl
+        either false = refl
+
+canonical-there : (l : List Pair) → all isThere (canonical true l) ≡ true
+unfolding canonical all
+canonical-there [] = refl
+canonical-there (x ∷ []) = alone-there x
+canonical-there (x ∷ y ∷ l) = keep-there [] (sorted (x ∷ y ∷ l)) refl
+
+marked-by-roots : (l : List Pair) → anyRoots (l ++ roots ∷ []) ≡ true
+unfolding anyRoots
+marked-by-roots [] = refl
+marked-by-roots (x ∷ l) = or-right (isRoots x) (anyRoots (l ++ roots ∷ [])) (marked-by-roots l)
+
+relocate-there : (l : List Pair) → all isThere ((relocateMap l) .pairs) ≡ true
+unfolding relocateMap new
+relocate-there l = rw (marked-by-roots (active l (length l))) (canonical-there (noRoots (active l (length l) ++ roots ∷ [])))
+
+both-full : (l : List Pair) → all fullOrGone l ≡ true → all isThere l ≡ true → all isFull l ≡ true
+unfolding all
+both-full [] h k = refl
+both-full (x ∷ l) h k =
+    rw (go (isNil (x .source)) (isNil (x .target)) (and-l (fullOrGone x) (all fullOrGone l) h) (and-l (isThere x) (all isThere l) k))
+    (both-full l (and-r (fullOrGone x) (all fullOrGone l) h) (and-r (isThere x) (all isThere l) k))
+  where
+    go : (s t : Bool) → (not s || t) ≡ true → not (s && t) ≡ true → not s ≡ true
+    go false t h k = refl
+    go true true h k = k
+    go true false h k = h
+
+-- no source of a relocate list's map is empty
+pub relocate-full : (l : List Pair) → allEnds l ≡ true → noEmptySource ((relocateMap l) .pairs) ≡ true
+relocate-full l e =
+    full-all ((relocateMap l) .pairs)
+    ∙ both-full ((relocateMap l) .pairs) (relocate-keeps fullOrGone l (active-loose l e) refl) (relocate-there l)

@@ -1,0 +1,2 @@
+pub mod Leg
+pub mod Route

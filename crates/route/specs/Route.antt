@@ -1,0 +1,60 @@
+-- A route of legs, out and home, and what is claimed of it (demand 3): "one claim about the whole list of legs, not one for each leg".
+use mathlib.Core.Path.{_≡_}
+use mathlib.Core.Logic.{_↔_}
+use mathlib.Core.Bool.{Bool, true, _&&_}
+use mathlib.Core.List.{List, [], _∷_, reverse}
+use mathlib.Core.Option.{some}
+use Prim.Native.Nat.{ℕ}
+use lib.ListN.{getElem?}
+use Rattle.text.specs.Text.{Text}
+use Rattle.pairs.specs.Pair.{Pair, noEmptySource}
+use Rattle.path.specs.Outcome.{Outcome, path, refused}
+use Rattle.maps.specs.Leg.{PlainPath, ThereAndBack}
+use Rattle.relocates.specs.Status.{relocateMap}
+use Rattle.route.specs.Leg.{Leg, by-relocates, legMap, legEnds, outward, homeward}
+
+-- the ends of all pairs of all legs are ends
+unfoldable pub routeEnds : List Leg → Bool
+unfolding legEnds
+routeEnds [] = true
+routeEnds (x ∷ xs) = legEnds x && routeEnds xs
+
+-- "leg after leg, the first given the starting path, each later one what the leg before gave"; a leg that gives no path ends the way
+abbrev pub onward : (Text → Outcome) → Outcome → Outcome
+onward rest (path q) = rest q
+onward rest (refused x) = refused x
+
+unfoldable pub along : (Leg → Text → Outcome) → List Leg → Text → Outcome
+along go [] p = path p
+along go (x ∷ xs) p = onward (along go xs) (go x p)
+
+-- the paths met on that way: the one that reaches each leg, and what the last leg gives
+abbrev pub metFrom : (Text → List Text) → Outcome → List Text
+metFrom rest (path q) = rest q
+metFrom rest (refused x) = []
+
+unfoldable pub met : (Leg → Text → Outcome) → List Leg → Text → List Text
+met go [] p = p ∷ []
+met go (x ∷ xs) p = p ∷ metFrom (met go xs) (go x p)
+
+pub record Returns (legs : List Leg) (p : Text) : Type 0 where
+  -- Whenever every leg gives a path, the legs taken in reverse give back at each leg exactly the path that had reached it, and at the end
+  -- the very path we began with.
+  pub home-again : (q : Text) → along outward legs p ≡ path q
+      → (along homeward (reverse legs) q ≡ path p) × (met homeward (reverse legs) q ≡ reverse (met outward legs p))
+  -- And whether or not the way out is stopped further on: each leg reached whose map has no empty source gives a path exactly when plain
+  -- mapping over that map takes what reached it to a legal path of at most 255 bytes which goes plainly back to what reached it; the leg
+  -- then gives that path.
+  pub exact : (k : ℕ) (x : Leg) (r : Text) → getElem? legs k ≡ some x → getElem? (met outward legs p) k ≡ some r
+      → noEmptySource ((legMap x) .pairs) ≡ true → (q : Text) → (outward x r ≡ path q) ↔ ThereAndBack (legMap x) r q
+
+-- for every list of legs, maps and relocate lists in any order, and every legal path free of variant selections
+abbrev pub Demand3 : Type 0
+Demand3 = (legs : List Leg) (p : Text) → routeEnds legs ≡ true → PlainPath p → Returns legs p
+
+-- A relocate list's map never has an empty source, so there the second half holds without that condition.
+abbrev pub RelocatesExact : Type 0
+RelocatesExact =
+    (legs : List Leg) (p : Text) → routeEnds legs ≡ true → PlainPath p
+    → (k : ℕ) (l : List Pair) (r : Text) → getElem? legs k ≡ some (by-relocates l) → getElem? (met outward legs p) k ≡ some r
+    → (q : Text) → (outward (by-relocates l) r ≡ path q) ↔ ThereAndBack (relocateMap l) r q
