@@ -1,0 +1,2 @@
+pub mod BuildWays
+pub mod CallWays
