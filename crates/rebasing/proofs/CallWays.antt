@@ -34,7 +34,8 @@ use Rattle.composing.proofs.ScratchLaws.{holds-none, holds-more, holds-list}
 use Rattle.composing.proofs.CallWays.{identity-lent}
 use Rattle.rebasing.specs.Calls.{pair, madeLegal, fromEnds, rebasedPairs, rebasing, RebasesTo, rebaseTargetCall}
 
-held-all : (store : Text) (places : List ℕ) (n : ℕ) (o : MapOutcome) → n ≤ length places / 4 → held (lentList store places n) o ≡ o
+-- a list that its slice holds
+pub held-all : (store : Text) (places : List ℕ) (n : ℕ) (o : MapOutcome) → n ≤ length places / 4 → held (lentList store places n) o ≡ o
 unfolding held
 held-all store places n o h = rw (le-leb n (length places / 4) h)
 

@@ -1,4 +1,4 @@
--- `rebase_target` as a call: the questions in their order, then the map.
+-- `rebase_target` and `deepen_to` as calls: the questions in their order, then the map.
 use mathlib.Core.Path.{_≡_}
 use mathlib.Core.Bool.{Bool, cond}
 use mathlib.Core.List.{List, [], _∷_, map as mapped}
@@ -8,16 +8,19 @@ use lib.Dec.{leb}
 use lib.ListN.{length}
 use Rattle.text.specs.Text.{Text}
 use Rattle.grammar.specs.Legal.{legal}
+use Rattle.prefix.specs.Prefix.{hasPrefix}
 use Rattle.prefix.specs.Join.{replacePrefix}
+use Rattle.parts.specs.Strip.{strip}
 use Rattle.layer_offset.specs.declared.LayerOffset.{LayerOffset}
 use Rattle.pairs.specs.Pair.{Pair, everyEnd}
+use Rattle.pairs.specs.Best.{bestBy}
 use Rattle.path.specs.Refusal.{unless}
 use Rattle.path.specs.declared.Refusal.the-variants.{TooMany, MadeIllegal}
 use Rattle.asking.specs.Asking.{lentList, asked}
-use Rattle.maps.specs.Map.{Map}
+use Rattle.maps.specs.Map.{Map, source, target, size}
 use Rattle.maps.specs.New.{fromParts, fromPairIdentity}
-use Rattle.maps.specs.Compose.{isPathIdentity}
-use Rattle.maps.specs.Derive.{rebased, anyTarget, rebaseTarget}
+use Rattle.maps.specs.Compose.{isPathIdentity, hasSource}
+use Rattle.maps.specs.Derive.{rebased, anyTarget, rebaseTarget, deepened, deepenTo}
 use Rattle.map_function.specs.declared.MapFunction.{MapFunction}
 use Rattle.map_function.specs.Made.{MapOutcome, map, refused, roomFor, weighed, asItIs}
 use Rattle.composing.specs.Calls.{lentBy, madeShort}
@@ -60,3 +63,28 @@ unfolding asked rebasing
 rebaseTargetCall store places f from to out slots =
     unless (asked (lentList store places (f .count) ∷ []) (from ∷ to ∷ []) (from ∷ to ∷ [])) refused
     (rebasing (lentBy store places f) from to (f .«time_offset») out slots)
+
+-- every pair whose source is the class's becomes the node and where the class puts it
+abbrev pub deepenedPairs : Text → Text → Text → List Pair → List Pair
+deepenedPairs node above below l = mapped (λ (x : Pair). deepened node above below x) l
+
+-- the class at i, where there is one; without one the map stays as it stands
+unfoldable pub deepeningBy : Map → Text → Option ℕ → LayerOffset → Text → List ℕ → MapOutcome
+unfolding asItIs fromEnds replacePrefix
+deepeningBy m node none time out slots = asItIs (m .pairs) (m .mark) time out slots
+deepeningBy m node (some i) time out slots =
+    fromEnds (deepenedPairs node (source m i) (Option·getD (replacePrefix node (source m i) (target m i)) []) (m .pairs)) (m .mark) time out slots
+
+-- so does a map that has the node for a source; the class has most elements of the sources above the node, "only `best_prefix` skips" an empty one
+unfoldable pub deepening : Map → Text → LayerOffset → Text → List ℕ → MapOutcome
+unfolding asItIs deepeningBy hasSource bestBy hasPrefix
+deepening m node time out slots =
+    cond (hasSource (m .pairs) node) (asItIs (m .pairs) (m .mark) time out slots)
+    (deepeningBy m node (bestBy (hasPrefix node) (source m) (size m)) time out slots)
+
+-- Rust: deepen_to, which keeps the map's time offset. "`deepen_to`'s node after stripping" counts as an end.
+unfoldable pub deepenToCall : Text → List ℕ → MapFunction → Text → Text → List ℕ → MapOutcome
+unfolding asked deepening strip
+deepenToCall store places f path out slots =
+    unless (asked (lentList store places (f .count) ∷ []) (path ∷ []) (strip path ∷ [])) refused
+    (deepening (lentBy store places f) (strip path) (f .«time_offset») out slots)
