@@ -140,7 +140,7 @@ fn carry_pair(
 }
 
 // Has one of the first n pairs this source?
-fn has_source(store: &[u8], places: &[usize], n: usize, source: &[u8]) -> bool
+pub fn has_source(store: &[u8], places: &[usize], n: usize, source: &[u8]) -> bool
     ensures { λ r. ⌜ r ≡ hasSource (pairsIn (now (store .entry)) (now (places .entry)) n) (now (source .entry)) ⌝ }
 {
     let mut i = 0;
@@ -326,7 +326,7 @@ fn composed_time(
 }
 
 // Question 7 of the first n pairs.
-fn are_short(store: &[u8], places: &[usize], n: usize) -> bool
+pub fn are_short(store: &[u8], places: &[usize], n: usize) -> bool
     ensures { λ r. ⌜ r ≡ allShort (pairsIn (now (store .entry)) (now (places .entry)) n) ⌝ }
 {
     let mut i = 0;

@@ -1,0 +1,3 @@
+pub mod BuildWays
+pub mod CallWays
+pub mod DeepenWays

@@ -1,0 +1,48 @@
+use mathlib.Core.List.{[], _∷_}
+use mathlib.Core.Path.{refl}
+use Rattle.composing.proofs.CallWays.{answering-map}
+use Rattle.rebasing.proofs.CallWays.{one-pair}
+use borrow.Author.Needs.{needs}
+use Rattle.rebasing.proofs.from_pair_identity.Statement.{statement}
+use Rattle.rebasing.proofs.from_pair_identity.Tie as tie
+
+slice-aggregate-put-pair : tie.Need-slice-aggregate-put-pair
+slice-aggregate-put-pair c = search needs
+
+slice-aggregate-put-pair-2 : tie.Need-slice-aggregate-put-pair-2
+slice-aggregate-put-pair-2 c = search needs
+
+put-pair-requires : tie.Need-put-pair-requires
+put-pair-requires c κs = search needs
+
+slice-aggregate-from-parts : tie.Need-slice-aggregate-from-parts
+slice-aggregate-from-parts c = search needs
+
+slice-aggregate-from-parts-2 : tie.Need-slice-aggregate-from-parts-2
+slice-aggregate-from-parts-2 c = search needs
+
+from-parts-requires : tie.Need-from-parts-requires
+from-parts-requires c κs = search needs
+
+same-length : tie.Need-same-length
+same-length c = search needs
+
+same-length-2 : tie.Need-same-length-2
+same-length-2 c = search needs
+
+returns : tie.Need-returns
+returns c = answering-map _ _ (one-pair (c .before .before .before .before .before .before .before .before .before .before .before .before .before .before .before .before .before .before .args .s .now) (c .before .before .before .before .before .before .before .before .before .before .before .before .before .before .before .before .before .before .args .t .now) (c .before .before .before .before .before .before .before .before .before .before .before .before .before .before .before .before .before .before .args .time) (c .before .before .before .before .before .before .before .before .before .before .before .before .before .before .before .before .before .before .args .out .now) (c .before .before .before .before .before .before .before .before .before .before .before .before .before .before .before .before .before .before .args .slots .now) _ _ (0 ∷ 0 ∷ 0 ∷ 0 ∷ []) _ refl (c .before .before .before .before .before .before .before .before .before .before .before .put-pair .ensures .1 .0) (c .before .before .before .before .before .before .before .before .before .before .before .put-pair .ensures .1 .1)) _ _ _ _ _ (c .before .before .before .before .from-parts .ensures)
+
+pub from-pair-identity-spec : {M : Type 1} → statement M
+from-pair-identity-spec =
+    tie.close
+    (tie.spec
+    slice-aggregate-put-pair
+    slice-aggregate-put-pair-2
+    put-pair-requires
+    slice-aggregate-from-parts
+    slice-aggregate-from-parts-2
+    from-parts-requires
+    same-length
+    same-length-2
+    returns)
