@@ -107,3 +107,7 @@ text-end ls ts e es h = head-passes isEnd e es (end-texts ls ts (e ∷ es) h)
 
 pub second-end : (ls : List Lent) (ts : List Text) (d e : Text) (es : List Text) → asked ls ts (d ∷ e ∷ es) ≡ Passed → isEnd e ≡ true
 second-end ls ts d e es h = head-passes isEnd e es (tail-passes isEnd d (e ∷ es) (end-texts ls ts (d ∷ e ∷ es) h))
+
+pub second-short : (ls : List Lent) (p q : Text) (ts es : List Text) → asked ls (p ∷ q ∷ ts) es ≡ Passed → length q ≤ 255
+unfolding fits
+second-short ls p q ts es h = leb-true (length q) 255 (head-passes fits q ts (tail-passes fits p (q ∷ ts) (short-texts ls (p ∷ q ∷ ts) es h)))

@@ -1,1 +1,2 @@
+pub mod ListWays
 pub mod MakeWays

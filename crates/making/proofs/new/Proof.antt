@@ -6,39 +6,28 @@ use Rattle.making.proofs.MakeWays.{made-refused, made-passed, making-ma
 use borrow.Author.Needs.{needs}
 use Rattle.making.proofs.new.Statement.{statement}
 use Rattle.making.proofs.new.Tie as tie
-use Rattle.making.proofs.new.Reads as reads
-use Rattle.making.proofs.new.Lts as lts
-use Rattle.asking.proofs.ask_pairs.Reads as ask-pairs-reads
-use Rattle.map_function.proofs.from_parts.Reads as from-parts-reads
 
--- src/lib.rt:24:9
 ask-pairs-requires : tie.Need-ask-pairs-requires
 ask-pairs-requires c κs = search needs
 
--- src/lib.rt:25:33
 enum-known-q : tie.Need-enum-known-q
 enum-known-q c = search needs
 
--- src/lib.rt:26:9
 returns : tie.Need-returns
 returns c = refusing-map _ _ (new-opened _ _ _ _ _ ∙ made-refused _ _ _ _ _ _ _ (c .before .before .before .ask-pairs .ensures) _ (c .before .q .given .1)) _ _
 
 enum-told : tie.Need-enum-told
 enum-told c = search needs
 
--- src/lib.rt:29:5
 from-parts-requires : tie.Need-from-parts-requires
 from-parts-requires c κs = search needs
 
--- src/lib.rt:13:1
 same-length : tie.Need-same-length
 same-length c = search needs
 
--- src/lib.rt:13:1
 same-length-2 : tie.Need-same-length-2
 same-length-2 c = search needs
 
--- src/lib.rt:13:1
 returns-2 : tie.Need-returns-2
 unfolding ofBits
 returns-2 c = making-map _ _ (new-opened _ _ _ _ _ ∙ made-passed _ _ _ _ _ _ _ (c .before .before .before .before .before .before .before .before .before .ask-pairs .ensures) (c .before .before .before .before .before .before .before .enum-told .given .1) ∙ new-parts _ false _ _ _ ∙ sym (held-passed _ _ _ (sym (c .before .before .before .before .before .before .before .before .before .ask-pairs .ensures) ∙ c .before .before .before .before .before .before .before .enum-told .given .1) _)) _ _ _ _ _ (c .before .before .before .before .from-parts .ensures)

@@ -4,39 +4,28 @@ use Rattle.making.proofs.MakeWays.{made-refused, made-passed, making-ma
 use borrow.Author.Needs.{needs}
 use Rattle.making.proofs.with_root_identity.Statement.{statement}
 use Rattle.making.proofs.with_root_identity.Tie as tie
-use Rattle.making.proofs.with_root_identity.Reads as reads
-use Rattle.making.proofs.with_root_identity.Lts as lts
-use Rattle.asking.proofs.ask_pairs.Reads as ask-pairs-reads
-use Rattle.map_function.proofs.as_it_is.Reads as as-it-is-reads
 
--- src/lib.rt:45:9
 ask-pairs-requires : tie.Need-ask-pairs-requires
 ask-pairs-requires c κs = search needs
 
--- src/lib.rt:46:33
 enum-known-q : tie.Need-enum-known-q
 enum-known-q c = search needs
 
--- src/lib.rt:47:9
 returns : tie.Need-returns
 returns c = refusing-map _ _ (marked-opened _ _ _ _ _ ∙ made-refused _ _ _ _ _ _ _ (c .before .before .before .ask-pairs .ensures) _ (c .before .q .given .1)) _ _
 
 enum-told : tie.Need-enum-told
 enum-told c = search needs
 
--- src/lib.rt:49:5
 as-it-is-requires : tie.Need-as-it-is-requires
 as-it-is-requires c κs = search needs
 
--- src/lib.rt:33:1
 same-length : tie.Need-same-length
 same-length c = search needs
 
--- src/lib.rt:33:1
 same-length-2 : tie.Need-same-length-2
 same-length-2 c = search needs
 
--- src/lib.rt:33:1
 returns-2 : tie.Need-returns-2
 returns-2 c = making-map _ _ (marked-opened _ _ _ _ _ ∙ made-passed _ _ _ _ _ _ _ (c .before .before .before .before .before .before .before .before .before .ask-pairs .ensures) (c .before .before .before .before .before .before .before .enum-told .given .1) ∙ marked-copy _ _ _ _ _ ∙ sym (held-passed _ _ _ (sym (c .before .before .before .before .before .before .before .before .before .ask-pairs .ensures) ∙ c .before .before .before .before .before .before .before .enum-told .given .1) _)) _ _ _ _ _ (c .before .before .before .before .as-it-is .ensures)
 

@@ -1,0 +1,216 @@
+-- What each way through the functions that change a list gives. Assumes nothing.
+use mathlib.Core.Path.{_≡_, refl, sym, ap, _∙_}
+use mathlib.Core.Logic.{_≢_}
+use mathlib.Core.Bool.{Bool, true, false, not, cond, _&&_, _||_, true≢false}
+use mathlib.Core.List.{List, [], _∷_, _++_, append-nil, map as mapped}
+use Prim.Native.Nat.{ℕ, zero, suc, _+_, _*_, _≤_, _<_}
+use native.Mathlib.Omega.{arith}
+use native.Mathlib.Numerals.{add-one}
+use native.Mathlib.Nat.{zero-add}
+use native.Mathlib.Decide.{ℕ-discrete}
+use lib.ListN.{length, getD, take, drop, length-append}
+use borrow.Author.Tests.{le-leb}
+use Rattle.text.specs.Text.{Text, written, over, placed, equal}
+use Rattle.text.proofs.BoolLaws.{told, told-false, told-true, and-yes, and-no}
+use Rattle.pairs.specs.Pair.{Pair}
+use Rattle.pairs.specs.Places.{textAt, keyAt, pairIn, pairsIn, listText, listPlaces, fourOf, copied}
+use Rattle.pairs.proofs.PlaceLaws.{pairsIn-length}
+use Rattle.pairs.proofs.ListLaws.{read-back}
+use Rattle.pairs.proofs.WriteWays.{over-over, source-key, target-key}
+use Rattle.pairs.proofs.CopyLaws.{text-same, list-same, over-below, over-inside, copied-over, pushed}
+use Rattle.maps.specs.Compose.{hasSource}
+use Rattle.maps.specs.Derive.{withoutSource, exchanged}
+use Rattle.making.specs.Calls.{pair, allSame}
+
+-- `store_pair`
+module _ (s t store : Text) (places : List ℕ) (h : length s + length t ≤ length store) (k : 4 ≤ length places) where
+  abbrev one : List Pair
+  one = pair s t ∷ []
+
+  text-written : over 0 (s ++ t) store ≡ written (listText one) store
+  unfolding listText
+  text-written = rw (append-nil t, zero-add (length (s ++ t))) refl
+
+  places-written : placed 0 (fourOf 0 s t) places ≡ written (listPlaces 0 one) places
+  unfolding placed listPlaces
+  places-written = rw (le-leb 4 (length places) k) refl
+
+  pub pair-stored : (once twice : Text) (places′ : List ℕ) → once ≡ placed 0 s store → twice ≡ placed (length s) t once
+      → places′ ≡ placed (4 * 0) (0 ∷ length s ∷ length s ∷ length t ∷ []) places → pairsIn twice places′ 1 ≡ one
+  pair-stored once twice places′ a b c =
+      let z : 0 + length s ≡ length s = zero-add (length s) in
+      let y : placed (length s) t (placed 0 s store) ≡ over 0 (s ++ t) store = rw z at (over-over 0 s t store (omega arith)) in
+      let x : placed 0 (0 ∷ length s ∷ length s ∷ length t ∷ []) places ≡ written (listPlaces 0 one) places = rw z at places-written in
+      rw (c ∙ x, b ∙ ap (λ (w : Text). placed (length s) t w) a ∙ y ∙ text-written) (read-back one store places)
+
+-- `exchange`
+module _ (store : Text) (places : List ℕ) where
+  pub exchange-none : (other : List ℕ) → pairsIn store other 0 ≡ mapped (λ (x : Pair). exchanged x) (pairsIn store places 0)
+  unfolding pairsIn
+  exchange-none other = refl
+
+  map-snoc : (l : List Pair) (x : Pair) → mapped (λ (x : Pair). exchanged x) (l ++ x ∷ []) ≡ mapped (λ (x : Pair). exchanged x) l ++ exchanged x ∷ []
+  map-snoc [] x = refl
+  map-snoc (y ∷ l) x = ap (λ (z : List Pair). exchanged y ∷ z) (map-snoc l x)
+
+  abbrev turned : ℕ → List ℕ
+  turned i = getD places (4 * i + 2) 0 ∷ getD places (4 * i + 3) 0 ∷ getD places (4 * i) 0 ∷ getD places (4 * i + 1) 0 ∷ []
+
+  module _ (i : ℕ) (other other′ : List ℕ) (h : 4 * i + 4 ≤ length other) (e : other′ ≡ placed (4 * i) (turned i) other) where
+    is-over : other′ ≡ over (4 * i) (turned i) other
+    unfolding placed
+    is-over = e ∙ rw (le-leb (4 * i + 4) (length other) h) refl
+
+    number : (k : ℕ) → k < 4 → getD other′ (4 * i + k) 0 ≡ getD (turned i) k 0
+    number k l = rw is-over (over-inside (4 * i) (turned i) other k (omega arith) l)
+
+    at-number : (j k m : ℕ) → k < 4 → j ≡ 4 * i + k → getD (turned i) k 0 ≡ getD places m 0 → getD other′ j 0 ≡ getD places m 0
+    at-number j k m l z f = rw z (number k l ∙ f)
+
+    turned-pair : pairIn store other′ i ≡ exchanged (pairIn store places i)
+    unfolding pairIn
+    turned-pair =
+        let a : 2 * (2 * i + 1) ≡ 4 * i + 2 = omega arith in
+        let b : 2 * (2 * i + 1) + 1 ≡ 4 * i + 3 = omega arith in
+        let c : 2 * (2 * i) ≡ 4 * i = omega arith in
+        rw (
+          text-same store other′ places (2 * i) (2 * i + 1) (rw a (at-number (2 * (2 * i)) 0 (4 * i + 2) (omega arith) (omega arith) refl)) (rw b (at-number (2 * (2 * i) + 1) 1 (4 * i + 3) (omega arith) (omega arith) refl)),
+          text-same store other′ places (2 * i + 1) (2 * i) (rw c (at-number (2 * (2 * i + 1)) 2 (4 * i) (omega arith) (omega arith) refl)) (rw c (at-number (2 * (2 * i + 1) + 1) 3 (4 * i + 1) (omega arith) (omega arith) refl)),
+        ) refl
+
+    pub exchange-on : pairsIn store other i ≡ mapped (λ (x : Pair). exchanged x) (pairsIn store places i)
+        → pairsIn store other′ (i + 1) ≡ mapped (λ (x : Pair). exchanged x) (pairsIn store places (i + 1))
+    unfolding pairsIn
+    exchange-on f =
+        let z : pairsIn store other′ i ≡ pairsIn store other i = list-same store other′ other i (λ k l. rw is-over (over-below (4 * i) (turned i) other k (omega arith) l)) in
+        rw (add-one i, z, turned-pair, f) (sym (map-snoc (pairsIn store places i) (pairIn store places i)))
+
+  pub exchange-end : (n i : ℕ) (other : List ℕ) → n ≤ i → i ≤ n → pairsIn store other i ≡ mapped (λ (x : Pair). exchanged x) (pairsIn store places i)
+      → pairsIn store other n ≡ mapped (λ (x : Pair). exchanged x) (pairsIn store places n)
+  exchange-end n i other h k e = let z : i ≡ n = omega arith in rw z at e
+
+-- `without_source`
+without-append : (s : Text) (a b : List Pair) → withoutSource s (a ++ b) ≡ withoutSource s a ++ withoutSource s b
+unfolding withoutSource
+without-append s [] b = refl
+without-append s (x ∷ a) b = go (equal (x .source) s) (without-append s a b)
+  where
+    go : (t : Bool) → withoutSource s (a ++ b) ≡ withoutSource s a ++ withoutSource s b
+        → cond t (withoutSource s (a ++ b)) (x ∷ withoutSource s (a ++ b)) ≡ cond t (withoutSource s a) (x ∷ withoutSource s a) ++ withoutSource s b
+    go true ih = ih
+    go false ih = ap (λ (z : List Pair). x ∷ z) ih
+
+module _ (store : Text) (places : List ℕ) (i : ℕ) (s : Text) (kept : List ℕ) (w : ℕ) (k : Text) (e : k ≡ keyAt store places false i) (b : Bool) (h : b ≡ equal k s) where
+  source-told : b ≡ equal ((pairIn store places i) .source) s
+  source-told = h ∙ ap (λ (z : Text). equal z s) (e ∙ sym (source-key store places i))
+
+  pub other-same : b ≡ true → pairsIn store kept w ≡ pairsIn store kept w ++ withoutSource s (pairIn store places i ∷ [])
+  unfolding withoutSource
+  other-same l = rw (told source-told l) (sym (append-nil (pairsIn store kept w)))
+
+  pub other-kept : b ≡ false → 4 * i + 4 ≤ length places → 4 * w + 4 ≤ length kept → (kept′ : List ℕ) → kept′ ≡ copied places i w kept
+      → pairsIn store kept′ (w + 1) ≡ pairsIn store kept w ++ withoutSource s (pairIn store places i ∷ [])
+  unfolding withoutSource
+  other-kept l m n kept′ c = rw (add-one w, c, copied-over places i w kept m n, told source-told l) (pushed store places i kept w n)
+
+without-few : (s : Text) (l : List Pair) → length (withoutSource s l) ≤ length l
+unfolding withoutSource
+without-few s [] = omega arith
+without-few s (x ∷ l) = go (equal (x .source) s) (without-few s l)
+  where
+    go : (t : Bool) → length (withoutSource s l) ≤ length l → length (cond t (withoutSource s l) (x ∷ withoutSource s l)) ≤ suc (length l)
+    go true ih = omega arith
+    go false ih = omega arith
+
+module _ (store : Text) (places : List ℕ) (s : Text) where
+  pub without-none : (kept : List ℕ) → pairsIn store kept 0 ≡ withoutSource s (pairsIn store places 0)
+  unfolding pairsIn withoutSource
+  without-none kept = refl
+
+  pub without-on : (i : ℕ) (kept kept′ : List ℕ) (w w′ : ℕ) → pairsIn store kept w ≡ withoutSource s (pairsIn store places i)
+      → pairsIn store kept′ w′ ≡ pairsIn store kept w ++ withoutSource s (pairIn store places i ∷ []) → pairsIn store kept′ w′ ≡ withoutSource s (pairsIn store places (i + 1))
+  unfolding pairsIn
+  without-on i kept kept′ w w′ f g = g ∙ rw (f, add-one i) (sym (without-append s (pairsIn store places i) (pairIn store places i ∷ [])))
+
+  pub without-room : (n i w : ℕ) (kept : List ℕ) → i < n → 4 * n ≤ length kept → pairsIn store kept w ≡ withoutSource s (pairsIn store places i) → 4 * w + 4 ≤ length kept
+  without-room n i w kept h k f =
+      omega (arith, k, ap length f, pairsIn-length store kept w, without-few s (pairsIn store places i), pairsIn-length store places i)
+
+  pub without-end : (n i w : ℕ) (kept : List ℕ) → n ≤ i → i ≤ n → pairsIn store kept w ≡ withoutSource s (pairsIn store places i) → pairsIn store kept w ≡ withoutSource s (pairsIn store places n)
+  without-end n i w kept h k f = let z : i ≡ n = omega arith in rw z at f
+
+-- nothing was dropped exactly where no pair has the source
+pub whole-without : (s : Text) (l : List Pair) → length (withoutSource s l) ≡ length l → (hasSource l s ≡ false) × (withoutSource s l ≡ l)
+unfolding withoutSource hasSource
+whole-without s [] h = (refl, refl)
+whole-without s (x ∷ l) h = go (equal (x .source) s) h (whole-without s l)
+  where
+    go : (t : Bool) → length (cond t (withoutSource s l) (x ∷ withoutSource s l)) ≡ suc (length l)
+        → (length (withoutSource s l) ≡ length l → (hasSource l s ≡ false) × (withoutSource s l ≡ l))
+        → ((t || hasSource l s) ≡ false) × (cond t (withoutSource s l) (x ∷ withoutSource s l) ≡ x ∷ l)
+    go true h ih = absurd (omega (arith, without-few s l))
+    go false h ih = let z = ih (omega arith) in (z .0, ap (λ (y : List Pair). x ∷ y) (z .1))
+
+pub without-all : (s : Text) (l : List Pair) → hasSource l s ≡ false → length (withoutSource s l) ≡ length l
+unfolding withoutSource hasSource
+without-all s [] h = refl
+without-all s (x ∷ l) h = go (equal (x .source) s) h (without-all s l)
+  where
+    go : (t : Bool) → (t || hasSource l s) ≡ false → (hasSource l s ≡ false → length (withoutSource s l) ≡ length l) → length (cond t (withoutSource s l) (x ∷ withoutSource s l)) ≡ suc (length l)
+    go true h ih = absurd (true≢false h)
+    go false h ih = ap suc (ih h)
+
+-- `all_same`
+same-append : (a b : List Pair) → allSame (a ++ b) ≡ (allSame a && allSame b)
+unfolding allSame
+same-append [] b = refl
+same-append (x ∷ a) b = go (equal (x .source) (x .target)) (same-append a b)
+  where
+    go : (t : Bool) → allSame (a ++ b) ≡ (allSame a && allSame b) → (t && allSame (a ++ b)) ≡ (t && allSame a && allSame b)
+    go true ih = ih
+    go false ih = refl
+
+module _ (store : Text) (places : List ℕ) where
+  same-next : (i : ℕ) → allSame (pairsIn store places (suc i)) ≡ (allSame (pairsIn store places i) && equal (keyAt store places false i) (keyAt store places true i))
+  unfolding pairsIn allSame
+  same-next i =
+      same-append (pairsIn store places i) (pairIn store places i ∷ [])
+      ∙ ap (λ (b : Bool). allSame (pairsIn store places i) && b) (and-yes (equal ((pairIn store places i) .source) ((pairIn store places i) .target)) ∙ rw (source-key store places i, target-key store places i) refl)
+
+  same-at : (n i : ℕ) → i < n → equal (keyAt store places false i) (keyAt store places true i) ≡ false → allSame (pairsIn store places n) ≡ false
+  same-at zero i h e = absurd (omega arith)
+  same-at (suc n) i h e = elim (ℕ-discrete i n) [
+    | yes k ↦ same-next n ∙ rw (rw k at e) (and-no (allSame (pairsIn store places n)))
+    | no k ↦ same-next n ∙ rw (same-at n i (omega arith) e) refl
+  ]
+
+  pub same-none : true ≡ allSame (pairsIn store places 0)
+  unfolding pairsIn allSame
+  same-none = refl
+
+  module _ (i : ℕ) (s t : Text) (e : s ≡ keyAt store places false i) (f : t ≡ keyAt store places true i) (b : Bool) (h : b ≡ equal s t) where
+    keys-told : b ≡ equal (keyAt store places false i) (keyAt store places true i)
+    keys-told = h ∙ rw (e, f) refl
+
+    pub same-not : (n : ℕ) → i < n → not b ≡ true → false ≡ allSame (pairsIn store places n)
+    same-not n l k = sym (same-at n i l (told-false keys-told k))
+
+    pub same-on : true ≡ allSame (pairsIn store places i) → not b ≡ false → true ≡ allSame (pairsIn store places (i + 1))
+    same-on g k = rw (add-one i) (sym (same-next i ∙ rw (← g, told-true keys-told k) refl))
+
+  pub same-end : (n i : ℕ) → n ≤ i → i ≤ n → true ≡ allSame (pairsIn store places i) → true ≡ allSame (pairsIn store places n)
+  same-end n i h k e = let z : i ≡ n = omega arith in rw z at e
+
+-- how many are left of a list without a source
+module _ (store : Text) (places kept : List ℕ) (s : Text) (n w : ℕ) (e : pairsIn store kept w ≡ withoutSource s (pairsIn store places n)) where
+  left-length : length (withoutSource s (pairsIn store places n)) ≡ w
+  left-length = sym (ap length e) ∙ pairsIn-length store kept w
+
+  pub left-all : w ≡ n → length (withoutSource s (pairsIn store places n)) ≡ length (pairsIn store places n)
+  left-all h = left-length ∙ h ∙ sym (pairsIn-length store places n)
+
+  pub left-some : w ≢ n → length (withoutSource s (pairsIn store places n)) ≡ length (pairsIn store places n) → ⊥
+  left-some h k = h (sym left-length ∙ k ∙ pairsIn-length store places n)
+
+  pub left-few : w ≤ n
+  left-few = omega (arith, left-length, without-few s (pairsIn store places n), pairsIn-length store places n)

@@ -1,0 +1,100 @@
+use mathlib.Core.Path.{_≡_, refl}
+use native.Mathlib.Omega.{arith}
+use Prim.Native.Nat.{_≤_, _-_}
+use lib.ListN.{length}
+use Rattle.pairs.specs.Places.{pairsIn}
+use Rattle.pairs.specs.Pair.{Pair}
+use Rattle.maps.specs.Derive.{exchanged}
+use Rattle.making.proofs.ListWays.{exchange-none, exchange-on, exchange-end}
+use borrow.Author.Needs.{needs}
+use Rattle.making.proofs.exchange.Statement.{statement}
+use Rattle.making.proofs.exchange.Tie as tie
+
+abbrev Inv-loop : tie.InvT-loop
+Inv-loop store places n other₀ i₀ other i = (i ≤ n) × (pairsIn store other i ≡ mapped (λ (x : Pair). exchanged x) (pairsIn store places i)) × (length other ≡ length other₀)
+
+abbrev μ-loop : tie.MeasureT-loop
+μ-loop store places n other₀ i₀ other i = n - i
+
+loop-holds : tie.Need-loop-holds Inv-loop μ-loop
+loop-holds c = (search needs, exchange-none _ _ _, refl)
+
+mul-j : tie.Need-mul-j Inv-loop μ-loop
+mul-j c = search needs
+
+add-write-four : tie.Need-add-write-four Inv-loop μ-loop
+add-write-four c = search needs
+
+mul-write-four : tie.Need-mul-write-four Inv-loop μ-loop
+mul-write-four c = search needs
+
+shared-slice-read-write-four : tie.Need-shared-slice-read-write-four Inv-loop μ-loop
+shared-slice-read-write-four c = omega (arith, c .before .loop-test .taken, c .before .before .before .before .before .before .pre .0)
+
+add-write-four-2 : tie.Need-add-write-four-2 Inv-loop μ-loop
+add-write-four-2 c = search needs
+
+mul-write-four-2 : tie.Need-mul-write-four-2 Inv-loop μ-loop
+mul-write-four-2 c = search needs
+
+shared-slice-read-write-four-2 : tie.Need-shared-slice-read-write-four-2 Inv-loop μ-loop
+shared-slice-read-write-four-2 c = omega (arith, c .before .before .loop-test .taken, c .before .before .before .before .before .before .before .pre .0)
+
+mul-write-four-3 : tie.Need-mul-write-four-3 Inv-loop μ-loop
+mul-write-four-3 c = search needs
+
+shared-slice-read-write-four-3 : tie.Need-shared-slice-read-write-four-3 Inv-loop μ-loop
+shared-slice-read-write-four-3 c = omega (arith, c .before .before .before .loop-test .taken, c .before .before .before .before .before .before .before .before .pre .0)
+
+add-write-four-3 : tie.Need-add-write-four-3 Inv-loop μ-loop
+add-write-four-3 c = search needs
+
+mul-write-four-4 : tie.Need-mul-write-four-4 Inv-loop μ-loop
+mul-write-four-4 c = search needs
+
+shared-slice-read-write-four-4 : tie.Need-shared-slice-read-write-four-4 Inv-loop μ-loop
+shared-slice-read-write-four-4 c = omega (arith, c .before .before .before .before .loop-test .taken, c .before .before .before .before .before .before .before .before .before .pre .0)
+
+write-four-requires : tie.Need-write-four-requires Inv-loop μ-loop
+write-four-requires c κs = search needs
+
+add-i : tie.Need-add-i Inv-loop μ-loop
+add-i c = search needs
+
+loop-less : tie.Need-loop-less Inv-loop μ-loop
+loop-less c = search needs
+
+loop-again : tie.Need-loop-again Inv-loop μ-loop
+loop-again c = (search needs, exchange-on _ _ _ _ _ (omega (arith, c .before .before .before .before .before .before .before .before .loop-test .taken, c .before .before .before .before .before .before .before .before .before .before .before .before .before .pre .1, c .before .before .before .before .before .before .before .before .before .loop .inv .2)) (c .before .before .write-four .ensures) (c .before .before .before .before .before .before .before .before .before .loop .inv .1), search needs)
+
+same-length : tie.Need-same-length Inv-loop μ-loop
+same-length c = search needs
+
+returns : tie.Need-returns Inv-loop μ-loop
+returns c = exchange-end _ _ _ _ _ (c .loop-test .left) (c .before .loop .inv .0) (c .before .loop .inv .1)
+
+pub exchange-spec : {M : Type 1} → statement M
+exchange-spec =
+    tie.close
+    (tie.spec
+    Inv-loop
+    μ-loop
+    loop-holds
+    mul-j
+    add-write-four
+    mul-write-four
+    shared-slice-read-write-four
+    add-write-four-2
+    mul-write-four-2
+    shared-slice-read-write-four-2
+    mul-write-four-3
+    shared-slice-read-write-four-3
+    add-write-four-3
+    mul-write-four-4
+    shared-slice-read-write-four-4
+    write-four-requires
+    add-i
+    loop-less
+    loop-again
+    same-length
+    returns)
