@@ -2,10 +2,12 @@
 use mathlib.Core.Path.{refl}
 use Rattle.maps.specs.New.{new}
 use Rattle.maps.specs.Compose.{compose}
-use Rattle.cases.specs.Table.{Table, replacing, stripping, out, back, translated}
+use Rattle.maps.specs.Derive.{deepenTo}
+use Rattle.relocates.specs.Chain.{chain}
+use Rattle.cases.specs.Table.{Table, Readings, replacing, stripping, out, back, translated, statusesOf}
 
 pub holds : Table
-unfolding replacing stripping new compose out back translated
+unfolding replacing stripping new compose out back translated statusesOf chain
 holds = record {
   no-boundary = refl;
   from-selection = refl;
@@ -21,7 +23,16 @@ holds = record {
   empty-out = refl;
   empty-back = refl;
   empty-translated = refl;
+  deletion = refl;
+  root-prim = refl;
+  conflicts = refl;
+  active = refl;
+  chaining = refl;
   composed = refl;
   inner-out = refl;
   outer-out = refl;
 }
+
+pub readings : Readings
+unfolding deepenTo out
+readings = record { deepened = refl; skipped = refl }

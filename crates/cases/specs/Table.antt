@@ -1,8 +1,11 @@
--- Document 01's table of cases, the rows marked P: what the definitions give at each. proofs/Holds.antt proves the whole table.
+-- Document 01's table of cases, every row marked P: what the definitions give at each. proofs/Holds.antt proves the whole table.
 use mathlib.Core.Path.{_≡_}
 use mathlib.Core.Bool.{true, false}
 use mathlib.Core.List.{List, [], _∷_}
+use mathlib.Core.Option.{none}
+use Prim.Native.Nat.{ℕ}
 use Prim.Native.String.{String}
+use lib.ListN.{length}
 use Rattle.text.specs.Text.{bytes}
 use Rattle.path.specs.declared.Refusal.the-variants.{NoPath}
 use Rattle.path.specs.Outcome.{Outcome, path, refused, given}
@@ -11,7 +14,10 @@ use Rattle.pairs.specs.Pair.{Pair}
 use Rattle.maps.specs.Map.{Map, plainOut}
 use Rattle.maps.specs.New.{new}
 use Rattle.maps.specs.Compose.{compose}
+use Rattle.maps.specs.Derive.{deepenTo}
 use Rattle.maps.specs.Leg.{translate, home}
+use Rattle.relocates.specs.Status.{statuses}
+use Rattle.relocates.specs.Chain.{chained, chain}
 
 -- the path, its prefix and the new prefix, with 255 bytes of lent memory
 unfoldable pub replacing : String → String → String → Outcome
@@ -51,6 +57,17 @@ inner = unmarked (pair "/A" "/X" ∷ pair "/A/B" "/Y" ∷ [])
 abbrev pub outer : Map
 outer = unmarked (pair "/X/B/C" "/Z" ∷ pair "/Y" "/W" ∷ [])
 
+-- the status bytes of a relocate list
+unfoldable pub statusesOf : List Pair → List ℕ
+unfolding statuses
+statusesOf l = statuses l (length l)
+
+abbrev pub conflicting : List Pair
+conflicting = pair "/R/a" "/R/b" ∷ pair "/R/c" "/R/b" ∷ pair "/R/b" "/R/d" ∷ []
+
+abbrev pub turning : List Pair
+turning = pair "/R/a/b" "/R/c" ∷ pair "/R/c/d" "/R/a" ∷ []
+
 pub record Table : Type 0 where
   -- `/AB` by `/A`: 6
   pub no-boundary : replacing "/AB" "/A" "/C" ≡ refused NoPath
@@ -74,7 +91,21 @@ pub record Table : Type 0 where
   pub empty-out : out (marked (pair "" "/" ∷ [])) "/A" ≡ path (bytes "/A")
   pub empty-back : back (marked (pair "" "/" ∷ [])) "/A" ≡ path (bytes "/A")
   pub empty-translated : translated (marked (pair "" "/" ∷ [])) "/A" ≡ refused NoPath
+  -- statuses of `/R`→empty: 0; of `/R`→`/S`: 1
+  pub deletion : statusesOf (pair "/R" "" ∷ []) ≡ 0 ∷ []
+  pub root-prim : statusesOf (pair "/R" "/S" ∷ []) ≡ 1 ∷ []
+  -- `/R/a`→`/R/b`, `/R/c`→`/R/b`, `/R/b`→`/R/d`: 3, 3, 3
+  pub conflicts : statusesOf conflicting ≡ 3 ∷ 3 ∷ 3 ∷ []
+  -- `/R/a/b`→`/R/c`, `/R/c/d`→`/R/a`: 0, 0; chaining `/R/a/b/d/b/d` ends at `/R/a/b/d`, 2 steps
+  pub active : statusesOf turning ≡ 0 ∷ 0 ∷ []
+  pub chaining : chain none turning (bytes "/R/a/b/d/b/d") ≡ chained (bytes "/R/a/b/d") 2
   -- inner `/A`→`/X`, `/A/B`→`/Y`, outer `/X/B/C`→`/Z`, `/Y`→`/W`: composed takes `/A/B/C` to `/Z`; one after the other gives `/W/C`
   pub composed : out (compose outer inner) "/A/B/C" ≡ path (bytes "/Z")
   pub inner-out : out inner "/A/B/C" ≡ path (bytes "/Y/C")
   pub outer-out : out outer "/Y/C" ≡ path (bytes "/W/C")
+
+-- "Readings a quick porter would get wrong": the first three are the rows `composed`, `later` and `dropped` above; the fourth is
+-- "Skipping an empty source in `deepen_to`; only `best_prefix` skips it."
+pub record Readings : Type 0 where
+  pub deepened : deepenTo (unmarked (pair "" "/X" ∷ [])) (bytes "/A") ≡ unmarked (pair "/A" "/X/A" ∷ [])
+  pub skipped : out (unmarked (pair "" "/X" ∷ [])) "/A" ≡ refused NoPath

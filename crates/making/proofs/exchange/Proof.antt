@@ -1,3 +1,4 @@
+use mathlib.Core.List.{map as mapped}
 use mathlib.Core.Path.{_≡_, refl}
 use native.Mathlib.Omega.{arith}
 use Prim.Native.Nat.{_≤_, _-_}
