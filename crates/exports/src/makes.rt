@@ -4,8 +4,9 @@
 // its pairs, and one more with the mark.
 ghost use mathlib.Core.Path.{_≡_};
 ghost use Rattle.map_function.specs.Made.{mapReply, mapBytes, mapSlots};
-ghost use Rattle.making.specs.Calls.{newCall, withRootIdentityCall};
+ghost use Rattle.making.specs.Calls.{newCall, fromPairCall, fromPairIdentityCall, inverseCall, withRootIdentityCall, droppingSourceCall, isNoopCall};
 ghost use Rattle.composing.specs.Calls.{composeCall};
+ghost use Rattle.codes.specs.Code.{testCode};
 ghost use Rattle.exports.specs.Made.{numbers, madeValue, madeCode, madeTime};
 
 // The map with these numbers.
@@ -116,4 +117,102 @@ pub extern "C" fn mudvizsor_map_compose(
         composing::compose(store, places, map, istore, iplaces, inner, out, slots),
         time,
     )
+}
+
+// The map of one pair, which stays as it is.
+#[no_mangle]
+pub extern "C" fn mudvizsor_map_from_pair(
+    source: &[u8],
+    target: &[u8],
+    out: &mut [u8],
+    slots: &mut [usize],
+    time: &mut [f64; 2],
+) -> usize
+    ensures { λ r. ⌜ r ≡ madeCode (mapReply (fromPairCall (now (source .entry)) (now (target .entry)) (now (out .entry)) (now (slots .entry)))) ⌝ }
+    ensures { λ r. ⌜ now (out .exit) ≡ mapBytes (fromPairCall (now (source .entry)) (now (target .entry)) (now (out .entry)) (now (slots .entry))) (now (out .entry)) ⌝ }
+    ensures { λ r. ⌜ now (slots .exit) ≡ mapSlots (fromPairCall (now (source .entry)) (now (target .entry)) (now (out .entry)) (now (slots .entry))) (now (slots .entry)) ⌝ }
+    ensures { λ r. ⌜ now (time .exit) ≡ madeTime (mapReply (fromPairCall (now (source .entry)) (now (target .entry)) (now (out .entry)) (now (slots .entry)))) (now (time .entry)) ⌝ }
+{
+    made_code(making::from_pair(source, target, out, slots), time)
+}
+
+// The map of one pair, with the mark.
+#[no_mangle]
+pub extern "C" fn mudvizsor_map_from_pair_identity(
+    source: &[u8],
+    target: &[u8],
+    out: &mut [u8],
+    slots: &mut [usize],
+    time: &mut [f64; 2],
+) -> usize
+    ensures { λ r. ⌜ r ≡ madeCode (mapReply (fromPairIdentityCall (now (source .entry)) (now (target .entry)) (now (out .entry)) (now (slots .entry)))) ⌝ }
+    ensures { λ r. ⌜ now (out .exit) ≡ mapBytes (fromPairIdentityCall (now (source .entry)) (now (target .entry)) (now (out .entry)) (now (slots .entry))) (now (out .entry)) ⌝ }
+    ensures { λ r. ⌜ now (slots .exit) ≡ mapSlots (fromPairIdentityCall (now (source .entry)) (now (target .entry)) (now (out .entry)) (now (slots .entry))) (now (slots .entry)) ⌝ }
+    ensures { λ r. ⌜ now (time .exit) ≡ madeTime (mapReply (fromPairIdentityCall (now (source .entry)) (now (target .entry)) (now (out .entry)) (now (slots .entry)))) (now (time .entry)) ⌝ }
+{
+    made_code(making::from_pair_identity(source, target, out, slots), time)
+}
+
+// The map whose pairs are exchanged.
+#[no_mangle]
+pub extern "C" fn mudvizsor_map_inverse(
+    store: &[u8],
+    places: &[usize],
+    count: usize,
+    mark: bool,
+    offset: f64,
+    scale: f64,
+    out: &mut [u8],
+    slots: &mut [usize],
+    time: &mut [f64; 2],
+) -> usize
+    ensures { λ r. ⌜ r ≡ madeCode (mapReply (inverseCall (now (store .entry)) (now (places .entry)) (numbers count mark offset scale) (now (out .entry)) (now (slots .entry)))) ⌝ }
+    ensures { λ r. ⌜ now (out .exit) ≡ mapBytes (inverseCall (now (store .entry)) (now (places .entry)) (numbers count mark offset scale) (now (out .entry)) (now (slots .entry))) (now (out .entry)) ⌝ }
+    ensures { λ r. ⌜ now (slots .exit) ≡ mapSlots (inverseCall (now (store .entry)) (now (places .entry)) (numbers count mark offset scale) (now (out .entry)) (now (slots .entry))) (now (slots .entry)) ⌝ }
+    ensures { λ r. ⌜ now (time .exit) ≡ madeTime (mapReply (inverseCall (now (store .entry)) (now (places .entry)) (numbers count mark offset scale) (now (out .entry)) (now (slots .entry)))) (now (time .entry)) ⌝ }
+{
+    let map = map_with(count, mark, offset, scale);
+    made_code(making::inverse(store, places, map, out, slots), time)
+}
+
+// The map without the pairs that have this source.
+#[no_mangle]
+pub extern "C" fn mudvizsor_map_dropping_source(
+    store: &[u8],
+    places: &[usize],
+    count: usize,
+    mark: bool,
+    offset: f64,
+    scale: f64,
+    source: &[u8],
+    out: &mut [u8],
+    slots: &mut [usize],
+    time: &mut [f64; 2],
+) -> usize
+    ensures { λ r. ⌜ r ≡ madeCode (mapReply (droppingSourceCall (now (store .entry)) (now (places .entry)) (numbers count mark offset scale) (now (source .entry)) (now (out .entry)) (now (slots .entry)))) ⌝ }
+    ensures { λ r. ⌜ now (out .exit) ≡ mapBytes (droppingSourceCall (now (store .entry)) (now (places .entry)) (numbers count mark offset scale) (now (source .entry)) (now (out .entry)) (now (slots .entry))) (now (out .entry)) ⌝ }
+    ensures { λ r. ⌜ now (slots .exit) ≡ mapSlots (droppingSourceCall (now (store .entry)) (now (places .entry)) (numbers count mark offset scale) (now (source .entry)) (now (out .entry)) (now (slots .entry))) (now (slots .entry)) ⌝ }
+    ensures { λ r. ⌜ now (time .exit) ≡ madeTime (mapReply (droppingSourceCall (now (store .entry)) (now (places .entry)) (numbers count mark offset scale) (now (source .entry)) (now (out .entry)) (now (slots .entry)))) (now (time .entry)) ⌝ }
+{
+    let map = map_with(count, mark, offset, scale);
+    made_code(
+        making::dropping_source(store, places, map, source, out, slots),
+        time,
+    )
+}
+
+// Does the map change neither path nor time?
+#[no_mangle]
+pub extern "C" fn mudvizsor_map_is_noop(
+    store: &[u8],
+    places: &[usize],
+    count: usize,
+    mark: bool,
+    offset: f64,
+    scale: f64,
+) -> usize
+    ensures { λ r. ⌜ r ≡ testCode (isNoopCall (now (store .entry)) (now (places .entry)) (numbers count mark offset scale)) ⌝ }
+{
+    let map = map_with(count, mark, offset, scale);
+    codes::test_code(making::is_noop(store, places, map))
 }

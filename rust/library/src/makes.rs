@@ -50,6 +50,70 @@ unsafe extern "C" {
         slots_len: usize,
         time: &mut [f64; 2],
     ) -> usize;
+    fn mudvizsor_map_from_pair(
+        source: *const u8,
+        source_len: usize,
+        target: *const u8,
+        target_len: usize,
+        out: *mut u8,
+        out_len: usize,
+        slots: *mut usize,
+        slots_len: usize,
+        time: &mut [f64; 2],
+    ) -> usize;
+    fn mudvizsor_map_from_pair_identity(
+        source: *const u8,
+        source_len: usize,
+        target: *const u8,
+        target_len: usize,
+        out: *mut u8,
+        out_len: usize,
+        slots: *mut usize,
+        slots_len: usize,
+        time: &mut [f64; 2],
+    ) -> usize;
+    fn mudvizsor_map_inverse(
+        store: *const u8,
+        store_len: usize,
+        places: *const usize,
+        places_len: usize,
+        count: usize,
+        mark: bool,
+        offset: f64,
+        scale: f64,
+        out: *mut u8,
+        out_len: usize,
+        slots: *mut usize,
+        slots_len: usize,
+        time: &mut [f64; 2],
+    ) -> usize;
+    fn mudvizsor_map_dropping_source(
+        store: *const u8,
+        store_len: usize,
+        places: *const usize,
+        places_len: usize,
+        count: usize,
+        mark: bool,
+        offset: f64,
+        scale: f64,
+        source: *const u8,
+        source_len: usize,
+        out: *mut u8,
+        out_len: usize,
+        slots: *mut usize,
+        slots_len: usize,
+        time: &mut [f64; 2],
+    ) -> usize;
+    fn mudvizsor_map_is_noop(
+        store: *const u8,
+        store_len: usize,
+        places: *const usize,
+        places_len: usize,
+        count: usize,
+        mark: bool,
+        offset: f64,
+        scale: f64,
+    ) -> usize;
     fn mudvizsor_map_compose(
         store: *const u8,
         store_len: usize,
@@ -153,6 +217,112 @@ pub fn compose(outer: Map, inner: Map, room: Room) -> Reply {
             slots.as_mut_ptr(),
             slots.len(),
             time,
+        )
+    })
+}
+
+/// The map of one pair, which stays as it is.
+pub fn from_pair(source: &[u8], target: &[u8], room: Room) -> Reply {
+    let Room { out, slots, time } = room;
+    // SAFETY: as above.
+    Reply(unsafe {
+        mudvizsor_map_from_pair(
+            source.as_ptr(),
+            source.len(),
+            target.as_ptr(),
+            target.len(),
+            out.as_mut_ptr(),
+            out.len(),
+            slots.as_mut_ptr(),
+            slots.len(),
+            time,
+        )
+    })
+}
+
+/// The map of one pair, with the mark.
+pub fn from_pair_identity(source: &[u8], target: &[u8], room: Room) -> Reply {
+    let Room { out, slots, time } = room;
+    // SAFETY: as above.
+    Reply(unsafe {
+        mudvizsor_map_from_pair_identity(
+            source.as_ptr(),
+            source.len(),
+            target.as_ptr(),
+            target.len(),
+            out.as_mut_ptr(),
+            out.len(),
+            slots.as_mut_ptr(),
+            slots.len(),
+            time,
+        )
+    })
+}
+
+/// The map with source and target of each pair exchanged.
+pub fn inverse(map: Map, room: Room) -> Reply {
+    let Map { list: List { store, places, count, mark }, time: [offset, scale] } = map;
+    let Room { out, slots, time } = room;
+    // SAFETY: as above.
+    Reply(unsafe {
+        mudvizsor_map_inverse(
+            store.as_ptr(),
+            store.len(),
+            places.as_ptr(),
+            places.len(),
+            count,
+            mark,
+            offset,
+            scale,
+            out.as_mut_ptr(),
+            out.len(),
+            slots.as_mut_ptr(),
+            slots.len(),
+            time,
+        )
+    })
+}
+
+/// The map without the pairs that have this source.
+pub fn dropping_source(map: Map, source: &[u8], room: Room) -> Reply {
+    let Map { list: List { store, places, count, mark }, time: [offset, scale] } = map;
+    let Room { out, slots, time } = room;
+    // SAFETY: as above.
+    Reply(unsafe {
+        mudvizsor_map_dropping_source(
+            store.as_ptr(),
+            store.len(),
+            places.as_ptr(),
+            places.len(),
+            count,
+            mark,
+            offset,
+            scale,
+            source.as_ptr(),
+            source.len(),
+            out.as_mut_ptr(),
+            out.len(),
+            slots.as_mut_ptr(),
+            slots.len(),
+            time,
+        )
+    })
+}
+
+/// 1 where the map maps, and changes neither path nor time, else 0.
+pub fn is_noop(map: Map) -> Reply {
+    let Map { list: List { store, places, count, mark }, time: [offset, scale] } = map;
+    // SAFETY: as above.
+    Reply(unsafe {
+        mudvizsor_map_is_noop(
+            store.as_ptr(),
+            store.len(),
+            places.as_ptr(),
+            places.len(),
+            count,
+            mark,
+            offset,
+            scale,
         )
     })
 }
