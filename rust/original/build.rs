@@ -1,6 +1,7 @@
 //! Finds the original's source tree and writes, for each of its folders, a file that declares the modules
 //! taken from it and holds the items cut from its `mod.rs`. A module is compiled where it lies, or, where
-//! something is added to it, from a copy that ends with the addition. The original's text is never changed.
+//! something is added to it, from a copy that ends with the addition. Of a file that needs more than is here
+//! only the items named are taken. The original's text is never changed.
 
 use std::path::{Path, PathBuf};
 use std::{env, fs};
@@ -10,6 +11,14 @@ struct Folder {
     name: &'static str,
     files: &'static [File],
     /// The first lines of items of `mod.rs`, after their comments and attributes.
+    items: &'static [&'static str],
+    cuts: &'static [Cut],
+}
+
+/// A file of which some items are taken, into a file of the build's own folder that has its name.
+struct Cut {
+    file: &'static str,
+    /// As those of a folder.
     items: &'static [&'static str],
 }
 
@@ -24,12 +33,25 @@ const FOLDERS: &[Folder] = &[
         name: "sdf",
         files: &[File { name: "path", addition: None }],
         items: &["pub struct LayerOffset {", "impl Default for LayerOffset {", "impl LayerOffset {"],
+        cuts: &[],
     },
     Folder {
         name: "pcp",
         files: &[File { name: "mapping", addition: Some("additions/mapping.rs") }],
         items: &[],
+        cuts: &[Cut { file: "relocates", items: RELOCATES }],
     },
+];
+
+const RELOCATES: &[&str] = &[
+    "pub(crate) enum RelocateOccurrence {",
+    "impl RelocateOccurrence {",
+    "pub(crate) fn chain_through_relocates(path: &Path, relocates: &[(Path, Path)], skip_source: Option<&Path>) -> Path {",
+    "fn shift_through_nearest_ancestor(endpoint: &Path, renames: &[(Path, Path)]) -> Path {",
+    "fn relocate_pair_conflicts(sa: &Path, ta: &Path, sb: &Path, tb: &Path) -> Vec<RelocateConflictReason> {",
+    "fn duplicate_source_mask<'a>(sources: impl Iterator<Item = (bool, &'a Path)>) -> Vec<bool> {",
+    "pub(crate) fn analyze_relocate_occurrences(pairs: &[(Path, Path)]) -> Vec<RelocateOccurrence> {",
+    "fn relocate_invalid_reason(source: &Path, target: &Path) -> Option<InvalidRelocateReason> {",
 ];
 
 /// Where the sources lie in the tree.
@@ -79,6 +101,10 @@ fn tree_beside_the_repository() -> PathBuf {
 fn write_folder(from: &Path, folder: &Folder) {
     let modules: String = folder.files.iter().map(|file| module(from, file)).collect();
     write(&format!("{}.rs", folder.name), &(modules + &items(&from.join("mod.rs"), folder.items)));
+    for cut in folder.cuts {
+        let file = format!("{}.rs", cut.file);
+        write(&file, &items(&from.join(&file), cut.items));
+    }
 }
 
 /// The declaration of one module. Much of an original file is not called here.

@@ -11,6 +11,8 @@ ghost use Rattle.batch.specs.Batch.{carriedAt, enough, allAsked, allBytes, allR
 ghost use Rattle.exports.specs.Map.{timeless, wayOf};
 ghost use Rattle.codes.specs.Code.{askedCode, testCode, countCode, replyCode};
 
+mod makes;
+mod moves;
 mod time;
 
 // Is the text a legal path of at most 255 bytes?

@@ -6,7 +6,7 @@ ghost use Rattle.layer_offset.specs.Offset.{timed, isIdentity, isValid, isValid
 ghost use Rattle.exports.specs.Time.{floats, bitPatterns};
 
 // Writes offset and scale.
-fn put(made: layer_offset::LayerOffset, out: &mut [f64; 2])
+pub(crate) fn put(made: layer_offset::LayerOffset, out: &mut [f64; 2])
     ensures { λ r. ⌜ now (out .exit) ≡ floats made ⌝ }
 {
     *out = [made.offset, made.scale];

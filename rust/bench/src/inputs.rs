@@ -70,6 +70,18 @@ pub fn carried(pairs: usize, length: usize, count: usize) -> Carried {
     Carried { pairs, paths }
 }
 
+/// So many pairs of prim paths of two or three names.
+pub fn list(pairs: usize, seed: usize) -> Vec<[String; 2]> {
+    let random = &mut Random::new(seed as u64);
+    (0..pairs).map(|_| [(); 2].map(|()| prim_path(random, Names::Mixed, 24))).collect()
+}
+
+/// Pairs whose sources are the targets of the pairs given.
+pub fn list_after(pairs: &[[String; 2]]) -> Vec<[String; 2]> {
+    let random = &mut Random::new(pairs.len() as u64);
+    pairs.iter().map(|[_, target]| [target.clone(), prim_path(random, Names::Mixed, 24)]).collect()
+}
+
 fn path_of_one(random: &mut Random, pairs: &[[String; 2]], length: usize) -> String {
     let [source, _] = random.pick(pairs);
     let rest = path(random, Names::Mixed, length - source.len());

@@ -1,6 +1,7 @@
 //! Times the library beside the original on the same texts, in one run, and prints the ratios.
 
 mod inputs;
+mod makes;
 mod maps;
 
 use inputs::{Names, Replacement};
@@ -31,6 +32,15 @@ fn main() {
     }
     for pairs in [1, 8, 64] {
         maps::time(pairs, 40);
+    }
+    for pairs in [1, 8, 64] {
+        makes::time_new(pairs);
+    }
+    for pairs in [1, 8] {
+        makes::time_compose(pairs);
+    }
+    for pairs in [8, 64] {
+        makes::time_statuses(pairs);
     }
 }
 

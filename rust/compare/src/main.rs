@@ -7,9 +7,13 @@ mod exhaustive;
 mod facts;
 mod lent;
 #[cfg(feature = "maps")]
+mod makes;
+#[cfg(feature = "maps")]
 mod maps;
 mod phase;
 mod record;
+#[cfg(feature = "maps")]
+mod relocates;
 mod tally;
 mod text;
 mod times;
@@ -33,6 +37,10 @@ const PARTS: &[Part] = &[
     Part { name: "paths", run: compare_paths },
     #[cfg(feature = "maps")]
     Part { name: "maps", run: compare_maps },
+    #[cfg(feature = "maps")]
+    Part { name: "makes", run: compare_makes },
+    #[cfg(feature = "maps")]
+    Part { name: "relocates", run: compare_relocates },
     Part { name: "times", run: compare_times },
 ];
 
@@ -94,6 +102,18 @@ fn compare_paths(comparison: &mut Comparison, options: &Options) {
 fn compare_maps(comparison: &mut Comparison, options: &Options) {
     maps::run(comparison, options.seed);
     random_phase(comparison, "lists", options.seed, &options.limit, maps::cases::case);
+}
+
+#[cfg(feature = "maps")]
+fn compare_makes(comparison: &mut Comparison, options: &Options) {
+    makes::run(comparison);
+    random_phase(comparison, "maps made", options.seed, &options.limit, makes::cases::case);
+}
+
+#[cfg(feature = "maps")]
+fn compare_relocates(comparison: &mut Comparison, options: &Options) {
+    relocates::run(comparison);
+    random_phase(comparison, "relocate lists", options.seed, &options.limit, relocates::cases::case);
 }
 
 fn compare_times(comparison: &mut Comparison, options: &Options) {

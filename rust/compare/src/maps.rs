@@ -1,11 +1,11 @@
 //! The calls on maps: lists of pairs, in all small sets, with flaws, and at random.
 
 mod batch;
-mod calls;
+pub mod calls;
 pub mod cases;
-mod flaws;
-mod list;
-mod small;
+pub mod flaws;
+pub mod list;
+pub mod small;
 mod table;
 
 use crate::comparison::Comparison;

@@ -1,8 +1,8 @@
 //! The calls on time offsets: all offsets of special floats, and random ones.
 
-mod calls;
+pub mod calls;
 pub mod cases;
-mod special;
+pub mod special;
 
 use crate::comparison::Comparison;
 use crate::phase::phase;

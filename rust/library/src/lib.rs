@@ -4,7 +4,11 @@
 //! every one of them.
 
 #[cfg(feature = "maps")]
+pub mod makes;
+#[cfg(feature = "maps")]
 pub mod maps;
+#[cfg(feature = "maps")]
+pub mod relocates;
 pub mod times;
 
 /// What an entry replies: 256 times a value, plus document 01's number (0 for an answer).

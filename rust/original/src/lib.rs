@@ -17,6 +17,8 @@ pub mod pcp {
     include!(concat!(env!("OUT_DIR"), "/pcp.rs"));
 
     pub use mapping::MapFunction;
+
+    pub mod relocates;
 }
 
 pub mod tf;

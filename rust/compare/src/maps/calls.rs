@@ -40,7 +40,7 @@ impl MapCall {
 }
 
 /// Each question is put to both before the next, so of two refusals the smaller number is the answer.
-fn both<T, U>(one: Answer<T>, other: Answer<U>) -> Answer<(T, U)> {
+pub fn both<T, U>(one: Answer<T>, other: Answer<U>) -> Answer<(T, U)> {
     match (one, other) {
         (Ok(one), Ok(other)) => Ok((one, other)),
         (Err(one), Err(other)) => Err(one.min(other)),

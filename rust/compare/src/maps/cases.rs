@@ -8,7 +8,7 @@ use texts::damage::damaged;
 use texts::ends::{family, path_under};
 use texts::random::Random;
 
-type Pair = [Vec<u8>; 2];
+pub type Pair = [Vec<u8>; 2];
 
 /// Paths for each list.
 const PATHS: usize = 4;
@@ -43,7 +43,7 @@ fn flawed_call(comparison: &mut Comparison, random: &mut Random, pairs: &[Pair],
 }
 
 /// Fewer different ends than pairs, so that keys are often equal.
-fn pairs(random: &mut Random) -> Vec<Pair> {
+pub fn pairs(random: &mut Random) -> Vec<Pair> {
     let count = count(random);
     let size = random.within(2..=count + 3);
     let ends = family(random, size);
@@ -60,7 +60,7 @@ fn count(random: &mut Random) -> usize {
 }
 
 /// A path for one of the pairs, in either direction, one in twenty damaged.
-fn path_for(random: &mut Random, pairs: &[Pair]) -> Vec<u8> {
+pub fn path_for(random: &mut Random, pairs: &[Pair]) -> Vec<u8> {
     let any: Pair = [b"/A".to_vec(), b"/B".to_vec()];
     let [source, target] = if pairs.is_empty() { &any } else { random.pick(pairs) };
     let path = if random.one_in(2) {
@@ -72,7 +72,7 @@ fn path_for(random: &mut Random, pairs: &[Pair]) -> Vec<u8> {
 }
 
 /// The ends one after the other, or scattered over the store.
-fn lay_out(random: &mut Random, pairs: &[Pair]) -> LentList {
+pub fn lay_out(random: &mut Random, pairs: &[Pair]) -> LentList {
     let mark = random.one_in(2);
     if random.one_in(2) {
         return LentList::packed(pairs, mark);

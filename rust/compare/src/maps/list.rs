@@ -7,7 +7,7 @@ use original::pcp::MapFunction;
 use original::sdf::Path;
 use std::fmt::{self, Display};
 
-const NOT_AN_END: u8 = 3;
+pub const NOT_AN_END: u8 = 3;
 pub const TOO_MANY_PAIRS: u8 = 4;
 
 /// The most pairs that a list may have.

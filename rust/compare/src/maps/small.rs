@@ -4,9 +4,9 @@ use crate::comparison::Comparison;
 use crate::maps::list::List;
 use crate::text::Text;
 
-const ENDS: [&str; 10] = ["", "/", "/A", "/B", "/AB", "/A/A", "/A/B", "/B/A", "/A/B/C", "/A/B/C/A"];
+pub const ENDS: [&str; 10] = ["", "/", "/A", "/B", "/AB", "/A/A", "/A/B", "/B/A", "/A/B/C", "/A/B/C/A"];
 
-const FEW_ENDS: [&str; 5] = ["", "/", "/A", "/A/B", "/B"];
+pub const FEW_ENDS: [&str; 5] = ["", "/", "/A", "/A/B", "/B"];
 
 const PATHS: [&str; 44] = [
     "",
@@ -83,7 +83,7 @@ fn texts() -> Vec<Text> {
     PATHS.iter().map(|path| Text::new(path.as_bytes())).collect()
 }
 
-fn pairs(ends: &[&'static str]) -> Vec<[&'static str; 2]> {
+pub fn pairs(ends: &[&'static str]) -> Vec<[&'static str; 2]> {
     ends.iter().flat_map(|source| ends.iter().map(|target| [*source, *target])).collect()
 }
 

@@ -115,7 +115,7 @@ fn written(call: impl FnOnce(&mut [f64; 2])) -> Offset {
     *out
 }
 
-fn is_same(expected: f64, found: f64) -> bool {
+pub fn is_same(expected: f64, found: f64) -> bool {
     expected.to_bits() == found.to_bits() || expected.is_nan() && found.is_nan()
 }
 

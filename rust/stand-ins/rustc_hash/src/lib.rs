@@ -1,10 +1,15 @@
 //! A stand-in for the crate of this name, with as much of it as the original's files need: a quick hasher
 //! without a key.
 
+use std::collections::{HashMap, HashSet};
 use std::hash::{BuildHasherDefault, Hasher};
 
 /// Makes an [`FxHasher`].
 pub type FxBuildHasher = BuildHasherDefault<FxHasher>;
+
+pub type FxHashMap<K, V> = HashMap<K, V, FxBuildHasher>;
+
+pub type FxHashSet<T> = HashSet<T, FxBuildHasher>;
 
 /// Adds each word and multiplies by an odd number.
 #[derive(Default)]

@@ -1,0 +1,79 @@
+// The calls on relocate lists. A list passes as its bytes, its places and its number of pairs.
+ghost use mathlib.Core.Path.{_≡_};
+ghost use lib.ListN.{length};
+ghost use Rattle.path.specs.Outcome.{reply, memory};
+ghost use Rattle.asking.specs.Asking.{lentList};
+ghost use Rattle.relocates.specs.Search.{skipOf};
+ghost use Rattle.relocates.specs.Calls.{analyzeReply, analyzeMemory, shiftCall, chainCall, chainReply, chainMemory};
+ghost use Rattle.codes.specs.Code.{replyCode};
+ghost use Rattle.exports.specs.Made.{chainValue, chainCode};
+
+// The status of each pair, a byte each, written to out.
+#[no_mangle]
+pub extern "C" fn mudvizsor_analyze_relocate_occurrences(
+    store: &[u8],
+    places: &[usize],
+    count: usize,
+    out: &mut [u8],
+) -> usize
+    ensures { λ r. ⌜ r ≡ replyCode (analyzeReply (lentList (now (store .entry)) (now (places .entry)) count) (length (now (out .entry)))) ⌝ }
+    ensures { λ r. ⌜ now (out .exit) ≡ analyzeMemory (analyzeReply (lentList (now (store .entry)) (now (places .entry)) count) (length (now (out .entry)))) (lentList (now (store .entry)) (now (places .entry)) count) (now (out .entry)) ⌝ }
+{
+    codes::reply_code(relocates::analyze_relocate_occurrences(store, places, count, out))
+}
+
+// The length and the steps in one number.
+fn chain_value(len: usize, steps: usize) -> usize
+    ensures { λ r. ⌜ r ≡ chainValue len steps ⌝ }
+{
+    65536 * (steps % 281474976710656) + 256 * (len % 256)
+}
+
+// The reply as one number.
+fn chain_code(c: relocates::Chain) -> usize
+    ensures { λ r. ⌜ r ≡ chainCode c ⌝ }
+{
+    match c {
+        relocates::Chain::Chained(len, steps) => chain_value(len, steps),
+        relocates::Chain::Refused(x) => codes::number_of(x),
+    }
+}
+
+// The end of the path's chain of replacements, written to out. Pairs with the skipped source are left
+// aside where `skips` is set. The reply's value is 256 times the replacements made, and the length.
+#[no_mangle]
+pub extern "C" fn mudvizsor_chain_through_relocates(
+    store: &[u8],
+    places: &[usize],
+    count: usize,
+    skips: bool,
+    skipped: &[u8],
+    path: &[u8],
+    out: &mut [u8],
+) -> usize
+    ensures { λ r. ⌜ r ≡ chainCode (chainReply (chainCall (lentList (now (store .entry)) (now (places .entry)) count) (skipOf skips (now (skipped .entry))) (now (path .entry)) (length (now (out .entry))))) ⌝ }
+    ensures { λ r. ⌜ now (out .exit) ≡ chainMemory (chainCall (lentList (now (store .entry)) (now (places .entry)) count) (skipOf skips (now (skipped .entry))) (now (path .entry)) (length (now (out .entry)))) (now (out .entry)) ⌝ }
+{
+    chain_code(relocates::chain_through_relocates(store, places, count, skips, skipped, path, out))
+}
+
+// The endpoint under the nearest rename above it, or itself, written to out.
+#[no_mangle]
+pub extern "C" fn mudvizsor_shift_through_nearest_ancestor(
+    store: &[u8],
+    places: &[usize],
+    count: usize,
+    endpoint: &[u8],
+    out: &mut [u8],
+) -> usize
+    ensures { λ r. ⌜ r ≡ replyCode (reply (shiftCall (lentList (now (store .entry)) (now (places .entry)) count) (now (endpoint .entry)) (length (now (out .entry))))) ⌝ }
+    ensures { λ r. ⌜ now (out .exit) ≡ memory (shiftCall (lentList (now (store .entry)) (now (places .entry)) count) (now (endpoint .entry)) (length (now (out .entry)))) (now (out .entry)) ⌝ }
+{
+    codes::reply_code(relocates::shift_through_nearest_ancestor(
+        store,
+        places,
+        count,
+        endpoint,
+        out,
+    ))
+}

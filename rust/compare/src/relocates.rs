@@ -1,0 +1,15 @@
+//! The calls on relocate lists: all small lists, document 01's cases, and at random with flaws.
+
+mod calls;
+pub mod cases;
+mod small;
+mod table;
+
+use crate::comparison::Comparison;
+use crate::phase::phase;
+
+pub fn run(comparison: &mut Comparison) {
+    phase(comparison, "document 01's cases on relocates", table::run);
+    phase(comparison, "relocate lists of at most two pairs", small::lists_of_at_most_two);
+    phase(comparison, "relocate lists of three pairs", small::lists_of_three);
+}

@@ -1,0 +1,144 @@
+//! The calls on relocate lists: the library's entry beside the original's function, and the answer that is expected.
+
+use crate::calls::{accept, within};
+use crate::comparison::Comparison;
+use crate::lent::Lent;
+use crate::maps::calls::{ListAndText, both};
+use crate::maps::list::List;
+use crate::tally::{Call, Given};
+use crate::text::{Answer, TOO_LITTLE_MEMORY, Text};
+use library::relocates as entries;
+use original::pcp::relocates;
+use original::sdf::Path;
+use std::fmt::{self, Display};
+use texts::LONGEST;
+
+/// Bytes lent for a path.
+const ROOMS: [usize; 3] = [LONGEST - 1, LONGEST, 300];
+
+/// Where a chain ends, and how many replacements were made.
+pub type Chained = (Path, usize);
+
+pub fn statuses(list: &List) -> Answer<Vec<u8>> {
+    Ok(relocates::statuses(list.map()?.path_pairs()))
+}
+
+pub fn chain(list: &List, skipped: Option<&Text>, text: &Text) -> Answer<Chained> {
+    let skipped = skipped.map(Text::answer).transpose();
+    let (map, (skipped, path)) = both(list.map(), both(skipped, text.answer()))?;
+    chained(map.path_pairs(), skipped, path)
+}
+
+/// Document 01's chain, replacement by replacement, with questions 7 and 8 put to each.
+fn chained(pairs: &[(Path, Path)], skipped: Option<&Path>, path: &Path) -> Answer<Chained> {
+    let mut current = path.clone();
+    let mut steps = 0;
+    while steps < pairs.len() {
+        let Some(next) = next(pairs, skipped, &current) else {
+            break;
+        };
+        current = accept(Some(next))?;
+        steps += 1;
+    }
+    Ok((current, steps))
+}
+
+/// "Each takes the source longest in bytes, the last on a tie, among non-empty targets that alter the path."
+fn next(pairs: &[(Path, Path)], skipped: Option<&Path>, path: &Path) -> Option<Path> {
+    let mut longest = 0;
+    let mut best = None;
+    for (source, target) in pairs {
+        let length = source.as_str().len();
+        if target.is_empty() || skipped == Some(source) || length < longest {
+            continue;
+        }
+        if let Some(made) = path.replace_prefix(source, target).filter(|made| made != path) {
+            longest = length;
+            best = Some(made);
+        }
+    }
+    best
+}
+
+/// What chaining is given.
+pub struct Chaining<'a> {
+    pub list: &'a List,
+    pub skipped: Option<&'a Text>,
+    pub text: &'a Text,
+}
+
+impl Given for Chaining<'_> {
+    fn size(&self) -> usize {
+        let skipped = self.skipped.map_or(0, |text| text.bytes.len() + 1);
+        self.list.size() + self.text.bytes.len() + skipped
+    }
+}
+
+impl Display for Chaining<'_> {
+    fn fmt(&self, f: &mut fmt::Formatter<'_>) -> fmt::Result {
+        write!(f, "{} \"{}\"", self.list, self.text.bytes.escape_ascii())?;
+        match self.skipped {
+            Some(text) => write!(f, " skipping \"{}\"", text.bytes.escape_ascii()),
+            None => Ok(()),
+        }
+    }
+}
+
+impl Comparison {
+    /// With one byte too few, with just enough, and with more.
+    pub fn statuses(&mut self, list: &List) {
+        let full = statuses(list);
+        let full = full.as_ref().map(Vec::as_slice).map_err(|number| *number);
+        let needed = full.map_or(1, <[u8]>::len);
+        for room in [needed.saturating_sub(1), needed, needed + 3] {
+            let expected = within(room, needed, full);
+            let mut bytes = Lent::bytes(room);
+            let found = entries::analyze_relocate_occurrences(list.for_library(), bytes.lend(room));
+            let wrong = bytes.first_wrong(expected.unwrap_or_default());
+            let call = Call { name: "analyze_relocate_occurrences", given: list, room: Some(room) };
+            self.tally.compare(call, expected.map(<[u8]>::len), found, wrong);
+        }
+    }
+
+    pub fn shift(&mut self, list: &List, text: &Text) {
+        let given = &ListAndText { list, text };
+        let expected = both(list.map(), text.answer())
+            .and_then(|(map, path)| accept(Some(relocates::shifted(path, map.path_pairs()))));
+        self.path("shift_through_nearest_ancestor", given, &ROOMS, &expected, |out| {
+            entries::shift_through_nearest_ancestor(list.for_library(), &text.bytes, out)
+        });
+    }
+
+    pub fn chain(&mut self, list: &List, skipped: Option<&Text>, text: &Text) {
+        let given = &Chaining { list, skipped, text };
+        let full = chain(list, skipped, text);
+        if let Ok((end, _)) = &full {
+            let agrees = *end == original_end(list, skipped, text);
+            self.tally.fact("the chain ends where the original's does", given, agrees);
+        }
+        // What is not skipped is not looked at.
+        let lent = skipped.map_or(&b"no path"[..], |text| &text.bytes);
+        for room in ROOMS {
+            let expected = match &full {
+                Err(number) if *number < TOO_LITTLE_MEMORY => Err(*number),
+                _ if room < LONGEST => Err(TOO_LITTLE_MEMORY),
+                full => full.as_ref().map_err(|number| *number),
+            };
+            let mut bytes = Lent::bytes(room);
+            let (library, out) = (list.for_library(), bytes.lend(room));
+            let found = entries::chain_through_relocates(library, skipped.is_some(), lent, &text.bytes, out);
+            let end = expected.map_or(&[][..], |(end, _)| end.as_str().as_bytes());
+            let wrong = bytes.first_wrong(end);
+            let call = Call { name: "chain_through_relocates", given, room: Some(room) };
+            let value = expected.map(|(end, steps)| 256 * steps + end.as_str().len());
+            self.tally.compare(call, value, found, wrong);
+        }
+    }
+}
+
+/// The original's chain, of texts that passed the questions.
+fn original_end(list: &List, skipped: Option<&Text>, text: &Text) -> Path {
+    let pairs = list.map().expect("a list that passed the questions").path_pairs();
+    let path = text.path().expect("a path that passed the questions");
+    relocates::chained(path, pairs, skipped.and_then(Text::path))
+}
