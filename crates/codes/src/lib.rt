@@ -26,6 +26,7 @@ fn answer_of(n: usize) -> usize
     256 * (n % 72057594037927936)
 }
 
+// The code of the questions so far.
 pub fn asked_code(q: path::Asked) -> usize
     ensures { λ r. ⌜ r ≡ askedCode q ⌝ }
 {
@@ -35,6 +36,7 @@ pub fn asked_code(q: path::Asked) -> usize
     }
 }
 
+// The code of a yes or no.
 pub fn test_code(t: path::Test) -> usize
     ensures { λ r. ⌜ r ≡ testCode t ⌝ }
 {
@@ -49,6 +51,7 @@ pub fn test_code(t: path::Test) -> usize
     }
 }
 
+// The code of a count.
 pub fn count_code(n: path::Count) -> usize
     ensures { λ r. ⌜ r ≡ countCode n ⌝ }
 {
@@ -58,6 +61,7 @@ pub fn count_code(n: path::Count) -> usize
     }
 }
 
+// The code of what was written.
 pub fn reply_code(r: path::Reply) -> usize
     ensures { λ a. ⌜ a ≡ replyCode r ⌝ }
 {
