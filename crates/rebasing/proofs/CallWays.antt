@@ -185,7 +185,7 @@ module _ (m : Map) (t : LayerOffset) where
   no-map : (x : Refusal) → refused x ≡ map m t → ⊥
   no-map x e = let z : _≡_ {A = ℕ} 0 1 = cc in omega arith
 
-  weighed-map : (l : List Pair) (k : Map) (time : LayerOffset) (out : Text) (slots : List ℕ) → weighed l k time out slots ≡ map m t → m ≡ k
+  pub weighed-map : (l : List Pair) (k : Map) (time : LayerOffset) (out : Text) (slots : List ℕ) → weighed l k time out slots ≡ map m t → m ≡ k
   unfolding weighed roomFor
   weighed-map l k time out slots e = go (leb (length l) 64) (listRoom l out slots) e
     where
@@ -194,7 +194,7 @@ module _ (m : Map) (t : LayerOffset) where
       go true false e = absurd (no-map NoRoom e)
       go false b e = absurd (no-map TooMany e)
 
-  fromEnds-map : (l : List Pair) (mark : Bool) (time : LayerOffset) (out : Text) (slots : List ℕ) → fromEnds l mark time out slots ≡ map m t → m ≡ fromParts l mark
+  pub fromEnds-map : (l : List Pair) (mark : Bool) (time : LayerOffset) (out : Text) (slots : List ℕ) → fromEnds l mark time out slots ≡ map m t → m ≡ fromParts l mark
   unfolding fromEnds roomFor madeShort madeLegal
   fromEnds-map l mark time out slots e = go (leb (length l) 64) (listRoom l out slots) (allShort l) (everyEnd legal l) e
     where

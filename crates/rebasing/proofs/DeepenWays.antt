@@ -36,14 +36,15 @@ use Rattle.path.specs.declared.Asked.the-variants.{Passed, Refused as RefusedAs
 use Rattle.asking.specs.Asking.{Lent, lentList, every, firstNo, asked}
 use Rattle.asking.proofs.PassLaws.{Sound, first-sound, text-short}
 use Rattle.maps.specs.Map.{Map, source, target, size}
+use Rattle.maps.specs.New.{fromParts}
 use Rattle.maps.specs.Compose.{hasSource}
-use Rattle.maps.specs.Derive.{deepened}
+use Rattle.maps.specs.Derive.{deepened, deepenBy, deepenTo}
 use Rattle.map_function.specs.declared.MapFunction.{MapFunction}
-use Rattle.map_function.specs.Made.{MapOutcome, refused, asItIs, held}
+use Rattle.map_function.specs.Made.{MapOutcome, map, refused, weighed, asItIs, held}
 use Rattle.composing.specs.Calls.{lentBy}
 use Rattle.rebasing.specs.Class.{consideredAbove}
-use Rattle.rebasing.specs.Calls.{pair, replaced, fromEnds, deepenedPairs, deepeningBy, deepening, deepenToCall}
-use Rattle.rebasing.proofs.CallWays.{held-all}
+use Rattle.rebasing.specs.Calls.{pair, replaced, fromEnds, deepenedPairs, deepeningBy, deepening, DeepensTo, deepenToCall}
+use Rattle.rebasing.proofs.CallWays.{held-all, weighed-map, fromEnds-map}
 
 -- `deepen_pair`
 module _ (s t node above below : Text) (b : Bool) (h : b ≡ equal s above) where
@@ -246,3 +247,18 @@ module _ (store : Text) (places : List ℕ) (f : MapFunction) (p node : Text) (o
 pub deepen-long : (store : Text) (places : List ℕ) (f : MapFunction) (p : Text) (out : Text) (slots : List ℕ) → 255 < length p → deepenToCall store places f p out slots ≡ refused TooLong
 unfolding deepenToCall asked every fits firstNo
 deepen-long store places f p out slots h = rw (lt-leb (length p) 255 h) refl
+
+-- a map that comes out is the one that the definition gives
+by-class : (m n : Map) (node : Text) (o : Option ℕ) (time t : LayerOffset) (out : Text) (slots : List ℕ) → deepeningBy m node o time out slots ≡ map n t → n ≡ deepenBy m node o
+unfolding deepeningBy asItIs equal replacePrefix fromParts
+by-class m n node none time t out slots e = weighed-map n t (m .pairs) m time out slots e
+by-class m n node (some i) time t out slots e =
+    fromEnds-map n t (deepenedPairs node (source m i) (Option·getD (replacePrefix node (source m i) (target m i)) []) (m .pairs)) (m .mark) time out slots e
+
+pub deepens-to : DeepensTo
+unfolding deepening deepenTo asItIs
+deepens-to m n path time t out slots e = go (hasSource (m .pairs) (strip path)) e
+  where
+    go : (b : Bool) → cond b (weighed (m .pairs) m time out slots) (deepeningBy m (strip path) (bestBy (hasPrefix (strip path)) (source m) (size m)) time out slots) ≡ map n t → n ≡ cond b m (deepenBy m (strip path) (bestBy (hasPrefix (strip path)) (source m) (size m)))
+    go true e = weighed-map n t (m .pairs) m time out slots e
+    go false e = by-class m n (strip path) (bestBy (hasPrefix (strip path)) (source m) (size m)) time t out slots e

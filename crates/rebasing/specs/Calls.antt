@@ -82,6 +82,10 @@ deepening m node time out slots =
     cond (hasSource (m .pairs) node) (asItIs (m .pairs) (m .mark) time out slots)
     (deepeningBy m node (bestBy (hasPrefix node) (source m) (size m)) time out slots)
 
+-- a map that comes out is the deepened one (proved in proofs/DeepenWays.antt)
+abbrev pub DeepensTo : Type 0
+DeepensTo = (m n : Map) (path : Text) (time t : LayerOffset) (out : Text) (slots : List ℕ) → deepening m (strip path) time out slots ≡ map n t → n ≡ deepenTo m path
+
 -- Rust: deepen_to, which keeps the map's time offset. "`deepen_to`'s node after stripping" counts as an end.
 unfoldable pub deepenToCall : Text → List ℕ → MapFunction → Text → Text → List ℕ → MapOutcome
 unfolding asked deepening strip
