@@ -17,7 +17,7 @@ use Rattle.composing.specs.Scratch.{plain, needed, carriedTo, modest, Ho
 use Rattle.composing.proofs.ScratchLaws.{holds-none, holds-list, holds-more}
 use Rattle.composing.proofs.LengthLaws.{modest-keys, plain-length, carried-length}
 
-map-snoc : (f : Pair → Pair) (l : List Pair) (x : Pair) → map f (l ++ x ∷ []) ≡ map f l ++ f x ∷ []
+pub map-snoc : (f : Pair → Pair) (l : List Pair) (x : Pair) → map f (l ++ x ∷ []) ≡ map f l ++ f x ∷ []
 map-snoc f [] x = refl
 map-snoc f (y ∷ l) x = ap (λ (k : List Pair). f y ∷ k) (map-snoc f l x)
 

@@ -113,7 +113,7 @@ pub answering-map : (o m : MapOutcome) → o ≡ m → (r : MapReply) (out out�
     → (r ≡ mapReply m) × ((out′ ≡ mapBytes m out) × (slots′ ≡ mapSlots m slots)) → (r ≡ mapReply o) × ((out′ ≡ mapBytes o out) × (slots′ ≡ mapSlots o slots))
 answering-map o m e r out out′ slots slots′ w = rw e w
 
-held-all : (store : Text) (places : List ℕ) (n : ℕ) (o : MapOutcome) → n ≤ length places / 4 → held (lentList store places n) o ≡ o
+pub held-all : (store : Text) (places : List ℕ) (n : ℕ) (o : MapOutcome) → n ≤ length places / 4 → held (lentList store places n) o ≡ o
 unfolding held
 held-all store places n o h = rw (le-leb n (length places / 4) h)
 
@@ -226,7 +226,7 @@ module _ (store : Text) (places : List ℕ) (outer : MapFunction) (istore : Text
 
 -- a map that comes out of dropping is the one that dropping gives ..
 module _ (m : Map) (t : LayerOffset) where
-  no-map : (x : Refusal) → refused x ≡ map m t → ⊥
+  pub no-map : (x : Refusal) → refused x ≡ map m t → ⊥
   no-map x e = let z : _≡_ {A = ℕ} 0 1 = cc in omega arith
 
   asItIs-map : (l : List Pair) (mark : Bool) (time : LayerOffset) (out : Text) (slots : List ℕ) → asItIs l mark time out slots ≡ map m t → m ≡ record { pairs = l; mark = mark }

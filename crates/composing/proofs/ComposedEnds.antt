@@ -22,6 +22,7 @@ use Rattle.maps.specs.Map.{Map, source, target, size, by, chosenOut, chosenHome
 use Rattle.maps.specs.Compose.{carried, hasSource, added, pulled, composedPairs}
 use Rattle.maps.proofs.EndLaws.{ends-source, ends-target}
 use Rattle.composing.specs.Calls.{ComposedEnds}
+use Rattle.composing.proofs.EveryLaws.{composed-every}
 
 -- a byte that is no slash and stands in neither text does not stand in their join
 slash-lacks : (b : ℕ) → eqb 47 b ≡ false → (c : Bool) → lacks b (slashUnless c) ≡ true
@@ -106,58 +107,11 @@ home-end : (m : Map) → allEnds (m .pairs) ≡ true → (p q : Text) → isEnd 
 unfolding plainHome chosenHome
 home-end m em p q ep e = by-end m (target m) (source m) p q (size m) (chosenHome m p) refl (ends-target (m .pairs) em) (ends-source (m .pairs) em) ep e
 
--- the first half
 no-end : isEnd [] ≡ true
 unfolding isEnd
 no-end = refl
 
-carried-end : (m : Map) → allEnds (m .pairs) ≡ true → (x : Pair) → isEnd (x .target) ≡ true → isEnd ((carried m x) .target) ≡ true
-unfolding carried
-carried-end m em x e = go (isNil (x .target))
-  where
-    some-end : (o : Option Text) → ((q : Text) → o ≡ some q → isEnd q ≡ true) → isEnd (Option·getD o []) ≡ true
-    some-end none f = no-end
-    some-end (some q) f = f q refl
-
-    go : (b : Bool) → isEnd (cond b [] (Option·getD (plainOut m (x .target)) [])) ≡ true
-    go true = no-end
-    go false = some-end (plainOut m (x .target)) (λ q. out-end m em (x .target) q e)
-
-first-half : (m : Map) → allEnds (m .pairs) ≡ true → (l : List Pair) → allEnds l ≡ true → allEnds (map (carried m) l) ≡ true
-unfolding allEnds carried
-first-half m em [] e = refl
-first-half m em (x ∷ l) e =
-    let s : isEnd (x .source) ≡ true = search (and-l, and-r) in
-    let t : isEnd (x .target) ≡ true = search (and-l, and-r) in
-    rw (s, carried-end m em x t) (first-half m em l (search (and-l, and-r)))
-
--- the second
-one-more : (l : List Pair) (s t : Text) → allEnds l ≡ true → isEnd s ≡ true → isEnd t ≡ true → allEnds (l ++ record { source = s; target = t } ∷ []) ≡ true
-unfolding allEnds
-one-more [] s t e h k = rw (h, k)
-one-more (y ∷ l) s t e h k =
-    let a : isEnd (y .source) ≡ true = search (and-l, and-r) in
-    let b : isEnd (y .target) ≡ true = search (and-l, and-r) in
-    rw (a, b) (one-more l s t (search (and-l, and-r)) h k)
-
-added-ends : (l : List Pair) (t : Text) (o : Option Text) → allEnds l ≡ true → isEnd t ≡ true → ((q : Text) → o ≡ some q → isEnd q ≡ true) → allEnds (added l t o) ≡ true
-unfolding added
-added-ends l t none e h f = e
-added-ends l t (some s) e h f = go (hasSource l s)
-  where
-    go : (b : Bool) → allEnds (cond b l (l ++ record { source = s; target = t } ∷ [])) ≡ true
-    go true = e
-    go false = one-more l s t e (f s refl) h
-
-pulled-ends : (m : Map) → allEnds (m .pairs) ≡ true → (l xs : List Pair) → allEnds l ≡ true → allEnds xs ≡ true → allEnds (pulled m l xs) ≡ true
-unfolding pulled allEnds
-pulled-ends m em l [] e f = e
-pulled-ends m em l (x ∷ xs) e f =
-    let s : isEnd (x .source) ≡ true = search (and-l, and-r) in
-    let t : isEnd (x .target) ≡ true = search (and-l, and-r) in
-    pulled-ends m em (added l (x .target) (plainHome m (x .source))) xs
-    (added-ends l (x .target) (plainHome m (x .source)) e t (λ q. home-end m em (x .source) q s)) (search (and-l, and-r))
-
 pub composed-ends : ComposedEnds
-unfolding composedPairs
-composed-ends outer inner eo ei = pulled-ends inner ei (map (carried outer) (inner .pairs)) (outer .pairs) (first-half outer eo (inner .pairs) ei) eo
+unfolding allEnds
+composed-ends outer inner eo ei =
+    composed-every isEnd isEnd (λ t e. e) no-end outer inner (λ t q e. out-end outer eo t q e) (λ s q e. home-end inner ei s q e) eo ei

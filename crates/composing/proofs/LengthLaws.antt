@@ -3,7 +3,8 @@ use mathlib.Core.Path.{_≡_, refl, sym, ap, _∙_}
 use mathlib.Core.Bool.{Bool, true, false, cond, _&&_}
 use mathlib.Core.List.{List, [], _∷_, _++_}
 use mathlib.Core.Option.{Option, none, some, Option·getD}
-use Prim.Native.Nat.{ℕ, zero, suc, _+_, _≤_, _<_}
+use Prim.Native.Nat.{ℕ, zero, suc, _+_, _*_, _≤_, _<_}
+use lib.Dec.{leb}
 use native.Mathlib.Omega.{arith}
 use lib.ListN.{length, length-append}
 use borrow.Author.Tests.{leb-true, le-leb}
@@ -15,23 +16,29 @@ use Rattle.prefix.specs.Prefix.{follows}
 use Rattle.prefix.specs.Join.{joined, joinedSome, replacePrefix}
 use Rattle.prefix.proofs.JoinWays.{joined-length, separator-short, body-short}
 use Rattle.pairs.specs.Pair.{Pair, sourceAt, targetAt, everyEnd, allShort}
-use Rattle.pairs.specs.Places.{keyAt, pairsIn}
+use Rattle.pairs.specs.Places.{keyAt, pairsIn, endBytes}
 use Rattle.pairs.proofs.PlaceLaws.{pairsIn-source, pairsIn-target}
+use Rattle.maps.specs.Compose.{composedPairs}
 use Rattle.maps.specs.Map.{Map, source, target, by, chosenOut, chosenHome, plainOut, plainHome}
 use Rattle.composing.specs.Scratch.{plain, needed, carriedTo, modest}
+use Rattle.composing.proofs.EveryLaws.{composed-every}
 
-modest-ends : (l : List Pair) → everyEnd modest l ≡ true → (i : ℕ) → (length (sourceAt l i) ≤ 511) × (length (targetAt l i) ≤ 511)
+-- a text of at most k bytes
+abbrev pub within : ℕ → Text → Bool
+within k t = leb (length t) k
+
+within-ends : (k : ℕ) (l : List Pair) → everyEnd (within k) l ≡ true → (i : ℕ) → (length (sourceAt l i) ≤ k) × (length (targetAt l i) ≤ k)
 unfolding everyEnd
-modest-ends [] e i = (omega arith, omega arith)
-modest-ends (x ∷ l) e zero =
-    let a : (modest (x .source) && modest (x .target)) ≡ true = and-l (modest (x .source) && modest (x .target)) (everyEnd modest l) e in
-    (leb-true (length (x .source)) 511 (and-l (modest (x .source)) (modest (x .target)) a), leb-true (length (x .target)) 511 (and-r (modest (x .source)) (modest (x .target)) a))
-modest-ends (x ∷ l) e (suc i) = modest-ends l (and-r (modest (x .source) && modest (x .target)) (everyEnd modest l) e) i
+within-ends k [] e i = (omega arith, omega arith)
+within-ends k (x ∷ l) e zero =
+    let a : (within k (x .source) && within k (x .target)) ≡ true = and-l (within k (x .source) && within k (x .target)) (everyEnd (within k) l) e in
+    (leb-true (length (x .source)) k (and-l (within k (x .source)) (within k (x .target)) a), leb-true (length (x .target)) k (and-r (within k (x .source)) (within k (x .target)) a))
+within-ends k (x ∷ l) e (suc i) = within-ends k l (and-r (within k (x .source) && within k (x .target)) (everyEnd (within k) l) e) i
 
 pub modest-keys : (store : Text) (places : List ℕ) (n i : ℕ) → everyEnd modest (pairsIn store places n) ≡ true → i < n
     → (length (keyAt store places false i) ≤ 511) × (length (keyAt store places true i) ≤ 511)
 modest-keys store places n i e h =
-    let z = modest-ends (pairsIn store places n) e i in
+    let z = within-ends 511 (pairsIn store places n) e i in
     (omega (arith, z .0, ap length (pairsIn-source store places n i h)), omega (arith, z .1, ap length (pairsIn-target store places n i h)))
 
 replace-length : (p s t : Text) → needed (replacePrefix p s t) ≤ length t + 1 + length p
@@ -49,22 +56,25 @@ replace-length p s t = go (after s p) refl
     go none e = rw e (omega arith)
     go (some r) e = rw e (some-is r (follows s r) (after-up s p r e))
 
-by-length : (m : Map) (a b : ℕ → Text) (p : Text) (o : Option ℕ) → ((i : ℕ) → length (b i) ≤ 511) → length p ≤ 511 → needed (by m a b p o) ≤ 1023
-by-length m a b p none h l = go (m .mark)
+by-length : (k : ℕ) (m : Map) (a b : ℕ → Text) (p : Text) (o : Option ℕ) → ((i : ℕ) → length (b i) ≤ k) → length p ≤ k → needed (by m a b p o) ≤ 2 * k + 1
+by-length k m a b p none h l = go (m .mark)
   where
-    go : (c : Bool) → needed (cond c (some p) none) ≤ 1023
+    go : (c : Bool) → needed (cond c (some p) none) ≤ 2 * k + 1
     go true = omega arith
     go false = omega arith
-by-length m a b p (some i) h l = go (isNil (target m i))
+by-length k m a b p (some i) h l = go (isNil (target m i))
   where
-    go : (c : Bool) → needed (cond c none (replacePrefix p (a i) (b i))) ≤ 1023
+    go : (c : Bool) → needed (cond c none (replacePrefix p (a i) (b i))) ≤ 2 * k + 1
     go true = omega arith
     go false = omega (arith, replace-length p (a i) (b i), h i)
 
-pub plain-length : (invert : Bool) (m : Map) (p : Text) → everyEnd modest (m .pairs) ≡ true → length p ≤ 511 → needed (plain invert m p) ≤ 1023
+pub plain-within : (k : ℕ) (invert : Bool) (m : Map) (p : Text) → everyEnd (within k) (m .pairs) ≡ true → length p ≤ k → needed (plain invert m p) ≤ 2 * k + 1
 unfolding plain plainOut plainHome
-plain-length false m p e l = by-length m (source m) (target m) p (chosenOut m p) (λ i. modest-ends (m .pairs) e i .1) l
-plain-length true m p e l = by-length m (target m) (source m) p (chosenHome m p) (λ i. modest-ends (m .pairs) e i .0) l
+plain-within k false m p e l = by-length k m (source m) (target m) p (chosenOut m p) (λ i. within-ends k (m .pairs) e i .1) l
+plain-within k true m p e l = by-length k m (target m) (source m) p (chosenHome m p) (λ i. within-ends k (m .pairs) e i .0) l
+
+pub plain-length : (invert : Bool) (m : Map) (p : Text) → everyEnd modest (m .pairs) ≡ true → length p ≤ 511 → needed (plain invert m p) ≤ 1023
+plain-length invert m p e l = plain-within 511 invert m p e l
 
 pub carried-length : (m : Map) (t : Text) → everyEnd modest (m .pairs) ≡ true → length t ≤ 511 → length (carriedTo m t) ≤ 1023
 unfolding carriedTo plain
@@ -79,7 +89,7 @@ carried-length m t e l = go (isNil t)
     go false = some-is (plainOut m t) (plain-length false m t e l)
 
 -- short ends are modest
-fits-modest : (t : Text) → fits t ≡ true → modest t ≡ true
+pub fits-modest : (t : Text) → fits t ≡ true → modest t ≡ true
 unfolding fits
 fits-modest t e = le-leb (length t) 511 (omega (arith, leb-true (length t) 255 e))
 
@@ -90,3 +100,27 @@ short-modest (x ∷ l) e =
     let a : (fits (x .source) && fits (x .target)) ≡ true = and-l (fits (x .source) && fits (x .target)) (allShort l) e in
     rw (fits-modest (x .source) (and-l (fits (x .source)) (fits (x .target)) a), fits-modest (x .target) (and-r (fits (x .source)) (fits (x .target)) a))
     (short-modest l (and-r (fits (x .source) && fits (x .target)) (allShort l) e))
+
+-- so a list composed of short ends is modest ..
+short-needed : (q : Text) (o : Option Text) → o ≡ some q → needed o ≤ 511 → modest q ≡ true
+short-needed q o e h = le-leb (length q) 511 (rw e at h)
+
+pub composed-modest : (outer inner : Map) → allShort (outer .pairs) ≡ true → allShort (inner .pairs) ≡ true → everyEnd modest (composedPairs outer inner) ≡ true
+unfolding allShort fits plain
+composed-modest outer inner eo ei =
+    composed-every fits modest fits-modest refl outer inner
+    (λ t q h e. short-needed q (plainOut outer t) e (plain-within 255 false outer t eo (leb-true (length t) 255 h)))
+    (λ s q h e. short-needed q (plainHome inner s) e (plain-within 255 true inner s ei (leb-true (length s) 255 h))) eo ei
+
+-- .. and a modest list has so many bytes
+pub modest-bytes : (l : List Pair) → everyEnd modest l ≡ true → endBytes l ≤ 1022 * length l
+unfolding everyEnd endBytes
+modest-bytes [] e = omega arith
+modest-bytes (x ∷ l) e =
+    let a : (modest (x .source) && modest (x .target)) ≡ true = and-l (modest (x .source) && modest (x .target)) (everyEnd modest l) e in
+    omega (
+      arith,
+      leb-true (length (x .source)) 511 (and-l (modest (x .source)) (modest (x .target)) a),
+      leb-true (length (x .target)) 511 (and-r (modest (x .source)) (modest (x .target)) a),
+      modest-bytes l (and-r (modest (x .source) && modest (x .target)) (everyEnd modest l) e),
+    )

@@ -1,5 +1,7 @@
 // Two maps as one. The composed list is built in memory of the call's own: source then target, pair
 // after pair.
+pub mod implied;
+
 ghost use mathlib.Core.Path.{_≡_};
 ghost use mathlib.Core.Bool.{Bool, true, false};
 ghost use mathlib.Core.List.{[], _∷_, _++_, map as mapped};

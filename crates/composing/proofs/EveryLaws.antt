@@ -1,0 +1,81 @@
+-- What every end of a composed list is, from what plain mapping makes of each end. Assumes nothing.
+use mathlib.Core.Path.{_≡_, refl}
+use mathlib.Core.Bool.{Bool, true, false, cond, _&&_}
+use mathlib.Core.List.{List, [], _∷_, _++_, map}
+use mathlib.Core.Option.{Option, none, some, Option·getD}
+use Rattle.text.specs.Text.{Text, isNil}
+use Rattle.text.proofs.BoolLaws.{and-l, and-r}
+use Rattle.pairs.specs.Pair.{Pair, everyEnd}
+use Rattle.maps.specs.Map.{Map, plainOut, plainHome}
+use Rattle.maps.specs.Compose.{carried, hasSource, added, pulled, composedPairs}
+use Rattle.maps.proofs.EndLaws.{all, fromParts-keeps}
+use Rattle.maps.specs.New.{fromParts}
+
+-- the ends that composing starts from are `ok`; what comes out `passes`
+module _ (ok passes : Text → Bool) (weaker : (t : Text) → ok t ≡ true → passes t ≡ true) (nil : passes [] ≡ true) where
+  abbrev Makes : (Text → Option Text) → Type 0
+  Makes f = (t q : Text) → ok t ≡ true → f t ≡ some q → passes q ≡ true
+
+  -- the first half
+  carried-passes : (m : Map) → Makes (plainOut m) → (x : Pair) → ok (x .target) ≡ true → passes ((carried m x) .target) ≡ true
+  unfolding carried
+  carried-passes m f x e = go (isNil (x .target))
+    where
+      some-passes : (o : Option Text) → ((q : Text) → o ≡ some q → passes q ≡ true) → passes (Option·getD o []) ≡ true
+      some-passes none g = nil
+      some-passes (some q) g = g q refl
+
+      go : (b : Bool) → passes (cond b [] (Option·getD (plainOut m (x .target)) [])) ≡ true
+      go true = nil
+      go false = some-passes (plainOut m (x .target)) (λ q. f (x .target) q e)
+
+  first-half : (m : Map) → Makes (plainOut m) → (l : List Pair) → everyEnd ok l ≡ true → everyEnd passes (map (carried m) l) ≡ true
+  unfolding everyEnd carried
+  first-half m f [] e = refl
+  first-half m f (x ∷ l) e =
+      let s : ok (x .source) ≡ true = search (and-l, and-r) in
+      let t : ok (x .target) ≡ true = search (and-l, and-r) in
+      rw (weaker (x .source) s, carried-passes m f x t) (first-half m f l (search (and-l, and-r)))
+
+  -- the second
+  one-more : (l : List Pair) (s t : Text) → everyEnd passes l ≡ true → passes s ≡ true → passes t ≡ true → everyEnd passes (l ++ record { source = s; target = t } ∷ []) ≡ true
+  unfolding everyEnd
+  one-more [] s t e h k = rw (h, k)
+  one-more (y ∷ l) s t e h k =
+      let a : passes (y .source) ≡ true = search (and-l, and-r) in
+      let b : passes (y .target) ≡ true = search (and-l, and-r) in
+      rw (a, b) (one-more l s t (search (and-l, and-r)) h k)
+
+  added-passes : (l : List Pair) (t : Text) (o : Option Text) → everyEnd passes l ≡ true → passes t ≡ true → ((q : Text) → o ≡ some q → passes q ≡ true)
+      → everyEnd passes (added l t o) ≡ true
+  unfolding added
+  added-passes l t none e h f = e
+  added-passes l t (some s) e h f = go (hasSource l s)
+    where
+      go : (b : Bool) → everyEnd passes (cond b l (l ++ record { source = s; target = t } ∷ [])) ≡ true
+      go true = e
+      go false = one-more l s t e (f s refl) h
+
+  pulled-passes : (m : Map) → Makes (plainHome m) → (l xs : List Pair) → everyEnd passes l ≡ true → everyEnd ok xs ≡ true → everyEnd passes (pulled m l xs) ≡ true
+  unfolding pulled everyEnd
+  pulled-passes m f l [] e h = e
+  pulled-passes m f l (x ∷ xs) e h =
+      let s : ok (x .source) ≡ true = search (and-l, and-r) in
+      let t : ok (x .target) ≡ true = search (and-l, and-r) in
+      pulled-passes m f (added l (x .target) (plainHome m (x .source))) xs
+      (added-passes l (x .target) (plainHome m (x .source)) e (weaker (x .target) t) (λ q. f (x .source) q s)) (search (and-l, and-r))
+
+  pub composed-every : (outer inner : Map) → Makes (plainOut outer) → Makes (plainHome inner) → everyEnd ok (outer .pairs) ≡ true → everyEnd ok (inner .pairs) ≡ true
+      → everyEnd passes (composedPairs outer inner) ≡ true
+  unfolding composedPairs
+  composed-every outer inner f g eo ei = pulled-passes inner g (map (carried outer) (inner .pairs)) (outer .pairs) (first-half outer f (inner .pairs) ei) eo
+
+-- dropping leaves no other ends
+every-all : (passes : Text → Bool) (l : List Pair) → everyEnd passes l ≡ all (λ (x : Pair). passes (x .source) && passes (x .target)) l
+unfolding everyEnd all
+every-all passes [] = refl
+every-all passes (x ∷ l) = rw (every-all passes l) refl
+
+pub dropped-every : (passes : Text → Bool) (l : List Pair) (mark : Bool) → everyEnd passes l ≡ true → everyEnd passes ((fromParts l mark) .pairs) ≡ true
+dropped-every passes l mark e =
+    rw (every-all passes ((fromParts l mark) .pairs)) (fromParts-keeps (λ (x : Pair). passes (x .source) && passes (x .target)) l mark (rw (every-all passes l) at e))

@@ -1,0 +1,41 @@
+use Rattle.pairs.specs.Places.{pairsIn}
+use Rattle.pairs.proofs.PlaceLaws.{pairsIn-length}
+use Rattle.composing.proofs.ImpliedWays.{place-slots, place-first, place-second, place-rest}
+use borrow.Author.Needs.{needs}
+use Rattle.composing.proofs.implied.has_place.Statement.{statement}
+use Rattle.composing.proofs.implied.has_place.Tie as tie
+use Rattle.composing.proofs.implied.has_place.Reads as reads
+use Rattle.composing.proofs.implied.has_place.Lts as lts
+use Rattle.pairs.proofs.has_room.Reads as has-room-reads
+
+-- src/implied.rt:191:25
+add-if1 : tie.Need-add-if1
+add-if1 c = search needs
+
+-- src/implied.rt:191:20
+add-if1-2 : tie.Need-add-if1-2
+add-if1-2 c = search needs
+
+-- src/implied.rt:192:9
+returns : tie.Need-returns
+returns c = place-slots (pairsIn (c .before .before .before .before .before .args .store .now) (c .before .before .before .before .before .args .places .now) (c .before .before .before .before .before .args .n)) (c .before .before .before .before .before .args .n) (c .before .before .before .before .before .args .b .n) (c .before .before .before .before .before .args .d .n) (c .before .before .before .before .before .args .b .at) (c .before .before .before .before .before .args .d .at) (c .before .before .before .before .before .args .room) (c .before .before .before .before .before .args .slots) (pairsIn-length (c .before .before .before .before .before .args .store .now) (c .before .before .before .before .before .args .places .now) (c .before .before .before .before .before .args .n)) (c .if1 .taken)
+
+-- src/implied.rt:195:9
+returns-2 : tie.Need-returns-2
+returns-2 c = place-first (pairsIn (c .before .before .before .before .before .before .before .args .store .now) (c .before .before .before .before .before .before .before .args .places .now) (c .before .before .before .before .before .before .before .args .n)) (c .before .before .before .before .before .before .before .args .n) (c .before .before .before .before .before .before .before .args .b .n) (c .before .before .before .before .before .before .before .args .d .n) (c .before .before .before .before .before .before .before .args .b .at) (c .before .before .before .before .before .before .before .args .d .at) (c .before .before .before .before .before .before .before .args .room) (c .before .before .before .before .before .before .before .args .slots) (pairsIn-length (c .before .before .before .before .before .before .before .args .store .now) (c .before .before .before .before .before .before .before .args .places .now) (c .before .before .before .before .before .before .before .args .n)) (c .if2 .taken)
+
+-- src/implied.rt:199:9
+returns-3 : tie.Need-returns-3
+returns-3 c = place-second (pairsIn (c .before .before .before .before .before .before .before .before .before .before .args .store .now) (c .before .before .before .before .before .before .before .before .before .before .args .places .now) (c .before .before .before .before .before .before .before .before .before .before .args .n)) (c .before .before .before .before .before .before .before .before .before .before .args .n) (c .before .before .before .before .before .before .before .before .before .before .args .b .n) (c .before .before .before .before .before .before .before .before .before .before .args .d .n) (c .before .before .before .before .before .before .before .before .before .before .args .b .at) (c .before .before .before .before .before .before .before .before .before .before .args .d .at) (c .before .before .before .before .before .before .before .before .before .before .args .room) (c .before .before .before .before .before .before .before .before .before .before .args .slots) (pairsIn-length (c .before .before .before .before .before .before .before .before .before .before .args .store .now) (c .before .before .before .before .before .before .before .before .before .before .args .places .now) (c .before .before .before .before .before .before .before .before .before .before .args .n)) (c .before .before .before .if2 .left) (c .if3 .taken)
+
+-- src/implied.rt:201:5
+has-room-requires : tie.Need-has-room-requires
+has-room-requires c κs = search needs
+
+-- src/implied.rt:179:1
+returns-4 : tie.Need-returns-4
+returns-4 c = place-rest (pairsIn (c .before .before .before .before .before .before .before .before .before .before .before .before .args .store .now) (c .before .before .before .before .before .before .before .before .before .before .before .before .args .places .now) (c .before .before .before .before .before .before .before .before .before .before .before .before .args .n)) (c .before .before .before .before .before .before .before .before .before .before .before .before .args .n) (c .before .before .before .before .before .before .before .before .before .before .before .before .args .b .n) (c .before .before .before .before .before .before .before .before .before .before .before .before .args .d .n) (c .before .before .before .before .before .before .before .before .before .before .before .before .args .b .at) (c .before .before .before .before .before .before .before .before .before .before .before .before .args .d .at) (c .before .before .before .before .before .before .before .before .before .before .before .before .args .room) (c .before .before .before .before .before .before .before .before .before .before .before .before .args .slots) (pairsIn-length (c .before .before .before .before .before .before .before .before .before .before .before .before .args .store .now) (c .before .before .before .before .before .before .before .before .before .before .before .before .args .places .now) (c .before .before .before .before .before .before .before .before .before .before .before .before .args .n)) (c .before .before .before .before .before .before .before .if1 .left) (c .before .before .before .before .before .if2 .left) (c .before .before .if3 .left) _ (c .has-room .ensures)
+
+pub has-place-spec : {M : Type 1} → statement M
+has-place-spec =
+    tie.close (tie.spec add-if1 add-if1-2 returns returns-2 returns-3 has-room-requires returns-4)

@@ -1,0 +1,67 @@
+use lib.Ieee.{ofBits}
+use Rattle.composing.proofs.ImpliedWays.{settled-whole, settled-parts, settle-done}
+use borrow.Author.Needs.{needs}
+use Rattle.composing.proofs.implied.settle.Statement.{statement}
+use Rattle.composing.proofs.implied.settle.Tie as tie
+use Rattle.composing.proofs.implied.settle.Reads as reads
+use Rattle.composing.proofs.implied.settle.Lts as lts
+use Rattle.composing.proofs.implied.made_of.Reads as made-of-reads
+use Rattle.map_function.proofs.as_it_is.Reads as as-it-is-reads
+use Rattle.map_function.proofs.from_parts.Reads as from-parts-reads
+
+-- src/implied.rt:68:24
+as-it-is-requires : tie.Need-as-it-is-requires
+as-it-is-requires c κs = search needs
+
+-- src/implied.rt:68:9
+made-of-requires : tie.Need-made-of-requires
+made-of-requires c κs = search needs
+
+-- src/implied.rt:68:9
+same-length : tie.Need-same-length
+same-length c = search needs
+
+-- src/implied.rt:68:9
+same-length-2 : tie.Need-same-length-2
+same-length-2 c = search needs
+
+-- src/implied.rt:68:9
+returns : tie.Need-returns
+unfolding ofBits
+returns c = settle-done _ _ (settled-whole (c .before .before .before .before .before .before .before .before .before .before .before .before .before .args .store .now) (c .before .before .before .before .before .before .before .before .before .before .before .before .before .args .places .now) (c .before .before .before .before .before .before .before .before .before .before .before .before .before .args .n) (c .before .before .before .before .before .before .before .before .before .before .before .before .before .args .mark) (c .before .before .before .before .before .before .before .before .before .before .before .before .before .args .out .now) (c .before .before .before .before .before .before .before .before .before .before .before .before .before .args .slots .now) (c .before .before .before .before .before .before .before .before .before .before .before .before .before .pre .0 .0) (c .before .before .before .before .before .before .before .before .before .before .before .before .before .pre .0 .1) (c .before .before .before .before .before .before .before .before .before .before .before .before .before .pre .1) (c .before .before .before .before .before .before .before .before .before .before .before .before .before .args .whole) (c .before .before .before .before .before .before .before .before .if1 .taken)) _ _ _ _ _ _ (c .before .before .before .before .before .as-it-is .ensures) (c .made-of .ensures)
+
+-- src/implied.rt:70:13
+from-parts-requires : tie.Need-from-parts-requires
+from-parts-requires c κs = search needs
+
+-- src/implied.rt:70:5
+made-of-requires-2 : tie.Need-made-of-requires-2
+made-of-requires-2 c κs = search needs
+
+-- src/implied.rt:51:1
+same-length-3 : tie.Need-same-length-3
+same-length-3 c = search needs
+
+-- src/implied.rt:51:1
+same-length-4 : tie.Need-same-length-4
+same-length-4 c = search needs
+
+-- src/implied.rt:51:1
+returns-2 : tie.Need-returns-2
+unfolding ofBits
+returns-2 c = settle-done _ _ (settled-parts (c .before .before .before .before .before .before .before .before .before .before .before .before .before .args .store .now) (c .before .before .before .before .before .before .before .before .before .before .before .before .before .args .places .now) (c .before .before .before .before .before .before .before .before .before .before .before .before .before .args .n) (c .before .before .before .before .before .before .before .before .before .before .before .before .before .args .mark) (c .before .before .before .before .before .before .before .before .before .before .before .before .before .args .out .now) (c .before .before .before .before .before .before .before .before .before .before .before .before .before .args .slots .now) (c .before .before .before .before .before .before .before .before .before .before .before .before .before .pre .0 .0) (c .before .before .before .before .before .before .before .before .before .before .before .before .before .pre .0 .1) (c .before .before .before .before .before .before .before .before .before .before .before .before .before .pre .1) (c .before .before .before .before .before .before .before .before .before .before .before .before .before .args .whole) (c .before .before .before .before .before .before .before .before .if1 .left)) _ _ _ _ _ _ (c .before .before .before .before .before .from-parts .ensures) (c .made-of2 .ensures)
+
+pub settle-spec : {M : Type 1} → statement M
+settle-spec =
+    tie.close
+    (tie.spec
+    as-it-is-requires
+    made-of-requires
+    same-length
+    same-length-2
+    returns
+    from-parts-requires
+    made-of-requires-2
+    same-length-3
+    same-length-4
+    returns-2)

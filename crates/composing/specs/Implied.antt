@@ -1,0 +1,110 @@
+-- `implied_class` as a call: three maps are made, each from the one before, and the questions are put to the lists of all three.
+use mathlib.Core.Path.{_≡_}
+use mathlib.Core.Bool.{Bool, true, cond, _&&_, _||_}
+use mathlib.Core.List.{List, [], _∷_, _++_, map as mapped}
+use Prim.Native.Nat.{ℕ, _+_, _/_}
+use lib.Dec.{leb}
+use lib.ListN.{length}
+use Rattle.text.specs.Text.{Text}
+use Rattle.layer_offset.specs.declared.LayerOffset.{LayerOffset}
+use Rattle.layer_offset.specs.Offset.{identity}
+use Rattle.pairs.specs.Pair.{Pair, allShort}
+use Rattle.pairs.specs.Places.{pairsIn, endBytes}
+use Rattle.path.specs.Refusal.{unless}
+use Rattle.path.specs.declared.Refusal.the-variants.{TooMany, NoRoom, MadeTooLong}
+use Rattle.asking.specs.Asking.{lentList, asked}
+use Rattle.maps.specs.Map.{Map, size}
+use Rattle.maps.specs.New.{fromParts, null}
+use Rattle.maps.specs.Compose.{isPathIdentity, composedPairs, compose}
+use Rattle.maps.specs.Derive.{exchanged, inverse, withRootIdentity, impliedClass}
+use Rattle.map_function.specs.declared.MapFunction.{MapFunction}
+use Rattle.map_function.specs.declared.MapReply.{MapReply}
+use Rattle.map_function.specs.declared.MapReply.the-variants.{Made, Refused}
+use Rattle.map_function.specs.Read.{isIdentityMap, isPathIdentity as leavesPaths}
+use Rattle.map_function.specs.Made.{MapOutcome, map, refused, numbersOf, roomFor, asItIs}
+use Rattle.composing.specs.Calls.{composedTime, madeShort, lentBy}
+
+-- the list that dropping starts from: in `inverse` the pairs with their ends exchanged, ..
+abbrev pub exchangedPairs : List Pair → List Pair
+exchangedPairs l = mapped (λ (x : Pair). exchanged x) l
+
+-- .. in `compose` the composed pairs; "where that isn't run, the list read or answered"
+unfoldable pub composedFrom : Map → Map → List Pair
+unfolding composedPairs
+composedFrom outer inner = cond (isPathIdentity outer) (inner .pairs) (cond (isPathIdentity inner) (outer .pairs) (composedPairs outer inner))
+
+-- so the three lists are those of the inverse, of the class after it, and of the transfer after that
+abbrev pub inverseList : Map → List Pair
+inverseList transfer = exchangedPairs (transfer .pairs)
+
+unfoldable pub classList : Map → Map → List Pair
+unfolding composedFrom inverse
+classList transfer class = composedFrom class (inverse transfer)
+
+unfoldable pub impliedList : Map → Map → List Pair
+unfolding composedFrom compose inverse
+impliedList transfer class = composedFrom transfer (compose class (inverse transfer))
+
+-- question 4: each "at most 64 pairs"
+unfoldable pub allFew : Map → Map → Bool
+unfolding classList impliedList
+allFew transfer class = leb (length (inverseList transfer)) 64 && (leb (length (classList transfer class)) 64 && leb (length (impliedList transfer class)) 64)
+
+-- across a transfer that is no identity: 4 of each list, 5 of the three together, then 7 of the ends that were made
+unfoldable pub implying : Map → Map → LayerOffset → Text → List ℕ → MapOutcome
+unfolding allFew roomFor madeShort impliedClass
+implying transfer class time out slots =
+    cond (allFew transfer class)
+    (roomFor (inverseList transfer ++ (classList transfer class ++ impliedList transfer class)) out slots
+    (madeShort (classList transfer class ++ impliedList transfer class) (map (impliedClass transfer class) time)))
+    (refused TooMany)
+
+-- a map that comes out is the implied one (proved in proofs/ImpliedWays.antt)
+abbrev pub ImpliesTo : Type 0
+ImpliesTo = (transfer class m : Map) (time t : LayerOffset) (out : Text) (slots : List ℕ) → implying transfer class time out slots ≡ map m t → m ≡ impliedClass transfer class
+
+-- the composed time offset; that of the inverse is (0, 1)
+abbrev pub impliedTime : MapFunction → MapFunction → LayerOffset
+impliedTime transfer class = composedTime (transfer .«time_offset») (composedTime (class .«time_offset») identity)
+
+-- Rust: implied_class, the transfer first; one that is the identity, time included, gives the class's map as it stands
+unfoldable pub impliedClassCall : Text → List ℕ → MapFunction → Text → List ℕ → MapFunction → Text → List ℕ → MapOutcome
+unfolding asked isIdentityMap asItIs implying composedTime
+impliedClassCall store places transfer cstore cplaces class out slots =
+    unless (asked (lentList store places (transfer .count) ∷ lentList cstore cplaces (class .count) ∷ []) [] []) refused
+    (cond (isIdentityMap transfer) (asItIs (pairsIn cstore cplaces (class .count)) (class .«has_root_identity») (class .«time_offset») out slots)
+    (implying (lentBy store places transfer) (lentBy cstore cplaces class) (impliedTime transfer class) out slots))
+
+-- How the code goes: a list as a map, as it stands or by dropping ..
+unfoldable pub settled : Bool → List Pair → Bool → Map
+unfolding fromParts
+settled whole l mark = cond whole (record { pairs = l; mark = mark }) (fromParts l mark)
+
+-- .. the composed map, from the list that composing starts from and the numbers of both sides ..
+unfoldable pub composedOf : MapFunction → MapFunction → List Pair → Map
+unfolding settled leavesPaths
+composedOf outer inner l = settled (leavesPaths outer || leavesPaths inner) l (outer .«has_root_identity» && inner .«has_root_identity»)
+
+-- .. the map of a reply that refuses nothing ..
+abbrev pub madeOf : MapReply → MapFunction
+madeOf (Made f) = f
+madeOf (Refused x) = numbersOf null identity
+
+-- .. the places of n pairs with their ends exchanged ..
+unfoldable pub Exchanged : List ℕ → List ℕ → ℕ → Type 0
+Exchanged places slots n = (store : Text) → pairsIn store slots n ≡ exchangedPairs (pairsIn store places n)
+
+-- .. the room for k pairs of b bytes beside the transfer's
+unfoldable pub roomBeside : List Pair → ℕ → ℕ → ℕ → ℕ → Bool
+unfolding endBytes
+roomBeside l k b room slots = leb (endBytes l + b) room && leb (length l + k) (slots / 4)
+
+-- .. and the questions that are left once the class after the inverse is there: its list had n pairs and `at` bytes, short or not
+unfoldable pub finished : Map → Map → ℕ → ℕ → Bool → LayerOffset → Text → List ℕ → MapOutcome
+unfolding composedFrom compose withRootIdentity roomBeside allShort
+finished transfer middle n at short time out slots =
+    cond (leb (length (composedFrom transfer middle)) 64)
+    (cond (roomBeside (transfer .pairs) (n + length (composedFrom transfer middle)) (at + endBytes (composedFrom transfer middle)) (length out) (length slots))
+    (cond (short && allShort (composedFrom transfer middle)) (map (withRootIdentity (compose transfer middle)) time) (refused MadeTooLong))
+    (refused NoRoom))
+    (refused TooMany)

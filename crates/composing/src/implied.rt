@@ -1,0 +1,246 @@
+// A class's map across a transfer: the class after the transfer's inverse, then the transfer. Each list
+// is built in memory of the call's own.
+ghost use mathlib.Core.Path.{_≡_};
+ghost use mathlib.Core.Bool.{Bool, true, _&&_, _||_};
+ghost use mathlib.Core.List.{List, [], _∷_};
+ghost use Prim.Native.Nat.{_+_, _*_, _≤_};
+ghost use lib.ListN.{length};
+ghost use Rattle.layer_offset.specs.Offset.{identity};
+ghost use Rattle.pairs.specs.Pair.{everyEnd, allShort};
+ghost use Rattle.pairs.specs.Places.{pairsIn, listRoom};
+ghost use Rattle.maps.specs.Map.{lentMap};
+ghost use Rattle.maps.specs.Derive.{inverse};
+ghost use Rattle.map_function.specs.Read.{isPathIdentity};
+ghost use Rattle.map_function.specs.Made.{map, mapReply, mapBytes, mapSlots, numbersOf};
+ghost use Rattle.composing.specs.Calls.{lentBy};
+ghost use Rattle.composing.specs.Scratch.{modest, Holds};
+ghost use Rattle.composing.specs.Implied.{Exchanged, madeOf, settled, composedOf, composedFrom, roomBeside, finished, implying, impliedTime, impliedClassCall};
+
+// Writes the places of the first n pairs with their ends exchanged.
+fn exchange_all(places: &[usize], n: usize, slots: &mut [usize])
+    requires { ⌜ 4 * n ≤ length (now places) ⌝ }
+    requires { ⌜ 4 * n ≤ length (now slots) ⌝ }
+    ensures { λ _. ⌜ Exchanged (now (places .entry)) (now (slots .exit)) n ⌝ }
+{
+    let mut i = 0;
+    while i < n {
+        let j = 4 * i;
+        pairs::write_four(
+            i,
+            places[j + 2],
+            places[j + 3],
+            places[j],
+            places[j + 1],
+            slots,
+        );
+        i += 1;
+    }
+}
+
+// The map of a reply that refuses nothing.
+fn made_of(reply: map_function::MapReply) -> map_function::MapFunction
+    ensures { λ r. ⌜ r ≡ madeOf reply ⌝ }
+{
+    match reply {
+        map_function::MapReply::Made(f) => f,
+        map_function::MapReply::Refused(_) => map_function::MapFunction::null(),
+    }
+}
+
+// The first n pairs as a map, as they stand or by dropping, in memory that is enough for them.
+fn settle(
+    store: &[u8],
+    places: &[usize],
+    n: usize,
+    whole: bool,
+    mark: bool,
+    out: &mut [u8],
+    slots: &mut [usize],
+) -> map_function::MapFunction
+    requires { ⌜ (n ≤ 64) × (4 * n ≤ length (now places)) ⌝ }
+    requires { ⌜ listRoom (pairsIn (now store) (now places) n) (now out) (now slots) ≡ true ⌝ }
+    ensures { λ r. ⌜ r ≡ numbersOf (settled whole (pairsIn (now (store .entry)) (now (places .entry)) n) mark) identity ⌝ }
+    ensures { λ r. ⌜ now (out .exit) ≡ mapBytes (map (settled whole (pairsIn (now (store .entry)) (now (places .entry)) n) mark) identity) (now (out .entry)) ⌝ }
+    ensures { λ r. ⌜ now (slots .exit) ≡ mapSlots (map (settled whole (pairsIn (now (store .entry)) (now (places .entry)) n) mark) identity) (now (slots .entry)) ⌝ }
+{
+    let time = layer_offset::LayerOffset::IDENTITY;
+    if whole {
+        return made_of(map_function::as_it_is(store, places, n, mark, time, out, slots));
+    }
+    made_of(map_function::from_parts(store, places, n, mark, time, out, slots))
+}
+
+// The inverse of a map, in memory of the call's own.
+fn invert(
+    store: &[u8],
+    places: &[usize],
+    n: usize,
+    mark: bool,
+    out: &mut [u8],
+    slots: &mut [usize],
+) -> map_function::MapFunction
+    requires { ⌜ (n ≤ 64) × (4 * n ≤ length (now places)) ⌝ }
+    requires { ⌜ allShort (pairsIn (now store) (now places) n) ≡ true ⌝ }
+    requires { ⌜ 65408 ≤ length (now out) ⌝ }
+    requires { ⌜ 256 ≤ length (now slots) ⌝ }
+    ensures { λ r. ⌜ lentBy (now (out .exit)) (now (slots .exit)) r ≡ inverse (lentMap (now (store .entry)) (now (places .entry)) n mark) ⌝ }
+{
+    let mut own = [0usize; 256];
+    exchange_all(places, n, &mut own);
+    settle(store, &own, n, false, mark, out, slots)
+}
+
+// The first n pairs as they stand, for a list that composing answers.
+fn copy_all(
+    store: &[u8],
+    places: &[usize],
+    n: usize,
+    bytes: &mut [u8],
+    own: &mut [usize],
+) -> crate::Built
+    requires { ⌜ everyEnd modest (pairsIn (now store) (now places) n) ≡ true ⌝ }
+    requires { ⌜ 1534 * n ≤ length (now bytes) ⌝ }
+    requires { ⌜ 4 * n ≤ length (now own) ⌝ }
+    ensures { λ r. ⌜ Holds (pairsIn (now (store .entry)) (now (places .entry)) n) (r .n) (r .at) (now (bytes .exit)) (now (own .exit)) ⌝ }
+{
+    let at = crate::carry_all(store, places, 0, true, store, places, n, bytes, own);
+    crate::Built { n: n, at: at }
+}
+
+// The list that composing two maps starts from.
+fn build(
+    store: &[u8],
+    places: &[usize],
+    outer: map_function::MapFunction,
+    istore: &[u8],
+    iplaces: &[usize],
+    inner: map_function::MapFunction,
+    bytes: &mut [u8],
+    own: &mut [usize],
+) -> crate::Built
+    requires { ⌜ everyEnd modest (pairsIn (now store) (now places) (outer .count)) ≡ true ⌝ }
+    requires { ⌜ everyEnd modest (pairsIn (now istore) (now iplaces) (inner .count)) ≡ true ⌝ }
+    requires { ⌜ 1534 * (inner .count + outer .count) ≤ length (now bytes) ⌝ }
+    requires { ⌜ 4 * (inner .count + outer .count) ≤ length (now own) ⌝ }
+    ensures { λ r. ⌜ Holds (composedFrom (lentBy (now (store .entry)) (now (places .entry)) outer) (lentBy (now (istore .entry)) (now (iplaces .entry)) inner)) (r .n) (r .at) (now (bytes .exit)) (now (own .exit)) ⌝ }
+{
+    if outer.path_is_identity() {
+        return copy_all(istore, iplaces, inner.count, bytes, own);
+    }
+    if inner.path_is_identity() {
+        return copy_all(store, places, outer.count, bytes, own);
+    }
+    crate::compose_into(
+        store,
+        places,
+        outer.count,
+        outer.has_root_identity,
+        istore,
+        iplaces,
+        inner.count,
+        inner.has_root_identity,
+        bytes,
+        own,
+    )
+}
+
+// Does one of the two leave every path as it is?
+fn either_leaves(a: map_function::MapFunction, b: map_function::MapFunction) -> bool
+    ensures { λ r. ⌜ r ≡ (isPathIdentity a || isPathIdentity b) ⌝ }
+{
+    if a.path_is_identity() {
+        return true;
+    }
+    b.path_is_identity()
+}
+
+// The composed map, from the list that composing starts from.
+fn settle_composed(
+    store: &[u8],
+    places: &[usize],
+    n: usize,
+    outer: map_function::MapFunction,
+    inner: map_function::MapFunction,
+    out: &mut [u8],
+    slots: &mut [usize],
+) -> map_function::MapFunction
+    requires { ⌜ (n ≤ 64) × (4 * n ≤ length (now places)) ⌝ }
+    requires { ⌜ listRoom (pairsIn (now store) (now places) n) (now out) (now slots) ≡ true ⌝ }
+    ensures { λ r. ⌜ r ≡ numbersOf (composedOf outer inner (pairsIn (now (store .entry)) (now (places .entry)) n)) identity ⌝ }
+    ensures { λ r. ⌜ now (out .exit) ≡ mapBytes (map (composedOf outer inner (pairsIn (now (store .entry)) (now (places .entry)) n)) identity) (now (out .entry)) ⌝ }
+    ensures { λ r. ⌜ now (slots .exit) ≡ mapSlots (map (composedOf outer inner (pairsIn (now (store .entry)) (now (places .entry)) n)) identity) (now (slots .entry)) ⌝ }
+{
+    let whole = either_leaves(outer, inner);
+    let mark = asking::both(outer.has_root_identity, inner.has_root_identity);
+    settle(store, places, n, whole, mark, out, slots)
+}
+
+// Is there room for the lists b and d beside the first n pairs?
+fn has_place(
+    store: &[u8],
+    places: &[usize],
+    n: usize,
+    b: crate::Built,
+    d: crate::Built,
+    room: usize,
+    slots: usize,
+) -> bool
+    requires { ⌜ (n ≤ 64) × ((b .n ≤ 64) × (d .n ≤ 64)) ⌝ }
+    ensures { λ r. ⌜ r ≡ roomBeside (pairsIn (now (store .entry)) (now (places .entry)) n) (b .n + d .n) (b .at + d .at) room slots ⌝ }
+{
+    if slots / 4 < n + (b.n + d.n) {
+        return false;
+    }
+    if room < b.at {
+        return false;
+    }
+    let left = room - b.at;
+    if left < d.at {
+        return false;
+    }
+    pairs::has_room(store, places, n, left - d.at)
+}
+
+// The transfer after the class's part, of which b tells the list and `short` its question 7.
+fn finish(
+    store: &[u8],
+    places: &[usize],
+    transfer: map_function::MapFunction,
+    mid: &[u8],
+    mids: &[usize],
+    class: map_function::MapFunction,
+    b: crate::Built,
+    short: bool,
+    time: layer_offset::LayerOffset,
+    bytes: &mut [u8],
+    own: &mut [usize],
+    out: &mut [u8],
+    slots: &mut [usize],
+) -> map_function::MapReply
+    requires { ⌜ (transfer .count ≤ 64) × ((class .count ≤ 64) × (b .n ≤ 64)) ⌝ }
+    requires { ⌜ everyEnd modest (pairsIn (now store) (now places) (transfer .count)) ≡ true ⌝ }
+    requires { ⌜ everyEnd modest (pairsIn (now mid) (now mids) (class .count)) ≡ true ⌝ }
+    requires { ⌜ 196352 ≤ length (now bytes) ⌝ }
+    requires { ⌜ 512 ≤ length (now own) ⌝ }
+    ensures { λ r. ⌜ r ≡ mapReply (finished (lentBy (now (store .entry)) (now (places .entry)) transfer) (lentBy (now (mid .entry)) (now (mids .entry)) class) (b .n) (b .at) short time (now (out .entry)) (now (slots .entry))) ⌝ }
+    ensures { λ r. ⌜ now (out .exit) ≡ mapBytes (finished (lentBy (now (store .entry)) (now (places .entry)) transfer) (lentBy (now (mid .entry)) (now (mids .entry)) class) (b .n) (b .at) short time (now (out .entry)) (now (slots .entry))) (now (out .entry)) ⌝ }
+    ensures { λ r. ⌜ now (slots .exit) ≡ mapSlots (finished (lentBy (now (store .entry)) (now (places .entry)) transfer) (lentBy (now (mid .entry)) (now (mids .entry)) class) (b .n) (b .at) short time (now (out .entry)) (now (slots .entry))) (now (slots .entry)) ⌝ }
+{
+    let n = transfer.count;
+    let d = build(store, places, transfer, mid, mids, class, bytes, own);
+    if 64 < d.n {
+        return map_function::MapReply::Refused(path::Refusal::TooMany);
+    }
+    if !has_place(store, places, n, b, d, out.len(), slots.len()) {
+        return map_function::MapReply::Refused(path::Refusal::NoRoom);
+    }
+    if !asking::both(short, crate::are_short(bytes, own, d.n)) {
+        return map_function::MapReply::Refused(path::Refusal::MadeTooLong);
+    }
+    let f = settle_composed(bytes, own, d.n, transfer, class, out, slots);
+    map_function::MapReply::Made(map_function::MapFunction {
+        count: f.count,
+        has_root_identity: true,
+        time_offset: time,
+    })
+}
