@@ -244,3 +244,91 @@ fn finish(
         time_offset: time,
     })
 }
+
+// The same from the beginning, in memory of the call's own: the inverse and then the class's part stand
+// in `mid`.
+fn implied_in(
+    store: &[u8],
+    places: &[usize],
+    transfer: map_function::MapFunction,
+    cstore: &[u8],
+    cplaces: &[usize],
+    class: map_function::MapFunction,
+    out: &mut [u8],
+    slots: &mut [usize],
+) -> map_function::MapReply
+    requires { ⌜ (transfer .count ≤ 64) × ((4 * transfer .count ≤ length (now places)) × (class .count ≤ 64)) ⌝ }
+    requires { ⌜ allShort (pairsIn (now store) (now places) (transfer .count)) ≡ true ⌝ }
+    requires { ⌜ allShort (pairsIn (now cstore) (now cplaces) (class .count)) ≡ true ⌝ }
+    ensures { λ r. ⌜ r ≡ mapReply (implying (lentBy (now (store .entry)) (now (places .entry)) transfer) (lentBy (now (cstore .entry)) (now (cplaces .entry)) class) (impliedTime transfer class) (now (out .entry)) (now (slots .entry))) ⌝ }
+    ensures { λ r. ⌜ now (out .exit) ≡ mapBytes (implying (lentBy (now (store .entry)) (now (places .entry)) transfer) (lentBy (now (cstore .entry)) (now (cplaces .entry)) class) (impliedTime transfer class) (now (out .entry)) (now (slots .entry))) (now (out .entry)) ⌝ }
+    ensures { λ r. ⌜ now (slots .exit) ≡ mapSlots (implying (lentBy (now (store .entry)) (now (places .entry)) transfer) (lentBy (now (cstore .entry)) (now (cplaces .entry)) class) (impliedTime transfer class) (now (out .entry)) (now (slots .entry))) (now (slots .entry)) ⌝ }
+{
+    let mut bytes = [0u8; 196352];
+    let mut own = [0usize; 512];
+    let mut mid = [0u8; 65408];
+    let mut mids = [0usize; 256];
+    let mark = transfer.has_root_identity;
+    let back = invert(store, places, transfer.count, mark, &mut mid, &mut mids);
+    let b = build(
+        cstore,
+        cplaces,
+        class,
+        &mid,
+        &mids,
+        back,
+        &mut bytes,
+        &mut own,
+    );
+    if 64 < b.n {
+        return map_function::MapReply::Refused(path::Refusal::TooMany);
+    }
+    let short = crate::are_short(&bytes, &own, b.n);
+    let part = settle_composed(&bytes, &own, b.n, class, back, &mut mid, &mut mids);
+    let none = layer_offset::LayerOffset::IDENTITY;
+    let time = crate::composed_time(class.time_offset, none);
+    let whole = crate::composed_time(transfer.time_offset, time);
+    finish(
+        store,
+        places,
+        transfer,
+        &mid,
+        &mids,
+        part,
+        b,
+        short,
+        whole,
+        &mut bytes,
+        &mut own,
+        out,
+        slots,
+    )
+}
+
+// The class's map across the transfer, which is to be followed the other way round.
+pub fn implied_class(
+    store: &[u8],
+    places: &[usize],
+    transfer: map_function::MapFunction,
+    cstore: &[u8],
+    cplaces: &[usize],
+    class: map_function::MapFunction,
+    out: &mut [u8],
+    slots: &mut [usize],
+) -> map_function::MapReply
+    ensures { λ r. ⌜ r ≡ mapReply (impliedClassCall (now (store .entry)) (now (places .entry)) transfer (now (cstore .entry)) (now (cplaces .entry)) class (now (out .entry)) (now (slots .entry))) ⌝ }
+    ensures { λ r. ⌜ now (out .exit) ≡ mapBytes (impliedClassCall (now (store .entry)) (now (places .entry)) transfer (now (cstore .entry)) (now (cplaces .entry)) class (now (out .entry)) (now (slots .entry))) (now (out .entry)) ⌝ }
+    ensures { λ r. ⌜ now (slots .exit) ≡ mapSlots (impliedClassCall (now (store .entry)) (now (places .entry)) transfer (now (cstore .entry)) (now (cplaces .entry)) class (now (out .entry)) (now (slots .entry))) (now (slots .entry)) ⌝ }
+{
+    let n = class.count;
+    let mark = class.has_root_identity;
+    let q = asking::ask_lists(store, places, transfer.count, cstore, cplaces, n);
+    if let path::Asked::Refused(x) = q {
+        return map_function::MapReply::Refused(x);
+    }
+    if transfer.is_identity() {
+        let time = class.time_offset;
+        return map_function::as_it_is(cstore, cplaces, n, mark, time, out, slots);
+    }
+    implied_in(store, places, transfer, cstore, cplaces, class, out, slots)
+}
