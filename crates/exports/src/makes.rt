@@ -6,6 +6,8 @@ ghost use mathlib.Core.Path.{_≡_};
 ghost use Rattle.map_function.specs.Made.{mapReply, mapBytes, mapSlots};
 ghost use Rattle.making.specs.Calls.{newCall, fromPairCall, fromPairIdentityCall, inverseCall, withRootIdentityCall, droppingSourceCall, isNoopCall};
 ghost use Rattle.composing.specs.Calls.{composeCall};
+ghost use Rattle.composing.specs.Implied.{impliedClassCall};
+ghost use Rattle.rebasing.specs.Calls.{rebaseTargetCall, deepenToCall};
 ghost use Rattle.codes.specs.Code.{testCode};
 ghost use Rattle.exports.specs.Made.{numbers, madeValue, madeCode, madeTime};
 
@@ -197,6 +199,91 @@ pub extern "C" fn mudvizsor_map_dropping_source(
     let map = map_with(count, mark, offset, scale);
     made_code(
         making::dropping_source(store, places, map, source, out, slots),
+        time,
+    )
+}
+
+// The map with every target below from put below to.
+#[no_mangle]
+pub extern "C" fn mudvizsor_map_rebase_target(
+    store: &[u8],
+    places: &[usize],
+    count: usize,
+    mark: bool,
+    offset: f64,
+    scale: f64,
+    from: &[u8],
+    to: &[u8],
+    out: &mut [u8],
+    slots: &mut [usize],
+    time: &mut [f64; 2],
+) -> usize
+    ensures { λ r. ⌜ r ≡ madeCode (mapReply (rebaseTargetCall (now (store .entry)) (now (places .entry)) (numbers count mark offset scale) (now (from .entry)) (now (to .entry)) (now (out .entry)) (now (slots .entry)))) ⌝ }
+    ensures { λ r. ⌜ now (out .exit) ≡ mapBytes (rebaseTargetCall (now (store .entry)) (now (places .entry)) (numbers count mark offset scale) (now (from .entry)) (now (to .entry)) (now (out .entry)) (now (slots .entry))) (now (out .entry)) ⌝ }
+    ensures { λ r. ⌜ now (slots .exit) ≡ mapSlots (rebaseTargetCall (now (store .entry)) (now (places .entry)) (numbers count mark offset scale) (now (from .entry)) (now (to .entry)) (now (out .entry)) (now (slots .entry))) (now (slots .entry)) ⌝ }
+    ensures { λ r. ⌜ now (time .exit) ≡ madeTime (mapReply (rebaseTargetCall (now (store .entry)) (now (places .entry)) (numbers count mark offset scale) (now (from .entry)) (now (to .entry)) (now (out .entry)) (now (slots .entry)))) (now (time .entry)) ⌝ }
+{
+    let map = map_with(count, mark, offset, scale);
+    made_code(
+        rebasing::rebase_target(store, places, map, from, to, out, slots),
+        time,
+    )
+}
+
+// The map of a class, deepened to the path.
+#[no_mangle]
+pub extern "C" fn mudvizsor_map_deepen_to(
+    store: &[u8],
+    places: &[usize],
+    count: usize,
+    mark: bool,
+    offset: f64,
+    scale: f64,
+    path: &[u8],
+    out: &mut [u8],
+    slots: &mut [usize],
+    time: &mut [f64; 2],
+) -> usize
+    ensures { λ r. ⌜ r ≡ madeCode (mapReply (deepenToCall (now (store .entry)) (now (places .entry)) (numbers count mark offset scale) (now (path .entry)) (now (out .entry)) (now (slots .entry)))) ⌝ }
+    ensures { λ r. ⌜ now (out .exit) ≡ mapBytes (deepenToCall (now (store .entry)) (now (places .entry)) (numbers count mark offset scale) (now (path .entry)) (now (out .entry)) (now (slots .entry))) (now (out .entry)) ⌝ }
+    ensures { λ r. ⌜ now (slots .exit) ≡ mapSlots (deepenToCall (now (store .entry)) (now (places .entry)) (numbers count mark offset scale) (now (path .entry)) (now (out .entry)) (now (slots .entry))) (now (slots .entry)) ⌝ }
+    ensures { λ r. ⌜ now (time .exit) ≡ madeTime (mapReply (deepenToCall (now (store .entry)) (now (places .entry)) (numbers count mark offset scale) (now (path .entry)) (now (out .entry)) (now (slots .entry)))) (now (time .entry)) ⌝ }
+{
+    let map = map_with(count, mark, offset, scale);
+    made_code(
+        rebasing::deepen_to(store, places, map, path, out, slots),
+        time,
+    )
+}
+
+// The class's map across the transfer.
+#[no_mangle]
+pub extern "C" fn mudvizsor_map_implied_class(
+    store: &[u8],
+    places: &[usize],
+    count: usize,
+    mark: bool,
+    offset: f64,
+    scale: f64,
+    istore: &[u8],
+    iplaces: &[usize],
+    icount: usize,
+    imark: bool,
+    ioffset: f64,
+    iscale: f64,
+    out: &mut [u8],
+    slots: &mut [usize],
+    time: &mut [f64; 2],
+) -> usize
+    ensures { λ r. ⌜ r ≡ madeCode (mapReply (impliedClassCall (now (store .entry)) (now (places .entry)) (numbers count mark offset scale) (now (istore .entry)) (now (iplaces .entry)) (numbers icount imark ioffset iscale) (now (out .entry)) (now (slots .entry)))) ⌝ }
+    ensures { λ r. ⌜ now (out .exit) ≡ mapBytes (impliedClassCall (now (store .entry)) (now (places .entry)) (numbers count mark offset scale) (now (istore .entry)) (now (iplaces .entry)) (numbers icount imark ioffset iscale) (now (out .entry)) (now (slots .entry))) (now (out .entry)) ⌝ }
+    ensures { λ r. ⌜ now (slots .exit) ≡ mapSlots (impliedClassCall (now (store .entry)) (now (places .entry)) (numbers count mark offset scale) (now (istore .entry)) (now (iplaces .entry)) (numbers icount imark ioffset iscale) (now (out .entry)) (now (slots .entry))) (now (slots .entry)) ⌝ }
+    ensures { λ r. ⌜ now (time .exit) ≡ madeTime (mapReply (impliedClassCall (now (store .entry)) (now (places .entry)) (numbers count mark offset scale) (now (istore .entry)) (now (iplaces .entry)) (numbers icount imark ioffset iscale) (now (out .entry)) (now (slots .entry)))) (now (time .entry)) ⌝ }
+{
+    let map = map_with(count, mark, offset, scale);
+    let inner = map_with(icount, imark, ioffset, iscale);
+    made_code(
+        composing::implied::implied_class(store, places, map, istore, iplaces, inner, out, slots),
         time,
     )
 }
