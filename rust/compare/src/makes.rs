@@ -1,5 +1,6 @@
 //! The calls that make maps: all small lists and maps, with flaws, and at random.
 
+mod before;
 mod calls;
 pub mod cases;
 mod small;
@@ -13,4 +14,5 @@ pub fn run(comparison: &mut Comparison) {
     phase(comparison, "maps made of at most two pairs", small::at_most_two_pairs);
     phase(comparison, "maps made of three pairs", small::three_pairs);
     phase(comparison, "two small maps composed", small::composed);
+    phase(comparison, "small maps rebased and deepened", small::moved);
 }

@@ -137,6 +137,65 @@ unsafe extern "C" {
         slots_len: usize,
         time: &mut [f64; 2],
     ) -> usize;
+    fn mudvizsor_map_implied_class(
+        store: *const u8,
+        store_len: usize,
+        places: *const usize,
+        places_len: usize,
+        count: usize,
+        mark: bool,
+        offset: f64,
+        scale: f64,
+        cstore: *const u8,
+        cstore_len: usize,
+        cplaces: *const usize,
+        cplaces_len: usize,
+        ccount: usize,
+        cmark: bool,
+        coffset: f64,
+        cscale: f64,
+        out: *mut u8,
+        out_len: usize,
+        slots: *mut usize,
+        slots_len: usize,
+        time: &mut [f64; 2],
+    ) -> usize;
+    fn mudvizsor_map_rebase_target(
+        store: *const u8,
+        store_len: usize,
+        places: *const usize,
+        places_len: usize,
+        count: usize,
+        mark: bool,
+        offset: f64,
+        scale: f64,
+        from: *const u8,
+        from_len: usize,
+        to: *const u8,
+        to_len: usize,
+        out: *mut u8,
+        out_len: usize,
+        slots: *mut usize,
+        slots_len: usize,
+        time: &mut [f64; 2],
+    ) -> usize;
+    fn mudvizsor_map_deepen_to(
+        store: *const u8,
+        store_len: usize,
+        places: *const usize,
+        places_len: usize,
+        count: usize,
+        mark: bool,
+        offset: f64,
+        scale: f64,
+        path: *const u8,
+        path_len: usize,
+        out: *mut u8,
+        out_len: usize,
+        slots: *mut usize,
+        slots_len: usize,
+        time: &mut [f64; 2],
+    ) -> usize;
 }
 
 // SAFETY of all calls below: an entry reads the bytes and numbers of the lists, of which it trusts none, writes at
@@ -212,6 +271,40 @@ pub fn compose(outer: Map, inner: Map, room: Room) -> Reply {
             imark,
             ioffset,
             iscale,
+            out.as_mut_ptr(),
+            out.len(),
+            slots.as_mut_ptr(),
+            slots.len(),
+            time,
+        )
+    })
+}
+
+/// The class's map carried across the transfer, with the mark.
+pub fn implied_class(transfer: Map, class: Map, room: Room) -> Reply {
+    let Map { list: List { store, places, count, mark }, time: [offset, scale] } = transfer;
+    let List { store: cstore, places: cplaces, count: ccount, mark: cmark } = class.list;
+    let [coffset, cscale] = class.time;
+    let Room { out, slots, time } = room;
+    // SAFETY: as above.
+    Reply(unsafe {
+        mudvizsor_map_implied_class(
+            store.as_ptr(),
+            store.len(),
+            places.as_ptr(),
+            places.len(),
+            count,
+            mark,
+            offset,
+            scale,
+            cstore.as_ptr(),
+            cstore.len(),
+            cplaces.as_ptr(),
+            cplaces.len(),
+            ccount,
+            cmark,
+            coffset,
+            cscale,
             out.as_mut_ptr(),
             out.len(),
             slots.as_mut_ptr(),
@@ -300,6 +393,60 @@ pub fn dropping_source(map: Map, source: &[u8], room: Room) -> Reply {
             scale,
             source.as_ptr(),
             source.len(),
+            out.as_mut_ptr(),
+            out.len(),
+            slots.as_mut_ptr(),
+            slots.len(),
+            time,
+        )
+    })
+}
+
+/// The map with every target that has the prefix `from` put below `to`.
+pub fn rebase_target(map: Map, from: &[u8], to: &[u8], room: Room) -> Reply {
+    let Map { list: List { store, places, count, mark }, time: [offset, scale] } = map;
+    let Room { out, slots, time } = room;
+    // SAFETY: as above.
+    Reply(unsafe {
+        mudvizsor_map_rebase_target(
+            store.as_ptr(),
+            store.len(),
+            places.as_ptr(),
+            places.len(),
+            count,
+            mark,
+            offset,
+            scale,
+            from.as_ptr(),
+            from.len(),
+            to.as_ptr(),
+            to.len(),
+            out.as_mut_ptr(),
+            out.len(),
+            slots.as_mut_ptr(),
+            slots.len(),
+            time,
+        )
+    })
+}
+
+/// The map with the pairs of the source nearest above the path put at the path, its selections left out.
+pub fn deepen_to(map: Map, path: &[u8], room: Room) -> Reply {
+    let Map { list: List { store, places, count, mark }, time: [offset, scale] } = map;
+    let Room { out, slots, time } = room;
+    // SAFETY: as above.
+    Reply(unsafe {
+        mudvizsor_map_deepen_to(
+            store.as_ptr(),
+            store.len(),
+            places.as_ptr(),
+            places.len(),
+            count,
+            mark,
+            offset,
+            scale,
+            path.as_ptr(),
+            path.len(),
             out.as_mut_ptr(),
             out.len(),
             slots.as_mut_ptr(),

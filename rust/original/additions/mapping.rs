@@ -1,4 +1,4 @@
-// Added to the end of the original's mapping.rs, where its private fields can be seen.
+// Added to the end of the original's mapping.rs, where its private fields and functions can be seen.
 impl MapFunction {
     /// A map with exactly these pairs and this mark: nothing is sorted, dropped or turned into the mark.
     pub fn with_exactly(pairs: Vec<(Path, Path)>, has_root_identity: bool) -> Self {
@@ -7,5 +7,15 @@ impl MapFunction {
             has_root_identity,
             time_offset: sdf::LayerOffset::IDENTITY,
         }
+    }
+
+    /// `rebase_target` under a public name.
+    pub fn rebased_target(&self, from: &Path, to: &Path) -> Self {
+        self.rebase_target(from, to)
+    }
+
+    /// `deepen_to` under a public name.
+    pub fn deepened_to(&self, node_path: &Path) -> Self {
+        self.deepen_to(node_path)
     }
 }

@@ -3,10 +3,11 @@
 use crate::calls::is_end;
 use crate::comparison::Comparison;
 use crate::lent::Lent;
+use crate::makes::before::{self, Pairs};
 use crate::maps::calls::both;
 use crate::maps::list::{List, MOST_PAIRS, NOT_AN_END, TOO_MANY_PAIRS};
 use crate::tally::{Call, Given};
-use crate::text::{Answer, MADE_TOO_LONG, TOO_LITTLE_MEMORY, Text};
+use crate::text::{Answer, MADE_NOT_LEGAL, MADE_TOO_LONG, TOO_LITTLE_MEMORY, Text};
 use crate::times::calls::is_same;
 use library::Reply;
 use library::makes::{self, Room};
@@ -14,8 +15,7 @@ use original::pcp::MapFunction;
 use original::sdf::{LayerOffset, Path};
 use std::fmt::{self, Display};
 use texts::LONGEST;
-
-type Pairs = Vec<(Path, Path)>;
+use texts::legal::is_legal;
 
 /// A list with a time offset.
 pub struct Map {
@@ -38,33 +38,56 @@ impl Map {
 
 /// What a call that makes a map is to give, where enough memory is lent.
 struct Making {
-    /// The list that dropping starts from, or, where that is not run, the list answered.
-    before: Pairs,
+    /// The list that dropping starts from, or, where that is not run, the list answered; of several maps made on
+    /// the way, each one's.
+    before: Vec<Pairs>,
     map: MapFunction,
 }
 
 impl Making {
     /// The map's own pairs are what is counted.
     fn as_it_is(map: MapFunction) -> Self {
-        Making { before: map.path_pairs().to_vec(), map }
+        Making::from(map.path_pairs().to_vec(), map)
+    }
+
+    fn from(before: Pairs, map: MapFunction) -> Self {
+        Making { before: vec![before], map }
+    }
+
+    /// The ends of all lists before dropping.
+    fn ends(&self) -> impl Iterator<Item = &Path> {
+        self.before.iter().flat_map(|list| ends(list))
+    }
+
+    /// The same, of a call that can only make ends: question 8 refuses none.
+    fn with_ends(self) -> Self {
+        assert!(self.ends().all(is_end), "an end that is made is an end");
+        self
     }
 
     fn bytes_needed(&self) -> usize {
-        ends(&self.before).map(|end| end.as_str().len()).sum()
+        self.ends().map(|end| end.as_str().len()).sum()
     }
 
-    /// Questions 4, 5 and 7. The ends made of ends are always legal, which is looked at here too.
+    fn pairs_needed(&self) -> usize {
+        self.before.iter().map(Vec::len).sum()
+    }
+
+    /// Questions 4, 5, 7 and 8.
     fn within(&self, bytes: usize, slots: usize) -> Answer<&MapFunction> {
-        if self.before.len() > MOST_PAIRS {
+        if self.before.iter().any(|list| list.len() > MOST_PAIRS) {
             return Err(TOO_MANY_PAIRS);
         }
-        if bytes < self.bytes_needed() || slots / 4 < self.before.len() {
+        if bytes < self.bytes_needed() || slots / 4 < self.pairs_needed() {
             return Err(TOO_LITTLE_MEMORY);
         }
-        if ends(&self.before).any(|end| end.as_str().len() > LONGEST) {
+        if self.ends().any(|end| end.as_str().len() > LONGEST) {
             return Err(MADE_TOO_LONG);
         }
-        assert!(ends(&self.before).all(is_end), "an end that is made is an end");
+        if !self.ends().all(|end| is_legal(end.as_str().as_bytes())) {
+            return Err(MADE_NOT_LEGAL);
+        }
+        assert!(self.ends().all(is_end), "a legal end that is made is an end");
         Ok(&self.map)
     }
 }
@@ -81,57 +104,56 @@ fn end(text: &Text) -> Answer<&Path> {
 
 fn new(list: &List) -> Answer<Making> {
     let before = list.map()?.path_pairs().to_vec();
-    Ok(Making { map: MapFunction::new(before.clone()), before })
+    let map = MapFunction::new(before.clone());
+    Ok(Making::from(before, map))
 }
 
 fn from_pair(source: &Text, target: &Text, make: fn(Path, Path) -> MapFunction) -> Answer<Making> {
     let (source, target) = both(end(source), end(target))?;
     let before = vec![(source.clone(), target.clone())];
-    Ok(Making { before, map: make(source.clone(), target.clone()) })
+    Ok(Making::from(before, make(source.clone(), target.clone())))
 }
 
 fn inverse(map: &Map) -> Answer<Making> {
     let map = map.original()?;
-    let before = map.path_pairs().iter().map(|(source, target)| (target.clone(), source.clone())).collect();
-    Ok(Making { before, map: map.inverse() })
+    Ok(Making::from(before::exchanged(&map), map.inverse()))
 }
 
 fn dropping_source(map: &Map, source: &Text) -> Answer<Making> {
     let (map, source) = both(map.original(), end(source))?;
     let others = map.path_pairs().iter().filter(|(other, _)| other != source);
-    Ok(Making { before: others.cloned().collect(), map: map.dropping_source(source) })
+    Ok(Making::from(others.cloned().collect(), map.dropping_source(source)))
 }
 
 fn compose(outer: &Map, inner: &Map) -> Answer<Making> {
     let (outer, inner) = both(outer.original(), inner.original())?;
-    let map = outer.compose(&inner);
-    if is_path_identity(&outer) || is_path_identity(&inner) {
-        return Ok(Making::as_it_is(map));
-    }
-    Ok(Making { before: composed_pairs(&outer, &inner), map })
+    Ok(Making::from(before::composed(&outer, &inner), outer.compose(&inner)).with_ends())
 }
 
-fn is_path_identity(map: &MapFunction) -> bool {
-    map.path_pairs().is_empty() && map.has_root_identity()
+fn implied_class(transfer: &Map, class: &Map) -> Answer<Making> {
+    let (transfer, class) = both(transfer.original(), class.original())?;
+    let map = transfer.implied_class(&class);
+    if transfer.is_identity() {
+        return Ok(Making::from(class.path_pairs().to_vec(), map));
+    }
+    Ok(Making { before: before::implied(&transfer, &class), map }.with_ends())
 }
 
-/// The list that `compose` starts from: the inner pairs with their targets carried on, then the outer pairs whose
-/// sources have a way back that is not there yet.
-fn composed_pairs(outer: &MapFunction, inner: &MapFunction) -> Pairs {
-    let mut pairs: Pairs = Vec::new();
-    for (source, target) in inner.path_pairs() {
-        let on = if target.is_empty() { None } else { outer.map_source_to_target(target) };
-        pairs.push((source.clone(), on.unwrap_or_default()));
-    }
-    for (source, target) in outer.path_pairs() {
-        let Some(back) = inner.map_target_to_source(source) else {
-            continue;
-        };
-        if pairs.iter().all(|(other, _)| *other != back) {
-            pairs.push((back, target.clone()));
-        }
-    }
-    pairs
+fn rebase_target(map: &Map, from: &Text, to: &Text) -> Answer<Making> {
+    let (map, (from, to)) = both(map.original(), both(end(from), end(to)))?;
+    Ok(Making::from(before::rebased(&map, from, to), map.rebased_target(from, to)))
+}
+
+fn deepen_to(map: &Map, path: &Text) -> Answer<Making> {
+    let (map, node) = both(map.original(), stripped_end(path))?;
+    let path = path.answer()?;
+    Ok(Making::from(before::deepened(&map, &node), map.deepened_to(path)))
+}
+
+/// The path of a text without its selections: questions 1 and 2 put to the text, 3 to what is left.
+fn stripped_end(text: &Text) -> Answer<Path> {
+    let node = text.answer()?.strip_variant_selections();
+    if is_end(&node) { Ok(node) } else { Err(NOT_AN_END) }
 }
 
 /// What one of these calls is given.
@@ -179,6 +201,20 @@ impl Comparison {
         });
     }
 
+    pub fn rebase_target(&mut self, map: &Map, from: &Text, to: &Text) {
+        let given = &Inputs { maps: &[map], texts: &[from, to] };
+        self.made("rebase_target", given, &rebase_target(map, from, to), |room| {
+            makes::rebase_target(map.for_library(), &from.bytes, &to.bytes, room)
+        });
+    }
+
+    pub fn deepen_to(&mut self, map: &Map, path: &Text) {
+        let given = &Inputs { maps: &[map], texts: &[path] };
+        self.made("deepen_to", given, &deepen_to(map, path), |room| {
+            makes::deepen_to(map.for_library(), &path.bytes, room)
+        });
+    }
+
     /// The two calls that take one pair.
     pub fn one_pair(&mut self, source: &Text, target: &Text) {
         let given = &Inputs { maps: &[], texts: &[source, target] };
@@ -190,8 +226,12 @@ impl Comparison {
         });
     }
 
-    pub fn compose(&mut self, outer: &Map, inner: &Map) {
+    /// The two calls that take two maps.
+    pub fn two_maps(&mut self, outer: &Map, inner: &Map) {
         let given = &Inputs { maps: &[outer, inner], texts: &[] };
+        self.made("implied_class", given, &implied_class(outer, inner), |room| {
+            makes::implied_class(outer.for_library(), inner.for_library(), room)
+        });
         self.made("compose", given, &compose(outer, inner), |room| {
             makes::compose(outer.for_library(), inner.for_library(), room)
         });
@@ -206,7 +246,7 @@ impl Comparison {
         entry: impl Fn(Room) -> Reply,
     ) {
         let (bytes, slots) = match expected {
-            Ok(making) => (making.bytes_needed(), 4 * making.before.len()),
+            Ok(making) => (making.bytes_needed(), 4 * making.pairs_needed()),
             Err(_) => (600, 12),
         };
         self.made_in(name, given, expected, [bytes, slots], &entry);

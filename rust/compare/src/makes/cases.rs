@@ -1,4 +1,4 @@
-//! Random lists of related ends, made into maps and composed.
+//! Random lists of related ends, made into maps, rebased, deepened and composed.
 
 use crate::comparison::Comparison;
 use crate::makes::calls::Map;
@@ -20,8 +20,12 @@ pub fn case(comparison: &mut Comparison, random: &mut Random) {
     let source = Text::new(&source);
     comparison.dropping_source(&map, &source);
     comparison.one_pair(&source, &Text::new(&end_for(random, &other)));
-    comparison.compose(&map, &second);
-    comparison.compose(&second, &map);
+    comparison.rebase_target(&map, &source, &Text::new(&end_for(random, &other)));
+    comparison.rebase_target(&second, &Text::new(&end_for(random, &other)), &source);
+    comparison.deepen_to(&map, &source);
+    comparison.deepen_to(&second, &Text::new(&path_for(random, &other)));
+    comparison.two_maps(&map, &second);
+    comparison.two_maps(&second, &map);
 }
 
 /// A list whose ends are often those of another.

@@ -1,10 +1,12 @@
-//! Every list of few pairs over few ends, with and without the mark, made into maps, and composed with each other.
+//! Every list of few pairs over few ends, with and without the mark, made into maps, rebased, deepened, and composed
+//! with each other.
 
 use crate::comparison::Comparison;
 use crate::makes::calls::Map;
 use crate::maps::list::List;
 use crate::maps::small::{ENDS, FEW_ENDS, pairs};
 use crate::text::Text;
+use texts::LONGEST;
 
 const IDENTITY: [f64; 2] = [0.0, 1.0];
 
@@ -40,6 +42,22 @@ pub fn three_pairs(comparison: &mut Comparison) {
     }
 }
 
+/// Every list of at most two pairs, its targets rebased from each text to each, and deepened to each.
+pub fn moved(comparison: &mut Comparison) {
+    let ends = ENDS.iter().map(|end| Text::new(end.as_bytes()));
+    let long = [b"/A/", [b'B'; LONGEST].as_slice()].concat();
+    let others = [b"/A{v=p}B".as_slice(), b"/A/B.a", b"/A/", &long].map(Text::new);
+    let texts: Vec<Text> = ends.chain(others).collect();
+    for map in maps(&lists(&ENDS)) {
+        for one in &texts {
+            comparison.deepen_to(&map, one);
+            for other in &texts {
+                comparison.rebase_target(&map, one, other);
+            }
+        }
+    }
+}
+
 /// Maps of at most one pair over all ends, then of at most two over few of them.
 pub fn composed(comparison: &mut Comparison) {
     let mut single = vec![vec![]];
@@ -51,7 +69,7 @@ pub fn composed(comparison: &mut Comparison) {
 fn every_two(comparison: &mut Comparison, maps: &[Map]) {
     for outer in maps {
         for inner in maps {
-            comparison.compose(outer, inner);
+            comparison.two_maps(outer, inner);
         }
     }
 }

@@ -1,0 +1,93 @@
+//! The lists that dropping starts from, made by the test itself; where dropping is not run, the list answered.
+
+use original::pcp::MapFunction;
+use original::sdf::Path;
+
+pub type Pairs = Vec<(Path, Path)>;
+
+fn is_path_identity(map: &MapFunction) -> bool {
+    map.path_pairs().is_empty() && map.has_root_identity()
+}
+
+/// Of `inverse`: the ends exchanged.
+pub fn exchanged(map: &MapFunction) -> Pairs {
+    map.path_pairs().iter().map(|(source, target)| (target.clone(), source.clone())).collect()
+}
+
+/// Of `compose`; a side that is the identity gives the other's list.
+pub fn composed(outer: &MapFunction, inner: &MapFunction) -> Pairs {
+    if is_path_identity(outer) {
+        return inner.path_pairs().to_vec();
+    }
+    if is_path_identity(inner) {
+        return outer.path_pairs().to_vec();
+    }
+    composed_pairs(outer, inner)
+}
+
+/// The inner pairs with their targets carried on, then the outer pairs whose sources have a way back that is not
+/// there yet.
+fn composed_pairs(outer: &MapFunction, inner: &MapFunction) -> Pairs {
+    let mut pairs: Pairs = Vec::new();
+    for (source, target) in inner.path_pairs() {
+        let on = if target.is_empty() { None } else { outer.map_source_to_target(target) };
+        pairs.push((source.clone(), on.unwrap_or_default()));
+    }
+    for (source, target) in outer.path_pairs() {
+        let Some(back) = inner.map_target_to_source(source) else {
+            continue;
+        };
+        if pairs.iter().all(|(other, _)| *other != back) {
+            pairs.push((back, target.clone()));
+        }
+    }
+    pairs
+}
+
+/// Of `implied_class`, across a transfer that is no identity: those of the inverse, of the class after it, and of
+/// the transfer after that.
+pub fn implied(transfer: &MapFunction, class: &MapFunction) -> Vec<Pairs> {
+    let inverse = transfer.inverse();
+    let after_inverse = class.compose(&inverse);
+    vec![exchanged(transfer), composed(class, &inverse), composed(transfer, &after_inverse)]
+}
+
+/// Of `rebase_target`: the targets that have the prefix `from` put below `to`, or, of the identity, the one pair.
+pub fn rebased(map: &MapFunction, from: &Path, to: &Path) -> Pairs {
+    if is_path_identity(map) {
+        return vec![(from.clone(), to.clone())];
+    }
+    let rebased =
+        |target: &Path| if target.has_prefix(from) { below(target, from, to) } else { target.clone() };
+    map.path_pairs().iter().map(|(source, target)| (source.clone(), rebased(target))).collect()
+}
+
+/// Of `deepen_to`: each pair with the class's source is the node and where the class puts it. A list that has the
+/// node for a source, or no class, stays as it is.
+pub fn deepened(map: &MapFunction, node: &Path) -> Pairs {
+    let pairs = map.path_pairs();
+    let Some((class, target)) = class_above(pairs, node) else {
+        return pairs.to_vec();
+    };
+    if pairs.iter().any(|(source, _)| source == node) {
+        return pairs.to_vec();
+    }
+    let deep = (node.clone(), below(node, class, target));
+    pairs.iter().map(|pair| if pair.0 == *class { deep.clone() } else { pair.clone() }).collect()
+}
+
+/// The last pair of those with most elements whose source is a prefix of the node, an empty one among them.
+fn class_above<'a>(pairs: &'a [(Path, Path)], node: &Path) -> Option<&'a (Path, Path)> {
+    let mut class: Option<&(Path, Path)> = None;
+    for pair in pairs {
+        let is_deeper = class.is_none_or(|best| best.0.element_count() <= pair.0.element_count());
+        if node.has_prefix(&pair.0) && is_deeper {
+            class = Some(pair);
+        }
+    }
+    class
+}
+
+fn below(path: &Path, old: &Path, new: &Path) -> Path {
+    path.replace_prefix(old, new).expect("a prefix is replaced")
+}
