@@ -24,7 +24,7 @@ abbrev pub onward : (Text → Outcome) → Outcome → Outcome
 onward rest (path q) = rest q
 onward rest (refused x) = refused x
 
-unfoldable pub along : (Leg → Text → Outcome) → List Leg → Text → Outcome
+unfoldable pub along : {A : Type 0} → (A → Text → Outcome) → List A → Text → Outcome
 along go [] p = path p
 along go (x ∷ xs) p = onward (along go xs) (go x p)
 
