@@ -8,16 +8,16 @@ use lib.Dec.{eqb}
 use lib.ListN.{length}
 use Rattle.text.specs.Text.{Text, isNil, equal, after}
 use Rattle.text.proofs.BoolLaws.{and-l, and-r, or-right}
-use Rattle.grammar.specs.Legal.{isEnd}
+use Rattle.grammar.specs.Legal.{isEnd, fits}
 use Rattle.grammar.proofs.LegalLaws.{end-legal}
 use Rattle.prefix.specs.Prefix.{hasPrefix}
 use Rattle.prefix.specs.Elements.{names}
 use Rattle.prefix.proofs.PrefixLaws.{legal-prefix-empty}
-use Rattle.pairs.specs.Pair.{Pair, nothing, pairAt, sourceAt, allEnds, noEmptySource}
+use Rattle.pairs.specs.Pair.{Pair, nothing, pairAt, sourceAt, everyEnd, allEnds, allShort, noEmptySource}
 use Rattle.pairs.specs.Best.{bestBy, serves, best}
 use Rattle.maps.specs.Map.{Map, chosenOut}
 use Rattle.maps.specs.New.{isRoots, anyRoots, noRoots, sorted, via, implied, keep, canonical, new}
-use Rattle.maps.proofs.EndLaws.{ends-source, ends-target, all, areEnds, ends-all, isFull, full-all, fromParts-keeps}
+use Rattle.maps.proofs.EndLaws.{ends-target, all, isFull, full-all, fromParts-keeps}
 use Rattle.relocates.specs.Status.{structural, statusByte, occurrence, active, roots, relocateMap}
 
 module _ (ok : Pair → Bool) where
@@ -44,13 +44,32 @@ module _ (ok : Pair → Bool) where
   relocate-keeps l each h =
       fromParts-keeps ok (active l (length l) ++ roots ∷ []) false (all-more (active l (length l)) roots (active-keeps l each (length l)) h)
 
-root-ends : areEnds roots ≡ true
-unfolding isEnd
-root-ends = refl
+-- a test of texts that the empty text, `/` and every end of the list pass, every end of the map passes
+module _ (passes : Text → Bool) (none-passes : passes [] ≡ true) where
+  abbrev both : Pair → Bool
+  both x = passes (x .source) && passes (x .target)
+
+  every-all : (l : List Pair) → everyEnd passes l ≡ all both l
+  unfolding everyEnd all
+  every-all [] = refl
+  every-all (x ∷ l) = ap (λ (b : Bool). both x && b) (every-all l)
+
+  every-at : (l : List Pair) → everyEnd passes l ≡ true → (n : ℕ) → both (pairAt l n) ≡ true
+  unfolding everyEnd
+  every-at [] e n = rw none-passes
+  every-at (x ∷ l) e zero = and-l (both x) (everyEnd passes l) e
+  every-at (x ∷ l) e (suc n) = every-at l (and-r (both x) (everyEnd passes l) e) n
+
+  relocate-every : (l : List Pair) → passes (47 ∷ []) ≡ true → everyEnd passes l ≡ true → everyEnd passes ((relocateMap l) .pairs) ≡ true
+  relocate-every l root-passes e = every-all ((relocateMap l) .pairs) ∙ relocate-keeps both l (λ n h. every-at l e n) (rw root-passes)
 
 pub relocate-ends : (l : List Pair) → allEnds l ≡ true → allEnds ((relocateMap l) .pairs) ≡ true
-relocate-ends l e =
-    ends-all ((relocateMap l) .pairs) ∙ relocate-keeps areEnds l (λ n h. rw (ends-source l e n, ends-target l e n)) root-ends
+unfolding allEnds isEnd
+relocate-ends l = relocate-every isEnd refl l refl
+
+pub relocate-short : (l : List Pair) → allShort l ≡ true → allShort ((relocateMap l) .pairs) ≡ true
+unfolding allShort fits
+relocate-short l = relocate-every fits refl l refl
 
 -- an Active pair has an empty target beside an empty source: otherwise it is structural
 abbrev fullOrGone : Pair → Bool

@@ -1,0 +1,190 @@
+-- The way as the code goes it is the way of the definitions, for legs that passed the questions. Assumes nothing.
+use mathlib.Core.Path.{_≡_, refl, sym, ap, _∙_}
+use mathlib.Core.Bool.{Bool, true, false, cond, _&&_}
+use mathlib.Core.List.{List, [], _∷_, _++_, map, map-append, reverse, reverse-cons}
+use Prim.Native.Nat.{ℕ, zero, suc, _≤_, _<_}
+use native.Mathlib.Omega.{arith}
+use lib.Dec.{leb}
+use lib.ListN.{length}
+use borrow.Author.Tests.{le-leb, leb-true}
+use Rattle.text.specs.Text.{Text}
+use Rattle.text.proofs.BoolLaws.{and-l, and-r}
+use Rattle.grammar.specs.Legal.{legal, fits}
+use Rattle.parts.specs.Strip.{strip}
+use Rattle.parts.proofs.StripLaws.{strip-shorter, strip-lacks, strip-same, strip-legal}
+use Rattle.pairs.specs.Pair.{Pair, allEnds, allShort}
+use Rattle.path.specs.Outcome.{Outcome, path, refused, given}
+use Rattle.asking.specs.Asking.{pairsOf, every}
+use Rattle.asking.proofs.PassLaws.{Sound}
+use Rattle.maps.specs.Map.{Map, chosenOut, plainOut, plainHome, invertible, translated}
+use Rattle.maps.specs.Leg.{translate, home, PlainPath}
+use Rattle.maps.proofs.OutcomeLaws.{given-path}
+use Rattle.maps.proofs.LegLaws.{leg-next}
+use Rattle.carry.proofs.QuickLaws.{quick-home as home-quickly, quick-translated}
+use Rattle.route.specs.Leg.{Leg, by-map, by-relocates, legMap, outward, homeward}
+use Rattle.route.specs.Route.{onward, along}
+use Rattle.route.proofs.RelocateLaws.{relocate-ends, relocate-short}
+use Rattle.legs.specs.Lent.{LentRoute, kindAt, listAt, legOf, legAt, legsIn}
+use Rattle.legs.specs.Laid.{mapAt, Laid}
+use Rattle.routing.specs.Calls.{wayOver}
+use Rattle.routing.specs.Quick.{quickLeg, mapsIn, quickOver, entering}
+
+-- a way over legs is the way over their maps
+along-map : {A B : Type 0} (go : B → Text → Outcome) (f : A → B) (xs : List A) (p : Text) → along (λ (x : A). go (f x)) xs p ≡ along go (map f xs) p
+unfolding along
+along-map go f [] p = refl
+along-map {A} go f (x ∷ xs) p = by (go (f x) p) (along-map go f xs)
+  where
+    by : (o : Outcome) → ((q : Text) → along (λ (y : A). go (f y)) xs q ≡ along go (map f xs) q)
+        → onward (along (λ (y : A). go (f y)) xs) o ≡ onward (along go (map f xs)) o
+    by (path q) ih = ih q
+    by (refused x) ih = refl
+
+-- two ways are the same where each leg gives the same for what reaches it
+along-same : {A : Type 0} (C : Text → Type 0) (good : A → Bool) (f g : A → Text → Outcome)
+    → ((x : A) (p : Text) → good x ≡ true → C p → f x p ≡ g x p) → ((x : A) (p q : Text) → good x ≡ true → C p → f x p ≡ path q → C q)
+    → (xs : List A) (p : Text) → every good xs ≡ true → C p → along f xs p ≡ along g xs p
+unfolding along every
+along-same C good f g same next [] p e c = refl
+along-same C good f g same next (x ∷ xs) p e c =
+    by (f x p) refl (along-same C good f g same next xs) ∙ ap (onward (along g xs)) (same x p first c)
+  where
+    first : good x ≡ true
+    first = and-l (good x) (every good xs) e
+
+    by : (o : Outcome) → f x p ≡ o → ((q : Text) → every good xs ≡ true → C q → along f xs q ≡ along g xs q) → onward (along f xs) o ≡ onward (along g xs) o
+    by (path q) h ih = ih q (and-r (good x) (every good xs) e) (next x p q first c h)
+    by (refused n) h ih = refl
+
+-- ends are ends, and short
+abbrev soundMap : Map → Bool
+soundMap m = allEnds (m .pairs) && allShort (m .pairs)
+
+module _ (m : Map) (s : soundMap m ≡ true) where
+  its-ends : allEnds (m .pairs) ≡ true
+  its-ends = and-l (allEnds (m .pairs)) (allShort (m .pairs)) s
+
+  its-shorts : allShort (m .pairs) ≡ true
+  its-shorts = and-r (allEnds (m .pairs)) (allShort (m .pairs)) s
+
+fits-short : (p : Text) → fits p ≡ true → length p ≤ 255
+unfolding fits
+fits-short p h = leb-true (length p) 255 h
+
+-- the way out, of a path without selections
+out-leg : (m : Map) (p : Text) → soundMap m ≡ true → PlainPath p → translate m p ≡ quickLeg false m p
+unfolding translate translated quickLeg
+out-leg m p s c =
+    rw (strip-same p (c .is-plain)) (sym (quick-translated m p (its-ends m s) (its-shorts m s) (c .is-legal) (fits-short p (c .is-short))))
+
+out-next : (m : Map) (p q : Text) → soundMap m ≡ true → PlainPath p → translate m p ≡ path q → PlainPath q
+out-next m p q s c = leg-next m (its-ends m s) p q c
+
+quick-out-way : (ms : List Map) (p : Text) → every soundMap ms ≡ true → PlainPath p → along translate ms p ≡ along (quickLeg false) ms p
+quick-out-way = along-same PlainPath soundMap translate (quickLeg false) out-leg out-next
+
+-- the way home, of any path
+pub record Whole (p : Text) : Type 0 where
+  pub is-legal : legal p ≡ true
+  pub is-short : fits p ≡ true
+
+home-leg : (m : Map) (p : Text) → soundMap m ≡ true → Whole p → home m p ≡ quickLeg true m p
+unfolding home quickLeg
+home-leg m p s c = sym (home-quickly m p (its-ends m s) (c .is-legal) (fits-short p (c .is-short)))
+
+home-next : (m : Map) (p q : Text) → soundMap m ≡ true → Whole p → home m p ≡ path q → Whole q
+unfolding home
+home-next m p q s c h = let w = given-path (plainHome m p) q h in record { is-legal = w .2; is-short = w .1 }
+
+quick-home-way : (ms : List Map) (p : Text) → every soundMap ms ≡ true → Whole p → along home ms p ≡ along (quickLeg true) ms p
+quick-home-way = along-same Whole soundMap home (quickLeg true) home-leg home-next
+
+-- the first leg strips the selections, so they may be stripped before it
+strip-first : (m : Map) (ms : List Map) (p : Text) → along translate (m ∷ ms) p ≡ along translate (m ∷ ms) (strip p)
+unfolding along translate translated
+strip-first m ms p = rw (strip-same (strip p) (strip-lacks p))
+
+strip-before : (ms : List Map) (m : Map) (p : Text) → along translate (ms ++ m ∷ []) p ≡ along translate (ms ++ m ∷ []) (strip p)
+strip-before [] m p = strip-first m [] p
+strip-before (x ∷ ms) m p = strip-first x (ms ++ m ∷ []) p
+
+strip-plain : (p : Text) → Whole p → PlainPath (strip p)
+unfolding fits
+strip-plain p c = record {
+  is-legal = strip-legal p (c .is-legal);
+  is-short = le-leb (length (strip p)) 255 (omega (arith, strip-shorter p, fits-short p (c .is-short)));
+  is-plain = strip-lacks p;
+}
+
+-- the maps of legs whose lists are sound
+sound-leg : (k : ℕ) (l : List Pair) → allEnds l ≡ true → allShort l ≡ true → soundMap (legMap (legOf k l)) ≡ true
+unfolding legOf legMap
+sound-leg zero l e s = rw (e, s)
+sound-leg (suc zero) l e s = rw (e, s)
+sound-leg (suc (suc k)) l e s = rw (relocate-ends l e, relocate-short l s)
+
+every-snoc : {A : Type 0} (good : A → Bool) (xs : List A) (x : A) → every good xs ≡ true → good x ≡ true → every good (xs ++ x ∷ []) ≡ true
+unfolding every
+every-snoc good [] x e h = rw h
+every-snoc good (y ∷ xs) x e h = rw (and-l (good y) (every good xs) e) (every-snoc good xs x (and-r (good y) (every good xs) e) h)
+
+every-reverse : {A : Type 0} (good : A → Bool) (xs : List A) → every good xs ≡ true → every good (reverse xs) ≡ true
+unfolding every
+every-reverse good [] e = refl
+every-reverse good (x ∷ xs) e =
+    rw (reverse-cons x xs) (every-snoc good (reverse xs) x (every-reverse good xs (and-r (good x) (every good xs) e)) (and-l (good x) (every good xs) e))
+
+map-reverse : {A B : Type 0} (f : A → B) (xs : List A) → map f (reverse xs) ≡ reverse (map f xs)
+map-reverse f [] = refl
+map-reverse f (x ∷ xs) =
+    rw (reverse-cons x xs, reverse-cons (f x) (map f xs), map-append f (reverse xs) (x ∷ []), map-reverse f xs)
+
+module _ (r : LentRoute) where
+  maps-snoc : (n : ℕ) → map legMap (legsIn r (suc n)) ≡ map legMap (legsIn r n) ++ legMap (legAt r n) ∷ []
+  unfolding legsIn
+  maps-snoc n = map-append legMap (legsIn r n) (legAt r n ∷ [])
+
+  sound-legs : (n : ℕ) → ((k : ℕ) → k < n → Sound (listAt r k)) → every soundMap (map legMap (legsIn r n)) ≡ true
+  unfolding legsIn legAt every
+  sound-legs zero s = refl
+  sound-legs (suc n) s =
+      rw (maps-snoc n)
+      (every-snoc soundMap (map legMap (legsIn r n)) (legMap (legAt r n)) (sound-legs n (λ k h. s k (omega arith)))
+      (sound-leg (kindAt (r .legs) n) (pairsOf (listAt r n)) (s n (omega arith) .ends) (s n (omega arith) .shorts)))
+
+  -- a route that stands for this one has the maps of its legs
+  laid-maps : (s : LentRoute) (n : ℕ) → Laid r s n → mapsIn s n ≡ map legMap (legsIn r n)
+  unfolding mapsIn legsIn Laid
+  laid-maps s zero h = refl
+  laid-maps s (suc n) h = rw (maps-snoc n, laid-maps s n (λ k i. h k (omega arith)), h n (omega arith))
+
+  module _ (s : LentRoute) where
+    no-legs : (p : Text) → wayOver false (legsIn r 0) p ≡ quickOver false s 0 (entering false 0 p)
+    unfolding wayOver quickOver entering legsIn mapsIn along
+    no-legs p = refl
+
+    quick-out : (n : ℕ) → Laid r s n → ((k : ℕ) → k < n → Sound (listAt r k)) → (p : Text) → Whole p
+        → wayOver false (legsIn r n) p ≡ quickOver false s n (entering false n p)
+    unfolding wayOver quickOver entering outward
+    quick-out zero h sound p c = no-legs p
+    quick-out (suc n) h sound p c =
+        rw (laid-maps s (suc n) h)
+        (along-map translate legMap (legsIn r (suc n)) p
+        ∙ ap (λ (ms : List Map). along translate ms p) (maps-snoc n)
+        ∙ strip-before (map legMap (legsIn r n)) (legMap (legAt r n)) p
+        ∙ ap (λ (ms : List Map). along translate ms (strip p)) (sym (maps-snoc n))
+        ∙ quick-out-way (map legMap (legsIn r (suc n))) (strip p) (sound-legs (suc n) sound) (strip-plain p c))
+
+    quick-home : (n : ℕ) → Laid r s n → ((k : ℕ) → k < n → Sound (listAt r k)) → (p : Text) → Whole p
+        → wayOver true (legsIn r n) p ≡ quickOver true s n (entering true n p)
+    unfolding wayOver quickOver entering homeward
+    quick-home n h sound p c =
+        rw (laid-maps s n h)
+        (along-map home legMap (reverse (legsIn r n)) p
+        ∙ ap (λ (ms : List Map). along home ms p) (map-reverse legMap (legsIn r n))
+        ∙ quick-home-way (reverse (map legMap (legsIn r n))) p (every-reverse soundMap (map legMap (legsIn r n)) (sound-legs n sound)) c)
+
+    pub quick-way : (homeward : Bool) (n : ℕ) → Laid r s n → ((k : ℕ) → k < n → Sound (listAt r k)) → (p : Text) → Whole p
+        → wayOver homeward (legsIn r n) p ≡ quickOver homeward s n (entering homeward n p)
+    quick-way false = quick-out
+    quick-way true = quick-home

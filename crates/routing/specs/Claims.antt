@@ -1,0 +1,35 @@
+-- Demand 3 of the calls themselves: their replies and what lent memory holds after them are read off `routeCall` (the contracts in
+-- src/lib.rt), so these are claims about what the program does. Proved in proofs/Corollary.antt.
+use mathlib.Core.Path.{_≡_}
+use mathlib.Core.Logic.{_↔_}
+use mathlib.Core.Bool.{true, false}
+use Prim.Native.Nat.{ℕ, suc, _≤_, _<_}
+use lib.ListN.{length, take}
+use Rattle.text.specs.Text.{Text, lacks}
+use Rattle.pairs.specs.Pair.{noEmptySource}
+use Rattle.path.specs.declared.Reply.the-variants.{Written}
+use Rattle.path.specs.Outcome.{path, reply, memory}
+use Rattle.maps.specs.Leg.{ThereAndBack}
+use Rattle.route.specs.Leg.{legMap}
+use Rattle.legs.specs.Lent.{LentRoute, lentRoute, legAt}
+use Rattle.routing.specs.Calls.{routeCall}
+
+-- the route of the first k legs
+abbrev pub firstLegs : LentRoute → ℕ → LentRoute
+firstLegs r k = lentRoute (r .store) (r .places) (r .legs) k
+
+pub record CallsReturn (r : LentRoute) (p : Text) : Type 0 where
+  -- A call out that is answered with n bytes is undone by the call home on these bytes: it answers with the path's own length and leaves
+  -- the path.
+  pub home-again : (before behind : Text) (n : ℕ) → reply (routeCall false r p (length before)) ≡ Written n → 255 ≤ length behind
+      → (q : Text) → q ≡ take n (memory (routeCall false r p (length before)) before)
+      → (reply (routeCall true r q (length behind)) ≡ Written (length p)) × (take (length p) (memory (routeCall true r q (length behind)) behind) ≡ p)
+  -- Whether or not the way out is stopped further on: where the call over the first k legs gives t, the call over one more, whose map has
+  -- no empty source, gives q exactly when plain mapping over that map takes t to q and q plainly back to t.
+  pub exact : (k room : ℕ) (t : Text) → k < r .count → routeCall false (firstLegs r k) p room ≡ path t
+      → noEmptySource ((legMap (legAt r k)) .pairs) ≡ true
+      → (q : Text) → (routeCall false (firstLegs r (suc k)) p room ≡ path q) ↔ ThereAndBack (legMap (legAt r k)) t q
+
+-- for every route in lent memory whose legs pass the questions, and every path free of variant selections
+abbrev pub CallsReturnAlways : Type 0
+CallsReturnAlways = (r : LentRoute) (p : Text) → lacks 123 p ≡ true → CallsReturn r p
