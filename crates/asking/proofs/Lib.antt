@@ -1,2 +1,3 @@
 pub mod AskWays
+pub mod EarlierLaws
 pub mod PassLaws

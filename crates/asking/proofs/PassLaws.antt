@@ -1,6 +1,6 @@
 -- What lists and texts that passed questions 1 to 4 are. Assumes nothing.
-use mathlib.Core.Path.{_≡_, refl, sym, _∙_}
-use mathlib.Core.Bool.{Bool, true, false, cond, _&&_}
+use mathlib.Core.Path.{_≡_, refl}
+use mathlib.Core.Bool.{Bool, true, false, _&&_}
 use mathlib.Core.List.{List, [], _∷_}
 use Prim.Native.Nat.{ℕ, _*_, _/_, _≤_}
 use native.Mathlib.Omega.{arith}
@@ -11,11 +11,8 @@ use Rattle.text.specs.Text.{Text}
 use Rattle.text.proofs.BoolLaws.{and-l, and-r}
 use Rattle.grammar.specs.Legal.{legal, fits, isEnd}
 use Rattle.pairs.specs.Pair.{allShort, allEnds}
-use Rattle.pairs.specs.Places.{placesFit, placesAll}
 use Rattle.pairs.proofs.PlaceLaws.{every-pairIn, fit-texts}
-use Rattle.path.specs.declared.Refusal.the-variants.{TooLong, Illegal, NotAnEnd, TooMany}
-use Rattle.path.specs.declared.Asked.{Asked}
-use Rattle.path.specs.declared.Asked.the-variants.{Passed, Refused}
+use Rattle.path.specs.declared.Asked.the-variants.{Passed}
 use Rattle.asking.specs.Asking.{Lent, pairsOf, present, listFits, listAll, listCounts, every, firstNo, asked}
 
 -- a list that passed: its pairs are all there, at most 64, with short ends
@@ -71,6 +68,11 @@ module _ (ls : List Lent) (ts es : List Text) (h : asked ls ts es ≡ Passed) wh
 
   counted-lists : every listCounts ls ≡ true
   counted-lists = answers .3
+
+  -- without the texts beside them the lists pass too
+  pub lists-pass : asked ls [] [] ≡ Passed
+  unfolding asked every firstNo
+  lists-pass = rw (short-lists, and-r (every legal ts) (every (listAll legal) ls) (answers .1), end-lists, counted-lists) refl
 
 module _ {A : Type 0} (f : A → Bool) (x : A) (xs : List A) (h : every f (x ∷ xs) ≡ true) where
   head-passes : f x ≡ true

@@ -11,6 +11,7 @@ use Rattle.pairs.specs.Places.{pairsIn, placesFit, placesAll}
 use Rattle.path.specs.declared.Refusal.the-variants.{TooLong, Illegal, NotAnEnd, TooMany}
 use Rattle.path.specs.declared.Asked.{Asked}
 use Rattle.path.specs.declared.Asked.the-variants.{Passed, Refused}
+use Rattle.path.specs.Refusal.{number}
 
 -- a list of pairs as a caller lends it: a store, the places in it, and a count
 pub record Lent : Type 0 where
@@ -57,3 +58,9 @@ unfolding firstNo every fits legal isEnd listFits listAll listCounts
 asked lists texts ends =
     firstNo (every fits texts && every listFits lists) (every legal texts && every (listAll legal) lists)
     (every isEnd ends && every (listAll isEnd) lists) (every listCounts lists)
+
+-- "The first 'no' gives its number": of two answers the earlier refusal
+unfoldable pub earlierOf : Asked → Asked → Asked
+earlierOf Passed b = b
+earlierOf (Refused x) Passed = Refused x
+earlierOf (Refused x) (Refused y) = cond (leb (number x) (number y)) (Refused x) (Refused y)

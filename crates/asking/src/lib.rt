@@ -4,7 +4,7 @@ ghost use mathlib.Core.Path.{_≡_};
 ghost use mathlib.Core.Bool.{Bool, _&&_};
 ghost use mathlib.Core.List.{[], _∷_};
 ghost use Rattle.grammar.specs.Legal.{legal, fits, isEnd};
-ghost use Rattle.asking.specs.Asking.{lentList, present, listFits, listAll, listCounts, every, firstNo, asked};
+ghost use Rattle.asking.specs.Asking.{lentList, present, listFits, listAll, listCounts, every, firstNo, asked, earlierOf};
 
 // How many places the slice has for the pairs that are counted.
 fn places_of(places: &[usize], count: usize) -> usize
@@ -91,6 +91,22 @@ pub fn both(a: bool, b: bool) -> bool
 {
     if !a {
         return false;
+    }
+    b
+}
+
+// Of two answers the earlier refusal.
+pub fn earlier(a: path::Asked, b: path::Asked) -> path::Asked
+    ensures { λ r. ⌜ r ≡ earlierOf a b ⌝ }
+{
+    let path::Asked::Refused(x) = a else {
+        return b;
+    };
+    let path::Asked::Refused(y) = b else {
+        return a;
+    };
+    if codes::number_of(x) <= codes::number_of(y) {
+        return a;
     }
     b
 }

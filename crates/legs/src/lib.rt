@@ -1,1 +1,119 @@
-// The legs of a route in lent memory: document 01's questions 1 to 4 of them, and the map of each leg, made once for many paths.
+// The legs of a route in lent memory: document 01's questions 1 to 4 of them, and the map of each leg,
+// made once for many paths. Every public function is defined for any bytes and any numbers.
+ghost use mathlib.Core.Path.{_≡_};
+ghost use mathlib.Core.Bool.{cond};
+ghost use mathlib.Core.List.{[], _∷_};
+ghost use Prim.Native.Nat.{_+_, _*_, _<_};
+ghost use lib.ListN.{getD, drop};
+ghost use Rattle.path.specs.declared.Asked.the-variants.{Passed, Refused};
+ghost use Rattle.path.specs.declared.Refusal.the-variants.{TooMany};
+ghost use Rattle.asking.specs.Asking.{asked};
+ghost use Rattle.legs.specs.Lent.{lentRoute, kindAt, firstAt, sizeAt, listAt, listsIn, present, legsCount, routeAsked};
+ghost use Rattle.legs.specs.Laid.{hasRelocates};
+
+// Number j of leg k's three.
+fn number_at(legs: &[usize], k: usize, j: usize) -> usize
+    requires { ⌜ j < 3 ⌝ }
+    ensures { λ r. ⌜ r ≡ getD (now (legs .entry)) (3 * k + j) 0 ⌝ }
+{
+    if legs.len() / 3 < k {
+        return 0;
+    }
+    let i = 3 * k + j;
+    if legs.len() <= i {
+        return 0;
+    }
+    legs[i]
+}
+
+// The kind of leg k.
+pub fn kind_at(legs: &[usize], k: usize) -> usize
+    ensures { λ r. ⌜ r ≡ kindAt (now (legs .entry)) k ⌝ }
+{
+    number_at(legs, k, 0)
+}
+
+// How many pairs leg k has.
+pub fn size_at(legs: &[usize], k: usize) -> usize
+    ensures { λ r. ⌜ r ≡ sizeAt (now (legs .entry)) k ⌝ }
+{
+    number_at(legs, k, 2)
+}
+
+// The places from leg k's first pair on.
+pub fn leg_places<'a>(places: &'a [usize], legs: &[usize], k: usize) -> &'a [usize]
+    ensures { λ r. ⌜ now r ≡ drop (4 * firstAt (now (legs .entry)) k) (now (places .entry)) ⌝ }
+{
+    let first = number_at(legs, k, 1);
+    if places.len() / 4 < first {
+        return &places[..0];
+    }
+    let at = 4 * first;
+    &places[at..]
+}
+
+// How many of the counted legs have their numbers in the slice.
+fn present_legs(legs: &[usize], count: usize) -> usize
+    ensures { λ r. ⌜ r ≡ present (lentRoute [] [] (now (legs .entry)) count) ⌝ }
+{
+    let held = legs.len() / 3;
+    if count <= held {
+        return count;
+    }
+    held
+}
+
+// Question 4 of the number of legs.
+fn ask_count(legs: &[usize], count: usize) -> path::Asked
+    ensures { λ r. ⌜ r ≡ cond (legsCount (lentRoute [] [] (now (legs .entry)) count)) Passed (Refused TooMany) ⌝ }
+{
+    if 16 < count {
+        return path::Asked::Refused(path::Refusal::TooMany);
+    }
+    if legs.len() / 3 < count {
+        return path::Asked::Refused(path::Refusal::TooMany);
+    }
+    path::Asked::Passed
+}
+
+// Questions 1 to 4 of leg k's list.
+fn ask_leg(store: &[u8], places: &[usize], legs: &[usize], k: usize) -> path::Asked
+    ensures { λ r. ⌜ r ≡ asked (listAt (lentRoute (now (store .entry)) (now (places .entry)) (now (legs .entry)) k) k ∷ []) [] [] ⌝ }
+{
+    asking::ask_pairs(store, leg_places(places, legs, k), size_at(legs, k))
+}
+
+// Questions 1 to 4 of the lists of the first n legs.
+fn ask_lists(store: &[u8], places: &[usize], legs: &[usize], n: usize) -> path::Asked
+    ensures { λ r. ⌜ r ≡ asked (listsIn (lentRoute (now (store .entry)) (now (places .entry)) (now (legs .entry)) n) n) [] [] ⌝ }
+{
+    let mut q = path::Asked::Passed;
+    let mut k = 0;
+    while k < n {
+        q = asking::earlier(q, ask_leg(store, places, legs, k));
+        k += 1;
+    }
+    q
+}
+
+// Questions 1 to 4 of a route.
+pub fn ask_legs(store: &[u8], places: &[usize], legs: &[usize], count: usize) -> path::Asked
+    ensures { λ r. ⌜ r ≡ routeAsked (lentRoute (now (store .entry)) (now (places .entry)) (now (legs .entry)) count) [] ⌝ }
+{
+    let q = ask_lists(store, places, legs, present_legs(legs, count));
+    asking::earlier(q, ask_count(legs, count))
+}
+
+// Is one of the first n legs a relocate list?
+pub fn has_relocates(legs: &[usize], n: usize) -> bool
+    ensures { λ r. ⌜ r ≡ hasRelocates (now (legs .entry)) n ⌝ }
+{
+    let mut k = 0;
+    while k < n {
+        if 2 <= kind_at(legs, k) {
+            return true;
+        }
+        k += 1;
+    }
+    false
+}

@@ -1,15 +1,13 @@
 -- The three calls that carry a path as one, and such a call on a list whose own questions were put before.
 use Prim.Native.Nat.{ℕ}
-use mathlib.Core.Bool.{true, false, cond}
+use mathlib.Core.Bool.{true, false}
 use mathlib.Core.List.{List}
-use lib.Dec.{leb}
 use Rattle.text.specs.Text.{Text}
 use Rattle.parts.specs.Strip.{strip}
-use Rattle.path.specs.Refusal.{number}
 use Rattle.path.specs.declared.Asked.{Asked}
-use Rattle.path.specs.declared.Asked.the-variants.{Passed, Refused}
 use Rattle.path.specs.Outcome.{Outcome, answered}
 use Rattle.path.specs.Calls.{newCall}
+use Rattle.asking.specs.Asking.{earlierOf}
 use Rattle.maps.specs.Map.{Map}
 use Rattle.carry.specs.Quick.{quick, quickTranslate}
 use Rattle.map_function.specs.declared.MapFunction.{MapFunction}
@@ -23,12 +21,6 @@ unfolding mapSourceToTargetCall mapTargetToSourceCall translateToTargetCall
 wayCall Out store places f p room = mapSourceToTargetCall store places f p room
 wayCall Home store places f p room = mapTargetToSourceCall store places f p room
 wayCall Translated store places f p room = translateToTargetCall store places f p room
-
--- "The first 'no' gives its number": of two answers the earlier refusal
-unfoldable pub earlierOf : Asked → Asked → Asked
-earlierOf Passed b = b
-earlierOf (Refused x) Passed = Refused x
-earlierOf (Refused x) (Refused y) = cond (leb (number x) (number y)) (Refused x) (Refused y)
 
 -- what the code makes of a path once the questions have passed
 unfoldable pub quickWay : Way → Map → Text → Outcome

@@ -10,7 +10,7 @@ ghost use Rattle.maps.specs.Map.{lentMap};
 ghost use Rattle.carry.specs.Quick.{quick, quickTranslate};
 ghost use Rattle.mapping.specs.Hand.{within, handed};
 ghost use Rattle.mapping.specs.Calls.{mapSourceToTargetCall, mapTargetToSourceCall, translateToTargetCall};
-ghost use Rattle.mapping.specs.Way.{wayCall, earlierOf, quickWay, afterList};
+ghost use Rattle.mapping.specs.Way.{wayCall, quickWay, afterList};
 
 // Which way a path goes through a map.
 pub enum Way {
@@ -97,22 +97,6 @@ fn translate_stripped(
     translate_out(store, places, n, mark, &plain[..k], out)
 }
 
-// Of two answers the earlier refusal.
-fn earlier(a: path::Asked, b: path::Asked) -> path::Asked
-    ensures { λ r. ⌜ r ≡ earlierOf a b ⌝ }
-{
-    let path::Asked::Refused(x) = a else {
-        return b;
-    };
-    let path::Asked::Refused(y) = b else {
-        return a;
-    };
-    if codes::number_of(x) <= codes::number_of(y) {
-        return a;
-    }
-    b
-}
-
 // One of the three ways into lent memory.
 fn go(
     store: &[u8],
@@ -150,7 +134,7 @@ pub fn carry_after(
 {
     let count = map.count;
     let mark = map.has_root_identity;
-    let q = earlier(list, path::new(path));
+    let q = asking::earlier(list, path::new(path));
     if let path::Asked::Refused(x) = q {
         return path::Reply::Refused(x);
     }

@@ -1,7 +1,7 @@
-use Rattle.mapping.proofs.WayLaws.{earlier-passed, earlier-only, earlier-first, earlier-second}
+use Rattle.asking.proofs.EarlierLaws.{earlier-passed, earlier-only, earlier-first, earlier-second}
 use borrow.Author.Needs.{needs}
-use Rattle.mapping.proofs.earlier.Statement.{statement}
-use Rattle.mapping.proofs.earlier.Tie as tie
+use Rattle.asking.proofs.earlier.Statement.{statement}
+use Rattle.asking.proofs.earlier.Tie as tie
 
 enum-known-a : tie.Need-enum-known-a
 enum-known-a c = search needs
