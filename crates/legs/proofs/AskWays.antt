@@ -1,22 +1,21 @@
 -- What each way through the functions that read and ask legs gives. Assumes nothing.
-use mathlib.Core.Path.{_≡_, refl, sym, ap, _∙_}
-use mathlib.Core.Bool.{Bool, true, false, cond, _&&_}
-use mathlib.Core.List.{List, [], _∷_, _++_}
-use Prim.Native.Nat.{ℕ, zero, suc, _+_, _*_, _/_, _≤_, _<_}
+use mathlib.Core.Path.{_≡_, refl, sym, _∙_}
+use mathlib.Core.Bool.{cond}
+use mathlib.Core.List.{List, [], _∷_}
+use Prim.Native.Nat.{ℕ, zero, suc, _+_, _-_, _*_, _/_, _≤_, _<_}
 use native.Mathlib.Omega.{arith}
 use native.Mathlib.Numerals.{add-one}
 use lib.ListN.{length, getD, take, drop, drop-of-length-le, List·getD-eq-default}
 use borrow.Author.Tests.{le-leb, lt-leb}
 use Rattle.text.specs.Text.{Text}
-use Rattle.text.proofs.BoolLaws.{and-no}
-use Rattle.grammar.specs.Legal.{legal, fits, isEnd}
+use Rattle.text.proofs.WriteLaws.{rest-whole}
 use Rattle.path.specs.declared.Refusal.the-variants.{TooMany}
 use Rattle.path.specs.declared.Asked.{Asked}
 use Rattle.path.specs.declared.Asked.the-variants.{Passed, Refused}
-use Rattle.path.specs.Refusal.{unless}
-use Rattle.asking.specs.Asking.{listFits, listAll, listCounts, every, firstNo, asked, earlierOf}
-use Rattle.asking.proofs.EarlierLaws.{each, list-more}
+use Rattle.asking.specs.Asking.{every, firstNo, asked, earlierOf}
+use Rattle.asking.proofs.EarlierLaws.{list-more}
 use Rattle.legs.specs.Lent.{lentRoute, firstAt, sizeAt, listAt, listsIn, present, legsCount, routeAsked}
+use Rattle.legs.proofs.RouteLaws.{lists-then-count}
 
 -- `number_at`
 pub number-gone : (legs : List ℕ) (k j : ℕ) → length legs / 3 < k → 0 ≡ getD legs (3 * k + j) 0
@@ -30,8 +29,12 @@ pub first-number : (legs : List ℕ) (k r : ℕ) → r ≡ getD legs (3 * k + 0)
 first-number legs k r h = let z : 3 * k + 0 ≡ 3 * k = omega arith in rw z at h
 
 -- `leg_places`
-pub places-gone : (places legs : List ℕ) (k n : ℕ) → n ≡ firstAt legs k → length places / 4 < n → [] ≡ drop (4 * firstAt legs k) places
-places-gone places legs k n e h = rw (← e) (sym (drop-of-length-le places (omega arith)))
+module _ (places : List ℕ) (m n : ℕ) (e : m ≡ n) where
+  pub places-gone : length places / 4 < m → [] ≡ drop (4 * n) places
+  places-gone h = sym (drop-of-length-le places {i = 4 * n} (omega arith))
+
+  pub places-from : take (length places - 4 * m) (drop (4 * m) places) ≡ drop (4 * n) places
+  places-from = rw e (rest-whole places (4 * n))
 
 -- `present_legs`
 module _ (legs : List ℕ) (count : ℕ) where
@@ -59,7 +62,7 @@ module _ (legs : List ℕ) (count : ℕ) where
   unfolding legsCount
   count-passed h k = rw (le-leb count 16 h, le-leb count (length legs / 3) k)
 
-pub ruleset reads = (number-gone, number-beyond, first-number, present-all, present-held, count-over, count-beyond, count-passed)
+pub ruleset reads = (number-gone, number-beyond, first-number, present-all, present-held)
 
 module _ (store : Text) (places legs : List ℕ) where
   -- `ask_leg`
@@ -91,5 +94,6 @@ module _ (store : Text) (places legs : List ℕ) where
 
   pub route-asked : (count n : ℕ) (q a r : Asked) → n ≡ present (lentRoute [] [] legs count) → q ≡ asked (listsIn (lentRoute store places legs n) n) [] []
       → a ≡ counted legs count → r ≡ earlierOf q a → r ≡ routeAsked (lentRoute store places legs count) []
-  unfolding routeAsked present legsCount
-  route-asked count n q a r e h i j = rw (e, h, i) ?h
+  unfolding present legsCount
+  route-asked count n q a r e h i j =
+      j ∙ rw (h, i, e, lists-same (present (lentRoute [] [] legs count)) count (present (lentRoute [] [] legs count))) (lists-then-count (lentRoute store places legs count))

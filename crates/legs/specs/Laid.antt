@@ -1,7 +1,7 @@
 -- A route of maps alone, as the code goes over it, and when it stands for a route in which there are relocate lists too.
 use mathlib.Core.Path.{_≡_}
 use Prim.Native.Nat.{ℕ, _<_}
-use mathlib.Core.Bool.{Bool, not, _&&_, _||_}
+use mathlib.Core.Bool.{Bool}
 use mathlib.Core.List.{List, []}
 use lib.Dec.{eqb, leb}
 use Rattle.path.specs.declared.Asked.the-variants.{Passed}

@@ -1,4 +1,4 @@
-mod StatusWays
+pub mod StatusWays
 mod MarkWays
 mod SearchWays
 mod StepWays
