@@ -36,7 +36,7 @@ module _ (x : Leg) (e : legEnds x ≡ true) (p q : Text) (c : PlainPath p) where
   unfolding outward homeward
   step-home = leg-home (legMap x) (map-ends x e) p q c
 
-  step-exact : noEmptySource ((legMap x) .pairs) ≡ true → (outward x p ≡ path q) ↔ ThereAndBack (legMap x) p q
+  pub step-exact : noEmptySource ((legMap x) .pairs) ≡ true → (outward x p ≡ path q) ↔ ThereAndBack (legMap x) p q
   unfolding outward
   step-exact = leg-exact (legMap x) (map-ends x e) p q c
 
@@ -114,6 +114,15 @@ way-home (x ∷ xs) p q ends c e = by (outward x p) refl (λ y. way-home xs y q 
         let z = ih y (step-next x (first-ends x xs ends) p y c k) (sym (along-path outward x xs p y k) ∙ e) in
         let s = one-more homeward (reverse xs) x q y p (z .0) (step-home x (first-ends x xs ends) p y c k) in
         rw (reverse-cons x xs, met-path outward x xs p y k, reverse-cons p (met outward xs y), ← (z .1)) s
+    by (refused n) k ih = absurd (no-path (sym (along-refused outward x xs p n k) ∙ e))
+
+-- what the whole way out gives
+pub way-next : (xs : List Leg) (p q : Text) → routeEnds xs ≡ true → PlainPath p → along outward xs p ≡ path q → PlainPath q
+way-next [] p q ends c e = let z : p ≡ q = cc (along-nil outward p) in rw z at c
+way-next (x ∷ xs) p q ends c e = by (outward x p) refl (λ y. way-next xs y q (rest-ends x xs ends))
+  where
+    by : (o : Outcome) → outward x p ≡ o → ((y : Text) → PlainPath y → along outward xs y ≡ path q → PlainPath q) → PlainPath q
+    by (path y) k ih = ih y (step-next x (first-ends x xs ends) p y c k) (sym (along-path outward x xs p y k) ∙ e)
     by (refused n) k ih = absurd (no-path (sym (along-refused outward x xs p n k) ∙ e))
 
 -- what reaches a leg, whether or not the way is stopped further on

@@ -1,1 +1,3 @@
 pub mod QuickLaws
+pub mod OverWays
+pub mod Corollary

@@ -3,15 +3,17 @@
 use mathlib.Core.Path.{_≡_}
 use mathlib.Core.Logic.{_↔_}
 use mathlib.Core.Bool.{true, false}
-use Prim.Native.Nat.{ℕ, suc, _≤_, _<_}
+use mathlib.Core.List.{[]}
+use Prim.Native.Nat.{ℕ, suc, _≤_}
 use lib.ListN.{length, take}
 use Rattle.text.specs.Text.{Text, lacks}
 use Rattle.pairs.specs.Pair.{noEmptySource}
+use Rattle.path.specs.declared.Asked.the-variants.{Passed}
 use Rattle.path.specs.declared.Reply.the-variants.{Written}
 use Rattle.path.specs.Outcome.{path, reply, memory}
 use Rattle.maps.specs.Leg.{ThereAndBack}
 use Rattle.route.specs.Leg.{legMap}
-use Rattle.legs.specs.Lent.{LentRoute, lentRoute, legAt}
+use Rattle.legs.specs.Lent.{LentRoute, lentRoute, legAt, routeAsked}
 use Rattle.routing.specs.Calls.{routeCall}
 
 -- the route of the first k legs
@@ -24,12 +26,13 @@ pub record CallsReturn (r : LentRoute) (p : Text) : Type 0 where
   pub home-again : (before behind : Text) (n : ℕ) → reply (routeCall false r p (length before)) ≡ Written n → 255 ≤ length behind
       → (q : Text) → q ≡ take n (memory (routeCall false r p (length before)) before)
       → (reply (routeCall true r q (length behind)) ≡ Written (length p)) × (take (length p) (memory (routeCall true r q (length behind)) behind) ≡ p)
-  -- Whether or not the way out is stopped further on: where the call over the first k legs gives t, the call over one more, whose map has
-  -- no empty source, gives q exactly when plain mapping over that map takes t to q and q plainly back to t.
-  pub exact : (k room : ℕ) (t : Text) → k < r .count → routeCall false (firstLegs r k) p room ≡ path t
+  -- Whether or not the way out is stopped further on: where the call over the first k legs gives t, the call over one more, which passes the
+  -- questions and whose map has no empty source, gives q exactly when plain mapping over that map takes t to q, a legal path of at most 255
+  -- bytes, and q plainly back to t.
+  pub exact : (k room : ℕ) (t : Text) → routeCall false (firstLegs r k) p room ≡ path t → routeAsked (firstLegs r (suc k)) [] ≡ Passed
       → noEmptySource ((legMap (legAt r k)) .pairs) ≡ true
       → (q : Text) → (routeCall false (firstLegs r (suc k)) p room ≡ path q) ↔ ThereAndBack (legMap (legAt r k)) t q
 
--- for every route in lent memory whose legs pass the questions, and every path free of variant selections
+-- for every route in lent memory and every path free of variant selections
 abbrev pub CallsReturnAlways : Type 0
 CallsReturnAlways = (r : LentRoute) (p : Text) → lacks 123 p ≡ true → CallsReturn r p

@@ -1,23 +1,24 @@
 -- The way as the code goes it, over a route of maps alone: each leg by the quick answers of crate carry. That this is the way of the
 -- definitions is proved in proofs/QuickLaws.antt.
 use mathlib.Core.Path.{_≡_}
-use Prim.Native.Nat.{ℕ, zero, suc}
-use mathlib.Core.Bool.{Bool, true, false}
+use Prim.Native.Nat.{ℕ, zero, suc, _≤_}
+use mathlib.Core.Bool.{Bool, true, false, cond}
 use mathlib.Core.List.{List, [], _∷_, _++_, reverse}
 use lib.ListN.{length, take}
 use Rattle.text.specs.Text.{Text}
 use Rattle.parts.specs.Strip.{strip}
 use Rattle.path.specs.declared.Asked.{Asked}
+use Rattle.path.specs.declared.Asked.the-variants.{Passed, Refused as RefusedAsked}
 use Rattle.path.specs.declared.Reply.{Reply}
 use Rattle.path.specs.declared.Reply.the-variants.{Written, Refused}
 use Rattle.path.specs.Outcome.{Outcome, path, refused, answered}
 use Rattle.path.specs.Calls.{newCall}
 use Rattle.maps.specs.Map.{Map}
 use Rattle.carry.specs.Quick.{quick, quickTranslate}
-use Rattle.mapping.specs.Way.{earlierOf}
+use Rattle.asking.specs.Asking.{earlierOf}
 use Rattle.route.specs.Route.{along}
 use Rattle.legs.specs.Lent.{LentRoute}
-use Rattle.legs.specs.Laid.{mapAt}
+use Rattle.legs.specs.Laid.{mapAt, hasRelocates}
 
 -- one leg; on the way out for a path without selections
 unfoldable pub quickLeg : Bool → Map → Text → Outcome
@@ -44,10 +45,25 @@ entering false zero p = p
 entering false (suc n) p = strip p
 entering true n p = p
 
+-- .. which is the path itself where `kept` is set
+unfoldable pub Keeps : Bool → Bool → ℕ → Text → Type 0
+unfolding entering
+Keeps kept home n p = entering home n p ≡ cond kept p (strip p)
+
+-- a text of at most 255 bytes stands at the beginning of memory, with its length k
+unfoldable pub Entered : Text → ℕ → Text → Type 0
+Entered t k mem = (take k mem ≡ t) × (k ≤ 255)
+
 -- what is known of memory in which the answer of a way stands
 unfoldable pub Holds : Outcome → Reply → Text → Type 0
 Holds (path q) r mem = (r ≡ Written (length q)) × (take (length q) mem ≡ q)
 Holds (refused x) r mem = r ≡ Refused x
+
+-- the maps of a route that passed its questions are to be made where there is a relocate list
+unfoldable pub needsMaps : Asked → List ℕ → ℕ → Bool
+unfolding hasRelocates
+needsMaps Passed legs n = hasRelocates legs n
+needsMaps (RefusedAsked x) legs n = false
 
 -- a path over a route whose own questions were answered before: only those of the path are left
 unfoldable pub afterLegs : Asked → Bool → LentRoute → Text → ℕ → Outcome

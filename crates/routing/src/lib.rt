@@ -1,1 +1,105 @@
-// Document 01's route: a path out over the legs in lent memory, and a path home.
+// Document 01's route: a path out over the legs in lent memory, and a path home. The legs' maps are
+// made once for a call, and a route that has passed its questions is not asked again for each path.
+ghost use mathlib.Core.Path.{_≡_};
+ghost use mathlib.Core.Bool.{Bool, true, false};
+ghost use Prim.Native.Nat.{_≤_};
+ghost use lib.ListN.{length, take};
+ghost use Rattle.path.specs.Outcome.{reply, memory};
+ghost use Rattle.legs.specs.Lent.{lentRoute};
+ghost use Rattle.legs.specs.Laid.{mapAt};
+ghost use Rattle.routing.specs.Calls.{routeCall};
+ghost use Rattle.routing.specs.Quick.{quickLeg, quickOver, entering, Keeps, Entered, Holds, needsMaps, afterLegs};
+
+// What the map at leg k makes of a path: home, or out for a path without selections.
+fn carry_leg(
+    store: &[u8],
+    places: &[usize],
+    legs: &[usize],
+    k: usize,
+    home: bool,
+    path: &[u8],
+    made: &mut [u8; 255],
+) -> path::Reply
+    ensures { λ r. ⌜ r ≡ reply (quickLeg home (mapAt (lentRoute (now (store .entry)) (now (places .entry)) (now (legs .entry)) k) k) (now (path .entry))) ⌝ }
+    ensures { λ r. ⌜ now (made .exit) ≡ memory (quickLeg home (mapAt (lentRoute (now (store .entry)) (now (places .entry)) (now (legs .entry)) k) k) (now (path .entry))) (now (made .entry)) ⌝ }
+{
+    let list = legs::leg_places(places, legs, k);
+    let n = legs::size_at(legs, k);
+    let mark = legs::kind_at(legs, k) == 1;
+    if home {
+        return carry::map_text(store, list, n, mark, true, path, made);
+    }
+    carry::translate_text(store, list, n, mark, path, made)
+}
+
+// One leg: the path in the first `len` bytes becomes what the leg gives; a refusal leaves it.
+fn go_over(
+    store: &[u8],
+    places: &[usize],
+    legs: &[usize],
+    k: usize,
+    home: bool,
+    here: &mut [u8],
+    len: usize,
+) -> path::Reply
+    requires { ⌜ (len ≤ 255) × (length (now here) ≡ 255) ⌝ }
+    ensures { λ r. ⌜ Holds (quickLeg home (mapAt (lentRoute (now (store .entry)) (now (places .entry)) (now (legs .entry)) k) k) (take len (now (here .entry)))) r (now (here .exit)) ⌝ }
+{
+    let mut made = [0u8; 255];
+    let r = carry_leg(store, places, legs, k, home, &here[..len], &mut made);
+    let path::Reply::Written(n) = r else {
+        return r;
+    };
+    text::write_at(&made[..n], 0, here);
+    r
+}
+
+// The way out over the first n legs.
+fn way_out(
+    store: &[u8],
+    places: &[usize],
+    legs: &[usize],
+    n: usize,
+    here: &mut [u8],
+    len: usize,
+) -> path::Reply
+    requires { ⌜ (len ≤ 255) × (length (now here) ≡ 255) ⌝ }
+    ensures { λ r. ⌜ Holds (quickOver false (lentRoute (now (store .entry)) (now (places .entry)) (now (legs .entry)) n) n (take len (now (here .entry)))) r (now (here .exit)) ⌝ }
+{
+    let mut at = len;
+    let mut k = 0;
+    while k < n {
+        let r = go_over(store, places, legs, k, false, here, at);
+        let path::Reply::Written(m) = r else {
+            return r;
+        };
+        at = m;
+        k += 1;
+    }
+    path::Reply::Written(at)
+}
+
+// The way home over the first n legs, the last one first.
+fn way_home(
+    store: &[u8],
+    places: &[usize],
+    legs: &[usize],
+    n: usize,
+    here: &mut [u8],
+    len: usize,
+) -> path::Reply
+    requires { ⌜ (len ≤ 255) × (length (now here) ≡ 255) ⌝ }
+    ensures { λ r. ⌜ Holds (quickOver true (lentRoute (now (store .entry)) (now (places .entry)) (now (legs .entry)) n) n (take len (now (here .entry)))) r (now (here .exit)) ⌝ }
+{
+    let mut at = len;
+    let mut k = n;
+    while 0 < k {
+        k -= 1;
+        let r = go_over(store, places, legs, k, true, here, at);
+        let path::Reply::Written(m) = r else {
+            return r;
+        };
+        at = m;
+    }
+    path::Reply::Written(at)
+}
