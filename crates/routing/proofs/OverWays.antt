@@ -2,7 +2,7 @@
 use mathlib.Core.Path.{_≡_, refl, sym, ap, _∙_}
 use mathlib.Core.Bool.{Bool, true, false}
 use mathlib.Core.List.{List, [], _∷_, _++_, reverse, reverse-append}
-use Prim.Native.Nat.{ℕ, zero, suc, _+_, _*_, _≤_, _<_}
+use Prim.Native.Nat.{ℕ, zero, suc, _+_, _*_, _-_, _≤_, _<_}
 use native.Mathlib.Omega.{arith}
 use lib.ListN.{length, take, drop, length-take, length-append}
 use lib.Seq.{length-take-le}
@@ -179,22 +179,25 @@ module _ (store : Text) (places legs : List ℕ) (n : ℕ) where
     out-end k at here a b e l w = let z : k ≡ n = omega arith in holds-given (along (quickLeg false) (mapsIn (route n) n) p) at here (rw z at e) l w
 
   -- `way_home`: what is left of the way gives what the whole gives
-  module _ (p : Text) (k at : ℕ) (here : Text) (e : along (quickLeg true) (reverse (mapsIn (route n) (suc k))) (take at here) ≡ quickOver true (route n) n p) (r : Reply) (here′ : Text)
-      (h : Holds (quickLeg true (mapAt (route k) k) (take at here)) r here′) where
+  module _ (p : Text) (k at : ℕ) (here : Text) (l : 0 < k) (e : along (quickLeg true) (reverse (mapsIn (route n) k)) (take at here) ≡ quickOver true (route n) n p)
+      (r : Reply) (here′ : Text) (h : Holds (quickLeg true (mapAt (route (k - 1)) (k - 1)) (take at here)) r here′) where
     abbrev leg : Outcome
-    leg = quickLeg true (mapAt (route k) k) (take at here)
+    leg = quickLeg true (mapAt (route (k - 1)) (k - 1)) (take at here)
 
-    back : along (quickLeg true) (reverse (mapsIn (route n) (suc k))) (take at here) ≡ onward (along (quickLeg true) (reverse (mapsIn (route n) k))) leg
+    abbrev left : Text → Outcome
+    left = along (quickLeg true) (reverse (mapsIn (route n) (k - 1)))
+
+    back : onward left leg ≡ quickOver true (route n) n p
     unfolding mapAt listAt
-    back = maps-back (route n) (quickLeg true) k (take at here)
+    back =
+        let z : suc (k - 1) ≡ k = omega (arith, l) in
+        sym (maps-back (route n) (quickLeg true) (k - 1) (take at here)) ∙ ap (λ (j : ℕ). along (quickLeg true) (reverse (mapsIn (route n) j)) (take at here)) z ∙ e
 
-    pub home-on : (m : ℕ) → r ≡ Written m → along (quickLeg true) (reverse (mapsIn (route n) k)) (take m here′) ≡ quickOver true (route n) n p
-    home-on m w = ap (onward (along (quickLeg true) (reverse (mapsIn (route n) k)))) (sym (holds-path leg r here′ h m w)) ∙ sym back ∙ e
+    pub home-on : (m : ℕ) → r ≡ Written m → left (take m here′) ≡ quickOver true (route n) n p
+    home-on m w = ap (onward left) (sym (holds-path leg r here′ h m w)) ∙ back
 
     pub home-stopped : (x : Refusal) → r ≡ Refused x → Holds (quickOver true (route n) n p) r here′
-    home-stopped x w =
-        holds-stopped (quickOver true (route n) n p) r here′ x
-        (sym e ∙ back ∙ ap (onward (along (quickLeg true) (reverse (mapsIn (route n) k)))) (holds-refused leg r here′ h x w)) w
+    home-stopped x w = holds-stopped (quickOver true (route n) n p) r here′ x (sym back ∙ ap (onward left) (holds-refused leg r here′ h x w)) w
 
   pub home-begin : (p : Text) → along (quickLeg true) (reverse (mapsIn (route n) n)) p ≡ quickOver true (route n) n p
   unfolding quickOver

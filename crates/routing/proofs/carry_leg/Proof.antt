@@ -11,31 +11,24 @@ use Rattle.legs.proofs.kind_at.Reads as kind-at-reads
 use Rattle.legs.proofs.leg_places.Reads as leg-places-reads
 use Rattle.legs.proofs.size_at.Reads as size-at-reads
 
--- src/lib.rt:26:9
 leg-places-requires : tie.Need-leg-places-requires
 leg-places-requires c κs = search needs
 
--- src/lib.rt:27:9
 size-at-requires : tie.Need-size-at-requires
 size-at-requires c κs = search needs
 
--- src/lib.rt:28:16
 kind-at-requires : tie.Need-kind-at-requires
 kind-at-requires c κs = search needs
 
--- src/lib.rt:30:9
 map-text-requires : tie.Need-map-text-requires
 map-text-requires c κs = search needs
 
--- src/lib.rt:30:9
 returns : tie.Need-returns
 returns c = answering _ _ (leg-home _ _ _ _ _ _ _ (c .before .before .before .before .before .leg-places .ensures) (c .before .before .before .before .size-at .ensures) (c .before .before .before .kind-at .ensures) _ _ (c .before .before .if1 .taken)) _ _ _ (c .map-text .ensures)
 
--- src/lib.rt:32:5
 translate-text-requires : tie.Need-translate-text-requires
 translate-text-requires c κs = search needs
 
--- src/lib.rt:14:1
 returns-2 : tie.Need-returns-2
 returns-2 c = answering _ _ (leg-out _ _ _ _ _ _ _ (c .before .before .before .before .before .leg-places .ensures) (c .before .before .before .before .size-at .ensures) (c .before .before .before .kind-at .ensures) _ _ (c .before .before .if1 .left)) _ _ _ (c .translate-text .ensures)
 

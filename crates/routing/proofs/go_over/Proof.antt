@@ -8,51 +8,39 @@ use Rattle.routing.proofs.go_over.Lts as lts
 use Rattle.routing.proofs.carry_leg.Reads as carry-leg-reads
 use Rattle.text.proofs.write_at.Reads as write-at-reads
 
--- src/lib.rt:49:53
 slice-reshare-prefix-carry-leg : tie.Need-slice-reshare-prefix-carry-leg
 slice-reshare-prefix-carry-leg c = search needs
 
--- src/lib.rt:49:53
 slice-aggregate-carry-leg : tie.Need-slice-aggregate-carry-leg
 slice-aggregate-carry-leg c = part-size _ _ (omega (arith, c .before .before .before .before .before .pre .0, c .before .before .before .before .before .pre .1))
 
--- src/lib.rt:49:9
 carry-leg-requires : tie.Need-carry-leg-requires
 carry-leg-requires c κs = search needs
 
--- src/lib.rt:50:30
 enum-known-r : tie.Need-enum-known-r
 enum-known-r c = search needs
 
--- src/lib.rt:51:9
 enum-told : tie.Need-enum-told
 enum-told c = search needs
 
--- src/lib.rt:51:9
 same-length : tie.Need-same-length
 same-length c = search needs
 
--- src/lib.rt:51:9
 returns : tie.Need-returns
 returns c = over-refused _ _ _ (c .before .before .carry-leg .ensures .0) _ (c .enum-told .given .1)
 
--- src/lib.rt:53:20
 array-share-prefix-made : tie.Need-array-share-prefix-made
 array-share-prefix-made c = over-inside _ _ _ _ _ _ (c .before .before .before .carry-leg .ensures) _ (c .before .r .given .1)
 
--- src/lib.rt:53:20
 slice-aggregate-write-at : tie.Need-slice-aggregate-write-at
 slice-aggregate-write-at c = part-size _ _ (over-inside _ _ _ _ _ _ (c .before .before .before .before .carry-leg .ensures) _ (c .before .before .r .given .1))
 
--- src/lib.rt:53:5
 write-at-requires : tie.Need-write-at-requires
 write-at-requires c κs = search needs
 
--- src/lib.rt:36:1
 same-length-2 : tie.Need-same-length-2
 same-length-2 c = search needs
 
--- src/lib.rt:36:1
 returns-2 : tie.Need-returns-2
 returns-2 c = over-written _ _ _ _ _ _ (c .before .before .before .before .before .before .before .before .carry-leg .ensures) _ (c .before .before .before .before .before .before .r .given .1) _ _ (c .before .before .before .before .before .before .before .before .before .before .before .before .before .before .before .pre .1) (c .before .before .write-at .ensures)
 
