@@ -129,7 +129,7 @@ module _ (p buf : Text) (f : Fit) (s : length p ≤ 255) (l : length buf ≡ 255
     unfolding stripMemory
     holds = rw (le-leb (length p) (length buf) (omega arith)) at m
 
-    stripped-back : take k mem ≡ strip p
+    pub stripped-back : take k mem ≡ strip p
     stripped-back = rw (holds, stripped-length) (read-back (strip p) buf)
 
     pub stripped-part : k ≡ length (take k mem)

@@ -1,3 +1,4 @@
 pub mod QuickLaws
 pub mod OverWays
 pub mod Corollary
+pub mod CallWays

@@ -72,16 +72,19 @@ module _ (o : Outcome) (r : Reply) (mem : Text) (h : Holds o r mem) where
       go (path q) w = let z : n ≡ length q = let v : Written n ≡ Written (length q) = sym e ∙ w .0 in cc in ap path (sym (w .1) ∙ ap (λ (k : ℕ). take k mem) (sym z))
       go (refused x) w = absurd (written-refused n x (sym e ∙ w))
 
-  pub holds-size : (n : ℕ) → r ≡ Written n → length mem ≡ 255 → n ≤ 255
+  pub holds-inside : (n : ℕ) → r ≡ Written n → n ≤ length mem
   unfolding Holds
-  holds-size n e l = go o h
+  holds-inside n e = go o h
     where
-      go : (o : Outcome) → Holds o r mem → n ≤ 255
+      go : (o : Outcome) → Holds o r mem → n ≤ length mem
       go (path q) w =
           let z : n ≡ length q = let v : Written n ≡ Written (length q) = sym e ∙ w .0 in cc in
           let y : length (take (length q) mem) ≡ length q = ap length (w .1) in
-          omega (arith, z, y, length-take (length q) mem, l)
+          omega (arith, z, y, length-take (length q) mem)
       go (refused x) w = absurd (written-refused n x (sym e ∙ w))
+
+  pub holds-size : (n : ℕ) → r ≡ Written n → length mem ≡ 255 → n ≤ 255
+  holds-size n e l = omega (arith, holds-inside n e, l)
 
   pub holds-refused : (x : Refusal) → r ≡ Refused x → o ≡ refused x
   unfolding Holds

@@ -103,3 +103,111 @@ fn way_home(
     }
     path::Reply::Written(at)
 }
+
+// The way over the first n legs, home or out.
+fn way(
+    store: &[u8],
+    places: &[usize],
+    legs: &[usize],
+    n: usize,
+    home: bool,
+    here: &mut [u8],
+    len: usize,
+) -> path::Reply
+    requires { ⌜ (len ≤ 255) × (length (now here) ≡ 255) ⌝ }
+    ensures { λ r. ⌜ Holds (quickOver home (lentRoute (now (store .entry)) (now (places .entry)) (now (legs .entry)) n) n (take len (now (here .entry)))) r (now (here .exit)) ⌝ }
+{
+    if home {
+        return way_home(store, places, legs, n, here, len);
+    }
+    way_out(store, places, legs, n, here, len)
+}
+
+// Is the path taken with its selections? Only the first leg of a way out strips them.
+fn keeps_selections(home: bool, n: usize, path: &[u8]) -> bool
+    ensures { λ r. ⌜ Keeps r home n (now (path .entry)) ⌝ }
+{
+    if home {
+        return true;
+    }
+    if n == 0 {
+        return true;
+    }
+    text::lacks_byte(path, b'{')
+}
+
+// The path as the first leg takes it, into memory of the call's own; and its length.
+fn enter(home: bool, n: usize, path: &[u8], here: &mut [u8]) -> usize
+    requires { ⌜ (length (now path) ≤ 255) × (length (now here) ≡ 255) ⌝ }
+    ensures { λ r. ⌜ Entered (entering home n (now (path .entry))) r (now (here .exit)) ⌝ }
+{
+    if keeps_selections(home, n, path) {
+        text::write_at(path, 0, here);
+        return path.len();
+    }
+    let fit = parts::strip_into(path, here);
+    let text::Fit::Written(k) = fit else {
+        return 0;
+    };
+    k
+}
+
+// The whole way, from the path to lent memory.
+fn travel(
+    store: &[u8],
+    places: &[usize],
+    legs: &[usize],
+    n: usize,
+    home: bool,
+    path: &[u8],
+    out: &mut [u8],
+) -> path::Reply
+    requires { ⌜ (length (now path) ≤ 255) × (255 ≤ length (now out)) ⌝ }
+    ensures { λ r. ⌜ r ≡ reply (quickOver home (lentRoute (now (store .entry)) (now (places .entry)) (now (legs .entry)) n) n (entering home n (now (path .entry)))) ⌝ }
+    ensures { λ r. ⌜ now (out .exit) ≡ memory (quickOver home (lentRoute (now (store .entry)) (now (places .entry)) (now (legs .entry)) n) n (entering home n (now (path .entry)))) (now (out .entry)) ⌝ }
+{
+    let mut here = [0u8; 255];
+    let len = enter(home, n, path, &mut here);
+    let r = way(store, places, legs, n, home, &mut here, len);
+    let path::Reply::Written(m) = r else {
+        return r;
+    };
+    text::write_at(&here[..m], 0, out);
+    r
+}
+
+// A path over a route of maps, where `list` is the answer that the legs' own questions have got: only
+// those of the path are put here.
+pub fn route_after(
+    list: path::Asked,
+    store: &[u8],
+    places: &[usize],
+    legs: &[usize],
+    n: usize,
+    home: bool,
+    path: &[u8],
+    out: &mut [u8],
+) -> path::Reply
+    ensures { λ r. ⌜ r ≡ reply (afterLegs list home (lentRoute (now (store .entry)) (now (places .entry)) (now (legs .entry)) n) (now (path .entry)) (length (now (out .entry)))) ⌝ }
+    ensures { λ r. ⌜ now (out .exit) ≡ memory (afterLegs list home (lentRoute (now (store .entry)) (now (places .entry)) (now (legs .entry)) n) (now (path .entry)) (length (now (out .entry)))) (now (out .entry)) ⌝ }
+{
+    let q = asking::earlier(list, path::new(path));
+    if let path::Asked::Refused(x) = q {
+        return path::Reply::Refused(x);
+    }
+    if out.len() < 255 {
+        return path::Reply::Refused(path::Refusal::NoRoom);
+    }
+    travel(store, places, legs, n, home, path, out)
+}
+
+// Has a route that passed its questions a relocate list, whose map is to be made first?
+pub fn needs_maps(list: path::Asked, legs: &[usize], n: usize) -> bool
+    ensures { λ r. ⌜ r ≡ needsMaps list (now (legs .entry)) n ⌝ }
+{
+    if let path::Asked::Refused(x) = list {
+        return false;
+    }
+    legs::has_relocates(legs, n)
+}
+

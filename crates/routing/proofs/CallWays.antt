@@ -1,0 +1,124 @@
+-- What each way through `way`, `enter`, `travel` and the calls gives. Assumes nothing.
+use mathlib.Core.Path.{_≡_, refl, sym, ap, _∙_}
+use mathlib.Core.Logic.{_≢_}
+use mathlib.Core.Bool.{Bool, true, false, cond}
+use mathlib.Core.List.{List, [], _∷_}
+use Prim.Native.Nat.{ℕ, zero, suc, _≤_, _<_}
+use native.Mathlib.Omega.{arith}
+use lib.ListN.{length, take}
+use lib.Seq.{length-take-le}
+use Rattle.text.specs.Text.{Text, lacks, written, placed}
+use Rattle.text.specs.declared.Fit.{Fit}
+use Rattle.text.specs.declared.Fit.the-variants.{Written as WrittenFit, Over}
+use Rattle.text.proofs.WriteLaws.{placed-first, read-back}
+use Rattle.parts.specs.Strip.{strip, stripFit, stripMemory}
+use Rattle.parts.proofs.StripLaws.{strip-same}
+use Rattle.path.specs.declared.Refusal.{Refusal}
+use Rattle.path.specs.declared.Refusal.the-variants.{NoRoom}
+use Rattle.path.specs.declared.Asked.{Asked}
+use Rattle.path.specs.declared.Asked.the-variants.{Passed, Refused as RefusedAsked}
+use Rattle.path.specs.declared.Reply.{Reply}
+use Rattle.path.specs.declared.Reply.the-variants.{Written, Refused}
+use Rattle.path.specs.Outcome.{Outcome, path, refused, reply, memory, answered}
+use Rattle.path.specs.Calls.{newCall}
+use Rattle.path.proofs.CallWays.{answered-refused, answered-short, answered-passed}
+use Rattle.asking.specs.Asking.{earlierOf}
+use Rattle.mapping.proofs.HandWays.{strip-never, stripped-back, stripped-inside}
+use Rattle.legs.specs.Lent.{LentRoute}
+use Rattle.legs.specs.Laid.{hasRelocates}
+use Rattle.routing.specs.Quick.{quickOver, entering, Keeps, Entered, Holds, needsMaps, afterLegs}
+use Rattle.routing.proofs.OverWays.{holds-path, holds-refused, holds-inside}
+
+-- `way`
+pub way-is : (home b : Bool) (s : LentRoute) (n : ℕ) (p : Text) (r : Reply) (mem : Text) → home ≡ b → Holds (quickOver b s n p) r mem → Holds (quickOver home s n p) r mem
+way-is home b s n p r mem h w = rw h w
+
+-- `keeps_selections`
+module _ (home : Bool) (n : ℕ) (p : Text) where
+  pub keeps-home : home ≡ true → Keeps true home n p
+  unfolding Keeps entering
+  keeps-home h = rw h
+
+  pub keeps-none : home ≡ false → n ≡ 0 → Keeps true home n p
+  unfolding Keeps entering
+  keeps-none h k = rw (h, k)
+
+  pub keeps-lacks : home ≡ false → n ≢ 0 → (b : Bool) → b ≡ lacks 123 p → Keeps b home n p
+  unfolding Keeps entering
+  keeps-lacks h k b e = rw h (go n k b e)
+    where
+      go : (n : ℕ) → n ≢ 0 → (b : Bool) → b ≡ lacks 123 p → entering false n p ≡ cond b p (strip p)
+      go zero k b e = absurd (k refl)
+      go (suc n) k true e = strip-same p (sym e)
+      go (suc n) k false e = refl
+
+pub ruleset keeping = (keeps-home, keeps-none, keeps-lacks)
+
+-- `enter`
+module _ (home : Bool) (n : ℕ) (p here : Text) (l : length here ≡ 255) (s : length p ≤ 255) (b : Bool) (k : Keeps b home n p) where
+  pub enter-kept : b ≡ true → (here′ : Text) → here′ ≡ placed 0 p here → Entered (entering home n p) (length p) here′
+  unfolding Keeps Entered
+  enter-kept h here′ w = (rw (w, placed-first p here (omega (arith, l, s))) (read-back p here) ∙ sym (k ∙ ap (λ (x : Bool). cond x p (strip p)) h), s)
+
+  module _ (f : Fit) (e : f ≡ stripFit p here) (h : b ≡ false) where
+    pub enter-stripped : (j : ℕ) → f ≡ WrittenFit j → (here′ : Text) → here′ ≡ stripMemory p here → length here′ ≡ 255 → Entered (entering home n p) j here′
+    unfolding Keeps Entered
+    enter-stripped j g here′ w z =
+        (stripped-back p here f s l e j g here′ w ∙ sym (k ∙ ap (λ (x : Bool). cond x p (strip p)) h), omega (arith, stripped-inside p here f s l e j g here′ w, z))
+
+pub entered-size : (t : Text) (k : ℕ) (mem : Text) → Entered t k mem → k ≤ 255
+unfolding Entered
+entered-size t k mem e = e .1
+
+-- `travel`
+module _ (home : Bool) (s : LentRoute) (n : ℕ) (t : Text) (k : ℕ) (here : Text) (e : Entered t k here) (r : Reply) (there : Text) (h : Holds (quickOver home s n (take k here)) r there) where
+  abbrev whole : Outcome
+  whole = quickOver home s n t
+
+  same-way : whole ≡ quickOver home s n (take k here)
+  unfolding Entered
+  same-way = ap (quickOver home s n) (sym (e .0))
+
+  pub travel-refused : (x : Refusal) → r ≡ Refused x → (out : Text) → (r ≡ reply whole) × (out ≡ memory whole out)
+  unfolding reply memory
+  travel-refused x w out = rw (same-way ∙ holds-refused (quickOver home s n (take k here)) r there h x w) (w, refl)
+
+  pub travel-written : (m : ℕ) → r ≡ Written m → length there ≡ 255 → (out out′ : Text) → 255 ≤ length out → out′ ≡ placed 0 (take m there) out
+      → (Written m ≡ reply whole) × (out′ ≡ memory whole out)
+  unfolding reply memory
+  travel-written m w l out out′ g d =
+      let i : m ≤ length there = holds-inside (quickOver home s n (take k here)) r there h m w in
+      let z : length (take m there) ≡ m = length-take-le m there i in
+      rw (same-way ∙ holds-path (quickOver home s n (take k here)) r there h m w) (ap Written (sym z), d ∙ placed-first (take m there) out (omega (arith, i, l, g, z)))
+
+-- `route_after`
+module _ (list : Asked) (home : Bool) (s : LentRoute) (p : Text) (room : ℕ) (n q : Asked) (g : n ≡ newCall p) (h : q ≡ earlierOf list n) where
+  abbrev way : Outcome
+  way = quickOver home s (s .count) (entering home (s .count) p)
+
+  both : q ≡ earlierOf list (newCall p)
+  both = h ∙ ap (earlierOf list) g
+
+  pub after-refused : (x : Refusal) → q ≡ RefusedAsked x → afterLegs list home s p room ≡ refused x
+  unfolding afterLegs
+  after-refused x k = answered-refused (earlierOf list (newCall p)) room way q both x k
+
+  pub after-short : q ≡ Passed → room < 255 → afterLegs list home s p room ≡ refused NoRoom
+  unfolding afterLegs
+  after-short k l = answered-short (earlierOf list (newCall p)) room way q both k l
+
+  pub after-passed : q ≡ Passed → 255 ≤ room → afterLegs list home s p room ≡ way
+  unfolding afterLegs
+  after-passed k l = answered-passed (earlierOf list (newCall p)) room way q both k l
+
+-- `needs_maps`
+module _ (list : Asked) (legs : List ℕ) (n : ℕ) where
+  pub needs-refused : (x : Refusal) → list ≡ RefusedAsked x → false ≡ needsMaps list legs n
+  unfolding needsMaps
+  needs-refused x h = rw h
+
+  pub needs-relocates : (b : Bool) → list ≡ Passed → b ≡ hasRelocates legs n → b ≡ needsMaps list legs n
+  unfolding needsMaps
+  needs-relocates b h e = rw h e
+
+pub ruleset needing = (needs-refused, needs-relocates)

@@ -1,0 +1,52 @@
+use Rattle.routing.proofs.CallWays.{after-refused, after-short, after-passed}
+use Rattle.mapping.proofs.WayLaws.{after-length}
+use Rattle.path.proofs.CallWays.{refusing, answering}
+use borrow.Author.Needs.{needs}
+use Rattle.routing.proofs.route_after.Statement.{statement}
+use Rattle.routing.proofs.route_after.Tie as tie
+use Rattle.routing.proofs.route_after.Reads as reads
+use Rattle.routing.proofs.route_after.Lts as lts
+use Rattle.asking.proofs.earlier.Reads as earlier-reads
+use Rattle.path.proofs.new.Reads as new-reads
+use Rattle.routing.proofs.travel.Reads as travel-reads
+
+new-requires : tie.Need-new-requires
+new-requires c κs = search needs
+
+earlier-requires : tie.Need-earlier-requires
+earlier-requires c κs = search needs
+
+enum-known-q : tie.Need-enum-known-q
+enum-known-q c = search needs
+
+returns : tie.Need-returns
+returns c = refusing _ _ (after-refused _ _ _ _ _ _ _ (c .before .before .before .before .new .ensures) (c .before .before .before .earlier .ensures) _ (c .before .q .given .1)) _
+
+enum-told : tie.Need-enum-told
+enum-told c = search needs
+
+returns-2 : tie.Need-returns-2
+returns-2 c = refusing _ _ (after-short _ _ _ _ _ _ _ (c .before .before .before .before .new .ensures) (c .before .before .before .earlier .ensures) (c .before .enum-told .given .1) (c .if1 .taken)) _
+
+travel-requires : tie.Need-travel-requires
+travel-requires c κs = (after-length _ _ _ _ (c .before .before .before .before .before .new .ensures) (c .before .before .before .before .earlier .ensures) (c .before .before .enum-told .given .1), c .before .if1 .left)
+
+same-length : tie.Need-same-length
+same-length c = search needs
+
+returns-3 : tie.Need-returns-3
+returns-3 c = answering _ _ (after-passed _ _ _ _ _ _ _ (c .before .before .before .before .before .before .before .before .new .ensures) (c .before .before .before .before .before .before .before .earlier .ensures) (c .before .before .before .before .before .enum-told .given .1) (c .before .before .before .before .if1 .left)) _ _ _ (c .before .before .travel .ensures)
+
+pub route-after-spec : {M : Type 1} → statement M
+route-after-spec =
+    tie.close
+    (tie.spec
+    new-requires
+    earlier-requires
+    enum-known-q
+    returns
+    enum-told
+    returns-2
+    travel-requires
+    same-length
+    returns-3)
