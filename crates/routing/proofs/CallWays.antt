@@ -1,16 +1,19 @@
 -- What each way through `way`, `enter`, `travel` and the calls gives. Assumes nothing.
 use mathlib.Core.Path.{_≡_, refl, sym, ap, _∙_}
 use mathlib.Core.Logic.{_≢_}
-use mathlib.Core.Bool.{Bool, true, false, cond}
+use mathlib.Core.Bool.{Bool, true, false, not, cond}
 use mathlib.Core.List.{List, [], _∷_}
 use Prim.Native.Nat.{ℕ, zero, suc, _≤_, _<_}
 use native.Mathlib.Omega.{arith}
 use lib.ListN.{length, take}
 use lib.Seq.{length-take-le}
+use borrow.Author.Tests.{le-leb}
 use Rattle.text.specs.Text.{Text, lacks, written, placed}
 use Rattle.text.specs.declared.Fit.{Fit}
 use Rattle.text.specs.declared.Fit.the-variants.{Written as WrittenFit, Over}
+use Rattle.text.proofs.BoolLaws.{not-true}
 use Rattle.text.proofs.WriteLaws.{placed-first, read-back}
+use Rattle.grammar.specs.Legal.{fits}
 use Rattle.parts.specs.Strip.{strip, stripFit, stripMemory}
 use Rattle.parts.proofs.StripLaws.{strip-same}
 use Rattle.path.specs.declared.Refusal.{Refusal}
@@ -21,12 +24,17 @@ use Rattle.path.specs.declared.Reply.{Reply}
 use Rattle.path.specs.declared.Reply.the-variants.{Written, Refused}
 use Rattle.path.specs.Outcome.{Outcome, path, refused, reply, memory, answered}
 use Rattle.path.specs.Calls.{newCall}
-use Rattle.path.proofs.CallWays.{answered-refused, answered-short, answered-passed}
+use Rattle.path.proofs.CallWays.{answered-refused, answered-short, answered-passed, answered-same}
 use Rattle.asking.specs.Asking.{earlierOf}
 use Rattle.mapping.proofs.HandWays.{strip-never, stripped-back, stripped-inside}
-use Rattle.legs.specs.Lent.{LentRoute}
-use Rattle.legs.specs.Laid.{hasRelocates}
+use Rattle.asking.proofs.EarlierLaws.{none-earlier}
+use Rattle.legs.specs.Lent.{LentRoute, legsIn, routeAsked}
+use Rattle.legs.specs.Laid.{hasRelocates, Laid, LaidIfPassed}
+use Rattle.legs.proofs.RouteLaws.{route-one-by-one, route-sound, route-short, route-legal}
+use Rattle.legs.proofs.LaidLaws.{laid-itself}
+use Rattle.routing.specs.Calls.{wayOver, routeCall}
 use Rattle.routing.specs.Quick.{quickOver, entering, Keeps, Entered, Holds, needsMaps, afterLegs}
+use Rattle.routing.proofs.QuickLaws.{Whole, quick-way}
 use Rattle.routing.proofs.OverWays.{holds-path, holds-refused, holds-inside}
 
 -- `way`
@@ -122,3 +130,34 @@ module _ (list : Asked) (legs : List ℕ) (n : ℕ) where
   needs-relocates b h e = rw h e
 
 pub ruleset needing = (needs-refused, needs-relocates)
+
+-- `route_call`: with the legs' own answer, and maps that stand for the legs where they passed, the rest is the call
+module _ (home : Bool) (r : LentRoute) (p : Text) (room : ℕ) (list : Asked) (e : list ≡ routeAsked r []) where
+  asked-same : earlierOf list (newCall p) ≡ routeAsked r (p ∷ [])
+  asked-same = ap (λ (a : Asked). earlierOf a (newCall p)) e ∙ route-one-by-one r p
+
+  whole-path : routeAsked r (p ∷ []) ≡ Passed → Whole p
+  unfolding fits
+  whole-path h = record { is-legal = route-legal r p h; is-short = le-leb (length p) 255 (route-short r p h) }
+
+  module _ (s : LentRoute) (k : s .count ≡ r .count) (laid : list ≡ Passed → Laid r s (r .count)) where
+    way-same : routeAsked r (p ∷ []) ≡ Passed → wayOver home (legsIn r (r .count)) p ≡ quickOver home s (s .count) (entering home (s .count) p)
+    way-same h =
+        quick-way r s home (r .count) (laid (none-earlier list (newCall p) (asked-same ∙ h) .0)) (route-sound r (p ∷ []) h) p (whole-path h)
+        ∙ ap (λ (n : ℕ). quickOver home s n (entering home n p)) (sym k)
+
+    pub call-is-after : routeCall home r p room ≡ afterLegs list home s p room
+    unfolding routeCall afterLegs
+    call-is-after =
+        answered-same (routeAsked r (p ∷ [])) room (wayOver home (legsIn r (r .count)) p) (quickOver home s (s .count) (entering home (s .count) p)) way-same
+        ∙ ap (λ (a : Asked). answered a room (quickOver home s (s .count) (entering home (s .count) p))) (sym asked-same)
+
+  -- a route without relocate lists goes as it is ..
+  pub call-as-it-is : (b : Bool) → b ≡ needsMaps list (r .legs) (r .count) → not b ≡ true → routeCall home r p room ≡ afterLegs list home r p room
+  unfolding needsMaps
+  call-as-it-is b h k = call-is-after r refl (λ w. laid-itself r (r .count) (sym (rw w at h) ∙ not-true b k))
+
+  -- .. and another with its maps laid
+  pub call-laid : (s : LentRoute) → s .count ≡ r .count → LaidIfPassed r s (r .count) → routeCall home r p room ≡ afterLegs list home s p room
+  unfolding LaidIfPassed
+  call-laid s k laid = call-is-after s k (λ w. laid (sym e ∙ w))
