@@ -19,18 +19,21 @@ use Rattle.path.specs.declared.Reply.{Reply}
 use Rattle.path.specs.Outcome.{Outcome, path, refused, reply, memory, lent, answered}
 use Rattle.codes.specs.Code.{replyCode}
 use Rattle.asking.specs.Asking.{lentList, asked}
-use Rattle.parts.specs.Strip.{strip}
-use Rattle.carry.specs.Quick.{quick, quickTranslate}
 use Rattle.map_function.specs.declared.MapFunction.{MapFunction}
 use Rattle.mapping.specs.declared.Way.{Way}
-use Rattle.mapping.specs.declared.Way.the-variants.{Out, Home, Translated}
-use Rattle.mapping.specs.Calls.{mapOf}
 use Rattle.mapping.specs.Way.{wayCall, afterList}
-use Rattle.mapping.proofs.HandWays.{Short, short-refused, short-cond, short-quick, short-translate}
-use Rattle.mapping.proofs.CarryWays.{out-asked, home-asked, translate-asked}
-use Rattle.mapping.proofs.WayLaws.{call-is-after}
-use Rattle.batch.specs.Batch.{carriedAt, blocks, numbers, enough, allAsked, allBytes, allReplies}
-use Rattle.batch.specs.Turn.{spotAfter, inBlock}
+use Rattle.mapping.proofs.HandWays.{Short, short-refused, short-cond}
+use Rattle.mapping.proofs.WayLaws.{short-after, call-is-after}
+use Rattle.legs.specs.Lent.{LentRoute, lentRoute, routeAsked}
+use Rattle.legs.specs.Laid.{LaidIfPassed}
+use Rattle.routing.specs.Calls.{routeCall}
+use Rattle.routing.specs.Quick.{needsMaps, afterLegs}
+use Rattle.routing.proofs.ShortLaws.{short-after as short-route}
+use Rattle.routing.proofs.CallWays.{call-as-it-is, call-laid}
+use Rattle.batch.specs.declared.Carrier.{Carrier}
+use Rattle.batch.specs.declared.Carrier.the-variants.{Map, Route}
+use Rattle.batch.specs.Batch.{spotted, carriedAt, routedAt, blocks, numbers, enough, allAsked, allBytes, allReplies}
+use Rattle.batch.specs.Turn.{carriedBy, spotBy, inBlock}
 
 -- `has_room`
 module _ (n spots bytes replies : ℕ) where
@@ -65,58 +68,56 @@ module _ (texts : Text) (spots : List ℕ) (i : ℕ) where
           let z : length texts - getD spots (2 * i) 0 < getD spots (2 * i + 1) 0 = leb-false (getD spots (2 * i + 1) 0) (length texts - getD spots (2 * i) 0) e in
           sym (lt-leb (getD spots (2 * i) 0 + getD spots (2 * i + 1) 0) (length texts) (omega (arith, z)))
 
+-- `carry_one`
+module _ (list : Asked) (by : Carrier) (store : Text) (places legs : List ℕ) (room : ℕ) (p : Text) where
+  pub by-map : (f : MapFunction) (way : Way) → by ≡ Map f way → carriedBy list by store places legs room p ≡ afterList list way store places f p room
+  unfolding carriedBy
+  by-map f way h = rw h
+
+  pub by-route : (n : ℕ) (home : Bool) → by ≡ Route n home → carriedBy list by store places legs room p ≡ afterLegs list home (lentRoute store places legs n) p room
+  unfolding carriedBy
+  by-route n home h = rw h
+
+-- it never makes a path of more than 255 bytes
+short-by : (list : Asked) (by : Carrier) (store : Text) (places legs : List ℕ) (room : ℕ) (p : Text) → Short (carriedBy list by store places legs room p)
+unfolding carriedBy
+short-by list (Map f way) store places legs room p = short-after list way store places f p room
+short-by list (Route n home) store places legs room p = short-route list home (lentRoute store places legs n) p room
+
+pub short-spotted : (call : Text → Outcome) → ((p : Text) → Short (call p)) → (texts : Text) (spots : List ℕ) (i : ℕ) → Short (spotted call texts spots i)
+unfolding spotted
+short-spotted call s texts spots i = short-cond (inside texts spots i) (call (textAt texts spots i)) (refused TooLong) (s (textAt texts spots i)) (short-refused TooLong)
+
 -- `carry_spot`
-module _ (list : Asked) (way : Way) (store : Text) (places : List ℕ) (f : MapFunction) (texts : Text) (spots : List ℕ) (i room : ℕ) (b : Bool) (h : b ≡ inside texts spots i) where
-  pub spot-outside : not b ≡ true → spotAfter list way store places f texts spots i room ≡ refused TooLong
-  unfolding spotAfter
+module _ (list : Asked) (by : Carrier) (store : Text) (places legs : List ℕ) (texts : Text) (spots : List ℕ) (room i : ℕ) (b : Bool) (h : b ≡ inside texts spots i) where
+  pub spot-outside : not b ≡ true → spotBy list by store places legs texts spots room i ≡ refused TooLong
+  unfolding spotBy spotted
   spot-outside k = rw (told-false h k)
 
-  pub spot-inside : (t : Text) → not b ≡ false → t ≡ textAt texts spots i → spotAfter list way store places f texts spots i room ≡ afterList list way store places f t room
-  unfolding spotAfter
+  pub spot-inside : (t : Text) → not b ≡ false → t ≡ textAt texts spots i → spotBy list by store places legs texts spots room i ≡ carriedBy list by store places legs room t
+  unfolding spotBy spotted
   spot-inside t k e =
-      ap (λ (x : Bool). cond x (afterList list way store places f (textAt texts spots i) room) (refused TooLong)) (told-true h k)
-      ∙ ap (λ (x : Text). afterList list way store places f x room) (sym e)
+      ap (λ (x : Bool). cond x (carriedBy list by store places legs room (textAt texts spots i)) (refused TooLong)) (told-true h k)
+      ∙ ap (carriedBy list by store places legs room) (sym e)
 
 -- `carry_block`: the part of the memory that was lent comes back
-module _ (o : ℕ → Outcome) (i : ℕ) (out : Text) (h : 255 * i + 255 ≤ length out) where
+module _ (list : Asked) (by : Carrier) (store : Text) (places legs : List ℕ) (texts : Text) (spots : List ℕ) (i : ℕ) (out : Text) (h : 255 * i + 255 ≤ length out) where
+  abbrev given : ℕ → Outcome
+  given room = spotBy list by store places legs texts spots room i
+
   size : 255 * i + 255 - 255 * i ≡ 255
   size = omega arith
 
   long : length (take 255 (drop (255 * i) out)) ≡ 255
   long = length-take-le 255 (drop (255 * i) out) (rw (length-drop (255 * i) out) (omega arith))
 
-  pub block-bytes : (ys : Text) → ys ≡ memory (o (length (take (255 * i + 255 - 255 * i) (drop (255 * i) out)))) (take (255 * i + 255 - 255 * i) (drop (255 * i) out))
-      → take (255 * i) out ++ (ys ++ drop (255 * i + 255 - 255 * i) (drop (255 * i) out)) ≡ inBlock i (o 255) out
+  pub block-bytes : (ys : Text) → ys ≡ memory (given (length (take (255 * i + 255 - 255 * i) (drop (255 * i) out)))) (take (255 * i + 255 - 255 * i) (drop (255 * i) out))
+      → take (255 * i) out ++ (ys ++ drop (255 * i + 255 - 255 * i) (drop (255 * i) out)) ≡ inBlock i (given 255) out
   unfolding inBlock
   block-bytes ys e = rw (e, size, long)
 
-  pub block-reply : (r : Reply) (a : ℕ) → r ≡ reply (o (length (take (255 * i + 255 - 255 * i) (drop (255 * i) out)))) → a ≡ replyCode r → a ≡ replyCode (reply (o 255))
+  pub block-reply : (r : Reply) (a : ℕ) → r ≡ reply (given (length (take (255 * i + 255 - 255 * i) (drop (255 * i) out)))) → a ≡ replyCode r → a ≡ replyCode (reply (given 255))
   block-reply r a e f = f ∙ rw (e, size, long)
-
--- with the list's own answer a turn gives what the single call gives
-module _ (way : Way) (store : Text) (places : List ℕ) (f : MapFunction) (texts : Text) (spots : List ℕ) where
-  pub spot-is : (list : Asked) → list ≡ asked (lentList store places (f .count) ∷ []) ([] ∷ []) [] → (i : ℕ)
-      → spotAfter list way store places f texts spots i 255 ≡ carriedAt way store places f texts spots i
-  unfolding spotAfter carriedAt
-  spot-is list h i = ap (λ (o : Outcome). cond (inside texts spots i) o (refused TooLong)) (sym (call-is-after way store places f (textAt texts spots i) 255 list h))
-
-  -- it never makes a path of more than 255 bytes
-  short-answered : (a : Asked) (room : ℕ) (o : Outcome) → Short o → Short (answered a room o)
-  unfolding answered lent
-  short-answered Passed room o h = short-cond (leb 255 room) o (refused NoRoom) h (short-refused NoRoom)
-  short-answered (Refused x) room o h = short-refused x
-
-  short-call : (w : Way) (p : Text) → Short (wayCall w store places f p 255)
-  unfolding wayCall
-  short-call Out p = rw (out-asked store places f p 255) (short-answered (asked (lentList store places (f .count) ∷ []) (p ∷ []) []) 255 (quick false (mapOf store places f) p) (short-quick false (mapOf store places f) p))
-  short-call Home p = rw (home-asked store places f p 255) (short-answered (asked (lentList store places (f .count) ∷ []) (p ∷ []) []) 255 (quick true (mapOf store places f) p) (short-quick true (mapOf store places f) p))
-  short-call Translated p =
-      rw (translate-asked store places f p 255)
-      (short-answered (asked (lentList store places (f .count) ∷ []) (p ∷ []) []) 255 (quickTranslate (mapOf store places f) (strip p)) (short-translate (mapOf store places f) (strip p)))
-
-  pub short-at : (i : ℕ) → Short (carriedAt way store places f texts spots i)
-  unfolding carriedAt
-  short-at i = short-cond (inside texts spots i) (wayCall way store places f (textAt texts spots i) 255) (refused TooLong) (short-call way (textAt texts spots i)) (short-refused TooLong)
 
 -- the memory and the numbers after one more turn
 pub kept-length : (o : Outcome) (x : Text) → Short o → length x ≡ 255 → length (memory o x) ≡ 255
@@ -162,11 +163,11 @@ module _ (o : ℕ → Outcome) where
       let j : i + suc k ≡ suc i + k = omega arith in
       rw j (ap (λ (l : List ℕ). replyCode (reply (o i)) ∷ l) (numbers-next (suc i) k r (omega arith)))
 
--- `carry_all`: what is lent is enough for each turn
-module _ (n spots bytes replies : ℕ) (b : Bool) (h : b ≡ enough n spots bytes replies) (k : not b ≡ false) where
+-- `carry_each`: what is lent is enough for each turn
+module _ (n spots bytes replies : ℕ) (h : enough n spots bytes replies ≡ true) where
   yes-all : (leb (2 * n) spots && leb (255 * n) bytes) && leb n replies ≡ true
   unfolding enough
-  yes-all = told-true h k
+  yes-all = h
 
   yes-two : leb (2 * n) spots && leb (255 * n) bytes ≡ true
   yes-two = and-l (leb (2 * n) spots && leb (255 * n) bytes) (leb n replies) yes-all
@@ -182,39 +183,85 @@ module _ (n spots bytes replies : ℕ) (b : Bool) (h : b ≡ enough n spots byte
     room-number = omega (arith, leb-true n replies (and-r (leb (2 * n) spots && leb (255 * n) bytes) (leb n replies) yes-all))
 
 -- .. a turn makes one block and one number more ..
-module _ (way : Way) (store : Text) (places : List ℕ) (f : MapFunction) (texts : Text) (spots : List ℕ)
-    (list : Asked) (g : list ≡ asked (lentList store places (f .count) ∷ []) ([] ∷ []) []) (i : ℕ) where
-  pub turn-bytes : (out₀ out out′ : Text) → 255 * i + 255 ≤ length out₀ → out ≡ blocks (carriedAt way store places f texts spots) 0 i out₀
-      → out′ ≡ inBlock i (spotAfter list way store places f texts spots i 255) out → out′ ≡ blocks (carriedAt way store places f texts spots) 0 (i + 1) out₀
+module _ (list : Asked) (by : Carrier) (store : Text) (places legs : List ℕ) (texts : Text) (spots : List ℕ) (i : ℕ) where
+  abbrev o : ℕ → Outcome
+  o = spotBy list by store places legs texts spots 255
+
+  short-turn : (j : ℕ) → Short (o j)
+  unfolding spotBy
+  short-turn = short-spotted (carriedBy list by store places legs 255) (short-by list by store places legs 255) texts spots
+
+  pub turn-bytes : (out₀ out out′ : Text) → 255 * i + 255 ≤ length out₀ → out ≡ blocks o 0 i out₀ → out′ ≡ inBlock i (o i) out → out′ ≡ blocks o 0 (i + 1) out₀
   turn-bytes out₀ out out′ r h e =
       let z : 0 + i ≡ i = omega arith in
       let w : suc i ≡ i + 1 = omega arith in
-      e ∙ ap (λ (x : Outcome). inBlock i x out) (spot-is way store places f texts spots list g i)
-      ∙ ap (λ (x : Text). inBlock i (carriedAt way store places f texts spots i) x) h
-      ∙ ap (λ (x : ℕ). inBlock i (carriedAt way store places f texts spots x) (blocks (carriedAt way store places f texts spots) 0 i out₀)) (sym z)
-      ∙ sym (blocks-next (carriedAt way store places f texts spots) (short-at way store places f texts spots) 0 i out₀ r)
-      ∙ ap (λ (x : ℕ). blocks (carriedAt way store places f texts spots) 0 x out₀) w
+      e ∙ ap (λ (x : Text). inBlock i (o i) x) h
+      ∙ ap (λ (x : ℕ). inBlock i (o x) (blocks o 0 i out₀)) (sym z)
+      ∙ sym (blocks-next o short-turn 0 i out₀ r)
+      ∙ ap (λ (x : ℕ). blocks o 0 x out₀) w
 
-  pub turn-numbers : (replies₀ replies replies′ : List ℕ) → i < length replies₀ → replies ≡ numbers (carriedAt way store places f texts spots) 0 i replies₀
-      → replies′ ≡ set replies i (replyCode (reply (spotAfter list way store places f texts spots i 255))) → replies′ ≡ numbers (carriedAt way store places f texts spots) 0 (i + 1) replies₀
+  pub turn-numbers : (replies₀ replies replies′ : List ℕ) → i < length replies₀ → replies ≡ numbers o 0 i replies₀ → replies′ ≡ set replies i (replyCode (reply (o i)))
+      → replies′ ≡ numbers o 0 (i + 1) replies₀
   turn-numbers replies₀ replies replies′ r h e =
       let z : 0 + i ≡ i = omega arith in
       let w : suc i ≡ i + 1 = omega arith in
-      e ∙ ap (λ (x : Outcome). set replies i (replyCode (reply x))) (spot-is way store places f texts spots list g i)
-      ∙ ap (λ (x : List ℕ). set x i (replyCode (reply (carriedAt way store places f texts spots i)))) h
-      ∙ ap (λ (x : ℕ). set (numbers (carriedAt way store places f texts spots) 0 i replies₀) i (replyCode (reply (carriedAt way store places f texts spots x)))) (sym z)
-      ∙ sym (numbers-next (carriedAt way store places f texts spots) 0 i replies₀ r)
-      ∙ ap (λ (x : ℕ). numbers (carriedAt way store places f texts spots) 0 x replies₀) w
+      e ∙ ap (λ (x : List ℕ). set x i (replyCode (reply (o i)))) h
+      ∙ ap (λ (x : ℕ). set (numbers o 0 i replies₀) i (replyCode (reply (o x)))) (sym z)
+      ∙ sym (numbers-next o 0 i replies₀ r)
+      ∙ ap (λ (x : ℕ). numbers o 0 x replies₀) w
 
--- .. and the call ends
-module _ (o : ℕ → Outcome) (n : ℕ) (b e : Bool) (h : b ≡ e) where
-  pub all-refused : (out : Text) (replies : List ℕ) → not b ≡ true → (Refused NoRoom ≡ allAsked e) × ((out ≡ allBytes e o n out) × (replies ≡ allReplies e o n replies))
-  unfolding allAsked allBytes allReplies
-  all-refused out replies k = rw (told-false h k) (refl, (refl, refl))
+pub turns-end : (o : ℕ → Outcome) (n i : ℕ) (out₀ out : Text) (replies₀ replies : List ℕ) → n ≤ i → i ≤ n → out ≡ blocks o 0 i out₀ → replies ≡ numbers o 0 i replies₀
+    → (out ≡ blocks o 0 n out₀) × (replies ≡ numbers o 0 n replies₀)
+turns-end o n i out₀ out replies₀ replies l m x y =
+    let z : i ≡ n = omega arith in
+    (x ∙ ap (λ (j : ℕ). blocks o 0 j out₀) z, y ∙ ap (λ (j : ℕ). numbers o 0 j replies₀) z)
 
-  pub all-done : (out₀ out : Text) (replies₀ replies : List ℕ) (i : ℕ) → not b ≡ false → n ≤ i → i ≤ n → out ≡ blocks o 0 i out₀ → replies ≡ numbers o 0 i replies₀
+-- .. and with the lists' own answers each turn gives what the single call gives
+module _ (o o′ : ℕ → Outcome) (same : (i : ℕ) → o i ≡ o′ i) where
+  blocks-same : (i n : ℕ) (out : Text) → blocks o i n out ≡ blocks o′ i n out
+  unfolding blocks
+  blocks-same i zero out = refl
+  blocks-same i (suc n) out = rw (same i) (ap (λ (x : Text). memory (o′ i) (take 255 out) ++ x) (blocks-same (suc i) n (drop 255 out)))
+
+  numbers-same : (i n : ℕ) (replies : List ℕ) → numbers o i n replies ≡ numbers o′ i n replies
+  unfolding numbers
+  numbers-same i zero replies = refl
+  numbers-same i (suc n) replies = rw (same i) (ap (λ (x : List ℕ). replyCode (reply (o′ i)) ∷ x) (numbers-same (suc i) n (drop 1 replies)))
+
+  pub all-done : (n : ℕ) (b e : Bool) → b ≡ e → (out₀ out : Text) (replies₀ replies : List ℕ) → not b ≡ false → (out ≡ blocks o′ 0 n out₀) × (replies ≡ numbers o′ 0 n replies₀)
       → (Passed ≡ allAsked e) × ((out ≡ allBytes e o n out₀) × (replies ≡ allReplies e o n replies₀))
   unfolding allAsked allBytes allReplies
-  all-done out₀ out replies₀ replies i k l m x y =
-      let z : i ≡ n = omega arith in
-      rw (told-true h k) (refl, (x ∙ ap (λ (j : ℕ). blocks o 0 j out₀) z, y ∙ ap (λ (j : ℕ). numbers o 0 j replies₀) z))
+  all-done n b e h out₀ out replies₀ replies k w =
+      rw (told-true h k) (refl, (w .0 ∙ sym (blocks-same 0 n out₀), w .1 ∙ sym (numbers-same 0 n replies₀)))
+
+pub all-refused : (o : ℕ → Outcome) (n : ℕ) (b e : Bool) → b ≡ e → (out : Text) (replies : List ℕ) → not b ≡ true
+    → (Refused NoRoom ≡ allAsked e) × ((out ≡ allBytes e o n out) × (replies ≡ allReplies e o n replies))
+unfolding allAsked allBytes allReplies
+all-refused o n b e h out replies k = rw (told-false h k) (refl, (refl, refl))
+
+spotted-same : (f g : Text → Outcome) → ((p : Text) → f p ≡ g p) → (texts : Text) (spots : List ℕ) (i : ℕ) → spotted f texts spots i ≡ spotted g texts spots i
+unfolding spotted
+spotted-same f g same texts spots i = rw (same (textAt texts spots i))
+
+-- `carry_all`
+pub map-turn : (way : Way) (store : Text) (places legs : List ℕ) (f : MapFunction) (texts : Text) (spots : List ℕ) (list : Asked)
+    → list ≡ asked (lentList store places (f .count) ∷ []) ([] ∷ []) [] → (i : ℕ) → carriedAt way store places f texts spots i ≡ spotBy list (Map f way) store places legs texts spots 255 i
+unfolding carriedAt spotBy carriedBy
+map-turn way store places legs f texts spots list h =
+    spotted-same (λ (p : Text). wayCall way store places f p 255) (λ (p : Text). afterList list way store places f p 255)
+    (λ p. call-is-after way store places f p 255 list h) texts spots
+
+-- `route_all`
+module _ (home : Bool) (r : LentRoute) (texts : Text) (spots : List ℕ) (list : Asked) (e : list ≡ routeAsked r []) where
+  pub route-turn : (b : Bool) → b ≡ needsMaps list (r .legs) (r .count) → not b ≡ true
+      → (i : ℕ) → routedAt home r texts spots i ≡ spotBy list (Route (r .count) home) (r .store) (r .places) (r .legs) texts spots 255 i
+  unfolding routedAt spotBy carriedBy
+  route-turn b h k =
+      spotted-same (λ (p : Text). routeCall home r p 255) (λ (p : Text). afterLegs list home r p 255) (λ p. call-as-it-is home r p 255 list e b h k) texts spots
+
+  pub laid-turn : (made table : List ℕ) → LaidIfPassed r (lentRoute (r .store) made table (r .count)) (r .count)
+      → (i : ℕ) → routedAt home r texts spots i ≡ spotBy list (Route (r .count) home) (r .store) made table texts spots 255 i
+  unfolding routedAt spotBy carriedBy
+  laid-turn made table laid =
+      spotted-same (λ (p : Text). routeCall home r p 255) (λ (p : Text). afterLegs list home (lentRoute (r .store) made table (r .count)) p 255)
+      (λ p. call-laid home r p 255 list e (lentRoute (r .store) made table (r .count)) refl laid) texts spots

@@ -8,9 +8,13 @@ use lib.Seq.{length-take-le, take-at, drop-drop}
 use Rattle.text.specs.Text.{Text}
 use Rattle.path.specs.Outcome.{Outcome, reply, memory}
 use Rattle.codes.specs.Code.{replyCode}
+use Rattle.mapping.specs.Way.{wayCall}
 use Rattle.mapping.proofs.HandWays.{Short}
-use Rattle.batch.specs.Batch.{carriedAt, blocks, numbers, Single, EachIsSingle}
-use Rattle.batch.proofs.BatchLaws.{later, kept-length, short-at}
+use Rattle.mapping.proofs.WayLaws.{short-call}
+use Rattle.routing.specs.Calls.{routeCall}
+use Rattle.routing.proofs.ShortLaws.{short-call as short-route}
+use Rattle.batch.specs.Batch.{carriedAt, routedAt, blocks, numbers, Single, EachIsSingleAlways}
+use Rattle.batch.proofs.BatchLaws.{later, kept-length, short-spotted}
 
 later-on : (out : Text) (k : ℕ) → drop (255 * k) (drop 255 out) ≡ drop (255 * suc k) out
 later-on out k =
@@ -61,13 +65,21 @@ module _ (o : ℕ → Outcome) where
   behind-numbers a (suc n) [] h = absurd (omega arith)
   behind-numbers a (suc n) (x ∷ r) h = behind-numbers (suc a) n r (omega arith)
 
-pub each-is-single : EachIsSingle
-each-is-single way store places f texts spots n out replies h k =
+single : (o : ℕ → Outcome) → ((j : ℕ) → Short (o j)) → (n : ℕ) (out : Text) (replies : List ℕ) → 255 * n ≤ length out → n ≤ length replies → Single o n out replies
+single o s n out replies h k =
     let z : (i : ℕ) → 0 + i ≡ i = λ i. omega arith in
     record {
-      bytes = λ i l. block-at (carriedAt way store places f texts spots) (short-at way store places f texts spots) 0 n i out l h
-          ∙ ap (λ (x : ℕ). memory (carriedAt way store places f texts spots x) (take 255 (drop (255 * i) out))) (z i);
-      bytes-behind = behind-blocks (carriedAt way store places f texts spots) (short-at way store places f texts spots) 0 n out h;
-      replies-at = λ i l. number-at (carriedAt way store places f texts spots) 0 n i replies l ∙ ap (λ (x : ℕ). replyCode (reply (carriedAt way store places f texts spots x))) (z i);
-      replies-behind = behind-numbers (carriedAt way store places f texts spots) 0 n replies k;
+      bytes = λ i l. block-at o s 0 n i out l h ∙ ap (λ (x : ℕ). memory (o x) (take 255 (drop (255 * i) out))) (z i);
+      bytes-behind = behind-blocks o s 0 n out h;
+      replies-at = λ i l. number-at o 0 n i replies l ∙ ap (λ (x : ℕ). replyCode (reply (o x))) (z i);
+      replies-behind = behind-numbers o 0 n replies k;
     }
+
+pub each-is-single : EachIsSingleAlways
+unfolding carriedAt routedAt
+each-is-single texts spots n out replies h k = record {
+  through-map = λ way store places f.
+    single (carriedAt way store places f texts spots) (short-spotted (λ (p : Text). wayCall way store places f p 255) (λ p. short-call way store places f p 255) texts spots) n out replies h k;
+  over-route = λ home r.
+    single (routedAt home r texts spots) (short-spotted (λ (p : Text). routeCall home r p 255) (λ p. short-route home r p 255) texts spots) n out replies h k;
+}

@@ -1,4 +1,4 @@
--- Many paths through one map in one call. Path i is the text at spot i of `texts` (its start and its length); its reply goes to number i
+-- Many paths through one map, or over one route, in one call. Path i is the text at spot i of `texts` (its start and its length); its reply goes to number i
 -- of `replies`, and its 255 bytes of lent memory are those from 255 i on.
 use mathlib.Core.Path.{_≡_}
 use Prim.Native.Nat.{ℕ, zero, suc, _*_, _≤_, _<_}
@@ -16,11 +16,23 @@ use Rattle.codes.specs.Code.{replyCode}
 use Rattle.map_function.specs.declared.MapFunction.{MapFunction}
 use Rattle.mapping.specs.declared.Way.{Way}
 use Rattle.mapping.specs.Way.{wayCall}
+use Rattle.legs.specs.Lent.{LentRoute}
+use Rattle.routing.specs.Calls.{routeCall}
 
--- what the single call gives for path i with 255 bytes lent; "a place that reaches outside its store counts as longer"
+-- what a call gives for path i; "a place that reaches outside its store counts as longer"
+unfoldable pub spotted : (Text → Outcome) → Text → List ℕ → ℕ → Outcome
+unfolding inside textAt
+spotted call texts spots i = cond (inside texts spots i) (call (textAt texts spots i)) (refused TooLong)
+
+-- what the single call with 255 bytes lent gives for it: through a map ..
 unfoldable pub carriedAt : Way → Text → List ℕ → MapFunction → Text → List ℕ → ℕ → Outcome
-unfolding inside textAt wayCall
-carriedAt way store places f texts spots i = cond (inside texts spots i) (wayCall way store places f (textAt texts spots i) 255) (refused TooLong)
+unfolding spotted wayCall
+carriedAt way store places f texts spots i = spotted (λ (p : Text). wayCall way store places f p 255) texts spots i
+
+-- .. and over a route
+unfoldable pub routedAt : Bool → LentRoute → Text → List ℕ → ℕ → Outcome
+unfolding spotted routeCall
+routedAt home r texts spots i = spotted (λ (p : Text). routeCall home r p 255) texts spots i
 
 -- lent memory after n single calls from call i on, each with 255 bytes of its own
 unfoldable pub blocks : (ℕ → Outcome) → ℕ → ℕ → Text → Text
@@ -58,7 +70,10 @@ pub record Single (o : ℕ → Outcome) (n : ℕ) (out : Text) (replies : List �
   pub replies-behind : drop n (numbers o 0 n replies) ≡ drop n replies
 
 -- .. in every call with enough lent memory (proved in proofs/EachLaws.antt)
-abbrev pub EachIsSingle : Type 0
-EachIsSingle =
-    (way : Way) (store : Text) (places : List ℕ) (f : MapFunction) (texts : Text) (spots : List ℕ) (n : ℕ) (out : Text) (replies : List ℕ) → 255 * n ≤ length out → n ≤ length replies
-    → Single (carriedAt way store places f texts spots) n out replies
+pub record EachIsSingle (texts : Text) (spots : List ℕ) (n : ℕ) (out : Text) (replies : List ℕ) : Type 0 where
+  pub through-map : (way : Way) (store : Text) (places : List ℕ) (f : MapFunction) → Single (carriedAt way store places f texts spots) n out replies
+  pub over-route : (home : Bool) (r : LentRoute) → Single (routedAt home r texts spots) n out replies
+
+abbrev pub EachIsSingleAlways : Type 0
+EachIsSingleAlways =
+    (texts : Text) (spots : List ℕ) (n : ℕ) (out : Text) (replies : List ℕ) → 255 * n ≤ length out → n ≤ length replies → EachIsSingle texts spots n out replies

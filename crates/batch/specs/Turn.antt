@@ -1,22 +1,27 @@
--- One turn of the batch as the code makes it.
+-- One turn of a batch as the code makes it.
 use Prim.Native.Nat.{ℕ, _*_}
-use mathlib.Core.Bool.{cond}
 use mathlib.Core.List.{List, _++_}
 use lib.ListN.{take, drop}
 use Rattle.text.specs.Text.{Text}
-use Rattle.pairs.specs.Places.{inside, textAt}
-use Rattle.path.specs.declared.Refusal.the-variants.{TooLong}
 use Rattle.path.specs.declared.Asked.{Asked}
-use Rattle.path.specs.Outcome.{Outcome, refused, memory}
-use Rattle.map_function.specs.declared.MapFunction.{MapFunction}
-use Rattle.mapping.specs.declared.Way.{Way}
+use Rattle.path.specs.Outcome.{Outcome, memory}
 use Rattle.mapping.specs.Way.{afterList}
+use Rattle.legs.specs.Lent.{lentRoute}
+use Rattle.routing.specs.Quick.{afterLegs}
+use Rattle.batch.specs.declared.Carrier.{Carrier}
+use Rattle.batch.specs.declared.Carrier.the-variants.{Map, Route}
+use Rattle.batch.specs.Batch.{spotted}
 
--- path i, where the list's own questions were answered before
-unfoldable pub spotAfter : Asked → Way → Text → List ℕ → MapFunction → Text → List ℕ → ℕ → ℕ → Outcome
-unfolding inside textAt afterList
-spotAfter list way store places f texts spots i room =
-    cond (inside texts spots i) (afterList list way store places f (textAt texts spots i) room) (refused TooLong)
+-- a path by a carrier whose own questions were answered before
+unfoldable pub carriedBy : Asked → Carrier → Text → List ℕ → List ℕ → ℕ → Text → Outcome
+unfolding afterList afterLegs
+carriedBy list (Map f way) store places legs room p = afterList list way store places f p room
+carriedBy list (Route n home) store places legs room p = afterLegs list home (lentRoute store places legs n) p room
+
+-- path i by it, with so much room
+unfoldable pub spotBy : Asked → Carrier → Text → List ℕ → List ℕ → Text → List ℕ → ℕ → ℕ → Outcome
+unfolding spotted carriedBy
+spotBy list by store places legs texts spots room i = spotted (carriedBy list by store places legs room) texts spots i
 
 -- block i of the memory after an outcome, with what stands before and behind it
 unfoldable pub inBlock : ℕ → Outcome → Text → Text

@@ -1,13 +1,14 @@
-// Many paths through one map in lent memory: the questions on the list are put once, those on a path for
-// each path.
+// Many paths through one map, or over one route, in lent memory: the questions on the lists are put
+// once, those on a path for each path.
 ghost use mathlib.Core.Path.{_≡_};
+ghost use mathlib.Core.Bool.{Bool, true};
 ghost use Prim.Native.Nat.{_+_, _*_, _≤_, _<_};
 ghost use lib.ListN.{length, set};
 ghost use Rattle.pairs.specs.Places.{inside};
 ghost use Rattle.path.specs.Outcome.{reply, memory};
 ghost use Rattle.codes.specs.Code.{replyCode};
-ghost use Rattle.batch.specs.Batch.{carriedAt, enough, allAsked, allBytes, allReplies};
-ghost use Rattle.batch.specs.Turn.{spotAfter, inBlock};
+ghost use Rattle.batch.specs.Batch.{carriedAt, routedAt, blocks, numbers, enough, allAsked, allBytes, allReplies};
+ghost use Rattle.batch.specs.Turn.{carriedBy, spotBy, inBlock};
 
 // Is enough lent for n paths?
 fn has_room(n: usize, spots: usize, bytes: usize, replies: usize) -> bool
@@ -35,36 +36,64 @@ fn is_inside(texts: &[u8], spots: &[usize], i: usize) -> bool
     n <= texts.len() - start
 }
 
-// Path i through the map.
-fn carry_spot(
+// What carries the paths: a map one of its three ways, or a route of maps with so many legs, home or
+// out.
+enum Carrier {
+    Map(map_function::MapFunction, mapping::Way),
+    Route(usize, bool),
+}
+
+// A path by the carrier.
+fn carry_one(
     list: path::Asked,
+    by: Carrier,
     store: &[u8],
     places: &[usize],
-    map: map_function::MapFunction,
-    way: mapping::Way,
+    legs: &[usize],
+    path: &[u8],
+    out: &mut [u8],
+) -> path::Reply
+    ensures { λ r. ⌜ r ≡ reply (carriedBy list by (now (store .entry)) (now (places .entry)) (now (legs .entry)) (length (now (out .entry))) (now (path .entry))) ⌝ }
+    ensures { λ r. ⌜ now (out .exit) ≡ memory (carriedBy list by (now (store .entry)) (now (places .entry)) (now (legs .entry)) (length (now (out .entry))) (now (path .entry))) (now (out .entry)) ⌝ }
+{
+    match by {
+        Carrier::Map(map, way) => mapping::carry_after(list, store, places, map, way, path, out),
+        Carrier::Route(n, home) => {
+            routing::route_after(list, store, places, legs, n, home, path, out)
+        }
+    }
+}
+
+// Path i by the carrier.
+fn carry_spot(
+    list: path::Asked,
+    by: Carrier,
+    store: &[u8],
+    places: &[usize],
+    legs: &[usize],
     texts: &[u8],
     spots: &[usize],
     i: usize,
     out: &mut [u8],
 ) -> path::Reply
     requires { ⌜ 2 * i + 2 ≤ length (now spots) ⌝ }
-    ensures { λ r. ⌜ r ≡ reply (spotAfter list way (now (store .entry)) (now (places .entry)) map (now (texts .entry)) (now (spots .entry)) i (length (now (out .entry)))) ⌝ }
-    ensures { λ r. ⌜ now (out .exit) ≡ memory (spotAfter list way (now (store .entry)) (now (places .entry)) map (now (texts .entry)) (now (spots .entry)) i (length (now (out .entry)))) (now (out .entry)) ⌝ }
+    ensures { λ r. ⌜ r ≡ reply (spotBy list by (now (store .entry)) (now (places .entry)) (now (legs .entry)) (now (texts .entry)) (now (spots .entry)) (length (now (out .entry))) i) ⌝ }
+    ensures { λ r. ⌜ now (out .exit) ≡ memory (spotBy list by (now (store .entry)) (now (places .entry)) (now (legs .entry)) (now (texts .entry)) (now (spots .entry)) (length (now (out .entry))) i) (now (out .entry)) ⌝ }
 {
     if !is_inside(texts, spots, i) {
         return path::Reply::Refused(path::Refusal::TooLong);
     }
     let path = pairs::text_at(texts, spots, i);
-    mapping::carry_after(list, store, places, map, way, path, out)
+    carry_one(list, by, store, places, legs, path, out)
 }
 
-// Path i through the map, into block i, with its reply.
+// Path i by the carrier, into block i, with its reply.
 fn carry_block(
     list: path::Asked,
+    by: Carrier,
     store: &[u8],
     places: &[usize],
-    map: map_function::MapFunction,
-    way: mapping::Way,
+    legs: &[usize],
     texts: &[u8],
     spots: &[usize],
     i: usize,
@@ -74,17 +103,17 @@ fn carry_block(
     requires { ⌜ 2 * i + 2 ≤ length (now spots) ⌝ }
     requires { ⌜ 255 * i + 255 ≤ length (now out) ⌝ }
     requires { ⌜ i < length (now replies) ⌝ }
-    ensures { λ _. ⌜ now (out .exit) ≡ inBlock i (spotAfter list way (now (store .entry)) (now (places .entry)) map (now (texts .entry)) (now (spots .entry)) i 255) (now (out .entry)) ⌝ }
-    ensures { λ _. ⌜ now (replies .exit) ≡ set (now (replies .entry)) i (replyCode (reply (spotAfter list way (now (store .entry)) (now (places .entry)) map (now (texts .entry)) (now (spots .entry)) i 255))) ⌝ }
+    ensures { λ _. ⌜ now (out .exit) ≡ inBlock i (spotBy list by (now (store .entry)) (now (places .entry)) (now (legs .entry)) (now (texts .entry)) (now (spots .entry)) 255 i) (now (out .entry)) ⌝ }
+    ensures { λ _. ⌜ now (replies .exit) ≡ set (now (replies .entry)) i (replyCode (reply (spotBy list by (now (store .entry)) (now (places .entry)) (now (legs .entry)) (now (texts .entry)) (now (spots .entry)) 255 i))) ⌝ }
 {
     let at = 255 * i;
     let end = at + 255;
     let r = carry_spot(
         list,
+        by,
         store,
         places,
-        map,
-        way,
+        legs,
         texts,
         spots,
         i,
@@ -93,7 +122,32 @@ fn carry_block(
     replies[i] = codes::reply_code(r);
 }
 
-// Carries the n paths at the spots. Each has the reply and the 255 bytes of the single call.
+// The n paths by the carrier, each into its block, with its reply.
+fn carry_each(
+    list: path::Asked,
+    by: Carrier,
+    store: &[u8],
+    places: &[usize],
+    legs: &[usize],
+    texts: &[u8],
+    spots: &[usize],
+    n: usize,
+    out: &mut [u8],
+    replies: &mut [usize],
+)
+    requires { ⌜ enough n (length (now spots)) (length (now out)) (length (now replies)) ≡ true ⌝ }
+    ensures { λ _. ⌜ now (out .exit) ≡ blocks (spotBy list by (now (store .entry)) (now (places .entry)) (now (legs .entry)) (now (texts .entry)) (now (spots .entry)) 255) 0 n (now (out .entry)) ⌝ }
+    ensures { λ _. ⌜ now (replies .exit) ≡ numbers (spotBy list by (now (store .entry)) (now (places .entry)) (now (legs .entry)) (now (texts .entry)) (now (spots .entry)) 255) 0 n (now (replies .entry)) ⌝ }
+{
+    let mut i = 0;
+    while i < n {
+        carry_block(list, by, store, places, legs, texts, spots, i, out, replies);
+        i += 1;
+    }
+}
+
+// Carries the n paths at the spots through a map. Each has the reply and the 255 bytes of the single
+// call.
 pub fn carry_all(
     store: &[u8],
     places: &[usize],
@@ -113,10 +167,7 @@ pub fn carry_all(
         return path::Asked::Refused(path::Refusal::NoRoom);
     }
     let list = asking::ask_path(store, places, map.count, &texts[..0]);
-    let mut i = 0;
-    while i < n {
-        carry_block(list, store, places, map, way, texts, spots, i, out, replies);
-        i += 1;
-    }
+    let by = Carrier::Map(map, way);
+    carry_each(list, by, store, places, places, texts, spots, n, out, replies);
     path::Asked::Passed
 }

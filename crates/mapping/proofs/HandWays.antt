@@ -19,10 +19,12 @@ use Rattle.prefix.specs.Join.{joined, spoils}
 use Rattle.parts.specs.Strip.{strip, stripFit, stripMemory}
 use Rattle.parts.proofs.StripLaws.{strip-shorter, strip-same}
 use Rattle.path.specs.declared.Refusal.{Refusal}
-use Rattle.path.specs.declared.Refusal.the-variants.{NoPath, MadeTooLong, MadeIllegal}
+use Rattle.path.specs.declared.Refusal.the-variants.{NoRoom, NoPath, MadeTooLong, MadeIllegal}
+use Rattle.path.specs.declared.Asked.{Asked}
+use Rattle.path.specs.declared.Asked.the-variants.{Passed, Refused as RefusedAsked}
 use Rattle.path.specs.declared.Reply.{Reply}
 use Rattle.path.specs.declared.Reply.the-variants.{Written, Refused}
-use Rattle.path.specs.Outcome.{Outcome, path, refused, reply, memory}
+use Rattle.path.specs.Outcome.{Outcome, path, refused, reply, memory, lent, answered}
 use Rattle.maps.specs.Map.{Map, source, target, chosenOut, chosenHome, same}
 use Rattle.carry.specs.Quick.{joining, keeping, quickBy, quick, isNone, translateMarked, translatePair, translateBy, quickTranslate}
 use Rattle.mapping.specs.Hand.{within, handed}
@@ -81,6 +83,12 @@ short-translate m p = go (chosenOut m p)
     go (some i) =
         short-cond (isNil (target m i)) (refused NoPath) (translatePair m i (source m i) (target m i) (drop (length (source m i)) p)) (short-refused NoPath)
         (short-pair m i (source m i) (target m i) (drop (length (source m i)) p))
+
+-- and so is one that a call gives once its questions passed
+pub short-answered : (a : Asked) (room : ℕ) (o : Outcome) → (a ≡ Passed → Short o) → Short (answered a room o)
+unfolding answered lent
+short-answered Passed room o h = short-cond (leb 255 room) o (refused NoRoom) (h refl) (short-refused NoRoom)
+short-answered (RefusedAsked x) room o h = short-refused x
 
 -- `hand_out`
 module _ (r : Reply) (made : Text) (p : within r (length made)) (n : ℕ) (e : r ≡ Written n) where

@@ -26,6 +26,7 @@ use Rattle.mapping.specs.declared.Way.{Way}
 use Rattle.mapping.specs.declared.Way.the-variants.{Out, Home, Translated}
 use Rattle.mapping.specs.Calls.{mapOf}
 use Rattle.mapping.specs.Way.{wayCall, quickWay, afterList}
+use Rattle.mapping.proofs.HandWays.{Short, short-quick, short-translate, short-answered}
 use Rattle.mapping.proofs.CarryWays.{out-asked, home-asked, translate-asked}
 
 -- `go`
@@ -88,3 +89,18 @@ pub call-is-after : (way : Way) (store : Text) (places : List ℕ) (f : MapFunct
     → list ≡ asked (lentList store places (f .count) ∷ []) ([] ∷ []) [] → wayCall way store places f p room ≡ afterList list way store places f p room
 call-is-after way store places f p room list h =
     sym (after-is-call way store places f p room) ∙ ap (λ (a : Asked). afterList a way store places f p room) (sym (h ∙ ask-empty (lentList store places (f .count))))
+
+-- every path that the calls give has at most 255 bytes
+short-way : (way : Way) (m : Map) (p : Text) → Short (quickWay way m p)
+unfolding quickWay
+short-way Out m p = short-quick false m p
+short-way Home m p = short-quick true m p
+short-way Translated m p = short-translate m (strip p)
+
+pub short-after : (list : Asked) (way : Way) (store : Text) (places : List ℕ) (f : MapFunction) (p : Text) (room : ℕ) → Short (afterList list way store places f p room)
+unfolding afterList
+short-after list way store places f p room = short-answered (earlierOf list (newCall p)) room (quickWay way (mapOf store places f) p) (λ h. short-way way (mapOf store places f) p)
+
+pub short-call : (way : Way) (store : Text) (places : List ℕ) (f : MapFunction) (p : Text) (room : ℕ) → Short (wayCall way store places f p room)
+short-call way store places f p room =
+    rw (← after-is-call way store places f p room) (short-after (asked (lentList store places (f .count) ∷ []) [] []) way store places f p room)

@@ -27,7 +27,7 @@ written-refused : (n : ℕ) (x : Refusal) → Written n ≡ Refused x → ⊥
 written-refused n x e = let z : _≡_ {A = ℕ} 0 1 = cc in omega arith
 
 -- `go_over`
-short-leg : (home : Bool) (m : Map) (p : Text) → Short (quickLeg home m p)
+pub short-leg : (home : Bool) (m : Map) (p : Text) → Short (quickLeg home m p)
 unfolding quickLeg
 short-leg false m p = short-translate m p
 short-leg true m p = short-quick true m p

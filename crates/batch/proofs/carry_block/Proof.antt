@@ -1,11 +1,14 @@
-use mathlib.Core.Path.{ap}
-use Prim.Native.Nat.{ℕ}
-use lib.ListN.{set}
-use Rattle.batch.specs.Turn.{spotAfter}
 use Rattle.batch.proofs.BatchLaws.{block-bytes, block-reply}
+use lib.ListN.{set}
+use Prim.Native.Nat.{ℕ}
+use mathlib.Core.Path.{ap}
 use borrow.Author.Needs.{needs}
 use Rattle.batch.proofs.carry_block.Statement.{statement}
 use Rattle.batch.proofs.carry_block.Tie as tie
+use Rattle.batch.proofs.carry_block.Reads as reads
+use Rattle.batch.proofs.carry_block.Lts as lts
+use Rattle.batch.proofs.carry_spot.Reads as carry-spot-reads
+use Rattle.codes.proofs.reply_code.Reads as reply-code-reads
 
 mul-at : tie.Need-mul-at
 mul-at c = search needs
@@ -41,7 +44,7 @@ same-length-2 : tie.Need-same-length-2
 same-length-2 c = search needs
 
 returns : tie.Need-returns
-returns c = (block-bytes (spotAfter _ _ _ _ _ _ _ _) _ _ (c .before .before .before .before .before .before .before .before .before .before .before .pre .1 .0) _ (c .before .before .before .carry-spot .ensures .1), ap (λ (x : ℕ). set (c .before .before .before .before .before .before .before .before .before .before .before .args .replies .now) (c .before .before .before .before .before .before .before .before .before .before .before .args .i) x) (block-reply (spotAfter _ _ _ _ _ _ _ _) _ _ (c .before .before .before .before .before .before .before .before .before .before .before .pre .1 .0) _ _ (c .before .before .before .carry-spot .ensures .0) (c .reply-code .ensures)))
+returns c = (block-bytes _ _ _ _ _ _ _ _ _ (c .before .before .before .before .before .before .before .before .before .before .before .before .pre .1 .0) _ (c .before .before .before .carry-spot .ensures .1), ap (λ (x : ℕ). set (c .before .before .before .before .before .before .before .before .before .before .before .before .args .replies .now) (c .before .before .before .before .before .before .before .before .before .before .before .before .args .i) x) (block-reply _ _ _ _ _ _ _ _ _ (c .before .before .before .before .before .before .before .before .before .before .before .before .pre .1 .0) _ _ (c .before .before .before .carry-spot .ensures .0) (c .reply-code .ensures)))
 
 pub carry-block-spec : {M : Type 1} → statement M
 carry-block-spec =

@@ -1,8 +1,13 @@
-use Rattle.path.proofs.CallWays.{refusing, answering}
 use Rattle.batch.proofs.BatchLaws.{spot-outside, spot-inside}
+use Rattle.path.proofs.CallWays.{refusing, answering}
 use borrow.Author.Needs.{needs}
 use Rattle.batch.proofs.carry_spot.Statement.{statement}
 use Rattle.batch.proofs.carry_spot.Tie as tie
+use Rattle.batch.proofs.carry_spot.Reads as reads
+use Rattle.batch.proofs.carry_spot.Lts as lts
+use Rattle.batch.proofs.carry_one.Reads as carry-one-reads
+use Rattle.batch.proofs.is_inside.Reads as is-inside-reads
+use Rattle.pairs.proofs.text_at.Reads as text-at-reads
 
 is-inside-requires : tie.Need-is-inside-requires
 is-inside-requires c κs = search needs
@@ -13,22 +18,16 @@ returns c = refusing _ _ (spot-outside _ _ _ _ _ _ _ _ _ _ (c .before .is-inside
 text-at-requires : tie.Need-text-at-requires
 text-at-requires c κs = search needs
 
-carry-after-requires : tie.Need-carry-after-requires
-carry-after-requires c κs = search needs
+carry-one-requires : tie.Need-carry-one-requires
+carry-one-requires c κs = search needs
 
 same-length : tie.Need-same-length
 same-length c = search needs
 
 returns-2 : tie.Need-returns-2
-returns-2 c = answering _ _ (spot-inside _ _ _ _ _ _ _ _ _ _ (c .before .before .before .before .before .before .is-inside .ensures) _ (c .before .before .before .before .before .if1 .left) (c .before .before .before .before .text-at .ensures)) _ _ _ (c .before .before .carry-after .ensures)
+returns-2 c = answering _ _ (spot-inside _ _ _ _ _ _ _ _ _ _ (c .before .before .before .before .before .before .is-inside .ensures) _ (c .before .before .before .before .before .if1 .left) (c .before .before .before .before .text-at .ensures)) _ _ _ (c .before .before .carry-one .ensures)
 
 pub carry-spot-spec : {M : Type 1} → statement M
 carry-spot-spec =
     tie.close
-    (tie.spec
-    is-inside-requires
-    returns
-    text-at-requires
-    carry-after-requires
-    same-length
-    returns-2)
+    (tie.spec is-inside-requires returns text-at-requires carry-one-requires same-length returns-2)
