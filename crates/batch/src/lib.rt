@@ -7,6 +7,8 @@ ghost use lib.ListN.{length, set};
 ghost use Rattle.pairs.specs.Places.{inside};
 ghost use Rattle.path.specs.Outcome.{reply, memory};
 ghost use Rattle.codes.specs.Code.{replyCode};
+ghost use mathlib.Core.List.{[]};
+ghost use Rattle.legs.specs.Lent.{lentRoute, routeAsked};
 ghost use Rattle.batch.specs.Batch.{carriedAt, routedAt, blocks, numbers, enough, allAsked, allBytes, allReplies};
 ghost use Rattle.batch.specs.Turn.{carriedBy, spotBy, inBlock};
 
@@ -169,5 +171,89 @@ pub fn carry_all(
     let list = asking::ask_path(store, places, map.count, &texts[..0]);
     let by = Carrier::Map(map, way);
     carry_each(list, by, store, places, places, texts, spots, n, out, replies);
+    path::Asked::Passed
+}
+
+// The n paths over a route whose legs passed and of which one is a relocate list: the maps of the legs
+// are made first.
+fn route_laid(
+    list: path::Asked,
+    store: &[u8],
+    places: &[usize],
+    legs: &[usize],
+    count: usize,
+    home: bool,
+    texts: &[u8],
+    spots: &[usize],
+    n: usize,
+    out: &mut [u8],
+    replies: &mut [usize],
+)
+    requires { ⌜ enough n (length (now spots)) (length (now out)) (length (now replies)) ≡ true ⌝ }
+    requires { ⌜ list ≡ routeAsked (lentRoute (now store) (now places) (now legs) count) [] ⌝ }
+    ensures { λ _. ⌜ now (out .exit) ≡ blocks (routedAt home (lentRoute (now (store .entry)) (now (places .entry)) (now (legs .entry)) count) (now (texts .entry)) (now (spots .entry))) 0 n (now (out .entry)) ⌝ }
+    ensures { λ _. ⌜ now (replies .exit) ≡ numbers (routedAt home (lentRoute (now (store .entry)) (now (places .entry)) (now (legs .entry)) count) (now (texts .entry)) (now (spots .entry))) 0 n (now (replies .entry)) ⌝ }
+{
+    let mut made = [0usize; 4096];
+    let mut table = [0usize; 48];
+    legs::lay_legs(store, places, legs, count, &mut made, &mut table);
+    let by = Carrier::Route(count, home);
+    carry_each(list, by, store, &made, &table, texts, spots, n, out, replies);
+}
+
+// The n paths over a route whose legs have got the answer `list`.
+fn route_each(
+    list: path::Asked,
+    store: &[u8],
+    places: &[usize],
+    legs: &[usize],
+    count: usize,
+    home: bool,
+    texts: &[u8],
+    spots: &[usize],
+    n: usize,
+    out: &mut [u8],
+    replies: &mut [usize],
+)
+    requires { ⌜ enough n (length (now spots)) (length (now out)) (length (now replies)) ≡ true ⌝ }
+    requires { ⌜ list ≡ routeAsked (lentRoute (now store) (now places) (now legs) count) [] ⌝ }
+    ensures { λ _. ⌜ now (out .exit) ≡ blocks (routedAt home (lentRoute (now (store .entry)) (now (places .entry)) (now (legs .entry)) count) (now (texts .entry)) (now (spots .entry))) 0 n (now (out .entry)) ⌝ }
+    ensures { λ _. ⌜ now (replies .exit) ≡ numbers (routedAt home (lentRoute (now (store .entry)) (now (places .entry)) (now (legs .entry)) count) (now (texts .entry)) (now (spots .entry))) 0 n (now (replies .entry)) ⌝ }
+{
+    if routing::needs_maps(list, legs, count) {
+        route_laid(
+            list, store, places, legs, count, home, texts, spots, n, out, replies,
+        );
+        return;
+    }
+    let by = Carrier::Route(count, home);
+    carry_each(list, by, store, places, legs, texts, spots, n, out, replies);
+}
+
+// Carries the n paths at the spots out over a route, or home. Each has the reply and the 255 bytes of
+// the single call.
+pub fn route_all(
+    store: &[u8],
+    places: &[usize],
+    legs: &[usize],
+    count: usize,
+    home: bool,
+    texts: &[u8],
+    spots: &[usize],
+    n: usize,
+    out: &mut [u8],
+    replies: &mut [usize],
+) -> path::Asked
+    ensures { λ r. ⌜ r ≡ allAsked (enough n (length (now (spots .entry))) (length (now (out .entry))) (length (now (replies .entry)))) ⌝ }
+    ensures { λ r. ⌜ now (out .exit) ≡ allBytes (enough n (length (now (spots .entry))) (length (now (out .entry))) (length (now (replies .entry)))) (routedAt home (lentRoute (now (store .entry)) (now (places .entry)) (now (legs .entry)) count) (now (texts .entry)) (now (spots .entry))) n (now (out .entry)) ⌝ }
+    ensures { λ r. ⌜ now (replies .exit) ≡ allReplies (enough n (length (now (spots .entry))) (length (now (out .entry))) (length (now (replies .entry)))) (routedAt home (lentRoute (now (store .entry)) (now (places .entry)) (now (legs .entry)) count) (now (texts .entry)) (now (spots .entry))) n (now (replies .entry)) ⌝ }
+{
+    if !has_room(n, spots.len(), out.len(), replies.len()) {
+        return path::Asked::Refused(path::Refusal::NoRoom);
+    }
+    let list = legs::ask_legs(store, places, legs, count);
+    route_each(
+        list, store, places, legs, count, home, texts, spots, n, out, replies,
+    );
     path::Asked::Passed
 }

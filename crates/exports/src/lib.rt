@@ -13,6 +13,7 @@ ghost use Rattle.codes.specs.Code.{askedCode, testCode, countCode, replyCode};
 
 mod makes;
 mod moves;
+mod routes;
 mod time;
 
 // Is the text a legal path of at most 255 bytes?

@@ -211,3 +211,55 @@ pub fn needs_maps(list: path::Asked, legs: &[usize], n: usize) -> bool
     legs::has_relocates(legs, n)
 }
 
+// A path over a route, home or out.
+fn route_call(
+    store: &[u8],
+    places: &[usize],
+    legs: &[usize],
+    n: usize,
+    home: bool,
+    path: &[u8],
+    out: &mut [u8],
+) -> path::Reply
+    ensures { λ r. ⌜ r ≡ reply (routeCall home (lentRoute (now (store .entry)) (now (places .entry)) (now (legs .entry)) n) (now (path .entry)) (length (now (out .entry)))) ⌝ }
+    ensures { λ r. ⌜ now (out .exit) ≡ memory (routeCall home (lentRoute (now (store .entry)) (now (places .entry)) (now (legs .entry)) n) (now (path .entry)) (length (now (out .entry)))) (now (out .entry)) ⌝ }
+{
+    let list = legs::ask_legs(store, places, legs, n);
+    if !needs_maps(list, legs, n) {
+        return route_after(list, store, places, legs, n, home, path, out);
+    }
+    let mut made = [0usize; 4096];
+    let mut table = [0usize; 48];
+    legs::lay_legs(store, places, legs, n, &mut made, &mut table);
+    route_after(list, store, &made, &table, n, home, path, out)
+}
+
+// The path out over the n legs.
+pub fn route_out(
+    store: &[u8],
+    places: &[usize],
+    legs: &[usize],
+    n: usize,
+    path: &[u8],
+    out: &mut [u8],
+) -> path::Reply
+    ensures { λ r. ⌜ r ≡ reply (routeCall false (lentRoute (now (store .entry)) (now (places .entry)) (now (legs .entry)) n) (now (path .entry)) (length (now (out .entry)))) ⌝ }
+    ensures { λ r. ⌜ now (out .exit) ≡ memory (routeCall false (lentRoute (now (store .entry)) (now (places .entry)) (now (legs .entry)) n) (now (path .entry)) (length (now (out .entry)))) (now (out .entry)) ⌝ }
+{
+    route_call(store, places, legs, n, false, path, out)
+}
+
+// The path home over the n legs.
+pub fn route_home(
+    store: &[u8],
+    places: &[usize],
+    legs: &[usize],
+    n: usize,
+    path: &[u8],
+    out: &mut [u8],
+) -> path::Reply
+    ensures { λ r. ⌜ r ≡ reply (routeCall true (lentRoute (now (store .entry)) (now (places .entry)) (now (legs .entry)) n) (now (path .entry)) (length (now (out .entry)))) ⌝ }
+    ensures { λ r. ⌜ now (out .exit) ≡ memory (routeCall true (lentRoute (now (store .entry)) (now (places .entry)) (now (legs .entry)) n) (now (path .entry)) (length (now (out .entry)))) (now (out .entry)) ⌝ }
+{
+    route_call(store, places, legs, n, true, path, out)
+}

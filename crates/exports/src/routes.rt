@@ -1,0 +1,67 @@
+// The route calls. A route is a list's store and places for all its legs, three numbers for each leg
+// (its kind: 0 a map, 1 a map with the mark, any other number a relocate list; the pair at which its
+// list begins; how many pairs it has), and how many legs there are.
+ghost use mathlib.Core.Path.{_≡_};
+ghost use mathlib.Core.Bool.{true, false};
+ghost use lib.ListN.{length};
+ghost use Rattle.path.specs.Outcome.{reply, memory};
+ghost use Rattle.codes.specs.Code.{askedCode, replyCode};
+ghost use Rattle.legs.specs.Lent.{lentRoute};
+ghost use Rattle.routing.specs.Calls.{routeCall};
+ghost use Rattle.batch.specs.Batch.{routedAt, enough, allAsked, allBytes, allReplies};
+
+// The path out over the legs, written to out.
+#[no_mangle]
+pub extern "C" fn mudvizsor_route_out(
+    store: &[u8],
+    places: &[usize],
+    legs: &[usize],
+    count: usize,
+    path: &[u8],
+    out: &mut [u8],
+) -> usize
+    ensures { λ r. ⌜ r ≡ replyCode (reply (routeCall false (lentRoute (now (store .entry)) (now (places .entry)) (now (legs .entry)) count) (now (path .entry)) (length (now (out .entry))))) ⌝ }
+    ensures { λ r. ⌜ now (out .exit) ≡ memory (routeCall false (lentRoute (now (store .entry)) (now (places .entry)) (now (legs .entry)) count) (now (path .entry)) (length (now (out .entry)))) (now (out .entry)) ⌝ }
+{
+    codes::reply_code(routing::route_out(store, places, legs, count, path, out))
+}
+
+// The path home over the legs, written to out.
+#[no_mangle]
+pub extern "C" fn mudvizsor_route_home(
+    store: &[u8],
+    places: &[usize],
+    legs: &[usize],
+    count: usize,
+    path: &[u8],
+    out: &mut [u8],
+) -> usize
+    ensures { λ r. ⌜ r ≡ replyCode (reply (routeCall true (lentRoute (now (store .entry)) (now (places .entry)) (now (legs .entry)) count) (now (path .entry)) (length (now (out .entry))))) ⌝ }
+    ensures { λ r. ⌜ now (out .exit) ≡ memory (routeCall true (lentRoute (now (store .entry)) (now (places .entry)) (now (legs .entry)) count) (now (path .entry)) (length (now (out .entry)))) (now (out .entry)) ⌝ }
+{
+    codes::reply_code(routing::route_home(store, places, legs, count, path, out))
+}
+
+// The n paths at the spots out over the legs, or home where `home` is set, each into its 255 bytes of
+// out and with its reply in replies.
+#[no_mangle]
+pub extern "C" fn mudvizsor_route_all(
+    store: &[u8],
+    places: &[usize],
+    legs: &[usize],
+    count: usize,
+    home: bool,
+    texts: &[u8],
+    spots: &[usize],
+    n: usize,
+    out: &mut [u8],
+    replies: &mut [usize],
+) -> usize
+    ensures { λ r. ⌜ r ≡ askedCode (allAsked (enough n (length (now (spots .entry))) (length (now (out .entry))) (length (now (replies .entry))))) ⌝ }
+    ensures { λ r. ⌜ now (out .exit) ≡ allBytes (enough n (length (now (spots .entry))) (length (now (out .entry))) (length (now (replies .entry)))) (routedAt home (lentRoute (now (store .entry)) (now (places .entry)) (now (legs .entry)) count) (now (texts .entry)) (now (spots .entry))) n (now (out .entry)) ⌝ }
+    ensures { λ r. ⌜ now (replies .exit) ≡ allReplies (enough n (length (now (spots .entry))) (length (now (out .entry))) (length (now (replies .entry)))) (routedAt home (lentRoute (now (store .entry)) (now (places .entry)) (now (legs .entry)) count) (now (texts .entry)) (now (spots .entry))) n (now (replies .entry)) ⌝ }
+{
+    codes::asked_code(batch::route_all(
+        store, places, legs, count, home, texts, spots, n, out, replies,
+    ))
+}
