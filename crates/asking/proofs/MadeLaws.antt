@@ -1,6 +1,6 @@
 -- What is made of a lent list, and when. Assumes nothing.
 use mathlib.Core.Path.{_≡_, refl, sym, _∙_}
-use mathlib.Core.Bool.{Bool, true, false, not, _&&_}
+use mathlib.Core.Bool.{Bool, true, false, not}
 use mathlib.Core.List.{List, []}
 use Prim.Native.Nat.{ℕ, _/_, _*_, _≤_, _<_}
 use native.Mathlib.Omega.{arith}

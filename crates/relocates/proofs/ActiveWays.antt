@@ -1,5 +1,5 @@
 -- What each way through `active_pairs` gives. Assumes nothing.
-use mathlib.Core.Path.{_≡_, refl, sym, ap, _∙_}
+use mathlib.Core.Path.{_≡_, refl, _∙_}
 use mathlib.Core.Logic.{_≢_}
 use mathlib.Core.Bool.{Bool, true, false, cond}
 use mathlib.Core.List.{List, [], _∷_, _++_}
@@ -11,7 +11,7 @@ use lib.ListN.{length, getD}
 use borrow.Author.Tests.{eq-eqb, ne-eqb}
 use Rattle.text.specs.Text.{Text, written}
 use Rattle.pairs.specs.Pair.{Pair, pairAt}
-use Rattle.pairs.specs.Places.{pairIn, pairsIn, copied}
+use Rattle.pairs.specs.Places.{pairsIn, copied}
 use Rattle.pairs.proofs.PlaceLaws.{pairsIn-at}
 use Rattle.pairs.proofs.CopyLaws.{pushed, copied-over}
 use Rattle.relocates.specs.Status.{statusByte, occurrence, statuses, active}
@@ -48,9 +48,10 @@ module _ (store : Text) (places : List ℕ) (n : ℕ) where
       where
         go : (b : Bool) → r ≡ cond b (w + 1) w → kept′ ≡ cond b (copied places i w kept) kept
             → (r ≤ suc i) × (pairsIn store kept′ r ≡ cond b (active list i ++ pairAt list i ∷ []) (active list i))
-        go true g k =
-            (omega arith,
-            rw (k, g, add-one w, copied-over places i w kept (omega arith) (omega arith)) (pushed store places i kept w (omega arith) ∙ rw (e, pairsIn-at store places n i h) refl))
+        go true g k = (
+          omega arith,
+          rw (k, g, add-one w, copied-over places i w kept (omega arith) (omega arith)) (pushed store places i kept w (omega arith) ∙ rw (e, pairsIn-at store places n i h) refl),
+        )
         go false g k = (omega arith, rw (k, g) e)
 
   pub active-end : (i : ℕ) (kept : List ℕ) (w : ℕ) → n ≤ i → i ≤ n → pairsIn store kept w ≡ active list i → pairsIn store kept w ≡ active list n

@@ -3,28 +3,21 @@ use mathlib.Core.Path.{sym, _∙_}
 use borrow.Author.Needs.{needs}
 use Rattle.map_function.proofs.canonical_places.Statement.{statement}
 use Rattle.map_function.proofs.canonical_places.Tie as tie
-use Rattle.map_function.proofs.canonical_places.Reads as reads
-use Rattle.map_function.proofs.canonical_places.Lts as lts
 use Rattle.asking.proofs.can_make.Reads as can-make-reads
 use Rattle.map_function.proofs.canonicalize.Reads as canonicalize-reads
 
--- src/lib.rt:261:9
 can-make-requires : tie.Need-can-make-requires
 can-make-requires c κs = search needs
 
--- src/lib.rt:262:9
 returns : tie.Need-returns
 returns c = made-none _ _ _ _ (c .before .can-make .ensures) _ _ _ (c .if1 .taken)
 
--- src/lib.rt:264:5
 canonicalize-requires : tie.Need-canonicalize-requires
 canonicalize-requires c κs = ((made-few _ _ _ _ (c .before .before .can-make .ensures) (c .before .if1 .left), made-held _ _ _ _ (c .before .before .can-make .ensures) (c .before .if1 .left)), made-room _ _ _ _ (c .before .before .can-make .ensures) (c .before .if1 .left))
 
--- src/lib.rt:252:1
 same-length : tie.Need-same-length
 same-length c = search needs
 
--- src/lib.rt:252:1
 returns-2 : tie.Need-returns-2
 returns-2 c = c .before .before .canonicalize .ensures ∙ sym (made-all _ _ _ _ (c .before .before .before .before .before .can-make .ensures) (c .before .before .before .before .if1 .left) _ _)
 

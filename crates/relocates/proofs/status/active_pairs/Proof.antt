@@ -9,8 +9,6 @@ use Rattle.asking.proofs.MadeLaws.{made-none, made-all, made-few, made-held, ma
 use Rattle.relocates.proofs.ActiveWays.{active-none, active-on, active-end}
 use Rattle.relocates.proofs.status.active_pairs.Statement.{statement}
 use Rattle.relocates.proofs.status.active_pairs.Tie as tie
-use Rattle.relocates.proofs.status.active_pairs.Reads as reads
-use Rattle.relocates.proofs.status.active_pairs.Lts as lts
 use Rattle.asking.proofs.can_make.Reads as can-make-reads
 use Rattle.relocates.proofs.status.keep_active.Reads as keep-active-reads
 use Rattle.relocates.proofs.status.write_statuses.Reads as write-statuses-reads
@@ -21,51 +19,39 @@ Inv-loop store places n kept₀ status w₀ i₀ kept w i = (i ≤ n) × (w ≤ 
 abbrev μ-loop : tie.MeasureT-loop
 μ-loop store places n kept₀ status w₀ i₀ kept w i = n - i
 
--- src/status.rt:222:9
 can-make-requires : tie.Need-can-make-requires Inv-loop μ-loop
 can-make-requires c κs = search needs
 
--- src/status.rt:223:9
 returns : tie.Need-returns Inv-loop μ-loop
 returns c = made-none _ _ _ _ (c .before .can-make .ensures) _ _ _ (c .if1 .taken)
 
--- src/status.rt:226:38
 slice-aggregate-write-statuses : tie.Need-slice-aggregate-write-statuses Inv-loop μ-loop
 slice-aggregate-write-statuses c = search needs
 
--- src/status.rt:226:5
 write-statuses-requires : tie.Need-write-statuses-requires Inv-loop μ-loop
 write-statuses-requires c κs = (made-few _ _ _ _ (c .before .before .can-make .ensures) (c .before .if1 .left), made-few _ _ _ _ (c .before .before .can-make .ensures) (c .before .if1 .left))
 
--- src/status.rt:229:5
 loop-holds : tie.Need-loop-holds Inv-loop μ-loop
 loop-holds c = (search needs, search needs, active-none _ _ _ _, refl)
 
--- src/status.rt:230:36
 array-read-keep-active : tie.Need-array-read-keep-active Inv-loop μ-loop
 array-read-keep-active c = omega (arith, made-few _ _ _ _ (c .before .before .before .before .before .before .can-make .ensures) (c .before .before .before .before .before .if1 .left))
 
--- src/status.rt:230:9
 keep-active-requires : tie.Need-keep-active-requires Inv-loop μ-loop
 keep-active-requires c κs = omega (arith, made-few _ _ _ _ (c .before .before .before .before .before .before .before .can-make .ensures) (c .before .before .before .before .before .before .if1 .left), made-room _ _ _ _ (c .before .before .before .before .before .before .before .can-make .ensures) (c .before .before .before .before .before .before .if1 .left))
 
--- src/status.rt:231:9
 add-i : tie.Need-add-i Inv-loop μ-loop
 add-i c = search needs
 
--- src/status.rt:229:5
 loop-less : tie.Need-loop-less Inv-loop μ-loop
 loop-less c = search needs
 
--- src/status.rt:229:5
 loop-again : tie.Need-loop-again Inv-loop μ-loop
 loop-again c = let t = active-on _ _ _ _ (c .before .before .before .before .loop-test .taken) (made-held _ _ _ _ (c .before .before .before .before .before .before .before .before .before .before .can-make .ensures) (c .before .before .before .before .before .before .before .before .before .if1 .left)) _ _ (c .before .before .before .before .before .before .before .write-statuses .ensures) _ _ (omega (arith, made-few _ _ _ _ (c .before .before .before .before .before .before .before .before .before .before .can-make .ensures) (c .before .before .before .before .before .before .before .before .before .if1 .left), made-room _ _ _ _ (c .before .before .before .before .before .before .before .before .before .before .can-make .ensures) (c .before .before .before .before .before .before .before .before .before .if1 .left), c .before .before .before .before .before .loop .inv .3)) (c .before .before .before .before .before .loop .inv .1) (c .before .before .before .before .before .loop .inv .2) _ _ _ refl (c .before .before .keep-active .ensures .0) (c .before .before .keep-active .ensures .1) in (search needs, t .0, t .1, search needs)
 
--- src/status.rt:219:1
 same-length : tie.Need-same-length Inv-loop μ-loop
 same-length c = search needs
 
--- src/status.rt:219:1
 returns-2 : tie.Need-returns-2 Inv-loop μ-loop
 returns-2 c = active-end _ _ _ _ _ _ (c .loop-test .left) (c .before .loop .inv .0) (c .before .loop .inv .2) ∙ sym (made-all _ _ _ _ (c .before .before .before .before .before .before .can-make .ensures) (c .before .before .before .before .before .if1 .left) _ _)
 

@@ -2,27 +2,20 @@ use Rattle.relocates.proofs.ActiveWays.{active-left, active-kept}
 use borrow.Author.Needs.{needs}
 use Rattle.relocates.proofs.status.keep_active.Statement.{statement}
 use Rattle.relocates.proofs.status.keep_active.Tie as tie
-use Rattle.relocates.proofs.status.keep_active.Reads as reads
-use Rattle.relocates.proofs.status.keep_active.Lts as lts
 use Rattle.pairs.proofs.copy_pair.Reads as copy-pair-reads
 
--- src/status.rt:212:9
 returns : tie.Need-returns
 returns c = active-left _ _ _ _ _ (c .if1 .taken)
 
--- src/status.rt:214:5
 copy-pair-requires : tie.Need-copy-pair-requires
 copy-pair-requires c κs = search needs
 
--- src/status.rt:215:5
 add-result : tie.Need-add-result
 add-result c = search needs
 
--- src/status.rt:206:1
 same-length : tie.Need-same-length
 same-length c = search needs
 
--- src/status.rt:206:1
 returns-2 : tie.Need-returns-2
 returns-2 c = active-kept _ _ _ _ _ (c .before .before .before .before .if1 .left) _ (c .before .before .copy-pair .ensures)
 
