@@ -1,3 +1,4 @@
 pub mod AskWays
 pub mod EarlierLaws
 pub mod PassLaws
+pub mod MadeLaws

@@ -5,6 +5,7 @@ ghost use mathlib.Core.Bool.{Bool, _&&_};
 ghost use mathlib.Core.List.{[], _∷_};
 ghost use Rattle.grammar.specs.Legal.{legal, fits, isEnd};
 ghost use Rattle.asking.specs.Asking.{lentList, present, listFits, listAll, listCounts, every, firstNo, asked, earlierOf};
+ghost use Rattle.asking.specs.Made.{canMake};
 
 // How many places the slice has for the pairs that are counted.
 fn places_of(places: &[usize], count: usize) -> usize
@@ -64,6 +65,16 @@ fn is_counted(places: &[usize], count: usize) -> bool
         return false;
     }
     count <= places.len() / 4
+}
+
+// Is the list one that question 4 lets pass, and has the memory room for 64 pairs?
+pub fn can_make(places: &[usize], count: usize, room: usize) -> bool
+    ensures { λ r. ⌜ r ≡ canMake (lentList [] (now (places .entry)) count) room ⌝ }
+{
+    if room < 256 {
+        return false;
+    }
+    is_counted(places, count)
 }
 
 // The first "no" of four answers.

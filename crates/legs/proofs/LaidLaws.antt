@@ -35,7 +35,7 @@ module _ (legs : List ℕ) where
   relocates-end n k h l e = let z : k ≡ n = omega arith in sym (rw z at e)
 
 -- a leg that is a map is its own map
-plain-leg : (kind : ℕ) (l : List Pair) → kind < 2 → record { pairs = l; mark = eqb kind 1 } ≡ legMap (legOf kind l)
+pub plain-leg : (kind : ℕ) (l : List Pair) → kind < 2 → record { pairs = l; mark = eqb kind 1 } ≡ legMap (legOf kind l)
 unfolding legMap legOf
 plain-leg zero l h = refl
 plain-leg (suc zero) l h = refl

@@ -1,3 +1,4 @@
 pub mod RouteLaws
 pub mod AskWays
 pub mod LaidLaws
+mod LayWays

@@ -8,6 +8,7 @@ ghost use Prim.Native.Nat.{_+_, _*_, _≤_, _<_};
 ghost use Rattle.prefix.specs.Elements.{elements};
 ghost use Rattle.pairs.specs.Places.{keyAt, pairIn, pairsIn};
 ghost use Rattle.asking.specs.Asking.{lentList};
+ghost use Rattle.asking.specs.Made.{madeOf};
 ghost use Rattle.maps.specs.Map.{lentMap};
 ghost use Rattle.maps.specs.New.{isRoots, noRoots, anyRoots, implied, keep, canonical, identity, null};
 ghost use Rattle.map_function.specs.Level.{layer, Keyed, Topped};
@@ -245,6 +246,22 @@ fn canonicalize(store: &[u8], places: &[usize], n: usize, mark: bool, kept: &mut
         e += 1;
     }
     keep_level(store, places, n, &keys, top, mark, kept, w)
+}
+
+// The pairs that `new` keeps of the first n, as places in memory of the caller's own.
+pub fn canonical_places(
+    store: &[u8],
+    places: &[usize],
+    n: usize,
+    mark: bool,
+    kept: &mut [usize],
+) -> usize
+    ensures { λ r. ⌜ pairsIn (now (store .entry)) (now (kept .exit)) r ≡ madeOf (lentList (now (store .entry)) (now (places .entry)) n) (length (now (kept .entry))) (canonical mark (noRoots (pairsIn (now (store .entry)) (now (places .entry)) n))) ⌝ }
+{
+    if !asking::can_make(places, n, kept.len()) {
+        return 0;
+    }
+    canonicalize(store, places, n, mark, kept)
 }
 
 // Is one of the two set?

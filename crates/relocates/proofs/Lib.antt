@@ -5,3 +5,4 @@ mod StepWays
 mod ChainWays
 mod CallWays
 mod AnalyzeWays
+mod ActiveWays

@@ -1,15 +1,17 @@
 // Which pairs of a relocate list take part. Every public function is defined for any bytes and any
 // numbers.
 ghost use mathlib.Core.Path.{_≡_};
-ghost use mathlib.Core.Bool.{not, _&&_};
-ghost use Prim.Native.Nat.{_+_, _≤_};
+ghost use mathlib.Core.Bool.{not, cond, _&&_};
+ghost use Prim.Native.Nat.{_+_, _≤_, _<_};
 ghost use lib.Dec.{eqb};
 ghost use lib.ListN.{length};
 ghost use Rattle.text.specs.Text.{isNil, equal, written};
 ghost use Rattle.prefix.specs.Prefix.{hasPrefix};
-ghost use Rattle.pairs.specs.Places.{pairIn, pairsIn};
+ghost use Rattle.pairs.specs.Places.{pairIn, pairsIn, copied};
+ghost use Rattle.asking.specs.Asking.{lentList};
+ghost use Rattle.asking.specs.Made.{madeOf};
 ghost use Rattle.relocates.specs.declared.RelocateOccurrence.the-variants.{Active};
-ghost use Rattle.relocates.specs.Status.{pairOf, structural, reserves, duplicate, alike, pairConflicts, against, occurrenceOr, statusByte, marks, statuses, marked};
+ghost use Rattle.relocates.specs.Status.{pairOf, structural, reserves, duplicate, alike, pairConflicts, against, occurrenceOr, statusByte, marks, statuses, marked, active};
 
 // Is the pair dropped whatever stands beside it? (Rust: relocate_invalid_reason)
 pub fn is_structural(source: &[u8], target: &[u8]) -> bool
@@ -198,4 +200,35 @@ pub(crate) fn write_statuses(store: &[u8], places: &[usize], n: usize, out: &mut
     let mut mark = [0u8; 64];
     mark_pairs(store, places, n, &mut mark);
     settle_pairs(store, places, n, &mark, out);
+}
+
+// Keeps pair i behind the w pairs that are kept, where its status is Active.
+fn keep_active(places: &[usize], i: usize, status: u8, kept: &mut [usize], w: usize) -> usize
+    requires { ⌜ w < length (now kept) ⌝ }
+    ensures { λ r. ⌜ r ≡ cond (eqb status 0) (w + 1) w ⌝ }
+    ensures { λ r. ⌜ now (kept .exit) ≡ cond (eqb status 0) (copied (now (places .entry)) i w (now (kept .entry))) (now (kept .entry)) ⌝ }
+{
+    if status != 0 {
+        return w;
+    }
+    pairs::copy_pair(places, i, w, kept);
+    w + 1
+}
+
+// The places of the Active ones of the first n pairs.
+pub fn active_pairs(store: &[u8], places: &[usize], n: usize, kept: &mut [usize]) -> usize
+    ensures { λ r. ⌜ pairsIn (now (store .entry)) (now (kept .exit)) r ≡ madeOf (lentList (now (store .entry)) (now (places .entry)) n) (length (now (kept .entry))) (active (pairsIn (now (store .entry)) (now (places .entry)) n) n) ⌝ }
+{
+    if !asking::can_make(places, n, kept.len()) {
+        return 0;
+    }
+    let mut status = [0u8; 64];
+    write_statuses(store, places, n, &mut status);
+    let mut w = 0;
+    let mut i = 0;
+    while i < n {
+        w = keep_active(places, i, status[i], kept, w);
+        i += 1;
+    }
+    w
 }

@@ -2,10 +2,11 @@
 use mathlib.Core.Path.{_≡_, refl, sym, ap, _∙_}
 use mathlib.Core.Bool.{Bool, true, false, not, cond, _&&_, _||_, false≢true}
 use mathlib.Core.List.{List, [], _∷_, _++_}
-use Prim.Native.Nat.{ℕ, zero, suc}
+use Prim.Native.Nat.{ℕ, zero, suc, _≤_}
 use mathlib.Core.Option.{none}
 use lib.Dec.{eqb}
-use lib.ListN.{length}
+use native.Mathlib.Omega.{arith}
+use lib.ListN.{length, length-append}
 use Rattle.text.specs.Text.{Text, isNil, equal, after}
 use Rattle.text.proofs.BoolLaws.{and-l, and-r, or-right}
 use Rattle.grammar.specs.Legal.{isEnd, fits}
@@ -15,9 +16,9 @@ use Rattle.prefix.specs.Elements.{names}
 use Rattle.prefix.proofs.PrefixLaws.{legal-prefix-empty}
 use Rattle.pairs.specs.Pair.{Pair, nothing, pairAt, sourceAt, everyEnd, allEnds, allShort, noEmptySource}
 use Rattle.pairs.specs.Best.{bestBy, serves, best}
-use Rattle.maps.specs.Map.{Map, chosenOut}
-use Rattle.maps.specs.New.{isRoots, anyRoots, noRoots, sorted, via, implied, keep, canonical, new}
-use Rattle.maps.proofs.EndLaws.{ends-target, all, isFull, full-all, fromParts-keeps}
+use Rattle.maps.specs.Map.{chosenOut}
+use Rattle.maps.specs.New.{isRoots, anyRoots, noRoots, sorted, via, implied, keep, canonical, fromParts, new}
+use Rattle.maps.proofs.EndLaws.{ends-target, all, isFull, full-all, fromParts-keeps, fromParts-length}
 use Rattle.relocates.specs.Status.{structural, statusByte, occurrence, active, roots, relocateMap}
 
 module _ (ok : Pair → Bool) where
@@ -152,9 +153,32 @@ unfolding anyRoots
 marked-by-roots [] = refl
 marked-by-roots (x ∷ l) = or-right (isRoots x) (anyRoots (l ++ roots ∷ [])) (marked-by-roots l)
 
+not-roots : (l : List Pair) → noRoots (l ++ roots ∷ []) ≡ noRoots l
+unfolding noRoots
+not-roots [] = refl
+not-roots (x ∷ l) = rw (not-roots l) refl
+
+-- so the map is that of the Active pairs and the mark
+pub relocate-parts : (l : List Pair) → relocateMap l ≡ fromParts (active l (length l)) true
+unfolding relocateMap new fromParts
+relocate-parts l = rw (marked-by-roots (active l (length l)), not-roots (active l (length l))) refl
+
+-- it has no more pairs than the list
+pub active-few : (l : List Pair) (n : ℕ) → length (active l n) ≤ n
+unfolding active
+active-few l zero = omega arith
+active-few l (suc n) = go (eqb (statusByte (occurrence l n)) 0) (active-few l n)
+  where
+    go : (b : Bool) → length (active l n) ≤ n → length (cond b (active l n ++ pairAt l n ∷ []) (active l n)) ≤ suc n
+    go true h = rw (length-append (active l n) (pairAt l n ∷ [])) (omega arith)
+    go false h = omega arith
+
+pub relocate-few : (l : List Pair) → length ((relocateMap l) .pairs) ≤ length l
+relocate-few l = rw (relocate-parts l) (omega (arith, fromParts-length (active l (length l)) true, active-few l (length l)))
+
 relocate-there : (l : List Pair) → all isThere ((relocateMap l) .pairs) ≡ true
-unfolding relocateMap new
-relocate-there l = rw (marked-by-roots (active l (length l))) (canonical-there (noRoots (active l (length l) ++ roots ∷ [])))
+unfolding fromParts
+relocate-there l = rw (relocate-parts l) (canonical-there (noRoots (active l (length l))))
 
 both-full : (l : List Pair) → all fullOrGone l ≡ true → all isThere l ≡ true → all isFull l ≡ true
 unfolding all

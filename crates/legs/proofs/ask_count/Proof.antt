@@ -1,18 +1,13 @@
 use Rattle.legs.proofs.AskWays.{count-over, count-beyond, count-passed}
 use Rattle.legs.proofs.ask_count.Statement.{statement}
 use Rattle.legs.proofs.ask_count.Tie as tie
-use Rattle.legs.proofs.ask_count.Reads as reads
-use Rattle.legs.proofs.ask_count.Lts as lts
 
--- src/lib.rt:71:9
 returns : tie.Need-returns
 returns c = count-over _ _ (c .if1 .taken)
 
--- src/lib.rt:74:9
 returns-2 : tie.Need-returns-2
 returns-2 c = count-beyond _ _ (c .before .if1 .left) (c .if2 .taken)
 
--- src/lib.rt:67:1
 returns-3 : tie.Need-returns-3
 returns-3 c = count-passed _ _ (c .before .if1 .left) (c .if2 .left)
 

@@ -2,25 +2,19 @@ use Rattle.legs.proofs.AskWays.{leg-asked}
 use borrow.Author.Needs.{needs}
 use Rattle.legs.proofs.ask_leg.Statement.{statement}
 use Rattle.legs.proofs.ask_leg.Tie as tie
-use Rattle.legs.proofs.ask_leg.Reads as reads
-use Rattle.legs.proofs.ask_leg.Lts as lts
 use Rattle.asking.proofs.ask_pairs.Reads as ask-pairs-reads
 use Rattle.legs.proofs.leg_places.Reads as leg-places-reads
 use Rattle.legs.proofs.size_at.Reads as size-at-reads
 
--- src/lib.rt:83:30
 leg-places-requires : tie.Need-leg-places-requires
 leg-places-requires c κs = search needs
 
--- src/lib.rt:83:59
 size-at-requires : tie.Need-size-at-requires
 size-at-requires c κs = search needs
 
--- src/lib.rt:83:5
 ask-pairs-requires : tie.Need-ask-pairs-requires
 ask-pairs-requires c κs = search needs
 
--- src/lib.rt:80:1
 returns : tie.Need-returns
 returns c = leg-asked _ _ _ _ _ _ _ (c .before .before .leg-places .ensures) (c .before .size-at .ensures) (c .ask-pairs .ensures)
 

@@ -7,8 +7,6 @@ use Rattle.legs.specs.Lent.{lentRoute, listsIn}
 use Rattle.legs.proofs.AskWays.{lists-none, lists-on, lists-end}
 use Rattle.legs.proofs.ask_lists.Statement.{statement}
 use Rattle.legs.proofs.ask_lists.Tie as tie
-use Rattle.legs.proofs.ask_lists.Reads as reads
-use Rattle.legs.proofs.ask_lists.Lts as lts
 use Rattle.asking.proofs.earlier.Reads as earlier-reads
 use Rattle.legs.proofs.ask_leg.Reads as ask-leg-reads
 
@@ -18,31 +16,24 @@ Inv-loop store places legs n q₀ k₀ q k = (k ≤ n) × (q ≡ asked (listsIn 
 abbrev μ-loop : tie.MeasureT-loop
 μ-loop store places legs n q₀ k₀ q k = n - k
 
--- src/lib.rt:92:5
 loop-holds : tie.Need-loop-holds Inv-loop μ-loop
 loop-holds c = (search needs, lists-none _ _ _ _)
 
--- src/lib.rt:93:32
 ask-leg-requires : tie.Need-ask-leg-requires Inv-loop μ-loop
 ask-leg-requires c κs = search needs
 
--- src/lib.rt:93:9
 earlier-requires : tie.Need-earlier-requires Inv-loop μ-loop
 earlier-requires c κs = search needs
 
--- src/lib.rt:94:9
 add-k : tie.Need-add-k Inv-loop μ-loop
 add-k c = search needs
 
--- src/lib.rt:92:5
 loop-less : tie.Need-loop-less Inv-loop μ-loop
 loop-less c = search needs
 
--- src/lib.rt:92:5
 loop-again : tie.Need-loop-again Inv-loop μ-loop
 loop-again c = (search needs, lists-on _ _ _ _ _ _ _ _ (c .before .before .before .loop .inv .1) (c .before .ask-leg .ensures) (c .earlier .ensures))
 
--- src/lib.rt:87:1
 returns : tie.Need-returns Inv-loop μ-loop
 returns c = lists-end _ _ _ _ _ _ (c .loop-test .left) (c .before .loop .inv .0) (c .before .loop .inv .1)
 

@@ -6,8 +6,6 @@ use Rattle.legs.specs.Laid.{hasRelocates}
 use Rattle.legs.proofs.LaidLaws.{relocates-none, relocates-found, relocates-on, relocates-end}
 use Rattle.legs.proofs.has_relocates.Statement.{statement}
 use Rattle.legs.proofs.has_relocates.Tie as tie
-use Rattle.legs.proofs.has_relocates.Reads as reads
-use Rattle.legs.proofs.has_relocates.Lts as lts
 use Rattle.legs.proofs.kind_at.Reads as kind-at-reads
 
 abbrev Inv-loop : tie.InvT-loop
@@ -16,31 +14,24 @@ Inv-loop legs n k₀ k = (k ≤ n) × (hasRelocates legs k ≡ false)
 abbrev μ-loop : tie.MeasureT-loop
 μ-loop legs n k₀ k = n - k
 
--- src/lib.rt:112:5
 loop-holds : tie.Need-loop-holds Inv-loop μ-loop
 loop-holds c = (search needs, relocates-none _)
 
--- src/lib.rt:113:17
 kind-at-requires : tie.Need-kind-at-requires Inv-loop μ-loop
 kind-at-requires c κs = search needs
 
--- src/lib.rt:114:13
 returns : tie.Need-returns Inv-loop μ-loop
 returns c = relocates-found _ _ _ (c .before .kind-at .ensures) _ (c .before .before .loop-test .taken) (c .if1 .taken)
 
--- src/lib.rt:116:9
 add-k : tie.Need-add-k Inv-loop μ-loop
 add-k c = search needs
 
--- src/lib.rt:112:5
 loop-less : tie.Need-loop-less Inv-loop μ-loop
 loop-less c = search needs
 
--- src/lib.rt:112:5
 loop-again : tie.Need-loop-again Inv-loop μ-loop
 loop-again c = (search needs, relocates-on _ _ _ (c .before .kind-at .ensures) (c .before .before .before .loop .inv .1) (c .if1 .left))
 
--- src/lib.rt:108:1
 returns-2 : tie.Need-returns-2 Inv-loop μ-loop
 returns-2 c = relocates-end _ _ _ (c .loop-test .left) (c .before .loop .inv .0) (c .before .loop .inv .1)
 

@@ -2,43 +2,32 @@ use Rattle.legs.proofs.AskWays.{places-gone, places-from}
 use borrow.Author.Needs.{needs}
 use Rattle.legs.proofs.leg_places.Statement.{statement}
 use Rattle.legs.proofs.leg_places.Tie as tie
-use Rattle.legs.proofs.leg_places.Reads as reads
-use Rattle.legs.proofs.leg_places.Lts as lts
 use Rattle.legs.proofs.number_at.Reads as number-at-reads
 
--- src/lib.rt:47:9
 number-at-requires : tie.Need-number-at-requires
 number-at-requires c κs = search needs
 
--- src/lib.rt:49:9
 slice-aggregate-result : tie.Need-slice-aggregate-result
 slice-aggregate-result c = search needs
 
--- src/lib.rt:49:9
 returns : tie.Need-returns
 returns c = places-gone _ _ _ (c .before .before .number-at .ensures) (c .before .if1 .taken)
 
--- src/lib.rt:51:14
 mul-at : tie.Need-mul-at
 mul-at c = search needs
 
--- src/lib.rt:52:5
 mul-result : tie.Need-mul-result
 mul-result c = search needs
 
--- src/lib.rt:52:5
 sub-result : tie.Need-sub-result
 sub-result c = search needs
 
--- src/lib.rt:52:5
 part-result-start : tie.Need-part-result-start
 part-result-start c = search needs
 
--- src/lib.rt:52:5
 part-result-end : tie.Need-part-result-end
 part-result-end c = search needs
 
--- src/lib.rt:44:1
 returns-2 : tie.Need-returns-2
 returns-2 c = places-from (c .before .before .before .before .before .args .places .now) _ _ (c .before .before .number-at .ensures)
 

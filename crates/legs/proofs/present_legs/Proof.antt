@@ -2,14 +2,10 @@ use borrow.Author.Needs.{needs}
 use Rattle.legs.proofs.AskWays.{reads}
 use Rattle.legs.proofs.present_legs.Statement.{statement}
 use Rattle.legs.proofs.present_legs.Tie as tie
-use Rattle.legs.proofs.present_legs.Reads as reads
-use Rattle.legs.proofs.present_legs.Lts as lts
 
--- src/lib.rt:61:9
 returns : tie.Need-returns
 returns c = search (needs, reads)
 
--- src/lib.rt:56:1
 returns-2 : tie.Need-returns-2
 returns-2 c = search (needs, reads)
 

@@ -1,0 +1,112 @@
+use native.Mathlib.Omega.{arith}
+use lib.ListN.{length-set}
+use Rattle.legs.proofs.LayWays.{block-room, laid-on}
+use borrow.Author.Needs.{needs}
+use Rattle.legs.proofs.lay_leg.Statement.{statement}
+use Rattle.legs.proofs.lay_leg.Tie as tie
+use Rattle.legs.proofs.kind_at.Reads as kind-at-reads
+use Rattle.legs.proofs.lay_pairs.Reads as lay-pairs-reads
+use Rattle.legs.proofs.leg_places.Reads as leg-places-reads
+use Rattle.legs.proofs.map_kind.Reads as map-kind-reads
+use Rattle.legs.proofs.size_at.Reads as size-at-reads
+
+kind-at-requires : tie.Need-kind-at-requires
+kind-at-requires c κs = search needs
+
+leg-places-requires : tie.Need-leg-places-requires
+leg-places-requires c κs = search needs
+
+mul-at : tie.Need-mul-at
+mul-at c = search needs
+
+add-end : tie.Need-add-end
+add-end c = search needs
+
+size-at-requires : tie.Need-size-at-requires
+size-at-requires c κs = search needs
+
+mul-lay-pairs : tie.Need-mul-lay-pairs
+mul-lay-pairs c = search needs
+
+sub-lay-pairs : tie.Need-sub-lay-pairs
+sub-lay-pairs c = search needs
+
+part-lay-pairs-start : tie.Need-part-lay-pairs-start
+part-lay-pairs-start c = search needs
+
+part-lay-pairs-end : tie.Need-part-lay-pairs-end
+part-lay-pairs-end c = search needs
+
+lay-pairs-requires : tie.Need-lay-pairs-requires
+lay-pairs-requires c κs = search needs
+
+mul-j : tie.Need-mul-j
+mul-j c = search needs
+
+map-kind-requires : tie.Need-map-kind-requires
+map-kind-requires c κs = search needs
+
+mul-table : tie.Need-mul-table
+mul-table c = search needs
+
+slice-write-table : tie.Need-slice-write-table
+slice-write-table c = search needs
+
+mul-table-2 : tie.Need-mul-table-2
+mul-table-2 c = search needs
+
+add-table : tie.Need-add-table
+add-table c = search needs
+
+mul-table-3 : tie.Need-mul-table-3
+mul-table-3 c = search needs
+
+slice-write-table-2 : tie.Need-slice-write-table-2
+slice-write-table-2 c = simp length-set (omega (arith, c .before .before .before .before .before .before .before .before .before .before .before .before .before .pre .0, c .before .before .before .before .before .before .before .before .before .before .before .before .before .pre .1 .0 .1))
+
+add-table-2 : tie.Need-add-table-2
+add-table-2 c = search needs
+
+mul-table-4 : tie.Need-mul-table-4
+mul-table-4 c = search needs
+
+slice-write-table-3 : tie.Need-slice-write-table-3
+slice-write-table-3 c = simp length-set (omega (arith, c .before .before .before .before .before .before .before .before .before .before .before .before .before .pre .0, c .before .before .before .before .before .before .before .before .before .before .before .before .before .pre .1 .0 .1))
+
+same-length : tie.Need-same-length
+same-length c = search needs
+
+same-length-2 : tie.Need-same-length-2
+same-length-2 c = search needs
+
+returns : tie.Need-returns
+returns c = laid-on _ _ _ _ _ _ (c .before .before .before .before .before .before .before .before .before .before .before .before .before .pre .0) (c .before .before .before .before .before .before .before .before .before .before .before .before .before .pre .1 .0 .0) (c .before .before .before .before .before .before .before .before .before .before .before .before .before .pre .1 .0 .1) _ _ _ (c .before .before .before .before .before .before .before .kind-at .ensures) (c .before .before .before .before .before .size-at .ensures) (c .before .before .before .before .before .before .leg-places .ensures) _ _ (c .map-kind .ensures) _ _ (block-room _ _ (c .before .before .before .before .before .before .before .before .before .before .before .before .before .pre .0) (c .before .before .before .before .before .before .before .before .before .before .before .before .before .pre .1 .0 .0)) (c .before .before .before .lay-pairs .kept .1 .1 .1 .1 .0) (c .before .before .before .lay-pairs .ensures) _ (c .before .before .before .before .before .before .before .before .before .before .before .before .before .pre .1 .1)
+
+pub lay-leg-spec : {M : Type 1} → statement M
+lay-leg-spec =
+    tie.close
+    (tie.spec
+    kind-at-requires
+    leg-places-requires
+    mul-at
+    add-end
+    size-at-requires
+    mul-lay-pairs
+    sub-lay-pairs
+    part-lay-pairs-start
+    part-lay-pairs-end
+    lay-pairs-requires
+    mul-j
+    map-kind-requires
+    mul-table
+    slice-write-table
+    mul-table-2
+    add-table
+    mul-table-3
+    slice-write-table-2
+    add-table-2
+    mul-table-4
+    slice-write-table-3
+    same-length
+    same-length-2
+    returns)
