@@ -259,9 +259,9 @@ module _ (home : Bool) (r : LentRoute) (texts : Text) (spots : List ℕ) (list :
   route-turn b h k =
       spotted-same (λ (p : Text). routeCall home r p 255) (λ (p : Text). afterLegs list home r p 255) (λ p. call-as-it-is home r p 255 list e b h k) texts spots
 
-  pub laid-turn : (made table : List ℕ) → LaidIfPassed r (lentRoute (r .store) made table (r .count)) (r .count)
+  pub laid-turn : (made table : List ℕ) → length made ≡ 4096 → length table ≡ 48 → LaidIfPassed r (lentRoute (r .store) made table (r .count)) (r .count)
       → (i : ℕ) → routedAt home r texts spots i ≡ spotBy list (Route (r .count) home) (r .store) made table texts spots 255 i
   unfolding routedAt spotBy carriedBy
-  laid-turn made table laid =
+  laid-turn made table l m laid =
       spotted-same (λ (p : Text). routeCall home r p 255) (λ (p : Text). afterLegs list home (lentRoute (r .store) made table (r .count)) p 255)
-      (λ p. call-laid home r p 255 list e (lentRoute (r .store) made table (r .count)) refl laid) texts spots
+      (λ p. call-laid home r p 255 list e (lentRoute (r .store) made table (r .count)) refl l m laid) texts spots

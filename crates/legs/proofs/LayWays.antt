@@ -274,11 +274,19 @@ module _ (store : Text) (places legs made table : List ℕ) where
   module _ (n : ℕ) where
     pub laid-over : 16 < n → LaidIfPassed (lentRoute store places legs n) (lentRoute store made table n) n
     unfolding LaidIfPassed
-    laid-over h p = absurd (omega (arith, route-few (lentRoute store places legs n) [] p))
+    laid-over h p l m = absurd (omega (arith, route-few (lentRoute store places legs n) [] p))
+
+    pub laid-short : length made ≢ 4096 → LaidIfPassed (lentRoute store places legs n) (lentRoute store made table n) n
+    unfolding LaidIfPassed
+    laid-short h p l m = absurd (h l)
+
+    pub laid-small : length table ≢ 48 → LaidIfPassed (lentRoute store places legs n) (lentRoute store made table n) n
+    unfolding LaidIfPassed
+    laid-small h p l m = absurd (h m)
 
     pub laid-end : (k : ℕ) → n ≤ k → k ≤ n → LaidTo (lentRoute store places legs 0) (lentRoute store made table 0) k
         → LaidIfPassed (lentRoute store places legs n) (lentRoute store made table n) n
     unfolding LaidIfPassed Laid LaidTo laidMap mapAt listAt legAt
-    laid-end k h i s p j o =
+    laid-end k h i s p l m j o =
         let r : LentRoute = lentRoute store places legs n in
         (s j (omega arith)) .2 ∙ rw (sound-made (listAt r j) 256 ((legMap (legAt r j)) .pairs) (route-sound r [] p j o) (omega arith)) refl

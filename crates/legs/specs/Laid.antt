@@ -4,6 +4,7 @@ use Prim.Native.Nat.{ℕ, _<_}
 use mathlib.Core.Bool.{Bool}
 use mathlib.Core.List.{List, []}
 use lib.Dec.{eqb, leb}
+use lib.ListN.{length}
 use Rattle.path.specs.declared.Asked.the-variants.{Passed}
 use Rattle.asking.specs.Asking.{pairsOf}
 use Rattle.maps.specs.Map.{Map}
@@ -26,7 +27,7 @@ unfoldable pub Laid : LentRoute → LentRoute → ℕ → Type 0
 unfolding mapAt legAt legMap
 Laid r s n = (k : ℕ) → k < n → mapAt s k ≡ legMap (legAt r k)
 
--- they are where the questions passed
+-- they are where the questions passed and the memory for them is of its size: 256 numbers for the pairs of each leg, three for the leg
 unfoldable pub LaidIfPassed : LentRoute → LentRoute → ℕ → Type 0
 unfolding Laid routeAsked
-LaidIfPassed r s n = routeAsked r [] ≡ Passed → Laid r s n
+LaidIfPassed r s n = routeAsked r [] ≡ Passed → length (s .places) ≡ 4096 → length (s .legs) ≡ 48 → Laid r s n

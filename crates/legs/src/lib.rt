@@ -194,18 +194,25 @@ fn lay_leg(
     table[j + 2] = w;
 }
 
-// Lays the maps of the first n legs: `made` has the places of their pairs, `table` their numbers.
+// Lays the maps of the first n legs: `made`, of 4,096 numbers, has the places of their pairs, `table`,
+// of 48, their numbers.
 pub fn lay_legs(
     store: &[u8],
     places: &[usize],
     legs: &[usize],
     n: usize,
-    made: &mut [usize; 4096],
-    table: &mut [usize; 48],
+    made: &mut [usize],
+    table: &mut [usize],
 )
     ensures { λ _. ⌜ LaidIfPassed (lentRoute (now (store .entry)) (now (places .entry)) (now (legs .entry)) n) (lentRoute (now (store .entry)) (now (made .exit)) (now (table .exit)) n) n ⌝ }
 {
     if 16 < n {
+        return;
+    }
+    if made.len() != 4096 {
+        return;
+    }
+    if table.len() != 48 {
         return;
     }
     let mut k = 0;

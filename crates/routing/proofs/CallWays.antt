@@ -158,6 +158,6 @@ module _ (home : Bool) (r : LentRoute) (p : Text) (room : ℕ) (list : Asked) (e
   call-as-it-is b h k = call-is-after r refl (λ w. laid-itself r (r .count) (sym (rw w at h) ∙ not-true b k))
 
   -- .. and another with its maps laid
-  pub call-laid : (s : LentRoute) → s .count ≡ r .count → LaidIfPassed r s (r .count) → routeCall home r p room ≡ afterLegs list home s p room
+  pub call-laid : (s : LentRoute) → s .count ≡ r .count → length (s .places) ≡ 4096 → length (s .legs) ≡ 48 → LaidIfPassed r s (r .count) → routeCall home r p room ≡ afterLegs list home s p room
   unfolding LaidIfPassed
-  call-laid s k laid = call-is-after s k (λ w. laid (sym e ∙ w))
+  call-laid s k l m laid = call-is-after s k (λ w. laid (sym e ∙ w) l m)
