@@ -11,7 +11,7 @@ use Rattle.text.specs.Text.{Text}
 use Rattle.layer_offset.specs.declared.LayerOffset.{LayerOffset}
 use Rattle.text.proofs.BoolLaws.{told, told-false, told-true}
 use Rattle.grammar.specs.Legal.{legal, fits, isEnd}
-use Rattle.pairs.specs.Pair.{Pair}
+use Rattle.pairs.specs.Pair.{Pair, pair}
 use Rattle.pairs.specs.Places.{pairsIn}
 use Rattle.path.specs.declared.Refusal.{Refusal}
 use Rattle.path.specs.declared.Asked.{Asked}
@@ -32,7 +32,7 @@ use Rattle.map_function.specs.Made.{MapOutcome, refused, mapReply, mapBytes, ma
 use Rattle.map_function.proofs.NewWays.{refusing-map}
 use Rattle.layer_offset.specs.Offset.{isIdentity, identity as noOffset}
 use Rattle.map_function.specs.declared.MapFunction.{MapFunction}
-use Rattle.making.specs.Calls.{pair, listOf, mapOf, making, allSame, newCall, fromPairCall, fromPairIdentityCall, inverseCall, withRootIdentityCall, droppingSourceCall, isNoopCall}
+use Rattle.making.specs.Calls.{listOf, mapOf, making, allSame, newCall, fromPairCall, fromPairIdentityCall, inverseCall, withRootIdentityCall, droppingSourceCall, isNoopCall}
 use Rattle.making.proofs.ListWays.{whole-without, without-all}
 
 -- a refusal goes out as it is, and a call whose questions passed gives the map

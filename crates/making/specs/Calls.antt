@@ -5,7 +5,7 @@ use mathlib.Core.List.{List, [], _∷_, map}
 use Rattle.text.specs.Text.{Text, equal}
 use Rattle.layer_offset.specs.declared.LayerOffset.{LayerOffset}
 use Rattle.layer_offset.specs.Offset.{isIdentity, identity as noOffset}
-use Rattle.pairs.specs.Pair.{Pair}
+use Rattle.pairs.specs.Pair.{Pair, pair}
 use Rattle.path.specs.declared.Asked.{Asked}
 use Rattle.path.specs.declared.Test.{Test}
 use Rattle.path.specs.declared.Test.the-variants.{Holds, Refused}
@@ -17,9 +17,6 @@ use Rattle.maps.specs.Derive.{withoutSource, droppingSource, exchanged, inverse
 use Rattle.map_function.specs.declared.MapFunction.{MapFunction}
 use Rattle.map_function.specs.Read.{isNull}
 use Rattle.map_function.specs.Made.{MapOutcome, refused, weighed}
-
-abbrev pub pair : Text → Text → Pair
-pair s t = record { source = s; target = t }
 
 -- the list that a map's own numbers name in lent memory, and the map
 abbrev pub listOf : Text → List ℕ → MapFunction → Lent

@@ -19,14 +19,14 @@ use Rattle.prefix.specs.Prefix.{hasPrefix}
 use Rattle.prefix.specs.Join.{joined, replacePrefix}
 use Rattle.prefix.proofs.PrefixLaws.{prefix-long, prefix-rest, replace-prefix, replace-other}
 use Rattle.prefix.proofs.JoinWays.{joined-length, separator-short, body-short}
-use Rattle.pairs.specs.Pair.{Pair, sourceAt, targetAt, everyEnd, allShort}
+use Rattle.pairs.specs.Pair.{Pair, pair, sourceAt, targetAt, everyEnd, allShort}
 use Rattle.pairs.specs.Places.{keyAt, pairIn, pairsIn, fourOf}
 use Rattle.pairs.proofs.PlaceLaws.{pairsIn-source, pairsIn-target}
 use Rattle.pairs.proofs.WriteWays.{over-over, source-key, target-key}
 use Rattle.maps.specs.Derive.{rebased, anyTarget}
 use Rattle.composing.specs.Scratch.{Holds}
 use Rattle.composing.proofs.ScratchLaws.{holds-none, holds-more}
-use Rattle.rebasing.specs.Calls.{pair, replaced, rebasedPairs}
+use Rattle.rebasing.specs.Calls.{replaced, rebasedPairs}
 
 -- `put_pair`
 pub put-done : (s t : Text) (at n : ℕ) (out once twice : Text) (slots slots′ : List ℕ) → at + (length s + length t) ≤ length out → 4 * n + 4 ≤ length slots

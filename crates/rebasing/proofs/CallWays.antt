@@ -12,7 +12,7 @@ use Rattle.text.specs.Text.{Text, over}
 use Rattle.text.proofs.BoolLaws.{and-no, and-yes, told, told-true, told-false}
 use Rattle.grammar.specs.Legal.{legal, fits}
 use Rattle.layer_offset.specs.declared.LayerOffset.{LayerOffset}
-use Rattle.pairs.specs.Pair.{Pair, everyEnd, allShort}
+use Rattle.pairs.specs.Pair.{Pair, pair, everyEnd, allShort}
 use Rattle.pairs.specs.Places.{textAt, pairIn, pairsIn, placesAll, fourOf, endBytes, listRoom, listPlaces}
 use Rattle.pairs.proofs.PlaceLaws.{pairsIn-length}
 use Rattle.pairs.proofs.ListLaws.{places-length}
@@ -32,7 +32,7 @@ use Rattle.composing.specs.Scratch.{Holds}
 use Rattle.composing.specs.Calls.{lentBy, madeShort}
 use Rattle.composing.proofs.ScratchLaws.{holds-none, holds-more, holds-list}
 use Rattle.composing.proofs.CallWays.{identity-lent}
-use Rattle.rebasing.specs.Calls.{pair, madeLegal, fromEnds, rebasedPairs, rebasing, RebasesTo, rebaseTargetCall}
+use Rattle.rebasing.specs.Calls.{madeLegal, fromEnds, rebasedPairs, rebasing, RebasesTo, rebaseTargetCall}
 
 -- a list that its slice holds
 pub held-all : (store : Text) (places : List ℕ) (n : ℕ) (o : MapOutcome) → n ≤ length places / 4 → held (lentList store places n) o ≡ o

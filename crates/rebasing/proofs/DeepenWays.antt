@@ -23,7 +23,7 @@ use Rattle.parts.specs.Strip.{strip, stripFit, stripMemory}
 use Rattle.parts.proofs.StripLaws.{strip-shorter}
 use Rattle.layer_offset.specs.declared.LayerOffset.{LayerOffset}
 use Rattle.pairs.specs.declared.Found.{Found}
-use Rattle.pairs.specs.Pair.{Pair, sourceAt, targetAt, allShort}
+use Rattle.pairs.specs.Pair.{Pair, pair, sourceAt, targetAt, allShort}
 use Rattle.pairs.specs.Places.{keyAt, pairIn, pairsIn, fourOf}
 use Rattle.pairs.specs.Best.{bestBy, chosenIn}
 use Rattle.pairs.proofs.BestLaws.{Best}
@@ -43,7 +43,7 @@ use Rattle.map_function.specs.declared.MapFunction.{MapFunction}
 use Rattle.map_function.specs.Made.{MapOutcome, map, refused, weighed, asItIs, held}
 use Rattle.composing.specs.Calls.{lentBy}
 use Rattle.rebasing.specs.Class.{consideredAbove}
-use Rattle.rebasing.specs.Calls.{pair, replaced, fromEnds, deepenedPairs, deepeningBy, deepening, DeepensTo, deepenToCall}
+use Rattle.rebasing.specs.Calls.{replaced, fromEnds, deepenedPairs, deepeningBy, deepening, DeepensTo, deepenToCall}
 use Rattle.rebasing.proofs.CallWays.{held-all, weighed-map, fromEnds-map}
 
 -- `deepen_pair`

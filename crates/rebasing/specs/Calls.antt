@@ -12,7 +12,7 @@ use Rattle.prefix.specs.Prefix.{hasPrefix}
 use Rattle.prefix.specs.Join.{replacePrefix}
 use Rattle.parts.specs.Strip.{strip}
 use Rattle.layer_offset.specs.declared.LayerOffset.{LayerOffset}
-use Rattle.pairs.specs.Pair.{Pair, everyEnd}
+use Rattle.pairs.specs.Pair.{Pair, pair, everyEnd}
 use Rattle.pairs.specs.Best.{bestBy}
 use Rattle.path.specs.Refusal.{unless}
 use Rattle.path.specs.declared.Refusal.the-variants.{TooMany, MadeIllegal}
@@ -24,9 +24,6 @@ use Rattle.maps.specs.Derive.{rebased, anyTarget, rebaseTarget, deepened, deepe
 use Rattle.map_function.specs.declared.MapFunction.{MapFunction}
 use Rattle.map_function.specs.Made.{MapOutcome, map, refused, roomFor, weighed, asItIs}
 use Rattle.composing.specs.Calls.{lentBy, madeShort}
-
-abbrev pub pair : Text → Text → Pair
-pair s t = record { source = s; target = t }
 
 -- the path p with its prefix s replaced by t; p itself where it has no such prefix
 abbrev pub replaced : Text → Text → Text → Text

@@ -8,7 +8,7 @@ use lib.ListN.{length, getD}
 use Rattle.text.specs.Text.{Text, isNil, equal}
 use Rattle.prefix.specs.Prefix.{hasPrefix}
 use Rattle.prefix.specs.Elements.{count, names}
-use Rattle.pairs.specs.Pair.{Pair, pairAt}
+use Rattle.pairs.specs.Pair.{Pair, pair, pairAt}
 use Rattle.maps.specs.Map.{Map}
 use Rattle.maps.specs.New.{new}
 use Rattle.relocates.specs.declared.RelocateOccurrence.{RelocateOccurrence}
@@ -20,9 +20,6 @@ statusByte Active = 0
 statusByte DroppedStructural = 1
 statusByte DroppedDuplicateSource = 2
 statusByte DroppedConflict = 3
-
-abbrev pub pairOf : Text → Text → Pair
-pairOf s t = record { source = s; target = t }
 
 -- a test passes at some number below n
 unfoldable pub someBelow : ℕ → (ℕ → Bool) → Bool
@@ -112,7 +109,7 @@ active l zero = []
 active l (suc n) = cond (eqb (statusByte (occurrence l n)) 0) (active l n ++ pairAt l n ∷ []) (active l n)
 
 abbrev pub roots : Pair
-roots = record { source = 47 ∷ []; target = 47 ∷ [] }
+roots = pair (47 ∷ []) (47 ∷ [])
 
 -- "a relocate list standing for `new` of its Active pairs and `/`→`/`"
 unfoldable pub relocateMap : List Pair → Map
