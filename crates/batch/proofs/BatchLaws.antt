@@ -11,20 +11,19 @@ use borrow.Author.Tests.{le-leb, lt-leb, leb-true, leb-false}
 use Rattle.text.specs.Text.{Text}
 use Rattle.text.proofs.BoolLaws.{told-true, told-false, and-l, and-r}
 use Rattle.pairs.specs.Places.{inside, textAt}
-use Rattle.path.specs.declared.Refusal.{Refusal}
 use Rattle.path.specs.declared.Refusal.the-variants.{TooLong, NoRoom}
 use Rattle.path.specs.declared.Asked.{Asked}
 use Rattle.path.specs.declared.Asked.the-variants.{Passed, Refused}
 use Rattle.path.specs.declared.Reply.{Reply}
 use Rattle.path.specs.Outcome.{Outcome, path, refused, reply, memory, lent, answered}
 use Rattle.codes.specs.Code.{replyCode}
-use Rattle.asking.specs.Asking.{lentList, asked}
+use Rattle.asking.specs.Asking.{asked}
 use Rattle.parts.specs.Strip.{strip}
 use Rattle.carry.specs.Quick.{quick, quickTranslate}
 use Rattle.map_function.specs.declared.MapFunction.{MapFunction}
+use Rattle.map_function.specs.Read.{listOf, mapOf}
 use Rattle.mapping.specs.declared.Way.{Way}
 use Rattle.mapping.specs.declared.Way.the-variants.{Out, Home, Translated}
-use Rattle.mapping.specs.Calls.{mapOf}
 use Rattle.mapping.specs.Way.{wayCall, afterList}
 use Rattle.mapping.proofs.HandWays.{Short, short-refused, short-cond, short-quick, short-translate}
 use Rattle.mapping.proofs.CarryWays.{out-asked, home-asked, translate-asked}
@@ -95,7 +94,7 @@ module _ (o : ℕ → Outcome) (i : ℕ) (out : Text) (h : 255 * i + 255 ≤ len
 
 -- with the list's own answer a turn gives what the single call gives
 module _ (way : Way) (store : Text) (places : List ℕ) (f : MapFunction) (texts : Text) (spots : List ℕ) where
-  pub spot-is : (list : Asked) → list ≡ asked (lentList store places (f .count) ∷ []) ([] ∷ []) [] → (i : ℕ)
+  pub spot-is : (list : Asked) → list ≡ asked (listOf store places f ∷ []) ([] ∷ []) [] → (i : ℕ)
       → spotAfter list way store places f texts spots i 255 ≡ carriedAt way store places f texts spots i
   unfolding spotAfter carriedAt
   spot-is list h i = ap (λ (o : Outcome). cond (inside texts spots i) o (refused TooLong)) (sym (call-is-after way store places f (textAt texts spots i) 255 list h))
@@ -108,11 +107,11 @@ module _ (way : Way) (store : Text) (places : List ℕ) (f : MapFunction) (texts
 
   short-call : (w : Way) (p : Text) → Short (wayCall w store places f p 255)
   unfolding wayCall
-  short-call Out p = rw (out-asked store places f p 255) (short-answered (asked (lentList store places (f .count) ∷ []) (p ∷ []) []) 255 (quick false (mapOf store places f) p) (short-quick false (mapOf store places f) p))
-  short-call Home p = rw (home-asked store places f p 255) (short-answered (asked (lentList store places (f .count) ∷ []) (p ∷ []) []) 255 (quick true (mapOf store places f) p) (short-quick true (mapOf store places f) p))
+  short-call Out p = rw (out-asked store places f p 255) (short-answered (asked (listOf store places f ∷ []) (p ∷ []) []) 255 (quick false (mapOf store places f) p) (short-quick false (mapOf store places f) p))
+  short-call Home p = rw (home-asked store places f p 255) (short-answered (asked (listOf store places f ∷ []) (p ∷ []) []) 255 (quick true (mapOf store places f) p) (short-quick true (mapOf store places f) p))
   short-call Translated p =
       rw (translate-asked store places f p 255)
-      (short-answered (asked (lentList store places (f .count) ∷ []) (p ∷ []) []) 255 (quickTranslate (mapOf store places f) (strip p)) (short-translate (mapOf store places f) (strip p)))
+      (short-answered (asked (listOf store places f ∷ []) (p ∷ []) []) 255 (quickTranslate (mapOf store places f) (strip p)) (short-translate (mapOf store places f) (strip p)))
 
   pub short-at : (i : ℕ) → Short (carriedAt way store places f texts spots i)
   unfolding carriedAt
@@ -183,7 +182,7 @@ module _ (n spots bytes replies : ℕ) (b : Bool) (h : b ≡ enough n spots byte
 
 -- .. a turn makes one block and one number more ..
 module _ (way : Way) (store : Text) (places : List ℕ) (f : MapFunction) (texts : Text) (spots : List ℕ)
-    (list : Asked) (g : list ≡ asked (lentList store places (f .count) ∷ []) ([] ∷ []) []) (i : ℕ) where
+    (list : Asked) (g : list ≡ asked (listOf store places f ∷ []) ([] ∷ []) []) (i : ℕ) where
   pub turn-bytes : (out₀ out out′ : Text) → 255 * i + 255 ≤ length out₀ → out ≡ blocks (carriedAt way store places f texts spots) 0 i out₀
       → out′ ≡ inBlock i (spotAfter list way store places f texts spots i 255) out → out′ ≡ blocks (carriedAt way store places f texts spots) 0 (i + 1) out₀
   turn-bytes out₀ out out′ r h e =

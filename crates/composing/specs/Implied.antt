@@ -1,6 +1,6 @@
 -- `implied_class` as a call: three maps are made, each from the one before, and the questions are put to the lists of all three.
 use mathlib.Core.Path.{_≡_}
-use mathlib.Core.Bool.{Bool, true, cond, _&&_, _||_}
+use mathlib.Core.Bool.{Bool, cond, _&&_, _||_}
 use mathlib.Core.List.{List, [], _∷_, _++_, map as mapped}
 use Prim.Native.Nat.{ℕ, _+_, _/_}
 use lib.Dec.{leb}
@@ -12,17 +12,17 @@ use Rattle.pairs.specs.Pair.{Pair, allShort}
 use Rattle.pairs.specs.Places.{pairsIn, endBytes}
 use Rattle.path.specs.Refusal.{unless}
 use Rattle.path.specs.declared.Refusal.the-variants.{TooMany, NoRoom, MadeTooLong}
-use Rattle.asking.specs.Asking.{lentList, asked}
-use Rattle.maps.specs.Map.{Map, size}
+use Rattle.asking.specs.Asking.{asked}
+use Rattle.maps.specs.Map.{Map}
 use Rattle.maps.specs.New.{fromParts, null}
 use Rattle.maps.specs.Compose.{isPathIdentity, composedPairs, compose}
 use Rattle.maps.specs.Derive.{exchanged, inverse, withRootIdentity, impliedClass}
 use Rattle.map_function.specs.declared.MapFunction.{MapFunction}
 use Rattle.map_function.specs.declared.MapReply.{MapReply}
 use Rattle.map_function.specs.declared.MapReply.the-variants.{Made, Refused}
-use Rattle.map_function.specs.Read.{isIdentityMap, isPathIdentity as leavesPaths}
+use Rattle.map_function.specs.Read.{isIdentityMap, isPathIdentity as leavesPaths, listOf, mapOf}
 use Rattle.map_function.specs.Made.{MapOutcome, map, refused, numbersOf, roomFor, asItIs}
-use Rattle.composing.specs.Calls.{composedTime, madeShort, lentBy}
+use Rattle.composing.specs.Calls.{composedTime, madeShort}
 
 -- the list that dropping starts from: in `inverse` the pairs with their ends exchanged, ..
 abbrev pub exchangedPairs : List Pair → List Pair
@@ -71,9 +71,9 @@ impliedTime transfer class = composedTime (transfer .«time_offset») (composedT
 unfoldable pub impliedClassCall : Text → List ℕ → MapFunction → Text → List ℕ → MapFunction → Text → List ℕ → MapOutcome
 unfolding asked isIdentityMap asItIs implying composedTime
 impliedClassCall store places transfer cstore cplaces class out slots =
-    unless (asked (lentList store places (transfer .count) ∷ lentList cstore cplaces (class .count) ∷ []) [] []) refused
+    unless (asked (listOf store places transfer ∷ listOf cstore cplaces class ∷ []) [] []) refused
     (cond (isIdentityMap transfer) (asItIs (pairsIn cstore cplaces (class .count)) (class .«has_root_identity») (class .«time_offset») out slots)
-    (implying (lentBy store places transfer) (lentBy cstore cplaces class) (impliedTime transfer class) out slots))
+    (implying (mapOf store places transfer) (mapOf cstore cplaces class) (impliedTime transfer class) out slots))
 
 -- How the code goes: a list as a map, as it stands or by dropping ..
 unfoldable pub settled : Bool → List Pair → Bool → Map

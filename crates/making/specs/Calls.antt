@@ -1,6 +1,6 @@
 -- Document 01's calls that make a map from pairs or from a map: the questions in their order, then the meaning.
 use Prim.Native.Nat.{ℕ}
-use mathlib.Core.Bool.{Bool, true, false, not, _&&_}
+use mathlib.Core.Bool.{Bool, true, not, _&&_}
 use mathlib.Core.List.{List, [], _∷_, map}
 use Rattle.text.specs.Text.{Text, equal}
 use Rattle.layer_offset.specs.declared.LayerOffset.{LayerOffset}
@@ -10,20 +10,13 @@ use Rattle.path.specs.declared.Asked.{Asked}
 use Rattle.path.specs.declared.Test.{Test}
 use Rattle.path.specs.declared.Test.the-variants.{Holds, Refused}
 use Rattle.path.specs.Refusal.{unless}
-use Rattle.asking.specs.Asking.{Lent, lentList, pairsOf, asked}
+use Rattle.asking.specs.Asking.{lentList, pairsOf, asked}
 use Rattle.maps.specs.Map.{Map}
 use Rattle.maps.specs.New.{new, fromPair, fromPairIdentity}
 use Rattle.maps.specs.Derive.{withoutSource, droppingSource, exchanged, inverse, withRootIdentity}
 use Rattle.map_function.specs.declared.MapFunction.{MapFunction}
-use Rattle.map_function.specs.Read.{isNull}
+use Rattle.map_function.specs.Read.{isNull, listOf, mapOf}
 use Rattle.map_function.specs.Made.{MapOutcome, refused, weighed}
-
--- the list that a map's own numbers name in lent memory, and the map
-abbrev pub listOf : Text → List ℕ → MapFunction → Lent
-listOf store places f = lentList store places (f .count)
-
-abbrev pub mapOf : Text → List ℕ → MapFunction → Map
-mapOf store places f = record { pairs = pairsOf (listOf store places f); mark = f .«has_root_identity» }
 
 -- the questions that come first, then the map m, which dropping made of the list l
 abbrev pub making : Asked → List Pair → Map → LayerOffset → Text → List ℕ → MapOutcome
