@@ -36,7 +36,8 @@ use Rattle.map_function.specs.Read.{isIdentityMap, isPathIdentity as leavesPath
 use Rattle.map_function.specs.Made.{MapOutcome, map, refused, numbersOf, mapReply, mapBytes, mapSlots, roomFor, weighed, asItIs, fromPartsOutcome, held}
 use Rattle.composing.specs.Scratch.{modest, Holds}
 use Rattle.composing.specs.Calls.{composedTime, madeShort}
-use Rattle.composing.specs.Implied.{exchangedPairs, composedFrom, inverseList, classList, impliedList, allFew, implying, ImpliesTo, impliedTime, impliedClassCall, settled, composedOf, madeOf, Exchanged, roomBeside, finished}
+use Rattle.composing.specs.Implied.{exchangedPairs, composedFrom, inverseList, classList, impliedList, allFew, implying, ImpliesTo, impliedTime, impliedClassCall}
+use Rattle.composing.specs.Settle.{settled, composedOf, madeOf, Exchanged, roomBeside, finished}
 use Rattle.composing.proofs.EveryLaws.{dropped-every}
 use Rattle.composing.proofs.ScratchLaws.{holds-list}
 use Rattle.composing.proofs.LengthLaws.{short-modest, composed-modest, modest-bytes}

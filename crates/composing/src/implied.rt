@@ -12,7 +12,8 @@ ghost use Rattle.maps.specs.Derive.{inverse};
 ghost use Rattle.map_function.specs.Read.{isPathIdentity, mapOf};
 ghost use Rattle.map_function.specs.Made.{map, mapReply, mapBytes, mapSlots, numbersOf};
 ghost use Rattle.composing.specs.Scratch.{modest, Holds};
-ghost use Rattle.composing.specs.Implied.{Exchanged, madeOf, settled, composedOf, composedFrom, roomBeside, finished, implying, impliedTime, impliedClassCall};
+ghost use Rattle.composing.specs.Implied.{composedFrom, implying, impliedTime, impliedClassCall};
+ghost use Rattle.composing.specs.Settle.{Exchanged, madeOf, settled, composedOf, roomBeside, finished};
 
 // Writes the places of the first n pairs with their ends exchanged.
 fn exchange_all(places: &[usize], n: usize, slots: &mut [usize])

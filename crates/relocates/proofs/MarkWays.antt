@@ -18,7 +18,8 @@ use Rattle.pairs.specs.Places.{pairIn, pairsIn, keyAt}
 use Rattle.pairs.proofs.PlaceLaws.{pairsIn-at, pairsIn-length}
 use Rattle.relocates.specs.declared.RelocateOccurrence.{RelocateOccurrence}
 use Rattle.relocates.specs.declared.RelocateOccurrence.the-variants.{Active, DroppedStructural, DroppedDuplicateSource, DroppedConflict}
-use Rattle.relocates.specs.Status.{statusByte, someBelow, structural, reserves, duplicate, canConflict, against, conflict, occurrenceOr, occurrence, bytesOf, marks, statuses, marked}
+use Rattle.relocates.specs.Status.{statusByte, someBelow, structural, reserves, duplicate, canConflict, against, conflict, occurrenceOr, occurrence, bytesOf, statuses}
+use Rattle.relocates.specs.Marks.{marks, marked}
 use Rattle.relocates.proofs.StatusWays.{pair-is, some-same, some-hit, some-none, some-on, duplicate-in}
 
 -- `first_occurrence`

@@ -1,10 +1,9 @@
 -- A relocate's status: which of the pairs that modellers wrote into one layer stack take part. OpenUSD: Pcp_ComputeRelocationsForLayerStack.
-use mathlib.Core.Path.{_≡_}
-use Prim.Native.Nat.{ℕ, zero, suc, _<_}
-use mathlib.Core.Bool.{Bool, true, false, not, cond, _&&_, _||_}
+use Prim.Native.Nat.{ℕ, zero, suc}
+use mathlib.Core.Bool.{Bool, false, not, cond, _&&_, _||_}
 use mathlib.Core.List.{List, [], _∷_, _++_}
 use lib.Dec.{eqb}
-use lib.ListN.{length, getD}
+use lib.ListN.{length}
 use Rattle.text.specs.Text.{Text, isNil, equal}
 use Rattle.prefix.specs.Prefix.{hasPrefix}
 use Rattle.prefix.specs.Elements.{count, names}
@@ -91,16 +90,6 @@ bytesOf f (suc n) = bytesOf f n ++ statusByte (f n) ∷ []
 unfoldable pub statuses : List Pair → ℕ → List ℕ
 unfolding occurrence
 statuses l n = bytesOf (occurrence l) n
-
--- the same before conflicts are sought
-unfoldable pub marks : List Pair → ℕ → List ℕ
-unfolding occurrenceOr
-marks l n = bytesOf (occurrenceOr Active l) n
-
--- memory holds them
-unfoldable pub marked : List Pair → List ℕ → Type 0
-unfolding occurrenceOr
-marked l mark = (i : ℕ) → i < length l → getD mark i 0 ≡ statusByte (occurrenceOr Active l i)
 
 -- the Active ones of the first n pairs
 unfoldable pub active : List Pair → ℕ → List Pair

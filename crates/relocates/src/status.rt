@@ -10,7 +10,8 @@ ghost use Rattle.prefix.specs.Prefix.{hasPrefix};
 ghost use Rattle.pairs.specs.Places.{pairIn, pairsIn};
 ghost use Rattle.pairs.specs.Pair.{pair};
 ghost use Rattle.relocates.specs.declared.RelocateOccurrence.the-variants.{Active};
-ghost use Rattle.relocates.specs.Status.{structural, reserves, duplicate, alike, pairConflicts, against, occurrenceOr, statusByte, marks, statuses, marked};
+ghost use Rattle.relocates.specs.Status.{structural, reserves, duplicate, alike, pairConflicts, against, occurrenceOr, statusByte, statuses};
+ghost use Rattle.relocates.specs.Marks.{marks, marked};
 
 // Is the pair dropped whatever stands beside it? (Rust: relocate_invalid_reason)
 pub fn is_structural(source: &[u8], target: &[u8]) -> bool
