@@ -6,20 +6,20 @@ use Prim.Native.Nat.{ℕ, zero, suc, _+_, _*_, _/_, _≤_, _<_}
 use native.Mathlib.Omega.{arith}
 use lib.Dec.{eqb, leb}
 use lib.ListN.{length, length-drop}
-use borrow.Author.Tests.{leb-true, le-leb, lt-leb}
+use borrow.Author.Tests.{le-leb, lt-leb}
 use Rattle.text.specs.Text.{Text, over}
 use Rattle.text.proofs.BoolLaws.{and-no, and-yes, told-true, told-false}
-use Rattle.grammar.specs.Legal.{legal, fits}
+use Rattle.grammar.specs.Legal.{legal}
 use Rattle.layer_offset.specs.declared.LayerOffset.{LayerOffset}
 use Rattle.pairs.specs.Pair.{Pair, pair, everyEnd, allShort}
 use Rattle.pairs.specs.Places.{pairIn, pairsIn, placesAll, fourOf, endBytes, listRoom}
 use Rattle.pairs.proofs.PlaceLaws.{pairsIn-length}
 use Rattle.path.specs.declared.Refusal.{Refusal}
-use Rattle.path.specs.declared.Refusal.the-variants.{TooLong, TooMany, NoRoom, MadeTooLong, MadeIllegal}
+use Rattle.path.specs.declared.Refusal.the-variants.{TooMany, NoRoom, MadeTooLong, MadeIllegal}
 use Rattle.path.specs.declared.Asked.{Asked}
 use Rattle.path.specs.declared.Asked.the-variants.{Passed, Refused as RefusedAsked}
-use Rattle.asking.specs.Asking.{Lent, lentList, every, firstNo, asked}
-use Rattle.asking.proofs.PassLaws.{Sound, first-sound, text-short}
+use Rattle.asking.specs.Asking.{lentList, asked}
+use Rattle.asking.proofs.PassLaws.{Sound, first-sound, text-short, second-short}
 use Rattle.maps.specs.Map.{Map}
 use Rattle.maps.specs.New.{fromParts, fromPairIdentity}
 use Rattle.maps.specs.Compose.{isPathIdentity}
@@ -115,15 +115,6 @@ pub built-ends : (l : List Pair) (n at : ℕ) (bytes : Text) (own : List ℕ) �
     → fromEnds l mark time out slots ≡ fromEnds (pairsIn bytes own n) mark time out slots
 built-ends l n at bytes own c mark time out slots = rw (holds-list l n at bytes own c) refl
 
--- the second text of a call that passed is short
-second-short : (ls : List Lent) (p q : Text) (es : List Text) → asked ls (p ∷ q ∷ []) es ≡ Passed → length q ≤ 255
-unfolding asked every fits firstNo
-second-short ls p q es h = go (leb (length q) 255) refl
-  where
-    go : (b : Bool) → leb (length q) 255 ≡ b → length q ≤ 255
-    go true e = leb-true (length q) 255 e
-    go false e = absurd (let x : asked ls (p ∷ q ∷ []) es ≡ RefusedAsked TooLong = rw (e, and-no (leb (length p) 255)) refl in let y : _≡_ {A = Asked} Passed (RefusedAsked TooLong) = sym h ∙ x in let z : _≡_ {A = ℕ} 0 1 = cc in omega arith)
-
 -- `rebase_target`
 module _ (store : Text) (places : List ℕ) (f : MapFunction) (from to : Text) (out : Text) (slots : List ℕ)
     (q : Asked) (h : q ≡ asked (listOf store places f ∷ []) (from ∷ to ∷ []) (from ∷ to ∷ [])) where
@@ -152,7 +143,7 @@ module _ (store : Text) (places : List ℕ) (f : MapFunction) (from to : Text) (
     rebase-from = text-short (listOf store places f ∷ []) from (to ∷ []) (from ∷ to ∷ []) (sym h ∙ k)
 
     pub rebase-to : length to ≤ 255
-    rebase-to = second-short (listOf store places f ∷ []) from to (from ∷ to ∷ []) (sym h ∙ k)
+    rebase-to = second-short (listOf store places f ∷ []) from to [] (from ∷ to ∷ []) (sym h ∙ k)
 
     module _ (b : Bool) (g : b ≡ (eqb (f .count) 0 && f .«has_root_identity»)) where
       identity-is : isPathIdentity m ≡ b
