@@ -9,18 +9,17 @@ use native.Mathlib.Numerals.{add-one}
 use lib.Dec.{leb}
 use lib.ListN.{length, take}
 use borrow.Author.Tests.{le-leb, lt-leb}
-use Rattle.text.specs.Text.{Text, equal, over, written}
+use Rattle.text.specs.Text.{Text, equal, over}
 use Rattle.text.specs.declared.Fit.{Fit}
-use Rattle.text.specs.declared.Fit.the-variants.{Written, Over}
+use Rattle.text.specs.declared.Fit.the-variants.{Written}
 use Rattle.text.proofs.BoolLaws.{told, told-true, told-false, not-true, not-false}
-use Rattle.text.proofs.WriteLaws.{read-back}
 use Rattle.grammar.specs.Legal.{legal, fits, isEnd}
 use Rattle.prefix.specs.Prefix.{hasPrefix}
 use Rattle.prefix.specs.Elements.{elements}
 use Rattle.prefix.specs.Join.{replacePrefix}
 use Rattle.prefix.proofs.PrefixLaws.{replace-prefix}
 use Rattle.parts.specs.Strip.{strip, stripFit, stripMemory}
-use Rattle.parts.proofs.StripLaws.{strip-shorter}
+use Rattle.parts.proofs.StripLaws.{strip-shorter, strip-length, strip-back}
 use Rattle.layer_offset.specs.declared.LayerOffset.{LayerOffset}
 use Rattle.pairs.specs.declared.Found.{Found}
 use Rattle.pairs.specs.Pair.{Pair, pair, allShort}
@@ -136,19 +135,11 @@ above-end p key i n f h l m = let e : n ≡ i = omega arith in rw e (h .chosen)
 pub ruleset classes = (above-other, above-worse, above-better, above-first, above-none, above-on, above-end)
 
 -- `strip_node`
-module _ (p out : Text) (h : length p ≤ length out) (f : Fit) (e : f ≡ stripFit p out) where
-  pub node-over : f ≡ Over → ⊥
-  unfolding stripFit
-  node-over k = let x : _≡_ {A = Fit} Over (Written (length (strip p))) = sym k ∙ e ∙ rw (le-leb (length p) (length out) h) refl in let z : _≡_ {A = ℕ} 0 1 = cc in omega arith
-
-  pub node-done : (n : ℕ) → f ≡ Written n → (out′ : Text) → out′ ≡ stripMemory p out
-      → (n ≡ length (strip p)) × ((take n out′ ≡ strip p) × (n ≤ length out))
-  unfolding stripFit stripMemory
-  node-done n k out′ w =
-      let x : _≡_ {A = Fit} (Written n) (Written (length (strip p))) = sym k ∙ e ∙ rw (le-leb (length p) (length out) h) refl in
-      let z : n ≡ length (strip p) = cc in
-      let y : out′ ≡ written (strip p) out = w ∙ rw (le-leb (length p) (length out) h) refl in
-      (z, (rw (z, y) (read-back (strip p) out), omega (arith, strip-shorter p)))
+pub node-done : (p out : Text) (f : Fit) → length p ≤ length out → f ≡ stripFit p out → (n : ℕ) → f ≡ Written n → (out′ : Text) → out′ ≡ stripMemory p out
+    → (n ≡ length (strip p)) × ((take n out′ ≡ strip p) × (n ≤ length out))
+node-done p out f h e n k out′ w =
+    let z : n ≡ length (strip p) = strip-length p out f h e n k in
+    (z, (strip-back p out f h e n k out′ w, omega (arith, strip-shorter p)))
 
 -- the second text and the second end of the question are empty
 ask-node : (l : Lent) (p e : Text) → asked (l ∷ []) (p ∷ [] ∷ []) (e ∷ [] ∷ []) ≡ asked (l ∷ []) (p ∷ []) (e ∷ [])
