@@ -11,7 +11,6 @@ use borrow.Author.Tests.{le-leb, lt-leb, leb-true, leb-false}
 use Rattle.text.specs.Text.{Text}
 use Rattle.text.proofs.BoolLaws.{told-true, told-false, and-l, and-r}
 use Rattle.pairs.specs.Places.{inside, textAt}
-use Rattle.path.specs.declared.Refusal.{Refusal}
 use Rattle.path.specs.declared.Refusal.the-variants.{TooLong, NoRoom}
 use Rattle.path.specs.declared.Asked.{Asked}
 use Rattle.path.specs.declared.Asked.the-variants.{Passed, Refused}
@@ -20,6 +19,7 @@ use Rattle.path.specs.Outcome.{Outcome, path, refused, reply, memory, lent, ans
 use Rattle.codes.specs.Code.{replyCode}
 use Rattle.asking.specs.Asking.{lentList, asked}
 use Rattle.map_function.specs.declared.MapFunction.{MapFunction}
+use Rattle.map_function.specs.Read.{listOf, mapOf}
 use Rattle.mapping.specs.declared.Way.{Way}
 use Rattle.mapping.specs.Way.{wayCall, afterList}
 use Rattle.mapping.proofs.HandWays.{Short, short-refused, short-cond}

@@ -1,1 +1,2 @@
-// Document 01's table of cases: theorems only (specs/Table.antt, proofs/Holds.antt).
+// Document 01's table of cases and its wrong tools: theorems only (specs/Table.antt and proofs/Holds.antt,
+// specs/Wrong.antt and proofs/Wrong.antt).

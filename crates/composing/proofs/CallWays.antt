@@ -29,9 +29,10 @@ use Rattle.maps.specs.New.{fromParts}
 use Rattle.maps.specs.Compose.{isEmpty, isPathIdentity, composedPairs, compose}
 use Rattle.map_function.specs.declared.MapFunction.{MapFunction}
 use Rattle.map_function.specs.declared.MapReply.{MapReply}
+use Rattle.map_function.specs.Read.{listOf, mapOf}
 use Rattle.map_function.specs.Made.{MapOutcome, map, refused, mapReply, mapBytes, mapSlots, roomFor, asItIs, fromPartsOutcome, held}
 use Rattle.composing.specs.Scratch.{modest, Holds}
-use Rattle.composing.specs.Calls.{composedTime, timeOf, madeShort, fromMade, composed, composing, lentBy, composeCall, ComposesTo}
+use Rattle.composing.specs.Calls.{composedTime, timeOf, madeShort, fromMade, composed, composing, composeCall, ComposesTo}
 use Rattle.composing.proofs.ScratchLaws.{holds-list}
 use Rattle.composing.proofs.LengthLaws.{short-modest}
 
@@ -163,23 +164,23 @@ built-held l n at bytes own c =
 
 -- `compose`
 module _ (store : Text) (places : List ℕ) (outer : MapFunction) (istore : Text) (iplaces : List ℕ) (inner : MapFunction) (out : Text) (slots : List ℕ)
-    (q : Asked) (h : q ≡ asked (lentList store places (outer .count) ∷ lentList istore iplaces (inner .count) ∷ []) [] []) where
+    (q : Asked) (h : q ≡ asked (listOf store places outer ∷ listOf istore iplaces inner ∷ []) [] []) where
   abbrev o : Map
-  o = lentBy store places outer
+  o = mapOf store places outer
 
   abbrev i : Map
-  i = lentBy istore iplaces inner
+  i = mapOf istore iplaces inner
 
   pub call-refused : (x : Refusal) → q ≡ RefusedAsked x → composeCall store places outer istore iplaces inner out slots ≡ refused x
   unfolding composeCall
   call-refused x k = rw (← h, k)
 
   module _ (k : q ≡ Passed) where
-    outer-sound : Sound (lentList store places (outer .count))
-    outer-sound = first-sound (lentList store places (outer .count)) (lentList istore iplaces (inner .count) ∷ []) [] [] (sym h ∙ k)
+    outer-sound : Sound (listOf store places outer)
+    outer-sound = first-sound (listOf store places outer) (listOf istore iplaces inner ∷ []) [] [] (sym h ∙ k)
 
-    inner-sound : Sound (lentList istore iplaces (inner .count))
-    inner-sound = second-sound (lentList store places (outer .count)) (lentList istore iplaces (inner .count)) [] [] [] (sym h ∙ k)
+    inner-sound : Sound (listOf istore iplaces inner)
+    inner-sound = second-sound (listOf store places outer) (listOf istore iplaces inner) [] [] [] (sym h ∙ k)
 
     passed : composeCall store places outer istore iplaces inner out slots ≡ composing o i (timeOf outer inner) out slots
     unfolding composeCall
@@ -200,7 +201,7 @@ module _ (store : Text) (places : List ℕ) (outer : MapFunction) (istore : Text
 
       pub call-inner : b ≡ true
           → composeCall store places outer istore iplaces inner out slots
-          ≡ held (lentList istore iplaces (inner .count)) (asItIs (pairsIn istore iplaces (inner .count)) (inner .«has_root_identity») t out slots)
+          ≡ held (listOf istore iplaces inner) (asItIs (pairsIn istore iplaces (inner .count)) (inner .«has_root_identity») t out slots)
       unfolding composing
       call-inner g =
           passed
@@ -213,7 +214,7 @@ module _ (store : Text) (places : List ℕ) (outer : MapFunction) (istore : Text
 
         pub call-outer : c ≡ true
             → composeCall store places outer istore iplaces inner out slots
-            ≡ held (lentList store places (outer .count)) (asItIs (pairsIn store places (outer .count)) (outer .«has_root_identity») t out slots)
+            ≡ held (listOf store places outer) (asItIs (pairsIn store places (outer .count)) (outer .«has_root_identity») t out slots)
         unfolding composing
         call-outer l =
             passed

@@ -2,19 +2,19 @@
 use mathlib.Core.Path.{_≡_, refl, sym, ap, _∙_}
 use mathlib.Core.Bool.{Bool, true, false, not, cond, _&&_, _||_}
 use mathlib.Core.List.{List, [], _∷_, _++_, map as mapped}
-use Prim.Native.Nat.{ℕ, zero, suc, _+_, _*_, _-_, _/_, _≤_, _<_}
+use Prim.Native.Nat.{ℕ, suc, _+_, _*_, _-_, _/_, _≤_, _<_}
 use native.Mathlib.Omega.{arith}
 use native.Mathlib.Numerals.{add-one}
 use lib.Dec.{eqb, leb}
 use lib.ListN.{length, getD, length-append}
 use borrow.Author.Tests.{le-leb, lt-leb, leb-true, leb-false}
-use Rattle.text.specs.Text.{Text, over, placed, isNil}
-use Rattle.text.proofs.BoolLaws.{and-l, and-r, and-no, and-yes, told, told-true, told-false}
+use Rattle.text.specs.Text.{Text, over, placed}
+use Rattle.text.proofs.BoolLaws.{and-l, and-r, and-no, and-yes, told-true, told-false}
 use Rattle.grammar.specs.Legal.{fits}
 use Rattle.layer_offset.specs.declared.LayerOffset.{LayerOffset}
 use Rattle.layer_offset.specs.Offset.{identity}
 use Rattle.pairs.specs.Pair.{Pair, everyEnd, allShort}
-use Rattle.pairs.specs.Places.{textAt, pairIn, pairsIn, listText, listPlaces, endBytes, listRoom}
+use Rattle.pairs.specs.Places.{pairIn, pairsIn, endBytes, listRoom}
 use Rattle.pairs.proofs.PlaceLaws.{pairsIn-length}
 use Rattle.pairs.proofs.ListLaws.{read-back}
 use Rattle.pairs.proofs.CopyLaws.{text-same, list-same, over-below, over-inside}
@@ -31,15 +31,16 @@ use Rattle.maps.specs.Derive.{exchanged, inverse, withRootIdentity, impliedClas
 use Rattle.maps.proofs.EndLaws.{fromParts-length}
 use Rattle.map_function.specs.declared.MapFunction.{MapFunction}
 use Rattle.map_function.specs.declared.MapReply.{MapReply}
-use Rattle.map_function.specs.declared.MapReply.the-variants.{Made, Refused}
-use Rattle.map_function.specs.Read.{isIdentityMap, isPathIdentity as leavesPaths}
+use Rattle.map_function.specs.declared.MapReply.the-variants.{Made}
+use Rattle.map_function.specs.Read.{isIdentityMap, isPathIdentity as leavesPaths, listOf, mapOf}
 use Rattle.map_function.specs.Made.{MapOutcome, map, refused, numbersOf, mapReply, mapBytes, mapSlots, roomFor, weighed, asItIs, fromPartsOutcome, held}
 use Rattle.composing.specs.Scratch.{modest, Holds}
-use Rattle.composing.specs.Calls.{composedTime, madeShort, lentBy}
-use Rattle.composing.specs.Implied.{exchangedPairs, composedFrom, inverseList, classList, impliedList, allFew, implying, ImpliesTo, impliedTime, impliedClassCall, settled, composedOf, madeOf, Exchanged, roomBeside, finished}
+use Rattle.composing.specs.Calls.{composedTime, madeShort}
+use Rattle.composing.specs.Implied.{exchangedPairs, composedFrom, inverseList, classList, impliedList, allFew, implying, ImpliesTo, impliedTime, impliedClassCall}
+use Rattle.composing.specs.Settle.{settled, composedOf, madeOf, Exchanged, roomBeside, finished}
 use Rattle.composing.proofs.EveryLaws.{dropped-every}
 use Rattle.composing.proofs.ScratchLaws.{holds-list}
-use Rattle.composing.proofs.LengthLaws.{fits-modest, short-modest, composed-modest, modest-bytes}
+use Rattle.composing.proofs.LengthLaws.{short-modest, composed-modest, modest-bytes}
 use Rattle.composing.proofs.BuildWays.{map-snoc}
 use Rattle.composing.proofs.CallWays.{identity-lent, held-all, no-map}
 
@@ -130,7 +131,7 @@ settle-done o m e reply r out out′ slots slots′ w f =
 
 -- a map that was written is read back
 pub lent-back : (m : Map) (r : MapFunction) (out out′ : Text) (slots slots′ : List ℕ) → r ≡ numbersOf m identity → out′ ≡ mapBytes (map m identity) out
-    → slots′ ≡ mapSlots (map m identity) slots → lentBy out′ slots′ r ≡ m
+    → slots′ ≡ mapSlots (map m identity) slots → mapOf out′ slots′ r ≡ m
 unfolding mapBytes mapSlots
 lent-back m r out out′ slots slots′ e f g = rw (e, f, g, read-back (m .pairs) out slots) refl
 
@@ -153,7 +154,7 @@ module _ (store : Text) (places own : List ℕ) (n : ℕ) (c : Exchanged places 
   pub inverted : (mark : Bool) (r : MapFunction) (out out′ : Text) (slots slots′ : List ℕ)
       → (r ≡ numbersOf (settled false (pairsIn store own n) mark) identity)
       × ((out′ ≡ mapBytes (map (settled false (pairsIn store own n) mark) identity) out) × (slots′ ≡ mapSlots (map (settled false (pairsIn store own n) mark) identity) slots))
-      → lentBy out′ slots′ r ≡ inverse (lentMap store places n mark)
+      → mapOf out′ slots′ r ≡ inverse (lentMap store places n mark)
   unfolding Exchanged settled inverse
   inverted mark r out out′ slots slots′ w =
       lent-back (fromParts (pairsIn store own n) mark) r out out′ slots slots′ (w .0) (w .1 .0) (w .1 .1) ∙ ap (λ (l : List Pair). fromParts l mark) (c store)
@@ -177,17 +178,17 @@ unfolding pairsIn everyEnd
 none-modest store places = refl
 
 -- `build`
-pub leaves-lent : (store : Text) (places : List ℕ) (f : MapFunction) → isPathIdentity (lentBy store places f) ≡ leavesPaths f
+pub leaves-lent : (store : Text) (places : List ℕ) (f : MapFunction) → isPathIdentity (mapOf store places f) ≡ leavesPaths f
 unfolding leavesPaths
 leaves-lent store places f = identity-lent store places (f .count) (f .«has_root_identity»)
 
 module _ (store : Text) (places : List ℕ) (outer : MapFunction) (istore : Text) (iplaces : List ℕ) (inner : MapFunction) (n at : ℕ) (bytes : Text) (own : List ℕ)
     (b : Bool) (h : b ≡ leavesPaths outer) where
   abbrev o : Map
-  o = lentBy store places outer
+  o = mapOf store places outer
 
   abbrev i : Map
-  i = lentBy istore iplaces inner
+  i = mapOf istore iplaces inner
 
   pub build-inner : b ≡ true → Holds (i .pairs) n at bytes own → Holds (composedFrom o i) n at bytes own
   unfolding composedFrom
@@ -224,17 +225,17 @@ leaves-mark f e = and-r (eqb (f .count) 0) (f .«has_root_identity») e
 
 -- the composed map is settled from the list that composing starts from
 composed-of : (store : Text) (places : List ℕ) (outer : MapFunction) (istore : Text) (iplaces : List ℕ) (inner : MapFunction)
-    → compose (lentBy store places outer) (lentBy istore iplaces inner)
-    ≡ composedOf outer inner (composedFrom (lentBy store places outer) (lentBy istore iplaces inner))
+    → compose (mapOf store places outer) (mapOf istore iplaces inner)
+    ≡ composedOf outer inner (composedFrom (mapOf store places outer) (mapOf istore iplaces inner))
 unfolding compose composedOf composedFrom settled
 composed-of store places outer istore iplaces inner =
     rw (leaves-lent store places outer, leaves-lent istore iplaces inner) (go (leavesPaths outer) (leavesPaths inner) refl refl)
   where
     o : Map
-    o = lentBy store places outer
+    o = mapOf store places outer
 
     i : Map
-    i = lentBy istore iplaces inner
+    i = mapOf istore iplaces inner
 
     go : (a b : Bool) → leavesPaths outer ≡ a → leavesPaths inner ≡ b
         → cond a i (cond b o (fromParts (composedPairs o i) (o .mark && i .mark)))
@@ -275,10 +276,10 @@ module _ (l : List Pair) (n k k′ at at′ room slots : ℕ) (e : length l ≡ 
 module _ (store : Text) (places : List ℕ) (transfer : MapFunction) (mid : Text) (mids : List ℕ) (class : MapFunction) (n at : ℕ) (short : Bool) (time : LayerOffset)
     (out : Text) (slots : List ℕ) (k end : ℕ) (bytes : Text) (own : List ℕ) where
   abbrev t : Map
-  t = lentBy store places transfer
+  t = mapOf store places transfer
 
   abbrev m : Map
-  m = lentBy mid mids class
+  m = mapOf mid mids class
 
   abbrev all : MapOutcome
   all = finished t m n at short time out slots
@@ -361,15 +362,15 @@ settled-every passes false l mark e = dropped-every passes l mark e
 -- `implied_in`
 module _ (store : Text) (places : List ℕ) (transfer : MapFunction) (cstore : Text) (cplaces : List ℕ) (class : MapFunction) (few : transfer .count ≤ 64)
     (ts : allShort (pairsIn store places (transfer .count)) ≡ true) (cs : allShort (pairsIn cstore cplaces (class .count)) ≡ true)
-    (mid : Text) (mids : List ℕ) (back : MapFunction) (e : lentBy mid mids back ≡ inverse (lentBy store places transfer)) where
+    (mid : Text) (mids : List ℕ) (back : MapFunction) (e : mapOf mid mids back ≡ inverse (mapOf store places transfer)) where
   abbrev tr : Map
-  tr = lentBy store places transfer
+  tr = mapOf store places transfer
 
   abbrev cl : Map
-  cl = lentBy cstore cplaces class
+  cl = mapOf cstore cplaces class
 
   abbrev bk : Map
-  bk = lentBy mid mids back
+  bk = mapOf mid mids back
 
   pub back-few : back .count ≤ 64
   unfolding inverse
@@ -432,11 +433,11 @@ module _ (store : Text) (places : List ℕ) (transfer : MapFunction) (cstore : T
       module _ (part : MapFunction) (mid′ : Text) (mids′ : List ℕ)
           (w : (part ≡ numbersOf (composedOf class back (pairsIn bytes own k)) identity)
           × ((mid′ ≡ mapBytes (map (composedOf class back (pairsIn bytes own k)) identity) mid) × (mids′ ≡ mapSlots (map (composedOf class back (pairsIn bytes own k)) identity) mids))) where
-        part-of : lentBy mid′ mids′ part ≡ composedOf class back (composedFrom cl bk)
+        part-of : mapOf mid′ mids′ part ≡ composedOf class back (composedFrom cl bk)
         part-of =
             lent-back (composedOf class back (pairsIn bytes own k)) part mid mid′ mids mids′ (w .0) (w .1 .0) (w .1 .1) ∙ ap (λ (x : List Pair). composedOf class back x) built
 
-        part-is : lentBy mid′ mids′ part ≡ compose cl (inverse tr)
+        part-is : mapOf mid′ mids′ part ≡ compose cl (inverse tr)
         part-is = part-of ∙ sym (composed-of cstore cplaces class mid mids back) ∙ ap (λ (x : Map). compose cl x) e
 
         pub part-few : part .count ≤ 64
@@ -489,16 +490,16 @@ module _ (store : Text) (places : List ℕ) (transfer : MapFunction) (cstore : T
             rw (list-is, all-bytes, all-number, short-append (composedFrom cl bk) last, first-few, ← (c .number), le-leb k 64 small) refl
 
         pub implied-rest : (short : Bool) → short ≡ allShort (pairsIn bytes own k) → (time : LayerOffset) → time ≡ impliedTime transfer class → (out : Text) (slots : List ℕ)
-            → implying tr cl (impliedTime transfer class) out slots ≡ finished tr (lentBy mid′ mids′ part) k end short time out slots
+            → implying tr cl (impliedTime transfer class) out slots ≡ finished tr (mapOf mid′ mids′ part) k end short time out slots
         implied-rest short f time g out slots =
             implied-last (impliedTime transfer class) out slots
             ∙ ap (λ (x : Map). finished tr x k end (allShort (composedFrom cl bk)) (impliedTime transfer class) out slots) (sym part-is)
-            ∙ ap (λ (x : Bool). finished tr (lentBy mid′ mids′ part) k end x (impliedTime transfer class) out slots) (sym (f ∙ ap allShort built))
-            ∙ ap (λ (x : LayerOffset). finished tr (lentBy mid′ mids′ part) k end short x out slots) (sym g)
+            ∙ ap (λ (x : Bool). finished tr (mapOf mid′ mids′ part) k end x (impliedTime transfer class) out slots) (sym (f ∙ ap allShort built))
+            ∙ ap (λ (x : LayerOffset). finished tr (mapOf mid′ mids′ part) k end short x out slots) (sym g)
 
 -- `implied_class`
 module _ (store : Text) (places : List ℕ) (transfer : MapFunction) (cstore : Text) (cplaces : List ℕ) (class : MapFunction) (out : Text) (slots : List ℕ)
-    (q : Asked) (h : q ≡ asked (lentList store places (transfer .count) ∷ lentList cstore cplaces (class .count) ∷ []) [] []) where
+    (q : Asked) (h : q ≡ asked (listOf store places transfer ∷ listOf cstore cplaces class ∷ []) [] []) where
   abbrev call : MapOutcome
   call = impliedClassCall store places transfer cstore cplaces class out slots
 
@@ -507,24 +508,24 @@ module _ (store : Text) (places : List ℕ) (transfer : MapFunction) (cstore : T
   implied-refused x k = rw (← h, k) refl
 
   module _ (k : q ≡ Passed) where
-    pub transfer-sound : Sound (lentList store places (transfer .count))
-    transfer-sound = first-sound (lentList store places (transfer .count)) (lentList cstore cplaces (class .count) ∷ []) [] [] (sym h ∙ k)
+    pub transfer-sound : Sound (listOf store places transfer)
+    transfer-sound = first-sound (listOf store places transfer) (listOf cstore cplaces class ∷ []) [] [] (sym h ∙ k)
 
-    pub class-sound : Sound (lentList cstore cplaces (class .count))
-    class-sound = second-sound (lentList store places (transfer .count)) (lentList cstore cplaces (class .count)) [] [] [] (sym h ∙ k)
+    pub class-sound : Sound (listOf cstore cplaces class)
+    class-sound = second-sound (listOf store places transfer) (listOf cstore cplaces class) [] [] [] (sym h ∙ k)
 
     pub transfer-held : 4 * transfer .count ≤ length places
     transfer-held = omega (arith, transfer-sound .held)
 
     module _ (b : Bool) (e : b ≡ isIdentityMap transfer) where
       pub implied-same : b ≡ true
-          → call ≡ held (lentList cstore cplaces (class .count)) (asItIs (pairsIn cstore cplaces (class .count)) (class .«has_root_identity») (class .«time_offset») out slots)
+          → call ≡ held (listOf cstore cplaces class) (asItIs (pairsIn cstore cplaces (class .count)) (class .«has_root_identity») (class .«time_offset») out slots)
       unfolding impliedClassCall
       implied-same g =
           rw (← h, k, ← e, g)
           (sym (held-all cstore cplaces (class .count) (asItIs (pairsIn cstore cplaces (class .count)) (class .«has_root_identity») (class .«time_offset») out slots) (class-sound .held)))
 
-      pub implied-other : b ≡ false → call ≡ implying (lentBy store places transfer) (lentBy cstore cplaces class) (impliedTime transfer class) out slots
+      pub implied-other : b ≡ false → call ≡ implying (mapOf store places transfer) (mapOf cstore cplaces class) (impliedTime transfer class) out slots
       unfolding impliedClassCall
       implied-other g = rw (← h, k, ← e, g) refl
 

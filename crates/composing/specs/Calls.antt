@@ -11,11 +11,12 @@ use Rattle.layer_offset.specs.Offset.{identity, isIdentity, concatenated}
 use Rattle.pairs.specs.Pair.{Pair, allShort, allEnds}
 use Rattle.path.specs.Refusal.{unless}
 use Rattle.path.specs.declared.Refusal.the-variants.{TooMany, MadeTooLong}
-use Rattle.asking.specs.Asking.{lentList, asked}
-use Rattle.maps.specs.Map.{Map, lentMap}
+use Rattle.asking.specs.Asking.{asked}
+use Rattle.maps.specs.Map.{Map}
 use Rattle.maps.specs.New.{fromParts}
 use Rattle.maps.specs.Compose.{isPathIdentity, composedPairs, compose}
 use Rattle.map_function.specs.declared.MapFunction.{MapFunction}
+use Rattle.map_function.specs.Read.{listOf, mapOf}
 use Rattle.map_function.specs.Made.{MapOutcome, map, refused, roomFor, asItIs}
 
 -- "Two identity offsets compose to exactly (0, 1)."
@@ -52,16 +53,12 @@ composing outer inner time out slots =
 abbrev pub ComposesTo : Type 0
 ComposesTo = (outer inner m : Map) (time t : LayerOffset) (out : Text) (slots : List ℕ) → composing outer inner time out slots ≡ map m t → m ≡ compose outer inner
 
--- the map of lent pairs that its own numbers describe
-abbrev pub lentBy : Text → List ℕ → MapFunction → Map
-lentBy store places m = lentMap store places (m .count) (m .«has_root_identity»)
-
 -- Rust: compose, the outer map first
 unfoldable pub composeCall : Text → List ℕ → MapFunction → Text → List ℕ → MapFunction → Text → List ℕ → MapOutcome
 unfolding asked composing composedTime
 composeCall store places outer istore iplaces inner out slots =
-    unless (asked (lentList store places (outer .count) ∷ lentList istore iplaces (inner .count) ∷ []) [] []) refused
-    (composing (lentBy store places outer) (lentBy istore iplaces inner) (timeOf outer inner) out slots)
+    unless (asked (listOf store places outer ∷ listOf istore iplaces inner ∷ []) [] []) refused
+    (composing (mapOf store places outer) (mapOf istore iplaces inner) (timeOf outer inner) out slots)
 
 -- every end that composing makes is a prim path, `/` or empty, so question 8 has nothing to refuse (proved in proofs/ComposedEnds.antt)
 abbrev pub ComposedEnds : Type 0

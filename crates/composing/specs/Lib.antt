@@ -1,3 +1,4 @@
 pub mod Scratch
 pub mod Calls
 pub mod Implied
+pub mod Settle

@@ -1,8 +1,7 @@
 // A class's map across a transfer: the class after the transfer's inverse, then the transfer. Each list
 // is built in memory of the call's own.
 ghost use mathlib.Core.Path.{_≡_};
-ghost use mathlib.Core.Bool.{Bool, true, _&&_, _||_};
-ghost use mathlib.Core.List.{List, [], _∷_};
+ghost use mathlib.Core.Bool.{true, _||_};
 ghost use Prim.Native.Nat.{_+_, _*_, _≤_};
 ghost use lib.ListN.{length};
 ghost use Rattle.layer_offset.specs.Offset.{identity};
@@ -10,11 +9,11 @@ ghost use Rattle.pairs.specs.Pair.{everyEnd, allShort};
 ghost use Rattle.pairs.specs.Places.{pairsIn, listRoom};
 ghost use Rattle.maps.specs.Map.{lentMap};
 ghost use Rattle.maps.specs.Derive.{inverse};
-ghost use Rattle.map_function.specs.Read.{isPathIdentity};
+ghost use Rattle.map_function.specs.Read.{isPathIdentity, mapOf};
 ghost use Rattle.map_function.specs.Made.{map, mapReply, mapBytes, mapSlots, numbersOf};
-ghost use Rattle.composing.specs.Calls.{lentBy};
 ghost use Rattle.composing.specs.Scratch.{modest, Holds};
-ghost use Rattle.composing.specs.Implied.{Exchanged, madeOf, settled, composedOf, composedFrom, roomBeside, finished, implying, impliedTime, impliedClassCall};
+ghost use Rattle.composing.specs.Implied.{composedFrom, implying, impliedTime, impliedClassCall};
+ghost use Rattle.composing.specs.Settle.{Exchanged, madeOf, settled, composedOf, roomBeside, finished};
 
 // Writes the places of the first n pairs with their ends exchanged.
 fn exchange_all(places: &[usize], n: usize, slots: &mut [usize])
@@ -83,7 +82,7 @@ fn invert(
     requires { ⌜ allShort (pairsIn (now store) (now places) n) ≡ true ⌝ }
     requires { ⌜ 65408 ≤ length (now out) ⌝ }
     requires { ⌜ 256 ≤ length (now slots) ⌝ }
-    ensures { λ r. ⌜ lentBy (now (out .exit)) (now (slots .exit)) r ≡ inverse (lentMap (now (store .entry)) (now (places .entry)) n mark) ⌝ }
+    ensures { λ r. ⌜ mapOf (now (out .exit)) (now (slots .exit)) r ≡ inverse (lentMap (now (store .entry)) (now (places .entry)) n mark) ⌝ }
 {
     let mut own = [0usize; 256];
     exchange_all(places, n, &mut own);
@@ -122,7 +121,7 @@ fn build(
     requires { ⌜ everyEnd modest (pairsIn (now istore) (now iplaces) (inner .count)) ≡ true ⌝ }
     requires { ⌜ 1534 * (inner .count + outer .count) ≤ length (now bytes) ⌝ }
     requires { ⌜ 4 * (inner .count + outer .count) ≤ length (now own) ⌝ }
-    ensures { λ r. ⌜ Holds (composedFrom (lentBy (now (store .entry)) (now (places .entry)) outer) (lentBy (now (istore .entry)) (now (iplaces .entry)) inner)) (r .n) (r .at) (now (bytes .exit)) (now (own .exit)) ⌝ }
+    ensures { λ r. ⌜ Holds (composedFrom (mapOf (now (store .entry)) (now (places .entry)) outer) (mapOf (now (istore .entry)) (now (iplaces .entry)) inner)) (r .n) (r .at) (now (bytes .exit)) (now (own .exit)) ⌝ }
 {
     if outer.path_is_identity() {
         return copy_all(istore, iplaces, inner.count, bytes, own);
@@ -222,9 +221,9 @@ fn finish(
     requires { ⌜ everyEnd modest (pairsIn (now mid) (now mids) (class .count)) ≡ true ⌝ }
     requires { ⌜ 196352 ≤ length (now bytes) ⌝ }
     requires { ⌜ 512 ≤ length (now own) ⌝ }
-    ensures { λ r. ⌜ r ≡ mapReply (finished (lentBy (now (store .entry)) (now (places .entry)) transfer) (lentBy (now (mid .entry)) (now (mids .entry)) class) (b .n) (b .at) short time (now (out .entry)) (now (slots .entry))) ⌝ }
-    ensures { λ r. ⌜ now (out .exit) ≡ mapBytes (finished (lentBy (now (store .entry)) (now (places .entry)) transfer) (lentBy (now (mid .entry)) (now (mids .entry)) class) (b .n) (b .at) short time (now (out .entry)) (now (slots .entry))) (now (out .entry)) ⌝ }
-    ensures { λ r. ⌜ now (slots .exit) ≡ mapSlots (finished (lentBy (now (store .entry)) (now (places .entry)) transfer) (lentBy (now (mid .entry)) (now (mids .entry)) class) (b .n) (b .at) short time (now (out .entry)) (now (slots .entry))) (now (slots .entry)) ⌝ }
+    ensures { λ r. ⌜ r ≡ mapReply (finished (mapOf (now (store .entry)) (now (places .entry)) transfer) (mapOf (now (mid .entry)) (now (mids .entry)) class) (b .n) (b .at) short time (now (out .entry)) (now (slots .entry))) ⌝ }
+    ensures { λ r. ⌜ now (out .exit) ≡ mapBytes (finished (mapOf (now (store .entry)) (now (places .entry)) transfer) (mapOf (now (mid .entry)) (now (mids .entry)) class) (b .n) (b .at) short time (now (out .entry)) (now (slots .entry))) (now (out .entry)) ⌝ }
+    ensures { λ r. ⌜ now (slots .exit) ≡ mapSlots (finished (mapOf (now (store .entry)) (now (places .entry)) transfer) (mapOf (now (mid .entry)) (now (mids .entry)) class) (b .n) (b .at) short time (now (out .entry)) (now (slots .entry))) (now (slots .entry)) ⌝ }
 {
     let n = transfer.count;
     let d = build(store, places, transfer, mid, mids, class, bytes, own);
@@ -260,9 +259,9 @@ fn implied_in(
     requires { ⌜ (transfer .count ≤ 64) × ((4 * transfer .count ≤ length (now places)) × (class .count ≤ 64)) ⌝ }
     requires { ⌜ allShort (pairsIn (now store) (now places) (transfer .count)) ≡ true ⌝ }
     requires { ⌜ allShort (pairsIn (now cstore) (now cplaces) (class .count)) ≡ true ⌝ }
-    ensures { λ r. ⌜ r ≡ mapReply (implying (lentBy (now (store .entry)) (now (places .entry)) transfer) (lentBy (now (cstore .entry)) (now (cplaces .entry)) class) (impliedTime transfer class) (now (out .entry)) (now (slots .entry))) ⌝ }
-    ensures { λ r. ⌜ now (out .exit) ≡ mapBytes (implying (lentBy (now (store .entry)) (now (places .entry)) transfer) (lentBy (now (cstore .entry)) (now (cplaces .entry)) class) (impliedTime transfer class) (now (out .entry)) (now (slots .entry))) (now (out .entry)) ⌝ }
-    ensures { λ r. ⌜ now (slots .exit) ≡ mapSlots (implying (lentBy (now (store .entry)) (now (places .entry)) transfer) (lentBy (now (cstore .entry)) (now (cplaces .entry)) class) (impliedTime transfer class) (now (out .entry)) (now (slots .entry))) (now (slots .entry)) ⌝ }
+    ensures { λ r. ⌜ r ≡ mapReply (implying (mapOf (now (store .entry)) (now (places .entry)) transfer) (mapOf (now (cstore .entry)) (now (cplaces .entry)) class) (impliedTime transfer class) (now (out .entry)) (now (slots .entry))) ⌝ }
+    ensures { λ r. ⌜ now (out .exit) ≡ mapBytes (implying (mapOf (now (store .entry)) (now (places .entry)) transfer) (mapOf (now (cstore .entry)) (now (cplaces .entry)) class) (impliedTime transfer class) (now (out .entry)) (now (slots .entry))) (now (out .entry)) ⌝ }
+    ensures { λ r. ⌜ now (slots .exit) ≡ mapSlots (implying (mapOf (now (store .entry)) (now (places .entry)) transfer) (mapOf (now (cstore .entry)) (now (cplaces .entry)) class) (impliedTime transfer class) (now (out .entry)) (now (slots .entry))) (now (slots .entry)) ⌝ }
 {
     let mut bytes = [0u8; 196352];
     let mut own = [0usize; 512];

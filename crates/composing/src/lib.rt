@@ -3,7 +3,7 @@
 pub mod implied;
 
 ghost use mathlib.Core.Path.{_≡_};
-ghost use mathlib.Core.Bool.{Bool, true, false};
+ghost use mathlib.Core.Bool.{true, false};
 ghost use mathlib.Core.List.{[], _∷_, _++_, map as mapped};
 ghost use Prim.Native.Nat.{_+_, _*_, _-_, _≤_};
 ghost use lib.ListN.{length, take, drop};
@@ -13,8 +13,9 @@ ghost use Rattle.pairs.specs.Pair.{everyEnd, allShort};
 ghost use Rattle.pairs.specs.Places.{pairsIn, fourOf};
 ghost use Rattle.maps.specs.Compose.{carried, hasSource, added, pulled, composedPairs};
 ghost use Rattle.maps.specs.Map.{lentMap};
+ghost use Rattle.map_function.specs.Read.{mapOf};
 ghost use Rattle.map_function.specs.Made.{mapReply, mapBytes, mapSlots};
-ghost use Rattle.composing.specs.Calls.{composedTime, timeOf, fromMade, lentBy, composed, composeCall};
+ghost use Rattle.composing.specs.Calls.{composedTime, timeOf, fromMade, composed, composeCall};
 ghost use Rattle.composing.specs.Scratch.{plain, marked, image, needed, imaged, carriedTo, modest, Holds};
 
 // What mapping a text answers: no path, or the length of the path made.
@@ -391,9 +392,9 @@ fn compose_in(
     requires { ⌜ everyEnd modest (pairsIn (now istore) (now iplaces) (inner .count)) ≡ true ⌝ }
     requires { ⌜ 1534 * (inner .count + outer .count) ≤ length (now bytes) ⌝ }
     requires { ⌜ 4 * (inner .count + outer .count) ≤ length (now own) ⌝ }
-    ensures { λ r. ⌜ r ≡ mapReply (composed (lentBy (now (store .entry)) (now (places .entry)) outer) (lentBy (now (istore .entry)) (now (iplaces .entry)) inner) (timeOf outer inner) (now (out .entry)) (now (slots .entry))) ⌝ }
-    ensures { λ r. ⌜ now (out .exit) ≡ mapBytes (composed (lentBy (now (store .entry)) (now (places .entry)) outer) (lentBy (now (istore .entry)) (now (iplaces .entry)) inner) (timeOf outer inner) (now (out .entry)) (now (slots .entry))) (now (out .entry)) ⌝ }
-    ensures { λ r. ⌜ now (slots .exit) ≡ mapSlots (composed (lentBy (now (store .entry)) (now (places .entry)) outer) (lentBy (now (istore .entry)) (now (iplaces .entry)) inner) (timeOf outer inner) (now (out .entry)) (now (slots .entry))) (now (slots .entry)) ⌝ }
+    ensures { λ r. ⌜ r ≡ mapReply (composed (mapOf (now (store .entry)) (now (places .entry)) outer) (mapOf (now (istore .entry)) (now (iplaces .entry)) inner) (timeOf outer inner) (now (out .entry)) (now (slots .entry))) ⌝ }
+    ensures { λ r. ⌜ now (out .exit) ≡ mapBytes (composed (mapOf (now (store .entry)) (now (places .entry)) outer) (mapOf (now (istore .entry)) (now (iplaces .entry)) inner) (timeOf outer inner) (now (out .entry)) (now (slots .entry))) (now (out .entry)) ⌝ }
+    ensures { λ r. ⌜ now (slots .exit) ≡ mapSlots (composed (mapOf (now (store .entry)) (now (places .entry)) outer) (mapOf (now (istore .entry)) (now (iplaces .entry)) inner) (timeOf outer inner) (now (out .entry)) (now (slots .entry))) (now (slots .entry)) ⌝ }
 {
     let mark = outer.has_root_identity;
     let imark = inner.has_root_identity;
@@ -427,9 +428,9 @@ fn compose_few(
     requires { ⌜ everyEnd modest (pairsIn (now store) (now places) (outer .count)) ≡ true ⌝ }
     requires { ⌜ everyEnd modest (pairsIn (now istore) (now iplaces) (inner .count)) ≡ true ⌝ }
     requires { ⌜ inner .count + outer .count ≤ 4 ⌝ }
-    ensures { λ r. ⌜ r ≡ mapReply (composed (lentBy (now (store .entry)) (now (places .entry)) outer) (lentBy (now (istore .entry)) (now (iplaces .entry)) inner) (timeOf outer inner) (now (out .entry)) (now (slots .entry))) ⌝ }
-    ensures { λ r. ⌜ now (out .exit) ≡ mapBytes (composed (lentBy (now (store .entry)) (now (places .entry)) outer) (lentBy (now (istore .entry)) (now (iplaces .entry)) inner) (timeOf outer inner) (now (out .entry)) (now (slots .entry))) (now (out .entry)) ⌝ }
-    ensures { λ r. ⌜ now (slots .exit) ≡ mapSlots (composed (lentBy (now (store .entry)) (now (places .entry)) outer) (lentBy (now (istore .entry)) (now (iplaces .entry)) inner) (timeOf outer inner) (now (out .entry)) (now (slots .entry))) (now (slots .entry)) ⌝ }
+    ensures { λ r. ⌜ r ≡ mapReply (composed (mapOf (now (store .entry)) (now (places .entry)) outer) (mapOf (now (istore .entry)) (now (iplaces .entry)) inner) (timeOf outer inner) (now (out .entry)) (now (slots .entry))) ⌝ }
+    ensures { λ r. ⌜ now (out .exit) ≡ mapBytes (composed (mapOf (now (store .entry)) (now (places .entry)) outer) (mapOf (now (istore .entry)) (now (iplaces .entry)) inner) (timeOf outer inner) (now (out .entry)) (now (slots .entry))) (now (out .entry)) ⌝ }
+    ensures { λ r. ⌜ now (slots .exit) ≡ mapSlots (composed (mapOf (now (store .entry)) (now (places .entry)) outer) (mapOf (now (istore .entry)) (now (iplaces .entry)) inner) (timeOf outer inner) (now (out .entry)) (now (slots .entry))) (now (slots .entry)) ⌝ }
 {
     let mut bytes = [0u8; 6136];
     let mut own = [0usize; 16];
@@ -461,9 +462,9 @@ fn compose_many(
     requires { ⌜ everyEnd modest (pairsIn (now store) (now places) (outer .count)) ≡ true ⌝ }
     requires { ⌜ everyEnd modest (pairsIn (now istore) (now iplaces) (inner .count)) ≡ true ⌝ }
     requires { ⌜ inner .count + outer .count ≤ 128 ⌝ }
-    ensures { λ r. ⌜ r ≡ mapReply (composed (lentBy (now (store .entry)) (now (places .entry)) outer) (lentBy (now (istore .entry)) (now (iplaces .entry)) inner) (timeOf outer inner) (now (out .entry)) (now (slots .entry))) ⌝ }
-    ensures { λ r. ⌜ now (out .exit) ≡ mapBytes (composed (lentBy (now (store .entry)) (now (places .entry)) outer) (lentBy (now (istore .entry)) (now (iplaces .entry)) inner) (timeOf outer inner) (now (out .entry)) (now (slots .entry))) (now (out .entry)) ⌝ }
-    ensures { λ r. ⌜ now (slots .exit) ≡ mapSlots (composed (lentBy (now (store .entry)) (now (places .entry)) outer) (lentBy (now (istore .entry)) (now (iplaces .entry)) inner) (timeOf outer inner) (now (out .entry)) (now (slots .entry))) (now (slots .entry)) ⌝ }
+    ensures { λ r. ⌜ r ≡ mapReply (composed (mapOf (now (store .entry)) (now (places .entry)) outer) (mapOf (now (istore .entry)) (now (iplaces .entry)) inner) (timeOf outer inner) (now (out .entry)) (now (slots .entry))) ⌝ }
+    ensures { λ r. ⌜ now (out .exit) ≡ mapBytes (composed (mapOf (now (store .entry)) (now (places .entry)) outer) (mapOf (now (istore .entry)) (now (iplaces .entry)) inner) (timeOf outer inner) (now (out .entry)) (now (slots .entry))) (now (out .entry)) ⌝ }
+    ensures { λ r. ⌜ now (slots .exit) ≡ mapSlots (composed (mapOf (now (store .entry)) (now (places .entry)) outer) (mapOf (now (istore .entry)) (now (iplaces .entry)) inner) (timeOf outer inner) (now (out .entry)) (now (slots .entry))) (now (slots .entry)) ⌝ }
 {
     let mut bytes = [0u8; 196352];
     let mut own = [0usize; 512];

@@ -12,7 +12,7 @@ use lib.ListN.{length, getD, take, drop, length-append}
 use borrow.Author.Tests.{le-leb}
 use Rattle.text.specs.Text.{Text, written, over, placed, equal}
 use Rattle.text.proofs.BoolLaws.{told, told-false, told-true, and-yes, and-no}
-use Rattle.pairs.specs.Pair.{Pair}
+use Rattle.pairs.specs.Pair.{Pair, pair}
 use Rattle.pairs.specs.Places.{textAt, keyAt, pairIn, pairsIn, listText, listPlaces, fourOf, copied}
 use Rattle.pairs.proofs.PlaceLaws.{pairsIn-length}
 use Rattle.pairs.proofs.ListLaws.{read-back}
@@ -20,7 +20,7 @@ use Rattle.pairs.proofs.WriteWays.{over-over, source-key, target-key}
 use Rattle.pairs.proofs.CopyLaws.{text-same, list-same, over-below, over-inside, copied-over, pushed}
 use Rattle.maps.specs.Compose.{hasSource}
 use Rattle.maps.specs.Derive.{withoutSource, exchanged}
-use Rattle.making.specs.Calls.{pair, allSame}
+use Rattle.making.specs.Calls.{allSame}
 
 -- `store_pair`
 module _ (s t store : Text) (places : List ℕ) (h : length s + length t ≤ length store) (k : 4 ≤ length places) where

@@ -1,17 +1,15 @@
 -- What each way through the calls that make a map gives. Assumes nothing.
-use mathlib.Core.Path.{_≡_, refl, sym, ap, _∙_}
+use mathlib.Core.Path.{_≡_, refl}
 use mathlib.Core.Bool.{Bool, true, false, not, cond, _&&_}
-use mathlib.Core.List.{List, [], _∷_, _++_, map as mapped}
-use Prim.Native.Nat.{ℕ, zero, suc, _+_, _*_, _/_, _≤_, _<_}
-use native.Mathlib.Omega.{arith}
+use mathlib.Core.List.{List, [], _∷_, map as mapped}
+use Prim.Native.Nat.{ℕ, _/_, _≤_}
 use lib.ListN.{length}
-use lib.Dec.{leb}
 use borrow.Author.Tests.{le-leb}
 use Rattle.text.specs.Text.{Text}
 use Rattle.layer_offset.specs.declared.LayerOffset.{LayerOffset}
 use Rattle.text.proofs.BoolLaws.{told, told-false, told-true}
 use Rattle.grammar.specs.Legal.{legal, fits, isEnd}
-use Rattle.pairs.specs.Pair.{Pair}
+use Rattle.pairs.specs.Pair.{Pair, pair}
 use Rattle.pairs.specs.Places.{pairsIn}
 use Rattle.path.specs.declared.Refusal.{Refusal}
 use Rattle.path.specs.declared.Asked.{Asked}
@@ -22,17 +20,14 @@ use Rattle.maps.specs.Map.{Map}
 use Rattle.maps.specs.New.{fromParts, new, fromPair, fromPairIdentity}
 use Rattle.maps.specs.Derive.{withoutSource, droppingSource, exchanged, inverse, withRootIdentity}
 use Rattle.maps.specs.Compose.{hasSource}
-use Rattle.map_function.specs.Read.{isNull}
-use Rattle.path.specs.declared.Test.{Test}
+use Rattle.map_function.specs.Read.{isNull, listOf, mapOf}
 use Rattle.path.specs.declared.Test.the-variants.{Holds, Refused as RefusedTest}
 use Rattle.path.specs.Refusal.{unless}
 use Rattle.map_function.specs.declared.MapReply.{MapReply}
-use Rattle.map_function.specs.declared.MapReply.the-variants.{Refused}
 use Rattle.map_function.specs.Made.{MapOutcome, refused, mapReply, mapBytes, mapSlots, weighed, held, asItIs, fromPartsOutcome}
-use Rattle.map_function.proofs.NewWays.{refusing-map}
 use Rattle.layer_offset.specs.Offset.{isIdentity, identity as noOffset}
 use Rattle.map_function.specs.declared.MapFunction.{MapFunction}
-use Rattle.making.specs.Calls.{pair, listOf, mapOf, making, allSame, newCall, fromPairCall, fromPairIdentityCall, inverseCall, withRootIdentityCall, droppingSourceCall, isNoopCall}
+use Rattle.making.specs.Calls.{making, allSame, newCall, fromPairCall, fromPairIdentityCall, inverseCall, withRootIdentityCall, droppingSourceCall, isNoopCall}
 use Rattle.making.proofs.ListWays.{whole-without, without-all}
 
 -- a refusal goes out as it is, and a call whose questions passed gives the map

@@ -1,44 +1,36 @@
 -- Document 01's calls that make a map from pairs or from a map: the questions in their order, then the meaning.
 use Prim.Native.Nat.{ℕ}
-use mathlib.Core.Bool.{Bool, true, false, not, _&&_}
+use mathlib.Core.Bool.{Bool, true, not, _&&_}
 use mathlib.Core.List.{List, [], _∷_, map}
 use Rattle.text.specs.Text.{Text, equal}
 use Rattle.layer_offset.specs.declared.LayerOffset.{LayerOffset}
 use Rattle.layer_offset.specs.Offset.{isIdentity, identity as noOffset}
-use Rattle.pairs.specs.Pair.{Pair}
+use Rattle.pairs.specs.Pair.{Pair, pair}
 use Rattle.path.specs.declared.Asked.{Asked}
 use Rattle.path.specs.declared.Test.{Test}
 use Rattle.path.specs.declared.Test.the-variants.{Holds, Refused}
 use Rattle.path.specs.Refusal.{unless}
-use Rattle.asking.specs.Asking.{Lent, lentList, pairsOf, asked}
+use Rattle.asking.specs.Asking.{lentList, pairsOf, asked}
 use Rattle.maps.specs.Map.{Map}
 use Rattle.maps.specs.New.{new, fromPair, fromPairIdentity}
 use Rattle.maps.specs.Derive.{withoutSource, droppingSource, exchanged, inverse, withRootIdentity}
 use Rattle.map_function.specs.declared.MapFunction.{MapFunction}
-use Rattle.map_function.specs.Read.{isNull}
+use Rattle.map_function.specs.Read.{isNull, listOf, mapOf}
 use Rattle.map_function.specs.Made.{MapOutcome, refused, weighed}
-
-abbrev pub pair : Text → Text → Pair
-pair s t = record { source = s; target = t }
-
--- the list that a map's own numbers name in lent memory, and the map
-abbrev pub listOf : Text → List ℕ → MapFunction → Lent
-listOf store places f = lentList store places (f .count)
-
-abbrev pub mapOf : Text → List ℕ → MapFunction → Map
-mapOf store places f = record { pairs = pairsOf (listOf store places f); mark = f .«has_root_identity» }
 
 -- the questions that come first, then the map m, which dropping made of the list l
 abbrev pub making : Asked → List Pair → Map → LayerOffset → Text → List ℕ → MapOutcome
 making a l m time out slots = unless a refused (weighed l m time out slots)
 
--- Rust: new
+-- Rust: new, whose list before dropping is the one it is given: "the list that the dropping in `new` starts from, its `/`→`/` pairs
+-- included". The map has the time offset (0, 1).
 unfoldable pub newCall : Text → List ℕ → ℕ → Text → List ℕ → MapOutcome
 unfolding asked weighed new
 newCall store places count out slots =
     making (asked (lentList store places count ∷ []) [] []) (pairsOf (lentList store places count)) (new (pairsOf (lentList store places count))) noOffset out slots
 
--- Rust: from_pair, and from_pair_identity
+-- Rust: from_pair, the pair as it stands, and from_pair_identity, the pair beside the mark. "Is every end a prim path, `/` or empty?" is put
+-- to both texts.
 unfoldable pub fromPairCall : Text → Text → Text → List ℕ → MapOutcome
 unfolding asked weighed fromPair
 fromPairCall s t out slots = making (asked [] (s ∷ t ∷ []) (s ∷ t ∷ [])) (pair s t ∷ []) (fromPair (pair s t)) noOffset out slots

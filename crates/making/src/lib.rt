@@ -3,11 +3,11 @@ ghost use mathlib.Core.Path.{_≡_};
 ghost use mathlib.Core.List.{[], _∷_, _++_, map as mapped};
 ghost use Prim.Native.Nat.{_+_, _*_, _≤_};
 ghost use lib.ListN.{length};
-ghost use Rattle.pairs.specs.Pair.{Pair};
+ghost use Rattle.pairs.specs.Pair.{Pair, pair};
 ghost use Rattle.pairs.specs.Places.{pairIn, pairsIn};
 ghost use Rattle.maps.specs.Derive.{withoutSource, exchanged};
 ghost use Rattle.map_function.specs.Made.{mapReply, mapBytes, mapSlots};
-ghost use Rattle.making.specs.Calls.{pair, newCall, fromPairCall, fromPairIdentityCall, inverseCall, withRootIdentityCall, droppingSourceCall, allSame, isNoopCall};
+ghost use Rattle.making.specs.Calls.{newCall, fromPairCall, fromPairIdentityCall, inverseCall, withRootIdentityCall, droppingSourceCall, allSame, isNoopCall};
 
 // The map of the pairs.
 pub fn new(

@@ -1,9 +1,21 @@
 -- What a map's own numbers tell. OpenUSD: PcpMapFunction::Identity, IsNull, IsIdentity, HasRootIdentity, GetTimeOffset.
+use Prim.Native.Nat.{ℕ}
 use mathlib.Core.Bool.{Bool, not, _&&_}
+use mathlib.Core.List.{List}
 use lib.Dec.{eqb}
+use Rattle.text.specs.Text.{Text}
 use Rattle.layer_offset.specs.declared.LayerOffset.{LayerOffset}
 use Rattle.layer_offset.specs.Offset.{isIdentity}
+use Rattle.asking.specs.Asking.{Lent, lentList}
+use Rattle.maps.specs.Map.{Map, lentMap}
 use Rattle.map_function.specs.declared.MapFunction.{MapFunction}
+
+-- the list that they name in lent memory, and the map
+abbrev pub listOf : Text → List ℕ → MapFunction → Lent
+listOf store places f = lentList store places (f .count)
+
+abbrev pub mapOf : Text → List ℕ → MapFunction → Map
+mapOf store places f = lentMap store places (f .count) (f .«has_root_identity»)
 
 -- it maps nothing: no pairs and no mark
 unfoldable pub isNull : MapFunction → Bool

@@ -2,28 +2,27 @@
 use mathlib.Core.Path.{_≡_, refl, sym, ap, _∙_}
 use mathlib.Core.Bool.{Bool, true, false, cond, _&&_}
 use mathlib.Core.Option.{Option, none, some}
-use mathlib.Core.List.{List, _++_}
-use Prim.Native.Nat.{ℕ, _≤_, _<_}
+use Prim.Native.Nat.{ℕ, _≤_}
 use native.Mathlib.Omega.{arith}
-use lib.ListN.{length, take, drop, length-append, length-take}
+use lib.ListN.{length, take, drop, length-append}
 use lib.Seq.{length-take-le}
 use lib.Dec.{leb}
-use borrow.Author.Tests.{le-leb, leb-true}
-use Rattle.text.specs.Text.{Text, isNil, lacks, written, placed}
+use borrow.Author.Tests.{leb-true}
+use Rattle.text.specs.Text.{Text, isNil, lacks, placed}
 use Rattle.text.specs.declared.Fit.{Fit}
-use Rattle.text.specs.declared.Fit.the-variants.{Written as WrittenFit, Over}
+use Rattle.text.specs.declared.Fit.the-variants.{Written as WrittenFit}
 use Rattle.text.proofs.BoolLaws.{told}
 use Rattle.text.proofs.WriteLaws.{placed-first, read-back}
 use Rattle.grammar.specs.Legal.{fits}
 use Rattle.prefix.specs.Join.{joined, spoils}
 use Rattle.parts.specs.Strip.{strip, stripFit, stripMemory}
-use Rattle.parts.proofs.StripLaws.{strip-shorter, strip-same}
+use Rattle.parts.proofs.StripLaws.{strip-same, strip-back}
 use Rattle.path.specs.declared.Refusal.{Refusal}
 use Rattle.path.specs.declared.Refusal.the-variants.{NoRoom, NoPath, MadeTooLong, MadeIllegal}
 use Rattle.path.specs.declared.Asked.{Asked}
 use Rattle.path.specs.declared.Asked.the-variants.{Passed, Refused as RefusedAsked}
 use Rattle.path.specs.declared.Reply.{Reply}
-use Rattle.path.specs.declared.Reply.the-variants.{Written, Refused}
+use Rattle.path.specs.declared.Reply.the-variants.{Written}
 use Rattle.path.specs.Outcome.{Outcome, path, refused, reply, memory, lent, answered}
 use Rattle.maps.specs.Map.{Map, source, target, chosenOut, chosenHome, same}
 use Rattle.carry.specs.Quick.{joining, keeping, quickBy, quick, isNone, translateMarked, translatePair, translateBy, quickTranslate}
@@ -121,30 +120,6 @@ module _ (o : Outcome) (r : Reply) (buf made : Text) (h : r ≡ reply o) (m : ma
 pub translate-plain : (m : Map) (p : Text) (b : Bool) → b ≡ lacks 123 p → b ≡ true → quickTranslate m (strip p) ≡ quickTranslate m p
 translate-plain m p b h k = ap (quickTranslate m) (strip-same p (told h k))
 
-module _ (p buf : Text) (f : Fit) (s : length p ≤ 255) (l : length buf ≡ 255) (h : f ≡ stripFit p buf) where
-  fits-it : stripFit p buf ≡ WrittenFit (length (strip p))
-  unfolding stripFit
-  fits-it = rw (le-leb (length p) (length buf) (omega arith))
-
-  pub strip-never : f ≡ Over → ⊥
-  strip-never e = let x : Over ≡ WrittenFit (length (strip p)) = sym e ∙ h ∙ fits-it in let z : _≡_ {A = ℕ} 0 1 = cc in omega arith
-
-  module _ (k : ℕ) (e : f ≡ WrittenFit k) (mem : Text) (m : mem ≡ stripMemory p buf) where
-    stripped-length : k ≡ length (strip p)
-    stripped-length = let x : WrittenFit k ≡ WrittenFit (length (strip p)) = sym e ∙ h ∙ fits-it in cc
-
-    holds : mem ≡ written (strip p) buf
-    unfolding stripMemory
-    holds = rw (le-leb (length p) (length buf) (omega arith)) at m
-
-    pub stripped-back : take k mem ≡ strip p
-    stripped-back = rw (holds, stripped-length) (read-back (strip p) buf)
-
-    pub stripped-part : k ≡ length (take k mem)
-    stripped-part = stripped-length ∙ ap length (sym stripped-back)
-
-    pub stripped-inside : k ≤ length mem
-    stripped-inside = omega (arith, stripped-part, length-take k mem)
-
-    pub translate-back : (o : Map) → quickTranslate o (strip p) ≡ quickTranslate o (take k mem)
-    translate-back o = ap (quickTranslate o) (sym stripped-back)
+pub translate-back : (p buf : Text) (f : Fit) → length p ≤ length buf → f ≡ stripFit p buf → (k : ℕ) → f ≡ WrittenFit k → (mem : Text) → mem ≡ stripMemory p buf → (o : Map)
+    → quickTranslate o (strip p) ≡ quickTranslate o (take k mem)
+translate-back p buf f s h k e mem m o = ap (quickTranslate o) (sym (strip-back p buf f s h k e mem m))

@@ -22,9 +22,9 @@ use Rattle.asking.proofs.EarlierLaws.{never, none-earlier, one-by-one}
 use Rattle.maps.specs.Map.{Map}
 use Rattle.carry.specs.Quick.{quick, quickTranslate}
 use Rattle.map_function.specs.declared.MapFunction.{MapFunction}
+use Rattle.map_function.specs.Read.{mapOf}
 use Rattle.mapping.specs.declared.Way.{Way}
 use Rattle.mapping.specs.declared.Way.the-variants.{Out, Home, Translated}
-use Rattle.mapping.specs.Calls.{mapOf}
 use Rattle.mapping.specs.Way.{wayCall, quickWay, afterList}
 use Rattle.mapping.proofs.HandWays.{Short, short-quick, short-translate, short-answered}
 use Rattle.mapping.proofs.CarryWays.{out-asked, home-asked, translate-asked}

@@ -3,26 +3,23 @@ use Prim.Native.Nat.{ℕ}
 use mathlib.Core.List.{List, [], _∷_}
 use Rattle.text.specs.Text.{Text}
 use Rattle.path.specs.Outcome.{Outcome, answered, given}
-use Rattle.asking.specs.Asking.{lentList, asked}
+use Rattle.asking.specs.Asking.{asked}
 use Rattle.map_function.specs.declared.MapFunction.{MapFunction}
-use Rattle.maps.specs.Map.{Map, lentMap, plainOut, plainHome, translated}
+use Rattle.map_function.specs.Read.{listOf, mapOf}
+use Rattle.maps.specs.Map.{plainOut, plainHome, translated}
 
 -- questions 1 to 5 of a path and a list of pairs, and 6 to 8 of what the map gives
-abbrev pub carrying : Text → List ℕ → ℕ → Text → ℕ → Outcome → Outcome
-carrying store places count p room o = answered (asked (lentList store places count ∷ []) (p ∷ []) []) room o
-
--- the map that a `MapFunction` and its lent list stand for
-abbrev pub mapOf : Text → List ℕ → MapFunction → Map
-mapOf store places f = lentMap store places (f .count) (f .«has_root_identity»)
+abbrev pub carrying : Text → List ℕ → MapFunction → Text → ℕ → Outcome → Outcome
+carrying store places f p room o = answered (asked (listOf store places f ∷ []) (p ∷ []) []) room o
 
 unfoldable pub mapSourceToTargetCall : Text → List ℕ → MapFunction → Text → ℕ → Outcome
 unfolding asked answered given plainOut
-mapSourceToTargetCall store places f p room = carrying store places (f .count) p room (given (plainOut (mapOf store places f) p))
+mapSourceToTargetCall store places f p room = carrying store places f p room (given (plainOut (mapOf store places f) p))
 
 unfoldable pub mapTargetToSourceCall : Text → List ℕ → MapFunction → Text → ℕ → Outcome
 unfolding asked answered given plainHome
-mapTargetToSourceCall store places f p room = carrying store places (f .count) p room (given (plainHome (mapOf store places f) p))
+mapTargetToSourceCall store places f p room = carrying store places f p room (given (plainHome (mapOf store places f) p))
 
 unfoldable pub translateToTargetCall : Text → List ℕ → MapFunction → Text → ℕ → Outcome
 unfolding asked answered given translated
-translateToTargetCall store places f p room = carrying store places (f .count) p room (given (translated (mapOf store places f) p))
+translateToTargetCall store places f p room = carrying store places f p room (given (translated (mapOf store places f) p))

@@ -11,9 +11,10 @@ use Rattle.asking.specs.Asking.{earlierOf}
 use Rattle.maps.specs.Map.{Map}
 use Rattle.carry.specs.Quick.{quick, quickTranslate}
 use Rattle.map_function.specs.declared.MapFunction.{MapFunction}
+use Rattle.map_function.specs.Read.{mapOf}
 use Rattle.mapping.specs.declared.Way.{Way}
 use Rattle.mapping.specs.declared.Way.the-variants.{Out, Home, Translated}
-use Rattle.mapping.specs.Calls.{mapOf, mapSourceToTargetCall, mapTargetToSourceCall, translateToTargetCall}
+use Rattle.mapping.specs.Calls.{mapSourceToTargetCall, mapTargetToSourceCall, translateToTargetCall}
 
 -- the call that goes this way
 unfoldable pub wayCall : Way → Text → List ℕ → MapFunction → Text → ℕ → Outcome

@@ -10,8 +10,11 @@ pub record Pair : Type 0 where
   pub source : Text
   pub target : Text
 
+abbrev pub pair : Text → Text → Pair
+pair s t = record { source = s; target = t }
+
 abbrev pub nothing : Pair
-nothing = record { source = []; target = [] }
+nothing = pair [] []
 
 -- the i-th pair, the source and the target of it
 abbrev pub pairAt : List Pair → ℕ → Pair

@@ -1,20 +1,23 @@
 -- A text without its selections: it is no longer than the text, it is legal where the text is, it has no selection, and a text
--- without selections stays as it is. Assumes nothing.
-use mathlib.Core.Path.{_≡_, refl, ap}
+-- without selections stays as it is; where memory has room for the text, it holds the stripped one. Assumes nothing.
+use mathlib.Core.Path.{_≡_, refl, sym, ap, _∙_}
 use mathlib.Core.Bool.{Bool, true, false, cond, false≢true}
 use mathlib.Core.List.{[], _∷_}
 use Prim.Native.Nat.{ℕ, _≤_}
 use native.Mathlib.Omega.{arith}
 use lib.Dec.{eqb}
-use lib.ListN.{length, length-append}
-use borrow.Author.Tests.{eqb-true}
-use Rattle.text.specs.Text.{Text, isNil, lacks}
+use lib.ListN.{length, take, length-append, length-take}
+use borrow.Author.Tests.{eqb-true, le-leb}
+use Rattle.text.specs.Text.{Text, isNil, lacks, written}
+use Rattle.text.specs.declared.Fit.{Fit}
+use Rattle.text.specs.declared.Fit.the-variants.{Written, Over}
 use Rattle.text.proofs.BoolLaws.{or-right}
 use Rattle.text.proofs.TextLaws.{lacks-first, lacks-rest, lacks-join}
+use Rattle.text.proofs.WriteLaws.{read-back}
 use Rattle.grammar.specs.Legal.{State, Slash, Name, Opened, Set, Equals, Sel, Closed, Dot, Prop, Dead, isIdentifierStart, isIdentifierCont, startsName, step, run, accept, legal}
 use Rattle.grammar.proofs.RunLaws.{run-app}
 use Rattle.parts.specs.Parent.{beginsBehind}
-use Rattle.parts.specs.Strip.{piece, turned, stripFrom, strip}
+use Rattle.parts.specs.Strip.{piece, turned, stripFrom, strip, stripFit, stripMemory}
 use Rattle.parts.proofs.ReadLaws.{Shape, empty, root, below, shape, choose, dies, start-cont, not-name}
 
 -- a byte gives at most one byte
@@ -182,3 +185,30 @@ strip-legal p e = go (shape p e)
     go empty = refl
     go root = refl
     go (below r f) = or-right (isNil (stripFrom false r)) (accept (run Slash (stripFrom false r))) (strip-run Slash r f)
+
+-- stripping into memory with room for the whole text
+module _ (p out : Text) (f : Fit) (room : length p ≤ length out) (h : f ≡ stripFit p out) where
+  fit-strip : f ≡ Written (length (strip p))
+  unfolding stripFit
+  fit-strip = h ∙ rw (le-leb (length p) (length out) room) refl
+
+  pub strip-never : f ≡ Over → ⊥
+  strip-never e = let x : Over ≡ Written (length (strip p)) = sym e ∙ fit-strip in let z : _≡_ {A = ℕ} 0 1 = cc in omega arith
+
+  module _ (n : ℕ) (e : f ≡ Written n) where
+    pub strip-length : n ≡ length (strip p)
+    strip-length = let x : Written n ≡ Written (length (strip p)) = sym e ∙ fit-strip in cc
+
+    module _ (mem : Text) (m : mem ≡ stripMemory p out) where
+      pub strip-memory : mem ≡ written (strip p) out
+      unfolding stripMemory
+      strip-memory = m ∙ rw (le-leb (length p) (length out) room) refl
+
+      pub strip-back : take n mem ≡ strip p
+      strip-back = rw (strip-memory, strip-length) (read-back (strip p) out)
+
+      pub strip-part : n ≡ length (take n mem)
+      strip-part = strip-length ∙ ap length (sym strip-back)
+
+      pub strip-inside : n ≤ length mem
+      strip-inside = omega (arith, strip-part, length-take n mem)

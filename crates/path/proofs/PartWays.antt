@@ -1,30 +1,29 @@
 -- What each way through `parent`, `prim_path`, `split_property`, `strip_variant_selections` and `ancestors` gives. Assumes nothing.
 use mathlib.Core.Path.{_≡_, refl, sym, ap, _∙_}
 use mathlib.Core.Logic.{_≢_}
-use mathlib.Core.Bool.{Bool, true, false, not, cond, _&&_, _||_, true≢false}
-use mathlib.Core.List.{List, [], _∷_}
-use mathlib.Core.Option.{Option, none, some}
-use Prim.Native.Nat.{ℕ, _≤_, _<_}
+use mathlib.Core.Bool.{Bool, true, false, cond}
+use mathlib.Core.List.{[], _∷_}
+use mathlib.Core.Option.{none, some}
+use Prim.Native.Nat.{ℕ, _≤_}
 use native.Mathlib.Nat.{zero-add}
 use native.Mathlib.Omega.{arith}
 use lib.Dec.{leb}
 use lib.ListN.{length, take}
 use lib.Seq.{length-take-le}
 use borrow.Author.Tests.{le-leb, lt-leb, leb-true}
-use Rattle.text.specs.Text.{Text, isNil, lacks, written, placed, fitted}
+use Rattle.text.specs.Text.{Text, lacks, written, placed, fitted}
 use Rattle.text.specs.declared.Fit.{Fit}
 use Rattle.text.specs.declared.Fit.the-variants.{Written as WrittenFit, Over}
 use Rattle.text.proofs.BoolLaws.{and-l, told}
 use Rattle.text.proofs.WriteLaws.{placed-first, fit-length, fit-room, fit-over}
-use Rattle.grammar.specs.Legal.{legal, fits, isRoot}
-use Rattle.parts.specs.Parent.{parentLen, parent, primLen, primPath, splitProperty, ancestorLens}
+use Rattle.grammar.specs.Legal.{legal, isRoot}
+use Rattle.parts.specs.Parent.{parentLen, parent, primLen, primPath, splitProperty}
 use Rattle.parts.specs.Strip.{strip, stripFit, stripMemory}
 use Rattle.parts.proofs.ParentLaws.{prim-len-le, prim-legal}
-use Rattle.parts.proofs.StripLaws.{strip-shorter, strip-legal}
+use Rattle.parts.proofs.StripLaws.{strip-shorter, strip-legal, strip-length, strip-memory}
 use Rattle.path.specs.declared.Refusal.the-variants.{TooLong, Illegal, NoRoom}
 use Rattle.path.specs.declared.Asked.{Asked}
 use Rattle.path.specs.declared.Asked.the-variants.{Passed, Refused as RefusedAsked}
-use Rattle.path.specs.declared.Reply.{Reply}
 use Rattle.path.specs.declared.Reply.the-variants.{Written, Refused}
 use Rattle.path.specs.Refusal.{asked, allFit, allLegal}
 use Rattle.path.specs.Outcome.{reply, memory, made}
@@ -94,26 +93,14 @@ unfolding splitProperty
 split-some p b h k = rw (told h k)
 
 -- `strip_variant_selections`: the memory has room, since the path is short
-module _ (p out : Text) (f : Fit) (s : length p ≤ 255) (r : 255 ≤ length out) (h : f ≡ stripFit p out) where
-  strip-fits : stripFit p out ≡ WrittenFit (length (strip p))
-  unfolding stripFit
-  strip-fits = rw (le-leb (length p) (length out) (omega arith))
-
-  pub strip-written : (n : ℕ) (out′ : Text) → f ≡ WrittenFit n → legal p ≡ true → out′ ≡ stripMemory p out
-      → (Written n ≡ reply (made (strip p))) × (out′ ≡ memory (made (strip p)) out)
-  unfolding stripMemory
-  strip-written n out′ e l m =
-      let i : n ≡ length (strip p) = fit-is (sym e ∙ h ∙ strip-fits) in
-      let w : (Written (length (strip p)) ≡ reply (made (strip p))) × (placed 0 (strip p) out ≡ memory (made (strip p)) out)
-      = made-legal (strip p) (omega (arith, strip-shorter p)) (strip-legal p l) out r in
-      let o : out′ ≡ written (strip p) out = rw (le-leb (length p) (length out) (omega arith)) at m in
-      (ap (λ (x : ℕ). Written x) i ∙ w .0, o ∙ sym (placed-first (strip p) out (omega (arith, strip-shorter p))) ∙ w .1)
-    where
-      fit-is : {a b : ℕ} → WrittenFit a ≡ WrittenFit b → a ≡ b
-      fit-is {a} {b} z = cc
-
-  pub strip-room : f ≡ Over → ⊥
-  strip-room e = let x : Over ≡ WrittenFit (length (strip p)) = sym e ∙ h ∙ strip-fits in let z : _≡_ {A = ℕ} 0 1 = cc in omega arith
+pub strip-written : (p out : Text) (f : Fit) → length p ≤ 255 → 255 ≤ length out → f ≡ stripFit p out → (n : ℕ) (out′ : Text) → f ≡ WrittenFit n → legal p ≡ true
+    → out′ ≡ stripMemory p out → (Written n ≡ reply (made (strip p))) × (out′ ≡ memory (made (strip p)) out)
+strip-written p out f s r h n out′ e l m =
+    let i : n ≡ length (strip p) = strip-length p out f (omega arith) h n e in
+    let w : (Written (length (strip p)) ≡ reply (made (strip p))) × (placed 0 (strip p) out ≡ memory (made (strip p)) out)
+    = made-legal (strip p) (omega (arith, strip-shorter p)) (strip-legal p l) out r in
+    let o : out′ ≡ written (strip p) out = strip-memory p out f (omega arith) h n e out′ m in
+    (ap (λ (x : ℕ). Written x) i ∙ w .0, o ∙ sym (placed-first (strip p) out (omega (arith, strip-shorter p))) ∙ w .1)
 
 -- `ancestors`
 module _ (lens out : Text) (f : Fit) (h : f ≡ fitted lens out) where

@@ -1,8 +1,8 @@
 -- What each way through the functions that build a list gives. Assumes nothing.
 use mathlib.Core.Path.{_≡_, refl, sym, ap, _∙_}
-use mathlib.Core.Bool.{Bool, true, false, not, cond, _&&_, _||_}
+use mathlib.Core.Bool.{Bool, true, false, not, _&&_, _||_}
 use mathlib.Core.List.{List, [], _∷_, _++_, map as mapped}
-use mathlib.Core.Option.{Option, none, some, Option·getD}
+use mathlib.Core.Option.{Option, Option·getD}
 use Prim.Native.Nat.{ℕ, zero, suc, _+_, _*_, _-_, _≤_, _<_}
 use native.Mathlib.Omega.{arith}
 use native.Mathlib.Decide.{ℕ-discrete}
@@ -17,16 +17,16 @@ use Rattle.text.proofs.WriteLaws.{placed-first, read-back, rest-whole, fit-is, 
 use Rattle.grammar.specs.Legal.{fits}
 use Rattle.prefix.specs.Prefix.{hasPrefix}
 use Rattle.prefix.specs.Join.{joined, replacePrefix}
-use Rattle.prefix.proofs.PrefixLaws.{prefix-long, prefix-rest, replace-prefix, replace-other}
+use Rattle.prefix.proofs.PrefixLaws.{prefix-long, replace-prefix, replace-other}
 use Rattle.prefix.proofs.JoinWays.{joined-length, separator-short, body-short}
-use Rattle.pairs.specs.Pair.{Pair, sourceAt, targetAt, everyEnd, allShort}
+use Rattle.pairs.specs.Pair.{Pair, pair, sourceAt, targetAt, everyEnd, allShort}
 use Rattle.pairs.specs.Places.{keyAt, pairIn, pairsIn, fourOf}
 use Rattle.pairs.proofs.PlaceLaws.{pairsIn-source, pairsIn-target}
 use Rattle.pairs.proofs.WriteWays.{over-over, source-key, target-key}
 use Rattle.maps.specs.Derive.{rebased, anyTarget}
 use Rattle.composing.specs.Scratch.{Holds}
 use Rattle.composing.proofs.ScratchLaws.{holds-none, holds-more}
-use Rattle.rebasing.specs.Calls.{pair, replaced, rebasedPairs}
+use Rattle.rebasing.specs.Calls.{replaced}
 
 -- `put_pair`
 pub put-done : (s t : Text) (at n : ℕ) (out once twice : Text) (slots slots′ : List ℕ) → at + (length s + length t) ≤ length out → 4 * n + 4 ≤ length slots

@@ -1,38 +1,37 @@
 -- What each way through the calls gives. Assumes nothing.
-use mathlib.Core.Path.{_≡_, refl, sym, ap, _∙_}
+use mathlib.Core.Path.{_≡_, refl, sym, _∙_}
 use mathlib.Core.Bool.{Bool, true, false, not, cond, _&&_}
-use mathlib.Core.List.{List, [], _∷_, _++_, map as mapped}
+use mathlib.Core.List.{List, [], _∷_, _++_}
 use Prim.Native.Nat.{ℕ, zero, suc, _+_, _*_, _/_, _≤_, _<_}
 use native.Mathlib.Omega.{arith}
-use native.Mathlib.Numerals.{add-one}
 use lib.Dec.{eqb, leb}
 use lib.ListN.{length, length-drop}
-use borrow.Author.Tests.{leb-true, le-leb, lt-leb}
+use borrow.Author.Tests.{le-leb, lt-leb}
 use Rattle.text.specs.Text.{Text, over}
-use Rattle.text.proofs.BoolLaws.{and-no, and-yes, told, told-true, told-false}
-use Rattle.grammar.specs.Legal.{legal, fits}
+use Rattle.text.proofs.BoolLaws.{and-no, and-yes, told-true, told-false}
+use Rattle.grammar.specs.Legal.{legal}
 use Rattle.layer_offset.specs.declared.LayerOffset.{LayerOffset}
-use Rattle.pairs.specs.Pair.{Pair, everyEnd, allShort}
-use Rattle.pairs.specs.Places.{textAt, pairIn, pairsIn, placesAll, fourOf, endBytes, listRoom, listPlaces}
+use Rattle.pairs.specs.Pair.{Pair, pair, everyEnd, allShort}
+use Rattle.pairs.specs.Places.{pairIn, pairsIn, placesAll, fourOf, endBytes, listRoom}
 use Rattle.pairs.proofs.PlaceLaws.{pairsIn-length}
-use Rattle.pairs.proofs.ListLaws.{places-length}
 use Rattle.path.specs.declared.Refusal.{Refusal}
-use Rattle.path.specs.declared.Refusal.the-variants.{TooLong, TooMany, NoRoom, MadeTooLong, MadeIllegal}
+use Rattle.path.specs.declared.Refusal.the-variants.{TooMany, NoRoom, MadeTooLong, MadeIllegal}
 use Rattle.path.specs.declared.Asked.{Asked}
 use Rattle.path.specs.declared.Asked.the-variants.{Passed, Refused as RefusedAsked}
-use Rattle.asking.specs.Asking.{Lent, lentList, every, firstNo, asked}
-use Rattle.asking.proofs.PassLaws.{Sound, first-sound, text-short}
-use Rattle.maps.specs.Map.{Map, lentMap}
+use Rattle.asking.specs.Asking.{lentList, asked}
+use Rattle.asking.proofs.PassLaws.{Sound, first-sound, text-short, second-short}
+use Rattle.maps.specs.Map.{Map}
 use Rattle.maps.specs.New.{fromParts, fromPairIdentity}
 use Rattle.maps.specs.Compose.{isPathIdentity}
 use Rattle.maps.specs.Derive.{anyTarget, rebaseTarget}
 use Rattle.map_function.specs.declared.MapFunction.{MapFunction}
+use Rattle.map_function.specs.Read.{listOf, mapOf}
 use Rattle.map_function.specs.Made.{MapOutcome, map, refused, roomFor, weighed, asItIs, fromPartsOutcome, held}
 use Rattle.composing.specs.Scratch.{Holds}
-use Rattle.composing.specs.Calls.{lentBy, madeShort}
+use Rattle.composing.specs.Calls.{madeShort}
 use Rattle.composing.proofs.ScratchLaws.{holds-none, holds-more, holds-list}
 use Rattle.composing.proofs.CallWays.{identity-lent}
-use Rattle.rebasing.specs.Calls.{pair, madeLegal, fromEnds, rebasedPairs, rebasing, RebasesTo, rebaseTargetCall}
+use Rattle.rebasing.specs.Calls.{madeLegal, fromEnds, rebasedPairs, rebasing, RebasesTo, rebaseTargetCall}
 
 -- a list that its slice holds
 pub held-all : (store : Text) (places : List ℕ) (n : ℕ) (o : MapOutcome) → n ≤ length places / 4 → held (lentList store places n) o ≡ o
@@ -116,28 +115,19 @@ pub built-ends : (l : List Pair) (n at : ℕ) (bytes : Text) (own : List ℕ) �
     → fromEnds l mark time out slots ≡ fromEnds (pairsIn bytes own n) mark time out slots
 built-ends l n at bytes own c mark time out slots = rw (holds-list l n at bytes own c) refl
 
--- the second text of a call that passed is short
-second-short : (ls : List Lent) (p q : Text) (es : List Text) → asked ls (p ∷ q ∷ []) es ≡ Passed → length q ≤ 255
-unfolding asked every fits firstNo
-second-short ls p q es h = go (leb (length q) 255) refl
-  where
-    go : (b : Bool) → leb (length q) 255 ≡ b → length q ≤ 255
-    go true e = leb-true (length q) 255 e
-    go false e = absurd (let x : asked ls (p ∷ q ∷ []) es ≡ RefusedAsked TooLong = rw (e, and-no (leb (length p) 255)) refl in let y : _≡_ {A = Asked} Passed (RefusedAsked TooLong) = sym h ∙ x in let z : _≡_ {A = ℕ} 0 1 = cc in omega arith)
-
 -- `rebase_target`
 module _ (store : Text) (places : List ℕ) (f : MapFunction) (from to : Text) (out : Text) (slots : List ℕ)
-    (q : Asked) (h : q ≡ asked (lentList store places (f .count) ∷ []) (from ∷ to ∷ []) (from ∷ to ∷ [])) where
+    (q : Asked) (h : q ≡ asked (listOf store places f ∷ []) (from ∷ to ∷ []) (from ∷ to ∷ [])) where
   abbrev m : Map
-  m = lentBy store places f
+  m = mapOf store places f
 
   pub rebase-refused : (x : Refusal) → q ≡ RefusedAsked x → rebaseTargetCall store places f from to out slots ≡ refused x
   unfolding rebaseTargetCall
   rebase-refused x k = rw (← h, k)
 
   module _ (k : q ≡ Passed) where
-    sound : Sound (lentList store places (f .count))
-    sound = first-sound (lentList store places (f .count)) [] (from ∷ to ∷ []) (from ∷ to ∷ []) (sym h ∙ k)
+    sound : Sound (listOf store places f)
+    sound = first-sound (listOf store places f) [] (from ∷ to ∷ []) (from ∷ to ∷ []) (sym h ∙ k)
 
     passed : rebaseTargetCall store places f from to out slots ≡ rebasing m from to (f .«time_offset») out slots
     unfolding rebaseTargetCall
@@ -150,10 +140,10 @@ module _ (store : Text) (places : List ℕ) (f : MapFunction) (from to : Text) (
     rebase-count = sound .few
 
     pub rebase-from : length from ≤ 255
-    rebase-from = text-short (lentList store places (f .count) ∷ []) from (to ∷ []) (from ∷ to ∷ []) (sym h ∙ k)
+    rebase-from = text-short (listOf store places f ∷ []) from (to ∷ []) (from ∷ to ∷ []) (sym h ∙ k)
 
     pub rebase-to : length to ≤ 255
-    rebase-to = second-short (lentList store places (f .count) ∷ []) from to (from ∷ to ∷ []) (sym h ∙ k)
+    rebase-to = second-short (listOf store places f ∷ []) from to [] (from ∷ to ∷ []) (sym h ∙ k)
 
     module _ (b : Bool) (g : b ≡ (eqb (f .count) 0 && f .«has_root_identity»)) where
       identity-is : isPathIdentity m ≡ b
@@ -167,7 +157,7 @@ module _ (store : Text) (places : List ℕ) (f : MapFunction) (from to : Text) (
       module _ (l : b ≡ false) (c : Bool) (i : c ≡ anyTarget from (pairsIn store places (f .count))) where
         pub rebase-same : not c ≡ true
             → rebaseTargetCall store places f from to out slots
-            ≡ held (lentList store places (f .count)) (asItIs (pairsIn store places (f .count)) (f .«has_root_identity») (f .«time_offset») out slots)
+            ≡ held (listOf store places f) (asItIs (pairsIn store places (f .count)) (f .«has_root_identity») (f .«time_offset») out slots)
         unfolding rebasing
         rebase-same o =
             passed

@@ -1,29 +1,28 @@
 -- What each way through the functions of `deepen_to` gives. Assumes nothing.
 use mathlib.Core.Path.{_≡_, refl, sym, ap, _∙_}
-use mathlib.Core.Bool.{Bool, true, false, not, cond, _&&_, _||_, false≢true}
+use mathlib.Core.Bool.{Bool, true, false, not, cond, false≢true}
 use mathlib.Core.List.{List, [], _∷_, _++_}
 use mathlib.Core.Option.{Option, none, some, Option·getD}
-use Prim.Native.Nat.{ℕ, zero, suc, _+_, _*_, _≤_, _<_}
+use Prim.Native.Nat.{ℕ, suc, _+_, _*_, _≤_, _<_}
 use native.Mathlib.Omega.{arith}
 use native.Mathlib.Numerals.{add-one}
 use lib.Dec.{leb}
 use lib.ListN.{length, take}
 use borrow.Author.Tests.{le-leb, lt-leb}
-use Rattle.text.specs.Text.{Text, equal, over, written}
+use Rattle.text.specs.Text.{Text, equal, over}
 use Rattle.text.specs.declared.Fit.{Fit}
-use Rattle.text.specs.declared.Fit.the-variants.{Written, Over}
+use Rattle.text.specs.declared.Fit.the-variants.{Written}
 use Rattle.text.proofs.BoolLaws.{told, told-true, told-false, not-true, not-false}
-use Rattle.text.proofs.WriteLaws.{read-back}
 use Rattle.grammar.specs.Legal.{legal, fits, isEnd}
 use Rattle.prefix.specs.Prefix.{hasPrefix}
 use Rattle.prefix.specs.Elements.{elements}
 use Rattle.prefix.specs.Join.{replacePrefix}
 use Rattle.prefix.proofs.PrefixLaws.{replace-prefix}
 use Rattle.parts.specs.Strip.{strip, stripFit, stripMemory}
-use Rattle.parts.proofs.StripLaws.{strip-shorter}
+use Rattle.parts.proofs.StripLaws.{strip-shorter, strip-length, strip-back}
 use Rattle.layer_offset.specs.declared.LayerOffset.{LayerOffset}
 use Rattle.pairs.specs.declared.Found.{Found}
-use Rattle.pairs.specs.Pair.{Pair, sourceAt, targetAt, allShort}
+use Rattle.pairs.specs.Pair.{Pair, pair, allShort}
 use Rattle.pairs.specs.Places.{keyAt, pairIn, pairsIn, fourOf}
 use Rattle.pairs.specs.Best.{bestBy, chosenIn}
 use Rattle.pairs.proofs.BestLaws.{Best}
@@ -33,17 +32,17 @@ use Rattle.path.specs.declared.Refusal.{Refusal}
 use Rattle.path.specs.declared.Refusal.the-variants.{TooLong}
 use Rattle.path.specs.declared.Asked.{Asked}
 use Rattle.path.specs.declared.Asked.the-variants.{Passed, Refused as RefusedAsked}
-use Rattle.asking.specs.Asking.{Lent, lentList, every, firstNo, asked}
+use Rattle.asking.specs.Asking.{Lent, every, firstNo, asked}
 use Rattle.asking.proofs.PassLaws.{Sound, first-sound, text-short}
 use Rattle.maps.specs.Map.{Map, source, target, size}
 use Rattle.maps.specs.New.{fromParts}
 use Rattle.maps.specs.Compose.{hasSource}
 use Rattle.maps.specs.Derive.{deepened, deepenBy, deepenTo}
 use Rattle.map_function.specs.declared.MapFunction.{MapFunction}
+use Rattle.map_function.specs.Read.{listOf, mapOf}
 use Rattle.map_function.specs.Made.{MapOutcome, map, refused, weighed, asItIs, held}
-use Rattle.composing.specs.Calls.{lentBy}
 use Rattle.rebasing.specs.Class.{consideredAbove}
-use Rattle.rebasing.specs.Calls.{pair, replaced, fromEnds, deepenedPairs, deepeningBy, deepening, DeepensTo, deepenToCall}
+use Rattle.rebasing.specs.Calls.{replaced, fromEnds, deepenedPairs, deepeningBy, deepening, DeepensTo, deepenToCall}
 use Rattle.rebasing.proofs.CallWays.{held-all, weighed-map, fromEnds-map}
 
 -- `deepen_pair`
@@ -136,19 +135,11 @@ above-end p key i n f h l m = let e : n ≡ i = omega arith in rw e (h .chosen)
 pub ruleset classes = (above-other, above-worse, above-better, above-first, above-none, above-on, above-end)
 
 -- `strip_node`
-module _ (p out : Text) (h : length p ≤ length out) (f : Fit) (e : f ≡ stripFit p out) where
-  pub node-over : f ≡ Over → ⊥
-  unfolding stripFit
-  node-over k = let x : _≡_ {A = Fit} Over (Written (length (strip p))) = sym k ∙ e ∙ rw (le-leb (length p) (length out) h) refl in let z : _≡_ {A = ℕ} 0 1 = cc in omega arith
-
-  pub node-done : (n : ℕ) → f ≡ Written n → (out′ : Text) → out′ ≡ stripMemory p out
-      → (n ≡ length (strip p)) × ((take n out′ ≡ strip p) × (n ≤ length out))
-  unfolding stripFit stripMemory
-  node-done n k out′ w =
-      let x : _≡_ {A = Fit} (Written n) (Written (length (strip p))) = sym k ∙ e ∙ rw (le-leb (length p) (length out) h) refl in
-      let z : n ≡ length (strip p) = cc in
-      let y : out′ ≡ written (strip p) out = w ∙ rw (le-leb (length p) (length out) h) refl in
-      (z, (rw (z, y) (read-back (strip p) out), omega (arith, strip-shorter p)))
+pub node-done : (p out : Text) (f : Fit) → length p ≤ length out → f ≡ stripFit p out → (n : ℕ) → f ≡ Written n → (out′ : Text) → out′ ≡ stripMemory p out
+    → (n ≡ length (strip p)) × ((take n out′ ≡ strip p) × (n ≤ length out))
+node-done p out f h e n k out′ w =
+    let z : n ≡ length (strip p) = strip-length p out f h e n k in
+    (z, (strip-back p out f h e n k out′ w, omega (arith, strip-shorter p)))
 
 -- the second text and the second end of the question are empty
 ask-node : (l : Lent) (p e : Text) → asked (l ∷ []) (p ∷ [] ∷ []) (e ∷ [] ∷ []) ≡ asked (l ∷ []) (p ∷ []) (e ∷ [])
@@ -157,20 +148,20 @@ ask-node l p e = refl
 
 -- `deepen_node`
 module _ (store : Text) (places : List ℕ) (f : MapFunction) (p node : Text) (out : Text) (slots : List ℕ) (is : node ≡ strip p)
-    (q : Asked) (h : q ≡ asked (lentList store places (f .count) ∷ []) (p ∷ [] ∷ []) (node ∷ [] ∷ [])) where
+    (q : Asked) (h : q ≡ asked (listOf store places f ∷ []) (p ∷ [] ∷ []) (node ∷ [] ∷ [])) where
   abbrev m : Map
-  m = lentBy store places f
+  m = mapOf store places f
 
-  asked-is : q ≡ asked (lentList store places (f .count) ∷ []) (p ∷ []) (strip p ∷ [])
-  asked-is = h ∙ ask-node (lentList store places (f .count)) p node ∙ rw is refl
+  asked-is : q ≡ asked (listOf store places f ∷ []) (p ∷ []) (strip p ∷ [])
+  asked-is = h ∙ ask-node (listOf store places f) p node ∙ rw is refl
 
   pub deepen-refused : (x : Refusal) → q ≡ RefusedAsked x → deepenToCall store places f p out slots ≡ refused x
   unfolding deepenToCall
   deepen-refused x k = rw (← asked-is, k)
 
   module _ (k : q ≡ Passed) where
-    sound : Sound (lentList store places (f .count))
-    sound = first-sound (lentList store places (f .count)) [] (p ∷ []) (strip p ∷ []) (sym asked-is ∙ k)
+    sound : Sound (listOf store places f)
+    sound = first-sound (listOf store places f) [] (p ∷ []) (strip p ∷ []) (sym asked-is ∙ k)
 
     passed : deepenToCall store places f p out slots ≡ deepening m node (f .«time_offset») out slots
     unfolding deepenToCall
@@ -184,10 +175,10 @@ module _ (store : Text) (places : List ℕ) (f : MapFunction) (p node : Text) (o
 
     pub deepen-node-short : length node ≤ 255
     deepen-node-short =
-        omega (arith, ap length is, strip-shorter p, text-short (lentList store places (f .count) ∷ []) p [] (strip p ∷ []) (sym asked-is ∙ k))
+        omega (arith, ap length is, strip-shorter p, text-short (listOf store places f ∷ []) p [] (strip p ∷ []) (sym asked-is ∙ k))
 
     abbrev asItStands : MapOutcome
-    asItStands = held (lentList store places (f .count)) (asItIs (pairsIn store places (f .count)) (f .«has_root_identity») (f .«time_offset») out slots)
+    asItStands = held (listOf store places f) (asItIs (pairsIn store places (f .count)) (f .«has_root_identity») (f .«time_offset») out slots)
 
     stands : asItIs (pairsIn store places (f .count)) (f .«has_root_identity») (f .«time_offset») out slots ≡ asItStands
     stands = sym (held-all store places (f .count) (asItIs (pairsIn store places (f .count)) (f .«has_root_identity») (f .«time_offset») out slots) (sound .held))

@@ -12,21 +12,19 @@ use Rattle.prefix.specs.Prefix.{hasPrefix}
 use Rattle.prefix.specs.Join.{replacePrefix}
 use Rattle.parts.specs.Strip.{strip}
 use Rattle.layer_offset.specs.declared.LayerOffset.{LayerOffset}
-use Rattle.pairs.specs.Pair.{Pair, everyEnd}
+use Rattle.pairs.specs.Pair.{Pair, pair, everyEnd}
 use Rattle.pairs.specs.Best.{bestBy}
 use Rattle.path.specs.Refusal.{unless}
 use Rattle.path.specs.declared.Refusal.the-variants.{TooMany, MadeIllegal}
-use Rattle.asking.specs.Asking.{lentList, asked}
+use Rattle.asking.specs.Asking.{asked}
 use Rattle.maps.specs.Map.{Map, source, target, size}
 use Rattle.maps.specs.New.{fromParts, fromPairIdentity}
 use Rattle.maps.specs.Compose.{isPathIdentity, hasSource}
 use Rattle.maps.specs.Derive.{rebased, anyTarget, rebaseTarget, deepened, deepenTo}
 use Rattle.map_function.specs.declared.MapFunction.{MapFunction}
+use Rattle.map_function.specs.Read.{listOf, mapOf}
 use Rattle.map_function.specs.Made.{MapOutcome, map, refused, roomFor, weighed, asItIs}
-use Rattle.composing.specs.Calls.{lentBy, madeShort}
-
-abbrev pub pair : Text → Text → Pair
-pair s t = record { source = s; target = t }
+use Rattle.composing.specs.Calls.{madeShort}
 
 -- the path p with its prefix s replaced by t; p itself where it has no such prefix
 abbrev pub replaced : Text → Text → Text → Text
@@ -61,8 +59,8 @@ RebasesTo = (m n : Map) (from to : Text) (time t : LayerOffset) (out : Text) (sl
 unfoldable pub rebaseTargetCall : Text → List ℕ → MapFunction → Text → Text → Text → List ℕ → MapOutcome
 unfolding asked rebasing
 rebaseTargetCall store places f from to out slots =
-    unless (asked (lentList store places (f .count) ∷ []) (from ∷ to ∷ []) (from ∷ to ∷ [])) refused
-    (rebasing (lentBy store places f) from to (f .«time_offset») out slots)
+    unless (asked (listOf store places f ∷ []) (from ∷ to ∷ []) (from ∷ to ∷ [])) refused
+    (rebasing (mapOf store places f) from to (f .«time_offset») out slots)
 
 -- every pair whose source is the class's becomes the node and where the class puts it
 abbrev pub deepenedPairs : Text → Text → Text → List Pair → List Pair
@@ -90,5 +88,5 @@ DeepensTo = (m n : Map) (path : Text) (time t : LayerOffset) (out : Text) (slots
 unfoldable pub deepenToCall : Text → List ℕ → MapFunction → Text → Text → List ℕ → MapOutcome
 unfolding asked deepening strip
 deepenToCall store places f path out slots =
-    unless (asked (lentList store places (f .count) ∷ []) (path ∷ []) (strip path ∷ [])) refused
-    (deepening (lentBy store places f) (strip path) (f .«time_offset») out slots)
+    unless (asked (listOf store places f ∷ []) (path ∷ []) (strip path ∷ [])) refused
+    (deepening (mapOf store places f) (strip path) (f .«time_offset») out slots)

@@ -9,7 +9,7 @@ ghost use Rattle.text.specs.Text.{over};
 ghost use Rattle.prefix.specs.Prefix.{hasPrefix};
 ghost use Rattle.parts.specs.Strip.{strip};
 ghost use Rattle.grammar.specs.Legal.{legal};
-ghost use Rattle.pairs.specs.Pair.{everyEnd, allShort};
+ghost use Rattle.pairs.specs.Pair.{pair, everyEnd, allShort};
 ghost use Rattle.pairs.specs.Places.{keyAt, pairsIn, fourOf};
 ghost use Rattle.pairs.specs.Best.{bestBy, chosenIn};
 ghost use Rattle.maps.specs.New.{fromPairIdentity};
@@ -17,7 +17,7 @@ ghost use Rattle.maps.specs.Derive.{anyTarget, deepened};
 ghost use Rattle.map_function.specs.Made.{mapReply, mapBytes, mapSlots, weighed};
 ghost use Rattle.composing.specs.Scratch.{Holds};
 ghost use Rattle.rebasing.specs.Class.{consideredAbove};
-ghost use Rattle.rebasing.specs.Calls.{pair, replaced, fromEnds, rebasedPairs, rebaseTargetCall, deepenedPairs, deepenToCall};
+ghost use Rattle.rebasing.specs.Calls.{replaced, fromEnds, rebasedPairs, rebaseTargetCall, deepenedPairs, deepenToCall};
 
 // One pair more behind the first n; the place behind it.
 fn put_pair(s: &[u8], t: &[u8], n: usize, at: usize, bytes: &mut [u8], slots: &mut [usize]) -> usize

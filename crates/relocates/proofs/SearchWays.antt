@@ -16,11 +16,10 @@ use Rattle.text.proofs.WriteLaws.{rest-whole}
 use Rattle.prefix.specs.Prefix.{hasPrefix}
 use Rattle.prefix.specs.Join.{joined, replacePrefix}
 use Rattle.prefix.proofs.PrefixLaws.{prefix-long, replace-prefix, replace-other}
-use Rattle.pairs.specs.Pair.{Pair, pairAt}
+use Rattle.pairs.specs.Pair.{Pair, pair, pairAt}
 use Rattle.pairs.specs.Places.{pairIn, pairsIn, keyAt}
 use Rattle.pairs.proofs.PlaceLaws.{pairsIn-at}
 use Rattle.relocates.specs.declared.chaining.Longest.{Longest}
-use Rattle.relocates.specs.Status.{pairOf}
 use Rattle.relocates.specs.Chain.{longer, longest, isSkipped, altered, tried}
 use Rattle.relocates.specs.Search.{skipOf, chosenOf, considered}
 use Rattle.relocates.proofs.StatusWays.{pair-is, nil-length, nil-not}
@@ -63,17 +62,17 @@ module _ (alters : Bool) (p s t : Text) (x : Bool) (hx : x ≡ hasPrefix p s) wh
 
 -- `does_try`
 module _ (alters skips : Bool) (k p s t : Text) where
-  pub tries-deleted : length t ≡ 0 → false ≡ isSome (tried alters (skipOf skips k) p (pairOf s t))
+  pub tries-deleted : length t ≡ 0 → false ≡ isSome (tried alters (skipOf skips k) p (pair s t))
   unfolding tried
   tries-deleted h = rw (nil-length t h)
 
   module _ (h : length t ≢ 0) (x : Bool) (hx : x ≡ isSkipped (skipOf skips k) s) where
-    pub tries-skipped : x ≡ true → false ≡ isSome (tried alters (skipOf skips k) p (pairOf s t))
+    pub tries-skipped : x ≡ true → false ≡ isSome (tried alters (skipOf skips k) p (pair s t))
     unfolding tried
     tries-skipped l = rw (nil-not t h, told hx l)
 
     pub tries-replaced : x ≡ false → (r : Bool) → r ≡ isSome (cond alters (altered p (replacePrefix p s t)) (replacePrefix p s t))
-        → r ≡ isSome (tried alters (skipOf skips k) p (pairOf s t))
+        → r ≡ isSome (tried alters (skipOf skips k) p (pair s t))
     unfolding tried
     tries-replaced l r e = rw (nil-not t h, told hx l) e
 
@@ -125,10 +124,10 @@ module _ (t : Pair → Option Text) (l : List Pair) (i : ℕ) where
   holds-by f f′ b h e c = rw (c, add-one i) (cases (f .found) (f .at) (f .bytes .0) b h (sym e))
 
 pub holds-on : (t : Pair → Option Text) (store : Text) (places : List ℕ) (n i : ℕ) (f f′ : Longest) (b : Bool) (s u : Text)
-    → Holds t (pairsIn store places n) i f → i < n → s ≡ keyAt store places false i → u ≡ keyAt store places true i → b ≡ isSome (t (pairOf s u)) → f′ ≡ considered f b s i
+    → Holds t (pairsIn store places n) i f → i < n → s ≡ keyAt store places false i → u ≡ keyAt store places true i → b ≡ isSome (t (pair s u)) → f′ ≡ considered f b s i
     → Holds t (pairsIn store places n) (i + 1) f′
 holds-on t store places n i f f′ b s u h m hs hu e c =
-    let x : pairAt (pairsIn store places n) i ≡ pairOf s u = pairsIn-at store places n i m ∙ sym (pair-is store places i s u hs hu) in
+    let x : pairAt (pairsIn store places n) i ≡ pair s u = pairsIn-at store places n i m ∙ sym (pair-is store places i s u hs hu) in
     holds-by t (pairsIn store places n) i f f′ b h (rw x e) (rw x c)
 
 pub holds-end : (t : Pair → Option Text) (l : List Pair) (i n : ℕ) (f : Longest) → Holds t l i f → n ≤ i → i ≤ n → chosenOf f ≡ longest t l n

@@ -14,10 +14,10 @@ use Rattle.text.specs.Text.{Text, isNil, equal}
 use Rattle.text.proofs.BoolLaws.{told, told-false, told-true, or-right, or-false, and-no, and-yes}
 use Rattle.prefix.specs.Prefix.{hasPrefix}
 use Rattle.prefix.specs.Elements.{names}
-use Rattle.pairs.specs.Pair.{Pair, pairAt}
+use Rattle.pairs.specs.Pair.{Pair, pair, pairAt}
 use Rattle.pairs.specs.Places.{textAt, pairIn, pairsIn, keyAt}
 use Rattle.pairs.proofs.PlaceLaws.{pairsIn-at, pairsIn-length}
-use Rattle.relocates.specs.Status.{pairOf, someBelow, structural, reserves, duplicate, alike, pairConflicts, against}
+use Rattle.relocates.specs.Status.{someBelow, structural, reserves, duplicate, alike, pairConflicts, against}
 
 pub nil-length : (t : Text) → length t ≡ 0 → isNil t ≡ true
 nil-length [] h = refl
@@ -29,33 +29,33 @@ nil-not (a ∷ t) h = refl
 
 -- `is_structural`
 module _ (s t : Text) where
-  pub structural-deletes : length t ≡ 0 → false ≡ structural (pairOf s t)
+  pub structural-deletes : length t ≡ 0 → false ≡ structural (pair s t)
   unfolding structural
   structural-deletes h = rw (nil-length t h)
 
   module _ (n : ℕ) (h : length t ≢ 0) (k : n ≡ names s) where
-    pub structural-root : n ≡ 1 → true ≡ structural (pairOf s t)
+    pub structural-root : n ≡ 1 → true ≡ structural (pair s t)
     unfolding structural
     structural-root e = rw (nil-not t h, ← k, eq-eqb n 1 e)
 
     module _ (e : n ≢ 1) (a : Bool) (ha : a ≡ equal s t) where
-      pub structural-equal : a ≡ true → true ≡ structural (pairOf s t)
+      pub structural-equal : a ≡ true → true ≡ structural (pair s t)
       unfolding structural
       structural-equal l = rw (nil-not t h, ← k, ne-eqb n 1 e, told ha l)
 
       module _ (la : a ≡ false) (b : Bool) (hb : b ≡ hasPrefix s t) where
-        pub structural-above : b ≡ true → true ≡ structural (pairOf s t)
+        pub structural-above : b ≡ true → true ≡ structural (pair s t)
         unfolding structural
         structural-above l = rw (nil-not t h, ← k, ne-eqb n 1 e, told ha la, told hb l)
 
-        pub structural-below : b ≡ false → (c : Bool) → c ≡ hasPrefix t s → c ≡ structural (pairOf s t)
+        pub structural-below : b ≡ false → (c : Bool) → c ≡ hasPrefix t s → c ≡ structural (pair s t)
         unfolding structural
         structural-below l c hc = rw (nil-not t h, ← k, ne-eqb n 1 e, told ha la, told hb l) hc
 
 pub ruleset structure = (structural-deletes, structural-root, structural-equal, structural-above, structural-below)
 
 -- a pair read by its ends
-pub pair-is : (store : Text) (places : List ℕ) (i : ℕ) (s t : Text) → s ≡ keyAt store places false i → t ≡ keyAt store places true i → pairOf s t ≡ pairIn store places i
+pub pair-is : (store : Text) (places : List ℕ) (i : ℕ) (s t : Text) → s ≡ keyAt store places false i → t ≡ keyAt store places true i → pair s t ≡ pairIn store places i
 unfolding pairIn
 pair-is store places i s t h k = let z : 2 * i + 0 ≡ 2 * i = omega arith in rw (h, k, z)
 
@@ -65,9 +65,9 @@ module _ (store : Text) (places : List ℕ) (k : ℕ) (u s : Text) (h : s ≡ ke
   unfolding reserves
   reserves-other l =
       let t : Text = keyAt store places true k in
-      rw (← (pair-is store places k s t h refl), told-false ha l) (sym (and-no (not (structural (pairOf s t)))))
+      rw (← (pair-is store places k s t h refl), told-false ha l) (sym (and-no (not (structural (pair s t)))))
 
-  pub reserves-same : not a ≡ false → (t : Text) → t ≡ keyAt store places true k → (b : Bool) → b ≡ structural (pairOf s t) → not b ≡ reserves (pairIn store places k) u
+  pub reserves-same : not a ≡ false → (t : Text) → t ≡ keyAt store places true k → (b : Bool) → b ≡ structural (pair s t) → not b ≡ reserves (pairIn store places k) u
   unfolding reserves
   reserves-same l t g b hb = rw (← (pair-is store places k s t h g), told-true ha l, ← hb) (sym (and-yes (not b)))
 
@@ -150,16 +150,16 @@ module _ (a b : Text) where
   source-prefix x h l r e = rw (told h l) e
 
 module _ (sa ta sb tb : Text) (x : Bool) (hx : x ≡ (not (isNil ta) && hasPrefix ta sb)) where
-  pub conflict-target : x ≡ true → true ≡ pairConflicts (pairOf sa ta) (pairOf sb tb)
+  pub conflict-target : x ≡ true → true ≡ pairConflicts (pair sa ta) (pair sb tb)
   unfolding pairConflicts
   conflict-target l = rw (told hx l)
 
   module _ (lx : x ≡ false) (y : Bool) (hy : y ≡ alike sa tb) where
-    pub conflict-alike : y ≡ true → true ≡ pairConflicts (pairOf sa ta) (pairOf sb tb)
+    pub conflict-alike : y ≡ true → true ≡ pairConflicts (pair sa ta) (pair sb tb)
     unfolding pairConflicts
     conflict-alike l = rw (told hx lx, told hy l)
 
-    pub conflict-source : y ≡ false → (z : Bool) → z ≡ (not (equal sa sb) && hasPrefix sa sb) → z ≡ pairConflicts (pairOf sa ta) (pairOf sb tb)
+    pub conflict-source : y ≡ false → (z : Bool) → z ≡ (not (equal sa sb) && hasPrefix sa sb) → z ≡ pairConflicts (pair sa ta) (pair sb tb)
     unfolding pairConflicts
     conflict-source l z hz = rw (told hx lx, told hy l) hz
 
@@ -181,7 +181,7 @@ module _ (store : Text) (places : List ℕ) (i j mark : ℕ) where
     with-target l =
         rw (ne-eqb i j h, eq-eqb mark 0 k, ← (pair-is store places i sa ta hsa hta), ← (pair-is store places j sb tb hsb htb), told hx l)
 
-    pub with-reason : x ≡ false → (y : Bool) → y ≡ pairConflicts (pairOf sa ta) (pairOf sb tb)
+    pub with-reason : x ≡ false → (y : Bool) → y ≡ pairConflicts (pair sa ta) (pair sb tb)
         → y ≡ (not (eqb i j) && eqb mark 0 && against (pairIn store places i) (pairIn store places j))
     unfolding against
     with-reason l y hy =

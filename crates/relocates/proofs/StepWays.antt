@@ -16,14 +16,13 @@ use Rattle.grammar.specs.Legal.{legal, fits}
 use Rattle.prefix.specs.Prefix.{hasPrefix}
 use Rattle.prefix.specs.Join.{joined, replacePrefix}
 use Rattle.prefix.proofs.PrefixLaws.{prefix-long, replace-prefix, replace-other}
-use Rattle.pairs.specs.Pair.{Pair, pairAt}
+use Rattle.pairs.specs.Pair.{Pair, pair, pairAt}
 use Rattle.pairs.specs.Places.{pairsIn, keyAt}
 use Rattle.pairs.proofs.PlaceLaws.{pairsIn-at, pairsIn-length}
 use Rattle.path.specs.declared.Refusal.the-variants.{MadeTooLong, MadeIllegal}
 use Rattle.path.specs.Outcome.{made}
 use Rattle.relocates.specs.declared.chaining.Longest.{Longest}
 use Rattle.relocates.specs.declared.chaining.Step.the-variants.{Still, Made, Refused}
-use Rattle.relocates.specs.Status.{pairOf}
 use Rattle.relocates.specs.Chain.{longer, longest, triedAt, nearest, isSkipped, altered, tried}
 use Rattle.relocates.specs.Search.{chosenOf, stepOf, stepMemory}
 use Rattle.relocates.proofs.StatusWays.{pair-is}
@@ -62,7 +61,7 @@ all-some false false true true j h = absurd (false≢true h)
 all-some false false true false j h = refl
 all-some false false false d j h = refl
 
-module _ (alters : Bool) (skip : Option Text) (p s t : Text) (h : isSome (tried alters skip p (pairOf s t)) ≡ true) where
+module _ (alters : Bool) (skip : Option Text) (p s t : Text) (h : isSome (tried alters skip p (pair s t)) ≡ true) where
   tried-prefix : hasPrefix p s ≡ true
   unfolding tried altered
   tried-prefix = go (hasPrefix p s) refl
@@ -71,7 +70,7 @@ module _ (alters : Bool) (skip : Option Text) (p s t : Text) (h : isSome (tried 
       go true e = refl
       go false e = absurd (all-none (isNil t) (isSkipped skip s) alters (rw (replace-other p s t e) at h))
 
-  tried-is : tried alters skip p (pairOf s t) ≡ some (joined s t (take (length p - length s) (drop (length s) p)))
+  tried-is : tried alters skip p (pair s t) ≡ some (joined s t (take (length p - length s) (drop (length s) p)))
   unfolding tried altered
   tried-is =
       let j : Text = joined s t (take (length p - length s) (drop (length s) p)) in
@@ -97,10 +96,10 @@ module _ (alters : Bool) (skip : Option Text) (p store : Text) (places : List �
     says : ((f .at) < n) × (isSome (tried alters skip p (pairAt (pairsIn store places n) (f .at))) ≡ true)
     says = longest-says (tried alters skip p) (pairsIn store places n) n (f .at) (sym h ∙ rw (not-false (f .found) g))
 
-    pair-here : pairAt (pairsIn store places n) (f .at) ≡ pairOf s t
+    pair-here : pairAt (pairsIn store places n) (f .at) ≡ pair s t
     pair-here = pairsIn-at store places n (f .at) (says .0) ∙ sym (pair-is store places (f .at) s t hs ht)
 
-    gives : isSome (tried alters skip p (pairOf s t)) ≡ true
+    gives : isSome (tried alters skip p (pair s t)) ≡ true
     gives = rw pair-here at (says .1)
 
     pub once-long : length s ≤ length p

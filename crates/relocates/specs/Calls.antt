@@ -1,6 +1,6 @@
 -- Document 01's calls on relocate lists: the questions in their order, then the meaning.
 use Prim.Native.Nat.{ℕ}
-use mathlib.Core.Bool.{Bool, cond}
+use mathlib.Core.Bool.{cond}
 use mathlib.Core.List.{List, [], _∷_}
 use mathlib.Core.Option.{Option, none, some}
 use lib.Dec.{leb}
@@ -18,7 +18,7 @@ use Rattle.relocates.specs.declared.Chain.the-variants.{Chained as Chain
 use Rattle.relocates.specs.Status.{statuses}
 use Rattle.relocates.specs.Chain.{Chained, chained, stopped, chain, shifted}
 
--- question 5: "a byte per status"
+-- "`analyze_relocate_occurrences` gives a status byte" for each pair. Question 5: "a byte per status".
 unfoldable pub analyzeReply : Lent → ℕ → Reply
 unfolding asked
 analyzeReply l room = unless (asked (l ∷ []) [] []) RefusedReply (cond (leb (l .count) room) (Written (l .count)) (RefusedReply NoRoom))
@@ -27,6 +27,7 @@ analyzeReply l room = unless (asked (l ∷ []) [] []) RefusedReply (cond (leb (l
 abbrev pub analyzeMemory : Reply → Lent → Text → Text
 analyzeMemory r l out = listed r (statuses (pairsOf l) (l .count)) out
 
+-- "`shift_through_nearest_ancestor` is ported too." The path that it gives is put questions 7 and 8.
 unfoldable pub shiftCall : Lent → Text → ℕ → Outcome
 unfolding asked answered made shifted
 shiftCall l p room = answered (asked (l ∷ []) (p ∷ []) []) room (made (shifted (pairsOf l) p))
@@ -36,7 +37,8 @@ abbrev pub skipTexts : Option Text → List Text
 skipTexts none = []
 skipTexts (some k) = k ∷ []
 
--- question 5, "255 bytes for a path", then the chain with its own 7 and 8
+-- "`chain_through_relocates` makes at most as many replacements as there are pairs .. We add its step count: the replacements made."
+-- Question 5: "255 bytes for a path"; then the chain, "in chaining 7 and 8 to each step".
 unfoldable pub chainCall : Lent → Option Text → Text → ℕ → Chained
 unfolding asked chain
 chainCall l skip p room = unless (asked (l ∷ []) (p ∷ skipTexts skip) []) stopped (cond (leb 255 room) (chain skip (pairsOf l) p) (stopped NoRoom))

@@ -1,6 +1,6 @@
 -- Carrying a path through a relocate list, pair after pair. "Maps measure a key in elements, chaining measures it in bytes".
 use Prim.Native.Nat.{ℕ, zero, suc}
-use mathlib.Core.Bool.{Bool, true, false, not, cond, _&&_}
+use mathlib.Core.Bool.{Bool, true, false, cond, _&&_}
 use mathlib.Core.List.{List}
 use mathlib.Core.Option.{Option, none, some, Option·getD}
 use lib.Dec.{leb}

@@ -1,4 +1,5 @@
 pub mod Status
+pub mod Marks
 pub mod Chain
 pub mod Search
 pub mod Calls

@@ -1,14 +1,13 @@
 -- A relocate's status: which of the pairs that modellers wrote into one layer stack take part. OpenUSD: Pcp_ComputeRelocationsForLayerStack.
-use mathlib.Core.Path.{_≡_}
-use Prim.Native.Nat.{ℕ, zero, suc, _<_}
-use mathlib.Core.Bool.{Bool, true, false, not, cond, _&&_, _||_}
+use Prim.Native.Nat.{ℕ, zero, suc}
+use mathlib.Core.Bool.{Bool, false, not, cond, _&&_, _||_}
 use mathlib.Core.List.{List, [], _∷_, _++_}
 use lib.Dec.{eqb}
-use lib.ListN.{length, getD}
+use lib.ListN.{length}
 use Rattle.text.specs.Text.{Text, isNil, equal}
 use Rattle.prefix.specs.Prefix.{hasPrefix}
 use Rattle.prefix.specs.Elements.{count, names}
-use Rattle.pairs.specs.Pair.{Pair, pairAt}
+use Rattle.pairs.specs.Pair.{Pair, pair, pairAt}
 use Rattle.maps.specs.Map.{Map}
 use Rattle.maps.specs.New.{new}
 use Rattle.relocates.specs.declared.RelocateOccurrence.{RelocateOccurrence}
@@ -20,9 +19,6 @@ statusByte Active = 0
 statusByte DroppedStructural = 1
 statusByte DroppedDuplicateSource = 2
 statusByte DroppedConflict = 3
-
-abbrev pub pairOf : Text → Text → Pair
-pairOf s t = record { source = s; target = t }
 
 -- a test passes at some number below n
 unfoldable pub someBelow : ℕ → (ℕ → Bool) → Bool
@@ -95,16 +91,6 @@ unfoldable pub statuses : List Pair → ℕ → List ℕ
 unfolding occurrence
 statuses l n = bytesOf (occurrence l) n
 
--- the same before conflicts are sought
-unfoldable pub marks : List Pair → ℕ → List ℕ
-unfolding occurrenceOr
-marks l n = bytesOf (occurrenceOr Active l) n
-
--- memory holds them
-unfoldable pub marked : List Pair → List ℕ → Type 0
-unfolding occurrenceOr
-marked l mark = (i : ℕ) → i < length l → getD mark i 0 ≡ statusByte (occurrenceOr Active l i)
-
 -- the Active ones of the first n pairs
 unfoldable pub active : List Pair → ℕ → List Pair
 unfolding occurrence
@@ -112,7 +98,7 @@ active l zero = []
 active l (suc n) = cond (eqb (statusByte (occurrence l n)) 0) (active l n ++ pairAt l n ∷ []) (active l n)
 
 abbrev pub roots : Pair
-roots = record { source = 47 ∷ []; target = 47 ∷ [] }
+roots = pair (47 ∷ []) (47 ∷ [])
 
 -- "a relocate list standing for `new` of its Active pairs and `/`→`/`"
 unfoldable pub relocateMap : List Pair → Map

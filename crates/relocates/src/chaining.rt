@@ -7,9 +7,9 @@ ghost use lib.ListN.{length};
 ghost use Rattle.text.specs.Text.{isSome};
 ghost use Rattle.prefix.specs.Join.{replacePrefix};
 ghost use Rattle.pairs.specs.Places.{pairsIn};
-ghost use Rattle.relocates.specs.Status.{pairOf};
 ghost use Rattle.relocates.specs.Chain.{isSkipped, altered, tried, longest, nearest, chain};
 ghost use Rattle.relocates.specs.Search.{skipOf, chosenOf, considered, stepOf, stepMemory, chainedIn, within};
+ghost use Rattle.pairs.specs.Pair.{pair};
 
 // A number of bytes: how chaining measures a key.
 pub struct Bytes(pub usize);
@@ -56,7 +56,7 @@ fn does_replace(alters: bool, path: &[u8], old: &[u8], new: &[u8]) -> bool
 
 // Does the pair of the old and the new prefix give a path?
 fn does_try(alters: bool, skips: bool, skipped: &[u8], path: &[u8], old: &[u8], new: &[u8]) -> bool
-    ensures { λ r. ⌜ r ≡ isSome (tried alters (skipOf skips (now (skipped .entry))) (now (path .entry)) (pairOf (now (old .entry)) (now (new .entry)))) ⌝ }
+    ensures { λ r. ⌜ r ≡ isSome (tried alters (skipOf skips (now (skipped .entry))) (now (path .entry)) (pair (now (old .entry)) (now (new .entry)))) ⌝ }
 {
     if new.len() == 0 {
         return false;

@@ -8,14 +8,16 @@ ghost use lib.ListN.{length};
 ghost use Rattle.text.specs.Text.{isNil, equal, written};
 ghost use Rattle.prefix.specs.Prefix.{hasPrefix};
 ghost use Rattle.pairs.specs.Places.{pairIn, pairsIn, copied};
+ghost use Rattle.pairs.specs.Pair.{pair};
 ghost use Rattle.asking.specs.Asking.{lentList};
 ghost use Rattle.asking.specs.Made.{madeOf};
 ghost use Rattle.relocates.specs.declared.RelocateOccurrence.the-variants.{Active};
-ghost use Rattle.relocates.specs.Status.{pairOf, structural, reserves, duplicate, alike, pairConflicts, against, occurrenceOr, statusByte, marks, statuses, marked, active};
+ghost use Rattle.relocates.specs.Status.{structural, reserves, duplicate, alike, pairConflicts, against, occurrenceOr, statusByte, statuses, active};
+ghost use Rattle.relocates.specs.Marks.{marks, marked};
 
 // Is the pair dropped whatever stands beside it? (Rust: relocate_invalid_reason)
 pub fn is_structural(source: &[u8], target: &[u8]) -> bool
-    ensures { λ r. ⌜ r ≡ structural (pairOf (now (source .entry)) (now (target .entry))) ⌝ }
+    ensures { λ r. ⌜ r ≡ structural (pair (now (source .entry)) (now (target .entry))) ⌝ }
 {
     if target.len() == 0 {
         return false;
@@ -92,7 +94,7 @@ fn is_source_below(source: &[u8], other: &[u8]) -> bool
 
 // Does the pair of sa and ta have a reason to be dropped in that of sb and tb?
 pub fn relocate_pair_conflicts(sa: &[u8], ta: &[u8], sb: &[u8], tb: &[u8]) -> bool
-    ensures { λ r. ⌜ r ≡ pairConflicts (pairOf (now (sa .entry)) (now (ta .entry))) (pairOf (now (sb .entry)) (now (tb .entry))) ⌝ }
+    ensures { λ r. ⌜ r ≡ pairConflicts (pair (now (sa .entry)) (now (ta .entry))) (pair (now (sb .entry)) (now (tb .entry))) ⌝ }
 {
     if is_target_below(ta, sb) {
         return true;

@@ -15,7 +15,7 @@ use Rattle.text.proofs.BoolLaws.{not-true}
 use Rattle.text.proofs.WriteLaws.{placed-first, read-back}
 use Rattle.grammar.specs.Legal.{fits}
 use Rattle.parts.specs.Strip.{strip, stripFit, stripMemory}
-use Rattle.parts.proofs.StripLaws.{strip-same}
+use Rattle.parts.proofs.StripLaws.{strip-same, strip-back, strip-inside}
 use Rattle.path.specs.declared.Refusal.{Refusal}
 use Rattle.path.specs.declared.Refusal.the-variants.{NoRoom}
 use Rattle.path.specs.declared.Asked.{Asked}
@@ -26,7 +26,6 @@ use Rattle.path.specs.Outcome.{Outcome, path, refused, reply, memory, answered}
 use Rattle.path.specs.Calls.{newCall}
 use Rattle.path.proofs.CallWays.{answered-refused, answered-short, answered-passed, answered-same}
 use Rattle.asking.specs.Asking.{earlierOf}
-use Rattle.mapping.proofs.HandWays.{strip-never, stripped-back, stripped-inside}
 use Rattle.asking.proofs.EarlierLaws.{none-earlier}
 use Rattle.legs.specs.Lent.{LentRoute, legsIn, routeAsked}
 use Rattle.legs.specs.Laid.{hasRelocates, Laid, LaidIfPassed}
@@ -64,15 +63,18 @@ pub ruleset keeping = (keeps-home, keeps-none, keeps-lacks)
 
 -- `enter`
 module _ (home : Bool) (n : ℕ) (p here : Text) (l : length here ≡ 255) (s : length p ≤ 255) (b : Bool) (k : Keeps b home n p) where
+  fits-here : length p ≤ length here
+  fits-here = omega (arith, l, s)
+
   pub enter-kept : b ≡ true → (here′ : Text) → here′ ≡ placed 0 p here → Entered (entering home n p) (length p) here′
   unfolding Keeps Entered
-  enter-kept h here′ w = (rw (w, placed-first p here (omega (arith, l, s))) (read-back p here) ∙ sym (k ∙ ap (λ (x : Bool). cond x p (strip p)) h), s)
+  enter-kept h here′ w = (rw (w, placed-first p here fits-here) (read-back p here) ∙ sym (k ∙ ap (λ (x : Bool). cond x p (strip p)) h), s)
 
   module _ (f : Fit) (e : f ≡ stripFit p here) (h : b ≡ false) where
     pub enter-stripped : (j : ℕ) → f ≡ WrittenFit j → (here′ : Text) → here′ ≡ stripMemory p here → length here′ ≡ 255 → Entered (entering home n p) j here′
     unfolding Keeps Entered
     enter-stripped j g here′ w z =
-        (stripped-back p here f s l e j g here′ w ∙ sym (k ∙ ap (λ (x : Bool). cond x p (strip p)) h), omega (arith, stripped-inside p here f s l e j g here′ w, z))
+        (strip-back p here f fits-here e j g here′ w ∙ sym (k ∙ ap (λ (x : Bool). cond x p (strip p)) h), omega (arith, strip-inside p here f fits-here e j g here′ w, z))
 
 pub entered-size : (t : Text) (k : ℕ) (mem : Text) → Entered t k mem → k ≤ 255
 unfolding Entered

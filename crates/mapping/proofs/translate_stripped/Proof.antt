@@ -1,6 +1,6 @@
-use mathlib.Core.Path.{refl}
+use Rattle.parts.proofs.StripLaws.{strip-never, strip-part, strip-inside}
 use Rattle.path.proofs.CallWays.{answering}
-use Rattle.mapping.proofs.HandWays.{translate-plain, strip-never, stripped-part, stripped-inside, translate-back}
+use Rattle.mapping.proofs.HandWays.{translate-plain, translate-back}
 use borrow.Author.Needs.{needs}
 use Rattle.mapping.proofs.translate_stripped.Statement.{statement}
 use Rattle.mapping.proofs.translate_stripped.Tie as tie
@@ -30,13 +30,13 @@ enum-told : tie.Need-enum-told
 enum-told c = search needs
 
 returns-2 : tie.Need-returns-2
-returns-2 c = absurd (strip-never _ _ _ (c .before .before .before .before .before .before .before .before .before .before .before .pre .0) refl (c .before .before .before .strip-into .ensures .0) (c .enum-told .given .1))
+returns-2 c = absurd (strip-never _ _ _ (c .before .before .before .before .before .before .before .before .before .before .before .pre .0) (c .before .before .before .strip-into .ensures .0) (c .enum-told .given .1))
 
 array-share-prefix-plain : tie.Need-array-share-prefix-plain
-array-share-prefix-plain c = stripped-inside _ _ _ (c .before .before .before .before .before .before .before .before .before .before .before .before .pre .0) refl (c .before .before .before .before .strip-into .ensures .0) _ (c .before .fit .given .1) _ (c .before .before .before .before .strip-into .ensures .1)
+array-share-prefix-plain c = strip-inside _ _ _ (c .before .before .before .before .before .before .before .before .before .before .before .before .pre .0) (c .before .before .before .before .strip-into .ensures .0) _ (c .before .fit .given .1) _ (c .before .before .before .before .strip-into .ensures .1)
 
 slice-aggregate-translate-out : tie.Need-slice-aggregate-translate-out
-slice-aggregate-translate-out c = stripped-part _ _ _ (c .before .before .before .before .before .before .before .before .before .before .before .before .before .pre .0) refl (c .before .before .before .before .before .strip-into .ensures .0) _ (c .before .before .fit .given .1) _ (c .before .before .before .before .before .strip-into .ensures .1)
+slice-aggregate-translate-out c = strip-part _ _ _ (c .before .before .before .before .before .before .before .before .before .before .before .before .before .pre .0) (c .before .before .before .before .before .strip-into .ensures .0) _ (c .before .before .fit .given .1) _ (c .before .before .before .before .before .strip-into .ensures .1)
 
 translate-out-requires-2 : tie.Need-translate-out-requires-2
 translate-out-requires-2 c κs = search needs
@@ -47,7 +47,7 @@ same-length-2 c = search needs
 returns-3 : tie.Need-returns-3
 returns-3 c =
     answering _ _
-    (translate-back _ _ _ (c .before .before .before .before .before .before .before .before .before .before .before .before .before .before .before .before .before .pre .0) refl (c .before .before .before .before .before .before .before .before .before .strip-into .ensures .0) _ (c .before .before .before .before .before .before .fit .given .1) _ (c .before .before .before .before .before .before .before .before .before .strip-into .ensures .1) _) _ _ _
+    (translate-back _ _ _ (c .before .before .before .before .before .before .before .before .before .before .before .before .before .before .before .before .before .pre .0) (c .before .before .before .before .before .before .before .before .before .strip-into .ensures .0) _ (c .before .before .before .before .before .before .fit .given .1) _ (c .before .before .before .before .before .before .before .before .before .strip-into .ensures .1) _) _ _ _
     (c .before .before .translate-out2 .ensures)
 
 pub translate-stripped-spec : {M : Type 1} → statement M

@@ -1,7 +1,9 @@
 use mathlib.Core.Path.{_∙_}
+use native.Mathlib.Omega.{arith}
+use Rattle.parts.proofs.StripLaws.{strip-never}
 use Rattle.path.proofs.Opened.{strip-opened}
 use Rattle.path.proofs.CallWays.{answered-refused, answered-short, answered-passed, refusing, answering}
-use Rattle.path.proofs.PartWays.{passed-short, passed-legal, strip-written, strip-room}
+use Rattle.path.proofs.PartWays.{passed-short, passed-legal, strip-written}
 use borrow.Author.Needs.{needs}
 use Rattle.path.proofs.strip_variant_selections.Statement.{statement}
 use Rattle.path.proofs.strip_variant_selections.Tie as tie
@@ -51,7 +53,7 @@ same-length-2 c = search needs
 returns-4 : tie.Need-returns-4
 returns-4 c =
     absurd
-    (strip-room _ _ _ (passed-short _ _ (c .before .before .before .before .before .before .before .before .before .ask .ensures) (c .before .before .before .before .before .before .before .enum-told .given .1)) (c .before .before .before .before .before .before .if1 .left) (c .before .before .before .before .strip-into .ensures .0) (c .enum-told2 .given .1))
+    (strip-never _ _ _ (omega (arith, passed-short _ _ (c .before .before .before .before .before .before .before .before .before .ask .ensures) (c .before .before .before .before .before .before .before .enum-told .given .1), c .before .before .before .before .before .before .if1 .left)) (c .before .before .before .before .strip-into .ensures .0) (c .enum-told2 .given .1))
 
 pub strip-variant-selections-spec : {M : Type 1} → statement M
 strip-variant-selections-spec =

@@ -1,4 +1,5 @@
-use Rattle.rebasing.proofs.DeepenWays.{node-over, node-done}
+use Rattle.parts.proofs.StripLaws.{strip-never}
+use Rattle.rebasing.proofs.DeepenWays.{node-done}
 use borrow.Author.Needs.{needs}
 use Rattle.rebasing.proofs.strip_node.Statement.{statement}
 use Rattle.rebasing.proofs.strip_node.Tie as tie
@@ -16,13 +17,13 @@ same-length : tie.Need-same-length
 same-length c = search needs
 
 returns : tie.Need-returns
-returns c = node-done (c .before .before .before .before .before .before .before .before .before .args .path .now) (c .before .before .before .before .before .before .before .before .before .args .out .now) (c .before .before .before .before .before .before .before .before .before .pre) _ (c .before .before .before .before .before .strip-into .ensures .0) _ (c .before .fit .given .1) _ (c .before .before .before .before .before .strip-into .ensures .1)
+returns c = node-done (c .before .before .before .before .before .before .before .before .before .args .path .now) (c .before .before .before .before .before .before .before .before .before .args .out .now) _ (c .before .before .before .before .before .before .before .before .before .pre) (c .before .before .before .before .before .strip-into .ensures .0) _ (c .before .fit .given .1) _ (c .before .before .before .before .before .strip-into .ensures .1)
 
 same-length-2 : tie.Need-same-length-2
 same-length-2 c = search needs
 
 returns-2 : tie.Need-returns-2
-returns-2 c = absurd (node-over (c .before .before .before .before .before .before .before .before .args .path .now) (c .before .before .before .before .before .before .before .before .args .out .now) (c .before .before .before .before .before .before .before .before .pre) _ (c .before .before .before .before .strip-into .ensures .0) (c .enum-told .given .1))
+returns-2 c = absurd (strip-never (c .before .before .before .before .before .before .before .before .args .path .now) (c .before .before .before .before .before .before .before .before .args .out .now) _ (c .before .before .before .before .before .before .before .before .pre) (c .before .before .before .before .strip-into .ensures .0) (c .enum-told .given .1))
 
 pub strip-node-spec : {M : Type 1} → statement M
 strip-node-spec =

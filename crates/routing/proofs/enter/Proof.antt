@@ -1,5 +1,6 @@
 use Rattle.routing.proofs.CallWays.{enter-kept, enter-stripped}
-use Rattle.mapping.proofs.HandWays.{strip-never}
+use Rattle.parts.proofs.StripLaws.{strip-never}
+use native.Mathlib.Omega.{arith}
 use mathlib.Core.Path.{refl}
 use borrow.Author.Needs.{needs}
 use Rattle.routing.proofs.enter.Statement.{statement}
@@ -35,7 +36,7 @@ same-length-2 : tie.Need-same-length-2
 same-length-2 c = search needs
 
 returns-2 : tie.Need-returns-2
-returns-2 c = absurd (strip-never _ _ _ (c .before .before .before .before .before .before .before .before .before .before .pre .0) (c .before .before .before .before .before .before .before .before .before .before .pre .1) (c .before .before .before .before .strip-into .ensures .0) (c .enum-told .given .1))
+returns-2 c = absurd (strip-never _ _ _ (omega (arith, c .before .before .before .before .before .before .before .before .before .before .pre .0, c .before .before .before .before .before .before .before .before .before .before .pre .1)) (c .before .before .before .before .strip-into .ensures .0) (c .enum-told .given .1))
 
 same-length-3 : tie.Need-same-length-3
 same-length-3 c = search needs

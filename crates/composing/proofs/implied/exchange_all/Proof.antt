@@ -3,7 +3,7 @@ use mathlib.Core.Path.{_≡_, refl}
 use Prim.Native.Nat.{_≤_, _-_}
 use native.Mathlib.Omega.{arith}
 use lib.ListN.{length}
-use Rattle.composing.specs.Implied.{Exchanged}
+use Rattle.composing.specs.Settle.{Exchanged}
 use Rattle.composing.proofs.ImpliedWays.{exchange-begin, exchange-on, exchange-end}
 use Rattle.composing.proofs.implied.exchange_all.Statement.{statement}
 use Rattle.composing.proofs.implied.exchange_all.Tie as tie

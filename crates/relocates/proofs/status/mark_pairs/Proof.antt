@@ -4,7 +4,7 @@ use Prim.Native.Nat.{_≤_, _-_}
 use lib.ListN.{length}
 use Rattle.text.specs.Text.{written}
 use Rattle.pairs.specs.Places.{pairsIn}
-use Rattle.relocates.specs.Status.{marks}
+use Rattle.relocates.specs.Marks.{marks}
 use borrow.Author.Needs.{needs}
 use Rattle.relocates.proofs.status.mark_pairs.Statement.{statement}
 use Rattle.relocates.proofs.status.mark_pairs.Tie as tie

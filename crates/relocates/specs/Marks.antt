@@ -1,0 +1,18 @@
+-- What the code keeps on its way to the status bytes.
+use mathlib.Core.Path.{_≡_}
+use Prim.Native.Nat.{ℕ, _<_}
+use mathlib.Core.List.{List}
+use lib.ListN.{length, getD}
+use Rattle.pairs.specs.Pair.{Pair}
+use Rattle.relocates.specs.declared.RelocateOccurrence.the-variants.{Active}
+use Rattle.relocates.specs.Status.{statusByte, occurrenceOr, bytesOf}
+
+-- the status bytes of the first n pairs before conflicts are sought
+unfoldable pub marks : List Pair → ℕ → List ℕ
+unfolding occurrenceOr
+marks l n = bytesOf (occurrenceOr Active l) n
+
+-- memory holds those of all pairs
+unfoldable pub marked : List Pair → List ℕ → Type 0
+unfolding occurrenceOr
+marked l mark = (i : ℕ) → i < length l → getD mark i 0 ≡ statusByte (occurrenceOr Active l i)
