@@ -9,6 +9,8 @@ mod lent;
 #[cfg(feature = "maps")]
 mod makes;
 #[cfg(feature = "maps")]
+mod many;
+#[cfg(feature = "maps")]
 mod maps;
 mod phase;
 mod record;
