@@ -228,11 +228,14 @@ module _ (o o′ : ℕ → Outcome) (same : (i : ℕ) → o i ≡ o′ i) where
   numbers-same i zero replies = refl
   numbers-same i (suc n) replies = rw (same i) (ap (λ (x : List ℕ). replyCode (reply (o′ i)) ∷ x) (numbers-same (suc i) n (drop 1 replies)))
 
-  pub all-done : (n : ℕ) (b e : Bool) → b ≡ e → (out₀ out : Text) (replies₀ replies : List ℕ) → not b ≡ false → (out ≡ blocks o′ 0 n out₀) × (replies ≡ numbers o′ 0 n replies₀)
-      → (Passed ≡ allAsked e) × ((out ≡ allBytes e o n out₀) × (replies ≡ allReplies e o n replies₀))
-  unfolding allAsked allBytes allReplies
-  all-done n b e h out₀ out replies₀ replies k w =
-      rw (told-true h k) (refl, (w .0 ∙ sym (blocks-same 0 n out₀), w .1 ∙ sym (numbers-same 0 n replies₀)))
+  pub all-same : (n : ℕ) (out₀ out : Text) (replies₀ replies : List ℕ) → (out ≡ blocks o′ 0 n out₀) × (replies ≡ numbers o′ 0 n replies₀)
+      → (out ≡ blocks o 0 n out₀) × (replies ≡ numbers o 0 n replies₀)
+  all-same n out₀ out replies₀ replies w = (w .0 ∙ sym (blocks-same 0 n out₀), w .1 ∙ sym (numbers-same 0 n replies₀))
+
+pub all-done : (o : ℕ → Outcome) (n : ℕ) (b e : Bool) → b ≡ e → (out₀ out : Text) (replies₀ replies : List ℕ) → not b ≡ false
+    → (out ≡ blocks o 0 n out₀) × (replies ≡ numbers o 0 n replies₀) → (Passed ≡ allAsked e) × ((out ≡ allBytes e o n out₀) × (replies ≡ allReplies e o n replies₀))
+unfolding allAsked allBytes allReplies
+all-done o n b e h out₀ out replies₀ replies k w = rw (told-true h k) (refl, (w .0, w .1))
 
 pub all-refused : (o : ℕ → Outcome) (n : ℕ) (b e : Bool) → b ≡ e → (out : Text) (replies : List ℕ) → not b ≡ true
     → (Refused NoRoom ≡ allAsked e) × ((out ≡ allBytes e o n out) × (replies ≡ allReplies e o n replies))

@@ -220,14 +220,14 @@ fn route_each(
     ensures { λ _. ⌜ now (out .exit) ≡ blocks (routedAt home (lentRoute (now (store .entry)) (now (places .entry)) (now (legs .entry)) count) (now (texts .entry)) (now (spots .entry))) 0 n (now (out .entry)) ⌝ }
     ensures { λ _. ⌜ now (replies .exit) ≡ numbers (routedAt home (lentRoute (now (store .entry)) (now (places .entry)) (now (legs .entry)) count) (now (texts .entry)) (now (spots .entry))) 0 n (now (replies .entry)) ⌝ }
 {
-    if routing::needs_maps(list, legs, count) {
-        route_laid(
-            list, store, places, legs, count, home, texts, spots, n, out, replies,
-        );
+    if !routing::needs_maps(list, legs, count) {
+        let by = Carrier::Route(count, home);
+        carry_each(list, by, store, places, legs, texts, spots, n, out, replies);
         return;
     }
-    let by = Carrier::Route(count, home);
-    carry_each(list, by, store, places, legs, texts, spots, n, out, replies);
+    route_laid(
+        list, store, places, legs, count, home, texts, spots, n, out, replies,
+    );
 }
 
 // Carries the n paths at the spots out over a route, or home. Each has the reply and the 255 bytes of

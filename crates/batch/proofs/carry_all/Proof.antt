@@ -1,3 +1,4 @@
+use Rattle.batch.proofs.BatchLaws.{all-same}
 use Rattle.batch.proofs.BatchLaws.{all-refused, all-done, map-turn}
 use Rattle.text.proofs.BoolLaws.{told-true}
 use borrow.Author.Needs.{needs}
@@ -31,7 +32,7 @@ same-length-2 : tie.Need-same-length-2
 same-length-2 c = search needs
 
 returns-2 : tie.Need-returns-2
-returns-2 c = all-done _ _ (map-turn _ _ _ _ _ _ _ _ (c .before .before .before .before .before .before .before .ask-path .ensures)) _ _ _ (c .before .before .before .before .before .before .before .before .before .before .has-room .ensures) _ _ _ _ (c .before .before .before .before .before .before .before .before .before .if1 .left) (c .before .before .before .before .carry-each .ensures)
+returns-2 c = all-done _ _ _ _ (c .before .before .before .before .before .before .before .before .before .before .has-room .ensures) _ _ _ _ (c .before .before .before .before .before .before .before .before .before .if1 .left) (all-same _ _ (map-turn _ _ _ _ _ _ _ _ (c .before .before .before .before .before .before .before .ask-path .ensures)) _ _ _ _ _ (c .before .before .before .before .carry-each .ensures))
 
 pub carry-all-spec : {M : Type 1} → statement M
 carry-all-spec =

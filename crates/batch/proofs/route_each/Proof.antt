@@ -1,0 +1,50 @@
+use Rattle.batch.proofs.BatchLaws.{all-same, route-turn}
+use borrow.Author.Needs.{needs}
+use Rattle.batch.proofs.route_each.Statement.{statement}
+use Rattle.batch.proofs.route_each.Tie as tie
+use Rattle.batch.proofs.route_each.Reads as reads
+use Rattle.batch.proofs.route_each.Lts as lts
+use Rattle.batch.proofs.carry_each.Reads as carry-each-reads
+use Rattle.batch.proofs.route_laid.Reads as route-laid-reads
+use Rattle.routing.proofs.needs_maps.Reads as needs-maps-reads
+
+needs-maps-requires : tie.Need-needs-maps-requires
+needs-maps-requires c κs = search needs
+
+carry-each-requires : tie.Need-carry-each-requires
+carry-each-requires c κs = search needs
+
+same-length : tie.Need-same-length
+same-length c = search needs
+
+same-length-2 : tie.Need-same-length-2
+same-length-2 c = search needs
+
+returns : tie.Need-returns
+returns c = all-same _ _ (route-turn _ _ _ _ _ (c .before .before .before .before .before .before .before .before .before .before .before .before .before .before .before .before .pre .1) _ (c .before .before .before .before .before .before .before .before .needs-maps .ensures) (c .before .before .before .before .before .before .before .if1 .taken)) _ _ _ _ _ (c .before .before .before .before .carry-each .ensures)
+
+route-laid-requires : tie.Need-route-laid-requires
+route-laid-requires c κs = search needs
+
+same-length-3 : tie.Need-same-length-3
+same-length-3 c = search needs
+
+same-length-4 : tie.Need-same-length-4
+same-length-4 c = search needs
+
+returns-2 : tie.Need-returns-2
+returns-2 c = search needs
+
+pub route-each-spec : {M : Type 1} → statement M
+route-each-spec =
+    tie.close
+    (tie.spec
+    needs-maps-requires
+    carry-each-requires
+    same-length
+    same-length-2
+    returns
+    route-laid-requires
+    same-length-3
+    same-length-4
+    returns-2)
