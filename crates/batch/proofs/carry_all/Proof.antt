@@ -4,11 +4,6 @@ use Rattle.text.proofs.BoolLaws.{told-true}
 use borrow.Author.Needs.{needs}
 use Rattle.batch.proofs.carry_all.Statement.{statement}
 use Rattle.batch.proofs.carry_all.Tie as tie
-use Rattle.batch.proofs.carry_all.Reads as reads
-use Rattle.batch.proofs.carry_all.Lts as lts
-use Rattle.asking.proofs.ask_path.Reads as ask-path-reads
-use Rattle.batch.proofs.carry_each.Reads as carry-each-reads
-use Rattle.batch.proofs.has_room.Reads as has-room-reads
 
 has-room-requires : tie.Need-has-room-requires
 has-room-requires c κs = search needs

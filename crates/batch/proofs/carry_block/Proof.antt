@@ -5,10 +5,6 @@ use mathlib.Core.Path.{ap}
 use borrow.Author.Needs.{needs}
 use Rattle.batch.proofs.carry_block.Statement.{statement}
 use Rattle.batch.proofs.carry_block.Tie as tie
-use Rattle.batch.proofs.carry_block.Reads as reads
-use Rattle.batch.proofs.carry_block.Lts as lts
-use Rattle.batch.proofs.carry_spot.Reads as carry-spot-reads
-use Rattle.codes.proofs.reply_code.Reads as reply-code-reads
 
 mul-at : tie.Need-mul-at
 mul-at c = search needs

@@ -8,9 +8,6 @@ use Prim.Native.Nat.{_≤_, _-_}
 use mathlib.Core.Path.{_≡_, refl}
 use Rattle.batch.proofs.carry_each.Statement.{statement}
 use Rattle.batch.proofs.carry_each.Tie as tie
-use Rattle.batch.proofs.carry_each.Reads as reads
-use Rattle.batch.proofs.carry_each.Lts as lts
-use Rattle.batch.proofs.carry_block.Reads as carry-block-reads
 
 abbrev Inv-loop : tie.InvT-loop
 Inv-loop list by store places legs texts spots n out₀ replies₀ i₀ out replies i = (i ≤ n) × (out ≡ blocks (spotBy list by store places legs texts spots 255) 0 i out₀) × (replies ≡ numbers (spotBy list by store places legs texts spots 255) 0 i replies₀) × (length out ≡ length out₀) × (length replies ≡ length replies₀)

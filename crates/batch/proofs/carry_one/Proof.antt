@@ -3,10 +3,6 @@ use Rattle.path.proofs.CallWays.{answering}
 use borrow.Author.Needs.{needs}
 use Rattle.batch.proofs.carry_one.Statement.{statement}
 use Rattle.batch.proofs.carry_one.Tie as tie
-use Rattle.batch.proofs.carry_one.Reads as reads
-use Rattle.batch.proofs.carry_one.Lts as lts
-use Rattle.mapping.proofs.carry_after.Reads as carry-after-reads
-use Rattle.routing.proofs.route_after.Reads as route-after-reads
 
 enum-known-by : tie.Need-enum-known-by
 enum-known-by c = search needs

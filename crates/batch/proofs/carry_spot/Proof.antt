@@ -3,11 +3,6 @@ use Rattle.path.proofs.CallWays.{refusing, answering}
 use borrow.Author.Needs.{needs}
 use Rattle.batch.proofs.carry_spot.Statement.{statement}
 use Rattle.batch.proofs.carry_spot.Tie as tie
-use Rattle.batch.proofs.carry_spot.Reads as reads
-use Rattle.batch.proofs.carry_spot.Lts as lts
-use Rattle.batch.proofs.carry_one.Reads as carry-one-reads
-use Rattle.batch.proofs.is_inside.Reads as is-inside-reads
-use Rattle.pairs.proofs.text_at.Reads as text-at-reads
 
 is-inside-requires : tie.Need-is-inside-requires
 is-inside-requires c κs = search needs

@@ -3,11 +3,6 @@ use Rattle.text.proofs.BoolLaws.{told-true}
 use borrow.Author.Needs.{needs}
 use Rattle.batch.proofs.route_all.Statement.{statement}
 use Rattle.batch.proofs.route_all.Tie as tie
-use Rattle.batch.proofs.route_all.Reads as reads
-use Rattle.batch.proofs.route_all.Lts as lts
-use Rattle.batch.proofs.has_room.Reads as has-room-reads
-use Rattle.batch.proofs.route_each.Reads as route-each-reads
-use Rattle.legs.proofs.ask_legs.Reads as ask-legs-reads
 
 has-room-requires : tie.Need-has-room-requires
 has-room-requires c κs = search needs

@@ -2,11 +2,6 @@ use Rattle.batch.proofs.BatchLaws.{all-same, route-turn}
 use borrow.Author.Needs.{needs}
 use Rattle.batch.proofs.route_each.Statement.{statement}
 use Rattle.batch.proofs.route_each.Tie as tie
-use Rattle.batch.proofs.route_each.Reads as reads
-use Rattle.batch.proofs.route_each.Lts as lts
-use Rattle.batch.proofs.carry_each.Reads as carry-each-reads
-use Rattle.batch.proofs.route_laid.Reads as route-laid-reads
-use Rattle.routing.proofs.needs_maps.Reads as needs-maps-reads
 
 needs-maps-requires : tie.Need-needs-maps-requires
 needs-maps-requires c κs = search needs

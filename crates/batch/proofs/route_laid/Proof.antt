@@ -2,10 +2,6 @@ use Rattle.batch.proofs.BatchLaws.{all-same, laid-turn}
 use borrow.Author.Needs.{needs}
 use Rattle.batch.proofs.route_laid.Statement.{statement}
 use Rattle.batch.proofs.route_laid.Tie as tie
-use Rattle.batch.proofs.route_laid.Reads as reads
-use Rattle.batch.proofs.route_laid.Lts as lts
-use Rattle.batch.proofs.carry_each.Reads as carry-each-reads
-use Rattle.legs.proofs.lay_legs.Reads as lay-legs-reads
 
 slice-aggregate-lay-legs : tie.Need-slice-aggregate-lay-legs
 slice-aggregate-lay-legs c = search needs

@@ -2,9 +2,6 @@ use Rattle.legs.proofs.AskWays.{leg-asked}
 use borrow.Author.Needs.{needs}
 use Rattle.legs.proofs.ask_leg.Statement.{statement}
 use Rattle.legs.proofs.ask_leg.Tie as tie
-use Rattle.asking.proofs.ask_pairs.Reads as ask-pairs-reads
-use Rattle.legs.proofs.leg_places.Reads as leg-places-reads
-use Rattle.legs.proofs.size_at.Reads as size-at-reads
 
 leg-places-requires : tie.Need-leg-places-requires
 leg-places-requires c κs = search needs

@@ -2,10 +2,6 @@ use Rattle.legs.proofs.AskWays.{route-asked}
 use borrow.Author.Needs.{needs}
 use Rattle.legs.proofs.ask_legs.Statement.{statement}
 use Rattle.legs.proofs.ask_legs.Tie as tie
-use Rattle.asking.proofs.earlier.Reads as earlier-reads
-use Rattle.legs.proofs.ask_count.Reads as ask-count-reads
-use Rattle.legs.proofs.ask_lists.Reads as ask-lists-reads
-use Rattle.legs.proofs.present_legs.Reads as present-legs-reads
 
 present-legs-requires : tie.Need-present-legs-requires
 present-legs-requires c κs = search needs

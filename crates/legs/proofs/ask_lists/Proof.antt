@@ -7,8 +7,6 @@ use Rattle.legs.specs.Lent.{lentRoute, listsIn}
 use Rattle.legs.proofs.AskWays.{lists-none, lists-on, lists-end}
 use Rattle.legs.proofs.ask_lists.Statement.{statement}
 use Rattle.legs.proofs.ask_lists.Tie as tie
-use Rattle.asking.proofs.earlier.Reads as earlier-reads
-use Rattle.legs.proofs.ask_leg.Reads as ask-leg-reads
 
 abbrev Inv-loop : tie.InvT-loop
 Inv-loop store places legs n q₀ k₀ q k = (k ≤ n) × (q ≡ asked (listsIn (lentRoute store places legs n) k) [] [])

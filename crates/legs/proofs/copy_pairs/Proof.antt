@@ -7,7 +7,6 @@ use Rattle.legs.specs.Laying.{SamePairs}
 use Rattle.legs.proofs.LayWays.{same-none, same-on, same-end}
 use Rattle.legs.proofs.copy_pairs.Statement.{statement}
 use Rattle.legs.proofs.copy_pairs.Tie as tie
-use Rattle.pairs.proofs.copy_pair.Reads as copy-pair-reads
 
 abbrev Inv-loop : tie.InvT-loop
 Inv-loop places n block₀ i₀ block i = (i ≤ n) × SamePairs block places i × (length block ≡ length block₀)

@@ -6,7 +6,6 @@ use Rattle.legs.specs.Laid.{hasRelocates}
 use Rattle.legs.proofs.LaidLaws.{relocates-none, relocates-found, relocates-on, relocates-end}
 use Rattle.legs.proofs.has_relocates.Statement.{statement}
 use Rattle.legs.proofs.has_relocates.Tie as tie
-use Rattle.legs.proofs.kind_at.Reads as kind-at-reads
 
 abbrev Inv-loop : tie.InvT-loop
 Inv-loop legs n k₀ k = (k ≤ n) × (hasRelocates legs k ≡ false)

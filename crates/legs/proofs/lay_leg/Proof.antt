@@ -4,11 +4,6 @@ use Rattle.legs.proofs.LayWays.{block-room, laid-on}
 use borrow.Author.Needs.{needs}
 use Rattle.legs.proofs.lay_leg.Statement.{statement}
 use Rattle.legs.proofs.lay_leg.Tie as tie
-use Rattle.legs.proofs.kind_at.Reads as kind-at-reads
-use Rattle.legs.proofs.lay_pairs.Reads as lay-pairs-reads
-use Rattle.legs.proofs.leg_places.Reads as leg-places-reads
-use Rattle.legs.proofs.map_kind.Reads as map-kind-reads
-use Rattle.legs.proofs.size_at.Reads as size-at-reads
 
 kind-at-requires : tie.Need-kind-at-requires
 kind-at-requires c κs = search needs

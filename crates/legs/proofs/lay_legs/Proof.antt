@@ -8,9 +8,6 @@ use native.Mathlib.Omega.{arith}
 use mathlib.Core.Path.{_≡_}
 use Rattle.legs.proofs.lay_legs.Statement.{statement}
 use Rattle.legs.proofs.lay_legs.Tie as tie
-use Rattle.legs.proofs.lay_legs.Reads as reads
-use Rattle.legs.proofs.lay_legs.Lts as lts
-use Rattle.legs.proofs.lay_leg.Reads as lay-leg-reads
 
 abbrev Inv-loop : tie.InvT-loop
 Inv-loop store places legs n made₀ table₀ k₀ made table k = (k ≤ n) × (length made ≡ 4096) × (length table ≡ 48) × LaidTo (lentRoute store places legs 0) (lentRoute store made table 0) k

@@ -4,9 +4,6 @@ use Rattle.legs.proofs.LayWays.{leg-relocates, leg-copied}
 use borrow.Author.Needs.{needs}
 use Rattle.legs.proofs.lay_pairs.Statement.{statement}
 use Rattle.legs.proofs.lay_pairs.Tie as tie
-use Rattle.asking.proofs.can_make.Reads as can-make-reads
-use Rattle.legs.proofs.copy_pairs.Reads as copy-pairs-reads
-use Rattle.legs.proofs.lay_relocates.Reads as lay-relocates-reads
 
 lay-relocates-requires : tie.Need-lay-relocates-requires
 lay-relocates-requires c κs = search needs

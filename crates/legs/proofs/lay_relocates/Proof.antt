@@ -2,8 +2,6 @@ use Rattle.legs.proofs.LayWays.{relocates-laid}
 use borrow.Author.Needs.{needs}
 use Rattle.legs.proofs.lay_relocates.Statement.{statement}
 use Rattle.legs.proofs.lay_relocates.Tie as tie
-use Rattle.map_function.proofs.canonical_places.Reads as canonical-places-reads
-use Rattle.relocates.proofs.status.active_pairs.Reads as active-pairs-reads
 
 slice-aggregate-active-pairs : tie.Need-slice-aggregate-active-pairs
 slice-aggregate-active-pairs c = search needs

@@ -2,7 +2,6 @@ use Rattle.legs.proofs.AskWays.{places-gone, places-from}
 use borrow.Author.Needs.{needs}
 use Rattle.legs.proofs.leg_places.Statement.{statement}
 use Rattle.legs.proofs.leg_places.Tie as tie
-use Rattle.legs.proofs.number_at.Reads as number-at-reads
 
 number-at-requires : tie.Need-number-at-requires
 number-at-requires c κs = search needs

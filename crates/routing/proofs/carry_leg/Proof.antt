@@ -3,13 +3,6 @@ use Rattle.path.proofs.CallWays.{answering}
 use borrow.Author.Needs.{needs}
 use Rattle.routing.proofs.carry_leg.Statement.{statement}
 use Rattle.routing.proofs.carry_leg.Tie as tie
-use Rattle.routing.proofs.carry_leg.Reads as reads
-use Rattle.routing.proofs.carry_leg.Lts as lts
-use Rattle.carry.proofs.map_text.Reads as map-text-reads
-use Rattle.carry.proofs.translate_text.Reads as translate-text-reads
-use Rattle.legs.proofs.kind_at.Reads as kind-at-reads
-use Rattle.legs.proofs.leg_places.Reads as leg-places-reads
-use Rattle.legs.proofs.size_at.Reads as size-at-reads
 
 leg-places-requires : tie.Need-leg-places-requires
 leg-places-requires c κs = search needs

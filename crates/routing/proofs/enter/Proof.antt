@@ -5,11 +5,6 @@ use mathlib.Core.Path.{refl}
 use borrow.Author.Needs.{needs}
 use Rattle.routing.proofs.enter.Statement.{statement}
 use Rattle.routing.proofs.enter.Tie as tie
-use Rattle.routing.proofs.enter.Reads as reads
-use Rattle.routing.proofs.enter.Lts as lts
-use Rattle.parts.proofs.strip_into.Reads as strip-into-reads
-use Rattle.routing.proofs.keeps_selections.Reads as keeps-selections-reads
-use Rattle.text.proofs.write_at.Reads as write-at-reads
 
 keeps-selections-requires : tie.Need-keeps-selections-requires
 keeps-selections-requires c κs = search needs

@@ -3,10 +3,6 @@ use Rattle.routing.proofs.OverWays.{over-refused, over-inside, over-wri
 use borrow.Author.Needs.{needs}
 use Rattle.routing.proofs.go_over.Statement.{statement}
 use Rattle.routing.proofs.go_over.Tie as tie
-use Rattle.routing.proofs.go_over.Reads as reads
-use Rattle.routing.proofs.go_over.Lts as lts
-use Rattle.routing.proofs.carry_leg.Reads as carry-leg-reads
-use Rattle.text.proofs.write_at.Reads as write-at-reads
 
 slice-reshare-prefix-carry-leg : tie.Need-slice-reshare-prefix-carry-leg
 slice-reshare-prefix-carry-leg c = search needs

@@ -2,9 +2,6 @@ use Rattle.routing.proofs.CallWays.{keeping}
 use borrow.Author.Needs.{needs}
 use Rattle.routing.proofs.keeps_selections.Statement.{statement}
 use Rattle.routing.proofs.keeps_selections.Tie as tie
-use Rattle.routing.proofs.keeps_selections.Reads as reads
-use Rattle.routing.proofs.keeps_selections.Lts as lts
-use Rattle.text.proofs.lacks_byte.Reads as lacks-byte-reads
 
 returns : tie.Need-returns
 returns c = search (needs, keeping)

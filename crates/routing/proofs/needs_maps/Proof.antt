@@ -2,9 +2,6 @@ use Rattle.routing.proofs.CallWays.{needing}
 use borrow.Author.Needs.{needs}
 use Rattle.routing.proofs.needs_maps.Statement.{statement}
 use Rattle.routing.proofs.needs_maps.Tie as tie
-use Rattle.routing.proofs.needs_maps.Reads as reads
-use Rattle.routing.proofs.needs_maps.Lts as lts
-use Rattle.legs.proofs.has_relocates.Reads as has-relocates-reads
 
 enum-known-list : tie.Need-enum-known-list
 enum-known-list c = search needs

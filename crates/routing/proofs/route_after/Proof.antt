@@ -4,11 +4,6 @@ use Rattle.path.proofs.CallWays.{refusing, answering}
 use borrow.Author.Needs.{needs}
 use Rattle.routing.proofs.route_after.Statement.{statement}
 use Rattle.routing.proofs.route_after.Tie as tie
-use Rattle.routing.proofs.route_after.Reads as reads
-use Rattle.routing.proofs.route_after.Lts as lts
-use Rattle.asking.proofs.earlier.Reads as earlier-reads
-use Rattle.path.proofs.new.Reads as new-reads
-use Rattle.routing.proofs.travel.Reads as travel-reads
 
 new-requires : tie.Need-new-requires
 new-requires c κs = search needs

@@ -4,12 +4,6 @@ use mathlib.Core.Path.{refl}
 use borrow.Author.Needs.{needs}
 use Rattle.routing.proofs.route_call.Statement.{statement}
 use Rattle.routing.proofs.route_call.Tie as tie
-use Rattle.routing.proofs.route_call.Reads as reads
-use Rattle.routing.proofs.route_call.Lts as lts
-use Rattle.legs.proofs.ask_legs.Reads as ask-legs-reads
-use Rattle.legs.proofs.lay_legs.Reads as lay-legs-reads
-use Rattle.routing.proofs.needs_maps.Reads as needs-maps-reads
-use Rattle.routing.proofs.route_after.Reads as route-after-reads
 
 ask-legs-requires : tie.Need-ask-legs-requires
 ask-legs-requires c κs = search needs

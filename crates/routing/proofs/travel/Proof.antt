@@ -3,11 +3,6 @@ use Rattle.routing.proofs.OverWays.{holds-inside, part-size}
 use borrow.Author.Needs.{needs}
 use Rattle.routing.proofs.travel.Statement.{statement}
 use Rattle.routing.proofs.travel.Tie as tie
-use Rattle.routing.proofs.travel.Reads as reads
-use Rattle.routing.proofs.travel.Lts as lts
-use Rattle.routing.proofs.enter.Reads as enter-reads
-use Rattle.routing.proofs.way.Reads as way-reads
-use Rattle.text.proofs.write_at.Reads as write-at-reads
 
 slice-aggregate-enter : tie.Need-slice-aggregate-enter
 slice-aggregate-enter c = search needs

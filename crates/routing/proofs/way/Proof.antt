@@ -2,10 +2,6 @@ use Rattle.routing.proofs.CallWays.{way-is}
 use borrow.Author.Needs.{needs}
 use Rattle.routing.proofs.way.Statement.{statement}
 use Rattle.routing.proofs.way.Tie as tie
-use Rattle.routing.proofs.way.Reads as reads
-use Rattle.routing.proofs.way.Lts as lts
-use Rattle.routing.proofs.way_home.Reads as way-home-reads
-use Rattle.routing.proofs.way_out.Reads as way-out-reads
 
 way-home-requires : tie.Need-way-home-requires
 way-home-requires c κs = search needs

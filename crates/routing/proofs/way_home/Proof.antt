@@ -10,9 +10,6 @@ use mathlib.Core.Path.{_≡_}
 use borrow.Author.Needs.{needs}
 use Rattle.routing.proofs.way_home.Statement.{statement}
 use Rattle.routing.proofs.way_home.Tie as tie
-use Rattle.routing.proofs.way_home.Reads as reads
-use Rattle.routing.proofs.way_home.Lts as lts
-use Rattle.routing.proofs.go_over.Reads as go-over-reads
 
 abbrev Inv-loop : tie.InvT-loop
 Inv-loop store places legs n here₀ len at₀ k₀ here at k = (k ≤ n) × (at ≤ 255) × (length here ≡ 255) × (along (quickLeg true) (reverse (mapsIn (lentRoute store places legs n) k)) (take at here) ≡ quickOver true (lentRoute store places legs n) n (take len here₀))

@@ -10,9 +10,6 @@ use mathlib.Core.Path.{_≡_}
 use borrow.Author.Needs.{needs}
 use Rattle.routing.proofs.way_out.Statement.{statement}
 use Rattle.routing.proofs.way_out.Tie as tie
-use Rattle.routing.proofs.way_out.Reads as reads
-use Rattle.routing.proofs.way_out.Lts as lts
-use Rattle.routing.proofs.go_over.Reads as go-over-reads
 
 abbrev Inv-loop : tie.InvT-loop
 Inv-loop store places legs n here₀ len at₀ k₀ here at k = (k ≤ n) × (at ≤ 255) × (length here ≡ 255) × (along (quickLeg false) (mapsIn (lentRoute store places legs n) k) (take len here₀) ≡ path (take at here))
