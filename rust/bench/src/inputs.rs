@@ -83,7 +83,7 @@ pub fn routed(legs: usize, pairs: usize, count: usize) -> Routed {
     let leg = |leg| (0..pairs).map(|pair| [key(leg, pair), key(leg + 1, pair)]).collect();
     let path = |_| {
         let (pair, rest) =
-            (random.below(pairs), random.pick(&["/Head/Lens.color", "/Mast/Lamp_2", ".state"]));
+            (random.below(pairs), random.pick(&["/Head/Lens.color", "/Mast/Lamp_2", "/Head_1.state"]));
         format!("{}{rest}", key(0, pair))
     };
     Routed { legs: (0..legs).map(leg).collect(), paths: (0..count).map(path).collect() }
