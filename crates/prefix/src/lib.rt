@@ -7,7 +7,7 @@ ghost use Prim.Native.Nat.{_+_, _<_, _≤_};
 ghost use lib.ListN.{length, getD, drop};
 ghost use Rattle.text.specs.Text.{equal, fitted, placed};
 ghost use Rattle.prefix.specs.Elements.{begins, count, elements, names};
-ghost use Rattle.prefix.specs.Prefix.{boundary, hasPrefix};
+ghost use Rattle.prefix.specs.Prefix.{boundary, follows, hasPrefix};
 ghost use Rattle.prefix.specs.Join.{isChild, bare, separator, body, joined, spoils};
 
 // A number of elements: how maps measure a key.
@@ -32,18 +32,25 @@ fn is_boundary(prefix: &[u8], a: u8) -> bool
     text::last_is(prefix, b'}')
 }
 
-// Does the path begin with the prefix, at the end of an element?
-pub fn has_prefix(path: &[u8], prefix: &[u8]) -> bool
-    ensures { λ r. ⌜ r ≡ hasPrefix (now (path .entry)) (now (prefix .entry)) ⌝ }
+// May what stands in the path behind so many bytes stand behind the prefix?
+fn is_bounded(path: &[u8], prefix: &[u8]) -> bool
+    ensures { λ r. ⌜ r ≡ follows (now (prefix .entry)) (drop (length (now (prefix .entry))) (now (path .entry))) ⌝ }
 {
-    if !text::starts_with(path, prefix) {
-        return false;
-    }
     let n = prefix.len();
     if path.len() <= n {
         return true;
     }
     is_boundary(prefix, path[n])
+}
+
+// Does the path begin with the prefix, at the end of an element? The one byte behind it is asked first.
+pub fn has_prefix(path: &[u8], prefix: &[u8]) -> bool
+    ensures { λ r. ⌜ r ≡ hasPrefix (now (path .entry)) (now (prefix .entry)) ⌝ }
+{
+    if !is_bounded(path, prefix) {
+        return false;
+    }
+    text::starts_with(path, prefix)
 }
 
 // Does an element begin at place i? Selections count where the flag says so.
