@@ -5,6 +5,7 @@ use mathlib.Core.Bool.{Bool, true, not, cond, _&&_, _||_}
 use mathlib.Core.List.{List}
 use mathlib.Core.Option.{Option, none, some}
 use lib.Dec.{leb}
+use lib.ListN.{length, take}
 use Rattle.text.specs.Text.{Text, isNil}
 use Rattle.prefix.specs.Prefix.{hasPrefix}
 use Rattle.prefix.specs.Elements.{count, elements}
@@ -30,12 +31,20 @@ unfoldable pub best : Text → (ℕ → Text) → ℕ → Option ℕ
 unfolding bestBy serves
 best p key n = bestBy (serves p) key n
 
--- what a search keeps as it goes on: whether a key was chosen, its place and its number of elements
+-- what a search keeps as it goes on: whether a key was chosen, its place and its length
 abbrev pub chosenIn : Found → Option ℕ
 chosenIn f = cond (f .found) (some (f .at)) none
 
+-- the key k is at least as good as the one chosen before, the first n bytes of the path. Both are prefixes of one path, so that the longer
+-- has no fewer elements (proved in proofs/BestWays.antt).
+unfoldable pub outdoes : Text → ℕ → Text → Bool
+unfolding count
+outdoes p n k = leb n (length k) || leb (elements (take n p)) (elements k)
+
 -- the better of what was found so far and the key k at i
 unfoldable pub considered : Found → Text → Text → ℕ → Found
-unfolding serves count
-considered f p k i =
-    cond (serves p k && (not (f .found) || leb (f .elements) (elements k))) (record { found = true; at = i; elements = elements k }) f
+unfolding serves outdoes
+considered f p k i = cond (serves p k && (not (f .found) || outdoes p (f .bytes) k)) (record { found = true; at = i; bytes = length k }) f
+
+abbrev pub least : ℕ → ℕ → ℕ
+least a b = cond (leb a b) a b

@@ -8,8 +8,8 @@ ghost use Prim.Native.Nat.{_+_, _*_, _≤_};
 ghost use Rattle.text.specs.Text.{over, placed};
 ghost use Rattle.grammar.specs.Legal.{legal, isEnd};
 ghost use lib.Dec.{leb};
-ghost use Rattle.pairs.specs.Places.{pairsIn, copied, endBytes, listFit, listBytes, listSlots, fourOf, fitsAt, textAt, keyAt, placesFit, placesAll};
-ghost use Rattle.pairs.specs.Best.{serves, best, chosenIn, considered};
+ghost use Rattle.pairs.specs.Places.{cut, keysHeld, pairsIn, copied, endBytes, listFit, listBytes, listSlots, fourOf, fitsAt, textAt, keyAt, placesFit, placesAll};
+ghost use Rattle.pairs.specs.Best.{least, serves, best, chosenIn, considered};
 
 // The text at the place j; empty where the place is not there or reaches outside the store.
 pub fn text_at<'a>(store: &'a [u8], places: &[usize], j: usize) -> &'a [u8]
@@ -103,11 +103,11 @@ pub fn all_ends(store: &[u8], places: &[usize], n: usize) -> bool
     true
 }
 
-// What a search has found so far.
+// What a search has found so far: the pair, and the length of its key.
 pub struct Found {
     pub found: bool,
     pub at: usize,
-    pub elements: usize,
+    pub bytes: usize,
 }
 
 // May the key serve for the path?
@@ -120,38 +120,111 @@ pub fn does_serve(path: &[u8], key: &[u8]) -> bool
     prefix::has_prefix(path, key)
 }
 
-// The better of what was found and the key at i. Elements are counted only of a key that serves.
-fn consider(f: Found, path: &[u8], key: &[u8], i: usize) -> Found
+// The better of what was found and the key at i. Elements are counted only where a key that serves is
+// shorter than one that was found.
+fn choose(f: Found, path: &[u8], key: &[u8], i: usize) -> Found
+    requires { ⌜ f .bytes ≤ length (now path) ⌝ }
     ensures { λ r. ⌜ r ≡ considered f (now (path .entry)) (now (key .entry)) i ⌝ }
 {
     if !does_serve(path, key) {
         return f;
     }
-    let n = prefix::element_count(key).0;
+    let old = f.bytes;
+    let n = key.len();
     if f.found {
-        if n < f.elements {
-            return f;
+        if n < old {
+            if prefix::element_count(key).0 < prefix::element_count(&path[..old]).0 {
+                return f;
+            }
         }
     }
     Found {
         found: true,
         at: i,
-        elements: n,
+        bytes: n,
     }
+}
+
+// The same of the key of n bytes from `start` on, where that lies in the store. Most keys are refused by
+// their length or their last byte.
+fn consider(
+    f: Found,
+    store: &[u8],
+    start: usize,
+    n: usize,
+    limit: usize,
+    path: &[u8],
+    i: usize,
+) -> Found
+    requires { ⌜ limit ≤ length (now store) ⌝ }
+    requires { ⌜ limit ≤ length (now path) ⌝ }
+    requires { ⌜ limit ≡ least (length (now store)) (length (now path)) ⌝ }
+    requires { ⌜ f .bytes ≤ length (now path) ⌝ }
+    ensures { λ r. ⌜ r ≡ considered f (now (path .entry)) (cut (now (store .entry)) start n) i ⌝ }
+{
+    if n == 0 {
+        return f;
+    }
+    if limit < n {
+        return f;
+    }
+    if store.len() - n < start {
+        return f;
+    }
+    let end = start + n;
+    if store[end - 1] != path[n - 1] {
+        return f;
+    }
+    choose(f, path, &store[start..end], i)
+}
+
+// The lesser of two numbers.
+fn lesser(a: usize, b: usize) -> usize
+    ensures { λ r. ⌜ r ≡ least a b ⌝ }
+{
+    if a <= b {
+        return a;
+    }
+    b
+}
+
+// How many of the first n pairs have their key in the slice, which may end in a source alone.
+fn keys_held(places: &[usize], n: usize, invert: bool) -> usize
+    ensures { λ r. ⌜ r ≡ least n (keysHeld (now (places .entry)) invert) ⌝ }
+{
+    let half = places.len() / 2;
+    if invert {
+        return lesser(n, half / 2);
+    }
+    lesser(n, (half + 1) / 2)
+}
+
+// Where the numbers of a pair's key stand among its four.
+fn key_offset(invert: bool) -> usize
+    ensures { λ r. ⌜ r ≡ 2 * cond invert 1 0 ⌝ }
+{
+    if invert {
+        return 2;
+    }
+    0
 }
 
 // The pair whose key serves the path and has most elements, the later on a tie.
 pub fn best_prefix(store: &[u8], places: &[usize], n: usize, invert: bool, path: &[u8]) -> Found
     ensures { λ r. ⌜ chosenIn r ≡ best (now (path .entry)) (keyAt (now (store .entry)) (now (places .entry)) invert) n ⌝ }
 {
+    let held = keys_held(places, n, invert);
+    let offset = key_offset(invert);
+    let limit = lesser(store.len(), path.len());
     let mut f = Found {
         found: false,
         at: 0,
-        elements: 0,
+        bytes: 0,
     };
     let mut i = 0;
-    while i < n {
-        f = consider(f, path, key_at(store, places, i, invert), i);
+    while i < held {
+        let j = 4 * i + offset;
+        f = consider(f, store, places[j], places[j + 1], limit, path, i);
         i += 1;
     }
     f
