@@ -1,12 +1,8 @@
 use Rattle.grammar.specs.Legal.{legal}
 use Rattle.asking.proofs.AskWays.{first-fails, second-fails, list-legal, list-passes}
 use borrow.Author.Needs.{needs}
-use borrow.Author.Needs.{needs}
 use Rattle.asking.proofs.are_legal.Statement.{statement}
 use Rattle.asking.proofs.are_legal.Tie as tie
-use Rattle.asking.proofs.places_of.Reads as places-of-reads
-use Rattle.grammar.proofs.is_legal.Reads as is-legal-reads
-use Rattle.pairs.proofs.all_legal.Reads as all-legal-reads
 
 is-legal-requires : tie.Need-is-legal-requires
 is-legal-requires c κs = search needs

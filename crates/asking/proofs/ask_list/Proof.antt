@@ -1,13 +1,7 @@
 use Rattle.asking.proofs.AskWays.{legal-if-ends, one-list}
 use borrow.Author.Needs.{needs}
-use borrow.Author.Needs.{needs}
 use Rattle.asking.proofs.ask_list.Statement.{statement}
 use Rattle.asking.proofs.ask_list.Tie as tie
-use Rattle.asking.proofs.are_ends.Reads as are-ends-reads
-use Rattle.asking.proofs.are_legal.Reads as are-legal-reads
-use Rattle.asking.proofs.are_short.Reads as are-short-reads
-use Rattle.asking.proofs.first_no.Reads as first-no-reads
-use Rattle.asking.proofs.is_counted.Reads as is-counted-reads
 
 are-short-requires : tie.Need-are-short-requires
 are-short-requires c κs = search needs

@@ -1,15 +1,8 @@
 use mathlib.Core.Path.{refl}
 use Rattle.asking.proofs.AskWays.{legal-if-ends, two-lists}
 use borrow.Author.Needs.{needs}
-use borrow.Author.Needs.{needs}
 use Rattle.asking.proofs.ask_lists.Statement.{statement}
 use Rattle.asking.proofs.ask_lists.Tie as tie
-use Rattle.asking.proofs.are_ends.Reads as are-ends-reads
-use Rattle.asking.proofs.are_legal.Reads as are-legal-reads
-use Rattle.asking.proofs.are_short.Reads as are-short-reads
-use Rattle.asking.proofs.both.Reads as both-reads
-use Rattle.asking.proofs.first_no.Reads as first-no-reads
-use Rattle.asking.proofs.is_counted.Reads as is-counted-reads
 
 slice-aggregate-e : tie.Need-slice-aggregate-e
 slice-aggregate-e c = search needs

@@ -5,10 +5,6 @@ use lib.ListN.{length}
 use Rattle.pairs.specs.Places.{keyAt}
 use Rattle.pairs.proofs.best_prefix.Statement.{statement}
 use Rattle.pairs.proofs.best_prefix.Tie as tie
-use Rattle.pairs.proofs.consider.Reads as consider-reads
-use Rattle.pairs.proofs.key_offset.Reads as key-offset-reads
-use Rattle.pairs.proofs.keys_held.Reads as keys-held-reads
-use Rattle.pairs.proofs.lesser.Reads as lesser-reads
 
 abbrev Inv-loop : tie.InvT-loop
 Inv-loop store places n invert path held offset limit f₀ i₀ f i =

@@ -2,11 +2,8 @@ use mathlib.Core.Path.{sym}
 use lib.Seq.{length-take-le}
 use Rattle.pairs.proofs.BestWays.{searching}
 use borrow.Author.Needs.{needs}
-use borrow.Author.Needs.{needs}
 use Rattle.pairs.proofs.choose.Statement.{statement}
 use Rattle.pairs.proofs.choose.Tie as tie
-use Rattle.pairs.proofs.does_serve.Reads as does-serve-reads
-use Rattle.prefix.proofs.element_count.Reads as element-count-reads
 
 does-serve-requires : tie.Need-does-serve-requires
 does-serve-requires c κs = search needs

@@ -1,9 +1,7 @@
 use Rattle.pairs.proofs.BestWays.{searching}
 use borrow.Author.Needs.{needs}
-use borrow.Author.Needs.{needs}
 use Rattle.pairs.proofs.consider.Statement.{statement}
 use Rattle.pairs.proofs.consider.Tie as tie
-use Rattle.pairs.proofs.choose.Reads as choose-reads
 
 returns : tie.Need-returns
 returns c = search (needs, searching)

@@ -1,9 +1,7 @@
 use Rattle.pairs.proofs.BestWays.{searching}
 use borrow.Author.Needs.{needs}
-use borrow.Author.Needs.{needs}
 use Rattle.pairs.proofs.keys_held.Statement.{statement}
 use Rattle.pairs.proofs.keys_held.Tie as tie
-use Rattle.pairs.proofs.lesser.Reads as lesser-reads
 
 lesser-requires : tie.Need-lesser-requires
 lesser-requires c κs = search needs

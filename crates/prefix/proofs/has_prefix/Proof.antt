@@ -1,10 +1,7 @@
 use Rattle.prefix.proofs.PrefixWays.{prefixes}
 use borrow.Author.Needs.{needs}
-use borrow.Author.Needs.{needs}
 use Rattle.prefix.proofs.has_prefix.Statement.{statement}
 use Rattle.prefix.proofs.has_prefix.Tie as tie
-use Rattle.prefix.proofs.is_bounded.Reads as is-bounded-reads
-use Rattle.text.proofs.starts_with.Reads as starts-with-reads
 
 is-bounded-requires : tie.Need-is-bounded-requires
 is-bounded-requires c κs = search needs

@@ -1,9 +1,7 @@
 use Rattle.prefix.proofs.PrefixWays.{prefixes}
 use borrow.Author.Needs.{needs}
-use borrow.Author.Needs.{needs}
 use Rattle.prefix.proofs.is_bounded.Statement.{statement}
 use Rattle.prefix.proofs.is_bounded.Tie as tie
-use Rattle.prefix.proofs.is_boundary.Reads as is-boundary-reads
 
 returns : tie.Need-returns
 returns c = search (needs, prefixes)
