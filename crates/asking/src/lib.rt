@@ -31,14 +31,7 @@ fn are_short(store: &[u8], places: &[usize], count: usize, p: &[u8], q: &[u8]) -
 }
 
 // Question 2 of a list and two texts. Where the list has only ends, which are legal, it is not read again.
-fn are_legal(
-    ends: bool,
-    store: &[u8],
-    places: &[usize],
-    count: usize,
-    p: &[u8],
-    q: &[u8],
-) -> bool
+fn are_legal(ends: bool, store: &[u8], places: &[usize], count: usize, p: &[u8], q: &[u8]) -> bool
     requires { ⌜ (not ends || listAll legal (lentList (now store) (now places) count)) ≡ true ⌝ }
     ensures { λ r. ⌜ r ≡ (every legal (now (p .entry) ∷ now (q .entry) ∷ []) && listAll legal (lentList (now (store .entry)) (now (places .entry)) count)) ⌝ }
 {

@@ -121,18 +121,19 @@ refused p k h = go (serves p k) refl
     go true e = absurd (h e)
     go false e = refl
 
-module _ (f : Found) (p store : Text) (start n i : ℕ) where
-  outside : length store < start + n → f ≡ considered f p (cut store start n) i
+-- a text that is cut from the store, refused by its place, its length or its last byte
+module _ (p store : Text) (start n : ℕ) where
+  outside : length store < start + n → serves p (cut store start n) ≡ false
   unfolding cut
-  outside h = rw (lt-leb (start + n) (length store) h) (other f p [] i (sym (serves-empty p [] refl)))
+  outside h = rw (lt-leb (start + n) (length store) h) (sym (serves-empty p [] refl))
 
-  pub consider-none : n ≡ 0 → f ≡ considered f p (cut store start n) i
+  pub cut-none : n ≡ 0 → serves p (cut store start n) ≡ false
   unfolding cut
-  consider-none h = rw h (go (leb (start + 0) (length store)))
+  cut-none h = rw h (go (leb (start + 0) (length store)))
     where
-      go : (b : Bool) → f ≡ considered f p (cond b (take 0 (drop start store)) []) i
-      go true = other f p [] i (sym (serves-empty p [] refl))
-      go false = other f p [] i (sym (serves-empty p [] refl))
+      go : (b : Bool) → serves p (cond b (take 0 (drop start store)) []) ≡ false
+      go true = sym (serves-empty p [] refl)
+      go false = sym (serves-empty p [] refl)
 
   module _ (h : start + n ≤ length store) where
     part : cut store start n ≡ take n (drop start store)
@@ -142,30 +143,29 @@ module _ (f : Found) (p store : Text) (start n i : ℕ) where
     part-length : length (take n (drop start store)) ≡ n
     part-length = length-take-le n (drop start store) (rw (length-drop start store) (omega arith))
 
-    inside-long : length p < n → f ≡ considered f p (cut store start n) i
+    inside-long : length p < n → serves p (cut store start n) ≡ false
     inside-long l =
         rw part
-        (other f p (take n (drop start store)) i
-        (refused p (take n (drop start store)) (λ s. omega (arith, part-length, prefix-long p (take n (drop start store)) (served p (take n (drop start store)) s)))))
+        (refused p (take n (drop start store)) (λ s. omega (arith, part-length, prefix-long p (take n (drop start store)) (served p (take n (drop start store)) s))))
 
-  pub consider-long : (limit : ℕ) → limit ≡ least (length store) (length p) → limit < n → f ≡ considered f p (cut store start n) i
-  consider-long limit e l = go (leb (start + n) (length store)) refl
+  pub cut-long : (limit : ℕ) → limit ≡ least (length store) (length p) → limit < n → serves p (cut store start n) ≡ false
+  cut-long limit e l = go (leb (start + n) (length store)) refl
     where
-      go : (b : Bool) → leb (start + n) (length store) ≡ b → f ≡ considered f p (cut store start n) i
+      go : (b : Bool) → leb (start + n) (length store) ≡ b → serves p (cut store start n) ≡ false
       go true h =
           let k : start + n ≤ length store = leb-true (start + n) (length store) h in
           inside-long k (below-one (length store) (length p) n (rw e at l) (omega arith))
       go false h = outside (leb-false (start + n) (length store) h)
 
-  pub consider-outside : (limit : ℕ) → limit ≤ length store → n ≤ limit → length store - n < start → f ≡ considered f p (cut store start n) i
-  consider-outside limit k l h = outside (omega arith)
+  pub cut-outside : (limit : ℕ) → limit ≤ length store → n ≤ limit → length store - n < start → serves p (cut store start n) ≡ false
+  cut-outside limit k l h = outside (omega arith)
 
   module _ (limit : ℕ) (k : limit ≤ length store) (z : n ≢ 0) (l : n ≤ limit) (h : start ≤ length store - n) where
     within : start + n ≤ length store
     within = omega arith
 
-    pub consider-differs : getD store (start + n - 1) 0 ≢ getD p (n - 1) 0 → f ≡ considered f p (cut store start n) i
-    consider-differs d = rw (part within) (other f p key i (refused p key (λ s. d (same s))))
+    pub cut-differs : getD store (start + n - 1) 0 ≢ getD p (n - 1) 0 → serves p (cut store start n) ≡ false
+    cut-differs d = rw (part within) (refused p key (λ s. d (same s)))
       where
         key : Text
         key = take n (drop start store)
@@ -177,8 +177,25 @@ module _ (f : Found) (p store : Text) (start n i : ℕ) where
             = starts-at key p (n - 1) (rw (part-length within) (omega (arith, z))) (prefix-starts p key (served p key s)) in
             rw (m, g, getD-take n (drop start store) (n - 1) 0 (omega (arith, z)), getD-drop start store (n - 1) 0)
 
+    pub cut-is : take (start + n - start) (drop start store) ≡ cut store start n
+    cut-is = let m : start + n - start ≡ n = omega arith in rw (part within, m)
+
+module _ (f : Found) (p store : Text) (start n i : ℕ) where
+  pub consider-none : n ≡ 0 → f ≡ considered f p (cut store start n) i
+  consider-none h = other f p (cut store start n) i (cut-none p store start n h)
+
+  pub consider-long : (limit : ℕ) → limit ≡ least (length store) (length p) → limit < n → f ≡ considered f p (cut store start n) i
+  consider-long limit e l = other f p (cut store start n) i (cut-long p store start n limit e l)
+
+  pub consider-outside : (limit : ℕ) → limit ≤ length store → n ≤ limit → length store - n < start → f ≡ considered f p (cut store start n) i
+  consider-outside limit k l h = other f p (cut store start n) i (cut-outside p store start n limit k l h)
+
+  module _ (limit : ℕ) (k : limit ≤ length store) (z : n ≢ 0) (l : n ≤ limit) (h : start ≤ length store - n) where
+    pub consider-differs : getD store (start + n - 1) 0 ≢ getD p (n - 1) 0 → f ≡ considered f p (cut store start n) i
+    consider-differs d = other f p (cut store start n) i (cut-differs p store start n limit k z l h d)
+
     pub consider-chosen : (r : Found) → r ≡ considered f p (take (start + n - start) (drop start store)) i → r ≡ considered f p (cut store start n) i
-    consider-chosen r e = let m : start + n - start ≡ n = omega arith in rw (part within) (rw m at e)
+    consider-chosen r e = rw (cut-is p store start n limit k z l h) at e
 
 -- `keys_held`
 pub held-targets : (places : List ℕ) (n m : ℕ) (invert : Bool) → invert ≡ true → m ≡ least n (length places / 2 / 2) → m ≡ least n (keysHeld places invert)
@@ -236,7 +253,7 @@ held-there places n held offset true e o = omega (arith, least-right held n (key
 held-there places n held offset false e o = omega (arith, least-right held n (keysHeld places false) e)
 
 module _ (store : Text) (places : List ℕ) (invert : Bool) (offset i : ℕ) (o : offset ≡ 2 * cond invert 1 0) where
-  key-is : cut store (getD places (4 * i + offset) 0) (getD places (4 * i + offset + 1) 0) ≡ keyAt store places invert i
+  pub key-is : cut store (getD places (4 * i + offset) 0) (getD places (4 * i + offset + 1) 0) ≡ keyAt store places invert i
   unfolding cut textAt
   key-is = let z : 2 * (2 * i + cond invert 1 0) ≡ 4 * i + offset = omega arith in rw z
 
@@ -254,7 +271,7 @@ best-rest p key m (suc n) l f = elim (ℕ-discrete m (suc n)) [
   | no d ↦ rw (f n (omega arith)) (best-rest p key m n (omega arith) f)
 ]
 
-key-behind : (store : Text) (places : List ℕ) (invert : Bool) (k : ℕ) → keysHeld places invert ≤ k → keyAt store places invert k ≡ []
+pub key-behind : (store : Text) (places : List ℕ) (invert : Bool) (k : ℕ) → keysHeld places invert ≤ k → keyAt store places invert k ≡ []
 unfolding keysHeld
 key-behind store places true k h = sym (text-missing store places (2 * k + 1) (omega arith))
 key-behind store places false k h = sym (text-missing store places (2 * k + 0) (omega arith))
