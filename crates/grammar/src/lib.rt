@@ -194,13 +194,13 @@ pub fn is_end(p: &[u8]) -> bool
         if p.len() == 1 {
             return true;
         }
-        let mut s = 18;
+        let mut state = 18;
         let mut i = 1;
         while i < p.len() {
-            s = next_in_end(s, p[i]);
+            state = next_in_end(state, p[i]);
             i += 1;
         }
-        return s % 64 < 18;
+        return state % 64 < 18;
     }
     false
 }

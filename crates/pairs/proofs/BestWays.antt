@@ -8,10 +8,10 @@ use Prim.Native.Nat.{ℕ, zero, suc, _+_, _*_, _-_, _/_, _≤_, _<_}
 use native.Mathlib.Numerals.{add-one}
 use native.Mathlib.Omega.{arith}
 use native.Mathlib.Decide.{ℕ-discrete}
-use lib.Dec.{leb}
+use lib.Dec.{eqb, leb}
 use lib.ListN.{length, getD, take, drop, length-drop, take-append-drop}
 use lib.Seq.{length-take-le, take-append-seam, take-append-le, getD-take, getD-drop}
-use borrow.Author.Tests.{le-leb, lt-leb, leb-true, leb-false}
+use borrow.Author.Tests.{ne-eqb, le-leb, lt-leb, leb-true, leb-false}
 use Rattle.text.specs.Text.{Text, isNil}
 use Rattle.text.proofs.BoolLaws.{and-r, told-false, told-true}
 use Rattle.text.proofs.TextLaws.{starts-at}
@@ -19,7 +19,7 @@ use Rattle.prefix.specs.Prefix.{hasPrefix}
 use Rattle.prefix.specs.Elements.{elements}
 use Rattle.prefix.proofs.CountLaws.{count-more}
 use Rattle.prefix.proofs.PrefixLaws.{prefix-rest, prefix-starts, prefix-long}
-use Rattle.pairs.specs.declared.Found.{Found}
+use Rattle.pairs.specs.declared.Kept.{Kept}
 use Rattle.pairs.specs.Places.{cut, keysHeld, textAt, keyAt}
 use Rattle.pairs.specs.Best.{least, bestBy, serves, best, chosenIn, outdoes, considered}
 use Rattle.pairs.proofs.PlaceWays.{text-missing}
@@ -59,7 +59,7 @@ decides p s k h g = go (leb (length s) (length k)) refl
     go false e = rw (prefix-rest p s h .0, take-append-seam s (drop (length s) p))
 
 -- `choose`
-module _ (f : Found) (p k : Text) (i : ℕ) where
+module _ (f : Kept) (p k : Text) (i : ℕ) where
   other : serves p k ≡ false → f ≡ considered f p k i
   unfolding considered
   other h = rw h
@@ -68,22 +68,18 @@ module _ (f : Found) (p k : Text) (i : ℕ) where
   choose-other b h l = other (told-false h l)
 
   module _ (b : Bool) (h : b ≡ serves p k) (l : not b ≡ false) where
-    pub choose-first : f .found ≡ false → record { found = true; at = i; bytes = length k } ≡ considered f p k i
-    unfolding considered
-    choose-first g = rw (told-true h l, g)
-
-    pub choose-longer : f .found ≡ true → f .bytes ≤ length k → record { found = true; at = i; bytes = length k } ≡ considered f p k i
+    pub choose-longer : f .bytes ≤ length k → record { at = i; bytes = length k } ≡ considered f p k i
     unfolding considered outdoes
-    choose-longer g m = rw (told-true h l, g, le-leb (f .bytes) (length k) m)
+    choose-longer m = rw (told-true h l, le-leb (f .bytes) (length k) m)
 
-    module _ (g : f .found ≡ true) (m : length k < f .bytes) (x y : ℕ) (e : x ≡ elements k) (d : y ≡ elements (take (f .bytes) p)) where
+    module _ (m : length k < f .bytes) (x y : ℕ) (e : x ≡ elements k) (d : y ≡ elements (take (f .bytes) p)) where
       pub choose-fewer : x < y → f ≡ considered f p k i
       unfolding considered outdoes
-      choose-fewer n = rw (told-true h l, g, lt-leb (f .bytes) (length k) m, ← e, ← d, lt-leb y x n)
+      choose-fewer n = rw (told-true h l, lt-leb (f .bytes) (length k) m, ← e, ← d, lt-leb y x n)
 
-      pub choose-more : y ≤ x → record { found = true; at = i; bytes = length k } ≡ considered f p k i
+      pub choose-more : y ≤ x → record { at = i; bytes = length k } ≡ considered f p k i
       unfolding considered outdoes
-      choose-more n = rw (told-true h l, g, lt-leb (f .bytes) (length k) m, ← e, ← d, le-leb y x n)
+      choose-more n = rw (told-true h l, lt-leb (f .bytes) (length k) m, ← e, ← d, le-leb y x n)
 
 -- `lesser`
 pub least-first : (a b : ℕ) → a ≤ b → a ≡ least a b
@@ -180,7 +176,7 @@ module _ (p store : Text) (start n : ℕ) where
     pub cut-is : take (start + n - start) (drop start store) ≡ cut store start n
     cut-is = let m : start + n - start ≡ n = omega arith in rw (part within, m)
 
-module _ (f : Found) (p store : Text) (start n i : ℕ) where
+module _ (f : Kept) (p store : Text) (start n i : ℕ) where
   pub consider-none : n ≡ 0 → f ≡ considered f p (cut store start n) i
   consider-none h = other f p (cut store start n) i (cut-none p store start n h)
 
@@ -194,7 +190,7 @@ module _ (f : Found) (p store : Text) (start n i : ℕ) where
     pub consider-differs : getD store (start + n - 1) 0 ≢ getD p (n - 1) 0 → f ≡ considered f p (cut store start n) i
     consider-differs d = other f p (cut store start n) i (cut-differs p store start n limit k z l h d)
 
-    pub consider-chosen : (r : Found) → r ≡ considered f p (take (start + n - start) (drop start store)) i → r ≡ considered f p (cut store start n) i
+    pub consider-chosen : (r : Kept) → r ≡ considered f p (take (start + n - start) (drop start store)) i → r ≡ considered f p (cut store start n) i
     consider-chosen r e = rw (cut-is p store start n limit k z l h) at e
 
 -- `keys_held`
@@ -213,37 +209,53 @@ pub offset-source : (invert : Bool) → invert ≡ false → 0 ≡ 2 * cond inve
 offset-source invert h = rw h
 
 -- what the loop keeps: what was found is what `best` chooses of the first i keys
-pub record Holds (p : Text) (key : ℕ → Text) (i : ℕ) (f : Found) : Type 0 where
-  pub chosen : chosenIn f ≡ best p key i
-  pub kept : f .found ≡ true → (f .bytes ≡ length (key (f .at))) × (serves p (key (f .at)) ≡ true)
+abbrev keptIn : Kept → Option ℕ
+keptIn f = cond (eqb (f .bytes) 0) none (some (f .at))
+
+pub record Holds (p : Text) (key : ℕ → Text) (i : ℕ) (f : Kept) : Type 0 where
+  pub chosen : keptIn f ≡ best p key i
+  pub kept : f .bytes ≢ 0 → (f .bytes ≡ length (key (f .at))) × (serves p (key (f .at)) ≡ true)
   pub short : f .bytes ≤ length p
 
-pub holds-none : (p : Text) (key : ℕ → Text) → Holds p key 0 (record { found = false; at = 0; bytes = 0 })
+pub holds-none : (p : Text) (key : ℕ → Text) → Holds p key 0 (record { at = 0; bytes = 0 })
 unfolding best
-holds-none p key = record { chosen = refl; kept = λ h. absurd (false≢true h); short = omega arith }
+holds-none p key = record { chosen = refl; kept = λ h. absurd (h refl); short = omega arith }
+
+-- a key that serves is not empty
+served-long : (p k : Text) → serves p k ≡ true → length k ≢ 0
+served-long p k s e = false≢true (serves-empty p k e ∙ s)
 
 module _ (p : Text) (key : ℕ → Text) (i : ℕ) where
-  now-best : serves p (key i) ≡ true → some i ≡ best p key (suc i) → Holds p key (suc i) (record { found = true; at = i; bytes = length (key i) })
-  now-best s e = record { chosen = e; kept = λ z. (refl, s); short = prefix-long p (key i) (served p (key i) s) }
+  now-best : serves p (key i) ≡ true → some i ≡ best p key (suc i) → Holds p key (suc i) (record { at = i; bytes = length (key i) })
+  now-best s e = record {
+    chosen = rw (ne-eqb (length (key i)) 0 (served-long p (key i) s)) e;
+    kept = λ z. (refl, s);
+    short = prefix-long p (key i) (served p (key i) s);
+  }
 
-  compared : (at e : ℕ) (c : Bool) → Holds p key i (record { found = true; at = at; bytes = e }) → serves p (key i) ≡ true → outdoes p e (key i) ≡ c
-      → Holds p key (suc i) (cond c (record { found = true; at = i; bytes = length (key i) }) (record { found = true; at = at; bytes = e }))
+  compared : (at e : ℕ) (c : Bool) → e ≢ 0 → Holds p key i (record { at = at; bytes = e }) → serves p (key i) ≡ true → outdoes p e (key i) ≡ c
+      → Holds p key (suc i) (cond c (record { at = i; bytes = length (key i) }) (record { at = at; bytes = e }))
   unfolding best
-  compared at e c h s t =
-      let k : (e ≡ length (key at)) × (serves p (key at) ≡ true) = h .kept refl in
+  compared at e c z h s t =
+      let k : (e ≡ length (key at)) × (serves p (key at) ≡ true) = h .kept z in
       go c (sym (decides p (key at) (key i) (served p (key at) (k .1)) (served p (key i) s)) ∙ rw (← (k .0)) t)
     where
-      go : (c : Bool) → leb (elements (key at)) (elements (key i)) ≡ c
-          → Holds p key (suc i) (cond c (record { found = true; at = i; bytes = length (key i) }) (record { found = true; at = at; bytes = e }))
-      go true d = now-best s (rw (s, ← (h .chosen), d))
-      go false d = record { chosen = rw (s, ← (h .chosen), d); kept = h .kept; short = h .short }
+      found : some at ≡ best p key i
+      found = rw (ne-eqb e 0 z) at (h .chosen)
 
-  cases : (found : Bool) (at e : ℕ) (b : Bool) → Holds p key i (record { found = found; at = at; bytes = e }) → serves p (key i) ≡ b
-      → Holds p key (suc i) (considered (record { found = found; at = at; bytes = e }) p (key i) i)
-  unfolding best considered
-  cases true at e true h s = rw s (compared at e (outdoes p e (key i)) h s refl)
-  cases false at e true h s = rw s (now-best s (rw (s, ← (h .chosen))))
-  cases found at e false h s = rw s (record { chosen = rw s (h .chosen); kept = h .kept; short = h .short })
+      go : (c : Bool) → leb (elements (key at)) (elements (key i)) ≡ c
+          → Holds p key (suc i) (cond c (record { at = i; bytes = length (key i) }) (record { at = at; bytes = e }))
+      go true d = now-best s (rw (s, ← found, d))
+      go false d = record { chosen = rw (ne-eqb e 0 z, s, ← found, d); kept = h .kept; short = h .short }
+
+  cases : (at e : ℕ) (b : Bool) → Holds p key i (record { at = at; bytes = e }) → serves p (key i) ≡ b
+      → Holds p key (suc i) (considered (record { at = at; bytes = e }) p (key i) i)
+  unfolding best considered outdoes
+  cases at e true h s = elim (ℕ-discrete e 0) [
+    | yes z ↦ rw (s, z, le-leb 0 (length (key i)) (omega arith)) (now-best s (rw (s, ← (rw z at (h .chosen)))))
+    | no z ↦ rw s (compared at e (outdoes p e (key i)) z h s refl)
+  ]
+  cases at e false h s = rw s (record { chosen = rw s (h .chosen); kept = h .kept; short = h .short })
 
 -- the numbers of the keys that are held stand in the slice
 pub held-there : (places : List ℕ) (n held offset : ℕ) (invert : Bool) → held ≡ least n (keysHeld places invert) → offset ≡ 2 * cond invert 1 0
@@ -257,10 +269,10 @@ module _ (store : Text) (places : List ℕ) (invert : Bool) (offset i : ℕ) (o 
   unfolding cut textAt
   key-is = let z : 2 * (2 * i + cond invert 1 0) ≡ 4 * i + offset = omega arith in rw z
 
-  pub holds-on : (p : Text) (f f′ : Found) → Holds p (keyAt store places invert) i f
+  pub holds-on : (p : Text) (f f′ : Kept) → Holds p (keyAt store places invert) i f
       → f′ ≡ considered f p (cut store (getD places (4 * i + offset) 0) (getD places (4 * i + offset + 1) 0)) i → Holds p (keyAt store places invert) (i + 1) f′
   holds-on p f f′ h c =
-      rw (c, key-is, add-one i) (cases p (keyAt store places invert) i (f .found) (f .at) (f .bytes) (serves p (keyAt store places invert i)) h refl)
+      rw (c, key-is, add-one i) (cases p (keyAt store places invert) i (f .at) (f .bytes) (serves p (keyAt store places invert i)) h refl)
 
 -- behind the keys that the slice holds there are none
 best-rest : (p : Text) (key : ℕ → Text) (m n : ℕ) → m ≤ n → ((k : ℕ) → m ≤ k → key k ≡ []) → best p key m ≡ best p key n
@@ -276,11 +288,19 @@ unfolding keysHeld
 key-behind store places true k h = sym (text-missing store places (2 * k + 1) (omega arith))
 key-behind store places false k h = sym (text-missing store places (2 * k + 0) (omega arith))
 
-pub holds-end : (p store : Text) (places : List ℕ) (n : ℕ) (invert : Bool) (held i : ℕ) (f : Found) → held ≡ least n (keysHeld places invert)
-    → Holds p (keyAt store places invert) i f → held ≤ i → i ≤ held → chosenIn f ≡ best p (keyAt store places invert) n
+found-kept : (f : Kept) → chosenIn (record { found = not (eqb (f .bytes) 0); at = f .at }) ≡ keptIn f
+found-kept f = go (eqb (f .bytes) 0)
+  where
+    go : (b : Bool) → cond (not b) (some (f .at)) none ≡ cond b none (some (f .at))
+    go true = refl
+    go false = refl
+
+pub holds-end : (p store : Text) (places : List ℕ) (n : ℕ) (invert : Bool) (held i : ℕ) (f : Kept) → held ≡ least n (keysHeld places invert)
+    → Holds p (keyAt store places invert) i f → held ≤ i → i ≤ held
+    → chosenIn (record { found = not (eqb (f .bytes) 0); at = f .at }) ≡ best p (keyAt store places invert) n
 holds-end p store places n invert held i f m h l r =
     let e : i ≡ least n (keysHeld places invert) = omega arith in
-    rw e at (h .chosen) ∙ go (leb n (keysHeld places invert)) refl
+    found-kept f ∙ (rw e at (h .chosen)) ∙ go (leb n (keysHeld places invert)) refl
   where
     key : ℕ → Text
     key = keyAt store places invert
@@ -291,4 +311,4 @@ holds-end p store places n invert held i f m h l r =
         let q : keysHeld places invert < n = leb-false n (keysHeld places invert) t in
         best-rest p key (keysHeld places invert) n (omega arith) (key-behind store places invert)
 
-pub ruleset searching = (serves-empty, serves-prefix, choose-other, choose-first, choose-longer, choose-fewer, choose-more, least-first, least-second, consider-none, consider-long, consider-outside, consider-differs, consider-chosen, held-targets, held-sources, offset-target, offset-source, least-left, least-right, holds-end)
+pub ruleset searching = (serves-empty, serves-prefix, choose-other, choose-longer, choose-fewer, choose-more, least-first, least-second, consider-none, consider-long, consider-outside, consider-differs, consider-chosen, held-targets, held-sources, offset-target, offset-source, least-left, least-right, holds-end)

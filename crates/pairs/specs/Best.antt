@@ -10,6 +10,7 @@ use Rattle.text.specs.Text.{Text, isNil}
 use Rattle.prefix.specs.Prefix.{hasPrefix}
 use Rattle.prefix.specs.Elements.{count, elements}
 use Rattle.pairs.specs.declared.Found.{Found}
+use Rattle.pairs.specs.declared.Kept.{Kept}
 
 -- the key at n is at least as good as the one chosen before
 abbrev pub better : (ℕ → Text) → Option ℕ → ℕ → Bool
@@ -31,7 +32,7 @@ unfoldable pub best : Text → (ℕ → Text) → ℕ → Option ℕ
 unfolding bestBy serves
 best p key n = bestBy (serves p) key n
 
--- what a search keeps as it goes on: whether a key was chosen, its place and its length
+-- what a search has found
 abbrev pub chosenIn : Found → Option ℕ
 chosenIn f = cond (f .found) (some (f .at)) none
 
@@ -41,10 +42,10 @@ unfoldable pub outdoes : Text → ℕ → Text → Bool
 unfolding count
 outdoes p n k = leb n (length k) || leb (elements (take n p)) (elements k)
 
--- the better of what was found so far and the key k at i
-unfoldable pub considered : Found → Text → Text → ℕ → Found
+-- the better of what a search has kept, a pair and the length of its key or 0, and the key k at i
+unfoldable pub considered : Kept → Text → Text → ℕ → Kept
 unfolding serves outdoes
-considered f p k i = cond (serves p k && (not (f .found) || outdoes p (f .bytes) k)) (record { found = true; at = i; bytes = length k }) f
+considered f p k i = cond (serves p k && outdoes p (f .bytes) k) (record { at = i; bytes = length k }) f
 
 -- the choice is the key at i
 abbrev pub isAt : ℕ → Option ℕ → Bool

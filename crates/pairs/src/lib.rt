@@ -103,11 +103,17 @@ pub fn all_ends(store: &[u8], places: &[usize], n: usize) -> bool
     true
 }
 
-// What a search has found so far: the pair, and the length of its key.
+// What a search has found.
 pub struct Found {
     pub found: bool,
     pub at: usize,
-    pub bytes: usize,
+}
+
+// What it keeps as it goes on: the pair and the length of its key, 0 before a key was found. Two numbers
+// stay in registers, where a flag beside them would go through memory.
+struct Kept {
+    at: usize,
+    bytes: usize,
 }
 
 // May the key serve for the path?
@@ -122,7 +128,7 @@ pub fn does_serve(path: &[u8], key: &[u8]) -> bool
 
 // The better of what was found and the key at i. Elements are counted only where a key that serves is
 // shorter than one that was found.
-fn choose(f: Found, path: &[u8], key: &[u8], i: usize) -> Found
+fn choose(f: Kept, path: &[u8], key: &[u8], i: usize) -> Kept
     requires { ⌜ f .bytes ≤ length (now path) ⌝ }
     ensures { λ r. ⌜ r ≡ considered f (now (path .entry)) (now (key .entry)) i ⌝ }
 {
@@ -131,31 +137,25 @@ fn choose(f: Found, path: &[u8], key: &[u8], i: usize) -> Found
     }
     let old = f.bytes;
     let n = key.len();
-    if f.found {
-        if n < old {
-            if prefix::element_count(key).0 < prefix::element_count(&path[..old]).0 {
-                return f;
-            }
+    if n < old {
+        if prefix::element_count(key).0 < prefix::element_count(&path[..old]).0 {
+            return f;
         }
     }
-    Found {
-        found: true,
-        at: i,
-        bytes: n,
-    }
+    Kept { at: i, bytes: n }
 }
 
 // The same of the key of n bytes from `start` on, where that lies in the store. Most keys are refused by
 // their length or their last byte.
 fn consider(
-    f: Found,
+    f: Kept,
     store: &[u8],
     start: usize,
     n: usize,
     limit: usize,
     path: &[u8],
     i: usize,
-) -> Found
+) -> Kept
     requires { ⌜ limit ≤ length (now store) ⌝ }
     requires { ⌜ limit ≤ length (now path) ⌝ }
     requires { ⌜ limit ≡ least (length (now store)) (length (now path)) ⌝ }
@@ -216,18 +216,17 @@ pub fn best_prefix(store: &[u8], places: &[usize], n: usize, invert: bool, path:
     let held = keys_held(places, n, invert);
     let offset = key_offset(invert);
     let limit = lesser(store.len(), path.len());
-    let mut f = Found {
-        found: false,
-        at: 0,
-        bytes: 0,
-    };
+    let mut f = Kept { at: 0, bytes: 0 };
     let mut i = 0;
     while i < held {
         let j = 4 * i + offset;
         f = consider(f, store, places[j], places[j + 1], limit, path, i);
         i += 1;
     }
-    f
+    Found {
+        found: f.bytes != 0,
+        at: f.at,
+    }
 }
 
 // Would the text t be chosen over the key, before which or behind which it stands?

@@ -2,6 +2,7 @@ use mathlib.Core.Path.{sym}
 use lib.Seq.{length-take-le}
 use Rattle.pairs.proofs.BestWays.{searching}
 use borrow.Author.Needs.{needs}
+use borrow.Author.Needs.{needs}
 use Rattle.pairs.proofs.choose.Statement.{statement}
 use Rattle.pairs.proofs.choose.Tie as tie
 
@@ -29,9 +30,6 @@ returns-3 c = search (needs, searching)
 returns-4 : tie.Need-returns-4
 returns-4 c = search (needs, searching)
 
-returns-5 : tie.Need-returns-5
-returns-5 c = search (needs, searching)
-
 pub choose-spec : {M : Type 1} → statement M
 choose-spec =
     tie.close
@@ -43,5 +41,4 @@ choose-spec =
     element-count-requires-2
     returns-2
     returns-3
-    returns-4
-    returns-5)
+    returns-4)
