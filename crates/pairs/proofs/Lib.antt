@@ -1,6 +1,5 @@
 mod PlaceWays
 mod BestWays
-mod RivalWays
 pub mod RoomWays
 pub mod WriteWays
 pub mod BestLaws
