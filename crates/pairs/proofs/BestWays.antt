@@ -123,7 +123,7 @@ module _ (p store : Text) (start n : ℕ) where
   unfolding cut
   outside h = rw (lt-leb (start + n) (length store) h) (sym (serves-empty p [] refl))
 
-  cut-none : n ≡ 0 → serves p (cut store start n) ≡ false
+  pub cut-none : n ≡ 0 → serves p (cut store start n) ≡ false
   unfolding cut
   cut-none h = rw h (go (leb (start + 0) (length store)))
     where
@@ -144,7 +144,7 @@ module _ (p store : Text) (start n : ℕ) where
         rw part
         (refused p (take n (drop start store)) (λ s. omega (arith, part-length, prefix-long p (take n (drop start store)) (served p (take n (drop start store)) s))))
 
-  cut-long : (limit : ℕ) → limit ≡ least (length store) (length p) → limit < n → serves p (cut store start n) ≡ false
+  pub cut-long : (limit : ℕ) → limit ≡ least (length store) (length p) → limit < n → serves p (cut store start n) ≡ false
   cut-long limit e l = go (leb (start + n) (length store)) refl
     where
       go : (b : Bool) → leb (start + n) (length store) ≡ b → serves p (cut store start n) ≡ false
@@ -153,14 +153,14 @@ module _ (p store : Text) (start n : ℕ) where
           inside-long k (below-one (length store) (length p) n (rw e at l) (omega arith))
       go false h = outside (leb-false (start + n) (length store) h)
 
-  cut-outside : (limit : ℕ) → limit ≤ length store → n ≤ limit → length store - n < start → serves p (cut store start n) ≡ false
+  pub cut-outside : (limit : ℕ) → limit ≤ length store → n ≤ limit → length store - n < start → serves p (cut store start n) ≡ false
   cut-outside limit k l h = outside (omega arith)
 
   module _ (limit : ℕ) (k : limit ≤ length store) (z : n ≢ 0) (l : n ≤ limit) (h : start ≤ length store - n) where
     within : start + n ≤ length store
     within = omega arith
 
-    cut-differs : getD store (start + n - 1) 0 ≢ getD p (n - 1) 0 → serves p (cut store start n) ≡ false
+    pub cut-differs : getD store (start + n - 1) 0 ≢ getD p (n - 1) 0 → serves p (cut store start n) ≡ false
     cut-differs d = rw (part within) (refused p key (λ s. d (same s)))
       where
         key : Text
@@ -173,7 +173,7 @@ module _ (p store : Text) (start n : ℕ) where
             = starts-at key p (n - 1) (rw (part-length within) (omega (arith, z))) (prefix-starts p key (served p key s)) in
             rw (m, g, getD-take n (drop start store) (n - 1) 0 (omega (arith, z)), getD-drop start store (n - 1) 0)
 
-    cut-is : take (start + n - start) (drop start store) ≡ cut store start n
+    pub cut-is : take (start + n - start) (drop start store) ≡ cut store start n
     cut-is = let m : start + n - start ≡ n = omega arith in rw (part within, m)
 
 module _ (f : Kept) (p store : Text) (start n i : ℕ) where
@@ -265,7 +265,7 @@ held-there places n held offset true e o = omega (arith, least-right held n (key
 held-there places n held offset false e o = omega (arith, least-right held n (keysHeld places false) e)
 
 module _ (store : Text) (places : List ℕ) (invert : Bool) (offset i : ℕ) (o : offset ≡ 2 * cond invert 1 0) where
-  key-is : cut store (getD places (4 * i + offset) 0) (getD places (4 * i + offset + 1) 0) ≡ keyAt store places invert i
+  pub key-is : cut store (getD places (4 * i + offset) 0) (getD places (4 * i + offset + 1) 0) ≡ keyAt store places invert i
   unfolding cut textAt
   key-is = let z : 2 * (2 * i + cond invert 1 0) ≡ 4 * i + offset = omega arith in rw z
 
@@ -283,7 +283,7 @@ best-rest p key m (suc n) l f = elim (ℕ-discrete m (suc n)) [
   | no d ↦ rw (f n (omega arith)) (best-rest p key m n (omega arith) f)
 ]
 
-key-behind : (store : Text) (places : List ℕ) (invert : Bool) (k : ℕ) → keysHeld places invert ≤ k → keyAt store places invert k ≡ []
+pub key-behind : (store : Text) (places : List ℕ) (invert : Bool) (k : ℕ) → keysHeld places invert ≤ k → keyAt store places invert k ≡ []
 unfolding keysHeld
 key-behind store places true k h = sym (text-missing store places (2 * k + 1) (omega arith))
 key-behind store places false k h = sym (text-missing store places (2 * k + 0) (omega arith))

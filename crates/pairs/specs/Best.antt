@@ -1,10 +1,10 @@
 -- Which pair serves a path. "Plain mapping takes, of the pairs whose key is a prefix of the path, the one whose key has most elements,
 -- the later on a tie; empty keys are skipped". OpenUSD: PcpMapFunction's search for the best match.
 use Prim.Native.Nat.{ℕ, zero, suc}
-use mathlib.Core.Bool.{Bool, true, not, cond, _&&_, _||_}
+use mathlib.Core.Bool.{Bool, true, false, not, cond, _&&_, _||_}
 use mathlib.Core.List.{List}
 use mathlib.Core.Option.{Option, none, some}
-use lib.Dec.{leb}
+use lib.Dec.{eqb, leb, ltb}
 use lib.ListN.{length, take}
 use Rattle.text.specs.Text.{Text, isNil}
 use Rattle.prefix.specs.Prefix.{hasPrefix}
@@ -46,6 +46,21 @@ outdoes p n k = leb n (length k) || leb (elements (take n p)) (elements k)
 unfoldable pub considered : Kept → Text → Text → ℕ → Kept
 unfolding serves outdoes
 considered f p k i = cond (serves p k && outdoes p (f .bytes) k) (record { at = i; bytes = length k }) f
+
+-- the choice is the key at i
+abbrev pub isAt : ℕ → Option ℕ → Bool
+isAt i none = false
+isAt i (some j) = eqb i j
+
+-- the text t would be chosen over the key, before which or behind which it stands
+unfoldable pub beats : Text → Text → Bool → Text → Bool
+unfolding serves count
+beats p t before key = serves p t && cond before (ltb (elements key) (elements t)) (leb (elements key) (elements t))
+
+-- so it is of the text at k and the key at i
+unfoldable pub rivals : Text → Text → ℕ → ℕ → Text → Bool
+unfolding beats
+rivals p t k i key = not (eqb k i) && beats p t (ltb k i) key
 
 abbrev pub least : ℕ → ℕ → ℕ
 least a b = cond (leb a b) a b

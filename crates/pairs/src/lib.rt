@@ -9,7 +9,7 @@ ghost use Rattle.text.specs.Text.{over, placed};
 ghost use Rattle.grammar.specs.Legal.{legal, isEnd};
 ghost use lib.Dec.{leb};
 ghost use Rattle.pairs.specs.Places.{cut, keysHeld, pairsIn, copied, endBytes, listFit, listBytes, listSlots, fourOf, fitsAt, textAt, keyAt, placesFit, placesAll};
-ghost use Rattle.pairs.specs.Best.{least, serves, best, chosenIn, considered};
+ghost use Rattle.pairs.specs.Best.{least, serves, best, chosenIn, considered, isAt, beats, rivals};
 
 // The text at the place j; empty where the place is not there or reaches outside the store.
 pub fn text_at<'a>(store: &'a [u8], places: &[usize], j: usize) -> &'a [u8]
@@ -227,6 +227,86 @@ pub fn best_prefix(store: &[u8], places: &[usize], n: usize, invert: bool, path:
         found: f.bytes != 0,
         at: f.at,
     }
+}
+
+// Would the text t be chosen over the key, before which or behind which it stands?
+fn does_beat(path: &[u8], t: &[u8], before: bool, key: &[u8]) -> bool
+    ensures { λ r. ⌜ r ≡ beats (now (path .entry)) (now (t .entry)) before (now (key .entry)) ⌝ }
+{
+    if !does_serve(path, t) {
+        return false;
+    }
+    let n = prefix::element_count(key).0;
+    let m = prefix::element_count(t).0;
+    if before {
+        return n < m;
+    }
+    n <= m
+}
+
+// The same of the text of n bytes from `start` on, at place k, and the key at i. As in `consider`, most are
+// refused by their length or their last byte; that, and the key itself, is one branch.
+fn is_rival(
+    store: &[u8],
+    start: usize,
+    n: usize,
+    limit: usize,
+    path: &[u8],
+    k: usize,
+    i: usize,
+    key: &[u8],
+) -> bool
+    requires { ⌜ limit ≤ length (now store) ⌝ }
+    requires { ⌜ limit ≤ length (now path) ⌝ }
+    requires { ⌜ limit ≡ least (length (now store)) (length (now path)) ⌝ }
+    ensures { λ r. ⌜ r ≡ rivals (now (path .entry)) (cut (now (store .entry)) start n) k i (now (key .entry)) ⌝ }
+{
+    if n == 0 {
+        return false;
+    }
+    if limit < n {
+        return false;
+    }
+    if store.len() - n < start {
+        return false;
+    }
+    let end = start + n;
+    if (store[end - 1] != path[n - 1]) | (k == i) {
+        return false;
+    }
+    does_beat(path, &store[start..end], k < i, key)
+}
+
+// Is pair i the one that `best_prefix` finds?
+pub fn is_best(
+    store: &[u8],
+    places: &[usize],
+    n: usize,
+    invert: bool,
+    path: &[u8],
+    i: usize,
+) -> bool
+    ensures { λ r. ⌜ r ≡ isAt i (best (now (path .entry)) (keyAt (now (store .entry)) (now (places .entry)) invert) n) ⌝ }
+{
+    if n <= i {
+        return false;
+    }
+    let key = key_at(store, places, i, invert);
+    if !does_serve(path, key) {
+        return false;
+    }
+    let held = keys_held(places, n, invert);
+    let offset = key_offset(invert);
+    let limit = lesser(store.len(), path.len());
+    let mut k = 0;
+    while k < held {
+        let j = 4 * k + offset;
+        if is_rival(store, places[j], places[j + 1], limit, path, k, i, key) {
+            return false;
+        }
+        k += 1;
+    }
+    true
 }
 
 // Is the lent memory enough for the first n pairs, one behind the other?
