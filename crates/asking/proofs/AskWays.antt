@@ -1,16 +1,17 @@
 -- What each way through the functions that ask gives. Assumes nothing.
 use mathlib.Core.Path.{_≡_, refl, sym, _∙_}
-use mathlib.Core.Bool.{Bool, true, false, not, cond, _&&_}
+use mathlib.Core.Bool.{Bool, true, false, not, cond, _&&_, _||_}
 use mathlib.Core.List.{List, [], _∷_}
-use Prim.Native.Nat.{ℕ, _*_, _/_, _≤_, _<_}
+use Prim.Native.Nat.{ℕ, zero, suc, _*_, _/_, _≤_, _<_}
 use native.Mathlib.Omega.{arith}
 use lib.Dec.{leb}
 use lib.ListN.{length}
 use borrow.Author.Tests.{le-leb, lt-leb}
 use Rattle.text.specs.Text.{Text}
-use Rattle.text.proofs.BoolLaws.{and-no, and-yes, told-false, told-true, not-true, not-false}
+use Rattle.text.proofs.BoolLaws.{and-l, and-r, and-no, and-yes, told-false, told-true, not-true, not-false}
 use Rattle.grammar.specs.Legal.{legal, fits, isEnd}
-use Rattle.pairs.specs.Places.{placesFit, placesAll}
+use Rattle.grammar.proofs.LegalLaws.{end-legal}
+use Rattle.pairs.specs.Places.{textAt, placesFit, placesAll}
 use Rattle.path.specs.declared.Refusal.the-variants.{TooLong, Illegal, NotAnEnd, TooMany}
 use Rattle.path.specs.declared.Asked.{Asked}
 use Rattle.path.specs.declared.Asked.the-variants.{Passed, Refused}
@@ -54,6 +55,27 @@ module _ (passes : Text → Bool) (store : Text) (places : List ℕ) (count : �
         → r ≡ (every passes (p ∷ q ∷ []) && listAll passes (lentList store places count))
     unfolding every listAll present
     list-passes k n g r i = rw (told-true e h, told-true f k, ← g) i
+
+-- where the list has only ends, its texts are legal
+ends-legal : (store : Text) (places : List ℕ) (n : ℕ) → placesAll isEnd store places n ≡ true → placesAll legal store places n ≡ true
+unfolding placesAll
+ends-legal store places zero h = refl
+ends-legal store places (suc n) h =
+    rw (ends-legal store places n (and-l (placesAll isEnd store places n) (isEnd (textAt store places n)) h))
+    (end-legal (textAt store places n) (and-r (placesAll isEnd store places n) (isEnd (textAt store places n)) h))
+
+pub legal-if-ends : (l : Lent) (e f : Text) (a : Bool) → a ≡ (every isEnd (e ∷ f ∷ []) && listAll isEnd l) → (not a || listAll legal l) ≡ true
+unfolding listAll
+legal-if-ends l e f a h = go a h
+  where
+    go : (b : Bool) → b ≡ (every isEnd (e ∷ f ∷ []) && listAll isEnd l) → (not b || listAll legal l) ≡ true
+    go true h = ends-legal (l .store) (l .places) (present l) (and-r (every isEnd (e ∷ f ∷ [])) (listAll isEnd l) (sym h))
+    go false h = refl
+
+pub list-legal : (l : Lent) (p q : Text) (a : Bool) → a ≡ legal p → not a ≡ false → (b : Bool) → b ≡ legal q → not b ≡ false → (ends : Bool)
+    → (not ends || listAll legal l) ≡ true → ends ≡ true → true ≡ (every legal (p ∷ q ∷ []) && listAll legal l)
+unfolding every
+list-legal l p q a e h b f k ends o t = rw (told-true e h, told-true f k) (sym (rw t at o))
 
 -- question 4
 module _ (places : List ℕ) (count : ℕ) where

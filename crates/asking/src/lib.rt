@@ -1,7 +1,7 @@
 // Document 01's questions 1 to 4. Each is put to the whole call; the first "no" counts. An empty text
 // passes them all, so it stands for a text that a call does not have.
 ghost use mathlib.Core.Path.{_≡_};
-ghost use mathlib.Core.Bool.{Bool, _&&_};
+ghost use mathlib.Core.Bool.{Bool, true, not, _&&_, _||_};
 ghost use mathlib.Core.List.{[], _∷_};
 ghost use Rattle.grammar.specs.Legal.{legal, fits, isEnd};
 ghost use Rattle.asking.specs.Asking.{lentList, present, listFits, listAll, listCounts, every, firstNo, asked, earlierOf};
@@ -31,8 +31,9 @@ fn are_short(store: &[u8], places: &[usize], count: usize, p: &[u8], q: &[u8]) -
     pairs::all_fit(store, places, places_of(places, count))
 }
 
-// Question 2 of a list and two texts.
-fn are_legal(store: &[u8], places: &[usize], count: usize, p: &[u8], q: &[u8]) -> bool
+// Question 2 of a list and two texts. Where the list has only ends, which are legal, it is not read again.
+fn are_legal(ends: bool, store: &[u8], places: &[usize], count: usize, p: &[u8], q: &[u8]) -> bool
+    requires { ⌜ (not ends || listAll legal (lentList (now store) (now places) count)) ≡ true ⌝ }
     ensures { λ r. ⌜ r ≡ (every legal (now (p .entry) ∷ now (q .entry) ∷ []) && listAll legal (lentList (now (store .entry)) (now (places .entry)) count)) ⌝ }
 {
     if !grammar::is_legal(p) {
@@ -40,6 +41,9 @@ fn are_legal(store: &[u8], places: &[usize], count: usize, p: &[u8], q: &[u8]) -
     }
     if !grammar::is_legal(q) {
         return false;
+    }
+    if ends {
+        return true;
     }
     pairs::all_legal(store, places, places_of(places, count))
 }
@@ -135,8 +139,8 @@ pub fn ask_list(
     ensures { λ r. ⌜ r ≡ asked (lentList (now (store .entry)) (now (places .entry)) count ∷ []) (now (p .entry) ∷ now (q .entry) ∷ []) (now (e .entry) ∷ now (f .entry) ∷ []) ⌝ }
 {
     let short = are_short(store, places, count, p, q);
-    let legal = are_legal(store, places, count, p, q);
     let ends = are_ends(store, places, count, e, f);
+    let legal = are_legal(ends, store, places, count, p, q);
     first_no(short, legal, ends, is_counted(places, count))
 }
 
@@ -180,14 +184,13 @@ pub fn ask_lists(
         are_short(store, places, count, e, e),
         are_short(store2, places2, count2, e, e),
     );
+    let one = are_ends(store, places, count, e, e);
+    let other = are_ends(store2, places2, count2, e, e);
     let legal = both(
-        are_legal(store, places, count, e, e),
-        are_legal(store2, places2, count2, e, e),
+        are_legal(one, store, places, count, e, e),
+        are_legal(other, store2, places2, count2, e, e),
     );
-    let ends = both(
-        are_ends(store, places, count, e, e),
-        are_ends(store2, places2, count2, e, e),
-    );
+    let ends = both(one, other);
     first_no(
         short,
         legal,

@@ -7,7 +7,7 @@ use mathlib.Core.Option.{Option, none, some}
 use Prim.Native.Nat.{ℕ, _≤_, _<_}
 use native.Mathlib.Omega.{arith}
 use lib.ListN.{length, take, drop}
-use borrow.Author.Tests.{le-leb, lt-leb, eq-eqb, ne-eqb}
+use borrow.Author.Tests.{le-leb, lt-leb}
 use Rattle.text.specs.Text.{Text, isNil, placed, fitted}
 use Rattle.text.specs.declared.Fit.{Fit}
 use Rattle.text.specs.declared.Fit.the-variants.{Written as WrittenFit, Over}
@@ -15,7 +15,7 @@ use Rattle.text.proofs.BoolLaws.{and-no, not-true, not-false}
 use Rattle.text.proofs.WriteLaws.{fit-room, fit-over, fit-back}
 use Rattle.prefix.specs.Join.{joined, spoils}
 use Rattle.pairs.specs.Places.{keyAt}
-use Rattle.pairs.specs.Best.{best, chosenIn}
+use Rattle.pairs.specs.Best.{best, chosenIn, isAt}
 use Rattle.pairs.specs.declared.Found.{Found}
 use Rattle.path.specs.declared.Refusal.the-variants.{NoPath, MadeTooLong, MadeIllegal}
 use Rattle.path.specs.declared.Reply.{Reply}
@@ -93,6 +93,10 @@ module _ (store : Text) (places : List ℕ) (n : ℕ) (mark : Bool) (p : Text) w
           → quickTranslate lent p ≡ translatePair lent (f .at) s t (drop (length s) p)
       text-pair s t e l es = by-pair ∙ rw (← e, ← es, not-nil-length t l)
 
+same-at : (i : ℕ) (o : Option ℕ) → same (some i) o ≡ isAt i o
+same-at i none = refl
+same-at i (some j) = refl
+
 -- `translate_pair`: the text j is made in memory of 512 bytes
 module _ (store : Text) (places : List ℕ) (n : ℕ) (mark : Bool) (i : ℕ) (s t r : Text) (buf : Text) (f : Fit) (h : f ≡ fitted (joined s t r) buf) (l : length buf ≡ 512) where
   abbrev lentOne : Map
@@ -102,23 +106,17 @@ module _ (store : Text) (places : List ℕ) (n : ℕ) (mark : Bool) (i : ℕ) (s
   unfolding translatePair
   pair-over e = rw (lt-leb (length (joined s t r)) 512 (omega (arith, fit-over (joined s t r) buf (sym h ∙ e))))
 
-  module _ (k : ℕ) (e : f ≡ WrittenFit k) (mem : Text) (m : mem ≡ placed 0 (joined s t r) buf) (g : Found) (o : chosenIn g ≡ best (take k mem) (keyAt store places true) n) where
+  module _ (k : ℕ) (e : f ≡ WrittenFit k) (mem : Text) (m : mem ≡ placed 0 (joined s t r) buf) (g : Bool) (o : g ≡ isAt i (best (take k mem) (keyAt store places true) n)) where
     fits-512 : translatePair lentOne i s t r ≡ cond (same (some i) (chosenHome lentOne (joined s t r))) (joining s t r) (refused NoPath)
     unfolding translatePair
     fits-512 = rw (le-leb (length (joined s t r)) 512 (omega (arith, fit-room (joined s t r) buf k (sym h ∙ e))))
 
-    back-is : chosenIn g ≡ chosenHome lentOne (joined s t r)
-    back-is = (rw (fit-back (joined s t r) buf f h k e mem m) at o) ∙ sym (home-keys store places n mark (joined s t r))
+    back-is : same (some i) (chosenHome lentOne (joined s t r)) ≡ g
+    back-is = same-at i (chosenHome lentOne (joined s t r)) ∙ rw (home-keys store places n mark (joined s t r), ← (fit-back (joined s t r) buf f h k e mem m)) (sym o)
 
-    pub pair-lost : not (g .found) ≡ true → translatePair lentOne i s t r ≡ refused NoPath
-    pair-lost q = fits-512 ∙ rw (found-none g (chosenHome lentOne (joined s t r)) back-is (not-true (g .found) q))
+    pub pair-other : not g ≡ true → translatePair lentOne i s t r ≡ refused NoPath
+    pair-other q = fits-512 ∙ rw (back-is, not-true g q)
 
-    pub pair-other : not (g .found) ≡ false → g .at ≢ i → translatePair lentOne i s t r ≡ refused NoPath
-    pair-other q d =
-        fits-512 ∙ rw (found-some g (chosenHome lentOne (joined s t r)) back-is (not-false (g .found) q), ne-eqb i (g .at) (λ z. d (sym z)))
-
-    pub pair-same : (b : Bool) → not (g .found) ≡ false → g .at ≡ i → b ≡ spoils t r → translatePair lentOne i s t r ≡ finished b (take k mem)
+    pub pair-same : (b : Bool) → not g ≡ false → b ≡ spoils t r → translatePair lentOne i s t r ≡ finished b (take k mem)
     unfolding joining
-    pair-same b q d z =
-        rw (fit-back (joined s t r) buf f h k e mem m, z)
-        (fits-512 ∙ rw (found-some g (chosenHome lentOne (joined s t r)) back-is (not-false (g .found) q), eq-eqb i (g .at) (sym d)))
+    pair-same b q z = rw (fit-back (joined s t r) buf f h k e mem m, z) (fits-512 ∙ rw (back-is, not-false g q))

@@ -120,11 +120,7 @@ fn translate_pair(
     let text::Fit::Written(len) = fit else {
         return path::Reply::Refused(path::Refusal::MadeTooLong);
     };
-    let home = pairs::best_prefix(store, places, n, true, &made[..len]);
-    if !home.found {
-        return path::Reply::Refused(path::Refusal::NoPath);
-    }
-    if home.at != i {
+    if !pairs::is_best(store, places, n, true, &made[..len], i) {
         return path::Reply::Refused(path::Refusal::NoPath);
     }
     let spoilt = prefix::is_spoilt(new, rest);

@@ -1,4 +1,4 @@
--- What each way through `is_within`, `is_identifier_start`, `is_identifier_cont`, `is_root` and `is_end` gives. Assumes nothing.
+-- What each way through `is_within`, `is_identifier_start`, `is_identifier_cont` and `is_root` gives. Assumes nothing.
 use mathlib.Core.Path.{_≡_, refl, sym, ap, _∙_}
 use mathlib.Core.Logic.{_≢_}
 use mathlib.Core.Bool.{Bool, true, false, not, _&&_, _||_}
@@ -49,17 +49,4 @@ root-other [] l = refl
 root-other (a ∷ []) l = absurd (l refl)
 root-other (a ∷ b ∷ s) l = sym (and-no (eqb a 47))
 
-module _ (s : Text) (b c d : Bool) where
-  pub end-illegal : b ≡ legal s → not b ≡ true → false ≡ isEnd s
-  unfolding isEnd
-  end-illegal h k = rw (told-false h k)
-
-  pub end-selected : b ≡ legal s → not b ≡ false → c ≡ lacks 123 s → not c ≡ true → false ≡ isEnd s
-  unfolding isEnd
-  end-selected h k l m = rw (told-true h k, told-false l m)
-
-  pub end-dotted : b ≡ legal s → not b ≡ false → c ≡ lacks 123 s → not c ≡ false → d ≡ lacks 46 s → d ≡ isEnd s
-  unfolding isEnd
-  end-dotted h k l m n = rw (told-true h k, told-true l m) n
-
-pub ruleset bytes = (within-low, within-not, start-upper, start-lower, start-other, cont-start, cont-digit, root-one, root-other, end-illegal, end-selected, end-dotted)
+pub ruleset bytes = (within-low, within-not, start-upper, start-lower, start-other, cont-start, cont-digit, root-one, root-other)

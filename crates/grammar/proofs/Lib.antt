@@ -5,3 +5,4 @@ mod Parse
 pub mod Theorem
 mod ScanLaws
 mod ByteLaws
+mod EndLaws

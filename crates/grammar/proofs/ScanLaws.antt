@@ -53,16 +53,16 @@ digits-1 = 48 ∷ 50 ∷ 52 ∷ 54 ∷ 56 ∷ []
 unfoldable pub digits-2 : List ℕ
 digits-2 = 49 ∷ 51 ∷ 53 ∷ 55 ∷ 57 ∷ []
 
--- an arm gives the same number x at each of its keys
-abbrev pub same : ℕ → List ℕ → Bool
-same x [] = true
-same x (k ∷ ks) = eqb x (pack k) && same x ks
+-- an arm gives the same number x at each of its keys, where f is asked for
+abbrev pub same : (ℕ → ℕ) → ℕ → List ℕ → Bool
+same f x [] = true
+same f x (k ∷ ks) = eqb x (f k) && same f x ks
 
-pub arm : (x : ℕ) (ks : List ℕ) (a : ℕ) → OneOf ks a → same x ks ≡ true → x ≡ pack a
-arm x [] a w t = absurd w
-arm x (k ∷ []) a w t = rw w (eqb-true x (pack k) (and-l (eqb x (pack k)) true t))
-arm x (k ∷ l ∷ ks) a (inl e) t = rw e (eqb-true x (pack k) (and-l (eqb x (pack k)) (same x (l ∷ ks)) t))
-arm x (k ∷ l ∷ ks) a (inr w) t = arm x (l ∷ ks) a w (and-r (eqb x (pack k)) (same x (l ∷ ks)) t)
+pub arm : (f : ℕ → ℕ) (x : ℕ) (ks : List ℕ) (a : ℕ) → OneOf ks a → same f x ks ≡ true → x ≡ f a
+arm f x [] a w t = absurd w
+arm f x (k ∷ []) a w t = rw w (eqb-true x (f k) (and-l (eqb x (f k)) true t))
+arm f x (k ∷ l ∷ ks) a (inl e) t = rw e (eqb-true x (f k) (and-l (eqb x (f k)) (same f x (l ∷ ks)) t))
+arm f x (k ∷ l ∷ ks) a (inr w) t = arm f x (l ∷ ks) a w (and-r (eqb x (f k)) (same f x (l ∷ ks)) t)
 
 -- what the default of a match knows: the number is none of the keys of each arm, the last arm first
 abbrev pub Rest : List (List ℕ) → ℕ → Type 0
@@ -94,19 +94,20 @@ none-of (ks ∷ arms) a w = rw (not-one (one-of ks a) refl) (none-of arms a (w .
     not-one true h = absurd (w .1 (one ks a h))
     not-one false h = h
 
+-- the default gives the number of a byte that no path has
+abbrev pub listed : (ℕ → ℕ) → List (List ℕ) → ℕ → Bool
+listed f arms a = in-arms arms a || eqb (f a) 988218432520154550
+
+pub others : (f : ℕ → ℕ) (arms : List (List ℕ)) (a : ℕ) → upTo (listed f arms) 256 ≡ true → a < 256 → Rest arms a → 988218432520154550 ≡ f a
+others f arms a t h w = sym (eqb-true (f a) 988218432520154550 (rw (none-of arms a w) at (at-each (listed f arms) 256 a t h)))
+
 unfoldable pub arms : List (List ℕ)
 arms =
     (125 ∷ []) ∷ (123 ∷ []) ∷ (61 ∷ []) ∷ (58 ∷ []) ∷ (47 ∷ []) ∷ (46 ∷ []) ∷ digits-2 ∷ digits-1 ∷ letters-2 ∷ letters-1 ∷ []
 
-abbrev listed : ℕ → Bool
-listed a = in-arms arms a || eqb (pack a) 988218432520154550
-
-all-listed : upTo listed 256 ≡ true
+pub all-listed : upTo (listed pack arms) 256 ≡ true
 unfolding arms letters-1 letters-2 digits-1 digits-2 pack
 all-listed = refl
-
-pub others : (a : ℕ) → a < 256 → Rest arms a → 988218432520154550 ≡ pack a
-others a h w = sym (eqb-true (pack a) 988218432520154550 (rw (none-of arms a w) at (at-each listed 256 a all-listed h)))
 
 -- the states that accept are those below 18
 ends : (s : State) → ltb (number s) 18 ≡ accept s

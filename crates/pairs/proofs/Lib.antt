@@ -1,5 +1,6 @@
 mod PlaceWays
 mod BestWays
+mod RivalWays
 pub mod RoomWays
 pub mod WriteWays
 pub mod BestLaws

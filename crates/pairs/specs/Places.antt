@@ -42,6 +42,14 @@ pairsIn store places (suc n) = pairsIn store places n ++ pairIn store places n �
 abbrev pub keyAt : Text → List ℕ → Bool → ℕ → Text
 keyAt store places invert i = textAt store places (2 * i + cond invert 1 0)
 
+-- the text of n bytes from `start` on, as `textAt` has it of a place
+unfoldable pub cut : Text → ℕ → ℕ → Text
+cut store start n = cond (leb (start + n) (length store)) (take n (drop start store)) []
+
+-- how many pairs have their key in the slice, which may end in a source alone: the keys behind these are empty
+unfoldable pub keysHeld : List ℕ → Bool → ℕ
+keysHeld places invert = (length places / 2 + cond invert 0 1) / 2
+
 -- the place j is short and in the store; one that is not there is asked nothing
 unfoldable pub fitsAt : Text → List ℕ → ℕ → Bool
 unfolding inside

@@ -1,9 +1,10 @@
 -- Laws of the counts of elements, with selections or without. Assumes nothing.
 use mathlib.Core.Path.{_≡_, refl}
-use mathlib.Core.Bool.{Bool, true, false, cond}
+use mathlib.Core.Bool.{Bool, true, false, cond, _&&_, _||_, false≢true}
 use mathlib.Core.List.{[], _∷_, _++_}
 use Prim.Native.Nat.{ℕ, suc, _+_, _≤_}
 use native.Mathlib.Omega.{arith}
+use lib.Dec.{eqb}
 use lib.ListN.{length}
 use Rattle.text.specs.Text.{Text, lastIs}
 use Rattle.grammar.specs.Legal.{isIdentifierCont, isRoot, isEnd}
@@ -19,6 +20,29 @@ count-short f (a ∷ s) = go (begins f a s) (count-short f s)
     go : (b : Bool) → count f s ≤ length s → cond b 1 0 + count f s ≤ suc (length s)
     go true ih = omega arith
     go false ih = omega arith
+
+-- a text that goes on has no fewer
+begins-more : (f : Bool) (a : ℕ) (s r : Text) → begins f a s ≡ true → begins f a (s ++ r) ≡ true
+begins-more f a [] [] h = h
+begins-more f a [] (x ∷ r) h = go (eqb a 47) (eqb a 123 && f) (eqb a 125) (isIdentifierCont x) h
+  where
+    go : (t o c n : Bool) → (t && false || o || c && false) ≡ true → (t && true || o || c && n) ≡ true
+    go true o c n h = refl
+    go false true c n h = refl
+    go false false true n h = absurd (false≢true h)
+    go false false false n h = h
+begins-more f a (b ∷ s) r h = h
+
+pub count-more : (f : Bool) (s r : Text) → count f s ≤ count f (s ++ r)
+unfolding count
+count-more f [] r = omega arith
+count-more f (a ∷ s) r = go (begins f a s) (begins f a (s ++ r)) (begins-more f a s r) (count-more f s r)
+  where
+    go : (b c : Bool) → (b ≡ true → c ≡ true) → count f s ≤ count f (s ++ r) → cond b 1 0 + count f s ≤ cond c 1 0 + count f (s ++ r)
+    go true true h ih = omega arith
+    go true false h ih = absurd (false≢true (h refl))
+    go false true h ih = omega arith
+    go false false h ih = omega arith
 
 -- `/` has no element
 pub count-root : (f : Bool) → count f (47 ∷ []) ≡ 0

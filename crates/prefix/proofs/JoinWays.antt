@@ -1,4 +1,4 @@
--- What each way through `is_child`, `is_bare`, `separator_len`, `body_at`, `is_spoilt` and `join` gives. Assumes nothing.
+-- What each way through `is_child`, `is_bare`, `separator_len`, `body_at`, `is_spoilt`, `write_slash` and `join` gives. Assumes nothing.
 use mathlib.Core.Path.{_≡_, refl, sym, ap, _∙_}
 use mathlib.Core.Logic.{_≢_}
 use mathlib.Core.Bool.{Bool, true, false, not, cond, _&&_, _||_}
@@ -6,9 +6,10 @@ use mathlib.Core.List.{List, [], _∷_, _++_, append-assoc}
 use Prim.Native.Nat.{ℕ, zero, suc, _+_, _-_, _≤_, _<_}
 use native.Mathlib.Nat.{zero-add}
 use native.Mathlib.Omega.{arith}
+use native.Mathlib.Numerals.{add-one}
 use lib.Dec.{eqb, leb}
-use lib.ListN.{length, getD, take, drop, length-append}
-use lib.Seq.{length-take-le}
+use lib.ListN.{length, getD, set, take, drop, length-append, take-append-drop}
+use lib.Seq.{length-take-le, take-nil, set-split}
 use borrow.Author.Tests.{eq-eqb, ne-eqb, le-leb, lt-leb}
 use Rattle.text.specs.Text.{Text, isNil, equal, starts, lastIs, written, placed, fitted}
 use Rattle.text.specs.declared.Fit.{Fit}
@@ -143,6 +144,30 @@ separator-short s t (a ∷ r) = one-byte (cond (isRoot s) (isRoot t) (not (isChi
 
 pub taken-length : (k : ℕ) → k ≤ 1 → k ≡ length {A = ℕ} (take k (47 ∷ []))
 taken-length k h = sym (length-take-le k (47 ∷ []) h)
+
+-- `write_slash`
+slash-taken : (k : ℕ) → k ≢ 0 → take {A = ℕ} k (47 ∷ []) ≡ 47 ∷ []
+slash-taken zero d = absurd (d refl)
+slash-taken (suc k) d = rw (take-nil k)
+
+module _ (k at : ℕ) (out : Text) where
+  pub slash-none : k ≡ 0 → out ≡ placed at (take k (47 ∷ [])) out
+  unfolding placed
+  slash-none h = rw h (go (leb (at + 0) (length out)))
+    where
+      go : (b : Bool) → out ≡ cond b (take at out ++ drop (at + 0) out) out
+      go true = let z : at + 0 ≡ at = omega arith in rw z (sym (take-append-drop at out))
+      go false = refl
+
+  pub slash-over : k ≢ 0 → length out ≤ at → out ≡ placed at (take k (47 ∷ [])) out
+  unfolding placed
+  slash-over d h = rw (slash-taken k d, lt-leb (at + 1) (length out) (omega arith))
+
+  pub slash-put : k ≢ 0 → at < length out → set out at 47 ≡ placed at (take k (47 ∷ [])) out
+  unfolding placed
+  slash-put d h = rw (slash-taken k d, le-leb (at + 1) (length out) (omega arith), add-one at) (set-split out at 47 h)
+
+pub ruleset slashes = (slash-none, slash-over, slash-put)
 
 taken-byte : (b : Bool) → take (length (slashUnless b)) (47 ∷ []) ≡ slashUnless b
 taken-byte true = refl

@@ -1,19 +1,19 @@
--- What each way through `is_boundary` and `has_prefix` gives. Assumes nothing.
+-- What each way through `is_boundary`, `is_bounded` and `has_prefix` gives. Assumes nothing.
 use mathlib.Core.Path.{_≡_, refl, sym, ap, _∙_}
 use mathlib.Core.Logic.{_≢_}
-use mathlib.Core.Bool.{Bool, true, false, not, _||_, true≢false}
+use mathlib.Core.Bool.{Bool, true, false, not, _&&_, _||_}
 use mathlib.Core.List.{List, [], _∷_}
 use mathlib.Core.Option.{Option, none, some}
 use Prim.Native.Nat.{ℕ, _≤_, _<_}
 use lib.Dec.{eqb}
 use lib.ListN.{length, getD, drop, drop-of-length-le}
-use lib.Seq.{drop-cons}
+use lib.Seq.{drop-cons, drop-append-seam}
 use borrow.Author.Tests.{eq-eqb, ne-eqb}
 use Rattle.text.specs.Text.{Text, isSome, after, starts, lastIs}
-use Rattle.text.proofs.BoolLaws.{or-false, told, told-false, told-true}
-use Rattle.text.proofs.TextLaws.{starts-rest}
+use Rattle.text.proofs.BoolLaws.{and-no, and-yes, or-false, told, told-false, told-true}
+use Rattle.text.proofs.TextLaws.{after-up}
 use Rattle.grammar.specs.Legal.{isRoot}
-use Rattle.prefix.specs.Prefix.{boundary, hasPrefix}
+use Rattle.prefix.specs.Prefix.{boundary, follows, followsSome, hasPrefix}
 
 -- the root's test comes last in the code
 root-last : (r s d b l : Bool) → (r || s || d || b || l) ≡ (s || d || b || r || l)
@@ -43,21 +43,27 @@ module _ (s : Text) (a : ℕ) where
   pub boundary-closed : (b c : Bool) → a ≢ 47 → a ≢ 46 → a ≢ 123 → b ≡ isRoot s → b ≡ false → c ≡ lastIs 125 s → c ≡ boundary s a
   boundary-closed b c d f g h k l = rw (boundary-last s a, ne-eqb a 47 d, ne-eqb a 46 f, ne-eqb a 123 g, told h k) l
 
-module _ (p s : Text) (b : Bool) where
-  pub prefix-not : b ≡ starts s p → not b ≡ true → false ≡ hasPrefix p s
+module _ (p s : Text) where
+  pub bounded-end : length p ≤ length s → true ≡ follows s (drop (length s) p)
+  unfolding follows
+  bounded-end l = rw (drop-of-length-le p l)
+
+  pub bounded-at : (r : Bool) → length s < length p → r ≡ boundary s (getD p (length s) 0) → r ≡ follows s (drop (length s) p)
+  unfolding follows
+  bounded-at r l j = rw (drop-cons p (length s) 0 l) j
+
+  in-parts : hasPrefix p s ≡ (follows s (drop (length s) p) && starts s p)
   unfolding hasPrefix starts
-  prefix-not h k = go (after s p) refl
+  in-parts = go (after s p) refl
     where
-      go : (o : Option Text) → after s p ≡ o → false ≡ hasPrefix p s
-      go none e = rw e
-      go (some r) e = absurd (true≢false (sym (ap isSome e) ∙ told-false h k))
+      go : (o : Option Text) → after s p ≡ o → followsSome s o ≡ (follows s (drop (length s) p) && isSome o)
+      go none e = sym (and-no (follows s (drop (length s) p)))
+      go (some r) e = rw (after-up s p r e, drop-append-seam s r) (sym (and-yes (follows s r)))
 
-  pub prefix-whole : b ≡ starts s p → not b ≡ false → length p ≤ length s → true ≡ hasPrefix p s
-  unfolding hasPrefix
-  prefix-whole h k l = rw (starts-rest s p (told-true h k), drop-of-length-le p l)
+  pub prefix-not : (b : Bool) → b ≡ follows s (drop (length s) p) → not b ≡ true → false ≡ hasPrefix p s
+  prefix-not b h k = rw (in-parts, told-false h k)
 
-  pub prefix-rest : (r : Bool) → b ≡ starts s p → not b ≡ false → length s < length p → r ≡ boundary s (getD p (length s) 0) → r ≡ hasPrefix p s
-  unfolding hasPrefix
-  prefix-rest r h k l j = rw (starts-rest s p (told-true h k), drop-cons p (length s) 0 l, j)
+  pub prefix-starts : (b r : Bool) → b ≡ follows s (drop (length s) p) → not b ≡ false → r ≡ starts s p → r ≡ hasPrefix p s
+  prefix-starts b r h k j = rw (in-parts, told-true h k) j
 
-pub ruleset prefixes = (boundary-slash, boundary-dot, boundary-open, boundary-root, boundary-closed, prefix-not, prefix-whole, prefix-rest)
+pub ruleset prefixes = (boundary-slash, boundary-dot, boundary-open, boundary-root, boundary-closed, bounded-end, bounded-at, prefix-not, prefix-starts)

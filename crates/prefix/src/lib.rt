@@ -4,10 +4,11 @@ ghost use mathlib.Core.Path.{_≡_};
 ghost use mathlib.Core.Bool.{Bool, cond, _||_};
 ghost use lib.Dec.{eqb};
 ghost use Prim.Native.Nat.{_+_, _<_, _≤_};
-ghost use lib.ListN.{length, getD, drop};
+ghost use mathlib.Core.List.{[], _∷_};
+ghost use lib.ListN.{length, getD, take, drop};
 ghost use Rattle.text.specs.Text.{equal, fitted, placed};
 ghost use Rattle.prefix.specs.Elements.{begins, count, elements, names};
-ghost use Rattle.prefix.specs.Prefix.{boundary, hasPrefix};
+ghost use Rattle.prefix.specs.Prefix.{boundary, follows, hasPrefix};
 ghost use Rattle.prefix.specs.Join.{isChild, bare, separator, body, joined, spoils};
 
 // A number of elements: how maps measure a key.
@@ -32,18 +33,25 @@ fn is_boundary(prefix: &[u8], a: u8) -> bool
     text::last_is(prefix, b'}')
 }
 
-// Does the path begin with the prefix, at the end of an element?
-pub fn has_prefix(path: &[u8], prefix: &[u8]) -> bool
-    ensures { λ r. ⌜ r ≡ hasPrefix (now (path .entry)) (now (prefix .entry)) ⌝ }
+// May what stands in the path behind so many bytes stand behind the prefix?
+fn is_bounded(path: &[u8], prefix: &[u8]) -> bool
+    ensures { λ r. ⌜ r ≡ follows (now (prefix .entry)) (drop (length (now (prefix .entry))) (now (path .entry))) ⌝ }
 {
-    if !text::starts_with(path, prefix) {
-        return false;
-    }
     let n = prefix.len();
     if path.len() <= n {
         return true;
     }
     is_boundary(prefix, path[n])
+}
+
+// Does the path begin with the prefix, at the end of an element? The one byte behind it is asked first.
+pub fn has_prefix(path: &[u8], prefix: &[u8]) -> bool
+    ensures { λ r. ⌜ r ≡ hasPrefix (now (path .entry)) (now (prefix .entry)) ⌝ }
+{
+    if !is_bounded(path, prefix) {
+        return false;
+    }
+    text::starts_with(path, prefix)
 }
 
 // Does an element begin at place i? Selections count where the flag says so.
@@ -164,6 +172,20 @@ fn body_at(old: &[u8], rest: &[u8]) -> usize
     1
 }
 
+// Writes a slash at a place where k is not 0 and the memory reaches there. A store, where copying one byte
+// would be a call.
+fn write_slash(k: usize, at: usize, out: &mut [u8])
+    ensures { λ _. ⌜ now (out .exit) ≡ placed at (take k (47 ∷ [])) (now (out .entry)) ⌝ }
+{
+    if k == 0 {
+        return;
+    }
+    if out.len() <= at {
+        return;
+    }
+    out[at] = b'/';
+}
+
 // Writes the rest, which stood behind the old prefix, behind the new one, where that fits.
 pub fn join(old: &[u8], new: &[u8], rest: &[u8], out: &mut [u8]) -> text::Fit
     ensures { λ r. ⌜ r ≡ fitted (joined (now (old .entry)) (now (new .entry)) (now (rest .entry))) (now (out .entry)) ⌝ }
@@ -184,9 +206,8 @@ pub fn join(old: &[u8], new: &[u8], rest: &[u8], out: &mut [u8]) -> text::Fit
     if room - at < body.len() {
         return text::Fit::Over;
     }
-    let slash = [b'/'; 1];
     text::write_at(new, 0, out);
-    text::write_at(&slash[..k], n, out);
+    write_slash(k, n, out);
     text::write_at(body, at, out);
     text::Fit::Written(at + body.len())
 }

@@ -21,10 +21,10 @@ use Rattle.prefix.proofs.PrefixLaws.{replace-prefix}
 use Rattle.parts.specs.Strip.{strip, stripFit, stripMemory}
 use Rattle.parts.proofs.StripLaws.{strip-shorter, strip-length, strip-back}
 use Rattle.layer_offset.specs.declared.LayerOffset.{LayerOffset}
-use Rattle.pairs.specs.declared.Found.{Found}
+use Rattle.rebasing.specs.declared.Counted.{Counted}
 use Rattle.pairs.specs.Pair.{Pair, pair, allShort}
 use Rattle.pairs.specs.Places.{keyAt, pairIn, pairsIn, fourOf}
-use Rattle.pairs.specs.Best.{bestBy, chosenIn}
+use Rattle.pairs.specs.Best.{bestBy}
 use Rattle.pairs.proofs.BestLaws.{Best}
 use Rattle.pairs.proofs.PlaceLaws.{pairsIn-length, pairsIn-source, pairsIn-target, chosen-best, best-same}
 use Rattle.pairs.proofs.WriteWays.{source-key, target-key}
@@ -41,7 +41,7 @@ use Rattle.maps.specs.Derive.{deepened, deepenBy, deepenTo}
 use Rattle.map_function.specs.declared.MapFunction.{MapFunction}
 use Rattle.map_function.specs.Read.{listOf, mapOf}
 use Rattle.map_function.specs.Made.{MapOutcome, map, refused, weighed, asItIs, held}
-use Rattle.rebasing.specs.Class.{consideredAbove}
+use Rattle.rebasing.specs.Class.{consideredAbove, chosenAbove}
 use Rattle.rebasing.specs.Calls.{replaced, fromEnds, deepenedPairs, deepeningBy, deepening, DeepensTo, deepenToCall}
 use Rattle.rebasing.proofs.CallWays.{held-all, weighed-map, fromEnds-map}
 
@@ -85,7 +85,7 @@ module _ (q : Text) (k : ℕ) (made : Text) (e : k ≡ length q) (f : take k mad
   deepen-same node above new a b g h i l mark time out slots = rw (f, i, g, h) refl
 
 -- `consider_above`
-module _ (f : Found) (p k : Text) (i : ℕ) (b : Bool) (h : b ≡ hasPrefix p k) where
+module _ (f : Counted) (p k : Text) (i : ℕ) (b : Bool) (h : b ≡ hasPrefix p k) where
   pub above-other : not b ≡ true → f ≡ consideredAbove f p k i
   unfolding consideredAbove
   above-other l = rw (told-false h l)
@@ -104,8 +104,8 @@ module _ (f : Found) (p k : Text) (i : ℕ) (b : Bool) (h : b ≡ hasPrefix p k)
     above-first g = rw (told-true h l, g, ← e)
 
 -- what the loop keeps: what was found is what `bestBy` chooses of the first i sources
-pub record Above (p : Text) (key : ℕ → Text) (i : ℕ) (f : Found) : Type 0 where
-  pub chosen : chosenIn f ≡ bestBy (hasPrefix p) key i
+pub record Above (p : Text) (key : ℕ → Text) (i : ℕ) (f : Counted) : Type 0 where
+  pub chosen : chosenAbove f ≡ bestBy (hasPrefix p) key i
   pub counted : f .found ≡ true → f .elements ≡ elements (key (f .at))
 
 pub above-none : (p : Text) (key : ℕ → Text) → Above p key 0 (record { found = false; at = 0; elements = 0 })
@@ -126,10 +126,10 @@ module _ (p : Text) (key : ℕ → Text) (i : ℕ) where
   cases false at e true h s = rw s (record { chosen = rw (s, ← (h .chosen)); counted = λ z. refl })
   cases found at e false h s = rw s (record { chosen = rw s (h .chosen); counted = h .counted })
 
-  pub above-on : (f f′ : Found) (k : Text) → Above p key i f → k ≡ key i → f′ ≡ consideredAbove f p k i → Above p key (i + 1) f′
+  pub above-on : (f f′ : Counted) (k : Text) → Above p key i f → k ≡ key i → f′ ≡ consideredAbove f p k i → Above p key (i + 1) f′
   above-on f f′ k h e c = rw (c, e, add-one i) (cases (f .found) (f .at) (f .elements) (hasPrefix p (key i)) h refl)
 
-pub above-end : (p : Text) (key : ℕ → Text) (i n : ℕ) (f : Found) → Above p key i f → n ≤ i → i ≤ n → chosenIn f ≡ bestBy (hasPrefix p) key n
+pub above-end : (p : Text) (key : ℕ → Text) (i n : ℕ) (f : Counted) → Above p key i f → n ≤ i → i ≤ n → chosenAbove f ≡ bestBy (hasPrefix p) key n
 above-end p key i n f h l m = let e : n ≡ i = omega arith in rw e (h .chosen)
 
 pub ruleset classes = (above-other, above-worse, above-better, above-first, above-none, above-on, above-end)
@@ -188,13 +188,13 @@ module _ (store : Text) (places : List ℕ) (f : MapFunction) (p node : Text) (o
       unfolding deepening
       deepen-there l = passed ∙ rw (told g l) stands
 
-      module _ (l : b ≡ false) (c : Found) (i : chosenIn c ≡ bestBy (hasPrefix node) (keyAt store places false) (f .count)) where
-        class-is : bestBy (hasPrefix node) (source m) (size m) ≡ chosenIn c
+      module _ (l : b ≡ false) (c : Counted) (i : chosenAbove c ≡ bestBy (hasPrefix node) (keyAt store places false) (f .count)) where
+        class-is : bestBy (hasPrefix node) (source m) (size m) ≡ chosenAbove c
         class-is =
             rw (pairsIn-length store places (f .count))
             (best-same (hasPrefix node) (source m) (keyAt store places false) (f .count) (λ j n. pairsIn-source store places (f .count) j n) ∙ sym i)
 
-        opened : deepenToCall store places f p out slots ≡ deepeningBy m node (chosenIn c) (f .«time_offset») out slots
+        opened : deepenToCall store places f p out slots ≡ deepeningBy m node (chosenAbove c) (f .«time_offset») out slots
         unfolding deepening
         opened = passed ∙ rw (told g l) (ap (λ (o : Option ℕ). deepeningBy m node o (f .«time_offset») out slots) class-is)
 

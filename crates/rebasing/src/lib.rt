@@ -11,12 +11,12 @@ ghost use Rattle.parts.specs.Strip.{strip};
 ghost use Rattle.grammar.specs.Legal.{legal};
 ghost use Rattle.pairs.specs.Pair.{pair, everyEnd, allShort};
 ghost use Rattle.pairs.specs.Places.{keyAt, pairsIn, fourOf};
-ghost use Rattle.pairs.specs.Best.{bestBy, chosenIn};
+ghost use Rattle.pairs.specs.Best.{bestBy};
 ghost use Rattle.maps.specs.New.{fromPairIdentity};
 ghost use Rattle.maps.specs.Derive.{anyTarget, deepened};
 ghost use Rattle.map_function.specs.Made.{mapReply, mapBytes, mapSlots, weighed};
 ghost use Rattle.composing.specs.Scratch.{Holds};
-ghost use Rattle.rebasing.specs.Class.{consideredAbove};
+ghost use Rattle.rebasing.specs.Class.{consideredAbove, chosenAbove};
 ghost use Rattle.rebasing.specs.Calls.{replaced, fromEnds, rebasedPairs, rebaseTargetCall, deepenedPairs, deepenToCall};
 
 // One pair more behind the first n; the place behind it.
@@ -481,8 +481,15 @@ fn deepen_by(
     deepen_many(store, places, map, node, above, &made[..k], out, slots)
 }
 
+// What the search for a class has found so far: the pair, and how many elements its source has.
+struct Counted {
+    found: bool,
+    at: usize,
+    elements: usize,
+}
+
 // The better class of what was found and the source at i. An empty source counts.
-fn consider_above(f: pairs::Found, node: &[u8], source: &[u8], i: usize) -> pairs::Found
+fn consider_above(f: Counted, node: &[u8], source: &[u8], i: usize) -> Counted
     ensures { λ r. ⌜ r ≡ consideredAbove f (now (node .entry)) (now (source .entry)) i ⌝ }
 {
     if !prefix::has_prefix(node, source) {
@@ -494,7 +501,7 @@ fn consider_above(f: pairs::Found, node: &[u8], source: &[u8], i: usize) -> pair
             return f;
         }
     }
-    pairs::Found {
+    Counted {
         found: true,
         at: i,
         elements: n,
@@ -502,10 +509,10 @@ fn consider_above(f: pairs::Found, node: &[u8], source: &[u8], i: usize) -> pair
 }
 
 // The class: the pair above the node whose source has most elements, the later on a tie.
-fn best_above(store: &[u8], places: &[usize], n: usize, node: &[u8]) -> pairs::Found
-    ensures { λ r. ⌜ chosenIn r ≡ bestBy (hasPrefix (now (node .entry))) (keyAt (now (store .entry)) (now (places .entry)) false) n ⌝ }
+fn best_above(store: &[u8], places: &[usize], n: usize, node: &[u8]) -> Counted
+    ensures { λ r. ⌜ chosenAbove r ≡ bestBy (hasPrefix (now (node .entry))) (keyAt (now (store .entry)) (now (places .entry)) false) n ⌝ }
 {
-    let mut f = pairs::Found {
+    let mut f = Counted {
         found: false,
         at: 0,
         elements: 0,

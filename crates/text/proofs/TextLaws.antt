@@ -8,11 +8,11 @@ use Prim.Native.Nat.{ℕ, zero, suc, _+_, _-_, _≤_, _<_}
 use native.Mathlib.Numerals.{add-one}
 use native.Mathlib.Omega.{arith}
 use lib.Dec.{eqb}
-use lib.ListN.{length, getD, drop, drop-of-length-le, length-append}
+use lib.ListN.{length, getD, drop, drop-of-length-le, length-append, List·getD-append}
 use lib.Seq.{drop-cons, drop-append-seam}
 use borrow.Author.Tests.{eqb-true, eq-eqb, ne-eqb}
 use Rattle.text.specs.Text.{Text, isSome, equal, after, starts, lastIs, lacks}
-use Rattle.text.proofs.BoolLaws.{and-l, and-r, eqb-self, not-true}
+use Rattle.text.proofs.BoolLaws.{and-l, and-r, and-yes, and-assoc, eqb-self, not-true}
 
 -- `none` is not `some`
 pub no-text : {q : Text} → none ≡ some q → ⊥
@@ -58,23 +58,42 @@ starts-shorter s p h = go (starts s p) refl
     go true e = absurd (omega (arith, starts-long s p e))
     go false e = refl
 
-pub starts-differ : (s p : Text) (i : ℕ) → length s ≤ length p → i < length s → getD p i 0 ≢ getD s i 0
-    → after s p ≡ after (drop i s) (drop i p) → false ≡ starts s p
+pub starts-none : (s p : Text) → length s ≡ 0 → true ≡ starts s p
 unfolding starts after
-starts-differ s p i m h d e =
-    let l : i < length p = omega arith in
-    rw (e, drop-cons p i 0 l, drop-cons s i 0 h, ne-eqb (getD s i 0) (getD p i 0) (λ k. d (sym k)))
+starts-none [] p h = refl
+starts-none (a ∷ s) p h = absurd (omega arith)
 
-pub starts-on : (s p : Text) (i : ℕ) → length s ≤ length p → i < length s → getD p i 0 ≡ getD s i 0
-    → after s p ≡ after (drop i s) (drop i p) → after s p ≡ after (drop (i + 1) s) (drop (i + 1) p)
-unfolding after
-starts-on s p i m h d e =
-    let l : i < length p = omega arith in
-    rw add-one (rw (drop-cons p i 0 l, drop-cons s i 0 h, eq-eqb (getD s i 0) (getD p i 0) (sym d)) at e)
+-- a text that begins with s has at each place of s the byte of s
+pub starts-at : (s p : Text) (i : ℕ) → i < length s → starts s p ≡ true → getD p i 0 ≡ getD s i 0
+unfolding starts
+starts-at s p i h e = rw (after-up s p (drop (length s) p) (starts-rest s p e)) (List·getD-append s (drop (length s) p) 0 i h)
 
-pub starts-end : (s p : Text) (i : ℕ) → length s ≤ i → after s p ≡ after (drop i s) (drop i p) → true ≡ starts s p
+pub starts-differ : (s p : Text) → length s ≢ 0 → getD p (length s - 1) 0 ≢ getD s (length s - 1) 0 → false ≡ starts s p
+starts-differ s p n d = go (starts s p) refl
+  where
+    go : (b : Bool) → starts s p ≡ b → false ≡ b
+    go true e = absurd (d (starts-at s p (length s - 1) (omega (arith, n)) e))
+    go false e = refl
+
+starts-cons : (a : ℕ) (s : Text) (b : ℕ) (p : Text) → starts (a ∷ s) (b ∷ p) ≡ (eqb a b && starts s p)
 unfolding starts after
-starts-end s p i l e = rw (e, drop-of-length-le s l)
+starts-cons a s b p = go (eqb a b)
+  where
+    go : (t : Bool) → isSome (cond t (after s p) none) ≡ (t && isSome (after s p))
+    go true = refl
+    go false = refl
+
+pub starts-on : (s p : Text) (i : ℕ) (same : Bool) → length s ≤ length p → i < length s → starts s p ≡ (same && starts (drop i s) (drop i p))
+    → starts s p ≡ (same && eqb (getD s i 0) (getD p i 0) && starts (drop (i + 1) s) (drop (i + 1) p))
+starts-on s p i same m h e =
+    let l : i < length p = omega arith in
+    let t : Bool = eqb (getD s i 0) (getD p i 0) in
+    rw (add-one i, and-assoc same t (starts (drop (suc i) s) (drop (suc i) p)), ← starts-cons (getD s i 0) (drop (suc i) s) (getD p i 0) (drop (suc i) p))
+    (rw (drop-cons p i 0 l, drop-cons s i 0 h) at e)
+
+pub starts-end : (s p : Text) (i : ℕ) (same : Bool) → length s ≤ i → starts s p ≡ (same && starts (drop i s) (drop i p)) → same ≡ starts s p
+unfolding starts after
+starts-end s p i same l e = rw (e, drop-of-length-le s l) (sym (and-yes same))
 
 -- `is_equal`
 pub equal-lengths : (a b : Text) → length a ≢ length b → false ≡ equal a b
@@ -157,18 +176,16 @@ last-behind b [] a r = refl
 last-behind b (c ∷ []) a r = refl
 last-behind b (c ∷ d ∷ s) a r = last-behind b (d ∷ s) a r
 
--- `lacks_byte`
-pub lacks-on : (b : ℕ) (s : Text) (i : ℕ) → i < length s → getD s i 0 ≢ b → lacks b s ≡ lacks b (drop i s) → lacks b s ≡ lacks b (drop (i + 1) s)
+-- `lacks_byte`: what the loop keeps is the test of the bytes read, and the rest
+pub lacks-on : (b : ℕ) (s : Text) (i : ℕ) (free : Bool) → i < length s → lacks b s ≡ (free && lacks b (drop i s))
+    → lacks b s ≡ (free && not (eqb (getD s i 0) b) && lacks b (drop (i + 1) s))
 unfolding lacks
-lacks-on b s i h d e = rw add-one (rw (drop-cons s i 0 h, ne-eqb (getD s i 0) b d) at e)
+lacks-on b s i free h e =
+    rw (add-one i, and-assoc free (not (eqb (getD s i 0) b)) (lacks b (drop (suc i) s))) (rw (drop-cons s i 0 h) at e)
 
-pub lacks-found : (b : ℕ) (s : Text) (i : ℕ) → i < length s → getD s i 0 ≡ b → lacks b s ≡ lacks b (drop i s) → false ≡ lacks b s
+pub lacks-end : (b : ℕ) (s : Text) (i : ℕ) (free : Bool) → length s ≤ i → lacks b s ≡ (free && lacks b (drop i s)) → free ≡ lacks b s
 unfolding lacks
-lacks-found b s i h d e = rw (e, drop-cons s i 0 h, eq-eqb (getD s i 0) b d)
-
-pub lacks-end : (b : ℕ) (s : Text) (i : ℕ) → length s ≤ i → lacks b s ≡ lacks b (drop i s) → true ≡ lacks b s
-unfolding lacks
-lacks-end b s i h e = rw (e, drop-of-length-le s h)
+lacks-end b s i free h e = rw (e, drop-of-length-le s h) (sym (and-yes free))
 
 pub lacks-first : (b a : ℕ) (r : Text) → lacks b (a ∷ r) ≡ true → eqb a b ≡ false
 unfolding lacks
@@ -188,4 +205,4 @@ unfolding lacks
 lacks-join b [] r e f = f
 lacks-join b (a ∷ s) r e f = rw (and-l (not (eqb a b)) (lacks b s) e) (lacks-join b s r (and-r (not (eqb a b)) (lacks b s) e) f)
 
-pub ruleset texts = (starts-shorter, starts-differ, starts-on, starts-end, equal-lengths, equal-starts, last-none, last-some, lacks-on, lacks-found, lacks-end)
+pub ruleset texts = (starts-shorter, starts-none, starts-differ, starts-on, starts-end, equal-lengths, equal-starts, last-none, last-some, lacks-on, lacks-end)

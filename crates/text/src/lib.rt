@@ -11,21 +11,28 @@ pub enum Fit {
     Over,
 }
 
-// Does the text begin with the prefix? It leaves at the first byte that differs.
+// Does the text begin with the prefix? The last byte is looked at first; the loop leaves nowhere, so that
+// it compiles to comparisons of many bytes at once.
 pub fn starts_with(text: &[u8], prefix: &[u8]) -> bool
     ensures { λ r. ⌜ r ≡ starts (now (prefix .entry)) (now (text .entry)) ⌝ }
 {
-    if text.len() < prefix.len() {
+    let n = prefix.len();
+    if text.len() < n {
         return false;
     }
+    if n == 0 {
+        return true;
+    }
+    if text[n - 1] != prefix[n - 1] {
+        return false;
+    }
+    let mut same = true;
     let mut i = 0;
-    while i < prefix.len() {
-        if text[i] != prefix[i] {
-            return false;
-        }
+    while i < n {
+        same = same & (prefix[i] == text[i]);
         i += 1;
     }
-    true
+    same
 }
 
 // Are the two texts the same?
@@ -49,18 +56,17 @@ pub fn last_is(text: &[u8], b: u8) -> bool
     text[n - 1] == b
 }
 
-// Is no byte of the text b?
+// Is no byte of the text b? As in `starts_with`, the loop leaves nowhere.
 pub fn lacks_byte(text: &[u8], b: u8) -> bool
     ensures { λ r. ⌜ r ≡ lacks b (now (text .entry)) ⌝ }
 {
+    let mut lacks = true;
     let mut i = 0;
     while i < text.len() {
-        if text[i] == b {
-            return false;
-        }
+        lacks = lacks & (text[i] != b);
         i += 1;
     }
-    true
+    lacks
 }
 
 // Copies the text over the memory from a place on, where it fits; otherwise it writes nothing.

@@ -1,5 +1,5 @@
 use Rattle.grammar.specs.Legal.{legal}
-use Rattle.asking.proofs.AskWays.{first-fails, second-fails, list-passes}
+use Rattle.asking.proofs.AskWays.{first-fails, second-fails, list-legal, list-passes}
 use borrow.Author.Needs.{needs}
 use Rattle.asking.proofs.are_legal.Statement.{statement}
 use Rattle.asking.proofs.are_legal.Tie as tie
@@ -16,14 +16,17 @@ is-legal-requires-2 c κs = search needs
 returns-2 : tie.Need-returns-2
 returns-2 c = second-fails legal _ _ _ _ _ _ (c .before .before .before .is-legal .ensures) (c .before .before .if1 .left) _ (c .before .is-legal2 .ensures) (c .if2 .taken)
 
+returns-3 : tie.Need-returns-3
+returns-3 c = list-legal _ _ _ _ (c .before .before .before .before .is-legal .ensures) (c .before .before .before .if1 .left) _ (c .before .before .is-legal2 .ensures) (c .before .if2 .left) _ (c .before .before .before .before .before .before .before .before .before .pre) (c .if3 .taken)
+
 places-of-requires : tie.Need-places-of-requires
 places-of-requires c κs = search needs
 
 all-legal-requires : tie.Need-all-legal-requires
 all-legal-requires c κs = search needs
 
-returns-3 : tie.Need-returns-3
-returns-3 c = list-passes legal _ _ _ _ _ _ (c .before .before .before .before .before .is-legal .ensures) (c .before .before .before .before .if1 .left) _ (c .before .before .before .is-legal2 .ensures) (c .before .before .if2 .left) _ (c .before .places-of .ensures) _ (c .all-legal .ensures)
+returns-4 : tie.Need-returns-4
+returns-4 c = list-passes legal _ _ _ _ _ _ (c .before .before .before .before .before .before .is-legal .ensures) (c .before .before .before .before .before .if1 .left) _ (c .before .before .before .before .is-legal2 .ensures) (c .before .before .before .if2 .left) _ (c .before .places-of .ensures) _ (c .all-legal .ensures)
 
 pub are-legal-spec : {M : Type 1} → statement M
 are-legal-spec =
@@ -33,6 +36,7 @@ are-legal-spec =
     returns
     is-legal-requires-2
     returns-2
+    returns-3
     places-of-requires
     all-legal-requires
-    returns-3)
+    returns-4)

@@ -1,7 +1,8 @@
 use mathlib.Core.Path.{refl}
 use Rattle.text.proofs.WriteLaws.{fit-part, fit-inside}
 use Rattle.path.proofs.CallWays.{refusing, answering}
-use Rattle.carry.proofs.TranslateWays.{pair-over, pair-lost, pair-other, pair-same}
+use Rattle.carry.proofs.TranslateWays.{pair-over, pair-other, pair-same}
+use borrow.Author.Needs.{needs}
 use borrow.Author.Needs.{needs}
 use Rattle.carry.proofs.translate_pair.Statement.{statement}
 use Rattle.carry.proofs.translate_pair.Tie as tie
@@ -24,41 +25,29 @@ returns c = refusing _ _ (pair-over _ _ _ _ _ _ _ _ _ _ (c .before .before .befo
 array-share-prefix-made : tie.Need-array-share-prefix-made
 array-share-prefix-made c = fit-inside _ _ _ (c .before .before .before .before .join .ensures .0) _ (c .before .fit .given .1) _ (c .before .before .before .before .join .ensures .1)
 
-slice-aggregate-best-prefix : tie.Need-slice-aggregate-best-prefix
-slice-aggregate-best-prefix c = fit-part _ _ _ (c .before .before .before .before .before .join .ensures .0) _ (c .before .before .fit .given .1) _ (c .before .before .before .before .before .join .ensures .1)
+slice-aggregate-is-best : tie.Need-slice-aggregate-is-best
+slice-aggregate-is-best c = fit-part _ _ _ (c .before .before .before .before .before .join .ensures .0) _ (c .before .before .fit .given .1) _ (c .before .before .before .before .before .join .ensures .1)
 
-best-prefix-requires : tie.Need-best-prefix-requires
-best-prefix-requires c κs = search needs
+is-best-requires : tie.Need-is-best-requires
+is-best-requires c κs = search needs
 
 returns-2 : tie.Need-returns-2
-returns-2 c =
-    refusing _ _
-    (pair-lost _ _ _ _ _ _ _ _ _ _ (c .before .before .before .before .before .before .before .before .join .ensures .0) refl _ (c .before .before .before .before .before .fit .given .1) _ (c .before .before .before .before .before .before .before .before .join .ensures .1) (c .before .before .best-prefix .result)
-    (c .before .before .best-prefix .ensures) (c .if1 .taken)) _
-
-returns-3 : tie.Need-returns-3
-returns-3 c =
-    refusing _ _
-    (pair-other _ _ _ _ _ _ _ _ _ _ (c .before .before .before .before .before .before .before .before .before .before .join .ensures .0) refl _ (c .before .before .before .before .before .before .before .fit .given .1) _ (c .before .before .before .before .before .before .before .before .before .before .join .ensures .1) (c .before .before .before .before .best-prefix .result)
-    (c .before .before .before .before .best-prefix .ensures) (c .before .before .if1 .left) (c .if2 .taken)) _
+returns-2 c = refusing _ _ (pair-other _ _ _ _ _ _ _ _ _ _ (c .before .before .before .before .before .before .before .join .ensures .0) refl _ (c .before .before .before .before .fit .given .1) _ (c .before .before .before .before .before .before .before .join .ensures .1) _ (c .before .is-best .ensures) (c .if1 .taken)) _
 
 is-spoilt-requires : tie.Need-is-spoilt-requires
 is-spoilt-requires c κs = search needs
 
 array-share-prefix-made-2 : tie.Need-array-share-prefix-made-2
-array-share-prefix-made-2 c = fit-inside _ _ _ (c .before .before .before .before .before .before .before .before .before .before .before .join .ensures .0) _ (c .before .before .before .before .before .before .before .before .fit .given .1) _ (c .before .before .before .before .before .before .before .before .before .before .before .join .ensures .1)
+array-share-prefix-made-2 c = fit-inside _ _ _ (c .before .before .before .before .before .before .before .before .join .ensures .0) _ (c .before .before .before .before .before .fit .given .1) _ (c .before .before .before .before .before .before .before .before .join .ensures .1)
 
 slice-aggregate-finish : tie.Need-slice-aggregate-finish
-slice-aggregate-finish c = fit-part _ _ _ (c .before .before .before .before .before .before .before .before .before .before .before .before .join .ensures .0) _ (c .before .before .before .before .before .before .before .before .before .fit .given .1) _ (c .before .before .before .before .before .before .before .before .before .before .before .before .join .ensures .1)
+slice-aggregate-finish c = fit-part _ _ _ (c .before .before .before .before .before .before .before .before .before .join .ensures .0) _ (c .before .before .before .before .before .before .fit .given .1) _ (c .before .before .before .before .before .before .before .before .before .join .ensures .1)
 
 finish-requires : tie.Need-finish-requires
 finish-requires c κs = search needs
 
-returns-4 : tie.Need-returns-4
-returns-4 c =
-    answering _ _
-    (pair-same _ _ _ _ _ _ _ _ _ _ (c .before .before .before .before .before .before .before .before .before .before .before .before .before .before .join .ensures .0) refl _ (c .before .before .before .before .before .before .before .before .before .before .before .fit .given .1) _ (c .before .before .before .before .before .before .before .before .before .before .before .before .before .before .join .ensures .1) (c .before .before .before .before .before .before .before .before .best-prefix .result)
-    (c .before .before .before .before .before .before .before .before .best-prefix .ensures) _ (c .before .before .before .before .before .before .if1 .left) (c .before .before .before .before .if2 .left) (c .before .before .before .is-spoilt .ensures)) _ _ _ (c .finish .ensures)
+returns-3 : tie.Need-returns-3
+returns-3 c = answering _ _ (pair-same _ _ _ _ _ _ _ _ _ _ (c .before .before .before .before .before .before .before .before .before .before .before .join .ensures .0) refl _ (c .before .before .before .before .before .before .before .before .fit .given .1) _ (c .before .before .before .before .before .before .before .before .before .before .before .join .ensures .1) _ (c .before .before .before .before .before .is-best .ensures) _ (c .before .before .before .before .if1 .left) (c .before .before .before .is-spoilt .ensures)) _ _ _ (c .finish .ensures)
 
 pub translate-pair-spec : {M : Type 1} → statement M
 translate-pair-spec =
@@ -70,12 +59,11 @@ translate-pair-spec =
     enum-told
     returns
     array-share-prefix-made
-    slice-aggregate-best-prefix
-    best-prefix-requires
+    slice-aggregate-is-best
+    is-best-requires
     returns-2
-    returns-3
     is-spoilt-requires
     array-share-prefix-made-2
     slice-aggregate-finish
     finish-requires
-    returns-4)
+    returns-3)

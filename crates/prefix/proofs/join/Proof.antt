@@ -1,4 +1,4 @@
-use Rattle.prefix.proofs.JoinWays.{separator-short, taken-length, join-over-new, join-over-slash, join-over-body, join-fits}
+use Rattle.prefix.proofs.JoinWays.{join-over-new, join-over-slash, join-over-body, join-fits}
 use borrow.Author.Needs.{needs}
 use Rattle.prefix.proofs.join.Statement.{statement}
 use Rattle.prefix.proofs.join.Tie as tie
@@ -36,28 +36,20 @@ returns-3 c = join-over-body _ _ _ _ _ _ (c .before .before .before .before .sep
 write-at-requires : tie.Need-write-at-requires
 write-at-requires c κs = search needs
 
-array-share-prefix-slash : tie.Need-array-share-prefix-slash
-array-share-prefix-slash c = rw (c .before .before .before .before .before .before .before .before .separator-len .ensures) (separator-short _ _ _)
-
-slice-aggregate-write-at : tie.Need-slice-aggregate-write-at
-slice-aggregate-write-at c = taken-length _ (rw (c .before .before .before .before .before .before .before .before .before .separator-len .ensures) (separator-short _ _ _))
+write-slash-requires : tie.Need-write-slash-requires
+write-slash-requires c κs = search needs
 
 write-at-requires-2 : tie.Need-write-at-requires-2
 write-at-requires-2 c κs = search needs
 
-write-at-requires-3 : tie.Need-write-at-requires-3
-write-at-requires-3 c κs = search needs
-
-add-t16 : tie.Need-add-t16
-add-t16 c = search needs
+add-t15 : tie.Need-add-t15
+add-t15 c = search needs
 
 same-length : tie.Need-same-length
 same-length c = search needs
 
 returns-4 : tie.Need-returns-4
-returns-4 c =
-    join-fits _ _ _ _ _ _ (c .before .before .before .before .before .before .before .before .before .before .before .before .before .before .before .before .before .separator-len .ensures) (c .before .before .before .before .before .before .before .before .before .before .before .before .before .before .before .body-at .ensures .0) _ _ _ (c .before .before .before .before .before .before .before .before .before .before .before .before .before .before .before .before .before .before .if1 .left) (c .before .before .before .before .before .before .before .before .before .before .before .before .before .before .before .before .if2 .left) (c .before .before .before .before .before .before .before .before .before .before .before .before .before .if3 .left)
-    (c .before .before .before .before .before .before .before .before .before .before .before .write-at .ensures) (c .before .before .before .before .before .before .write-at2 .ensures) (c .before .before .write-at3 .ensures)
+returns-4 c = join-fits _ _ _ _ _ _ (c .before .before .before .before .before .before .before .before .before .before .before .before .before .before .before .before .separator-len .ensures) (c .before .before .before .before .before .before .before .before .before .before .before .before .before .before .body-at .ensures .0) _ _ _ (c .before .before .before .before .before .before .before .before .before .before .before .before .before .before .before .before .before .if1 .left) (c .before .before .before .before .before .before .before .before .before .before .before .before .before .before .before .if2 .left) (c .before .before .before .before .before .before .before .before .before .before .before .before .if3 .left) (c .before .before .before .before .before .before .before .before .before .before .write-at .ensures) (c .before .before .before .before .before .before .write-slash .ensures) (c .before .before .write-at2 .ensures)
 
 pub join-spec : {M : Type 1} → statement M
 join-spec =
@@ -74,10 +66,8 @@ join-spec =
     sub-if3
     returns-3
     write-at-requires
-    array-share-prefix-slash
-    slice-aggregate-write-at
+    write-slash-requires
     write-at-requires-2
-    write-at-requires-3
-    add-t16
+    add-t15
     same-length
     returns-4)

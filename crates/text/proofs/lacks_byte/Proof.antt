@@ -1,6 +1,7 @@
 use Rattle.text.proofs.TextLaws.{texts}
 use borrow.Author.Needs.{needs}
 use mathlib.Core.Path.{_≡_}
+use mathlib.Core.Bool.{_&&_}
 use Prim.Native.Nat.{_≤_, _-_}
 use lib.ListN.{length, drop}
 use Rattle.text.specs.Text.{lacks}
@@ -8,19 +9,16 @@ use Rattle.text.proofs.lacks_byte.Statement.{statement}
 use Rattle.text.proofs.lacks_byte.Tie as tie
 
 abbrev Inv-loop : tie.InvT-loop
-Inv-loop text b i₀ i = (i ≤ length text) × (lacks b text ≡ lacks b (drop i text))
+Inv-loop text b free₀ i₀ free i = (i ≤ length text) × (lacks b text ≡ (free && lacks b (drop i text)))
 
 abbrev μ-loop : tie.MeasureT-loop
-μ-loop text b i₀ i = length text - i
+μ-loop text b free₀ i₀ free i = length text - i
 
 loop-holds : tie.Need-loop-holds Inv-loop μ-loop
 loop-holds c = search (needs, texts)
 
-shared-slice-read-if1 : tie.Need-shared-slice-read-if1 Inv-loop μ-loop
-shared-slice-read-if1 c = search (needs, texts)
-
-returns : tie.Need-returns Inv-loop μ-loop
-returns c = search (needs, texts)
+shared-slice-read-lacks : tie.Need-shared-slice-read-lacks Inv-loop μ-loop
+shared-slice-read-lacks c = search (needs, texts)
 
 add-i : tie.Need-add-i Inv-loop μ-loop
 add-i c = search (needs, texts)
@@ -31,8 +29,8 @@ loop-less c = search (needs, texts)
 loop-again : tie.Need-loop-again Inv-loop μ-loop
 loop-again c = search (needs, texts)
 
-returns-2 : tie.Need-returns-2 Inv-loop μ-loop
-returns-2 c = search (needs, texts)
+returns : tie.Need-returns Inv-loop μ-loop
+returns c = search (needs, texts)
 
 pub lacks-byte-spec : {M : Type 1} → statement M
 lacks-byte-spec =
@@ -41,9 +39,8 @@ lacks-byte-spec =
     Inv-loop
     μ-loop
     loop-holds
-    shared-slice-read-if1
-    returns
+    shared-slice-read-lacks
     add-i
     loop-less
     loop-again
-    returns-2)
+    returns)

@@ -1,0 +1,115 @@
+-- An end is a text that is legal when `.` and `{` count as bytes that no path has, and what each way through `end_row` and `is_end` gives.
+-- Assumes nothing.
+use mathlib.Core.Path.{_≡_, refl, sym, ap, _∙_}
+use mathlib.Core.Bool.{Bool, true, false, not, cond, _&&_, _||_}
+use mathlib.Core.List.{List, [], _∷_, map}
+use mathlib.Core.Logic.{_≢_}
+use Prim.Native.Nat.{ℕ, _+_, _/_, _%_, _^_, _≤_, _<_}
+use native.Mathlib.Omega.{arith}
+use lib.Dec.{eqb, ltb}
+use lib.ListN.{length, getD, length-map, List·getD-map}
+use borrow.Author.Tests.{eqb-true, ne-eqb}
+use types.Run.{OneOf}
+use Rattle.text.specs.Text.{Text, isNil, lacks}
+use Rattle.text.proofs.BoolLaws.{and-no, and-yes, or-false, upTo, at-each}
+use Rattle.grammar.specs.Legal.{State, Slash, Name, Opened, Set, Equals, Sel, Closed, Dot, Prop, Dead, step, run, accept, legal, isEnd}
+use Rattle.grammar.specs.Pack.{pack, plain, EndsByPlain}
+use Rattle.grammar.proofs.RunLaws.{run-dead}
+use Rattle.grammar.proofs.ScanLaws.{letters-1, letters-2, digits-1, digits-2, listed, Reads, first, on, none, other, root, whole}
+
+-- no path has the byte 0
+null-dead : (s : State) → step s 0 ≡ Dead
+unfolding step
+null-dead Slash = refl
+null-dead Name = refl
+null-dead Opened = refl
+null-dead Set = refl
+null-dead Equals = refl
+null-dead Sel = refl
+null-dead Closed = refl
+null-dead Dot = refl
+null-dead Prop = refl
+null-dead Dead = refl
+
+null-refused : (s : State) (r : Text) → accept (run (step s 0) r) ≡ false
+unfolding accept
+null-refused s r = rw (null-dead s, run-dead r)
+
+run-plain : (s : State) (r : Text) → (accept (run s r) && (lacks 123 r && lacks 46 r)) ≡ accept (run s (map plain r))
+unfolding run lacks
+run-plain s [] = and-yes (accept s)
+run-plain s (a ∷ r) = go (eqb a 46) (eqb a 123) refl refl (run-plain (step s a) r)
+  where
+    go : (d o : Bool) → eqb a 46 ≡ d → eqb a 123 ≡ o → (accept (run (step s a) r) && (lacks 123 r && lacks 46 r)) ≡ accept (run (step s a) (map plain r))
+        → (accept (run (step s a) r) && (not (eqb a 123) && lacks 123 r && (not (eqb a 46) && lacks 46 r))) ≡ accept (run (step s (plain a)) (map plain r))
+    go true o h k ih = rw (h, and-no (not (eqb a 123) && lacks 123 r), and-no (accept (run (step s a) r))) (sym (null-refused s (map plain r)))
+    go false true h k ih = rw (h, k, and-no (accept (run (step s a) r))) (sym (null-refused s (map plain r)))
+    go false false h k ih = rw (h, k) ih
+
+pub ends-by-plain : EndsByPlain
+unfolding isEnd legal lacks
+ends-by-plain [] = refl
+ends-by-plain (a ∷ r) = go (eqb a 47) refl
+  where
+    rest : (r : Text) → ((isNil r || accept (run Slash r)) && (lacks 123 r && lacks 46 r)) ≡ (isNil (map plain r) || accept (run Slash (map plain r)))
+    rest [] = refl
+    rest (b ∷ r) = run-plain Slash (b ∷ r)
+
+    other-head : (d : Bool) → eqb a 47 ≡ false → eqb (cond d 0 a) 47 ≡ false
+    other-head true h = refl
+    other-head false h = h
+
+    go : (b : Bool) → eqb a 47 ≡ b → isEnd (a ∷ r) ≡ legal (map plain (a ∷ r))
+    go true h = rw (eqb-true a 47 h) (rest r)
+    go false h = rw (h, other-head (eqb a 46 || eqb a 123) h)
+
+-- `end_row`
+abbrev pub end-pack : ℕ → ℕ
+end-pack a = pack (plain a)
+
+unfoldable pub end-arms : List (List ℕ)
+end-arms = (125 ∷ []) ∷ (61 ∷ []) ∷ (58 ∷ []) ∷ (47 ∷ []) ∷ digits-2 ∷ digits-1 ∷ letters-2 ∷ letters-1 ∷ []
+
+pub all-end-listed : upTo (listed end-pack end-arms) 256 ≡ true
+unfolding end-arms letters-1 letters-2 digits-1 digits-2 pack
+all-end-listed = refl
+
+-- `is_end`
+module _ (p : Text) where
+  pub end-none : length p ≡ 0 → true ≡ isEnd p
+  end-none h = rw (ends-by-plain p) (none (map plain p) (length-map p plain ∙ h))
+
+  head-plain : getD (map plain p) 0 0 ≡ plain (getD p 0 0)
+  head-plain = List·getD-map plain p 0 0
+
+  pub end-other : length p ≢ 0 → getD p 0 0 ≢ 47 → false ≡ isEnd p
+  end-other n h = rw (ends-by-plain p) (other (map plain p) (λ e. n (sym (length-map p plain) ∙ e)) (λ e. h (back (sym head-plain ∙ e))))
+    where
+      back : plain (getD p 0 0) ≡ 47 → getD p 0 0 ≡ 47
+      back e = go (eqb (getD p 0 0) 46 || eqb (getD p 0 0) 123) e
+        where
+          go : (b : Bool) → cond b 0 (getD p 0 0) ≡ 47 → getD p 0 0 ≡ 47
+          go true e = absurd (omega arith)
+          go false e = e
+
+  pub end-root : getD p 0 0 ≡ 47 → length p ≡ 1 → true ≡ isEnd p
+  end-root h l = rw (ends-by-plain p) (root (map plain p) (head-plain ∙ ap plain h) (length-map p plain ∙ l))
+
+  pub end-first : Reads (map plain p) 18 1
+  end-first = first (map plain p)
+
+  pub end-on : (k i m : ℕ) → i < length p → Reads (map plain p) k i → getD p i 0 < 256 → m ≡ pack (plain (getD p i 0)) / 2 ^ (k % 64) → Reads (map plain p) m (i + 1)
+  end-on k i m h w l e =
+      let d : getD (map plain p) i 0 ≡ plain (getD p i 0) = List·getD-map plain p i 0 in
+      on (map plain p) k i m (rw (length-map p plain) h) w (rw d (small (eqb (getD p i 0) 46 || eqb (getD p i 0) 123))) (rw d e)
+    where
+      small : (b : Bool) → cond b 0 (getD p i 0) < 256
+      small true = omega arith
+      small false = l
+
+  pub end-whole : (k i : ℕ) → getD p 0 0 ≡ 47 → length p ≢ 0 → length p ≢ 1 → Reads (map plain p) k i → length p ≤ i → ltb (k % 64) 18 ≡ isEnd p
+  end-whole k i h n m w l =
+      rw (ends-by-plain p)
+      (whole (map plain p) k i (head-plain ∙ ap plain h) (λ e. n (sym (length-map p plain) ∙ e)) (λ e. m (sym (length-map p plain) ∙ e)) w (rw (length-map p plain) l))
+
+pub ruleset ending = (end-none, end-other, end-root, end-first, end-whole)
