@@ -29,7 +29,7 @@ pub const HOME: RouteCall = RouteCall { name: "route_home", home: true, entry: r
 pub const CALLS: [RouteCall; 2] = [OUT, HOME];
 
 /// Bytes lent for the path.
-const ROOMS: [usize; 3] = [LONGEST - 1, LONGEST, 300];
+pub const ROOMS: [usize; 3] = [LONGEST - 1, LONGEST, 300];
 
 impl RouteCall {
     pub fn expected(&self, route: &Route, text: &Text) -> Answer<Path> {
@@ -60,38 +60,53 @@ pub fn met(maps: &[MapFunction], path: &Path) -> Vec<Path> {
     paths
 }
 
+/// Whether each leg reached, unless its map has an empty source, gives a path exactly when plain mapping takes what reached
+/// it to a path that passes questions 7 and 8 and goes plainly back, and gives that path.
+fn is_exact(maps: &[MapFunction], path: &Path) -> bool {
+    maps.iter().zip(met(maps, path)).all(|(map, reached)| {
+        let there = accept(map.map_source_to_target(&reached)).ok();
+        let there_and_back = there.filter(|made| map.map_target_to_source(made).as_ref() == Some(&reached));
+        let has_empty_source = map.path_pairs().iter().any(|(source, _)| source.is_empty());
+        has_empty_source || accept(map.translate_to_target(&reached)).ok() == there_and_back
+    })
+}
+
 impl Comparison {
-    /// A path out and home, and, where it comes out, home again.
-    pub fn route(&mut self, route: &Route, text: &Text) {
+    /// A path out and home, and, where it comes out, home again, with each size of lent memory.
+    pub fn route(&mut self, route: &Route, text: &Text, rooms: &[usize]) {
         for call in &CALLS {
-            self.one_way(call, route, text, &call.expected(route, text));
+            self.one_way(call, route, text, rooms);
         }
         if let Ok(out) = OUT.expected(route, text) {
-            self.there_and_back(route, text, &out);
+            self.one_way(&HOME, route, &Text::new(out.as_str().as_bytes()), rooms);
         }
+        self.demand_3(route, text);
     }
 
-    fn one_way(&mut self, call: &RouteCall, route: &Route, text: &Text, expected: &Answer<Path>) {
+    fn one_way(&mut self, call: &RouteCall, route: &Route, text: &Text, rooms: &[usize]) {
+        let expected = call.expected(route, text);
         let entry = |out: &mut [u8]| (call.entry)(route.for_library(), &text.bytes, out);
-        self.path(call.name, &WithText { given: route, text }, &ROOMS, expected, entry);
+        self.path(call.name, &WithText { given: route, text }, rooms, &expected, entry);
     }
 
-    /// The way home from where the path came out. Demand 3: a path free of selections is given back, by the original
-    /// and by the library, which goes home from the bytes that it wrote itself.
-    fn there_and_back(&mut self, route: &Route, text: &Text, out: &Path) {
-        let came_out = Text::new(out.as_str().as_bytes());
-        let back = HOME.expected(route, &came_out);
-        self.one_way(&HOME, route, &came_out, &back);
-        if text.bytes.contains(&b'{') {
+    /// A path free of selections that comes out comes home: of the original, and of the library, which goes home from
+    /// the bytes that it wrote.
+    fn demand_3(&mut self, route: &Route, text: &Text) {
+        let (Ok(maps), Ok(path)) = (route.maps(), text.answer()) else {
+            return;
+        };
+        if path.has_variant_selection() {
             return;
         }
         let given = &WithText { given: route, text };
-        let returns = back.is_ok_and(|back| back.as_str().as_bytes() == text.bytes);
-        self.tally.fact("demand 3: a path that comes out comes home", given, returns);
-        let found = library_back(route, &text.bytes);
-        let call = Call { name: "route_out, then route_home", given, room: None };
-        let agree = found.as_deref() == Ok(&text.bytes[..]);
-        self.tally.values(call, agree, &text.bytes, found);
+        self.tally.fact("demand 3: a leg gives a path exactly when it should", given, is_exact(maps, path));
+        if let Ok(out) = OUT.along(maps, path) {
+            let returns = HOME.along(maps, &out).as_ref() == Ok(path);
+            self.tally.fact("demand 3: a path that comes out comes home", given, returns);
+            let found = library_back(route, &text.bytes);
+            let call = Call { name: "route_out, then route_home", given, room: None };
+            self.tally.values(call, found.as_deref() == Ok(&text.bytes[..]), &text.bytes, &found);
+        }
     }
 
     /// Both ways for all paths in one call.

@@ -4,6 +4,7 @@
 use crate::comparison::Comparison;
 use crate::maps::flaws;
 use crate::maps::list::MOST_PAIRS;
+use crate::routes::calls::ROOMS;
 use crate::routes::lent_route::{LentRoute, MOST_LEGS, Route};
 use crate::text::Text;
 use texts::random::Random;
@@ -55,7 +56,7 @@ fn with_flaws(comparison: &mut Comparison, random: &mut Random, set: usize) {
         }
     }
     let (route, text) = (Route::new(route), Text::new(&path));
-    comparison.route(&route, &text);
+    comparison.route(&route, &text, &ROOMS);
     comparison.route_all(&route, &[text, Text::new(b"/A/B/C")]);
 }
 

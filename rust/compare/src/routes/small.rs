@@ -4,6 +4,7 @@ use crate::comparison::Comparison;
 use crate::maps::small::{ENDS, pairs};
 use crate::routes::lent_route::Route;
 use crate::text::Text;
+use texts::LONGEST;
 
 /// A map, a map with the mark, and a relocate list.
 const KINDS: [usize; 3] = [0, 1, 2];
@@ -48,7 +49,7 @@ fn every_two(comparison: &mut Comparison, lists: &[List], texts: &[Text]) {
 
 fn every_path(comparison: &mut Comparison, route: &Route, texts: &[Text]) {
     for text in texts {
-        comparison.route(route, text);
+        comparison.route(route, text, &[LONGEST]);
     }
     comparison.route_all(route, texts);
 }

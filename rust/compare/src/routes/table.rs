@@ -4,7 +4,7 @@
 use crate::comparison::Comparison;
 use crate::maps::calls::WithText;
 use crate::maps::list::TOO_MANY_PAIRS;
-use crate::routes::calls::{HOME, OUT, RouteCall};
+use crate::routes::calls::{HOME, OUT, ROOMS, RouteCall};
 use crate::routes::lent_route::Route;
 use crate::text::{Answer, MADE_NOT_LEGAL, MADE_TOO_LONG, NO_PATH, TOO_LONG, Text};
 use texts::LONGEST;
@@ -85,7 +85,7 @@ fn one_case(
     let agrees = expected.as_ref().map(|path| path.as_str()) == answer.as_ref().map(|text| *text);
     let given = &WithText { given: route, text };
     comparison.tally.fact("document 01's route is answered as it says", given, agrees);
-    comparison.route(route, text);
+    comparison.route(route, text, &ROOMS);
     comparison.route_all(route, &[Text::new(b"/A"), Text::new(&text.bytes)]);
 }
 
