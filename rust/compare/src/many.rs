@@ -13,11 +13,14 @@ use texts::LONGEST;
 /// Bytes and numbers lent beyond those needed.
 const MORE: usize = 7;
 
+/// The library's entry, which gets the paths and the memory for their bytes and replies.
+type Entry<'a> = &'a dyn Fn(Paths, &mut [u8], &mut [usize]) -> Reply;
+
 /// A call on many paths, and what it is given beside them.
 pub struct Many<'a> {
     pub name: &'static str,
     pub given: &'a dyn Given,
-    pub entry: &'a dyn Fn(Paths, &mut [u8], &mut [usize]) -> Reply,
+    pub entry: Entry<'a>,
 }
 
 /// Paths as they are lent: the texts one after the other, then one path whose spot lies outside them.
