@@ -1,8 +1,8 @@
 -- A frame: the bytes that the digits of one line stand for. "The first byte is the kind". Question 9: "Is the frame well formed (.. known
 -- kind, lengths filling it exactly ..)?"
 use Prim.Native.Nat.{ℕ, _+_, _*_}
-use mathlib.Core.Bool.{Bool, cond}
-use mathlib.Core.List.{List, [], _∷_}
+use mathlib.Core.Bool.{cond}
+use mathlib.Core.List.{[], _∷_}
 use mathlib.Core.Option.{Option, none, some}
 use lib.Dec.{eqb, leb}
 use lib.ListN.{length, take, drop}

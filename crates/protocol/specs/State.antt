@@ -9,7 +9,6 @@ use Rattle.pairs.specs.Pair.{Pair, pair as pairOf}
 use Rattle.pairs.specs.Places.{endBytes}
 use Rattle.path.specs.declared.Refusal.{Refusal}
 use Rattle.path.specs.declared.Refusal.the-variants.{TooMany, NoRoom}
-use Rattle.path.specs.declared.Asked.{Asked}
 use Rattle.path.specs.Refusal.{number, unless}
 use Rattle.path.specs.Outcome.{Outcome, path, refused}
 use Rattle.path.specs.Calls.{newCall}
@@ -52,22 +51,30 @@ abbrev pub refuses : State → Refusal → Turn
 refuses st x = record { state = st; answer = refusal x }
 
 -- 01: questions 1 to 3 of its two ends, then 4 of the list with it
+abbrev pub takesPair : State → Bool
+takesPair st = leb (suc (length (st .opened))) 64
+
+abbrev pub added : State → Text → Text → Turn
+added st s t =
+    record { state = record { opened = st .opened ++ pairOf s t ∷ []; legs = st .legs; used = st .used; answered = st .answered }; answer = given [] }
+
 unfoldable pub adds : State → Text → Text → Turn
 unfolding asked
-adds st s t =
-    unless (asked [] (s ∷ t ∷ []) (s ∷ t ∷ [])) (refuses st)
-    (cond (leb (suc (length (st .opened))) 64)
-    (record { state = record { opened = st .opened ++ pairOf s t ∷ []; legs = st .legs; used = st .used; answered = st .answered }; answer = given [] })
-    (refuses st TooMany))
+adds st s t = unless (asked [] (s ∷ t ∷ []) (s ∷ t ∷ [])) (refuses st) (cond (takesPair st) (added st s t) (refuses st TooMany))
 
 -- 03 and 04: "at most 16 legs", and "in `frames` 32,768 over all legs"; "An accepted close empties the open list; a refused one changes
 -- nothing."
+abbrev pub takesLeg : State → Bool
+takesLeg st = leb (suc (length (st .legs))) 16
+
+abbrev pub takesBytes : State → ℕ → Bool
+takesBytes st n = leb (st .used + n) 32768
+
+abbrev pub closed : State → Leg → ℕ → Turn
+closed st x n = record { state = record { opened = []; legs = st .legs ++ x ∷ []; used = st .used + n; answered = st .answered }; answer = given [] }
+
 unfoldable pub closes : State → Leg → ℕ → Turn
-closes st x bytes =
-    cond (leb (suc (length (st .legs))) 16)
-    (cond (leb (st .used + bytes) 32768)
-    (record { state = record { opened = []; legs = st .legs ++ x ∷ []; used = st .used + bytes; answered = st .answered }; answer = given [] })
-    (refuses st NoRoom)) (refuses st TooMany)
+closes st x n = cond (takesLeg st) (cond (takesBytes st n) (closed st x n) (refuses st NoRoom)) (refuses st TooMany)
 
 -- 05 and 06: questions 1 and 2 of the path, then the way over the legs
 unfoldable pub goes : (List Leg → Text → Outcome) → State → Text → Outcome
