@@ -49,6 +49,12 @@ pub struct Carried {
     pub paths: Vec<String>,
 }
 
+/// A route as lists of pairs, and paths that get over all its legs.
+pub struct Routed {
+    pub legs: Vec<Vec<[String; 2]>>,
+    pub paths: Vec<String>,
+}
+
 /// So many paths of about `length` bytes.
 pub fn paths(names: Names, length: usize, count: usize) -> Vec<String> {
     let random = &mut Random::new(length as u64);
@@ -68,6 +74,27 @@ pub fn carried(pairs: usize, length: usize, count: usize) -> Carried {
         (0..pairs).map(|_| [(); 2].map(|_| prim_path(random, Names::Mixed, length / 3))).collect();
     let paths = (0..count).map(|_| path_of_one(random, &pairs, length)).collect();
     Carried { pairs, paths }
+}
+
+/// A route of so many legs, each of so many pairs whose sources are the targets of the leg before, and paths of about 40
+/// bytes under the sources of the first.
+pub fn routed(legs: usize, pairs: usize, count: usize) -> Routed {
+    let random = &mut Random::new(pairs as u64);
+    let leg = |leg| (0..pairs).map(|pair| [key(leg, pair), key(leg + 1, pair)]).collect();
+    let path = |_| {
+        let (pair, rest) =
+            (random.below(pairs), random.pick(&["/Head/Lens.color", "/Mast/Lamp_2", "/Head_1.state"]));
+        format!("{}{rest}", key(0, pair))
+    };
+    Routed { legs: (0..legs).map(leg).collect(), paths: (0..count).map(path).collect() }
+}
+
+/// The key of a pair before a leg, such as `/World/Line_12/Signal_034`. No two are equal, and none is above another.
+fn key(leg: usize, pair: usize) -> String {
+    const STAGES: [&str; 4] = ["World", "Region", "Site", "Depot"];
+    const LINES: [&str; 3] = ["Line", "Track", "Yard"];
+    let (stage, line) = (STAGES[leg % STAGES.len()], LINES[leg % LINES.len()]);
+    format!("/{stage}/{line}_{:02}/Signal_{:03}", pair / 8 + leg, pair * 7 + leg)
 }
 
 /// So many pairs of prim paths of two or three names.

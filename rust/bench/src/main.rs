@@ -3,9 +3,11 @@
 mod inputs;
 mod makes;
 mod maps;
+mod routes;
 
 use inputs::{Names, Replacement};
 use original::sdf::Path;
+use routes::Kind;
 use std::hint::black_box;
 use std::time::Instant;
 use texts::LONGEST;
@@ -41,6 +43,13 @@ fn main() {
     }
     for pairs in [8, 64] {
         makes::time_statuses(pairs);
+    }
+    for kind in [Kind::Maps, Kind::Relocates] {
+        for legs in [1, 4, 16] {
+            for pairs in [1, 8, 64] {
+                routes::time(kind, legs, pairs);
+            }
+        }
     }
 }
 

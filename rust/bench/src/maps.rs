@@ -65,7 +65,7 @@ impl Setting {
 }
 
 /// The bytes of the texts, one after the other, and the start and length of each.
-fn packed<'a>(texts: impl IntoIterator<Item = &'a String>) -> (Vec<u8>, Vec<usize>) {
+pub fn packed<'a>(texts: impl IntoIterator<Item = &'a String>) -> (Vec<u8>, Vec<usize>) {
     let (mut bytes, mut places) = (Vec::new(), Vec::new());
     for text in texts {
         places.extend([bytes.len(), text.len()]);
@@ -163,6 +163,6 @@ fn sides_agree(call: &MapCall, setting: &Setting, text: &str) -> bool {
     library_carry(call, setting, text, &mut found) == 256 * length && expected == found
 }
 
-fn parsed(text: &str) -> Path {
+pub fn parsed(text: &str) -> Path {
     Path::new(text).expect("a legal text")
 }

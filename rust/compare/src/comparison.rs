@@ -2,6 +2,8 @@
 
 use crate::calls::{self, NumberCall, PathCall};
 use crate::lent::Lent;
+#[cfg(feature = "maps")]
+use crate::routes::reach::Reach;
 use crate::tally::{Call, Given, Tally};
 use crate::text::{Answer, Text, Texts};
 use library::Reply;
@@ -30,6 +32,9 @@ pub struct Comparison {
     pub tally: Tally,
     /// The legal texts that `Path::new` refuses.
     pub refused_by_original: BTreeSet<Vec<u8>>,
+    /// How far the paths of random routes get.
+    #[cfg(feature = "maps")]
+    pub reach: Reach,
     bytes: Lent<u8>,
     numbers: Lent<usize>,
 }
@@ -39,6 +44,8 @@ impl Comparison {
         Comparison {
             tally: Tally::default(),
             refused_by_original: BTreeSet::new(),
+            #[cfg(feature = "maps")]
+            reach: Reach::default(),
             bytes: Lent::bytes(ROOMS[ROOMS.len() - 1]),
             numbers: Lent::numbers(NUMBERS),
         }

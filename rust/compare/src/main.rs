@@ -9,11 +9,15 @@ mod lent;
 #[cfg(feature = "maps")]
 mod makes;
 #[cfg(feature = "maps")]
+mod many;
+#[cfg(feature = "maps")]
 mod maps;
 mod phase;
 mod record;
 #[cfg(feature = "maps")]
 mod relocates;
+#[cfg(feature = "maps")]
+mod routes;
 mod tally;
 mod text;
 mod times;
@@ -41,6 +45,8 @@ const PARTS: &[Part] = &[
     Part { name: "makes", run: compare_makes },
     #[cfg(feature = "maps")]
     Part { name: "relocates", run: compare_relocates },
+    #[cfg(feature = "maps")]
+    Part { name: "routes", run: compare_routes },
     Part { name: "times", run: compare_times },
 ];
 
@@ -114,6 +120,13 @@ fn compare_makes(comparison: &mut Comparison, options: &Options) {
 fn compare_relocates(comparison: &mut Comparison, options: &Options) {
     relocates::run(comparison);
     random_phase(comparison, "relocate lists", options.seed, &options.limit, relocates::cases::case);
+}
+
+#[cfg(feature = "maps")]
+fn compare_routes(comparison: &mut Comparison, options: &Options) {
+    routes::run(comparison, options.seed);
+    random_phase(comparison, "routes", options.seed, &options.limit, routes::cases::case);
+    println!("{}", comparison.reach);
 }
 
 fn compare_times(comparison: &mut Comparison, options: &Options) {

@@ -1,6 +1,5 @@
 //! The calls on maps: lists of pairs, in all small sets, with flaws, and at random.
 
-mod batch;
 pub mod calls;
 pub mod cases;
 pub mod flaws;

@@ -8,7 +8,9 @@
 /// - `number`, `flag`, `float`: a plain `usize`, `bool` or `f64`;
 /// - `time`: two floats that are written, as one pointer;
 /// - `pairs`: a list's bytes, places and number of pairs; `list`: these and its mark;
-/// - `map`: a list and the two floats of its time offset.
+/// - `map`: a list and the two floats of its time offset;
+/// - `route`: a route's bytes, places, numbers of its legs and number of legs;
+/// - `paths`: the bytes, spots and number of many paths.
 macro_rules! entry {
     (@ $name:ident [$($type:ty = $value:expr,)*]) => {{
         unsafe extern "C" {
@@ -50,6 +52,12 @@ macro_rules! entry {
     };
     (@ $name:ident [$($done:tt)*] map $x:expr, $($rest:tt)*) => {
         entry!(@ $name [$($done)*] list $x.list, float $x.time[0], float $x.time[1], $($rest)*)
+    };
+    (@ $name:ident [$($done:tt)*] route $x:expr, $($rest:tt)*) => {
+        entry!(@ $name [$($done)*] text $x.store, numbers $x.places, numbers $x.legs, number $x.count, $($rest)*)
+    };
+    (@ $name:ident [$($done:tt)*] paths $x:expr, $($rest:tt)*) => {
+        entry!(@ $name [$($done)*] text $x.texts, numbers $x.spots, number $x.count, $($rest)*)
     };
     ($name:ident: $($arguments:tt)*) => {
         entry!(@ $name [] $($arguments)*)

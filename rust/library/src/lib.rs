@@ -10,6 +10,8 @@ pub mod makes;
 pub mod maps;
 #[cfg(feature = "maps")]
 pub mod relocates;
+#[cfg(feature = "maps")]
+pub mod routes;
 pub mod times;
 
 use entry::entry;

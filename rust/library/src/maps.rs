@@ -61,9 +61,5 @@ pub struct Paths<'a> {
 /// Writes what the map makes of each path to 255 bytes of its own in `out`, and the reply of `carry` for it, as
 /// one number, to `replies`.
 pub fn carry_all(way: Way, list: List, paths: Paths, out: &mut [u8], replies: &mut [usize]) -> Reply {
-    let Paths { texts, spots, count } = paths;
-    entry!(
-        mudvizsor_map_all:
-        list list, number way.number(), text texts, numbers spots, number count, out out, slots replies,
-    )
+    entry!(mudvizsor_map_all: list list, number way.number(), paths paths, out out, slots replies,)
 }

@@ -2,10 +2,11 @@
 
 use crate::calls::accept;
 use crate::comparison::Comparison;
+use crate::many::Many;
 use crate::maps::list::List;
 use crate::tally::Given;
 use crate::text::{Answer, Text};
-use library::maps::{Way, carry};
+use library::maps::{Paths, Way, carry, carry_all};
 use original::pcp::MapFunction;
 use original::sdf::Path;
 use std::fmt::{self, Display};
@@ -14,7 +15,7 @@ use texts::LONGEST;
 /// A call that makes one path of another by a map.
 pub struct MapCall {
     name: &'static str,
-    pub way: Way,
+    way: Way,
     original: fn(&MapFunction, &Path) -> Option<Path>,
 }
 
@@ -48,21 +49,21 @@ pub fn both<T, U>(one: Answer<T>, other: Answer<U>) -> Answer<(T, U)> {
     }
 }
 
-/// What one of these calls is given.
-pub struct ListAndText<'a> {
-    pub list: &'a List,
+/// What a call on a path is given: something else, such as a list, and the path.
+pub struct WithText<'a> {
+    pub given: &'a dyn Given,
     pub text: &'a Text,
 }
 
-impl Given for ListAndText<'_> {
+impl Given for WithText<'_> {
     fn size(&self) -> usize {
-        self.list.size() + self.text.bytes.len()
+        self.given.size() + self.text.bytes.len()
     }
 }
 
-impl Display for ListAndText<'_> {
+impl Display for WithText<'_> {
     fn fmt(&self, f: &mut fmt::Formatter<'_>) -> fmt::Result {
-        write!(f, "{} \"{}\"", self.list, self.text.bytes.escape_ascii())
+        write!(f, "{} \"{}\"", self.given, self.text.bytes.escape_ascii())
     }
 }
 
@@ -72,7 +73,18 @@ impl Comparison {
         for call in &CALLS {
             let expected = call.expected(list, text);
             let entry = |out: &mut [u8]| carry(call.way, list.for_library(), &text.bytes, out);
-            self.path(call.name, &ListAndText { list, text }, &ROOMS, &expected, entry);
+            self.path(call.name, &WithText { given: list, text }, &ROOMS, &expected, entry);
+        }
+    }
+
+    /// Each way for all paths in one call.
+    pub fn map_all(&mut self, list: &List, texts: &[Text]) {
+        for call in &CALLS {
+            let expected = texts.iter().map(|text| call.expected(list, text)).collect();
+            let entry = |paths: Paths, out: &mut [u8], replies: &mut [usize]| {
+                carry_all(call.way, list.for_library(), paths, out, replies)
+            };
+            self.many(&Many { name: "map_all", given: list, entry: &entry }, texts, expected);
         }
     }
 

@@ -51,7 +51,7 @@ pub fn pairs(random: &mut Random) -> Vec<Pair> {
 }
 
 /// Mostly few.
-fn count(random: &mut Random) -> usize {
+pub fn count(random: &mut Random) -> usize {
     match random.below(10) {
         0..=6 => random.within(0..=5),
         7 | 8 => random.within(6..=20),

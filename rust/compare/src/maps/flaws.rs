@@ -56,27 +56,27 @@ fn with_flaws(comparison: &mut Comparison, random: &mut Random, set: usize) {
     comparison.map_all(&list, &[text, Text::new(b"/A/C")]);
 }
 
-fn long_path(random: &mut Random, _: &mut LentList, path: &mut Vec<u8>) {
+pub fn long_path(random: &mut Random, _: &mut LentList, path: &mut Vec<u8>) {
     let length = random.within(LONGEST + 1..=2 * LONGEST);
     *path = legal_text(random, length);
 }
 
-fn illegal_path(random: &mut Random, _: &mut LentList, path: &mut Vec<u8>) {
+pub fn illegal_path(random: &mut Random, _: &mut LentList, path: &mut Vec<u8>) {
     *path = illegal(random, path);
 }
 
-fn long_end(random: &mut Random, list: &mut LentList, _: &mut Vec<u8>) {
+pub fn long_end(random: &mut Random, list: &mut LentList, _: &mut Vec<u8>) {
     let length = random.within(LONGEST + 1..=2 * LONGEST);
     let end = end_text(random, length);
     replace_an_end(random, list, &end);
 }
 
-fn illegal_end(random: &mut Random, list: &mut LentList, _: &mut Vec<u8>) {
+pub fn illegal_end(random: &mut Random, list: &mut LentList, _: &mut Vec<u8>) {
     let end = illegal(random, b"/A/B");
     replace_an_end(random, list, &end);
 }
 
-fn property_or_selection(random: &mut Random, list: &mut LentList, _: &mut Vec<u8>) {
+pub fn property_or_selection(random: &mut Random, list: &mut LentList, _: &mut Vec<u8>) {
     let end = *random.pick(&NO_ENDS);
     replace_an_end(random, list, end);
 }
@@ -101,7 +101,7 @@ fn set_a_place(random: &mut Random, list: &mut LentList, place: [usize; 2]) {
 }
 
 /// Just outside the store, far outside, or so far that start and length together overflow into it.
-fn place_outside(random: &mut Random, list: &mut LentList, _: &mut Vec<u8>) {
+pub fn place_outside(random: &mut Random, list: &mut LentList, _: &mut Vec<u8>) {
     let end = list.store.len();
     let back = random.below(4);
     let place = match random.below(7) {
@@ -136,7 +136,7 @@ fn count_beyond_the_slice(random: &mut Random, list: &mut LentList, _: &mut Vec<
 
 /// No flaw: places behind those of the pairs counted are not looked at. It comes last, so that a count beyond
 /// the slice is sometimes made good by rubbish.
-fn rubbish_behind_the_list(random: &mut Random, list: &mut LentList, _: &mut Vec<u8>) {
+pub fn rubbish_behind_the_list(random: &mut Random, list: &mut LentList, _: &mut Vec<u8>) {
     for _ in 0..random.within(1..=9) {
         list.places.push(random.within(0..=2 * LONGEST));
     }

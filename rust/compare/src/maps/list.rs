@@ -40,16 +40,25 @@ impl LentList {
         [start, text.len()]
     }
 
-    /// How many of the pairs counted have their places in the slice.
     pub fn held(&self) -> usize {
-        self.count.min(self.places.len() / 4)
+        held(self.for_library())
     }
 
-    /// The places of the ends of the pairs held.
-    fn ends(&self) -> impl Iterator<Item = Place<'_>> {
-        let numbers = self.places[..4 * self.held()].chunks_exact(2);
-        numbers.map(|place| Place { store: &self.store, start: place[0], length: place[1] })
+    fn for_library(&self) -> library::maps::List<'_> {
+        let LentList { store, places, count, mark } = self;
+        library::maps::List { store, places, count: *count, mark: *mark }
     }
+}
+
+/// How many of the pairs counted have their places in the slice.
+pub fn held(list: library::maps::List) -> usize {
+    list.count.min(list.places.len() / 4)
+}
+
+/// The places of the ends of the pairs held.
+fn ends<'a>(list: library::maps::List<'a>) -> impl Iterator<Item = Place<'a>> {
+    let numbers = list.places[..4 * held(list)].chunks_exact(2);
+    numbers.map(move |place| Place { store: list.store, start: place[0], length: place[1] })
 }
 
 /// Where an end stands.
@@ -89,7 +98,7 @@ pub struct List {
 
 impl List {
     pub fn new(lent: LentList) -> Self {
-        let map = map_of(&lent);
+        let map = map_of(lent.for_library());
         List { lent, map }
     }
 
@@ -98,8 +107,7 @@ impl List {
     }
 
     pub fn for_library(&self) -> library::maps::List<'_> {
-        let LentList { store, places, count, mark } = &self.lent;
-        library::maps::List { store, places, count: *count, mark: *mark }
+        self.lent.for_library()
     }
 
     /// The original's map, or the first "no" of questions 1 to 4.
@@ -109,44 +117,54 @@ impl List {
 
     /// Whether `map` has the pairs and the mark that are lent.
     pub fn is_exactly(&self, map: &MapFunction) -> bool {
-        let ends = map.path_pairs().iter().flat_map(|(source, target)| [source, target]);
-        ends.map(|path| Some(path.as_str().as_bytes())).eq(self.lent.ends().map(|end| end.bytes()))
+        let paths = map.path_pairs().iter().flat_map(|(source, target)| [source, target]);
+        paths.map(|path| Some(path.as_str().as_bytes())).eq(ends(self.for_library()).map(|end| end.bytes()))
             && map.has_root_identity() == self.lent.mark
     }
 }
 
-/// Each question is put to every end before the next, so the smallest number is the answer.
-fn map_of(lent: &LentList) -> Answer<MapFunction> {
-    let ends: Vec<Answer<Path>> = lent.ends().map(|end| end.path()).collect();
+/// The original's map of a list, or the first "no" of questions 1 to 4. Each question is put to every end before the
+/// next, so the smallest number is the answer.
+pub fn map_of(list: library::maps::List) -> Answer<MapFunction> {
+    let ends: Vec<Answer<Path>> = ends(list).map(|end| end.path()).collect();
     if let Some(number) = ends.iter().filter_map(|end| end.as_ref().err()).min() {
         return Err(*number);
     }
-    if lent.held() < lent.count || lent.count > MOST_PAIRS {
+    if held(list) < list.count || list.count > MOST_PAIRS {
         return Err(TOO_MANY_PAIRS);
     }
     let paths: Vec<Path> = ends.into_iter().flatten().collect();
     let pairs = paths.chunks_exact(2).map(|pair| (pair[0].clone(), pair[1].clone())).collect();
-    Ok(MapFunction::with_exactly(pairs, lent.mark))
+    Ok(MapFunction::with_exactly(pairs, list.mark))
 }
 
 impl Given for List {
-    /// A pair counts as one byte more than its ends.
     fn size(&self) -> usize {
-        let bytes: usize = self.lent.ends().filter_map(|end| end.bytes()).map(<[u8]>::len).sum();
-        bytes + self.lent.held()
+        size(self.for_library())
     }
 }
 
 impl Display for List {
     fn fmt(&self, f: &mut fmt::Formatter<'_>) -> fmt::Result {
         f.write_str(if self.lent.mark { " mark" } else { " no mark" })?;
-        let ends: Vec<Place> = self.lent.ends().collect();
-        for pair in ends.chunks_exact(2) {
-            write!(f, ", {} -> {}", pair[0], pair[1])?;
-        }
-        if self.lent.held() < self.lent.count {
-            write!(f, ", {} counted", self.lent.count)?;
-        }
+        show_pairs(self.for_library(), f)?;
         f.write_str(";")
     }
+}
+
+/// A pair counts as one byte more than its ends.
+pub fn size(list: library::maps::List) -> usize {
+    let bytes: usize = ends(list).filter_map(|end| end.bytes()).map(<[u8]>::len).sum();
+    bytes + held(list)
+}
+
+pub fn show_pairs(list: library::maps::List, f: &mut fmt::Formatter<'_>) -> fmt::Result {
+    let ends: Vec<Place> = ends(list).collect();
+    for pair in ends.chunks_exact(2) {
+        write!(f, ", {} -> {}", pair[0], pair[1])?;
+    }
+    if held(list) < list.count {
+        write!(f, ", {} counted", list.count)?;
+    }
+    Ok(())
 }

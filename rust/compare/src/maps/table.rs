@@ -1,7 +1,7 @@
 //! Document 01's cases on maps: the answers expected are those that it names.
 
 use crate::comparison::Comparison;
-use crate::maps::calls::{BACK, ListAndText, MapCall, OUT, TRANSLATED};
+use crate::maps::calls::{BACK, MapCall, OUT, TRANSLATED, WithText};
 use crate::maps::list::{List, TOO_MANY_PAIRS};
 use crate::text::{Answer, MADE_NOT_LEGAL, NO_PATH, Text};
 
@@ -48,7 +48,7 @@ pub fn run(comparison: &mut Comparison) {
         let text = Text::new(row.path.as_bytes());
         let expected = row.call.expected(&list, &text);
         let agrees = expected.as_ref().map(|path| path.as_str()) == row.answer.as_ref().map(|text| *text);
-        let given = ListAndText { list: &list, text: &text };
+        let given = WithText { given: &list, text: &text };
         comparison.tally.fact("document 01's case is answered as it says", &given, agrees);
         comparison.map(&list, &text);
     }

@@ -3,7 +3,7 @@
 use crate::calls::{accept, within};
 use crate::comparison::Comparison;
 use crate::lent::Lent;
-use crate::maps::calls::{ListAndText, both};
+use crate::maps::calls::{WithText, both};
 use crate::maps::list::List;
 use crate::tally::{Call, Given};
 use crate::text::{Answer, TOO_LITTLE_MEMORY, Text};
@@ -101,7 +101,7 @@ impl Comparison {
     }
 
     pub fn shift(&mut self, list: &List, text: &Text) {
-        let given = &ListAndText { list, text };
+        let given = &WithText { given: list, text };
         let expected = both(list.map(), text.answer())
             .and_then(|(map, path)| accept(Some(relocates::shifted(path, map.path_pairs()))));
         self.path("shift_through_nearest_ancestor", given, &ROOMS, &expected, |out| {

@@ -1,20 +1,27 @@
-//! The call that carries many paths: each must get what the single call gives it with 255 bytes lent.
+//! Calls on many paths: each path must get what the single call gives it with 255 bytes lent.
 
 use crate::comparison::Comparison;
 use crate::lent::Lent;
-use crate::maps::calls::{CALLS, ListAndText, MapCall};
-use crate::maps::list::List;
-use crate::tally::Call;
+use crate::maps::calls::WithText;
+use crate::tally::{Call, Given};
 use crate::text::{Answer, TOO_LITTLE_MEMORY, TOO_LONG, Text};
 use library::Reply;
-use library::maps::{Paths, carry_all};
+use library::maps::Paths;
 use original::sdf::Path;
 use texts::LONGEST;
 
-const NAME: &str = "map_all";
-
 /// Bytes and numbers lent beyond those needed.
 const MORE: usize = 7;
+
+/// The library's entry, which gets the paths and the memory for their bytes and replies.
+type Entry<'a> = &'a dyn Fn(Paths, &mut [u8], &mut [usize]) -> Reply;
+
+/// A call on many paths, and what it is given beside them.
+pub struct Many<'a> {
+    pub name: &'static str,
+    pub given: &'a dyn Given,
+    pub entry: Entry<'a>,
+}
 
 /// Paths as they are lent: the texts one after the other, then one path whose spot lies outside them.
 struct LentPaths {
@@ -51,61 +58,57 @@ struct Room {
 }
 
 impl Comparison {
-    /// Each way for all paths in one call: with what is needed, with more, and with one too few of each kind.
-    pub fn map_all(&mut self, list: &List, texts: &[Text]) {
+    /// All paths in one call: with what is needed, with more, and with one too few of each kind. The answers
+    /// expected are those of the single calls.
+    pub fn many(&mut self, call: &Many, texts: &[Text], mut expected: Vec<Answer<Path>>) {
+        expected.push(Err(TOO_LONG));
         let lent = &LentPaths::new(texts);
         let count = lent.count;
         let needed = Room { spots: 2 * count, bytes: LONGEST * count, replies: count };
         let more = Room { bytes: needed.bytes + MORE, replies: needed.replies + MORE, ..needed };
+        for room in [needed, more] {
+            self.all_carried(call, texts, lent, room, &expected);
+        }
         let short = [
             Room { spots: needed.spots - 1, ..needed },
             Room { bytes: needed.bytes - 1, ..needed },
             Room { replies: needed.replies - 1, ..needed },
         ];
-        for call in &CALLS {
-            let mut expected: Vec<_> = texts.iter().map(|text| call.expected(list, text)).collect();
-            expected.push(Err(TOO_LONG));
-            for room in [needed, more] {
-                self.all_carried(call, list, texts, lent, room, &expected);
-            }
-            for room in short {
-                self.all_refused(call, list, lent, room);
-            }
+        for room in short {
+            self.all_refused(call, lent, room);
         }
     }
 
     fn all_carried(
         &mut self,
-        call: &MapCall,
-        list: &List,
+        call: &Many,
         texts: &[Text],
         lent: &LentPaths,
         room: Room,
         expected: &[Answer<Path>],
     ) {
+        let Many { name, given, entry } = *call;
         let (mut bytes, mut numbers) = (Lent::bytes(room.bytes), Lent::numbers(room.replies));
         let replies = numbers.lend(room.replies);
-        let found =
-            carry_all(call.way, list.for_library(), lent.lend(room.spots), bytes.lend(room.bytes), replies);
+        let found = entry(lent.lend(room.spots), bytes.lend(room.bytes), replies);
         let replies = replies.to_vec();
         let nowhere = Text::new(b"");
         for (i, text) in texts.iter().chain([&nowhere]).enumerate() {
             let answer = expected[i].as_ref().map(|path| path.as_str().len()).map_err(|number| *number);
-            let of_one = Call { name: NAME, given: &ListAndText { list, text }, room: Some(room.bytes) };
+            let of_one = Call { name, given: &WithText { given, text }, room: Some(room.bytes) };
             self.tally.compare(of_one, answer, Reply(replies[i]), None);
         }
         let memory = memory_after(bytes.before(room.bytes), expected);
         let wrong = bytes.first_wrong(&memory).or(numbers.first_wrong(&replies[..lent.count]));
-        let of_all = Call { name: NAME, given: list, room: Some(room.bytes) };
-        self.tally.compare(of_all, Ok(0), found, wrong);
+        self.tally.compare(Call { name, given, room: Some(room.bytes) }, Ok(0), found, wrong);
     }
 
-    fn all_refused(&mut self, call: &MapCall, list: &List, lent: &LentPaths, room: Room) {
+    fn all_refused(&mut self, call: &Many, lent: &LentPaths, room: Room) {
+        let Many { name, given, entry } = *call;
         let (mut bytes, mut numbers) = (Lent::bytes(room.bytes), Lent::numbers(room.replies));
-        let (out, replies) = (bytes.lend(room.bytes), numbers.lend(room.replies));
-        let found = carry_all(call.way, list.for_library(), lent.lend(room.spots), out, replies);
+        let found = entry(lent.lend(room.spots), bytes.lend(room.bytes), numbers.lend(room.replies));
         let wrong = bytes.first_wrong(&[]).or(numbers.first_wrong(&[]));
-        let of_all = Call { name: NAME, given: list, room: Some(room.bytes) };
+        let of_all = Call { name, given, room: Some(room.bytes) };
         self.tally.compare(of_all, Err(TOO_LITTLE_MEMORY), found, wrong);
     }
 }

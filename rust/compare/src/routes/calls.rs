@@ -1,0 +1,131 @@
+//! The calls on routes: the library's entry beside the original's functions leg after leg, and the answer that is
+//! expected.
+
+use crate::calls::accept;
+use crate::comparison::Comparison;
+use crate::many::Many;
+use crate::maps::calls::{WithText, both};
+use crate::routes::lent_route::Route;
+use crate::tally::Call;
+use crate::text::{Answer, Text};
+use library::Reply;
+use library::maps::Paths;
+use library::routes::{route_all, route_home, route_out};
+use original::pcp::MapFunction;
+use original::sdf::Path;
+use texts::LONGEST;
+
+/// A call that takes a path over a route.
+pub struct RouteCall {
+    name: &'static str,
+    home: bool,
+    entry: fn(library::routes::Route, &[u8], &mut [u8]) -> Reply,
+}
+
+pub const OUT: RouteCall = RouteCall { name: "route_out", home: false, entry: route_out };
+
+pub const HOME: RouteCall = RouteCall { name: "route_home", home: true, entry: route_home };
+
+pub const CALLS: [RouteCall; 2] = [OUT, HOME];
+
+/// Bytes lent for the path.
+pub const ROOMS: [usize; 3] = [LONGEST - 1, LONGEST, 300];
+
+impl RouteCall {
+    pub fn expected(&self, route: &Route, text: &Text) -> Answer<Path> {
+        let (maps, path) = both(route.maps(), text.answer())?;
+        self.along(maps, path)
+    }
+
+    /// "Leg after leg, the first given the starting path, each later one what the leg before gave; a leg that
+    /// answers 6, 7 or 8 ends the way." Home goes "in reverse".
+    fn along(&self, maps: &[MapFunction], path: &Path) -> Answer<Path> {
+        if self.home {
+            maps.iter().rev().try_fold(path.clone(), |path, map| accept(map.map_target_to_source(&path)))
+        } else {
+            maps.iter().try_fold(path.clone(), |path, map| accept(map.translate_to_target(&path)))
+        }
+    }
+}
+
+/// The paths met on the way out: the one that reaches each leg, and what the last leg gives.
+pub fn met(maps: &[MapFunction], path: &Path) -> Vec<Path> {
+    let mut paths = vec![path.clone()];
+    for map in maps {
+        match accept(map.translate_to_target(&paths[paths.len() - 1])) {
+            Ok(path) => paths.push(path),
+            Err(_) => break,
+        }
+    }
+    paths
+}
+
+/// Whether each leg reached, unless its map has an empty source, gives a path exactly when plain mapping takes what reached
+/// it to a path that passes questions 7 and 8 and goes plainly back, and gives that path.
+fn is_exact(maps: &[MapFunction], path: &Path) -> bool {
+    maps.iter().zip(met(maps, path)).all(|(map, reached)| {
+        let there = accept(map.map_source_to_target(&reached)).ok();
+        let there_and_back = there.filter(|made| map.map_target_to_source(made).as_ref() == Some(&reached));
+        let has_empty_source = map.path_pairs().iter().any(|(source, _)| source.is_empty());
+        has_empty_source || accept(map.translate_to_target(&reached)).ok() == there_and_back
+    })
+}
+
+impl Comparison {
+    /// A path out and home, and, where it comes out, home again, with each size of lent memory.
+    pub fn route(&mut self, route: &Route, text: &Text, rooms: &[usize]) {
+        for call in &CALLS {
+            self.one_way(call, route, text, rooms);
+        }
+        if let Ok(out) = OUT.expected(route, text) {
+            self.one_way(&HOME, route, &Text::new(out.as_str().as_bytes()), rooms);
+        }
+        self.demand_3(route, text);
+    }
+
+    fn one_way(&mut self, call: &RouteCall, route: &Route, text: &Text, rooms: &[usize]) {
+        let expected = call.expected(route, text);
+        let entry = |out: &mut [u8]| (call.entry)(route.for_library(), &text.bytes, out);
+        self.path(call.name, &WithText { given: route, text }, rooms, &expected, entry);
+    }
+
+    /// A path free of selections that comes out comes home: of the original, and of the library, which goes home from
+    /// the bytes that it wrote.
+    fn demand_3(&mut self, route: &Route, text: &Text) {
+        let (Ok(maps), Ok(path)) = (route.maps(), text.answer()) else {
+            return;
+        };
+        if path.has_variant_selection() {
+            return;
+        }
+        let given = &WithText { given: route, text };
+        self.tally.fact("demand 3: a leg gives a path exactly when it should", given, is_exact(maps, path));
+        if let Ok(out) = OUT.along(maps, path) {
+            let returns = HOME.along(maps, &out).as_ref() == Ok(path);
+            self.tally.fact("demand 3: a path that comes out comes home", given, returns);
+            let found = library_back(route, &text.bytes);
+            let call = Call { name: "route_out, then route_home", given, room: None };
+            self.tally.values(call, found.as_deref() == Ok(&text.bytes[..]), &text.bytes, &found);
+        }
+    }
+
+    /// Both ways for all paths in one call.
+    pub fn route_all(&mut self, route: &Route, texts: &[Text]) {
+        for call in &CALLS {
+            let expected = texts.iter().map(|text| call.expected(route, text)).collect();
+            let entry = |paths: Paths, out: &mut [u8], replies: &mut [usize]| {
+                route_all(route.for_library(), call.home, paths, out, replies)
+            };
+            self.many(&Many { name: "route_all", given: route, entry: &entry }, texts, expected);
+        }
+    }
+}
+
+/// Where the library comes to on its way home from where it came out.
+fn library_back(route: &Route, path: &[u8]) -> Result<Vec<u8>, Reply> {
+    let (mut out, mut home) = ([0; LONGEST], [0; LONGEST]);
+    let written = |reply: Reply| if reply.number() == 0 { Ok(reply.value()) } else { Err(reply) };
+    let length = written(route_out(route.for_library(), path, &mut out))?;
+    let length = written(route_home(route.for_library(), &out[..length], &mut home))?;
+    Ok(home[..length].to_vec())
+}

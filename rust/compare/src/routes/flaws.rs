@@ -1,0 +1,130 @@
+//! What can be wrong with a call on a route before it is asked for a path, alone and together: of several flaws the
+//! one that is asked for first is answered.
+
+use crate::comparison::Comparison;
+use crate::maps::flaws;
+use crate::maps::list::MOST_PAIRS;
+use crate::routes::calls::ROOMS;
+use crate::routes::lent_route::{LentRoute, MOST_LEGS, Route};
+use crate::text::Text;
+use texts::random::Random;
+
+/// A flaw, put into the route and the path of a call.
+type Flaw = fn(&mut Random, &mut LentRoute, &mut Vec<u8>);
+
+pub const FLAWS: [Flaw; 12] = [
+    |random, route, path| flaws::long_path(random, &mut route.list, path),
+    |random, route, path| flaws::illegal_path(random, &mut route.list, path),
+    |random, route, path| flaws::long_end(random, &mut route.list, path),
+    |random, route, path| flaws::place_outside(random, &mut route.list, path),
+    |random, route, path| flaws::illegal_end(random, &mut route.list, path),
+    |random, route, path| flaws::property_or_selection(random, &mut route.list, path),
+    too_many_pairs,
+    list_beyond_the_places,
+    too_many_legs,
+    count_beyond_the_legs,
+    any_kind,
+    rubbish_behind,
+];
+
+/// So many calls for each set of flaws.
+const ROUNDS: usize = 15;
+
+/// Three or four times such a number is more than a number holds, and would come round to a small one.
+const FAR: [usize; 4] = [usize::MAX / 4 + 1, usize::MAX / 3 + 1, usize::MAX / 2 + 1, usize::MAX];
+
+pub fn every_set(comparison: &mut Comparison, random: &mut Random) {
+    for set in 0..1 << FLAWS.len() {
+        for _ in 0..ROUNDS {
+            with_flaws(comparison, random, set);
+        }
+    }
+}
+
+/// A call whose flaws are those at the bits of `set`.
+fn with_flaws(comparison: &mut Comparison, random: &mut Random, set: usize) {
+    let size = *random.pick(&[1, 2, 5]);
+    let (there, back) = (vec![["/A/B", "/A/C"]; size], vec![["/A/C", "/A/B"]; size]);
+    let count = *random.pick(&[1, 2, 3, MOST_LEGS]);
+    let legs: Vec<(usize, &[_])> =
+        [&there, &back].into_iter().cycle().take(count).map(|list| (random.below(3), &list[..])).collect();
+    let mut route = LentRoute::packed(&legs);
+    let mut path = b"/A/B/C".to_vec();
+    for (at, flaw) in FLAWS.iter().enumerate() {
+        if set >> at & 1 == 1 {
+            flaw(random, &mut route, &mut path);
+        }
+    }
+    let (route, text) = (Route::new(route), Text::new(&path));
+    comparison.route(&route, &text, &ROOMS);
+    comparison.route_all(&route, &[text, Text::new(b"/A/B/C")]);
+}
+
+/// Where one of the legs held has its numbers.
+fn a_leg(random: &mut Random, route: &LentRoute) -> Option<usize> {
+    (route.held() > 0).then(|| 3 * random.below(route.held()))
+}
+
+/// One leg's list goes on beyond its limit; there are pairs enough.
+fn too_many_pairs(random: &mut Random, route: &mut LentRoute, _: &mut Vec<u8>) {
+    let (Some(leg), false) = (a_leg(random, route), route.list.places.is_empty()) else {
+        return;
+    };
+    let pairs = random.within(MOST_PAIRS + 1..=MOST_PAIRS + 3);
+    let numbers = 4 * (route.legs[leg + 1] % MOST_PAIRS + pairs);
+    let places = route.list.places.iter().copied().cycle();
+    route.list.places = places.take(numbers.max(route.list.places.len())).collect();
+    route.legs[leg + 1] %= MOST_PAIRS;
+    route.legs[leg + 2] = pairs;
+}
+
+/// One leg's list begins or ends behind the places, just or far. Without pairs this is no flaw.
+fn list_beyond_the_places(random: &mut Random, route: &mut LentRoute, _: &mut Vec<u8>) {
+    let Some(leg) = a_leg(random, route) else {
+        return;
+    };
+    let pairs = route.list.places.len() / 4;
+    let far = *random.pick(&FAR);
+    match random.below(7) {
+        0 => route.legs[leg + 2] = pairs.saturating_sub(route.legs[leg + 1]) + random.within(1..=3),
+        1 => route.legs[leg + 1] = pairs + random.within(0..=2),
+        2 => route.legs[leg + 1] = far,
+        3 => route.legs[leg + 2] = far,
+        4 => route.legs[leg + 1..leg + 3].copy_from_slice(&[far, far]),
+        5 => route.legs[leg + 1..leg + 3].copy_from_slice(&[far, 0]),
+        _ => route.list.places.truncate((4 * pairs).saturating_sub(random.within(1..=4))),
+    }
+}
+
+/// The legs repeated beyond their limit.
+fn too_many_legs(random: &mut Random, route: &mut LentRoute, _: &mut Vec<u8>) {
+    let legs = random.within(MOST_LEGS + 1..=MOST_LEGS + 3);
+    route.legs = route.legs.iter().copied().cycle().take(3 * legs).collect();
+    route.count = route.legs.len() / 3;
+}
+
+/// More legs counted than the slice has numbers for; three times the greatest counts overflow.
+fn count_beyond_the_legs(random: &mut Random, route: &mut LentRoute, _: &mut Vec<u8>) {
+    let held = route.held();
+    match random.below(3) {
+        0 => route.legs.truncate((3 * held).saturating_sub(random.within(1..=3))),
+        1 => route.count = held + random.within(1..=3),
+        _ => route.count = random.pick(&FAR).saturating_add(held),
+    }
+}
+
+/// No flaw: one leg is of another kind.
+fn any_kind(random: &mut Random, route: &mut LentRoute, _: &mut Vec<u8>) {
+    if let Some(leg) = a_leg(random, route) {
+        route.legs[leg] = *random.pick(&[0, 1, 2, 3, 255, 256, usize::MAX]);
+    }
+}
+
+/// No flaw: numbers behind those of the legs counted, and places behind those of the pairs, are not looked at. It
+/// comes last, so that a count beyond its slice is sometimes made good by rubbish.
+fn rubbish_behind(random: &mut Random, route: &mut LentRoute, path: &mut Vec<u8>) {
+    flaws::rubbish_behind_the_list(random, &mut route.list, path);
+    for _ in 0..random.within(1..=7) {
+        route.legs.push(random.within(0..=2 * MOST_PAIRS));
+    }
+}

@@ -1,0 +1,50 @@
+//! How far paths get on their way out, which shows that the random routes are not mostly stopped at their first leg.
+
+use crate::routes::calls::met;
+use crate::routes::lent_route::Route;
+use crate::text::Text;
+use std::fmt::{self, Display};
+
+/// Ways out over routes of at least two legs, where questions 1 to 5 are answered.
+#[derive(Default)]
+pub struct Reach {
+    ways: usize,
+    /// Of these, how many were stopped at the first leg, and how many came out.
+    stopped_at_first: usize,
+    came_out: usize,
+    /// Legs of all ways, and of these how many were passed, and how many of those changed the path.
+    legs: usize,
+    passed: usize,
+    changed: usize,
+}
+
+impl Reach {
+    pub fn count(&mut self, route: &Route, text: &Text) {
+        let (Ok(maps), Some(path)) = (route.maps(), text.path()) else {
+            return;
+        };
+        if maps.len() < 2 {
+            return;
+        }
+        let paths = met(maps, path);
+        let passed = paths.len() - 1;
+        self.ways += 1;
+        self.stopped_at_first += usize::from(passed == 0);
+        self.came_out += usize::from(passed == maps.len());
+        self.legs += maps.len();
+        self.passed += passed;
+        self.changed += paths.windows(2).filter(|paths| paths[0] != paths[1]).count();
+    }
+}
+
+impl Display for Reach {
+    fn fmt(&self, f: &mut fmt::Formatter<'_>) -> fmt::Result {
+        let Reach { ways, stopped_at_first, came_out, legs, passed, changed } = *self;
+        let percent = |part: usize, whole: usize| 100 * part / whole.max(1);
+        let mean = legs as f64 / ways.max(1) as f64;
+        write!(f, "ways out over two or more legs, {mean:.1} on average: {ways}; ")?;
+        write!(f, "{}% came out, {}% ", percent(came_out, ways), percent(stopped_at_first, ways))?;
+        write!(f, "were stopped at the first leg; {}% of all legs were passed, ", percent(passed, legs))?;
+        write!(f, "{}% of these with another path", percent(changed, passed))
+    }
+}
