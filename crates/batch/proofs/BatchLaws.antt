@@ -15,11 +15,10 @@ use Rattle.path.specs.declared.Refusal.the-variants.{TooLong, NoRoom}
 use Rattle.path.specs.declared.Asked.{Asked}
 use Rattle.path.specs.declared.Asked.the-variants.{Passed, Refused}
 use Rattle.path.specs.declared.Reply.{Reply}
-use Rattle.path.specs.Outcome.{Outcome, path, refused, reply, memory, lent, answered}
+use Rattle.path.specs.Outcome.{Outcome, path, refused, reply, memory}
 use Rattle.codes.specs.Code.{replyCode}
 use Rattle.asking.specs.Asking.{lentList, asked}
 use Rattle.map_function.specs.declared.MapFunction.{MapFunction}
-use Rattle.map_function.specs.Read.{listOf, mapOf}
 use Rattle.mapping.specs.declared.Way.{Way}
 use Rattle.mapping.specs.Way.{wayCall, afterList}
 use Rattle.mapping.proofs.HandWays.{Short, short-refused, short-cond}

@@ -1,6 +1,6 @@
 -- Each path of a batch gets what the single call gives it. Assumes nothing.
 use mathlib.Core.Path.{_≡_, refl, ap, _∙_}
-use mathlib.Core.List.{List, [], _∷_, _++_}
+use mathlib.Core.List.{List, [], _∷_}
 use Prim.Native.Nat.{ℕ, zero, suc, _+_, _*_, _≤_, _<_}
 use native.Mathlib.Omega.{arith}
 use lib.ListN.{length, getD, take, drop, length-drop}
@@ -79,7 +79,7 @@ pub each-is-single : EachIsSingleAlways
 unfolding carriedAt routedAt
 each-is-single texts spots n out replies h k = record {
   through-map = λ way store places f.
-    single (carriedAt way store places f texts spots) (short-spotted (λ (p : Text). wayCall way store places f p 255) (λ p. short-call way store places f p 255) texts spots) n out replies h k;
+      single (carriedAt way store places f texts spots) (short-spotted (λ (p : Text). wayCall way store places f p 255) (λ p. short-call way store places f p 255) texts spots) n out replies h k;
   over-route = λ home r.
-    single (routedAt home r texts spots) (short-spotted (λ (p : Text). routeCall home r p 255) (λ p. short-route home r p 255) texts spots) n out replies h k;
+      single (routedAt home r texts spots) (short-spotted (λ (p : Text). routeCall home r p 255) (λ p. short-route home r p 255) texts spots) n out replies h k;
 }

@@ -1,7 +1,7 @@
 // Many paths through one map, or over one route, in lent memory: the questions on the lists are put
 // once, those on a path for each path.
 ghost use mathlib.Core.Path.{_≡_};
-ghost use mathlib.Core.Bool.{Bool, true};
+ghost use mathlib.Core.Bool.{true};
 ghost use Prim.Native.Nat.{_+_, _*_, _≤_, _<_};
 ghost use lib.ListN.{length, set};
 ghost use Rattle.pairs.specs.Places.{inside};
@@ -170,7 +170,18 @@ pub fn carry_all(
     }
     let list = asking::ask_path(store, places, map.count, &texts[..0]);
     let by = Carrier::Map(map, way);
-    carry_each(list, by, store, places, places, texts, spots, n, out, replies);
+    carry_each(
+        list,
+        by,
+        store,
+        places,
+        places,
+        texts,
+        spots,
+        n,
+        out,
+        replies,
+    );
     path::Asked::Passed
 }
 
@@ -198,7 +209,18 @@ fn route_laid(
     let mut table = [0usize; 48];
     legs::lay_legs(store, places, legs, count, &mut made, &mut table);
     let by = Carrier::Route(count, home);
-    carry_each(list, by, store, &made, &table, texts, spots, n, out, replies);
+    carry_each(
+        list,
+        by,
+        store,
+        &made,
+        &table,
+        texts,
+        spots,
+        n,
+        out,
+        replies,
+    );
 }
 
 // The n paths over a route whose legs have got the answer `list`.
@@ -226,7 +248,17 @@ fn route_each(
         return;
     }
     route_laid(
-        list, store, places, legs, count, home, texts, spots, n, out, replies,
+        list,
+        store,
+        places,
+        legs,
+        count,
+        home,
+        texts,
+        spots,
+        n,
+        out,
+        replies,
     );
 }
 
@@ -253,7 +285,17 @@ pub fn route_all(
     }
     let list = legs::ask_legs(store, places, legs, count);
     route_each(
-        list, store, places, legs, count, home, texts, spots, n, out, replies,
+        list,
+        store,
+        places,
+        legs,
+        count,
+        home,
+        texts,
+        spots,
+        n,
+        out,
+        replies,
     );
     path::Asked::Passed
 }

@@ -62,6 +62,15 @@ pub extern "C" fn mudvizsor_route_all(
     ensures { λ r. ⌜ now (replies .exit) ≡ allReplies (enough n (length (now (spots .entry))) (length (now (out .entry))) (length (now (replies .entry)))) (routedAt home (lentRoute (now (store .entry)) (now (places .entry)) (now (legs .entry)) count) (now (texts .entry)) (now (spots .entry))) n (now (replies .entry)) ⌝ }
 {
     codes::asked_code(batch::route_all(
-        store, places, legs, count, home, texts, spots, n, out, replies,
+        store,
+        places,
+        legs,
+        count,
+        home,
+        texts,
+        spots,
+        n,
+        out,
+        replies,
     ))
 }

@@ -1,16 +1,16 @@
 -- What each way through `is_within`, `is_identifier_start`, `is_identifier_cont` and `is_root` gives. Assumes nothing.
 use mathlib.Core.Path.{_≡_, refl, sym, ap, _∙_}
 use mathlib.Core.Logic.{_≢_}
-use mathlib.Core.Bool.{Bool, true, false, not, _&&_, _||_}
+use mathlib.Core.Bool.{Bool, true, false, _&&_}
 use mathlib.Core.List.{List, [], _∷_}
 use Prim.Native.Nat.{ℕ, zero, suc, _≤_, _<_}
 use native.Mathlib.Omega.{arith}
 use lib.Dec.{eqb, leb}
 use lib.ListN.{length, getD}
 use borrow.Author.Tests.{le-leb, lt-leb}
-use Rattle.text.specs.Text.{Text, lacks}
-use Rattle.text.proofs.BoolLaws.{and-no, and-yes, told, told-false, told-true}
-use Rattle.grammar.specs.Legal.{isIdentifierStart, isIdentifierCont, isRoot, legal, isEnd}
+use Rattle.text.specs.Text.{Text}
+use Rattle.text.proofs.BoolLaws.{and-no, and-yes, told}
+use Rattle.grammar.specs.Legal.{isIdentifierStart, isIdentifierCont, isRoot}
 
 pub within-low : (l a h : ℕ) → l ≤ a → leb a h ≡ (leb l a && leb a h)
 within-low l a h e = rw (le-leb l a e)

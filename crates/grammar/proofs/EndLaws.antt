@@ -8,10 +8,9 @@ use Prim.Native.Nat.{ℕ, _+_, _/_, _%_, _^_, _≤_, _<_}
 use native.Mathlib.Omega.{arith}
 use lib.Dec.{eqb, ltb}
 use lib.ListN.{length, getD, length-map, List·getD-map}
-use borrow.Author.Tests.{eqb-true, ne-eqb}
-use types.Run.{OneOf}
+use borrow.Author.Tests.{eqb-true}
 use Rattle.text.specs.Text.{Text, isNil, lacks}
-use Rattle.text.proofs.BoolLaws.{and-no, and-yes, or-false, upTo, at-each}
+use Rattle.text.proofs.BoolLaws.{and-no, and-yes, upTo}
 use Rattle.grammar.specs.Legal.{State, Slash, Name, Opened, Set, Equals, Sel, Closed, Dot, Prop, Dead, step, run, accept, legal, isEnd}
 use Rattle.grammar.specs.Pack.{pack, plain, EndsByPlain}
 use Rattle.grammar.proofs.RunLaws.{run-dead}

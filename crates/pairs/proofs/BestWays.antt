@@ -1,7 +1,7 @@
 -- What each way through `does_serve`, `choose`, `consider` and `best_prefix` gives. Assumes nothing.
 use mathlib.Core.Path.{_≡_, refl, sym, ap, _∙_}
 use mathlib.Core.Logic.{_≢_}
-use mathlib.Core.Bool.{Bool, true, false, not, cond, _&&_, _||_, false≢true}
+use mathlib.Core.Bool.{Bool, true, false, not, cond, _||_, false≢true}
 use mathlib.Core.List.{List, [], _∷_, _++_}
 use mathlib.Core.Option.{Option, none, some}
 use Prim.Native.Nat.{ℕ, zero, suc, _+_, _*_, _-_, _/_, _≤_, _<_}
@@ -21,7 +21,7 @@ use Rattle.prefix.proofs.CountLaws.{count-more}
 use Rattle.prefix.proofs.PrefixLaws.{prefix-rest, prefix-starts, prefix-long}
 use Rattle.pairs.specs.declared.Kept.{Kept}
 use Rattle.pairs.specs.Places.{cut, keysHeld, textAt, keyAt}
-use Rattle.pairs.specs.Best.{least, bestBy, serves, best, chosenIn, outdoes, considered}
+use Rattle.pairs.specs.Best.{least, serves, best, chosenIn, outdoes, considered}
 use Rattle.pairs.proofs.PlaceWays.{text-missing}
 
 pub serves-empty : (p k : Text) → length k ≡ 0 → false ≡ serves p k

@@ -1,23 +1,22 @@
 -- What each way through `does_beat`, `is_rival` and `is_best` gives. Assumes nothing.
-use mathlib.Core.Path.{_≡_, refl, sym, ap, _∙_}
+use mathlib.Core.Path.{_≡_, refl, sym, _∙_}
 use mathlib.Core.Logic.{_≢_}
 use mathlib.Core.Bool.{Bool, true, false, not, cond, _&&_, _||_, false≢true, true≢false}
-use mathlib.Core.List.{List, [], _∷_}
+use mathlib.Core.List.{List, []}
 use mathlib.Core.Option.{Option, none, some}
 use Prim.Native.Nat.{ℕ, _+_, _*_, _-_, _≤_, _<_}
 use native.Mathlib.Omega.{arith}
-use native.Mathlib.Numerals.{add-one}
 use native.Mathlib.Decide.{ℕ-discrete}
 use lib.Dec.{eqb, leb, ltb}
 use lib.ListN.{length, getD, take, drop}
-use borrow.Author.Tests.{eqb-true, eqb-false, eq-eqb, ne-eqb, ltb-true, ltb-false, leb-true, leb-false, lt-ltb, le-ltb, le-leb, lt-leb}
+use borrow.Author.Tests.{eqb-false, eq-eqb, ne-eqb, ltb-true, ltb-false, leb-true, leb-false}
 use Rattle.text.specs.Text.{Text}
 use Rattle.text.proofs.BoolLaws.{and-l, and-r, and-no, told, told-false, told-true}
 use Rattle.prefix.specs.Elements.{elements}
 use Rattle.pairs.specs.Places.{cut, keysHeld, keyAt}
 use Rattle.pairs.specs.Best.{least, serves, best, isAt, beats, rivals}
 use Rattle.pairs.proofs.BestLaws.{Best, Says, best-says}
-use Rattle.pairs.proofs.BestWays.{serves-empty, cut-none, cut-long, cut-outside, cut-differs, cut-is, key-is, key-behind, least-left, least-right}
+use Rattle.pairs.proofs.BestWays.{serves-empty, cut-none, cut-long, cut-outside, cut-differs, cut-is, key-is, key-behind, least-left}
 
 -- `does_beat`
 module _ (p t : Text) (before : Bool) (key : Text) (b : Bool) (h : b ≡ serves p t) where

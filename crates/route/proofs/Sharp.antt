@@ -1,13 +1,12 @@
 -- The second half of demand 3 needs its hypothesis: it does not hold of every route of one leg. Assumes nothing.
 use mathlib.Core.Path.{_≡_, refl}
 use mathlib.Core.Logic.{_↔_}
-use mathlib.Core.Bool.{Bool, true}
+use mathlib.Core.Bool.{true}
 use mathlib.Core.List.{List, [], _∷_}
 use mathlib.Core.Option.{some}
 use Prim.Native.Nat.{ℕ}
 use lib.ListN.{getElem?}
 use Rattle.text.specs.Text.{Text}
-use Rattle.text.proofs.BoolLaws.{and-yes}
 use Rattle.pairs.specs.Pair.{allEnds}
 use Rattle.path.specs.Outcome.{path}
 use Rattle.maps.specs.Map.{Map}

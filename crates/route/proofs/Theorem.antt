@@ -3,7 +3,7 @@ use mathlib.Core.Path.{_≡_, refl, sym, _∙_}
 use mathlib.Core.Logic.{_↔_}
 use mathlib.Core.Bool.{true}
 use mathlib.Core.List.{List, [], _∷_, _++_, reverse, reverse-cons}
-use mathlib.Core.Option.{Option, none, some}
+use mathlib.Core.Option.{none, some}
 use Prim.Native.Nat.{ℕ, zero, suc}
 use native.Mathlib.Omega.{arith}
 use lib.ListN.{getElem?}
@@ -13,11 +13,11 @@ use Rattle.text.proofs.TextLaws.{no-text}
 use Rattle.pairs.specs.Pair.{allEnds, noEmptySource}
 use Rattle.path.specs.declared.Refusal.{Refusal}
 use Rattle.path.specs.Outcome.{Outcome, path, refused}
-use Rattle.maps.specs.Leg.{translate, home, PlainPath, ThereAndBack}
+use Rattle.maps.specs.Leg.{PlainPath, ThereAndBack}
 use Rattle.maps.proofs.OutcomeLaws.{no-path}
 use Rattle.maps.proofs.LegLaws.{leg-next, leg-home, leg-exact}
 use Rattle.route.specs.Leg.{Leg, by-map, by-relocates, legMap, legEnds, outward, homeward}
-use Rattle.route.specs.Route.{routeEnds, along, met, Returns, Demand3, RelocatesExact}
+use Rattle.route.specs.Route.{routeEnds, along, met, Demand3, RelocatesExact}
 use Rattle.route.proofs.RelocateLaws.{relocate-ends, relocate-full}
 
 -- a leg's map has such ends as the leg

@@ -8,9 +8,9 @@ use native.Mathlib.Omega.{arith}
 use lib.ListN.{length, take}
 use lib.Seq.{length-take-le}
 use borrow.Author.Tests.{le-leb}
-use Rattle.text.specs.Text.{Text, lacks, written, placed}
+use Rattle.text.specs.Text.{Text, lacks, placed}
 use Rattle.text.specs.declared.Fit.{Fit}
-use Rattle.text.specs.declared.Fit.the-variants.{Written as WrittenFit, Over}
+use Rattle.text.specs.declared.Fit.the-variants.{Written as WrittenFit}
 use Rattle.text.proofs.BoolLaws.{not-true}
 use Rattle.text.proofs.WriteLaws.{placed-first, read-back}
 use Rattle.grammar.specs.Legal.{fits}
@@ -22,7 +22,7 @@ use Rattle.path.specs.declared.Asked.{Asked}
 use Rattle.path.specs.declared.Asked.the-variants.{Passed, Refused as RefusedAsked}
 use Rattle.path.specs.declared.Reply.{Reply}
 use Rattle.path.specs.declared.Reply.the-variants.{Written, Refused}
-use Rattle.path.specs.Outcome.{Outcome, path, refused, reply, memory, answered}
+use Rattle.path.specs.Outcome.{Outcome, refused, reply, memory, answered}
 use Rattle.path.specs.Calls.{newCall}
 use Rattle.path.proofs.CallWays.{answered-refused, answered-short, answered-passed, answered-same}
 use Rattle.asking.specs.Asking.{earlierOf}

@@ -1,7 +1,7 @@
 -- Demand 3 of the calls. Assumes nothing.
 use mathlib.Core.Path.{_≡_, refl, sym, ap, _∙_}
 use mathlib.Core.Logic.{_↔_}
-use mathlib.Core.Bool.{Bool, true, false, cond, _&&_}
+use mathlib.Core.Bool.{Bool, true, false, cond}
 use mathlib.Core.List.{List, [], _∷_, _++_}
 use Prim.Native.Nat.{ℕ, zero, suc, _≤_}
 use native.Mathlib.Omega.{arith}
@@ -11,9 +11,8 @@ use borrow.Author.Tests.{le-leb, leb-true}
 use Rattle.text.specs.Text.{Text, lacks}
 use Rattle.text.proofs.BoolLaws.{and-l, and-r}
 use Rattle.text.proofs.WriteLaws.{read-back}
-use Rattle.grammar.specs.Legal.{legal, fits}
+use Rattle.grammar.specs.Legal.{fits}
 use Rattle.pairs.specs.Pair.{noEmptySource}
-use Rattle.path.specs.declared.Refusal.{Refusal}
 use Rattle.path.specs.declared.Refusal.the-variants.{NoRoom}
 use Rattle.path.specs.declared.Asked.{Asked}
 use Rattle.path.specs.declared.Asked.the-variants.{Passed, Refused}
@@ -31,7 +30,7 @@ use Rattle.route.proofs.Theorem.{demand-3, way-next, step-exact}
 use Rattle.legs.specs.Lent.{LentRoute, listAt, legAt, legsIn, routeAsked}
 use Rattle.legs.proofs.RouteLaws.{route-one-by-one, route-ends, route-short, route-legal}
 use Rattle.routing.specs.Calls.{wayOver, routeCall}
-use Rattle.routing.specs.Claims.{firstLegs, CallsReturn, CallsReturnAlways}
+use Rattle.routing.specs.Claims.{firstLegs, CallsReturnAlways}
 use Rattle.routing.proofs.OverWays.{along-snoc}
 
 -- a call that gives a path: the questions passed, and the way gives it
@@ -129,8 +128,8 @@ module _ (r : LentRoute) (p : Text) (plain : lacks 123 p ≡ true) (k room : ℕ
 pub calls-return : CallsReturnAlways
 calls-return r p plain = record {
   home-again = λ before behind n e l q w.
-    let o : routeCall false r p (length before) ≡ path q = written-path (routeCall false r p (length before)) n before e ∙ ap path (sym w) in
-    let b : routeCall true r q (length behind) ≡ path p = returns r p plain q (length before) (length behind) o l in
-    rw b (stands p behind);
+      let o : routeCall false r p (length before) ≡ path q = written-path (routeCall false r p (length before)) n before e ∙ ap path (sym w) in
+      let b : routeCall true r q (length behind) ≡ path p = returns r p plain q (length before) (length behind) o l in
+      rw b (stands p behind);
   exact = λ k room t e h full q. gives-exactly r p plain k room t e h full q;
 }

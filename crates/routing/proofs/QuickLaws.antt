@@ -1,10 +1,9 @@
 -- The way as the code goes it is the way of the definitions, for legs that passed the questions. Assumes nothing.
 use mathlib.Core.Path.{_≡_, refl, sym, ap, _∙_}
-use mathlib.Core.Bool.{Bool, true, false, cond, _&&_}
+use mathlib.Core.Bool.{Bool, true, false, _&&_}
 use mathlib.Core.List.{List, [], _∷_, _++_, map, map-append, reverse, reverse-cons}
 use Prim.Native.Nat.{ℕ, zero, suc, _≤_, _<_}
 use native.Mathlib.Omega.{arith}
-use lib.Dec.{leb}
 use lib.ListN.{length}
 use borrow.Author.Tests.{le-leb, leb-true}
 use Rattle.text.specs.Text.{Text}
@@ -13,19 +12,19 @@ use Rattle.grammar.specs.Legal.{legal, fits}
 use Rattle.parts.specs.Strip.{strip}
 use Rattle.parts.proofs.StripLaws.{strip-shorter, strip-lacks, strip-same, strip-legal}
 use Rattle.pairs.specs.Pair.{Pair, allEnds, allShort}
-use Rattle.path.specs.Outcome.{Outcome, path, refused, given}
+use Rattle.path.specs.Outcome.{Outcome, path, refused}
 use Rattle.asking.specs.Asking.{pairsOf, every}
 use Rattle.asking.proofs.PassLaws.{Sound}
-use Rattle.maps.specs.Map.{Map, chosenOut, plainOut, plainHome, invertible, translated}
+use Rattle.maps.specs.Map.{Map, plainHome, translated}
 use Rattle.maps.specs.Leg.{translate, home, PlainPath}
 use Rattle.maps.proofs.OutcomeLaws.{given-path}
 use Rattle.maps.proofs.LegLaws.{leg-next}
 use Rattle.carry.proofs.QuickLaws.{quick-home as home-quickly, quick-translated}
-use Rattle.route.specs.Leg.{Leg, by-map, by-relocates, legMap, outward, homeward}
+use Rattle.route.specs.Leg.{legMap, outward, homeward}
 use Rattle.route.specs.Route.{onward, along}
 use Rattle.route.proofs.RelocateLaws.{relocate-ends, relocate-short}
 use Rattle.legs.specs.Lent.{LentRoute, kindAt, listAt, legOf, legAt, legsIn}
-use Rattle.legs.specs.Laid.{mapAt, Laid}
+use Rattle.legs.specs.Laid.{Laid}
 use Rattle.routing.specs.Calls.{wayOver}
 use Rattle.routing.specs.Quick.{quickLeg, mapsIn, quickOver, entering}
 

@@ -1,5 +1,5 @@
 -- Every path that a way over legs gives has at most 255 bytes. Assumes nothing.
-use mathlib.Core.Path.{_≡_, refl, sym, ap, _∙_}
+use mathlib.Core.Path.{_≡_, refl}
 use mathlib.Core.Bool.{Bool, true, false}
 use mathlib.Core.List.{List, [], _∷_, reverse}
 use Prim.Native.Nat.{ℕ, zero, suc, _≤_}
@@ -8,14 +8,12 @@ use lib.ListN.{length}
 use borrow.Author.Tests.{leb-true}
 use Rattle.text.specs.Text.{Text}
 use Rattle.grammar.specs.Legal.{fits}
-use Rattle.parts.specs.Strip.{strip}
 use Rattle.parts.proofs.StripLaws.{strip-shorter}
 use Rattle.path.specs.declared.Asked.{Asked}
-use Rattle.path.specs.declared.Asked.the-variants.{Passed}
-use Rattle.path.specs.Outcome.{Outcome, path, refused, answered}
+use Rattle.path.specs.Outcome.{Outcome, path, refused}
 use Rattle.path.specs.Calls.{newCall}
 use Rattle.asking.specs.Asking.{earlierOf}
-use Rattle.maps.specs.Map.{Map, plainHome, translated}
+use Rattle.maps.specs.Map.{plainHome, translated}
 use Rattle.maps.specs.Leg.{translate, home}
 use Rattle.maps.proofs.OutcomeLaws.{given-path}
 use Rattle.mapping.proofs.HandWays.{Short, short-refused, short-answered}

@@ -1,7 +1,7 @@
 // Document 01's route: a path out over the legs in lent memory, and a path home. The legs' maps are
 // made once for a call, and a route that has passed its questions is not asked again for each path.
 ghost use mathlib.Core.Path.{_≡_};
-ghost use mathlib.Core.Bool.{Bool, true, false};
+ghost use mathlib.Core.Bool.{true, false};
 ghost use Prim.Native.Nat.{_≤_};
 ghost use lib.ListN.{length, take};
 ghost use Rattle.path.specs.Outcome.{reply, memory};

@@ -10,7 +10,7 @@ use native.Mathlib.Omega.{arith}
 use lib.Dec.{eqb}
 use lib.ListN.{length, getD, drop, drop-of-length-le, length-append, List·getD-append}
 use lib.Seq.{drop-cons, drop-append-seam}
-use borrow.Author.Tests.{eqb-true, eq-eqb, ne-eqb}
+use borrow.Author.Tests.{eqb-true}
 use Rattle.text.specs.Text.{Text, isSome, equal, after, starts, lastIs, lacks}
 use Rattle.text.proofs.BoolLaws.{and-l, and-r, and-yes, and-assoc, eqb-self, not-true}
 

@@ -1,5 +1,4 @@
 use Rattle.batch.proofs.BatchLaws.{room-spots, room-bytes, room-replies}
-use borrow.Author.Needs.{needs}
 use Rattle.batch.proofs.has_room.Statement.{statement}
 use Rattle.batch.proofs.has_room.Tie as tie
 

@@ -1,7 +1,6 @@
 use Rattle.routing.proofs.CallWays.{enter-kept, enter-stripped}
 use Rattle.parts.proofs.StripLaws.{strip-never}
 use native.Mathlib.Omega.{arith}
-use mathlib.Core.Path.{refl}
 use borrow.Author.Needs.{needs}
 use Rattle.routing.proofs.enter.Statement.{statement}
 use Rattle.routing.proofs.enter.Tie as tie

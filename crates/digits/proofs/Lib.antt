@@ -1,0 +1,4 @@
+pub mod DigitLaws
+pub mod DecodeLaws
+pub mod EncodeLaws
+pub mod Theorem

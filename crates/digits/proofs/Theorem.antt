@@ -1,0 +1,50 @@
+-- The digits of bytes stand for those bytes, and the case of digits does not count. Assumes nothing.
+use mathlib.Core.Path.{_≡_, refl, sym, ap, _∙_}
+use mathlib.Core.Bool.{Bool, true, false, cond}
+use mathlib.Core.List.{[], _∷_}
+use mathlib.Core.Option.{some}
+use Prim.Native.Nat.{ℕ, _+_, _-_, _*_, _/_, _%_, _≤_, _<_}
+use native.Mathlib.Omega.{arith}
+use lib.Dec.{ltb}
+use borrow.Author.Tests.{ltb-true, ltb-false}
+use Rattle.text.proofs.BoolLaws.{and-l, and-r}
+use Rattle.digits.specs.Digits.{within, digit, decoded, capital, encoded, areBytes, upper, ComesBack, EitherCase}
+use Rattle.digits.proofs.DigitLaws.{a-decimal, a-capital, a-small, within-low, within-high}
+
+-- a digit in capitals has the value that it was written for
+capital-value : (v : ℕ) → v < 16 → digit (capital v) ≡ some v
+capital-value v h = go (ltb v 10) refl
+  where
+    go : (t : Bool) → ltb v 10 ≡ t → digit (cond t (48 + v) (55 + v)) ≡ some v
+    go true e =
+        let k : 48 + v - 48 ≡ v = omega arith in
+        sym (a-decimal (48 + v) (omega arith) (omega (arith, ltb-true v 10 e))) ∙ ap some k
+    go false e =
+        let k : 55 + v - 55 ≡ v = omega arith in
+        sym (a-capital (55 + v) (omega (arith, ltb-false v 10 e)) (omega arith)) ∙ ap some k
+
+pub comes-back : ComesBack
+unfolding ComesBack decoded encoded areBytes
+comes-back [] h = refl
+comes-back (b ∷ t) h =
+    let l : b < 256 = ltb-true b 256 (and-l (ltb b 256) (areBytes t) h) in
+    let k : 16 * (b / 16) + b % 16 ≡ b = omega arith in
+    rw (capital-value (b / 16) (omega arith), capital-value (b % 16) (omega arith), comes-back t (and-r (ltb b 256) (areBytes t) h), k)
+
+-- a digit and its capital have one value
+upper-value : (b : ℕ) → digit (upper b) ≡ digit b
+upper-value b = go (within 97 102 b) refl
+  where
+    go : (t : Bool) → within 97 102 b ≡ t → digit (cond t (b - 32) b) ≡ digit b
+    go true e =
+        let l : 97 ≤ b = within-low 97 102 b e in
+        let h : b ≤ 102 = within-high 97 102 b e in
+        let k : b - 32 - 55 ≡ b - 87 = omega arith in
+        sym (a-capital (b - 32) (omega arith) (omega arith)) ∙ ap some k ∙ a-small b l (omega arith)
+    go false e = refl
+
+pub either-case : EitherCase
+unfolding EitherCase decoded
+either-case [] = refl
+either-case (a ∷ []) = refl
+either-case (a ∷ b ∷ s) = rw (upper-value a, upper-value b, either-case s)

@@ -1,0 +1,124 @@
+// Hexadecimal digits, two for a byte. Every public function asks nothing of its caller.
+ghost use mathlib.Core.Path.{_≡_};
+ghost use Prim.Native.Nat.{_+_, _*_, _/_, _%_, _<_};
+ghost use lib.ListN.{length, set};
+ghost use Rattle.text.specs.Text.{placed};
+ghost use Rattle.digits.specs.Digits.{digit, decoded, capital, encoded};
+ghost use Rattle.digits.specs.Calls.{hasValue, value, allDigits, decodeReply, decodeMemory};
+
+// What `decode` answers.
+pub enum Decoded {
+    // how many bytes it wrote, from the beginning of the memory on
+    Bytes(usize),
+    // the text has an odd number of digits, or another character: nothing was written
+    Bad,
+    // the memory is too short: nothing was written
+    Over,
+}
+
+// Is the byte a digit?
+fn is_digit(b: u8) -> bool
+    ensures { λ r. ⌜ r ≡ hasValue (digit b) ⌝ }
+{
+    match b {
+        b'0'..=b'9' => true,
+        b'A'..=b'F' => true,
+        b'a'..=b'f' => true,
+        _ => false,
+    }
+}
+
+// The value of a digit, 0 for another byte.
+fn value_of(b: u8) -> u8
+    ensures { λ r. ⌜ r ≡ value (digit b) ⌝ }
+{
+    match b {
+        b'0'..=b'9' => b - 48,
+        b'A'..=b'F' => b - 55,
+        b'a'..=b'f' => b - 87,
+        _ => 0,
+    }
+}
+
+// Is every byte of the text a digit?
+fn are_digits(text: &[u8]) -> bool
+    ensures { λ r. ⌜ r ≡ allDigits (now (text .entry)) ⌝ }
+{
+    let mut i = 0;
+    while i < text.len() {
+        if !is_digit(text[i]) {
+            return false;
+        }
+        i += 1;
+    }
+    true
+}
+
+// The byte of two digits.
+fn byte_of(high: u8, low: u8) -> u8
+    ensures { λ r. ⌜ r ≡ 16 * value (digit high) + value (digit low) ⌝ }
+{
+    16 * value_of(high) + value_of(low)
+}
+
+// Writes the bytes that a text of digits stands for over the beginning of the memory, where it is
+// such a text and they fit; otherwise it writes nothing.
+pub fn decode(text: &[u8], out: &mut [u8]) -> Decoded
+    ensures { λ r. ⌜ r ≡ decodeReply (decoded (now (text .entry))) (length (now (out .entry))) ⌝ }
+    ensures { λ r. ⌜ now (out .exit) ≡ decodeMemory (decoded (now (text .entry))) (now (out .entry)) ⌝ }
+{
+    let n = text.len() / 2;
+    if text.len() != 2 * n {
+        return Decoded::Bad;
+    }
+    if !are_digits(text) {
+        return Decoded::Bad;
+    }
+    if out.len() < n {
+        return Decoded::Over;
+    }
+    let mut i = 0;
+    while i < n {
+        out[i] = byte_of(text[2 * i], text[2 * i + 1]);
+        i += 1;
+    }
+    Decoded::Bytes(n)
+}
+
+// The digit of a value, in capitals.
+fn digit_of(v: u8) -> u8
+    requires { ⌜ v < 16 ⌝ }
+    ensures { λ r. ⌜ r ≡ capital v ⌝ }
+{
+    if v < 10 {
+        return b'0' + v;
+    }
+    55 + v
+}
+
+// Writes the two digits of a byte, the high one first.
+fn write_byte(b: u8, at: usize, out: &mut [u8])
+    requires { ⌜ at + 1 < length (now out) ⌝ }
+    ensures { λ _. ⌜ now (out .exit) ≡ set (set (now (out .entry)) at (capital (b / 16))) (at + 1) (capital (b % 16)) ⌝ }
+{
+    out[at] = digit_of(b / 16);
+    out[at + 1] = digit_of(b % 16);
+}
+
+// Writes the digits of the bytes over the memory from a place on, where they fit; otherwise it writes
+// nothing.
+pub fn encode(bytes: &[u8], at: usize, out: &mut [u8])
+    ensures { λ _. ⌜ now (out .exit) ≡ placed at (encoded (now (bytes .entry))) (now (out .entry)) ⌝ }
+{
+    if out.len() < at {
+        return;
+    }
+    if (out.len() - at) / 2 < bytes.len() {
+        return;
+    }
+    let mut i = 0;
+    while i < bytes.len() {
+        write_byte(bytes[i], at + 2 * i, out);
+        i += 1;
+    }
+}

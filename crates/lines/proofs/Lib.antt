@@ -1,0 +1,4 @@
+pub mod TakeLaws
+pub mod LineLaws
+pub mod FeedLaws
+pub mod Theorem

@@ -1,0 +1,65 @@
+-- In whatever blocks the input comes, the answers are those to the lines of the whole. Assumes nothing.
+use mathlib.Core.Path.{_≡_, refl, sym, ap, _∙_}
+use mathlib.Core.Bool.{Bool, true, false, cond}
+use mathlib.Core.List.{List, [], _∷_, _++_, map, flatten, append-assoc, append-nil}
+use Prim.Native.Nat.{ℕ, suc}
+use native.Mathlib.Omega.{arith}
+use lib.Dec.{eqb, leb}
+use lib.ListN.{length}
+use borrow.Author.Tests.{le-leb}
+use Rattle.text.specs.Text.{Text}
+use Rattle.lines.specs.Lines.{Line, text, overlong, lineOf, split, linesOf, answers}
+use Rattle.lines.specs.Blocks.{push, grown, fed, said, atEnd, blocks, AnyBlocks}
+use Rattle.lines.proofs.LineLaws.{grown-new, grown-append}
+use Rattle.lines.proofs.FeedLaws.{fed-append, said-append}
+
+-- an empty line so far
+lineOf-nil : (most : ℕ) → lineOf most [] ≡ text []
+lineOf-nil most = rw (le-leb 0 most (omega arith))
+
+-- one byte more on the line so far
+push-line : (most : ℕ) (t : Text) (b : ℕ) → push most (lineOf most t) b ≡ lineOf most (t ++ (b ∷ []))
+unfolding grown
+push-line most t b =
+    ap (λ (l : Line). push most l b) (sym (grown-new most t)) ∙ sym (grown-append most (text []) t (b ∷ [])) ∙ grown-new most (t ++ (b ∷ []))
+
+module _ {S : Type 0} (most : ℕ) (next : S → Line → S) (reply : S → Line → Text) where
+  -- what is answered to an input that comes whole, and to its end
+  abbrev finish : Line × S → Text → Text
+  finish c s = said most next reply c s ++ atEnd most next reply (fed most next reply c s .0) (fed most next reply c s .1)
+
+  joined : (c : Line × S) (bs : List Text) → blocks most next reply c bs ≡ finish c (flatten bs)
+  unfolding blocks flatten fed said
+  joined c [] = refl
+  joined c (b ∷ bs) =
+      rw (joined (fed most next reply c b) bs, said-append most next reply c b (flatten bs), fed-append most next reply c b (flatten bs), append-assoc)
+
+  last-answered : (b : ℕ) (t : Text) (st : S) (v : Bool)
+      → atEnd most next reply (cond v (text (b ∷ t)) overlong) st ≡ reply st (cond v (text (b ∷ t)) overlong) ++ []
+  last-answered b t st true = sym (append-nil (reply st (text (b ∷ t))))
+  last-answered b t st false = sym (append-nil (reply st overlong))
+
+  -- the line so far and the state after a byte, which is a newline or not
+  abbrev after : Text → S → ℕ → Bool → Line × S
+  after t st b v = cond v (text [], next st (lineOf most t)) (push most (lineOf most t) b, st)
+
+  -- the whole, where t is the line so far
+  whole : (t : Text) (st : S) (s : Text) → finish (lineOf most t, st) s ≡ answers next reply st (map (lineOf most) (split t s))
+  unfolding fed said split answers
+  whole [] st [] = rw (lineOf-nil most)
+  whole (x ∷ t) st [] = last-answered x t st (leb (suc (length t)) most)
+  whole t st (b ∷ s) = go (eqb b 10) (whole [] (next st (lineOf most t)) s) (whole (t ++ (b ∷ [])) st s)
+    where
+      go : (v : Bool)
+          → finish (lineOf most [], next st (lineOf most t)) s ≡ answers next reply (next st (lineOf most t)) (map (lineOf most) (split [] s))
+          → finish (lineOf most (t ++ (b ∷ [])), st) s ≡ answers next reply st (map (lineOf most) (split (t ++ (b ∷ [])) s))
+          → (cond v (reply st (lineOf most t)) [] ++ said most next reply (after t st b v) s)
+          ++ atEnd most next reply (fed most next reply (after t st b v) s .0) (fed most next reply (after t st b v) s .1)
+          ≡ answers next reply st (map (lineOf most) (cond v (t ∷ split [] s) (split (t ++ (b ∷ [])) s)))
+      go true one two = rw append-assoc (ap (λ (r : Text). reply st (lineOf most t) ++ r) (rw (lineOf-nil most) at one))
+      go false one two = rw (push-line most t b) two
+
+pub any-blocks : AnyBlocks
+unfolding AnyBlocks linesOf
+any-blocks S most next reply st bs =
+    joined most next reply (text [], st) bs ∙ (rw (lineOf-nil most) at (whole most next reply [] st (flatten bs)))

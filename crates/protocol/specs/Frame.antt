@@ -1,0 +1,71 @@
+-- A frame: the bytes that the digits of one line stand for. "The first byte is the kind". Question 9: "Is the frame well formed (.. known
+-- kind, lengths filling it exactly ..)?"
+use Prim.Native.Nat.{ℕ, _+_, _*_}
+use mathlib.Core.Bool.{cond}
+use mathlib.Core.List.{[], _∷_}
+use mathlib.Core.Option.{Option, none, some}
+use lib.Dec.{eqb, leb}
+use lib.ListN.{length, take, drop}
+use Rattle.text.specs.Text.{Text, isNil}
+
+pub data Frame : Type 0 where
+  -- 01: "pair, being source length (2 bytes, high first), source, target length, target"
+  pair : Text → Text → Frame
+  -- 02: "statuses of the open list"
+  statuses : Frame
+  -- 03: "close it as a map leg"
+  close-map : Frame
+  -- 04: "close as a relocate leg"
+  close-relocates : Frame
+  -- 05: "path out"
+  out : Text → Frame
+  -- 06: "path home"
+  home : Text → Frame
+  -- 07: "count of 05 frames answered 00"
+  count : Frame
+
+-- its first byte
+abbrev pub kind : Frame → ℕ
+kind (pair s t) = 1
+kind statuses = 2
+kind close-map = 3
+kind close-relocates = 4
+kind (out p) = 5
+kind (home p) = 6
+kind count = 7
+
+-- a text behind its length, and what follows it; none where the bytes do not reach so far
+pub record Field : Type 0 where
+  pub text : Text
+  pub rest : Text
+
+abbrev pub field : ℕ → Text → Option Field
+field n r = cond (leb n (length r)) (some (record { text = take n r; rest = drop n r })) none
+
+abbrev pub firstField : Text → Option Field
+firstField [] = none
+firstField (h ∷ []) = none
+firstField (h ∷ l ∷ r) = field (256 * h + l) r
+
+-- the frame of one or two fields that fill it exactly
+abbrev pub endsWith : Text → Option Field → Option Frame
+endsWith s none = none
+endsWith s (some f) = cond (isNil (f .rest)) (some (pair s (f .text))) none
+
+abbrev pub pairOf : Option Field → Option Frame
+pairOf none = none
+pairOf (some f) = endsWith (f .text) (firstField (f .rest))
+
+-- a kind with nothing behind it
+abbrev pub alone : Frame → Text → Option Frame
+alone f r = cond (isNil r) (some f) none
+
+-- the frame that bytes of a kind stand for; none where they are not well formed
+abbrev pub ofKind : ℕ → Text → Option Frame
+ofKind k r =
+    cond (eqb k 1) (pairOf (firstField r)) (cond (eqb k 2) (alone statuses r) (cond (eqb k 3) (alone close-map r) (cond (eqb k 4) (alone close-relocates r)
+    (cond (eqb k 5) (some (out r)) (cond (eqb k 6) (some (home r)) (cond (eqb k 7) (alone count r) none))))))
+
+unfoldable pub frameOf : Text → Option Frame
+frameOf [] = none
+frameOf (k ∷ r) = ofKind k r

@@ -1,0 +1,118 @@
+-- What `frames` keeps between two lines, and what each frame answers and makes of it.
+use Prim.Native.Nat.{ℕ, suc, _+_, _/_, _%_}
+use mathlib.Core.Bool.{Bool, cond}
+use mathlib.Core.List.{List, [], _∷_, _++_, reverse}
+use lib.Dec.{leb}
+use lib.ListN.{length}
+use Rattle.text.specs.Text.{Text}
+use Rattle.pairs.specs.Pair.{Pair, pair as pairOf}
+use Rattle.pairs.specs.Places.{endBytes}
+use Rattle.path.specs.declared.Refusal.{Refusal}
+use Rattle.path.specs.declared.Refusal.the-variants.{TooMany, NoRoom}
+use Rattle.path.specs.Refusal.{number, unless}
+use Rattle.path.specs.Outcome.{Outcome, path, refused}
+use Rattle.path.specs.Calls.{newCall}
+use Rattle.asking.specs.Asking.{asked}
+use Rattle.maps.specs.New.{new}
+use Rattle.relocates.specs.Status.{active, statuses as statusesOf}
+use Rattle.route.specs.Leg.{Leg, by-map, by-relocates, outward, homeward}
+use Rattle.route.specs.Route.{along}
+use Rattle.protocol.specs.Frame.{Frame, pair, statuses, close-map, close-relocates, out, home, count}
+
+pub record State : Type 0 where
+  -- the open list
+  pub opened : List Pair
+  -- the legs that were closed
+  pub legs : List Leg
+  -- the end lengths of all accepted legs before dropping
+  pub used : ℕ
+  -- the 05 frames answered 00, "held at FFFFFFFF"
+  pub answered : ℕ
+
+abbrev pub start : State
+start = record { opened = []; legs = []; used = 0; answered = 0 }
+
+-- "The answer line .. is kind + 80, answer byte, then payload": what stands behind the kind
+pub data Answer : Type 0 where
+  given : Text → Answer
+  refusal : Refusal → Answer
+
+-- the answer byte and the payload
+abbrev pub answerBytes : Answer → Text
+answerBytes (given q) = 0 ∷ q
+answerBytes (refusal x) = number x ∷ []
+
+-- what a frame comes to
+pub record Turn : Type 0 where
+  pub state : State
+  pub answer : Answer
+
+abbrev pub refuses : State → Refusal → Turn
+refuses st x = record { state = st; answer = refusal x }
+
+-- 01: questions 1 to 3 of its two ends, then 4 of the list with it
+abbrev pub takesPair : State → Bool
+takesPair st = leb (suc (length (st .opened))) 64
+
+abbrev pub added : State → Text → Text → Turn
+added st s t =
+    record { state = record { opened = st .opened ++ pairOf s t ∷ []; legs = st .legs; used = st .used; answered = st .answered }; answer = given [] }
+
+unfoldable pub adds : State → Text → Text → Turn
+unfolding asked
+adds st s t = unless (asked [] (s ∷ t ∷ []) (s ∷ t ∷ [])) (refuses st) (cond (takesPair st) (added st s t) (refuses st TooMany))
+
+-- 03 and 04: "at most 16 legs", and "in `frames` 32,768 over all legs"; "An accepted close empties the open list; a refused one changes
+-- nothing."
+abbrev pub takesLeg : State → Bool
+takesLeg st = leb (suc (length (st .legs))) 16
+
+abbrev pub takesBytes : State → ℕ → Bool
+takesBytes st n = leb (st .used + n) 32768
+
+abbrev pub closed : State → Leg → ℕ → Turn
+closed st x n = record { state = record { opened = []; legs = st .legs ++ x ∷ []; used = st .used + n; answered = st .answered }; answer = given [] }
+
+unfoldable pub closes : State → Leg → ℕ → Turn
+closes st x n = cond (takesLeg st) (cond (takesBytes st n) (closed st x n) (refuses st NoRoom)) (refuses st TooMany)
+
+-- 05 and 06: questions 1 and 2 of the path, then the way over the legs
+unfoldable pub goes : (List Leg → Text → Outcome) → State → Text → Outcome
+unfolding newCall
+goes way st p = unless (newCall p) refused (way (st .legs) p)
+
+abbrev pub wayOut : List Leg → Text → Outcome
+wayOut legs p = along outward legs p
+
+abbrev pub wayHome : List Leg → Text → Outcome
+wayHome legs p = along homeward (reverse legs) p
+
+abbrev pub answerOf : Outcome → Answer
+answerOf (path q) = given q
+answerOf (refused x) = refusal x
+
+-- one more 05 frame answered 00
+abbrev pub more : ℕ → ℕ
+more n = cond (leb (suc n) 4294967295) (suc n) n
+
+abbrev pub counts : Outcome → ℕ → ℕ
+counts (path q) n = more n
+counts (refused x) n = n
+
+abbrev pub leaves : State → Outcome → Turn
+leaves st o =
+    record { state = record { opened = st .opened; legs = st .legs; used = st .used; answered = counts o (st .answered) }; answer = answerOf o }
+
+-- "4 bytes high first"
+abbrev pub fourBytes : ℕ → Text
+fourBytes n = n / 16777216 % 256 ∷ n / 65536 % 256 ∷ n / 256 % 256 ∷ n % 256 ∷ []
+
+unfoldable pub turn : State → Frame → Turn
+unfolding adds closes goes new active endBytes statusesOf
+turn st (pair s t) = adds st s t
+turn st statuses = record { state = st; answer = given (statusesOf (st .opened) (length (st .opened))) }
+turn st close-map = closes st (by-map (new (st .opened))) (endBytes (st .opened))
+turn st close-relocates = closes st (by-relocates (st .opened)) (endBytes (active (st .opened) (length (st .opened))))
+turn st (out p) = leaves st (goes wayOut st p)
+turn st (home p) = record { state = st; answer = answerOf (goes wayHome st p) }
+turn st count = record { state = st; answer = given (fourBytes (st .answered)) }
