@@ -1,0 +1,211 @@
+-- What each way through the reading of a frame gives. Assumes nothing.
+use mathlib.Core.Path.{_≡_, refl, sym, ap, _∙_}
+use mathlib.Core.Logic.{_≢_}
+use mathlib.Core.Bool.{Bool, true, false, cond}
+use mathlib.Core.List.{[], _∷_}
+use mathlib.Core.Option.{none, some}
+use Prim.Native.Nat.{ℕ, zero, suc, _+_, _*_, _-_, _≤_, _<_}
+use native.Mathlib.Omega.{arith}
+use lib.Dec.{leb}
+use lib.ListN.{length, getD, take, drop, length-drop}
+use borrow.Author.Tests.{ne-eqb, le-leb, leb-true}
+use Rattle.text.specs.Text.{Text, isNil}
+use Rattle.protocol.specs.Frame.{Frame, pair, statuses, close-map, close-relocates, count, field, firstField, endsWith, pairOf, alone, ofKind, frameOf}
+use Rattle.frame.specs.declared.Read.{Read}
+use Rattle.frame.specs.declared.Read.the-variants.{Pair, Statuses, CloseMap, CloseRelocates, Out, Home, Count, Bad}
+use Rattle.frame.specs.Read.{meant, aloneOf}
+
+-- fewer than two bytes hold no length
+too-few : (x : Text) → length x < 2 → firstField x ≡ none
+too-few [] h = refl
+too-few (a ∷ []) h = refl
+too-few (a ∷ b ∷ x) h = absurd (omega arith)
+
+-- two bytes at n, and what stands behind them
+two-at : (n : ℕ) (r : Text) → n + 2 ≤ length r → drop n r ≡ getD r n 0 ∷ getD r (n + 1) 0 ∷ drop (n + 2) r
+two-at zero [] h = absurd (omega arith)
+two-at zero (a ∷ []) h = absurd (omega arith)
+two-at zero (a ∷ b ∷ r) h = refl
+two-at (suc n) [] h = absurd (omega arith)
+two-at (suc n) (a ∷ r) h =
+    let y : suc n + 1 ≡ suc (n + 1) = omega arith in
+    let z : suc n + 2 ≡ suc (n + 2) = omega arith in
+    rw (y, z) (two-at n r (omega arith))
+
+-- a source that leaves no room for the target's length
+no-target : (h l : ℕ) (r : Text) → length r < 256 * h + l + 2 → none ≡ pairOf (firstField (h ∷ l ∷ r))
+no-target h l r k = go (leb (256 * h + l) (length r)) refl
+  where
+    go : (b : Bool) → leb (256 * h + l) (length r) ≡ b
+        → none ≡ pairOf (cond b (some (record { text = take (256 * h + l) r; rest = drop (256 * h + l) r })) none)
+    go true e =
+        sym (ap (endsWith (take (256 * h + l) r)) (too-few (drop (256 * h + l) r) (rw (length-drop (256 * h + l) r) (omega (arith, leb-true (256 * h + l) (length r) e, k)))))
+    go false e = refl
+
+-- a target behind the source
+with-target : (h l : ℕ) (r : Text) (n : ℕ) → n ≡ 256 * h + l → n + 2 ≤ length r
+    → pairOf (firstField (h ∷ l ∷ r)) ≡ endsWith (take n r) (field (256 * getD r n 0 + getD r (n + 1) 0) (drop (n + 2) r))
+with-target h l r n e k =
+    rw (← e, le-leb n (length r) (omega (arith, k))) (ap (λ (x : Text). endsWith (take n r) (firstField x)) (two-at n r k))
+
+not-nil : (x : Text) → 0 < length x → isNil x ≡ false
+not-nil [] h = absurd (omega arith)
+not-nil (a ∷ x) h = refl
+
+is-nil : (x : Text) → length x ≡ 0 → isNil x ≡ true
+is-nil [] h = refl
+is-nil (a ∷ x) h = absurd (omega arith)
+
+-- a target that does not fill the frame, and one that does
+not-filled : (s : Text) (m : ℕ) (x : Text) → length x ≢ m → none ≡ endsWith s (field m x)
+not-filled s m x k = go (leb m (length x)) refl
+  where
+    go : (b : Bool) → leb m (length x) ≡ b → none ≡ endsWith s (cond b (some (record { text = take m x; rest = drop m x })) none)
+    go true e =
+        sym (ap (λ (b : Bool). cond b (some (pair s (take m x))) none)
+        (not-nil (drop m x) (rw (length-drop m x) (omega (arith, leb-true m (length x) e, k)))))
+    go false e = refl
+
+filled : (s : Text) (m : ℕ) (x : Text) → length x ≡ m → some (pair s (take m x)) ≡ endsWith s (field m x)
+filled s m x k =
+    rw (le-leb m (length x) (omega (arith, k)))
+    (sym (ap (λ (b : Bool). cond b (some (pair s (take m x))) none) (is-nil (drop m x) (rw (length-drop m x) (omega (arith, k))))))
+
+-- the number that two bytes of a frame stand for
+abbrev numberAt : Text → ℕ → ℕ
+numberAt b at = 256 * getD b at 0 + getD b (at + 1) 0
+
+-- `read_pair`
+module _ (b : Text) where
+  pub pair-short : length b < 5 → meant b Bad ≡ pairOf (firstField (drop 1 b))
+  unfolding meant
+  pair-short = go b
+    where
+      go : (b : Text) → length b < 5 → none ≡ pairOf (firstField (drop 1 b))
+      go [] k = refl
+      go (a ∷ []) k = refl
+      go (a ∷ h ∷ []) k = refl
+      go (a ∷ h ∷ l ∷ r) k = no-target h l r (omega (arith, k))
+
+  module _ (k : 5 ≤ length b) (n : ℕ) (e : n ≡ numberAt b 1) where
+    pub pair-over : length b - 5 < n → meant b Bad ≡ pairOf (firstField (drop 1 b))
+    unfolding meant
+    pair-over = go b k e
+      where
+        go : (b : Text) → 5 ≤ length b → n ≡ numberAt b 1 → length b - 5 < n → none ≡ pairOf (firstField (drop 1 b))
+        go [] k e h = absurd (omega arith)
+        go (a ∷ []) k e h = absurd (omega arith)
+        go (a ∷ x ∷ []) k e h = absurd (omega arith)
+        go (a ∷ x ∷ y ∷ r) k e h = no-target x y r (omega (arith, k, e, h))
+
+    module _ (l : n ≤ length b - 5) (m : ℕ) (f : m ≡ numberAt b (3 + n)) where
+      -- what follows the kind, with the target's length and the target taken out
+      opened : pairOf (firstField (drop 1 b)) ≡ endsWith (take n (drop 3 b)) (field m (drop (5 + n) b))
+      opened = go b k e l f
+        where
+          go : (b : Text) → 5 ≤ length b → n ≡ numberAt b 1 → n ≤ length b - 5 → m ≡ numberAt b (3 + n)
+              → pairOf (firstField (drop 1 b)) ≡ endsWith (take n (drop 3 b)) (field m (drop (5 + n) b))
+          go [] k e l f = absurd (omega arith)
+          go (a ∷ []) k e l f = absurd (omega arith)
+          go (a ∷ x ∷ []) k e l f = absurd (omega arith)
+          go (a ∷ x ∷ y ∷ r) k e l f =
+              let i : 3 + n ≡ suc (suc (suc n)) = omega arith in
+              let j : 3 + n + 1 ≡ suc (suc (suc (n + 1))) = omega arith in
+              let o : 5 + n ≡ suc (suc (suc (n + 2))) = omega arith in
+              let g : m ≡ 256 * getD r n 0 + getD r (n + 1) 0
+              = f ∙ ap (λ (v : ℕ). 256 * getD (a ∷ x ∷ y ∷ r) v 0 + getD (a ∷ x ∷ y ∷ r) (3 + n + 1) 0) i
+              ∙ ap (λ (v : ℕ). 256 * getD r n 0 + getD (a ∷ x ∷ y ∷ r) v 0) j in
+              with-target x y r n e (omega (arith, k, l))
+              ∙ ap (λ (v : ℕ). endsWith (take n r) (field v (drop (n + 2) r))) (sym g)
+              ∙ ap (λ (v : ℕ). endsWith (take n r) (field m (drop v (a ∷ x ∷ y ∷ r)))) (sym o)
+
+      left : length (drop (5 + n) b) ≡ length b - 5 - n
+      left = length-drop (5 + n) b ∙ omega arith
+
+      pub pair-other : length b - 5 - n ≢ m → meant b Bad ≡ pairOf (firstField (drop 1 b))
+      unfolding meant
+      pair-other h = not-filled (take n (drop 3 b)) m (drop (5 + n) b) (λ z. h (sym left ∙ z)) ∙ sym opened
+
+      pub pair-filled : length b - 5 - n ≡ m → meant b (Pair n m) ≡ pairOf (firstField (drop 1 b))
+      unfolding meant
+      pair-filled h = filled (take n (drop 3 b)) m (drop (5 + n) b) (left ∙ h) ∙ sym opened
+
+-- `alone`
+module _ (b : Text) (r : Read) where
+  pub alone-more : 1 < length b → Bad ≡ aloneOf b r
+  alone-more = go b
+    where
+      go : (b : Text) → 1 < length b → Bad ≡ aloneOf b r
+      go [] h = absurd (omega arith)
+      go (a ∷ []) h = absurd (omega arith)
+      go (a ∷ x ∷ b) h = refl
+
+  pub alone-only : length b ≤ 1 → r ≡ aloneOf b r
+  alone-only = go b
+    where
+      go : (b : Text) → length b ≤ 1 → r ≡ aloneOf b r
+      go [] h = refl
+      go (a ∷ []) h = refl
+      go (a ∷ x ∷ b) h = absurd (omega arith)
+
+  -- it says its frame where nothing follows
+  alone-says : (f : Frame) → meant b r ≡ some f → (a : Read) → a ≡ aloneOf b r → meant b a ≡ alone f (drop 1 b)
+  unfolding meant
+  alone-says f h a e = rw e (go (isNil (drop 1 b)))
+    where
+      go : (t : Bool) → meant b (cond t r Bad) ≡ cond t (some f) none
+      go true = h
+      go false = refl
+
+-- `read_kind`
+module _ (b : Text) (k : ℕ) where
+  pub kind-1 : k ≡ 1 → (r : Read) → meant b r ≡ pairOf (firstField (drop 1 b)) → meant b r ≡ ofKind k (drop 1 b)
+  kind-1 h r e = rw h e
+
+  pub kind-2 : k ≡ 2 → (r : Read) → r ≡ aloneOf b Statuses → meant b r ≡ ofKind k (drop 1 b)
+  unfolding meant
+  kind-2 h r e = rw h (alone-says b Statuses statuses refl r e)
+
+  pub kind-3 : k ≡ 3 → (r : Read) → r ≡ aloneOf b CloseMap → meant b r ≡ ofKind k (drop 1 b)
+  unfolding meant
+  kind-3 h r e = rw h (alone-says b CloseMap close-map refl r e)
+
+  pub kind-4 : k ≡ 4 → (r : Read) → r ≡ aloneOf b CloseRelocates → meant b r ≡ ofKind k (drop 1 b)
+  unfolding meant
+  kind-4 h r e = rw h (alone-says b CloseRelocates close-relocates refl r e)
+
+  pub kind-5 : k ≡ 5 → meant b Out ≡ ofKind k (drop 1 b)
+  unfolding meant
+  kind-5 h = rw h
+
+  pub kind-6 : k ≡ 6 → meant b Home ≡ ofKind k (drop 1 b)
+  unfolding meant
+  kind-6 h = rw h
+
+  pub kind-7 : k ≡ 7 → (r : Read) → r ≡ aloneOf b Count → meant b r ≡ ofKind k (drop 1 b)
+  unfolding meant
+  kind-7 h r e = rw h (alone-says b Count count refl r e)
+
+  pub kind-other : k ≢ 1 → k ≢ 2 → k ≢ 3 → k ≢ 4 → k ≢ 5 → k ≢ 6 → k ≢ 7 → meant b Bad ≡ ofKind k (drop 1 b)
+  unfolding meant
+  kind-other a c d e f g h = rw (ne-eqb k 1 a, ne-eqb k 2 c, ne-eqb k 3 d, ne-eqb k 4 e, ne-eqb k 5 f, ne-eqb k 6 g, ne-eqb k 7 h)
+
+pub ruleset kinds = (alone-more, alone-only, kind-1, kind-2, kind-3, kind-4, kind-5, kind-6, kind-7, kind-other)
+
+-- `read_frame`
+module _ (b : Text) where
+  pub frame-empty : length b ≡ 0 → meant b Bad ≡ frameOf b
+  unfolding meant frameOf
+  frame-empty = go b
+    where
+      go : (b : Text) → length b ≡ 0 → none ≡ frameOf b
+      go [] h = refl
+      go (a ∷ b) h = absurd (omega arith)
+
+  pub frame-kind : length b ≢ 0 → (r : Read) → meant b r ≡ ofKind (getD b 0 0) (drop 1 b) → meant b r ≡ frameOf b
+  unfolding frameOf
+  frame-kind h r e = e ∙ go b h
+    where
+      go : (b : Text) → length b ≢ 0 → ofKind (getD b 0 0) (drop 1 b) ≡ frameOf b
+      go [] h = absurd (h refl)
+      go (a ∷ b) h = refl

@@ -1,0 +1,41 @@
+use Rattle.frame.proofs.ReadWays.{pair-short, pair-over, pair-other, pair-filled}
+use borrow.Author.Needs.{needs}
+use Rattle.frame.proofs.read_pair.Statement.{statement}
+use Rattle.frame.proofs.read_pair.Tie as tie
+
+returns : tie.Need-returns
+returns c = pair-short _ (c .if1 .taken)
+
+sub-left : tie.Need-sub-left
+sub-left c = search needs
+
+number-at-requires : tie.Need-number-at-requires
+number-at-requires c κs = search needs
+
+returns-2 : tie.Need-returns-2
+returns-2 c = pair-over _ (c .before .before .if1 .left) _ (c .before .number-at .ensures) (c .if2 .taken)
+
+add-number-at : tie.Need-add-number-at
+add-number-at c = search needs
+
+number-at-requires-2 : tie.Need-number-at-requires-2
+number-at-requires-2 c κs = search needs
+
+returns-3 : tie.Need-returns-3
+returns-3 c = pair-other _ (c .before .before .before .before .if1 .left) _ (c .before .before .before .number-at .ensures) (c .before .before .if2 .left) _ (c .before .number-at2 .ensures) (c .if3 .taken)
+
+returns-4 : tie.Need-returns-4
+returns-4 c = pair-filled _ (c .before .before .before .before .if1 .left) _ (c .before .before .before .number-at .ensures) (c .before .before .if2 .left) _ (c .before .number-at2 .ensures) (c .if3 .left)
+
+pub read-pair-spec : {M : Type 1} → statement M
+read-pair-spec =
+    tie.close
+    (tie.spec
+    returns
+    sub-left
+    number-at-requires
+    returns-2
+    add-number-at
+    number-at-requires-2
+    returns-3
+    returns-4)
