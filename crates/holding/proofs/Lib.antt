@@ -1,0 +1,2 @@
+pub mod AddWays
+pub mod OpenedLaws

@@ -1,0 +1,106 @@
+-- What the memory of the open list means. Assumes nothing.
+use mathlib.Core.Path.{_≡_, refl, sym, ap, _∙_}
+use mathlib.Core.Bool.{Bool, true, false, cond, _&&_}
+use mathlib.Core.List.{List, [], _∷_, _++_}
+use Prim.Native.Nat.{ℕ, suc, _+_, _*_, _≤_}
+use native.Mathlib.Omega.{arith}
+use lib.Dec.{leb}
+use lib.ListN.{length, drop, length-append}
+use lib.Seq.{drop-append-seam}
+use borrow.Author.Tests.{le-leb, leb-true}
+use Rattle.text.specs.Text.{Text, written, over, placed}
+use Rattle.text.proofs.WriteLaws.{placed-next}
+use Rattle.pairs.specs.Pair.{Pair, pair}
+use Rattle.pairs.specs.Places.{pairsIn, listText, listPlaces, endBytes, fourOf}
+use Rattle.pairs.proofs.ListLaws.{list-length, places-length, read-back}
+use Rattle.pairs.proofs.WriteWays.{list-snoc, places-snoc}
+use Rattle.path.specs.declared.Refusal.the-variants.{TooMany, NoRoom}
+use Rattle.path.specs.declared.Asked.{Asked}
+use Rattle.path.specs.declared.Asked.the-variants.{Passed, Refused as RefusedAsked}
+use Rattle.path.specs.Refusal.{unless}
+use Rattle.asking.specs.Asking.{asked}
+use Rattle.asking.proofs.EarlierLaws.{never}
+use Rattle.holding.specs.declared.Opened.{Opened}
+use Rattle.holding.specs.Add.{addAsked, oneMore, addBytes, addPlaces}
+use Rattle.holding.specs.Opened.{Holds, OpenedLaws}
+
+reads : (l : List Pair) (k : Opened) (bytes : Text) (places : List ℕ) → Holds l k bytes places → pairsIn bytes places (k .pairs) ≡ l
+reads l k bytes places h =
+    ap (λ (b : Text). pairsIn b places (k .pairs)) (h .text)
+    ∙ ap (λ (p : List ℕ). pairsIn (written (listText l) bytes) p (k .pairs)) (h .numbers)
+    ∙ ap (λ (n : ℕ). pairsIn (written (listText l) bytes) (written (listPlaces 0 l) places) n) (h .pairs)
+    ∙ read-back l bytes places
+
+-- behind what is written, one text more
+module _ (t s out : Text) (h : length t + length s ≤ length out) (e : out ≡ written t out) where
+  grown : over (length t) s out ≡ written (t ++ s) out
+  unfolding placed
+  grown =
+      ap (over (length t) s) e
+      ∙ (rw (length-written, le-leb (length t + length s) (length out) h) at (placed-next t s out h))
+    where
+      length-written : length (written t out) ≡ length out
+      length-written = ap length (sym e)
+
+  written-twice : (u : Text) → written u (written u out) ≡ written u out
+  written-twice u = ap (λ (x : Text). u ++ x) (drop-append-seam u (drop (length u) out))
+
+  still-written : over (length t) s out ≡ written (t ++ s) (over (length t) s out)
+  still-written = rw grown (sym (written-twice (t ++ s)))
+
+-- what a passed question says
+module _ (k : Opened) (s t : Text) (room slots : ℕ) (h : addAsked k s t room slots ≡ Passed) where
+  fits : (4 * k .pairs + 4 ≤ slots) × (k .bytes + (length s + length t) ≤ room)
+  unfolding addAsked
+  fits = go (asked [] (s ∷ t ∷ []) (s ∷ t ∷ [])) (leb (suc (k .pairs)) 64) (leb (4 * suc (k .pairs)) slots) refl (leb (k .bytes + (length s + length t)) room) refl h
+    where
+      go : (a : Asked) (b c : Bool) → leb (4 * suc (k .pairs)) slots ≡ c → (d : Bool) → leb (k .bytes + (length s + length t)) room ≡ d
+          → unless a RefusedAsked (cond (b && c) (cond d Passed (RefusedAsked NoRoom)) (RefusedAsked TooMany)) ≡ Passed
+          → (4 * k .pairs + 4 ≤ slots) × (k .bytes + (length s + length t) ≤ room)
+      go Passed true true e true f h = (omega (arith, leb-true (4 * suc (k .pairs)) slots e), leb-true (k .bytes + (length s + length t)) room f)
+      go Passed true true e false f h = absurd (never NoRoom h)
+      go Passed true false e d f h = absurd (never TooMany h)
+      go Passed false c e d f h = absurd (never TooMany h)
+      go (RefusedAsked x) b c e d f h = absurd (never x h)
+
+module _ (l : List Pair) (k : Opened) (bytes : Text) (places : List ℕ) (s t : Text) (h : Holds l k bytes places)
+    (a : addAsked k s t (length bytes) (length places) ≡ Passed) where
+  abbrev more : List Pair
+  more = l ++ pair s t ∷ []
+
+  at-bytes : k .bytes ≡ length (listText l)
+  at-bytes = h .size ∙ sym (list-length l)
+
+  at-places : 4 * k .pairs ≡ length (listPlaces 0 l)
+  at-places = ap (λ (n : ℕ). 4 * n) (h .pairs) ∙ sym (places-length 0 l)
+
+  room : (4 * k .pairs + 4 ≤ length places) × (k .bytes + (length s + length t) ≤ length bytes)
+  room = fits k s t (length bytes) (length places) a
+
+  more-bytes : endBytes more ≡ k .bytes + (length s + length t)
+  more-bytes =
+      sym (list-length more) ∙ ap length (list-snoc l (pair s t)) ∙ length-append (listText l) (s ++ t)
+      ∙ ap (λ (n : ℕ). length (listText l) + n) (length-append s t) ∙ ap (λ (n : ℕ). n + (length s + length t)) (sym at-bytes)
+
+  more-text : over (k .bytes) (s ++ t) bytes ≡ written (listText more) (over (k .bytes) (s ++ t) bytes)
+  more-text =
+      rw (at-bytes, list-snoc l (pair s t))
+      (still-written (listText l) (s ++ t) bytes (omega (arith, length-append s t, at-bytes, room .1)) (h .text))
+
+  more-numbers : over (4 * k .pairs) (fourOf (k .bytes) s t) places ≡ written (listPlaces 0 more) (over (4 * k .pairs) (fourOf (k .bytes) s t) places)
+  more-numbers =
+      let z : 0 + endBytes l ≡ k .bytes = omega (arith, h .size) in
+      rw (at-places, places-snoc 0 l (pair s t), z)
+      (still-written (listPlaces 0 l) (fourOf (k .bytes) s t) places (omega (arith, at-places, room .0)) (h .numbers))
+
+  grows : Holds more (oneMore k s t) (addBytes Passed k s t bytes) (addPlaces Passed k s t places)
+  unfolding addBytes addPlaces
+  grows = record {
+    pairs = ap (λ (n : ℕ). n + 1) (h .pairs) ∙ sym (length-append l (pair s t ∷ []));
+    size = sym more-bytes;
+    text = more-text;
+    numbers = more-numbers;
+  }
+
+pub opened : OpenedLaws
+opened = record { reads = reads; grows = grows }
