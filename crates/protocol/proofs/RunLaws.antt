@@ -27,10 +27,10 @@ use Rattle.maps.specs.Leg.{PlainPath}
 use Rattle.maps.proofs.EndLaws.{new-ends}
 use Rattle.relocates.specs.Status.{active}
 use Rattle.route.specs.Leg.{Leg, by-map, by-relocates, legEnds}
-use Rattle.route.specs.Route.{routeEnds}
+use Rattle.route.specs.Route.{routeEnds, wayOver}
 use Rattle.route.proofs.Theorem.{demand-3, way-next}
 use Rattle.protocol.specs.Frame.{Frame, pair, statuses, close-map, close-relocates, out, home, count}
-use Rattle.protocol.specs.State.{State, start, given, refusal, refuses, takesPair, added, adds, takesLeg, takesBytes, closed, closes, goes, wayOut, wayHome, answerOf, more, counts, leaves, fourBytes, turn}
+use Rattle.protocol.specs.State.{State, start, given, refusal, refuses, takesPair, added, adds, takesLeg, takesBytes, closed, closes, goes, answerOf, more, counts, leaves, fourBytes, turn}
 use Rattle.protocol.specs.Run.{next, after, isPath, outs, allOuts, held, Within, Claims}
 
 -- what every state of a run keeps
@@ -130,21 +130,21 @@ held-most n = go (leb n 4294967295) refl
 counts-few : (o : Outcome) (n : ℕ) → n ≤ 4294967295 → counts o n ≤ 4294967295
 counts-few o n h = rw (counts-held o n h) (held-most (n + isPath o))
 
-next-keeps : (st : State) (f : Option Frame) → Kept st → Kept (next st f)
+next-keeps : (st : State) (f : Option Frame) → Kept st → Kept (next turn st f)
 unfolding turn legEnds
 next-keeps st none k = k
 next-keeps st (some (pair s t)) k = adds-keeps st s t k
 next-keeps st (some statuses) k = k
 next-keeps st (some close-map) k = closes-keeps st (by-map (new (st .opened))) (endBytes (st .opened)) (new-ends (st .opened) (k .ends)) k
 next-keeps st (some close-relocates) k = closes-keeps st (by-relocates (st .opened)) (endBytes (active (st .opened) (length (st .opened)))) (k .ends) k
-next-keeps st (some (out p)) k = record { ends = k .ends; leg-ends = k .leg-ends; few = counts-few (goes wayOut st p) (st .answered) (k .few); within = record { pairs = k .within .pairs; legs = k .within .legs; bytes = k .within .bytes } }
+next-keeps st (some (out p)) k = record { ends = k .ends; leg-ends = k .leg-ends; few = counts-few (goes false st p) (st .answered) (k .few); within = record { pairs = k .within .pairs; legs = k .within .legs; bytes = k .within .bytes } }
 next-keeps st (some (home p)) k = k
 next-keeps st (some count) k = k
 
 after-keeps : (st : State) (fs : List (Option Frame)) → Kept st → Kept (after st fs)
 unfolding after
 after-keeps st [] k = k
-after-keeps st (f ∷ fs) k = after-keeps (next st f) fs (next-keeps st f k)
+after-keeps st (f ∷ fs) k = after-keeps (next turn st f) fs (next-keeps st f k)
 
 adds-same : (st : State) (s t : Text) → (adds st s t) .state .answered ≡ st .answered
 unfolding adds
@@ -164,20 +164,20 @@ closes-same st x n = go (takesLeg st) (takesBytes st n)
     go true false = refl
     go false b = refl
 
-next-counts : (st : State) (f : Option Frame) → st .answered ≤ 4294967295 → (next st f) .answered ≡ held (st .answered + outs st f)
+next-counts : (st : State) (f : Option Frame) → st .answered ≤ 4294967295 → (next turn st f) .answered ≡ held (st .answered + outs st f)
 unfolding turn
 next-counts st f h = go f
   where
     still : st .answered ≡ held (st .answered + 0)
     still = let z : st .answered + 0 ≡ st .answered = omega arith in rw z (sym (held-few (st .answered) h))
 
-    go : (f : Option Frame) → (next st f) .answered ≡ held (st .answered + outs st f)
+    go : (f : Option Frame) → (next turn st f) .answered ≡ held (st .answered + outs st f)
     go none = still
     go (some (pair s t)) = adds-same st s t ∙ still
     go (some statuses) = still
     go (some close-map) = closes-same st (by-map (new (st .opened))) (endBytes (st .opened)) ∙ still
     go (some close-relocates) = closes-same st (by-relocates (st .opened)) (endBytes (active (st .opened) (length (st .opened)))) ∙ still
-    go (some (out p)) = counts-held (goes wayOut st p) (st .answered) h
+    go (some (out p)) = counts-held (goes false st p) (st .answered) h
     go (some (home p)) = still
     go (some count) = still
 
@@ -185,10 +185,10 @@ after-counts : (st : State) (fs : List (Option Frame)) → Kept st → (after st
 unfolding after allOuts
 after-counts st [] k = let z : st .answered + 0 ≡ st .answered = omega arith in rw z (sym (held-few (st .answered) (k .few)))
 after-counts st (f ∷ fs) k =
-    let z : st .answered + outs st f + allOuts (next st f) fs ≡ st .answered + (outs st f + allOuts (next st f) fs) = omega arith in
-    after-counts (next st f) fs (next-keeps st f k)
-    ∙ ap (λ (n : ℕ). held (n + allOuts (next st f) fs)) (next-counts st f (k .few))
-    ∙ held-plus (st .answered + outs st f) (allOuts (next st f) fs)
+    let z : st .answered + outs st f + allOuts (next turn st f) fs ≡ st .answered + (outs st f + allOuts (next turn st f) fs) = omega arith in
+    after-counts (next turn st f) fs (next-keeps st f k)
+    ∙ ap (λ (n : ℕ). held (n + allOuts (next turn st f) fs)) (next-counts st f (k .few))
+    ∙ held-plus (st .answered + outs st f) (allOuts (next turn st f) fs)
     ∙ ap held z
 
 -- a path that gets out over the legs comes home
@@ -209,27 +209,28 @@ given-goes : (o : Outcome) (q : Text) → answerOf o ≡ given q → o ≡ path 
 given-goes (path t) q e = let z : t ≡ q = cc in ap path z
 given-goes (refused x) q e = absurd (let z : _≡_ {A = ℕ} 0 1 = cc in omega arith)
 
-goes-passed : (way : List Leg → Text → Outcome) (st : State) (p q : Text) → goes way st p ≡ path q → (newCall p ≡ Passed) × (way (st .legs) p ≡ path q)
+goes-passed : (back : Bool) (st : State) (p q : Text) → goes back st p ≡ path q → (newCall p ≡ Passed) × (wayOver back (st .legs) p ≡ path q)
 unfolding goes
-goes-passed way st p q e = go (newCall p) refl e
+goes-passed back st p q e = go (newCall p) refl e
   where
-    go : (a : Asked) → newCall p ≡ a → unless a refused (way (st .legs) p) ≡ path q → (newCall p ≡ Passed) × (way (st .legs) p ≡ path q)
+    go : (a : Asked) → newCall p ≡ a → unless a refused (wayOver back (st .legs) p) ≡ path q → (newCall p ≡ Passed) × (wayOver back (st .legs) p ≡ path q)
     go Passed h k = (h, k)
     go (Refused x) h k = absurd (let z : _≡_ {A = ℕ} 0 1 = cc in omega arith)
 
-passed-goes : (way : List Leg → Text → Outcome) (st : State) (p : Text) → newCall p ≡ Passed → goes way st p ≡ way (st .legs) p
+passed-goes : (back : Bool) (st : State) (p : Text) → newCall p ≡ Passed → goes back st p ≡ wayOver back (st .legs) p
 unfolding goes
-passed-goes way st p h = rw h
+passed-goes back st p h = rw h
 
 module _ (st : State) (k : Kept st) (p q : Text) (plain : lacks 123 p ≡ true) where
-  returns : goes wayOut st p ≡ path q → (st′ : State) → st′ .legs ≡ st .legs → goes wayHome st′ q ≡ path p
+  returns : goes false st p ≡ path q → (st′ : State) → st′ .legs ≡ st .legs → goes true st′ q ≡ path p
+  unfolding wayOver
   returns e st′ same =
-      let w = goes-passed wayOut st p q e in
+      let w = goes-passed false st p q e in
       let t = passed-whole p (w .0) in
       let c : PlainPath p = record { is-legal = t .1; is-short = t .0; is-plain = plain } in
       let d : PlainPath q = way-next (st .legs) p q (k .leg-ends) c (w .1) in
-      passed-goes wayHome st′ q (whole-passed q d)
-      ∙ ap (λ (l : List Leg). wayHome l q) same
+      passed-goes true st′ q (whole-passed q d)
+      ∙ ap (λ (l : List Leg). wayOver true l q) same
       ∙ (demand-3 (st .legs) p (k .leg-ends) c) .home-again q (w .1) .0
 
 -- a refused frame leaves the state
@@ -266,7 +267,7 @@ still st (pair s t) x = adds-still st s t x
 still st statuses x = λ e. refl
 still st close-map x = closes-still st (by-map (new (st .opened))) (endBytes (st .opened)) x
 still st close-relocates x = closes-still st (by-relocates (st .opened)) (endBytes (active (st .opened) (length (st .opened)))) x
-still st (out p) x = leaves-still st (goes wayOut st p) x
+still st (out p) x = leaves-still st (goes false st p) x
 still st (home p) x = λ e. refl
 still st count x = λ e. refl
 
@@ -277,7 +278,7 @@ claims = record {
   refused-still = still;
   comes-home = λ fs p q plain e.
       ap answerOf
-      (returns (after start fs) (after-keeps start fs begins) p q plain (given-goes (goes wayOut (after start fs) p) q e) (next (after start fs) (some (out p))) refl);
+      (returns (after start fs) (after-keeps start fs begins) p q plain (given-goes (goes false (after start fs) p) q e) (next turn (after start fs) (some (out p))) refl);
   counts-outs = λ fs.
       let z : 0 + allOuts start fs ≡ allOuts start fs = omega arith in
       ap (λ (n : ℕ). given (fourBytes n)) (after-counts start fs begins ∙ ap held z);

@@ -1,3 +1,4 @@
 pub mod Frame
 pub mod State
 pub mod Run
+pub mod Input

@@ -1,7 +1,7 @@
 -- A run: the frames of an input one after the other, a bad frame being none. What is claimed of every run.
 use mathlib.Core.Path.{_≡_}
 use Prim.Native.Nat.{ℕ, _+_, _≤_}
-use mathlib.Core.Bool.{true, cond}
+use mathlib.Core.Bool.{true, false, cond}
 use mathlib.Core.List.{List, [], _∷_}
 use mathlib.Core.Option.{Option, none, some}
 use lib.Dec.{leb}
@@ -10,23 +10,25 @@ use Rattle.text.specs.Text.{Text, lacks}
 use Rattle.path.specs.declared.Refusal.{Refusal}
 use Rattle.path.specs.Outcome.{Outcome, path, refused}
 use Rattle.protocol.specs.Frame.{Frame, pair, statuses, close-map, close-relocates, out, home, count, kind}
-use Rattle.protocol.specs.State.{State, start, given, refusal, answerBytes, goes, wayOut, fourBytes, turn}
+use Rattle.protocol.specs.State.{State, Turn, start, given, refusal, answerBytes, goes, fourBytes, turn}
 
--- "A bad frame gives FF09", and changes nothing
-abbrev pub next : State → Option Frame → State
-next st none = st
-next st (some f) = (turn st f) .state
+-- for states of any kind and what a frame does to them
+module _ {S : Type 0} (turns : S → Frame → Turn S) where
+  -- "A bad frame gives FF09", and changes nothing
+  abbrev pub next : S → Option Frame → S
+  next st none = st
+  next st (some f) = (turns st f) .state
 
--- the bytes of the answer line
-abbrev pub answer : State → Option Frame → Text
-answer st none = 255 ∷ 9 ∷ []
-answer st (some f) = (kind f + 128) ∷ answerBytes ((turn st f) .answer)
+  -- the bytes of the answer line
+  abbrev pub answer : S → Option Frame → Text
+  answer st none = 255 ∷ 9 ∷ []
+  answer st (some f) = (kind f + 128) ∷ answerBytes ((turns st f) .answer)
 
 -- the state after frames
 unfoldable pub after : State → List (Option Frame) → State
 unfolding turn
 after st [] = st
-after st (f ∷ fs) = after (next st f) fs
+after st (f ∷ fs) = after (next turn st f) fs
 
 -- "count of 05 frames answered 00, for the whole run": counted from the input so far, without the program's own counter
 abbrev pub isPath : Outcome → ℕ
@@ -39,14 +41,14 @@ outs st (some (pair s t)) = 0
 outs st (some statuses) = 0
 outs st (some close-map) = 0
 outs st (some close-relocates) = 0
-outs st (some (out p)) = isPath (goes wayOut st p)
+outs st (some (out p)) = isPath (goes false st p)
 outs st (some (home p)) = 0
 outs st (some count) = 0
 
 unfoldable pub allOuts : State → List (Option Frame) → ℕ
 unfolding turn goes
 allOuts st [] = 0
-allOuts st (f ∷ fs) = outs st f + allOuts (next st f) fs
+allOuts st (f ∷ fs) = outs st f + allOuts (next turn st f) fs
 
 -- "held at FFFFFFFF"
 abbrev pub held : ℕ → ℕ
@@ -65,6 +67,6 @@ pub record Claims : Type 0 where
   pub refused-still : (st : State) (f : Frame) (x : Refusal) → (turn st f) .answer ≡ refusal x → (turn st f) .state ≡ st
   -- In every run: where 05 with a path free of selections was answered 00 with q, the next frame 06 with q is answered 00 with that path.
   pub comes-home : (fs : List (Option Frame)) (p q : Text) → lacks 123 p ≡ true
-      → (turn (after start fs) (out p)) .answer ≡ given q → (turn (next (after start fs) (some (out p))) (home q)) .answer ≡ given p
+      → (turn (after start fs) (out p)) .answer ≡ given q → (turn (next turn (after start fs) (some (out p))) (home q)) .answer ≡ given p
   -- 07 answers with the number of 05 frames that were answered 00 in the input so far.
   pub counts-outs : (fs : List (Option Frame)) → (turn (after start fs) count) .answer ≡ given (fourBytes (held (allOuts start fs)))

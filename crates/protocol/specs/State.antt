@@ -1,7 +1,7 @@
 -- What `frames` keeps between two lines, and what each frame answers and makes of it.
 use Prim.Native.Nat.{ℕ, suc, _+_, _/_, _%_}
-use mathlib.Core.Bool.{Bool, cond}
-use mathlib.Core.List.{List, [], _∷_, _++_, reverse}
+use mathlib.Core.Bool.{Bool, true, false, cond}
+use mathlib.Core.List.{List, [], _∷_, _++_}
 use lib.Dec.{leb}
 use lib.ListN.{length}
 use Rattle.text.specs.Text.{Text}
@@ -15,8 +15,8 @@ use Rattle.path.specs.Calls.{newCall}
 use Rattle.asking.specs.Asking.{asked}
 use Rattle.maps.specs.New.{new}
 use Rattle.relocates.specs.Status.{active, statuses as statusesOf}
-use Rattle.route.specs.Leg.{Leg, by-map, by-relocates, outward, homeward}
-use Rattle.route.specs.Route.{along}
+use Rattle.route.specs.Leg.{Leg, by-map, by-relocates}
+use Rattle.route.specs.Route.{wayOver}
 use Rattle.protocol.specs.Frame.{Frame, pair, statuses, close-map, close-relocates, out, home, count}
 
 pub record State : Type 0 where
@@ -42,23 +42,23 @@ abbrev pub answerBytes : Answer → Text
 answerBytes (given q) = 0 ∷ q
 answerBytes (refusal x) = number x ∷ []
 
--- what a frame comes to
-pub record Turn : Type 0 where
-  pub state : State
+-- what a frame comes to: the state afterwards and the answer
+pub record Turn (S : Type 0) : Type 0 where
+  pub state : S
   pub answer : Answer
 
-abbrev pub refuses : State → Refusal → Turn
+abbrev pub refuses : State → Refusal → Turn State
 refuses st x = record { state = st; answer = refusal x }
 
 -- 01: questions 1 to 3 of its two ends, then 4 of the list with it
 abbrev pub takesPair : State → Bool
 takesPair st = leb (suc (length (st .opened))) 64
 
-abbrev pub added : State → Text → Text → Turn
+abbrev pub added : State → Text → Text → Turn State
 added st s t =
     record { state = record { opened = st .opened ++ pairOf s t ∷ []; legs = st .legs; used = st .used; answered = st .answered }; answer = given [] }
 
-unfoldable pub adds : State → Text → Text → Turn
+unfoldable pub adds : State → Text → Text → Turn State
 unfolding asked
 adds st s t = unless (asked [] (s ∷ t ∷ []) (s ∷ t ∷ [])) (refuses st) (cond (takesPair st) (added st s t) (refuses st TooMany))
 
@@ -70,22 +70,16 @@ takesLeg st = leb (suc (length (st .legs))) 16
 abbrev pub takesBytes : State → ℕ → Bool
 takesBytes st n = leb (st .used + n) 32768
 
-abbrev pub closed : State → Leg → ℕ → Turn
+abbrev pub closed : State → Leg → ℕ → Turn State
 closed st x n = record { state = record { opened = []; legs = st .legs ++ x ∷ []; used = st .used + n; answered = st .answered }; answer = given [] }
 
-unfoldable pub closes : State → Leg → ℕ → Turn
+unfoldable pub closes : State → Leg → ℕ → Turn State
 closes st x n = cond (takesLeg st) (cond (takesBytes st n) (closed st x n) (refuses st NoRoom)) (refuses st TooMany)
 
 -- 05 and 06: questions 1 and 2 of the path, then the way over the legs
-unfoldable pub goes : (List Leg → Text → Outcome) → State → Text → Outcome
-unfolding newCall
-goes way st p = unless (newCall p) refused (way (st .legs) p)
-
-abbrev pub wayOut : List Leg → Text → Outcome
-wayOut legs p = along outward legs p
-
-abbrev pub wayHome : List Leg → Text → Outcome
-wayHome legs p = along homeward (reverse legs) p
+unfoldable pub goes : Bool → State → Text → Outcome
+unfolding newCall wayOver
+goes back st p = unless (newCall p) refused (wayOver back (st .legs) p)
 
 abbrev pub answerOf : Outcome → Answer
 answerOf (path q) = given q
@@ -99,7 +93,7 @@ abbrev pub counts : Outcome → ℕ → ℕ
 counts (path q) n = more n
 counts (refused x) n = n
 
-abbrev pub leaves : State → Outcome → Turn
+abbrev pub leaves : State → Outcome → Turn State
 leaves st o =
     record { state = record { opened = st .opened; legs = st .legs; used = st .used; answered = counts o (st .answered) }; answer = answerOf o }
 
@@ -107,12 +101,12 @@ leaves st o =
 abbrev pub fourBytes : ℕ → Text
 fourBytes n = n / 16777216 % 256 ∷ n / 65536 % 256 ∷ n / 256 % 256 ∷ n % 256 ∷ []
 
-unfoldable pub turn : State → Frame → Turn
+unfoldable pub turn : State → Frame → Turn State
 unfolding adds closes goes new active endBytes statusesOf
 turn st (pair s t) = adds st s t
 turn st statuses = record { state = st; answer = given (statusesOf (st .opened) (length (st .opened))) }
 turn st close-map = closes st (by-map (new (st .opened))) (endBytes (st .opened))
 turn st close-relocates = closes st (by-relocates (st .opened)) (endBytes (active (st .opened) (length (st .opened))))
-turn st (out p) = leaves st (goes wayOut st p)
-turn st (home p) = record { state = st; answer = answerOf (goes wayHome st p) }
+turn st (out p) = leaves st (goes false st p)
+turn st (home p) = record { state = st; answer = answerOf (goes true st p) }
 turn st count = record { state = st; answer = given (fourBytes (st .answered)) }

@@ -1,7 +1,7 @@
 -- A route of legs, out and home, and what is claimed of it (demand 3): "one claim about the whole list of legs, not one for each leg".
 use mathlib.Core.Path.{_≡_}
 use mathlib.Core.Logic.{_↔_}
-use mathlib.Core.Bool.{Bool, true, _&&_}
+use mathlib.Core.Bool.{Bool, true, false, _&&_}
 use mathlib.Core.List.{List, [], _∷_, reverse}
 use mathlib.Core.Option.{some}
 use Prim.Native.Nat.{ℕ}
@@ -36,6 +36,12 @@ metFrom rest (refused x) = []
 unfoldable pub met : (Leg → Text → Outcome) → List Leg → Text → List Text
 met go [] p = p ∷ []
 met go (x ∷ xs) p = p ∷ metFrom (met go xs) (go x p)
+
+-- a route, out or home: "Out: `translate_to_target` leg after leg .. Home: `map_target_to_source` in reverse."
+unfoldable pub wayOver : Bool → List Leg → Text → Outcome
+unfolding along
+wayOver false legs p = along outward legs p
+wayOver true legs p = along homeward (reverse legs) p
 
 pub record Returns (legs : List Leg) (p : Text) : Type 0 where
   -- Whenever every leg gives a path, the legs taken in reverse give back at each leg exactly the path that had reached it, and at the end

@@ -31,7 +31,8 @@ use Rattle.legs.specs.Lent.{LentRoute, legsIn, routeAsked}
 use Rattle.legs.specs.Laid.{hasRelocates, Laid, LaidIfPassed}
 use Rattle.legs.proofs.RouteLaws.{route-one-by-one, route-sound, route-short, route-legal}
 use Rattle.legs.proofs.LaidLaws.{laid-itself}
-use Rattle.routing.specs.Calls.{wayOver, routeCall}
+use Rattle.route.specs.Route.{wayOver}
+use Rattle.routing.specs.Calls.{routeCall}
 use Rattle.routing.specs.Quick.{quickOver, entering, Keeps, Entered, Holds, needsMaps, afterLegs}
 use Rattle.routing.proofs.QuickLaws.{Whole, quick-way}
 use Rattle.routing.proofs.OverWays.{holds-path, holds-refused, holds-inside}

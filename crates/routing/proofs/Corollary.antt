@@ -25,11 +25,11 @@ use Rattle.asking.proofs.EarlierLaws.{none-earlier}
 use Rattle.maps.specs.Leg.{PlainPath, ThereAndBack}
 use Rattle.maps.proofs.OutcomeLaws.{no-path}
 use Rattle.route.specs.Leg.{Leg, legMap, legEnds, outward}
-use Rattle.route.specs.Route.{along, routeEnds}
+use Rattle.route.specs.Route.{along, routeEnds, wayOver}
 use Rattle.route.proofs.Theorem.{demand-3, way-next, step-exact}
 use Rattle.legs.specs.Lent.{LentRoute, listAt, legAt, legsIn, routeAsked}
 use Rattle.legs.proofs.RouteLaws.{route-one-by-one, route-ends, route-short, route-legal}
-use Rattle.routing.specs.Calls.{wayOver, routeCall}
+use Rattle.routing.specs.Calls.{routeCall}
 use Rattle.routing.specs.Claims.{firstLegs, CallsReturnAlways}
 use Rattle.routing.proofs.OverWays.{along-snoc}
 

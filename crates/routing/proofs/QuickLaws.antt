@@ -21,11 +21,10 @@ use Rattle.maps.proofs.OutcomeLaws.{given-path}
 use Rattle.maps.proofs.LegLaws.{leg-next}
 use Rattle.carry.proofs.QuickLaws.{quick-home as home-quickly, quick-translated}
 use Rattle.route.specs.Leg.{legMap, outward, homeward}
-use Rattle.route.specs.Route.{onward, along}
+use Rattle.route.specs.Route.{onward, along, wayOver}
 use Rattle.route.proofs.RelocateLaws.{relocate-ends, relocate-short}
 use Rattle.legs.specs.Lent.{LentRoute, kindAt, listAt, legOf, legAt, legsIn}
 use Rattle.legs.specs.Laid.{Laid}
-use Rattle.routing.specs.Calls.{wayOver}
 use Rattle.routing.specs.Quick.{quickLeg, mapsIn, quickOver, entering}
 
 -- a way over legs is the way over their maps

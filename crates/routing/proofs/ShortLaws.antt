@@ -19,10 +19,10 @@ use Rattle.maps.proofs.OutcomeLaws.{given-path}
 use Rattle.mapping.proofs.HandWays.{Short, short-refused, short-answered}
 use Rattle.mapping.proofs.WayLaws.{after-length}
 use Rattle.route.specs.Leg.{Leg, legMap, outward, homeward}
-use Rattle.route.specs.Route.{onward, along}
+use Rattle.route.specs.Route.{onward, along, wayOver}
 use Rattle.legs.specs.Lent.{LentRoute, legsIn, routeAsked}
 use Rattle.legs.proofs.RouteLaws.{route-short}
-use Rattle.routing.specs.Calls.{wayOver, routeCall}
+use Rattle.routing.specs.Calls.{routeCall}
 use Rattle.routing.specs.Quick.{quickLeg, mapsIn, quickOver, entering, afterLegs}
 use Rattle.routing.proofs.OverWays.{short-leg}
 
