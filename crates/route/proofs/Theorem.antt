@@ -17,7 +17,7 @@ use Rattle.maps.specs.Leg.{PlainPath, ThereAndBack}
 use Rattle.maps.proofs.OutcomeLaws.{no-path}
 use Rattle.maps.proofs.LegLaws.{leg-next, leg-home, leg-exact}
 use Rattle.route.specs.Leg.{Leg, by-map, by-relocates, legMap, legEnds, outward, homeward}
-use Rattle.route.specs.Route.{routeEnds, along, met, Demand3, RelocatesExact}
+use Rattle.route.specs.Route.{routeEnds, along, met, Demand3, RelocatesExact, wayOver}
 use Rattle.route.proofs.RelocateLaws.{relocate-ends, relocate-full}
 
 -- a leg's map has such ends as the leg
@@ -142,6 +142,7 @@ reached (y ∷ ys) p ends c (suc k) x r h g = by (outward y p) refl (λ q d. rea
     by (refused n) e ih = absurd (no-text (rw (met-refused outward y ys p n e) at g))
 
 pub demand-3 : Demand3
+unfolding wayOver
 demand-3 legs p ends c = record {
   home-again = λ q e. way-home legs p q ends c e;
   exact = λ k x r h g full q. let d = reached legs p ends c k x r h g in step-exact x (d .0) r q (d .1) full;

@@ -46,8 +46,8 @@ wayOver true legs p = along homeward (reverse legs) p
 pub record Returns (legs : List Leg) (p : Text) : Type 0 where
   -- Whenever every leg gives a path, the legs taken in reverse give back at each leg exactly the path that had reached it, and at the end
   -- the very path we began with.
-  pub home-again : (q : Text) → along outward legs p ≡ path q
-      → (along homeward (reverse legs) q ≡ path p) × (met homeward (reverse legs) q ≡ reverse (met outward legs p))
+  pub home-again : (q : Text) → wayOver false legs p ≡ path q
+      → (wayOver true legs q ≡ path p) × (met homeward (reverse legs) q ≡ reverse (met outward legs p))
   -- And whether or not the way out is stopped further on: each leg reached whose map has no empty source gives a path exactly when plain
   -- mapping over that map takes what reached it to a legal path of at most 255 bytes which goes plainly back to what reached it; the leg
   -- then gives that path.
