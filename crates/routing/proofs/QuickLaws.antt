@@ -4,7 +4,7 @@ use mathlib.Core.Bool.{Bool, true, false, _&&_}
 use mathlib.Core.List.{List, [], _∷_, _++_, map, map-append, reverse, reverse-cons}
 use Prim.Native.Nat.{ℕ, zero, suc, _≤_, _<_}
 use native.Mathlib.Omega.{arith}
-use lib.ListN.{length}
+use lib.ListN.{length, length-append}
 use borrow.Author.Tests.{le-leb, leb-true}
 use Rattle.text.specs.Text.{Text}
 use Rattle.text.proofs.BoolLaws.{and-l, and-r}
@@ -20,7 +20,7 @@ use Rattle.maps.specs.Leg.{translate, home, PlainPath}
 use Rattle.maps.proofs.OutcomeLaws.{given-path}
 use Rattle.maps.proofs.LegLaws.{leg-next}
 use Rattle.carry.proofs.QuickLaws.{quick-home as home-quickly, quick-translated}
-use Rattle.route.specs.Leg.{legMap, outward, homeward}
+use Rattle.route.specs.Leg.{Leg, legMap, outward, homeward}
 use Rattle.route.specs.Route.{onward, along, wayOver}
 use Rattle.route.proofs.RelocateLaws.{relocate-ends, relocate-short}
 use Rattle.legs.specs.Lent.{LentRoute, kindAt, listAt, legOf, legAt, legsIn}
@@ -55,7 +55,7 @@ along-same C good f g same next (x ∷ xs) p e c =
     by (refused n) h ih = refl
 
 -- ends are ends, and short
-abbrev soundMap : Map → Bool
+abbrev pub soundMap : Map → Bool
 soundMap m = allEnds (m .pairs) && allShort (m .pairs)
 
 module _ (m : Map) (s : soundMap m ≡ true) where
@@ -102,10 +102,6 @@ strip-first : (m : Map) (ms : List Map) (p : Text) → along translate (m ∷ ms
 unfolding along translate translated
 strip-first m ms p = rw (strip-same (strip p) (strip-lacks p))
 
-strip-before : (ms : List Map) (m : Map) (p : Text) → along translate (ms ++ m ∷ []) p ≡ along translate (ms ++ m ∷ []) (strip p)
-strip-before [] m p = strip-first m [] p
-strip-before (x ∷ ms) m p = strip-first x (ms ++ m ∷ []) p
-
 strip-plain : (p : Text) → Whole p → PlainPath (strip p)
 unfolding fits
 strip-plain p c = record {
@@ -137,6 +133,38 @@ map-reverse f [] = refl
 map-reverse f (x ∷ xs) =
     rw (reverse-cons x xs, reverse-cons (f x) (map f xs), map-append f (reverse xs) (x ∷ []), map-reverse f xs)
 
+-- the way over legs whose maps are those of a route of maps
+module _ (s : LentRoute) where
+  no-legs : (p : Text) → wayOver false [] p ≡ quickOver false s 0 (entering false 0 p)
+  unfolding wayOver quickOver entering mapsIn along
+  no-legs p = refl
+
+  out-maps : (n : ℕ) (legs : List Leg) → length legs ≡ n → mapsIn s n ≡ map legMap legs → every soundMap (map legMap legs) ≡ true → (p : Text) → Whole p
+      → wayOver false legs p ≡ quickOver false s n (entering false n p)
+  unfolding wayOver quickOver entering outward
+  out-maps zero [] l e sound p c = no-legs p
+  out-maps zero (x ∷ legs) l e sound p c = absurd (omega arith)
+  out-maps (suc n) [] l e sound p c = absurd (omega arith)
+  out-maps (suc n) (x ∷ legs) l e sound p c =
+      rw e
+      (along-map translate legMap (x ∷ legs) p
+      ∙ strip-first (legMap x) (map legMap legs) p
+      ∙ quick-out-way (map legMap (x ∷ legs)) (strip p) sound (strip-plain p c))
+
+  home-maps : (n : ℕ) (legs : List Leg) → length legs ≡ n → mapsIn s n ≡ map legMap legs → every soundMap (map legMap legs) ≡ true → (p : Text) → Whole p
+      → wayOver true legs p ≡ quickOver true s n (entering true n p)
+  unfolding wayOver quickOver entering homeward
+  home-maps n legs l e sound p c =
+      rw e
+      (along-map home legMap (reverse legs) p
+      ∙ ap (λ (ms : List Map). along home ms p) (map-reverse legMap legs)
+      ∙ quick-home-way (reverse (map legMap legs)) p (every-reverse soundMap (map legMap legs) sound) c)
+
+  pub way-maps : (homeward : Bool) (n : ℕ) (legs : List Leg) → length legs ≡ n → mapsIn s n ≡ map legMap legs → every soundMap (map legMap legs) ≡ true
+      → (p : Text) → Whole p → wayOver homeward legs p ≡ quickOver homeward s n (entering homeward n p)
+  way-maps false = out-maps
+  way-maps true = home-maps
+
 module _ (r : LentRoute) where
   maps-snoc : (n : ℕ) → map legMap (legsIn r (suc n)) ≡ map legMap (legsIn r n) ++ legMap (legAt r n) ∷ []
   unfolding legsIn
@@ -156,33 +184,11 @@ module _ (r : LentRoute) where
   laid-maps s zero h = refl
   laid-maps s (suc n) h = rw (maps-snoc n, laid-maps s n (λ k i. h k (omega arith)), h n (omega arith))
 
-  module _ (s : LentRoute) where
-    no-legs : (p : Text) → wayOver false (legsIn r 0) p ≡ quickOver false s 0 (entering false 0 p)
-    unfolding wayOver quickOver entering legsIn mapsIn along
-    no-legs p = refl
+  legs-length : (n : ℕ) → length (legsIn r n) ≡ n
+  unfolding legsIn
+  legs-length zero = refl
+  legs-length (suc n) = rw (length-append (legsIn r n) (legAt r n ∷ []), legs-length n) (omega arith)
 
-    quick-out : (n : ℕ) → Laid r s n → ((k : ℕ) → k < n → Sound (listAt r k)) → (p : Text) → Whole p
-        → wayOver false (legsIn r n) p ≡ quickOver false s n (entering false n p)
-    unfolding wayOver quickOver entering outward
-    quick-out zero h sound p c = no-legs p
-    quick-out (suc n) h sound p c =
-        rw (laid-maps s (suc n) h)
-        (along-map translate legMap (legsIn r (suc n)) p
-        ∙ ap (λ (ms : List Map). along translate ms p) (maps-snoc n)
-        ∙ strip-before (map legMap (legsIn r n)) (legMap (legAt r n)) p
-        ∙ ap (λ (ms : List Map). along translate ms (strip p)) (sym (maps-snoc n))
-        ∙ quick-out-way (map legMap (legsIn r (suc n))) (strip p) (sound-legs (suc n) sound) (strip-plain p c))
-
-    quick-home : (n : ℕ) → Laid r s n → ((k : ℕ) → k < n → Sound (listAt r k)) → (p : Text) → Whole p
-        → wayOver true (legsIn r n) p ≡ quickOver true s n (entering true n p)
-    unfolding wayOver quickOver entering homeward
-    quick-home n h sound p c =
-        rw (laid-maps s n h)
-        (along-map home legMap (reverse (legsIn r n)) p
-        ∙ ap (λ (ms : List Map). along home ms p) (map-reverse legMap (legsIn r n))
-        ∙ quick-home-way (reverse (map legMap (legsIn r n))) p (every-reverse soundMap (map legMap (legsIn r n)) (sound-legs n sound)) c)
-
-    pub quick-way : (homeward : Bool) (n : ℕ) → Laid r s n → ((k : ℕ) → k < n → Sound (listAt r k)) → (p : Text) → Whole p
-        → wayOver homeward (legsIn r n) p ≡ quickOver homeward s n (entering homeward n p)
-    quick-way false = quick-out
-    quick-way true = quick-home
+  pub quick-way : (s : LentRoute) (homeward : Bool) (n : ℕ) → Laid r s n → ((k : ℕ) → k < n → Sound (listAt r k)) → (p : Text) → Whole p
+      → wayOver homeward (legsIn r n) p ≡ quickOver homeward s n (entering homeward n p)
+  quick-way s homeward n h sound = way-maps s homeward n (legsIn r n) (legs-length n) (laid-maps s n h) (sound-legs n sound)
