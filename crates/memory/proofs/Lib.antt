@@ -1,0 +1,4 @@
+pub mod PieceLaws
+pub mod StandLaws
+pub mod LegLaws
+pub mod WayLaws

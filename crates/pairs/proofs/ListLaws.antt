@@ -56,7 +56,7 @@ module _ (x : Pair) (k : ℕ) (before rest : Text) (earlier later : List ℕ) (e
   read-pair = rw (read-source, read-target)
 
 -- every pair of a list behind k others
-read-pairs : (l : List Pair) (i k : ℕ) (before after : Text) (earlier later : List ℕ) → length earlier ≡ 4 * k → i < length l
+pub read-pairs : (l : List Pair) (i k : ℕ) (before after : Text) (earlier later : List ℕ) → length earlier ≡ 4 * k → i < length l
     → pairIn (before ++ (listText l ++ after)) (earlier ++ (listPlaces (length before) l ++ later)) (k + i) ≡ pairAt l i
 unfolding listText listPlaces
 read-pairs [] i k before after earlier later e h = absurd (omega arith)

@@ -192,7 +192,7 @@ after-counts st (f ∷ fs) k =
     ∙ ap held z
 
 -- a path that gets out over the legs comes home
-passed-whole : (p : Text) → newCall p ≡ Passed → (fits p ≡ true) × (legal p ≡ true)
+pub passed-whole : (p : Text) → newCall p ≡ Passed → (fits p ≡ true) × (legal p ≡ true)
 unfolding newCall askedTexts allFit allLegal
 passed-whole p h = go (fits p) (legal p) h
   where

@@ -1,0 +1,46 @@
+-- Numbers that stand in memory, and what is written from a later place on. Assumes nothing.
+use mathlib.Core.Path.{_≡_, refl, sym, ap, _∙_}
+use mathlib.Core.List.{List, [], _∷_, _++_, append-assoc}
+use Prim.Native.Nat.{ℕ, _+_, _-_, _≤_, _<_}
+use native.Mathlib.Omega.{arith}
+use lib.ListN.{length, getD, take, drop, length-append, length-drop, take-append-drop}
+use lib.Seq.{length-take-le, take-append-seam, take-append-le, drop-append-le, drop-at, getD-take, getD-drop}
+use Rattle.text.specs.Text.{over}
+use Rattle.memory.specs.Means.{Stands}
+
+-- writing where there is room leaves the length
+pub over-length : (b : ℕ) (t mem : List ℕ) → b + length t ≤ length mem → length (over b t mem) ≡ length mem
+over-length b t mem h =
+    let l : length (take b mem) ≡ b = length-take-le b mem (omega arith) in
+    simp (length-append, length-drop) (omega arith)
+
+-- what stands below a place does not depend on what is behind it
+module _ (mem : List ℕ) (b n at : ℕ) (h : at + n ≤ b) (r : b ≤ length mem) where
+  from-below : (behind : List ℕ) → take n (drop at (take b mem ++ behind)) ≡ take n (drop at (take b mem))
+  from-below behind =
+      let l : length (take b mem) ≡ b = length-take-le b mem r in
+      let d : length (drop at (take b mem)) ≡ length (take b mem) - at = length-drop at (take b mem) in
+      ap (take n) (drop-append-le at (take b mem) behind (omega arith)) ∙ take-append-le n (drop at (take b mem)) behind (omega arith)
+
+  below : (t : List ℕ) → take n (drop at (over b t mem)) ≡ take n (drop at mem)
+  below t =
+      from-below (t ++ drop (b + length t) mem) ∙ sym (from-below (drop b mem)) ∙ ap (λ (x : List ℕ). take n (drop at x)) (take-append-drop b mem)
+
+pub stands-still : (mem s t : List ℕ) (at b : ℕ) → at + length s ≤ b → b ≤ length mem → Stands mem at s → Stands (over b t mem) at s
+stands-still mem s t at b h r e = below mem b (length s) at h r t ∙ e
+
+-- what was written stands there
+pub stands-written : (mem t : List ℕ) (b : ℕ) → b ≤ length mem → Stands (over b t mem) b t
+stands-written mem t b r =
+    ap (take (length t)) (drop-at (take b mem) (t ++ drop (b + length t) mem) b (length-take-le b mem r)) ∙ take-append-seam t (drop (b + length t) mem)
+
+-- memory in three pieces, and the numbers one by one
+module _ (mem s : List ℕ) (at : ℕ) (e : Stands mem at s) where
+  pub stands-first : drop at mem ≡ s ++ drop (length s) (drop at mem)
+  stands-first = sym (take-append-drop (length s) (drop at mem)) ∙ ap (λ (x : List ℕ). x ++ drop (length s) (drop at mem)) e
+
+  pub stands-split : mem ≡ take at mem ++ (s ++ drop (length s) (drop at mem))
+  stands-split = sym (take-append-drop at mem) ∙ ap (λ (x : List ℕ). take at mem ++ x) stands-first
+
+  pub stands-at : (i : ℕ) → i < length s → getD mem (at + i) 0 ≡ getD s i 0
+  stands-at i h = sym (getD-drop at mem i 0) ∙ sym (getD-take (length s) (drop at mem) i 0 h) ∙ ap (λ (x : List ℕ). getD x i 0) e
