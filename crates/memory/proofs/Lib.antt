@@ -2,3 +2,5 @@ pub mod PieceLaws
 pub mod StandLaws
 pub mod LegLaws
 pub mod WayLaws
+pub mod OpenLaws
+pub mod AskLaws

@@ -1,0 +1,56 @@
+-- The ends and the numbers of a list, pair by pair. Assumes nothing.
+use mathlib.Core.Path.{_≡_, refl, sym, ap, _∙_}
+use mathlib.Core.Bool.{Bool, true, _&&_}
+use mathlib.Core.List.{List, [], _∷_, _++_}
+use Prim.Native.Nat.{ℕ, zero, suc, _+_, _*_, _≤_, _<_}
+use native.Mathlib.Omega.{arith}
+use lib.ListN.{length, take, drop}
+use borrow.Author.Tests.{leb-true}
+use Rattle.text.specs.Text.{Text}
+use Rattle.text.proofs.BoolLaws.{and-l, and-r}
+use Rattle.grammar.specs.Legal.{fits}
+use Rattle.pairs.specs.Pair.{Pair, sourceAt, targetAt, everyEnd, allShort}
+use Rattle.pairs.specs.Places.{listPlaces, fourOf, endBytes}
+use Rattle.memory.specs.Means.{Stands}
+
+-- a test that every end passes
+module _ (passes : Text → Bool) where
+  pub ends-at : (l : List Pair) → everyEnd passes l ≡ true → (i : ℕ) → i < length l → (passes (sourceAt l i) ≡ true) × (passes (targetAt l i) ≡ true)
+  unfolding everyEnd
+  ends-at [] e i h = absurd (omega arith)
+  ends-at (x ∷ l) e zero h =
+      let a : (passes (x .source) && passes (x .target)) ≡ true = and-l (passes (x .source) && passes (x .target)) (everyEnd passes l) e in
+      (and-l (passes (x .source)) (passes (x .target)) a, and-r (passes (x .source)) (passes (x .target)) a)
+  ends-at (x ∷ l) e (suc i) h = ends-at l (and-r (passes (x .source) && passes (x .target)) (everyEnd passes l) e) i (omega arith)
+
+pub short-at : (l : List Pair) → allShort l ≡ true → (i : ℕ) → i < length l → (length (sourceAt l i) ≤ 255) × (length (targetAt l i) ≤ 255)
+unfolding allShort fits
+short-at l e i h =
+    let w = ends-at fits l e i h in
+    (leb-true (length (sourceAt l i)) 255 (w .0), leb-true (length (targetAt l i)) 255 (w .1))
+
+-- 510 bytes for each pair
+pub short-bytes : (l : List Pair) → allShort l ≡ true → endBytes l ≤ 510 * length l
+unfolding allShort endBytes everyEnd
+short-bytes [] e = omega arith
+short-bytes (x ∷ l) e =
+    let a = short-at (x ∷ l) e 0 (omega arith) in
+    omega (arith, a .0, a .1, short-bytes l (and-r (fits (x .source) && fits (x .target)) (allShort l) e))
+
+-- pair i ends within the bytes of all
+pub end-at : (l : List Pair) (i : ℕ) → i < length l → endBytes (take i l) + (length (sourceAt l i) + length (targetAt l i)) ≤ endBytes l
+unfolding endBytes
+end-at [] i h = absurd (omega arith)
+end-at (x ∷ l) zero h = omega arith
+end-at (x ∷ l) (suc i) h = omega (arith, end-at l i (omega arith))
+
+-- its four numbers
+pub four-at : (l : List Pair) (at i : ℕ) (later : List ℕ) → i < length l
+    → Stands (listPlaces at l ++ later) (4 * i) (fourOf (at + endBytes (take i l)) (sourceAt l i) (targetAt l i))
+unfolding listPlaces endBytes
+four-at [] at i later h = absurd (omega arith)
+four-at (x ∷ l) at zero later h = let z : at + 0 ≡ at = omega arith in rw z refl
+four-at (x ∷ l) at (suc i) later h =
+    let z : 4 * suc i ≡ suc (suc (suc (suc (4 * i)))) = omega arith in
+    let n : at + (length (x .source) + length (x .target) + endBytes (take i l)) ≡ at + length (x .source) + length (x .target) + endBytes (take i l) = omega arith in
+    rw (z, n) (four-at l (at + length (x .source) + length (x .target)) i later (omega arith))
