@@ -8,8 +8,6 @@ use Rattle.text.proofs.BoolLaws.{and-l, and-r}
 use Rattle.pairs.specs.Pair.{Pair, everyEnd}
 use Rattle.maps.specs.Map.{Map, plainOut, plainHome}
 use Rattle.maps.specs.Compose.{carried, hasSource, added, pulled, composedPairs}
-use Rattle.maps.proofs.EndLaws.{all, fromParts-keeps}
-use Rattle.maps.specs.New.{fromParts}
 
 -- the ends that composing starts from are `ok`; what comes out `passes`
 module _ (ok passes : Text → Bool) (weaker : (t : Text) → ok t ≡ true → passes t ≡ true) (nil : passes [] ≡ true) where
@@ -69,13 +67,3 @@ module _ (ok passes : Text → Bool) (weaker : (t : Text) → ok t ≡ true → 
       → everyEnd passes (composedPairs outer inner) ≡ true
   unfolding composedPairs
   composed-every outer inner f g eo ei = pulled-passes inner g (map (carried outer) (inner .pairs)) (outer .pairs) (first-half outer f (inner .pairs) ei) eo
-
--- dropping leaves no other ends
-every-all : (passes : Text → Bool) (l : List Pair) → everyEnd passes l ≡ all (λ (x : Pair). passes (x .source) && passes (x .target)) l
-unfolding everyEnd all
-every-all passes [] = refl
-every-all passes (x ∷ l) = rw (every-all passes l) refl
-
-pub dropped-every : (passes : Text → Bool) (l : List Pair) (mark : Bool) → everyEnd passes l ≡ true → everyEnd passes ((fromParts l mark) .pairs) ≡ true
-dropped-every passes l mark e =
-    rw (every-all passes ((fromParts l mark) .pairs)) (fromParts-keeps (λ (x : Pair). passes (x .source) && passes (x .target)) l mark (rw (every-all passes l) at e))

@@ -28,7 +28,7 @@ use Rattle.maps.specs.Map.{Map, lentMap, size, plainOut, chosenOut}
 use Rattle.maps.specs.New.{fromParts}
 use Rattle.maps.specs.Compose.{carried, isPathIdentity, composedPairs, compose}
 use Rattle.maps.specs.Derive.{exchanged, inverse, withRootIdentity, impliedClass}
-use Rattle.maps.proofs.EndLaws.{fromParts-length}
+use Rattle.maps.proofs.EndLaws.{fromParts-length, fromParts-every}
 use Rattle.map_function.specs.declared.MapFunction.{MapFunction}
 use Rattle.map_function.specs.declared.MapReply.{MapReply}
 use Rattle.map_function.specs.declared.MapReply.the-variants.{Made}
@@ -38,7 +38,6 @@ use Rattle.composing.specs.Scratch.{modest, Holds}
 use Rattle.composing.specs.Calls.{composedTime, madeShort}
 use Rattle.composing.specs.Implied.{exchangedPairs, composedFrom, inverseList, classList, impliedList, allFew, implying, ImpliesTo, impliedTime, impliedClassCall}
 use Rattle.composing.specs.Settle.{settled, composedOf, madeOf, Exchanged, roomBeside, finished}
-use Rattle.composing.proofs.EveryLaws.{dropped-every}
 use Rattle.composing.proofs.ScratchLaws.{holds-list}
 use Rattle.composing.proofs.LengthLaws.{short-modest, composed-modest, modest-bytes}
 use Rattle.composing.proofs.BuildWays.{map-snoc}
@@ -357,7 +356,7 @@ settled-few false l mark = fromParts-length l mark
 settled-every : (passes : Text → Bool) (whole : Bool) (l : List Pair) (mark : Bool) → everyEnd passes l ≡ true → everyEnd passes ((settled whole l mark) .pairs) ≡ true
 unfolding settled
 settled-every passes true l mark e = e
-settled-every passes false l mark e = dropped-every passes l mark e
+settled-every passes false l mark e = fromParts-every passes l mark e
 
 -- `implied_in`
 module _ (store : Text) (places : List ℕ) (transfer : MapFunction) (cstore : Text) (cplaces : List ℕ) (class : MapFunction) (few : transfer .count ≤ 64)
@@ -393,7 +392,7 @@ module _ (store : Text) (places : List ℕ) (transfer : MapFunction) (cstore : T
 
   back-short : allShort (bk .pairs) ≡ true
   unfolding inverse allShort
-  back-short = ap (λ (x : Map). allShort (x .pairs)) e ∙ dropped-every fits (exchangedPairs (tr .pairs)) (tr .mark) (exchanged-short (tr .pairs) ts)
+  back-short = ap (λ (x : Map). allShort (x .pairs)) e ∙ fromParts-every fits (exchangedPairs (tr .pairs)) (tr .mark) (exchanged-short (tr .pairs) ts)
 
   pub back-modest : everyEnd modest (bk .pairs) ≡ true
   back-modest = short-modest (bk .pairs) back-short

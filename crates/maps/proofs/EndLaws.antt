@@ -9,7 +9,7 @@ use lib.ListN.{length}
 use Rattle.text.specs.Text.{Text, isNil}
 use Rattle.text.proofs.BoolLaws.{and-l, and-r, not-true}
 use Rattle.grammar.specs.Legal.{isEnd}
-use Rattle.pairs.specs.Pair.{Pair, sourceAt, targetAt, allEnds, noEmptySource}
+use Rattle.pairs.specs.Pair.{Pair, sourceAt, targetAt, everyEnd, allEnds, noEmptySource}
 use Rattle.maps.specs.Map.{Map}
 use Rattle.maps.specs.New.{fromParts, new, fromPair, fromPairIdentity}
 use Rattle.maps.specs.Derive.{droppingSource, exchanged, inverse, withRootIdentity}
@@ -75,10 +75,21 @@ module _ (ok : Pair → Bool) where
 abbrev pub areEnds : Pair → Bool
 areEnds x = isEnd (x .source) && isEnd (x .target)
 
+-- a test of each end is a test of each pair
+pub every-all : (passes : Text → Bool) (l : List Pair) → everyEnd passes l ≡ all (λ (x : Pair). passes (x .source) && passes (x .target)) l
+unfolding everyEnd all
+every-all passes [] = refl
+every-all passes (x ∷ l) = ap (λ (b : Bool). passes (x .source) && passes (x .target) && b) (every-all passes l)
+
 pub ends-all : (l : List Pair) → allEnds l ≡ all areEnds l
-unfolding allEnds all
-ends-all [] = refl
-ends-all (x ∷ l) = ap (λ (b : Bool). areEnds x && b) (ends-all l)
+unfolding allEnds
+ends-all = every-all isEnd
+
+-- a test that every given end passes, every end of the map made of them passes
+pub fromParts-every : (passes : Text → Bool) (l : List Pair) (mark : Bool) → everyEnd passes l ≡ true → everyEnd passes ((fromParts l mark) .pairs) ≡ true
+fromParts-every passes l mark e =
+    every-all passes ((fromParts l mark) .pairs)
+    ∙ fromParts-keeps (λ (x : Pair). passes (x .source) && passes (x .target)) l mark (sym (every-all passes l) ∙ e)
 
 -- a map made of ends has only ends: with a mark, ..
 pub fromParts-ends : (l : List Pair) (mark : Bool) → allEnds l ≡ true → allEnds ((fromParts l mark) .pairs) ≡ true

@@ -4,3 +4,6 @@ pub mod LegLaws
 pub mod WayLaws
 pub mod OpenLaws
 pub mod AskLaws
+pub mod AddLaws
+pub mod CloseLaws
+pub mod Theorem

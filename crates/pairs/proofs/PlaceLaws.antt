@@ -69,7 +69,7 @@ module _ (passes : Text → Bool) (key key′ : ℕ → Text) where
       rw (e, better-same n (bestBy passes key′ n) refl same, same n (omega arith))
 
 -- what the questions say of the list, once they are asked of its places
-every-snoc : (passes : Text → Bool) (l : List Pair) (x : Pair) → everyEnd passes l ≡ true → passes (x .source) ≡ true → passes (x .target) ≡ true
+pub every-snoc : (passes : Text → Bool) (l : List Pair) (x : Pair) → everyEnd passes l ≡ true → passes (x .source) ≡ true → passes (x .target) ≡ true
     → everyEnd passes (l ++ x ∷ []) ≡ true
 unfolding everyEnd
 every-snoc passes [] x e s t = rw (s, t)

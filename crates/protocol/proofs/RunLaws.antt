@@ -13,6 +13,7 @@ use Rattle.text.proofs.BoolLaws.{and-l, and-r}
 use Rattle.grammar.specs.Legal.{legal, fits, isEnd}
 use Rattle.pairs.specs.Pair.{Pair, everyEnd, allEnds, pair as pairOf}
 use Rattle.pairs.specs.Places.{endBytes}
+use Rattle.pairs.proofs.PlaceLaws.{every-snoc}
 use Rattle.path.specs.declared.Refusal.{Refusal}
 use Rattle.path.specs.declared.Refusal.the-variants.{TooLong, Illegal, TooMany, NoRoom}
 use Rattle.path.specs.declared.Asked.{Asked}
@@ -46,11 +47,8 @@ begins = record { ends = refl; leg-ends = refl; few = omega arith; within = reco
 
 -- one pair, one leg more
 ends-more : (l : List Pair) (x : Pair) → allEnds l ≡ true → isEnd (x .source) ≡ true → isEnd (x .target) ≡ true → allEnds (l ++ x ∷ []) ≡ true
-unfolding allEnds everyEnd
-ends-more [] x e s t = rw (s, t)
-ends-more (y ∷ l) x e s t =
-    let a : Bool = isEnd (y .source) && isEnd (y .target) in
-    rw (and-l a (everyEnd isEnd l) e) (ends-more l x (and-r a (everyEnd isEnd l) e) s t)
+unfolding allEnds
+ends-more = every-snoc isEnd
 
 legs-more : (xs : List Leg) (x : Leg) → routeEnds xs ≡ true → legEnds x ≡ true → routeEnds (xs ++ x ∷ []) ≡ true
 unfolding routeEnds

@@ -18,7 +18,7 @@ use Rattle.pairs.specs.Pair.{Pair, nothing, pairAt, sourceAt, everyEnd, allEnds
 use Rattle.pairs.specs.Best.{bestBy, serves, best}
 use Rattle.maps.specs.Map.{chosenOut}
 use Rattle.maps.specs.New.{isRoots, anyRoots, noRoots, sorted, via, implied, keep, canonical, fromParts, new}
-use Rattle.maps.proofs.EndLaws.{ends-target, all, isFull, full-all, fromParts-keeps, fromParts-length}
+use Rattle.maps.proofs.EndLaws.{ends-target, all, every-all, isFull, full-all, fromParts-keeps, fromParts-length}
 use Rattle.relocates.specs.Status.{structural, statusByte, occurrence, active, roots, relocateMap}
 
 module _ (ok : Pair → Bool) where
@@ -50,11 +50,6 @@ module _ (passes : Text → Bool) (none-passes : passes [] ≡ true) where
   abbrev both : Pair → Bool
   both x = passes (x .source) && passes (x .target)
 
-  every-all : (l : List Pair) → everyEnd passes l ≡ all both l
-  unfolding everyEnd all
-  every-all [] = refl
-  every-all (x ∷ l) = ap (λ (b : Bool). both x && b) (every-all l)
-
   every-at : (l : List Pair) → everyEnd passes l ≡ true → (n : ℕ) → both (pairAt l n) ≡ true
   unfolding everyEnd
   every-at [] e n = rw none-passes
@@ -62,7 +57,7 @@ module _ (passes : Text → Bool) (none-passes : passes [] ≡ true) where
   every-at (x ∷ l) e (suc n) = every-at l (and-r (both x) (everyEnd passes l) e) n
 
   relocate-every : (l : List Pair) → passes (47 ∷ []) ≡ true → everyEnd passes l ≡ true → everyEnd passes ((relocateMap l) .pairs) ≡ true
-  relocate-every l root-passes e = every-all ((relocateMap l) .pairs) ∙ relocate-keeps both l (λ n h. every-at l e n) (rw root-passes)
+  relocate-every l root-passes e = every-all passes ((relocateMap l) .pairs) ∙ relocate-keeps both l (λ n h. every-at l e n) (rw root-passes)
 
 pub relocate-ends : (l : List Pair) → allEnds l ≡ true → allEnds ((relocateMap l) .pairs) ≡ true
 unfolding allEnds isEnd
