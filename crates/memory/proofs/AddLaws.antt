@@ -1,5 +1,5 @@
 -- One pair more, in memory as in the state. Assumes nothing.
-use mathlib.Core.Path.{_≡_, refl, sym, ap, _∙_, subst}
+use mathlib.Core.Path.{_≡_, refl, sym, _∙_, subst}
 use mathlib.Core.Bool.{Bool, true, false, cond, _&&_}
 use mathlib.Core.List.{List, [], _∷_, _++_}
 use Prim.Native.Nat.{ℕ, suc, _+_, _*_, _≤_}
@@ -9,8 +9,8 @@ use lib.ListN.{length, length-append}
 use borrow.Author.Tests.{le-leb, lt-leb, leb-true, leb-false}
 use Rattle.text.specs.Text.{Text}
 use Rattle.grammar.specs.Legal.{fits, isEnd}
-use Rattle.pairs.specs.Pair.{Pair, pair, allEnds, allShort}
-use Rattle.pairs.specs.Places.{fourOf, endBytes}
+use Rattle.pairs.specs.Pair.{pair, allEnds, allShort}
+use Rattle.pairs.specs.Places.{fourOf}
 use Rattle.pairs.proofs.PlaceLaws.{every-snoc}
 use Rattle.path.specs.declared.Refusal.the-variants.{TooMany, NoRoom}
 use Rattle.path.specs.declared.Asked.{Asked}

@@ -1,27 +1,25 @@
 -- The open list that memory holds passes questions 1 to 4. Assumes nothing.
 use mathlib.Core.Path.{_≡_, refl, sym, ap, _∙_}
-use mathlib.Core.Bool.{Bool, true, false, cond, _&&_, _||_}
-use mathlib.Core.List.{List, [], _∷_, _++_}
+use mathlib.Core.Bool.{Bool, true, _&&_}
+use mathlib.Core.List.{List, [], _∷_}
 use Prim.Native.Nat.{ℕ, zero, suc, _+_, _*_, _/_, _≤_, _<_}
-use native.Mathlib.Numerals.{add-one}
 use native.Mathlib.Omega.{arith}
 use lib.Dec.{leb}
 use lib.ListN.{length, getD, take, drop}
 use borrow.Author.Tests.{le-leb}
 use Rattle.text.specs.Text.{Text, written}
 use Rattle.text.proofs.BoolLaws.{or-right}
-use Rattle.grammar.specs.Legal.{legal, fits, isEnd}
+use Rattle.grammar.specs.Legal.{legal, isEnd}
 use Rattle.grammar.proofs.LegalLaws.{end-legal}
-use Rattle.pairs.specs.Pair.{Pair, sourceAt, targetAt, everyEnd, allEnds, allShort}
-use Rattle.pairs.specs.Places.{startAt, lengthAt, inside, textAt, pairsIn, listText, listPlaces, fourOf, endBytes, fitsAt, placesFit, placesAll}
+use Rattle.pairs.specs.Pair.{Pair, sourceAt, targetAt, allEnds}
+use Rattle.pairs.specs.Places.{startAt, lengthAt, inside, textAt, listPlaces, fourOf, endBytes, fitsAt, placesFit, placesAll}
 use Rattle.pairs.proofs.PlaceLaws.{pairsIn-source, pairsIn-target}
 use Rattle.path.specs.declared.Asked.the-variants.{Passed}
-use Rattle.asking.specs.Asking.{Lent, lentList, pairsOf, present, listFits, listAll, listCounts, every, firstNo, asked}
-use Rattle.holding.specs.Opened.{Holds}
+use Rattle.asking.specs.Asking.{pairsOf, present, listFits, listAll, listCounts, every, firstNo, asked}
 use Rattle.holding.proofs.OpenedLaws.{opened}
 use Rattle.protocol.specs.State.{State}
 use Rattle.memory.specs.Memory.{Memory, openList}
-use Rattle.memory.specs.Means.{Stands, Means}
+use Rattle.memory.specs.Means.{Means}
 use Rattle.memory.proofs.PieceLaws.{stands-at}
 use Rattle.memory.proofs.OpenLaws.{ends-at, short-at, short-bytes, end-at, four-at}
 
@@ -84,12 +82,11 @@ module _ (m : Memory) (st : State) (g : Means m st) where
 
     pair-fits : (fitsAt (m .bytes) (m .places) (2 * i) ≡ true) × (fitsAt (m .bytes) (m .places) (2 * i + 1) ≡ true)
     pair-fits =
-        let w = short-at l (g .short) i h in
-        (
+        let w = short-at l (g .short) i h in (
           place-fits (2 * i) (0 + endBytes (take i l)) (length (sourceAt l i)) (number-at (2 * (2 * i)) 0 (omega arith) (omega arith))
-          (number-at (2 * (2 * i) + 1) 1 (omega arith) (omega arith)) (omega (arith, end-at l i h)) (w .0),
+              (number-at (2 * (2 * i) + 1) 1 (omega arith) (omega arith)) (omega (arith, end-at l i h)) (w .0),
           place-fits (2 * i + 1) (0 + endBytes (take i l) + length (sourceAt l i)) (length (targetAt l i)) (number-at (2 * (2 * i + 1)) 2 (omega arith) (omega arith))
-          (number-at (2 * (2 * i + 1) + 1) 3 (omega arith) (omega arith)) (omega (arith, end-at l i h)) (w .1)
+              (number-at (2 * (2 * i + 1) + 1) 3 (omega arith) (omega arith)) (omega (arith, end-at l i h)) (w .1),
         )
 
     -- the texts there are the pair's

@@ -1,7 +1,7 @@
 -- A leg more, in memory as in the state. Assumes nothing.
-use mathlib.Core.Path.{_≡_, refl, sym, ap, _∙_, subst}
+use mathlib.Core.Path.{_≡_, refl, sym, ap, subst}
 use mathlib.Core.Bool.{Bool, true, false, cond, _&&_}
-use mathlib.Core.List.{List, [], _∷_, _++_, map, map-append}
+use mathlib.Core.List.{List, [], _∷_, map, map-append}
 use Prim.Native.Nat.{ℕ, suc, _+_, _*_, _≤_}
 use native.Mathlib.Omega.{arith}
 use lib.Dec.{leb}
@@ -14,8 +14,7 @@ use Rattle.pairs.proofs.ListLaws.{list-length, places-length}
 use Rattle.path.specs.declared.Refusal.the-variants.{TooMany, NoRoom}
 use Rattle.path.specs.declared.Asked.{Asked}
 use Rattle.path.specs.declared.Asked.the-variants.{Passed, Refused}
-use Rattle.asking.specs.Asking.{pairsOf}
-use Rattle.maps.specs.New.{fromParts, new}
+use Rattle.maps.specs.New.{new}
 use Rattle.maps.proofs.EndLaws.{fromParts-every, new-ends, fromParts-length}
 use Rattle.map_function.proofs.NewWays.{fromParts-bytes}
 use Rattle.route.specs.Leg.{Leg, by-map, by-relocates, legMap}

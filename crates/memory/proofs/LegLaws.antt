@@ -1,13 +1,12 @@
 -- Memory with a leg more holds the legs that it held, and the new one. Assumes nothing.
-use mathlib.Core.Path.{_≡_, refl, sym, ap, _∙_, subst}
+use mathlib.Core.Path.{_≡_, sym, ap, _∙_, subst}
 use mathlib.Core.Bool.{true}
 use mathlib.Core.List.{List, [], _∷_, _++_}
-use Prim.Native.Nat.{ℕ, suc, _+_, _*_, _≤_, _<_}
+use Prim.Native.Nat.{ℕ, _+_, _*_, _≤_, _<_}
 use native.Mathlib.Omega.{arith}
 use native.Mathlib.Decide.{ℕ-discrete}
 use lib.ListN.{length, getD, length-append, List·getD-append}
 use lib.Seq.{getD-append-seam}
-use Rattle.text.specs.Text.{Text}
 use Rattle.pairs.specs.Pair.{allEnds, allShort}
 use Rattle.pairs.specs.Places.{listText, listPlaces, endBytes}
 use Rattle.pairs.proofs.ListLaws.{list-length, places-length}

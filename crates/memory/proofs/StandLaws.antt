@@ -1,6 +1,6 @@
 -- The legs' maps are read back from the memory that holds them. Assumes nothing.
 use mathlib.Core.Path.{_≡_, refl, sym, ap, _∙_}
-use mathlib.Core.Bool.{Bool, true, false, cond, _&&_}
+use mathlib.Core.Bool.{Bool, true, false, cond}
 use mathlib.Core.List.{List, [], _∷_, _++_}
 use Prim.Native.Nat.{ℕ, zero, suc, _+_, _*_, _≤_, _<_}
 use native.Mathlib.Nat.{zero-add}
@@ -9,8 +9,8 @@ use lib.Dec.{eqb}
 use lib.ListN.{length, getD, take, drop}
 use lib.Seq.{ext-getD, length-take-le, take-suc, take-length}
 use Rattle.text.specs.Text.{Text}
-use Rattle.pairs.specs.Pair.{Pair, nothing, pairAt, allEnds, allShort}
-use Rattle.pairs.specs.Places.{pairsIn, listText, listPlaces, endBytes}
+use Rattle.pairs.specs.Pair.{Pair, nothing, pairAt}
+use Rattle.pairs.specs.Places.{pairsIn, listText, listPlaces}
 use Rattle.pairs.proofs.ListLaws.{read-pairs}
 use Rattle.pairs.proofs.PlaceLaws.{pairsIn-length, pairsIn-at}
 use Rattle.asking.specs.Asking.{every}

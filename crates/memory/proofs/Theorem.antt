@@ -1,9 +1,9 @@
 -- Memory that holds a state of the protocol is answered as the state is, and holds the state that follows. Assumes nothing.
-use mathlib.Core.Path.{_≡_, refl, sym, ap, _∙_}
-use mathlib.Core.Bool.{Bool, true, false}
+use mathlib.Core.Path.{_≡_, refl, ap, _∙_}
+use mathlib.Core.Bool.{true, false}
 use mathlib.Core.List.{List, [], _∷_, _++_}
 use mathlib.Core.Option.{Option, none, some}
-use Prim.Native.Nat.{ℕ, _+_, _≤_}
+use Prim.Native.Nat.{ℕ, _+_}
 use native.Mathlib.Omega.{arith}
 use lib.ListN.{length}
 use Rattle.text.specs.Text.{Text}
@@ -13,15 +13,14 @@ use Rattle.lines.proofs.FeedLaws.{simulates}
 use Rattle.pairs.specs.Pair.{Pair, allEnds, allShort}
 use Rattle.pairs.specs.Places.{listText, listPlaces, endBytes}
 use Rattle.path.specs.Outcome.{Outcome}
-use Rattle.asking.specs.Asking.{pairsOf}
-use Rattle.relocates.specs.Status.{active, statuses as statusesOf}
+use Rattle.relocates.specs.Status.{statuses as statusesOf}
 use Rattle.closing.specs.Close.{counted}
 use Rattle.protocol.specs.Frame.{Frame, pair, statuses, close-map, close-relocates, out, home, count, kind}
 use Rattle.protocol.specs.State.{State, Answer, given, answerBytes, answerOf, start, goes, counts, leaves, fourBytes, turn}
 use Rattle.protocol.specs.Run.{next, answer}
 use Rattle.protocol.specs.Input.{mostDigits, heard, nextLine, answerLine, output}
-use Rattle.memory.specs.Memory.{Memory, openList, vaultOf, statusesIn, goesIn, countIn, turnIn}
-use Rattle.memory.specs.Means.{LegsHeld, Large, Means, Alike, fresh, outputIn, outputOf, Claims}
+use Rattle.memory.specs.Memory.{Memory, statusesIn, countIn, turnIn}
+use Rattle.memory.specs.Means.{Large, Means, Alike, fresh, outputIn, outputOf, Claims}
 use Rattle.memory.proofs.WayLaws.{same-goes}
 use Rattle.memory.proofs.AskLaws.{opened-read, list-passes}
 use Rattle.memory.proofs.AddLaws.{same-add}

@@ -1,14 +1,14 @@
 -- A path over the legs that memory holds goes the way of the protocol. Assumes nothing.
-use mathlib.Core.Path.{_≡_, refl, sym, ap, _∙_}
-use mathlib.Core.Bool.{Bool, true, false}
-use mathlib.Core.List.{List, map}
-use Prim.Native.Nat.{ℕ, _≤_}
+use mathlib.Core.Path.{_≡_, refl, sym, _∙_}
+use mathlib.Core.Bool.{Bool}
+use mathlib.Core.List.{map}
+use Prim.Native.Nat.{_≤_}
 use native.Mathlib.Omega.{arith}
 use lib.ListN.{length, length-map}
 use Rattle.text.specs.Text.{Text}
 use Rattle.path.specs.declared.Asked.{Asked}
 use Rattle.path.specs.declared.Asked.the-variants.{Passed, Refused}
-use Rattle.path.specs.Outcome.{Outcome, refused, lent, answered}
+use Rattle.path.specs.Outcome.{refused, lent, answered}
 use Rattle.path.specs.Refusal.{unless}
 use Rattle.path.specs.Calls.{newCall}
 use Rattle.asking.specs.Asking.{earlierOf}

@@ -3,11 +3,11 @@
 use mathlib.Core.Path.{_≡_}
 use Prim.Native.Nat.{ℕ, _+_, _*_, _≤_, _<_}
 use mathlib.Core.Bool.{true}
-use mathlib.Core.List.{List, [], _∷_, map}
+use mathlib.Core.List.{List, map}
 use lib.ListN.{length, getD, take, drop}
 use Rattle.text.specs.Text.{Text}
 use Rattle.lines.specs.Lines.{Line, linesOf, answers}
-use Rattle.pairs.specs.Pair.{Pair, allEnds, allShort}
+use Rattle.pairs.specs.Pair.{allEnds, allShort}
 use Rattle.pairs.specs.Places.{listText, listPlaces, endBytes}
 use Rattle.maps.specs.Map.{Map}
 use Rattle.maps.specs.New.{null}
@@ -15,7 +15,7 @@ use Rattle.route.specs.Leg.{legMap}
 use Rattle.holding.specs.Opened.{Holds}
 use Rattle.closing.specs.Close.{Vault, three}
 use Rattle.protocol.specs.Frame.{Frame}
-use Rattle.protocol.specs.State.{State, Answer, Turn, start, turn}
+use Rattle.protocol.specs.State.{State, Turn, start, turn}
 use Rattle.protocol.specs.Run.{Within}
 use Rattle.protocol.specs.Input.{mostDigits, nextLine, answerLine, output}
 use Rattle.memory.specs.declared.Kept.{Kept}
