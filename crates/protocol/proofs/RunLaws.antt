@@ -11,7 +11,7 @@ use borrow.Author.Tests.{le-leb, lt-leb, leb-true, leb-false}
 use Rattle.text.specs.Text.{Text, lacks}
 use Rattle.text.proofs.BoolLaws.{and-l, and-r}
 use Rattle.grammar.specs.Legal.{legal, fits, isEnd}
-use Rattle.pairs.specs.Pair.{Pair, everyEnd, allEnds, pair as pairOf}
+use Rattle.pairs.specs.Pair.{Pair, allEnds, pair as pairOf}
 use Rattle.pairs.specs.Places.{endBytes}
 use Rattle.pairs.proofs.PlaceLaws.{every-snoc}
 use Rattle.path.specs.declared.Refusal.{Refusal}
