@@ -82,7 +82,7 @@ module _ (m : Memory) (st : State) (g : Means m st) where
 
     pair-fits : (fitsAt (m .bytes) (m .places) (2 * i) ≡ true) × (fitsAt (m .bytes) (m .places) (2 * i + 1) ≡ true)
     pair-fits =
-        let w = short-at l (g .short) i h in (
+        let w = short-at l (g .short) i in (
           place-fits (2 * i) (0 + endBytes (take i l)) (length (sourceAt l i)) (number-at (2 * (2 * i)) 0 (omega arith) (omega arith))
               (number-at (2 * (2 * i) + 1) 1 (omega arith) (omega arith)) (omega (arith, end-at l i h)) (w .0),
           place-fits (2 * i + 1) (0 + endBytes (take i l) + length (sourceAt l i)) (length (targetAt l i)) (number-at (2 * (2 * i + 1)) 2 (omega arith) (omega arith))
@@ -105,21 +105,21 @@ module _ (m : Memory) (st : State) (g : Means m st) where
       rw all-present
       (by-twos (placesFit (m .bytes) (m .places)) (fitsAt (m .bytes) (m .places)) refl (λ k. refl) n (λ i h. pair-fits i (omega (arith, g .opened .pairs))))
 
-  list-all : (passes : Text → Bool) → ((i : ℕ) → i < length l → (passes (sourceAt l i) ≡ true) × (passes (targetAt l i) ≡ true)) → listAll passes (openList m) ≡ true
+  list-all : (passes : Text → Bool) → ((i : ℕ) → (passes (sourceAt l i) ≡ true) × (passes (targetAt l i) ≡ true)) → listAll passes (openList m) ≡ true
   unfolding listAll placesAll
   list-all passes each =
       rw all-present
       (by-twos (placesAll passes (m .bytes) (m .places)) (λ j. passes (textAt (m .bytes) (m .places) j)) refl (λ k. refl) n (λ i h. one i (omega (arith, g .opened .pairs))))
     where
       one : (i : ℕ) → i < length l → (passes (textAt (m .bytes) (m .places) (2 * i)) ≡ true) × (passes (textAt (m .bytes) (m .places) (2 * i + 1)) ≡ true)
-      one i h = (rw (source-there i h) (each i h .0), rw (target-there i h) (each i h .1))
+      one i h = (rw (source-there i h) (each i .0), rw (target-there i h) (each i .1))
 
-  ends-there : (i : ℕ) → i < length l → (isEnd (sourceAt l i) ≡ true) × (isEnd (targetAt l i) ≡ true)
-  unfolding allEnds
-  ends-there i h = ends-at isEnd l (g .ends) i h
+  ends-there : (i : ℕ) → (isEnd (sourceAt l i) ≡ true) × (isEnd (targetAt l i) ≡ true)
+  unfolding allEnds isEnd
+  ends-there = ends-at isEnd refl l (g .ends)
 
-  legal-there : (i : ℕ) → i < length l → (legal (sourceAt l i) ≡ true) × (legal (targetAt l i) ≡ true)
-  legal-there i h = (end-legal (sourceAt l i) (ends-there i h .0), end-legal (targetAt l i) (ends-there i h .1))
+  legal-there : (i : ℕ) → (legal (sourceAt l i) ≡ true) × (legal (targetAt l i) ≡ true)
+  legal-there i = (end-legal (sourceAt l i) (ends-there i .0), end-legal (targetAt l i) (ends-there i .1))
 
   pub list-passes : asked (openList m ∷ []) [] [] ≡ Passed
   unfolding asked every firstNo

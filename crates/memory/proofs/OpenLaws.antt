@@ -11,30 +11,25 @@ use Rattle.text.proofs.BoolLaws.{and-l, and-r}
 use Rattle.grammar.specs.Legal.{fits}
 use Rattle.pairs.specs.Pair.{Pair, sourceAt, targetAt, everyEnd, allShort}
 use Rattle.pairs.specs.Places.{listPlaces, fourOf, endBytes}
+use Rattle.route.proofs.RelocateLaws.{every-at}
 use Rattle.memory.specs.Means.{Stands}
 
--- a test that every end passes
-module _ (passes : Text → Bool) where
-  pub ends-at : (l : List Pair) → everyEnd passes l ≡ true → (i : ℕ) → i < length l → (passes (sourceAt l i) ≡ true) × (passes (targetAt l i) ≡ true)
-  unfolding everyEnd
-  ends-at [] e i h = absurd (omega arith)
-  ends-at (x ∷ l) e zero h =
-      let a : (passes (x .source) && passes (x .target)) ≡ true = and-l (passes (x .source) && passes (x .target)) (everyEnd passes l) e in
-      (and-l (passes (x .source)) (passes (x .target)) a, and-r (passes (x .source)) (passes (x .target)) a)
-  ends-at (x ∷ l) e (suc i) h = ends-at l (and-r (passes (x .source) && passes (x .target)) (everyEnd passes l) e) i (omega arith)
+-- a test that every end passes, and so does the empty text
+pub ends-at : (passes : Text → Bool) → passes [] ≡ true → (l : List Pair) → everyEnd passes l ≡ true → (i : ℕ) → (passes (sourceAt l i) ≡ true) × (passes (targetAt l i) ≡ true)
+ends-at passes none l e i =
+    let a : (passes (sourceAt l i) && passes (targetAt l i)) ≡ true = every-at passes none l e i in
+    (and-l (passes (sourceAt l i)) (passes (targetAt l i)) a, and-r (passes (sourceAt l i)) (passes (targetAt l i)) a)
 
-pub short-at : (l : List Pair) → allShort l ≡ true → (i : ℕ) → i < length l → (length (sourceAt l i) ≤ 255) × (length (targetAt l i) ≤ 255)
+pub short-at : (l : List Pair) → allShort l ≡ true → (i : ℕ) → (length (sourceAt l i) ≤ 255) × (length (targetAt l i) ≤ 255)
 unfolding allShort fits
-short-at l e i h =
-    let w = ends-at fits l e i h in
-    (leb-true (length (sourceAt l i)) 255 (w .0), leb-true (length (targetAt l i)) 255 (w .1))
+short-at l e i = let w = ends-at fits refl l e i in (leb-true (length (sourceAt l i)) 255 (w .0), leb-true (length (targetAt l i)) 255 (w .1))
 
 -- 510 bytes for each pair
 pub short-bytes : (l : List Pair) → allShort l ≡ true → endBytes l ≤ 510 * length l
 unfolding allShort endBytes everyEnd
 short-bytes [] e = omega arith
 short-bytes (x ∷ l) e =
-    let a = short-at (x ∷ l) e 0 (omega arith) in
+    let a = short-at (x ∷ l) e 0 in
     omega (arith, a .0, a .1, short-bytes l (and-r (fits (x .source) && fits (x .target)) (allShort l) e))
 
 -- pair i ends within the bytes of all

@@ -37,7 +37,7 @@ pub record LegHeld (v : Vault) (k : ℕ) (x : Map) : Type 0 where
   pub places : Stands (v .slots) (256 * k) (listPlaces at (x .pairs))
   pub numbers : Stands (v .table) (3 * k) (three k x)
 
--- all of them
+-- the maps of all legs, the first at 0
 pub record LegsHeld (xs : List Map) (v : Vault) : Type 0 where
   pub count : v .legs .count ≡ length xs
   pub each : (k : ℕ) → k < length xs → LegHeld v k (getD xs k null)
@@ -85,7 +85,7 @@ pub record Claims : Type 0 where
   pub begins : (m : Memory) → Large m → m .kept ≡ fresh → Means m start
   -- Every frame is answered as the protocol says, and leaves memory that holds the state that follows.
   pub turns : (m : Memory) (st : State) → Means m st → (f : Frame) → Alike (turnIn m f) (turn st f)
-  -- So are all lines.
+  -- So is every line of many, one after the other.
   pub outputs : (m : Memory) (st : State) → Means m st → (ls : List Line) → outputIn m ls ≡ outputOf st ls
   -- From memory with nothing kept, the answers to the lines of an input are its output.
   pub writes : (m : Memory) → Large m → m .kept ≡ fresh → (input : Text) → outputIn m (linesOf mostDigits input) ≡ output input

@@ -50,7 +50,7 @@ module _ (passes : Text → Bool) (none-passes : passes [] ≡ true) where
   abbrev both : Pair → Bool
   both x = passes (x .source) && passes (x .target)
 
-  every-at : (l : List Pair) → everyEnd passes l ≡ true → (n : ℕ) → both (pairAt l n) ≡ true
+  pub every-at : (l : List Pair) → everyEnd passes l ≡ true → (n : ℕ) → both (pairAt l n) ≡ true
   unfolding everyEnd
   every-at [] e n = rw none-passes
   every-at (x ∷ l) e zero = and-l (both x) (everyEnd passes l) e
