@@ -1,0 +1,51 @@
+-- What the code knows of a frame on which it has acted.
+use mathlib.Core.Path.{_≡_}
+use Prim.Native.Nat.{ℕ}
+use mathlib.Core.Option.{some}
+use lib.ListN.{length}
+use Rattle.text.specs.Text.{Text, written}
+use Rattle.path.specs.declared.Reply.{Reply}
+use Rattle.path.specs.declared.Reply.the-variants.{Written, Refused}
+use Rattle.path.specs.Refusal.{number}
+use Rattle.protocol.specs.Frame.{Frame}
+use Rattle.protocol.specs.State.{Answer, given, refusal, Turn}
+use Rattle.frame.specs.declared.Read.{Read}
+use Rattle.frame.specs.declared.Read.the-variants.{Pair, Statuses, CloseMap, CloseRelocates, Out, Home, Count, Bad}
+use Rattle.frame.specs.Read.{meant}
+use Rattle.memory.specs.Memory.{Memory, turnIn}
+
+-- an answer as a reply, and its payload at the beginning of memory
+abbrev pub replyOf : Answer → Reply
+replyOf (given q) = Written (length q)
+replyOf (refusal x) = Refused x
+
+abbrev pub payloadOf : Answer → Text → Text
+payloadOf (given q) out = written q out
+payloadOf (refusal x) out = out
+
+-- the answer byte of a reply
+abbrev pub replyByte : Reply → ℕ
+replyByte (Written n) = 0
+replyByte (Refused x) = number x
+
+-- a turn was taken: the memory afterwards, the reply and its payload are those of the turn
+pub record Took (t : Turn Memory) (m : Memory) (r : Reply) (before behind : Text) : Type 0 where
+  pub state : m ≡ t .state
+  pub reply : r ≡ replyOf (t .answer)
+  pub payload : behind ≡ payloadOf (t .answer) before
+
+-- .. that of the frame that was read, where one was
+unfoldable pub Acted : Text → Read → Memory → Memory → Reply → Text → Text → Type 0
+unfolding meant turnIn
+Acted b r m m′ reply before behind = (f : Frame) → meant b r ≡ some f → Took (turnIn m f) m′ reply before behind
+
+-- the kind of what was read; none has 0
+abbrev pub kindOf : Read → ℕ
+kindOf (Pair n m) = 1
+kindOf Statuses = 2
+kindOf CloseMap = 3
+kindOf CloseRelocates = 4
+kindOf Out = 5
+kindOf Home = 6
+kindOf Count = 7
+kindOf Bad = 0
