@@ -1,1 +1,2 @@
 pub mod LineWays
+pub mod ActWays

@@ -1,6 +1,7 @@
 -- What the code knows of a frame on which it has acted.
 use mathlib.Core.Path.{_≡_}
 use Prim.Native.Nat.{ℕ}
+use mathlib.Core.List.{List}
 use mathlib.Core.Option.{some}
 use lib.ListN.{length}
 use Rattle.text.specs.Text.{Text, written}
@@ -8,11 +9,12 @@ use Rattle.path.specs.declared.Reply.{Reply}
 use Rattle.path.specs.declared.Reply.the-variants.{Written, Refused}
 use Rattle.path.specs.Refusal.{number}
 use Rattle.protocol.specs.Frame.{Frame}
-use Rattle.protocol.specs.State.{Answer, given, refusal, Turn}
+use Rattle.protocol.specs.State.{Answer, given, refusal, more, Turn}
 use Rattle.frame.specs.declared.Read.{Read}
 use Rattle.frame.specs.declared.Read.the-variants.{Pair, Statuses, CloseMap, CloseRelocates, Out, Home, Count, Bad}
 use Rattle.frame.specs.Read.{meant}
-use Rattle.memory.specs.Memory.{Memory, turnIn}
+use Rattle.memory.specs.declared.Kept.{Kept}
+use Rattle.memory.specs.Memory.{Memory, memory, turnIn}
 
 -- an answer as a reply, and its payload at the beginning of memory
 abbrev pub replyOf : Answer → Reply
@@ -49,3 +51,15 @@ kindOf Out = 5
 kindOf Home = 6
 kindOf Count = 7
 kindOf Bad = 0
+
+-- the count of 05 frames answered 00, by the reply
+abbrev pub countsReply : Reply → ℕ → ℕ
+countsReply (Written n) k = more k
+countsReply (Refused x) k = k
+
+-- a frame that touches the open list alone: whatever the rest of the memory is
+unfoldable pub OpenActed : Text → Read → Kept → Text → List ℕ → Kept → Reply → Text → List ℕ → Type 0
+unfolding Acted
+OpenActed b r k bytes places k′ reply bytes′ places′ =
+    (store : Text) (slots table : List ℕ) (payload : Text)
+    → Acted b r (memory k bytes places store slots table) (memory k′ bytes′ places′ store slots table) reply payload payload

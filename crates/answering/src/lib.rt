@@ -3,12 +3,16 @@
 ghost use mathlib.Core.Path.{_≡_};
 ghost use mathlib.Core.List.{[], _∷_};
 ghost use Prim.Native.Nat.{_+_, _*_, _≤_};
+ghost use lib.Dec.{leb};
 ghost use lib.ListN.{length, drop};
+ghost use Rattle.text.specs.Text.{written};
+ghost use Rattle.frame.specs.declared.Read.the-variants.{Pair};
 ghost use Rattle.path.specs.Refusal.{number};
 ghost use Rattle.protocol.specs.State.{answerOf, fourBytes, counts};
 ghost use Rattle.lines.specs.Taking.{lineAt};
 ghost use Rattle.memory.specs.Memory.{memory};
-ghost use Rattle.answering.specs.Acting.{replyByte, kindOf};
+ghost use Rattle.answering.specs.declared.Act.{Act};
+ghost use Rattle.answering.specs.Acting.{countsReply, kindOf, OpenActed};
 ghost use Rattle.answering.specs.Answer.{lineText, Wrote};
 
 // What a frame came to: the numbers that are kept, and the reply; its bytes, where there are any, stand at
@@ -61,4 +65,102 @@ fn write_line(head: u8, answer: u8, payload: &[u8], at: usize, out: &mut [u8]) -
     let end = behind + 2 * payload.len();
     text::write_at(b"\n", end, out);
     end + 1
+}
+
+// What stands behind the kind of a frame.
+fn behind_kind<'a>(frame: &'a [u8]) -> &'a [u8]
+    ensures { λ r. ⌜ now r ≡ drop 1 (now (frame .entry)) ⌝ }
+{
+    if frame.len() == 0 {
+        return &frame[..0];
+    }
+    &frame[1..]
+}
+
+// Do a pair's frame and its two lengths lie within so many bytes?
+fn spans(len: usize, n: usize, m: usize) -> bool
+    ensures { λ r. ⌜ r ≡ leb (5 + n + m) len ⌝ }
+{
+    if len < 5 {
+        return false;
+    }
+    let left = len - 5;
+    if left < n {
+        return false;
+    }
+    m <= left - n
+}
+
+// 01: adds a pair, whose source has n bytes and whose target m, to the open list.
+fn act_pair(
+    frame: &[u8],
+    n: usize,
+    m: usize,
+    k: memory::Kept,
+    bytes: &mut [u8],
+    places: &mut [usize],
+) -> Act
+    ensures { λ r. ⌜ OpenActed (now (frame .entry)) (Pair n m) k (now (bytes .entry)) (now (places .entry)) (r .kept) (r .reply) (now (bytes .exit)) (now (places .exit)) ⌝ }
+{
+    if !spans(frame.len(), n, m) {
+        return Act {
+            kept: k,
+            reply: path::Reply::Refused(path::Refusal::NoRoom),
+        };
+    }
+    let end = 3 + n;
+    let start = 5 + n;
+    let last = start + m;
+    let opened = k.opened;
+    let legs = k.legs;
+    let a = holding::add_pair(opened, &frame[3..end], &frame[start..last], bytes, places);
+    match a {
+        holding::Added::Done(o) => Act {
+            kept: memory::Kept {
+                opened: o,
+                legs,
+                answered: k.answered,
+            },
+            reply: path::Reply::Written(0),
+        },
+        holding::Added::Refused(x) => Act {
+            kept: k,
+            reply: path::Reply::Refused(x),
+        },
+    }
+}
+
+// 05: counts the frame where it was answered 00.
+fn count_out(k: memory::Kept, r: path::Reply) -> Act
+    ensures { λ a. ⌜ a ≡ record { kept = record { opened = k .opened; legs = k .legs; answered = countsReply r (k .answered) }; reply = r } ⌝ }
+{
+    if let path::Reply::Refused(x) = r {
+        return Act { kept: k, reply: r };
+    }
+    if 4294967295 <= k.answered {
+        return Act { kept: k, reply: r };
+    }
+    let opened = k.opened;
+    let legs = k.legs;
+    Act {
+        kept: memory::Kept {
+            opened,
+            legs,
+            answered: k.answered + 1,
+        },
+        reply: r,
+    }
+}
+
+// Writes a number over the first four bytes, the high one first.
+fn write_count(n: usize, payload: &mut [u8])
+    requires { ⌜ 4 ≤ length (now payload) ⌝ }
+    ensures { λ _. ⌜ now (payload .exit) ≡ written (fourBytes n) (now (payload .entry)) ⌝ }
+{
+    let mut four = [0u8; 4];
+    four[0] = (n / 16777216 % 256) as u8;
+    four[1] = (n / 65536 % 256) as u8;
+    four[2] = (n / 256 % 256) as u8;
+    four[3] = (n % 256) as u8;
+    text::write_at(&four, 0, payload);
 }
