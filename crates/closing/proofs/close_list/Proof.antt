@@ -1,0 +1,100 @@
+use borrow.Author.Needs.{needs}
+use Rattle.closing.proofs.close_list.Statement.{statement}
+use Rattle.closing.proofs.close_list.Tie as tie
+
+ask-close-requires : tie.Need-ask-close-requires
+ask-close-requires c κs = search needs
+
+enum-known-r : tie.Need-enum-known-r
+enum-known-r c = search needs
+
+same-length : tie.Need-same-length
+same-length c = search needs
+
+same-length-2 : tie.Need-same-length-2
+same-length-2 c = search needs
+
+same-length-3 : tie.Need-same-length-3
+same-length-3 c = search needs
+
+returns : tie.Need-returns
+returns c = ?
+
+enum-told : tie.Need-enum-told
+enum-told c = search needs
+
+is-marked-requires : tie.Need-is-marked-requires
+is-marked-requires c κs = search needs
+
+slice-aggregate-canonical-places : tie.Need-slice-aggregate-canonical-places
+slice-aggregate-canonical-places c = search needs
+
+canonical-places-requires : tie.Need-canonical-places-requires
+canonical-places-requires c κs = search needs
+
+mul-at : tie.Need-mul-at
+mul-at c = ?
+
+add-end : tie.Need-add-end
+add-end c = ?
+
+slice-aggregate-append-list : tie.Need-slice-aggregate-append-list
+slice-aggregate-append-list c = search needs
+
+mul-append-list : tie.Need-mul-append-list
+mul-append-list c = ?
+
+sub-append-list : tie.Need-sub-append-list
+sub-append-list c = search needs
+
+part-append-list-start : tie.Need-part-append-list-start
+part-append-list-start c = search needs
+
+part-append-list-end : tie.Need-part-append-list-end
+part-append-list-end c = ?
+
+append-list-requires : tie.Need-append-list-requires
+append-list-requires c κs = search needs
+
+write-three-requires : tie.Need-write-three-requires
+write-three-requires c κs = ?
+
+same-length-4 : tie.Need-same-length-4
+same-length-4 c = search needs
+
+same-length-5 : tie.Need-same-length-5
+same-length-5 c = search needs
+
+same-length-6 : tie.Need-same-length-6
+same-length-6 c = search needs
+
+returns-2 : tie.Need-returns-2
+returns-2 c = ?
+
+pub close-list-spec : {M : Type 1} → statement M
+close-list-spec =
+    tie.close
+    (tie.spec
+    ask-close-requires
+    enum-known-r
+    same-length
+    same-length-2
+    same-length-3
+    returns
+    enum-told
+    is-marked-requires
+    slice-aggregate-canonical-places
+    canonical-places-requires
+    mul-at
+    add-end
+    slice-aggregate-append-list
+    mul-append-list
+    sub-append-list
+    part-append-list-start
+    part-append-list-end
+    append-list-requires
+    write-three-requires
+    same-length-4
+    same-length-5
+    same-length-6
+    returns-2)
