@@ -25,10 +25,17 @@ use Rattle.holding.specs.declared.Opened.{Opened}
 use Rattle.holding.specs.declared.Added.{Added}
 use Rattle.holding.specs.declared.Added.the-variants.{Done, Refused as RefusedAdd}
 use Rattle.holding.specs.Add.{addAsked, oneMore, addReply, addBytes, addPlaces}
+use Rattle.pairs.specs.Places.{endBytes}
+use Rattle.asking.specs.Asking.{pairsOf}
+use Rattle.maps.specs.Map.{Map}
+use Rattle.closing.specs.declared.Legs.{Legs}
+use Rattle.closing.specs.declared.Closed.{Closed}
+use Rattle.closing.specs.declared.Closed.the-variants.{Done as DoneClose, Refused as RefusedClose}
+use Rattle.closing.specs.Close.{counted, closedMap, legMore, closedReply, closedVault, askedOf, closeReply, closeVault}
 use Rattle.memory.specs.declared.Kept.{Kept}
-use Rattle.memory.specs.Memory.{Memory, memory, addAfter, addIn, turnIn}
+use Rattle.memory.specs.Memory.{Memory, memory, openList, vaultOf, nothing, addAfter, addIn, closeAfter, closeIn, turnIn}
 use Rattle.answering.specs.declared.Act.{Act}
-use Rattle.answering.specs.Acting.{Took, Acted, OpenActed, countsReply}
+use Rattle.answering.specs.Acting.{Took, Acted, OpenActed, CloseActed, countsReply}
 
 -- `behind_kind`
 module _ (b : Text) where
@@ -116,6 +123,48 @@ module _ (b : Text) (n m : ℕ) (k : Kept) (bytes : Text) (places : List ℕ) (i
               → Took (addAfter q (memory k bytes places store slots table) s t) (memory k bytes′ places′ store slots table) (Refused x) payload payload
           go Passed y u v = absurd (done-refused (oneMore (k .opened) s t) x (sym y))
           go (RefusedAsked r) y u v = record { state = rw (u, v) refl; reply = refused-is x r y; payload = refl }
+
+-- `act_close`
+gone-is : (g h : Legs) → DoneClose g ≡ DoneClose h → g ≡ h
+gone-is g h e = cc
+
+gone-refused : (g : Legs) (x : Refusal) → DoneClose g ≡ RefusedClose x → ⊥
+gone-refused g x e = let z : _≡_ {A = ℕ} 0 1 = cc in omega arith
+
+stays-is : (x y : Refusal) → RefusedClose x ≡ RefusedClose y → Refused x ≡ Refused y
+stays-is x y e = let z : x ≡ y = cc in ap Refused z
+
+module _ (relocates : Bool) (m : Memory) (c : Closed) (e : c ≡ closeReply relocates (openList m) (vaultOf m)) (store : Text)
+    (es : store ≡ (closeVault relocates (openList m) (vaultOf m)) .store) (slots : List ℕ)
+    (el : slots ≡ (closeVault relocates (openList m) (vaultOf m)) .slots) (table : List ℕ)
+    (et : table ≡ (closeVault relocates (openList m) (vaultOf m)) .table) where
+  abbrev ends : ℕ
+  ends = endBytes (counted relocates (pairsOf (openList m)))
+
+  abbrev made : Map
+  made = closedMap relocates (pairsOf (openList m))
+
+  pub close-done : (g : Legs) → c ≡ DoneClose g
+      → CloseActed relocates m (memory (record { opened = nothing; legs = g; answered = m .kept .answered }) (m .bytes) (m .places) store slots table) (Written 0)
+  unfolding CloseActed closeIn closeReply closeVault closedReply closedVault
+  close-done g d payload = go (askedOf relocates (openList m) (vaultOf m)) (sym d ∙ e) es el et
+    where
+      go : (a : Asked) → DoneClose g ≡ closedReply a (m .kept .legs) ends → store ≡ (closedVault a (vaultOf m) made ends) .store
+          → slots ≡ (closedVault a (vaultOf m) made ends) .slots → table ≡ (closedVault a (vaultOf m) made ends) .table
+          → Took (closeAfter a m (closedVault a (vaultOf m) made ends))
+          (memory (record { opened = nothing; legs = g; answered = m .kept .answered }) (m .bytes) (m .places) store slots table) (Written 0) payload payload
+      go Passed x u v w = record { state = rw (gone-is g (legMore (m .kept .legs) ends) x, u, v, w) refl; reply = refl; payload = refl }
+      go (RefusedAsked r) x u v w = absurd (gone-refused g r x)
+
+  pub close-refused : (x : Refusal) → c ≡ RefusedClose x → CloseActed relocates m (memory (m .kept) (m .bytes) (m .places) store slots table) (Refused x)
+  unfolding CloseActed closeIn closeReply closeVault closedReply closedVault
+  close-refused x d payload = go (askedOf relocates (openList m) (vaultOf m)) (sym d ∙ e) es el et
+    where
+      go : (a : Asked) → RefusedClose x ≡ closedReply a (m .kept .legs) ends → store ≡ (closedVault a (vaultOf m) made ends) .store
+          → slots ≡ (closedVault a (vaultOf m) made ends) .slots → table ≡ (closedVault a (vaultOf m) made ends) .table
+          → Took (closeAfter a m (closedVault a (vaultOf m) made ends)) (memory (m .kept) (m .bytes) (m .places) store slots table) (Refused x) payload payload
+      go Passed y u v w = absurd (gone-refused (legMore (m .kept .legs) ends) x (sym y))
+      go (RefusedAsked r) y u v w = record { state = rw (u, v, w) refl; reply = stays-is x r y; payload = refl }
 
 -- `count_out`
 abbrev countedAct : Kept → Reply → Act

@@ -1,6 +1,7 @@
 -- What the code knows of a frame on which it has acted.
 use mathlib.Core.Path.{_≡_}
 use Prim.Native.Nat.{ℕ}
+use mathlib.Core.Bool.{Bool}
 use mathlib.Core.List.{List}
 use mathlib.Core.Option.{some}
 use lib.ListN.{length}
@@ -14,7 +15,7 @@ use Rattle.frame.specs.declared.Read.{Read}
 use Rattle.frame.specs.declared.Read.the-variants.{Pair, Statuses, CloseMap, CloseRelocates, Out, Home, Count, Bad}
 use Rattle.frame.specs.Read.{meant}
 use Rattle.memory.specs.declared.Kept.{Kept}
-use Rattle.memory.specs.Memory.{Memory, memory, turnIn}
+use Rattle.memory.specs.Memory.{Memory, memory, closeIn, turnIn}
 
 -- an answer as a reply, and its payload at the beginning of memory
 abbrev pub replyOf : Answer → Reply
@@ -63,3 +64,8 @@ unfolding Acted
 OpenActed b r k bytes places k′ reply bytes′ places′ =
     (store : Text) (slots table : List ℕ) (payload : Text)
     → Acted b r (memory k bytes places store slots table) (memory k′ bytes′ places′ store slots table) reply payload payload
+
+-- the open list was closed
+unfoldable pub CloseActed : Bool → Memory → Memory → Reply → Type 0
+unfolding closeIn
+CloseActed relocates m m′ reply = (payload : Text) → Took (closeIn relocates m) m′ reply payload payload

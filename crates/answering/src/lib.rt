@@ -12,7 +12,7 @@ ghost use Rattle.protocol.specs.State.{answerOf, fourBytes, counts};
 ghost use Rattle.lines.specs.Taking.{lineAt};
 ghost use Rattle.memory.specs.Memory.{memory};
 ghost use Rattle.answering.specs.declared.Act.{Act};
-ghost use Rattle.answering.specs.Acting.{countsReply, kindOf, OpenActed};
+ghost use Rattle.answering.specs.Acting.{countsReply, kindOf, OpenActed, CloseActed};
 ghost use Rattle.answering.specs.Answer.{lineText, Wrote};
 
 // What a frame came to: the numbers that are kept, and the reply; its bytes, where there are any, stand at
@@ -163,4 +163,44 @@ fn write_count(n: usize, payload: &mut [u8])
     four[2] = (n / 256 % 256) as u8;
     four[3] = (n % 256) as u8;
     text::write_at(&four, 0, payload);
+}
+
+// 03 and 04: closes the open list as a leg.
+fn act_close(
+    relocates: bool,
+    k: memory::Kept,
+    bytes: &[u8],
+    places: &[usize],
+    store: &mut [u8],
+    slots: &mut [usize],
+    table: &mut [usize],
+) -> Act
+    ensures { λ r. ⌜ CloseActed relocates (memory k (now (bytes .entry)) (now (places .entry)) (now (store .entry)) (now (slots .entry)) (now (table .entry))) (memory (r .kept) (now (bytes .entry)) (now (places .entry)) (now (store .exit)) (now (slots .exit)) (now (table .exit))) (r .reply) ⌝ }
+{
+    let opened = k.opened;
+    let legs = k.legs;
+    let c = closing::close(
+        relocates,
+        bytes,
+        places,
+        opened.pairs,
+        legs,
+        store,
+        slots,
+        table,
+    );
+    match c {
+        closing::Closed::Done(g) => Act {
+            kept: memory::Kept {
+                opened: holding::Opened { pairs: 0, bytes: 0 },
+                legs: g,
+                answered: k.answered,
+            },
+            reply: path::Reply::Written(0),
+        },
+        closing::Closed::Refused(x) => Act {
+            kept: k,
+            reply: path::Reply::Refused(x),
+        },
+    }
 }
