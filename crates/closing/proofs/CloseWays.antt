@@ -6,12 +6,12 @@ use Prim.Native.Nat.{ℕ, suc, _+_, _*_, _-_, _/_, _≤_, _<_}
 use native.Mathlib.Omega.{arith}
 use lib.Dec.{leb}
 use lib.ListN.{length, set, take, drop, length-drop, take-append-drop}
-use lib.Seq.{sets, sets-eq, drop-append-le, drop-drop, length-take-le}
+use lib.Seq.{sets-eq, drop-append-le, drop-drop, length-take-le}
 use borrow.Author.Tests.{le-leb, lt-leb, leb-true}
 use Rattle.text.specs.Text.{Text, written, over}
 use Rattle.text.proofs.BoolLaws.{and-l, and-r, and-yes, told-false, told-true}
 use Rattle.pairs.specs.Pair.{Pair}
-use Rattle.pairs.specs.Places.{pairsIn, listText, listPlaces, endBytes, roomLeft, appendRoom, appendBytes, appendSlots}
+use Rattle.pairs.specs.Places.{pairsIn, listPlaces, endBytes, roomLeft, appendRoom, appendBytes, appendSlots}
 use Rattle.pairs.specs.declared.Room.{Room}
 use Rattle.pairs.specs.declared.Room.the-variants.{Left, Over}
 use Rattle.pairs.proofs.PlaceLaws.{pairsIn-length}
@@ -34,7 +34,7 @@ use Rattle.route.proofs.RelocateLaws.{active-few}
 use Rattle.closing.specs.declared.Legs.{Legs}
 use Rattle.closing.specs.declared.Closed.{Closed}
 use Rattle.closing.specs.declared.Closed.the-variants.{Done, Refused}
-use Rattle.closing.specs.Close.{counted, Vault, vault, takesLeg, takesBytes, closeAsked, legMore, withLeg, closedVault, closedReply, listReply, listVault, askedOf, closeReply, closeVault}
+use Rattle.closing.specs.Close.{counted, Vault, vault, takesLeg, takesBytes, closeAsked, withLeg, closedVault, closedReply, listReply, listVault, askedOf, closeReply, closeVault}
 
 -- `takes_leg`
 module _ (g : Legs) (slots table : List ℕ) where
