@@ -34,7 +34,7 @@ use Rattle.closing.specs.declared.Closed.the-variants.{Done as DoneClose, Refus
 use Rattle.closing.specs.Close.{counted, closedMap, legMore, closedReply, closedVault, askedOf, closeReply, closeVault}
 use Rattle.memory.specs.declared.Kept.{Kept}
 use Rattle.memory.specs.Memory.{Memory, memory, openList, vaultOf, nothing, addAfter, addIn, closeAfter, closeIn, turnIn}
-use Rattle.answering.specs.declared.Act.{Act}
+use Rattle.answering.specs.declared.Effect.{Effect}
 use Rattle.answering.specs.Acting.{Took, Acted, OpenActed, CloseActed, countsReply}
 
 -- `behind_kind`
@@ -65,10 +65,10 @@ module _ (len n m : ℕ) where
       go false e = sym (lt-leb (5 + n + m) len (omega (arith, leb-false m (len - 5 - n) e, h, i)))
 
 -- no frame was read
-no-frame : (f : Frame) → none ≡ some f → ⊥
+pub no-frame : (f : Frame) → none ≡ some f → ⊥
 no-frame f e = let z : _≡_ {A = ℕ} 0 1 = cc in omega arith
 
-same-frame : (f g : Frame) → some f ≡ some g → f ≡ g
+pub same-frame : (f g : Frame) → some f ≡ some g → f ≡ g
 same-frame f g e = cc
 
 -- what an answer to an added pair says
@@ -167,19 +167,19 @@ module _ (relocates : Bool) (m : Memory) (c : Closed) (e : c ≡ closeReply relo
       go (RefusedAsked r) y u v w = record { state = rw (u, v, w) refl; reply = stays-is x r y; payload = refl }
 
 -- `count_out`
-abbrev countedAct : Kept → Reply → Act
-countedAct k r = record { kept = record { opened = k .opened; legs = k .legs; answered = countsReply r (k .answered) }; reply = r }
+abbrev pub countedEffect : Kept → Reply → Effect
+countedEffect k r = record { kept = record { opened = k .opened; legs = k .legs; answered = countsReply r (k .answered) }; reply = r }
 
 module _ (k : Kept) (r : Reply) where
-  pub count-refused : (x : Refusal) → r ≡ Refused x → record { kept = k; reply = Refused x } ≡ countedAct k r
+  pub count-refused : (x : Refusal) → r ≡ Refused x → record { kept = k; reply = Refused x } ≡ countedEffect k r
   count-refused x h = rw h
 
   module _ (n : ℕ) (h : r ≡ Written n) where
-    pub count-held : 4294967295 ≤ k .answered → record { kept = k; reply = r } ≡ countedAct k r
+    pub count-held : 4294967295 ≤ k .answered → record { kept = k; reply = r } ≡ countedEffect k r
     count-held l = rw (h, lt-leb (suc (k .answered)) 4294967295 (omega (arith, l)))
 
     pub count-more : k .answered < 4294967295
-        → record { kept = record { opened = k .opened; legs = k .legs; answered = k .answered + 1 }; reply = r } ≡ countedAct k r
+        → record { kept = record { opened = k .opened; legs = k .legs; answered = k .answered + 1 }; reply = r } ≡ countedEffect k r
     count-more l =
         let z : k .answered + 1 ≡ suc (k .answered) = omega arith in
         rw (h, le-leb (suc (k .answered)) 4294967295 (omega (arith, l)), z)

@@ -1,2 +1,3 @@
 pub mod LineWays
 pub mod ActWays
+pub mod TurnWays

@@ -8,9 +8,9 @@ use lib.ListN.{length}
 use Rattle.text.specs.Text.{Text, written}
 use Rattle.path.specs.declared.Reply.{Reply}
 use Rattle.path.specs.declared.Reply.the-variants.{Written, Refused}
-use Rattle.path.specs.Refusal.{number}
+use Rattle.path.specs.Outcome.{Outcome}
 use Rattle.protocol.specs.Frame.{Frame}
-use Rattle.protocol.specs.State.{Answer, given, refusal, more, Turn}
+use Rattle.protocol.specs.State.{Answer, given, refusal, answerOf, more, Turn}
 use Rattle.frame.specs.declared.Read.{Read}
 use Rattle.frame.specs.declared.Read.the-variants.{Pair, Statuses, CloseMap, CloseRelocates, Out, Home, Count, Bad}
 use Rattle.frame.specs.Read.{meant}
@@ -26,10 +26,12 @@ abbrev pub payloadOf : Answer → Text → Text
 payloadOf (given q) out = written q out
 payloadOf (refusal x) out = out
 
--- the answer byte of a reply
-abbrev pub replyByte : Reply → ℕ
-replyByte (Written n) = 0
-replyByte (Refused x) = number x
+-- an answer was given, or a path that an outcome has
+unfoldable pub Gave : Answer → Reply → Text → Text → Type 0
+Gave a r before behind = (r ≡ replyOf a) × (behind ≡ payloadOf a before)
+
+abbrev pub Went : Outcome → Reply → Text → Text → Type 0
+Went o r before behind = Gave (answerOf o) r before behind
 
 -- a turn was taken: the memory afterwards, the reply and its payload are those of the turn
 pub record Took (t : Turn Memory) (m : Memory) (r : Reply) (before behind : Text) : Type 0 where

@@ -10,14 +10,14 @@ ghost use Rattle.frame.specs.declared.Read.the-variants.{Pair};
 ghost use Rattle.path.specs.Refusal.{number};
 ghost use Rattle.protocol.specs.State.{answerOf, fourBytes, counts};
 ghost use Rattle.lines.specs.Taking.{lineAt};
-ghost use Rattle.memory.specs.Memory.{memory};
-ghost use Rattle.answering.specs.declared.Act.{Act};
-ghost use Rattle.answering.specs.Acting.{countsReply, kindOf, OpenActed, CloseActed};
+ghost use Rattle.memory.specs.Memory.{memory, statusesIn, goesIn};
+ghost use Rattle.answering.specs.declared.Effect.{Effect};
+ghost use Rattle.answering.specs.Acting.{countsReply, kindOf, Gave, Went, Acted, OpenActed, CloseActed};
 ghost use Rattle.answering.specs.Answer.{lineText, Wrote};
 
 // What a frame came to: the numbers that are kept, and the reply; its bytes, where there are any, stand at
 // the beginning of the payload.
-struct Act {
+struct Effect {
     kept: memory::Kept,
     reply: path::Reply,
 }
@@ -99,11 +99,11 @@ fn act_pair(
     k: memory::Kept,
     bytes: &mut [u8],
     places: &mut [usize],
-) -> Act
+) -> Effect
     ensures { λ r. ⌜ OpenActed (now (frame .entry)) (Pair n m) k (now (bytes .entry)) (now (places .entry)) (r .kept) (r .reply) (now (bytes .exit)) (now (places .exit)) ⌝ }
 {
     if !spans(frame.len(), n, m) {
-        return Act {
+        return Effect {
             kept: k,
             reply: path::Reply::Refused(path::Refusal::NoRoom),
         };
@@ -115,7 +115,7 @@ fn act_pair(
     let legs = k.legs;
     let a = holding::add_pair(opened, &frame[3..end], &frame[start..last], bytes, places);
     match a {
-        holding::Added::Done(o) => Act {
+        holding::Added::Done(o) => Effect {
             kept: memory::Kept {
                 opened: o,
                 legs,
@@ -123,7 +123,7 @@ fn act_pair(
             },
             reply: path::Reply::Written(0),
         },
-        holding::Added::Refused(x) => Act {
+        holding::Added::Refused(x) => Effect {
             kept: k,
             reply: path::Reply::Refused(x),
         },
@@ -131,18 +131,18 @@ fn act_pair(
 }
 
 // 05: counts the frame where it was answered 00.
-fn count_out(k: memory::Kept, r: path::Reply) -> Act
+fn count_out(k: memory::Kept, r: path::Reply) -> Effect
     ensures { λ a. ⌜ a ≡ record { kept = record { opened = k .opened; legs = k .legs; answered = countsReply r (k .answered) }; reply = r } ⌝ }
 {
     if let path::Reply::Refused(x) = r {
-        return Act { kept: k, reply: r };
+        return Effect { kept: k, reply: r };
     }
     if 4294967295 <= k.answered {
-        return Act { kept: k, reply: r };
+        return Effect { kept: k, reply: r };
     }
     let opened = k.opened;
     let legs = k.legs;
-    Act {
+    Effect {
         kept: memory::Kept {
             opened,
             legs,
@@ -174,7 +174,7 @@ fn act_close(
     store: &mut [u8],
     slots: &mut [usize],
     table: &mut [usize],
-) -> Act
+) -> Effect
     ensures { λ r. ⌜ CloseActed relocates (memory k (now (bytes .entry)) (now (places .entry)) (now (store .entry)) (now (slots .entry)) (now (table .entry))) (memory (r .kept) (now (bytes .entry)) (now (places .entry)) (now (store .exit)) (now (slots .exit)) (now (table .exit))) (r .reply) ⌝ }
 {
     let opened = k.opened;
@@ -190,7 +190,7 @@ fn act_close(
         table,
     );
     match c {
-        closing::Closed::Done(g) => Act {
+        closing::Closed::Done(g) => Effect {
             kept: memory::Kept {
                 opened: holding::Opened { pairs: 0, bytes: 0 },
                 legs: g,
@@ -198,9 +198,90 @@ fn act_close(
             },
             reply: path::Reply::Written(0),
         },
-        closing::Closed::Refused(x) => Act {
+        closing::Closed::Refused(x) => Effect {
             kept: k,
             reply: path::Reply::Refused(x),
+        },
+    }
+}
+
+// 02: the statuses of the open list.
+fn act_statuses(k: memory::Kept, bytes: &[u8], places: &[usize], payload: &mut [u8]) -> path::Reply
+    requires { ⌜ length (now payload) ≡ 255 ⌝ }
+    ensures { λ r. ⌜ Gave (statusesIn (memory k (now (bytes .entry)) (now (places .entry)) [] [] [])) r (now (payload .entry)) (now (payload .exit)) ⌝ }
+{
+    let opened = k.opened;
+    relocates::analyze_relocate_occurrences(bytes, places, opened.pairs, payload)
+}
+
+// 05 and 06: the path of the frame over the legs, out or home.
+fn act_way(
+    back: bool,
+    frame: &[u8],
+    k: memory::Kept,
+    store: &[u8],
+    slots: &[usize],
+    table: &[usize],
+    payload: &mut [u8],
+) -> path::Reply
+    requires { ⌜ length (now payload) ≡ 255 ⌝ }
+    ensures { λ r. ⌜ Went (goesIn back (memory k [] [] (now (store .entry)) (now (slots .entry)) (now (table .entry))) (drop 1 (now (frame .entry)))) r (now (payload .entry)) (now (payload .exit)) ⌝ }
+{
+    let legs = k.legs;
+    let path = behind_kind(frame);
+    routing::route_after(
+        path::Asked::Passed,
+        store,
+        slots,
+        table,
+        legs.count,
+        back,
+        path,
+        payload,
+    )
+}
+
+// Does what the frame says. One that is not well formed does nothing.
+fn act(
+    r: frame::Read,
+    frame: &[u8],
+    k: memory::Kept,
+    bytes: &mut [u8],
+    places: &mut [usize],
+    store: &mut [u8],
+    slots: &mut [usize],
+    table: &mut [usize],
+    payload: &mut [u8],
+) -> Effect
+    requires { ⌜ length (now payload) ≡ 255 ⌝ }
+    ensures { λ a. ⌜ Acted (now (frame .entry)) r (memory k (now (bytes .entry)) (now (places .entry)) (now (store .entry)) (now (slots .entry)) (now (table .entry))) (memory (a .kept) (now (bytes .exit)) (now (places .exit)) (now (store .exit)) (now (slots .exit)) (now (table .exit))) (a .reply) (now (payload .entry)) (now (payload .exit)) ⌝ }
+{
+    match r {
+        frame::Read::Pair(n, m) => act_pair(frame, n, m, k, bytes, places),
+        frame::Read::Statuses => Effect {
+            kept: k,
+            reply: act_statuses(k, bytes, places, payload),
+        },
+        frame::Read::CloseMap => act_close(false, k, bytes, places, store, slots, table),
+        frame::Read::CloseRelocates => act_close(true, k, bytes, places, store, slots, table),
+        frame::Read::Out => {
+            let w = act_way(false, frame, k, store, slots, table, payload);
+            count_out(k, w)
+        }
+        frame::Read::Home => Effect {
+            kept: k,
+            reply: act_way(true, frame, k, store, slots, table, payload),
+        },
+        frame::Read::Count => {
+            write_count(k.answered, payload);
+            Effect {
+                kept: k,
+                reply: path::Reply::Written(4),
+            }
+        }
+        frame::Read::Bad => Effect {
+            kept: k,
+            reply: path::Reply::Refused(path::Refusal::NoPath),
         },
     }
 }
