@@ -1,3 +1,4 @@
 pub mod LineWays
 pub mod ActWays
 pub mod TurnWays
+pub mod FrameWays

@@ -1,9 +1,10 @@
 -- What the code knows of a frame on which it has acted.
 use mathlib.Core.Path.{_≡_}
-use Prim.Native.Nat.{ℕ}
-use mathlib.Core.Bool.{Bool}
+use Prim.Native.Nat.{ℕ, _+_}
+use mathlib.Core.Bool.{Bool, cond}
 use mathlib.Core.List.{List}
 use mathlib.Core.Option.{some}
+use lib.Dec.{leb}
 use lib.ListN.{length}
 use Rattle.text.specs.Text.{Text, written}
 use Rattle.path.specs.declared.Reply.{Reply}
@@ -44,16 +45,16 @@ unfoldable pub Acted : Text → Read → Memory → Memory → Reply → Text �
 unfolding meant turnIn
 Acted b r m m′ reply before behind = (f : Frame) → meant b r ≡ some f → Took (turnIn m f) m′ reply before behind
 
--- the kind of what was read; none has 0
-abbrev pub kindOf : Read → ℕ
-kindOf (Pair n m) = 1
-kindOf Statuses = 2
-kindOf CloseMap = 3
-kindOf CloseRelocates = 4
-kindOf Out = 5
-kindOf Home = 6
-kindOf Count = 7
-kindOf Bad = 0
+-- the kind of a frame that was read in so many bytes; none has 0
+abbrev pub kindIn : ℕ → Read → ℕ
+kindIn len (Pair n m) = cond (leb (5 + n + m) len) 1 0
+kindIn len Statuses = 2
+kindIn len CloseMap = 3
+kindIn len CloseRelocates = 4
+kindIn len Out = 5
+kindIn len Home = 6
+kindIn len Count = 7
+kindIn len Bad = 0
 
 -- the count of 05 frames answered 00, by the reply
 abbrev pub countsReply : Reply → ℕ → ℕ

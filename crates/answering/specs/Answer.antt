@@ -7,6 +7,9 @@ use mathlib.Core.Option.{Option}
 use lib.Dec.{leb}
 use lib.ListN.{length, take}
 use Rattle.text.specs.Text.{Text, over}
+use Rattle.path.specs.declared.Reply.{Reply}
+use Rattle.path.specs.declared.Reply.the-variants.{Written, Refused}
+use Rattle.path.specs.Refusal.{number}
 use Rattle.lines.specs.Lines.{Line}
 use Rattle.digits.specs.Digits.{encoded}
 use Rattle.protocol.specs.Frame.{Frame, frameOf}
@@ -27,6 +30,17 @@ unfoldable pub lineText : Text → Text
 unfolding encoded
 lineText b = encoded b ++ 10 ∷ []
 
+-- the line of a reply, whose payload stands at the beginning of memory
+unfoldable pub replyLine : ℕ → Reply → Text → Text
+unfolding lineText
+replyLine head (Written n) payload = lineText (head ∷ 0 ∷ take n payload)
+replyLine head (Refused x) payload = lineText (head ∷ number x ∷ [])
+
+-- .. which has that many bytes
+unfoldable pub Fitting : Reply → ℕ → Type 0
+Fitting (Written n) room = n ≤ room
+Fitting (Refused x) room = 0 ≤ room
+
 -- bytes from `at` on are a text, and it ends at `end`
 unfoldable pub Wrote : Text → ℕ → ℕ → Text → Text → Type 0
 Wrote t at end before behind = (end ≡ at + length t) × (behind ≡ over at t before)
@@ -37,9 +51,9 @@ unfolding heard frameOf
 Heard l r bytes = (r ≤ 2048) × (frameOf (take r bytes) ≡ heard l)
 
 -- what a frame, or none, makes of the memory, and its answer
-unfoldable pub Answered : Option Frame → Memory → Memory → ℕ → ℕ → Text → Text → Type 0
+unfoldable pub AnswersFrame : Option Frame → Memory → Memory → ℕ → ℕ → Text → Text → Type 0
 unfolding turnIn Wrote lineText
-Answered o m m′ at end before behind = (m′ ≡ next turnIn m o) × Wrote (lineText (answer turnIn m o)) at end before behind
+AnswersFrame o m m′ at end before behind = (m′ ≡ next turnIn m o) × Wrote (lineText (answer turnIn m o)) at end before behind
 
 -- a line's answer behind `at` bytes; where there is no room for the longest one, nothing is taken, changed or written
 unfoldable pub memoryAfter : ℕ → Text → Memory → Line → Memory

@@ -10,10 +10,11 @@ ghost use Rattle.frame.specs.declared.Read.the-variants.{Pair};
 ghost use Rattle.path.specs.Refusal.{number};
 ghost use Rattle.protocol.specs.State.{answerOf, fourBytes, counts};
 ghost use Rattle.lines.specs.Taking.{lineAt};
+ghost use Rattle.protocol.specs.Frame.{frameOf};
 ghost use Rattle.memory.specs.Memory.{memory, statusesIn, goesIn};
 ghost use Rattle.answering.specs.declared.Effect.{Effect};
-ghost use Rattle.answering.specs.Acting.{countsReply, kindOf, Gave, Went, Acted, OpenActed, CloseActed};
-ghost use Rattle.answering.specs.Answer.{lineText, Wrote};
+ghost use Rattle.answering.specs.Acting.{countsReply, kindIn, Gave, Went, Acted, OpenActed, CloseActed};
+ghost use Rattle.answering.specs.Answer.{lineText, replyLine, Fitting, Wrote, Heard, AnswersFrame};
 
 // What a frame came to: the numbers that are kept, and the reply; its bytes, where there are any, stand at
 // the beginning of the payload.
@@ -26,22 +27,6 @@ struct Effect {
 pub struct Answered {
     pub kept: memory::Kept,
     pub end: usize,
-}
-
-// The kind of what was read, 0 where it is not well formed.
-fn kind_of(r: frame::Read) -> u8
-    ensures { λ k. ⌜ k ≡ kindOf r ⌝ }
-{
-    match r {
-        frame::Read::Pair(n, m) => 1,
-        frame::Read::Statuses => 2,
-        frame::Read::CloseMap => 3,
-        frame::Read::CloseRelocates => 4,
-        frame::Read::Out => 5,
-        frame::Read::Home => 6,
-        frame::Read::Count => 7,
-        frame::Read::Bad => 0,
-    }
 }
 
 // Document 01's number of a refusal.
@@ -89,6 +74,27 @@ fn spans(len: usize, n: usize, m: usize) -> bool
         return false;
     }
     m <= left - n
+}
+
+// The kind of a frame that was read in so many bytes, 0 where it is none.
+fn kind_of(r: frame::Read, len: usize) -> u8
+    ensures { λ k. ⌜ k ≡ kindIn len r ⌝ }
+{
+    match r {
+        frame::Read::Pair(n, m) => {
+            if !spans(len, n, m) {
+                return 0;
+            }
+            1
+        }
+        frame::Read::Statuses => 2,
+        frame::Read::CloseMap => 3,
+        frame::Read::CloseRelocates => 4,
+        frame::Read::Out => 5,
+        frame::Read::Home => 6,
+        frame::Read::Count => 7,
+        frame::Read::Bad => 0,
+    }
 }
 
 // 01: adds a pair, whose source has n bytes and whose target m, to the open list.
@@ -283,5 +289,76 @@ fn act(
             kept: k,
             reply: path::Reply::Refused(path::Refusal::NoPath),
         },
+    }
+}
+
+// Writes the answer line of a reply, whose payload stands at the beginning of memory.
+fn write_reply(head: u8, reply: path::Reply, payload: &[u8], at: usize, out: &mut [u8]) -> usize
+    requires { ⌜ Fitting reply (length (now payload)) ⌝ }
+    requires { ⌜ (length (now payload) ≡ 255) × (at + 515 ≤ length (now out)) ⌝ }
+    ensures { λ r. ⌜ Wrote (replyLine head reply (now (payload .entry))) at r (now (out .entry)) (now (out .exit)) ⌝ }
+{
+    match reply {
+        path::Reply::Written(n) => write_line(head, 0, &payload[..n], at, out),
+        path::Reply::Refused(x) => write_line(head, number_byte(x), &payload[..0], at, out),
+    }
+}
+
+// Does what the bytes of a frame say, and writes the answer line.
+fn answer_frame(
+    frame: &[u8],
+    k: memory::Kept,
+    bytes: &mut [u8],
+    places: &mut [usize],
+    store: &mut [u8],
+    slots: &mut [usize],
+    table: &mut [usize],
+    at: usize,
+    out: &mut [u8],
+) -> Answered
+    requires { ⌜ at + 515 ≤ length (now out) ⌝ }
+    ensures { λ r. ⌜ AnswersFrame (frameOf (now (frame .entry))) (memory k (now (bytes .entry)) (now (places .entry)) (now (store .entry)) (now (slots .entry)) (now (table .entry))) (memory (r .kept) (now (bytes .exit)) (now (places .exit)) (now (store .exit)) (now (slots .exit)) (now (table .exit))) at (r .end) (now (out .entry)) (now (out .exit)) ⌝ }
+{
+    let r = frame::read_frame(frame);
+    let kind = kind_of(r, frame.len());
+    if kind == 0 {
+        let end = write_line(255, 9, &frame[..0], at, out);
+        return Answered { kept: k, end };
+    }
+    let mut payload = [0u8; 255];
+    let a = act(
+        r,
+        frame,
+        k,
+        bytes,
+        places,
+        store,
+        slots,
+        table,
+        &mut payload,
+    );
+    let kept = a.kept;
+    let reply = a.reply;
+    let end = write_reply(kind + 128, reply, &payload, at, out);
+    Answered { kept, end }
+}
+
+// The bytes that the digits of a line stand for, at the beginning of memory; none where it is overlong or
+// no line of digits.
+fn hear(line: &[u8], len: usize, frame: &mut [u8]) -> usize
+    requires { ⌜ length (now frame) ≡ 2048 ⌝ }
+    ensures { λ r. ⌜ Heard (lineAt len (now (line .entry))) r (now (frame .exit)) ⌝ }
+{
+    if 4096 < len {
+        return 0;
+    }
+    if line.len() < len {
+        return 0;
+    }
+    let d = digits::decode(&line[..len], frame);
+    match d {
+        digits::Decoded::Bytes(n) => n,
+        digits::Decoded::Bad => 0,
+        digits::Decoded::Over => 0,
     }
 }
