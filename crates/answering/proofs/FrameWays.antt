@@ -1,5 +1,5 @@
 -- From the digits of a line to its answer: what each way gives. Assumes nothing.
-use mathlib.Core.Path.{_≡_, refl, sym, ap, _∙_}
+use mathlib.Core.Path.{_≡_, refl, sym, ap, _∙_, subst}
 use mathlib.Core.Logic.{_≢_}
 use mathlib.Core.Bool.{Bool, true, false, not, cond}
 use mathlib.Core.List.{[], _∷_}
@@ -131,7 +131,7 @@ says : (b : Text) (r : Read) → kindIn (length b) r ≢ 0 → Says b r
 unfolding meant
 says b (Pair n m) h = go (leb (5 + n + m) (length b)) refl h
   where
-    go : (t : Bool) → leb (5 + n + m) (length b) ≡ t → cond t 1 0 ≢ 0 → Says b (Pair n m)
+    go : (t : Bool) → leb (5 + n + m) (length b) ≡ t → _≢_ {A = ℕ} (cond t 1 0) 0 → Says b (Pair n m)
     go true e h = record { frame = pair (take n (drop 3 b)) (take m (drop (5 + n) b)); read = rw e refl; kinds = rw e refl }
     go false e h = absurd (h refl)
 says b Statuses h = record { frame = statuses; read = refl; kinds = refl }
@@ -146,7 +146,7 @@ silent-kind : (b : Text) (r : Read) → kindIn (length b) r ≡ 0 → meant b r 
 unfolding meant
 silent-kind b (Pair n m) h = go (leb (5 + n + m) (length b)) h
   where
-    go : (t : Bool) → cond t 1 0 ≡ 0 → cond t (some (pair (take n (drop 3 b)) (take m (drop (5 + n) b)))) none ≡ none
+    go : (t : Bool) → _≡_ {A = ℕ} (cond t 1 0) 0 → cond t (some (pair (take n (drop 3 b)) (take m (drop (5 + n) b)))) none ≡ none
     go true h = absurd (omega arith)
     go false h = refl
 silent-kind b Statuses h = absurd (omega arith)
@@ -186,6 +186,13 @@ pub fitting-room : (r : Reply) (n room : ℕ) → r ≡ Written n → Fitting r 
 unfolding Fitting
 fitting-room r n room e f = rw e at f
 
+pub part-length : (n : ℕ) (t : Text) → n ≤ length t → n ≡ length (take n t)
+part-length n t h = sym (length-take-le n t h)
+
+pub reply-room : (n at : ℕ) (payload before : Text) → n ≤ length payload → length payload ≡ 255 → at + 515 ≤ length before
+    → at + 5 + 2 * length (take n payload) ≤ length before
+reply-room n at payload before h e r = omega (arith, part-length n payload h, e, r, h)
+
 -- `answer_frame`
 module _ (b : Text) (r : Read) (e : meant b r ≡ frameOf b) (k : ℕ) (h : k ≡ kindIn (length b) r) (m : Memory) (at end : ℕ) (before behind : Text) where
   pub frame-bad : k ≡ 0 → Wrote (lineText (255 ∷ 9 ∷ [])) at end before behind → AnswersFrame (frameOf b) m m at end before behind
@@ -207,20 +214,24 @@ module _ (b : Text) (r : Read) (e : meant b r ≡ frameOf b) (k : ℕ) (h : k �
     unfolding Acted
     took = a (said .frame) (said .read)
 
+    is-frame : some (said .frame) ≡ frameOf b
+    is-frame = sym (said .read) ∙ e
+
+    line-same : replyLine (k + 128) reply payload′ ≡ lineText (answer turnIn m (frameOf b))
+    line-same =
+        let t = took in
+        reply-line ((turnIn m (said .frame)) .answer) (k + 128) reply payload payload′ (t .reply) (t .payload)
+        ∙ ap (λ (n : ℕ). lineText ((n + 128) ∷ answerBytes ((turnIn m (said .frame)) .answer))) (h ∙ said .kinds)
+        ∙ ap (λ (o : Option Frame). lineText (answer turnIn m o)) is-frame
+
     pub frame-acted : Wrote (replyLine (k + 128) reply payload′) at end before behind → AnswersFrame (frameOf b) m m′ at end before behind
     unfolding AnswersFrame
-    frame-acted w =
-        let t = took in
-        let n : k ≡ kind (said .frame) = h ∙ said .kinds in
-        rw (← e, said .read) (
-          t .state,
-          rw (← n, ← (reply-line ((turnIn m (said .frame)) .answer) (k + 128) reply payload payload′ (t .reply) (t .payload))) w,
-        )
+    frame-acted w = (took .state ∙ ap (next turnIn m) is-frame, subst (λ (t : Text). Wrote t at end before behind) line-same w)
 
-    pub frame-fits : length payload′ ≡ 255 → Fitting reply 255
+    pub frame-fits : Fitting reply (length payload′)
     unfolding Fitting
-    frame-fits l = go ((turnIn m (said .frame)) .answer) (took .reply) (took .payload)
+    frame-fits = go ((turnIn m (said .frame)) .answer) (took .reply) (took .payload)
       where
-        go : (x : Answer) → reply ≡ replyOf x → payload′ ≡ payloadOf x payload → Fitting reply 255
-        go (given q) f g = rw f (omega (arith, l, ap length g, length-append q (drop (length q) payload)))
+        go : (x : Answer) → reply ≡ replyOf x → payload′ ≡ payloadOf x payload → Fitting reply (length payload′)
+        go (given q) f g = rw f (omega (arith, ap length g, length-append q (drop (length q) payload)))
         go (refusal x) f g = rw f (omega arith)
