@@ -4,7 +4,7 @@ use mathlib.Core.Logic.{_≢_}
 use mathlib.Core.Bool.{Bool, true, false, not, cond}
 use mathlib.Core.List.{[], _∷_}
 use mathlib.Core.Option.{Option, none, some}
-use Prim.Native.Nat.{ℕ, _+_, _*_, _≤_, _<_}
+use Prim.Native.Nat.{ℕ, _+_, _-_, _*_, _≤_, _<_}
 use native.Mathlib.Omega.{arith}
 use lib.Dec.{leb}
 use lib.ListN.{length, take, drop, length-append}
@@ -27,13 +27,13 @@ use Rattle.digits.proofs.DecodeLaws.{decoded-length}
 use Rattle.protocol.specs.Frame.{Frame, pair, statuses, close-map, close-relocates, out, home, count, kind, frameOf}
 use Rattle.protocol.specs.State.{Answer, given, refusal, answerBytes, Turn}
 use Rattle.protocol.specs.Run.{next, answer}
-use Rattle.protocol.specs.Input.{ofBytes, heard}
+use Rattle.protocol.specs.Input.{ofBytes, heard, answerLine}
 use Rattle.frame.specs.declared.Read.{Read}
 use Rattle.frame.specs.declared.Read.the-variants.{Pair, Statuses, CloseMap, CloseRelocates, Out, Home, Count, Bad}
 use Rattle.frame.specs.Read.{meant}
 use Rattle.memory.specs.Memory.{Memory, turnIn}
 use Rattle.answering.specs.Acting.{replyOf, payloadOf, Took, Acted, kindIn}
-use Rattle.answering.specs.Answer.{lineText, replyLine, Fitting, Wrote, Heard, AnswersFrame}
+use Rattle.answering.specs.Answer.{lineText, replyLine, Fitting, Wrote, Heard, AnswersFrame, memoryAfter, endAfter, outAfter}
 
 -- `hear`
 module _ (line : Text) (len : ℕ) where
@@ -71,7 +71,7 @@ module _ (line : Text) (len : ℕ) where
     short = rw (length-take-le len line i) h
 
     -- the frame of what was decoded is that of the line
-    hears : (r : ℕ) → (r ≤ 2048) × (frameOf (take r bytes) ≡ ofBytes (decoded (take len line))) → Heard (lineAt len line) r bytes
+    hears : (r : ℕ) → (r ≤ length bytes) × (frameOf (take r bytes) ≡ ofBytes (decoded (take len line))) → Heard (lineAt len line) r bytes
     unfolding Heard heard
     hears r w = rw a-line w
 
@@ -81,14 +81,15 @@ module _ (line : Text) (len : ℕ) where
     pub hear-bytes : (n : ℕ) → d ≡ Bytes n → Heard (lineAt len line) n bytes
     hear-bytes n w = hears n (go (decoded (take len line)) refl (sym w ∙ (rw room at e)) f)
       where
-        go : (o : Option Text) → decoded (take len line) ≡ o → Bytes n ≡ decodeReply o 2048 → bytes ≡ decodeMemory o before → (n ≤ 2048) × (frameOf (take n bytes) ≡ ofBytes o)
+        go : (o : Option Text) → decoded (take len line) ≡ o → Bytes n ≡ decodeReply o 2048 → bytes ≡ decodeMemory o before → (n ≤ length bytes) × (frameOf (take n bytes) ≡ ofBytes o)
         go none x y z = absurd (let v : _≡_ {A = ℕ} 0 1 = cc in omega arith)
         go (some t) x y z =
             let l : length t ≤ 2048 = fits-half t x in
             let u : Bytes n ≡ Bytes (length t) = y ∙ rw (le-leb (length t) 2048 l) refl in
-            let k : n ≡ length t = cc in (
-              rw k l,
-              ap frameOf (ap (λ (j : ℕ). take j bytes) k ∙ ap (take (length t)) (z ∙ placed-first t before (rw room l)) ∙ read-back t before),
+            let k : n ≡ length t = cc in
+            let v : bytes ≡ written t before = z ∙ placed-first t before (rw room l) in (
+              omega (arith, k, ap length v, length-append t (drop (length t) before)),
+              ap frameOf (ap (λ (j : ℕ). take j bytes) k ∙ ap (take (length t)) v ∙ read-back t before),
             )
 
     -- nothing was heard
@@ -235,3 +236,37 @@ module _ (b : Text) (r : Read) (e : meant b r ≡ frameOf b) (k : ℕ) (h : k �
         go : (x : Answer) → reply ≡ replyOf x → payload′ ≡ payloadOf x payload → Fitting reply (length payload′)
         go (given q) f g = rw f (omega (arith, ap length g, length-append q (drop (length q) payload)))
         go (refusal x) f g = rw f (omega arith)
+
+-- `has_room`
+pub room-short : (at len : ℕ) → len < 515 → false ≡ leb (at + 515) len
+room-short at len h = sym (lt-leb (at + 515) len (omega (arith, h)))
+
+pub room-rest : (at len : ℕ) → 515 ≤ len → leb at (len - 515) ≡ leb (at + 515) len
+room-rest at len h = go (leb at (len - 515)) refl
+  where
+    go : (b : Bool) → leb at (len - 515) ≡ b → b ≡ leb (at + 515) len
+    go true e = sym (le-leb (at + 515) len (omega (arith, leb-true at (len - 515) e, h)))
+    go false e = sym (lt-leb (at + 515) len (omega (arith, leb-false at (len - 515) e, h)))
+
+-- `answer_line`
+pub line-room : (at : ℕ) (before : Text) (b : Bool) → b ≡ leb (at + 515) (length before) → not b ≡ false → at + 515 ≤ length before
+line-room at before b e h = leb-true (at + 515) (length before) (told-true e h)
+
+module _ (l : Line) (m : Memory) (at : ℕ) (before : Text) (b : Bool) (e : b ≡ leb (at + 515) (length before)) where
+  abbrev Answers : Memory → ℕ → Text → Type 0
+  Answers m′ end behind = (m′ ≡ memoryAfter at before m l) × ((end ≡ endAfter at before m l) × (behind ≡ outAfter at before m l))
+
+  pub line-refused : not b ≡ true → Answers m at before
+  unfolding memoryAfter endAfter outAfter
+  line-refused h = rw (told-false e h) (refl, (refl, refl))
+
+  pub line-answered : not b ≡ false → (n : ℕ) (bytes : Text) → Heard l n bytes → (m′ : Memory) (end : ℕ) (behind : Text)
+      → AnswersFrame (frameOf (take n bytes)) m m′ at end before behind → Answers m′ end behind
+  unfolding memoryAfter endAfter outAfter Heard AnswersFrame Wrote lineText answerLine
+  line-answered h n bytes g m′ end behind a =
+      let w = subst (λ (o : Option Frame). AnswersFrame o m m′ at end before behind) (g .1) a in
+      rw (told-true e h) (w .0, (w .1 .0, w .1 .1))
+
+pub heard-few : (l : Line) (n : ℕ) (bytes : Text) → Heard l n bytes → n ≤ length bytes
+unfolding Heard
+heard-few l n bytes g = g .0
