@@ -80,6 +80,15 @@ closedVault a v m n = unless a (λ (x : Refusal). v) (withLeg v m n)
 unfoldable pub closedReply : Asked → Legs → ℕ → Closed
 closedReply a g n = unless a Refused (Done (legMore g n))
 
+-- a leg that is made of a list of pairs, with the mark or without: the answer, and the memory afterwards
+unfoldable pub listReply : List Pair → Vault → Closed
+unfolding closeAsked closedReply endBytes
+listReply l v = closedReply (closeAsked v l) (v .legs) (endBytes l)
+
+unfoldable pub listVault : Bool → List Pair → Vault → Vault
+unfolding closeAsked closedVault fromParts endBytes
+listVault mark l v = closedVault (closeAsked v l) v (fromParts l mark) (endBytes l)
+
 -- the questions of a close of the open list: a damaged count of its pairs gets question 4's number
 unfoldable pub askedOf : Bool → Lent → Vault → Asked
 unfolding listCounts counted closeAsked pairsIn

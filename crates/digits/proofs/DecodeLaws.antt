@@ -137,3 +137,16 @@ module _ (s out : Text) where
       rw (f, ← values-at s i (omega arith)) (rw (zero-add i) at (put-on out (values s) mem 0 i (omega arith) (omega arith) (omega arith) e))
 
 pub ruleset decoding = (bad-odd, kept-odd, bad-other, kept-other, over-short, kept-short, bytes-all, written-all, written-on, put-begin, put-length)
+
+-- two digits a byte
+pub decoded-length : (s x : Text) → decoded s ≡ some x → length s ≡ 2 * length x
+unfolding decoded
+decoded-length [] x e = let z : [] ≡ x = cc in rw (← z) refl
+decoded-length (a ∷ []) x e = absurd (let z : _≡_ {A = ℕ} 0 1 = cc in omega arith)
+decoded-length (a ∷ b ∷ s) x e = go (digit a) (digit b) (decoded s) (decoded-length s) e
+  where
+    go : (h l : Option ℕ) (r : Option Text) → ((y : Text) → r ≡ some y → length s ≡ 2 * length y) → joined h l r ≡ some x → suc (suc (length s)) ≡ 2 * length x
+    go none l r ih e = absurd (let z : _≡_ {A = ℕ} 0 1 = cc in omega arith)
+    go (some h) none r ih e = absurd (let z : _≡_ {A = ℕ} 0 1 = cc in omega arith)
+    go (some h) (some l) none ih e = absurd (let z : _≡_ {A = ℕ} 0 1 = cc in omega arith)
+    go (some h) (some l) (some t) ih e = let z : (16 * h + l) ∷ t ≡ x = cc in rw (← z) (omega (arith, ih t refl))

@@ -20,7 +20,7 @@ digit-capital v h = rw (le-ltb v 10 h)
 pub ruleset capitals = (digit-decimal, digit-capital)
 
 -- `encode`
-encoded-length : (t : Text) → length (encoded t) ≡ 2 * length t
+pub encoded-length : (t : Text) → length (encoded t) ≡ 2 * length t
 unfolding encoded
 encoded-length [] = refl
 encoded-length (b ∷ t) = omega (arith, encoded-length t)

@@ -128,7 +128,7 @@ module _ (b : Text) where
 
       pub pair-filled : length b - 5 - n ≡ m → meant b (Pair n m) ≡ pairOf (firstField (drop 1 b))
       unfolding meant
-      pair-filled h = filled (take n (drop 3 b)) m (drop (5 + n) b) (left ∙ h) ∙ sym opened
+      pair-filled h = rw (le-leb (5 + n + m) (length b) (omega (arith, k, l, h))) (filled (take n (drop 3 b)) m (drop (5 + n) b) (left ∙ h) ∙ sym opened)
 
 -- `alone`
 module _ (b : Text) (r : Read) where

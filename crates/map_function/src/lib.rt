@@ -119,7 +119,7 @@ fn is_roots(store: &[u8], places: &[usize], i: usize) -> bool
 }
 
 // Is one of the first n pairs `/`→`/`?
-fn any_roots(store: &[u8], places: &[usize], n: usize) -> bool
+pub fn any_roots(store: &[u8], places: &[usize], n: usize) -> bool
     ensures { λ r. ⌜ r ≡ anyRoots (pairsIn (now (store .entry)) (now (places .entry)) n) ⌝ }
 {
     let mut i = 0;

@@ -1,20 +1,21 @@
--- What each way through `write_pair` and `write_list` gives. Assumes nothing.
+-- What each way through `write_pair`, `append_list` and `write_list` gives. Assumes nothing.
 use mathlib.Core.Path.{_≡_, refl, sym, ap, _∙_}
 use mathlib.Core.Bool.{Bool, true, false, not, cond, _&&_}
 use mathlib.Core.List.{List, [], _∷_, _++_, append-assoc, append-nil}
 use Prim.Native.Nat.{ℕ, zero, suc, _+_, _*_, _-_, _/_, _≤_, _<_}
+use native.Mathlib.Nat.{zero-add}
 use native.Mathlib.Omega.{arith}
 use native.Mathlib.Numerals.{add-one}
 use lib.Dec.{leb}
-use lib.ListN.{length, take, drop, set, length-append, length-take, length-drop}
+use lib.ListN.{length, take, drop, set, length-append, length-take, length-drop, take-append-drop}
 use lib.Seq.{sets, sets-eq, take-append-seam, take-append-add, drop-append-add, drop-drop, take-take, length-take-le}
-use borrow.Author.Tests.{le-leb, lt-leb, leb-true}
+use borrow.Author.Tests.{le-leb, lt-leb, leb-true, leb-false}
 use Rattle.text.specs.Text.{Text, written, over, placed}
 use Rattle.text.proofs.BoolLaws.{and-no, told-false, told-true}
 use Rattle.text.specs.declared.Fit.{Fit}
 use Rattle.text.specs.declared.Fit.the-variants.{Written, Over}
 use Rattle.pairs.specs.Pair.{Pair}
-use Rattle.pairs.specs.Places.{textAt, keyAt, pairIn, pairsIn, four, copied, fourOf, listText, listPlaces, endBytes, listRoom, listFit, listBytes, listSlots}
+use Rattle.pairs.specs.Places.{textAt, keyAt, pairIn, pairsIn, four, copied, fourOf, listText, listPlaces, endBytes, appendRoom, appendFit, appendBytes, appendSlots, listRoom, listFit, listBytes, listSlots}
 use Rattle.pairs.proofs.PlaceLaws.{pairsIn-length}
 use Rattle.pairs.proofs.ListLaws.{list-length, places-length}
 use Rattle.pairs.proofs.RoomWays.{end-next, end-grows}
@@ -69,12 +70,15 @@ module _ (at : ℕ) (s t out : Text) (h : at + (length s + length t) ≤ length 
       let f : at + (length s + length t) ≡ at + length s + length t = omega arith in
       (rw (first-length, f) at e) ∙ drop-append-add s (drop (at + length s) out) (length t) ∙ drop-drop (length t) (at + length s) out
 
+  over-next : over (at + length s) t (over at s out) ≡ over at (s ++ t) out
+  over-next =
+      let n : at + length (s ++ t) ≡ at + length s + length t = rw (length-append s t) (omega arith) in
+      rw (up-to-second, behind-second, n) (simp append-assoc)
+
   pub over-over : placed (at + length s) t (placed at s out) ≡ over at (s ++ t) out
   unfolding placed
   over-over =
-      let n : at + length (s ++ t) ≡ at + length s + length t = rw (length-append s t) (omega arith) in
-      rw (le-leb (at + length s) (length out) (omega arith), once-length, le-leb (at + length s + length t) (length out) (omega arith), up-to-second, behind-second, n)
-      (simp append-assoc)
+      rw (le-leb (at + length s) (length out) (omega arith), once-length, le-leb (at + length s + length t) (length out) (omega arith)) over-next
 
 -- `write_pair`: s and t are the keys that were read
 module _ (at : ℕ) (s t ks kt : Text) (e : s ≡ ks) (f : t ≡ kt) where
@@ -107,7 +111,7 @@ places-snoc at (y ∷ l) x =
 over-written : (t s out : Text) → over (length t) s (written t out) ≡ written (t ++ s) out
 over-written t s out = simp (take-append-seam, drop-append-add, drop-drop, length-append, append-assoc)
 
--- `write_list`
+-- `append_list`: behind `start` bytes of the memory o
 module _ (store : Text) (places : List ℕ) where
   pub source-key : (i : ℕ) → (pairIn store places i) .source ≡ keyAt store places false i
   unfolding pairIn
@@ -117,63 +121,93 @@ module _ (store : Text) (places : List ℕ) where
   unfolding pairIn
   target-key i = refl
 
-  text-next : (i : ℕ) → listText (pairsIn store places (i + 1)) ≡ listText (pairsIn store places i) ++ (keyAt store places false i ++ keyAt store places true i)
+  abbrev first : ℕ → List Pair
+  first i = pairsIn store places i
+
+  abbrev ends : ℕ → ℕ
+  ends i = length (keyAt store places false i) + length (keyAt store places true i)
+
+  text-next : (i : ℕ) → listText (first (i + 1)) ≡ listText (first i) ++ (keyAt store places false i ++ keyAt store places true i)
   unfolding pairsIn
-  text-next i = rw (add-one i) (list-snoc (pairsIn store places i) (pairIn store places i) ∙ rw (source-key i, target-key i) refl)
+  text-next i = rw (add-one i) (list-snoc (first i) (pairIn store places i) ∙ rw (source-key i, target-key i) refl)
 
-  slots-next : (i : ℕ) → listPlaces 0 (pairsIn store places (i + 1)) ≡ listPlaces 0 (pairsIn store places i) ++ fourOf (endBytes (pairsIn store places i)) (keyAt store places false i) (keyAt store places true i)
+  slots-next : (start i : ℕ) → listPlaces start (first (i + 1)) ≡ listPlaces start (first i) ++ fourOf (start + endBytes (first i)) (keyAt store places false i) (keyAt store places true i)
   unfolding pairsIn
-  slots-next i =
-      let z : 0 + endBytes (pairsIn store places i) ≡ endBytes (pairsIn store places i) = omega arith in
-      rw (add-one i) (places-snoc 0 (pairsIn store places i) (pairIn store places i) ∙ rw (z, source-key i, target-key i) refl)
+  slots-next start i = rw (add-one i) (places-snoc start (first i) (pairIn store places i) ∙ rw (source-key i, target-key i) refl)
 
-  pub list-at : (i at end : ℕ) → at ≡ endBytes (pairsIn store places i) → end ≡ at + (length (keyAt store places false i) + length (keyAt store places true i))
-      → end ≡ endBytes (pairsIn store places (i + 1))
-  list-at i at end h e = rw (add-one i) (omega (arith, end-next store places i))
+  -- before the first pair
+  pub at-begin : (start : ℕ) → start ≡ start + endBytes (first 0)
+  unfolding pairsIn endBytes
+  at-begin start = omega arith
 
-  pub list-text : (i at : ℕ) (o out out′ : Text) → at ≡ endBytes (pairsIn store places i) → out ≡ written (listText (pairsIn store places i)) o
-      → out′ ≡ over at (keyAt store places false i ++ keyAt store places true i) out → out′ ≡ written (listText (pairsIn store places (i + 1))) o
-  list-text i at o out out′ h w e =
-      e ∙ rw (w, h, ← (list-length (pairsIn store places i)), text-next i) (over-written (listText (pairsIn store places i)) (keyAt store places false i ++ keyAt store places true i) o)
+  pub text-begin : (start : ℕ) (o : Text) → o ≡ over start (listText (first 0)) o
+  unfolding pairsIn listText
+  text-begin start o = let z : start + 0 ≡ start = omega arith in rw z (sym (take-append-drop start o))
 
-  pub list-slots : (i at : ℕ) (o slots slots′ : List ℕ) → at ≡ endBytes (pairsIn store places i) → slots ≡ written (listPlaces 0 (pairsIn store places i)) o
-      → slots′ ≡ over (4 * i) (fourOf at (keyAt store places false i) (keyAt store places true i)) slots → slots′ ≡ written (listPlaces 0 (pairsIn store places (i + 1))) o
-  list-slots i at o slots slots′ h w e =
-      let n : 4 * i ≡ length (listPlaces 0 (pairsIn store places i)) = sym (places-length 0 (pairsIn store places i) ∙ ap (λ (k : ℕ). 4 * k) (pairsIn-length store places i)) in
-      e ∙ rw (w, h, n, slots-next i) (over-written (listPlaces 0 (pairsIn store places i)) (fourOf (endBytes (pairsIn store places i)) (keyAt store places false i) (keyAt store places true i)) o)
+  pub slots-begin : (start : ℕ) (o : List ℕ) → o ≡ written (listPlaces start (first 0)) o
+  unfolding pairsIn listPlaces
+  slots-begin start o = refl
 
-  module _ (n : ℕ) (o : Text) (p : List ℕ) where
+  pub list-fits : (n start room : ℕ) → start ≤ room → (b : Bool) → b ≡ leb (endBytes (first n)) (room - start) → not b ≡ false → start + endBytes (first n) ≤ room
+  list-fits n start room g b h k = omega (arith, g, leb-true (endBytes (first n)) (room - start) (told-true h k))
+
+  module _ (start i at : ℕ) (e : at ≡ start + endBytes (first i)) where
+    pub list-at : (end : ℕ) → end ≡ at + ends i → end ≡ start + endBytes (first (i + 1))
+    list-at end f = rw (add-one i) (omega (arith, end-next store places i, e, f))
+
+    pub list-slots : (o slots slots′ : List ℕ) → slots ≡ written (listPlaces start (first i)) o
+        → slots′ ≡ over (4 * i) (fourOf at (keyAt store places false i) (keyAt store places true i)) slots → slots′ ≡ written (listPlaces start (first (i + 1))) o
+    list-slots o slots slots′ w f =
+        let m : 4 * i ≡ length (listPlaces start (first i)) = sym (places-length start (first i) ∙ ap (λ (k : ℕ). 4 * k) (pairsIn-length store places i)) in
+        f ∙ rw (w, e, m, slots-next start i) (over-written (listPlaces start (first i)) (fourOf (start + endBytes (first i)) (keyAt store places false i) (keyAt store places true i)) o)
+
+    module _ (n : ℕ) (l : i < n) where
+      pub list-room : (room k : ℕ) → start + endBytes (first n) ≤ room → k ≡ room → at + ends i ≤ k
+      list-room room k f z = omega (arith, f, z, e, end-next store places i, end-grows store places n (suc i) l)
+
+      pub list-text : (o out out′ : Text) → start + endBytes (first n) ≤ length o → out ≡ over start (listText (first i)) o
+          → out′ ≡ over at (keyAt store places false i ++ keyAt store places true i) out → out′ ≡ over start (listText (first (i + 1))) o
+      list-text o out out′ g w f =
+          let both : Text = keyAt store places false i ++ keyAt store places true i in
+          let k : length both ≡ ends i = length-append (keyAt store places false i) (keyAt store places true i) in
+          let z : at ≡ start + length (listText (first i)) = e ∙ ap (λ (m : ℕ). start + m) (sym (list-length (first i))) in
+          f ∙ rw (w, z, text-next i) (over-next start (listText (first i)) both o (omega (arith, z, k, list-room (length o) (length o) g refl)))
+
+  module _ (n start : ℕ) (o : Text) (p : List ℕ) where
     abbrev list : List Pair
-    list = pairsIn store places n
+    list = first n
 
-    Left : Fit → Text → List ℕ → Type 0
-    Left r out slots = (r ≡ listFit list o p) × ((out ≡ listBytes list o p) × (slots ≡ listSlots list o p))
+    abbrev Leaves : Fit → Text → List ℕ → Type 0
+    Leaves r out slots = (r ≡ appendFit start list o p) × ((out ≡ appendBytes start list o p) × (slots ≡ appendSlots start list o p))
 
-    short : listRoom list o p ≡ false → Left Over o p
-    unfolding Left listFit listBytes listSlots
+    short : appendRoom start list o p ≡ false → Leaves Over o p
+    unfolding appendFit appendBytes appendSlots
     short h = rw h (refl, (refl, refl))
 
-    pub list-few : length p / 4 < n → (Over ≡ listFit list o p) × ((o ≡ listBytes list o p) × (p ≡ listSlots list o p))
-    unfolding Left listRoom
-    list-few h = short (rw (pairsIn-length store places n, lt-leb n (length p / 4) h) (and-no (leb (endBytes list) (length o))))
+    pub list-few : length p / 4 < n → Leaves Over o p
+    unfolding appendRoom
+    list-few h = short (rw (pairsIn-length store places n, lt-leb n (length p / 4) h) (and-no (leb (start + endBytes list) (length o))))
 
-    pub list-full : (b : Bool) → b ≡ leb (endBytes list) (length o) → not b ≡ true → (Over ≡ listFit list o p) × ((o ≡ listBytes list o p) × (p ≡ listSlots list o p))
-    unfolding Left listRoom
-    list-full b h k = short (rw (told-false h k))
+    full : length o < start + endBytes list → Leaves Over o p
+    unfolding appendRoom
+    full h = short (rw (lt-leb (start + endBytes list) (length o) h))
 
-    module _ (few : n ≤ length p / 4) (b : Bool) (h : b ≡ leb (endBytes list) (length o)) (k : not b ≡ false) where
-      pub list-done : (i : ℕ) (out : Text) (slots : List ℕ) → n ≤ i → i ≤ n → out ≡ written (listText (pairsIn store places i)) o → slots ≡ written (listPlaces 0 (pairsIn store places i)) p
-          → (Written n ≡ listFit list o p) × ((out ≡ listBytes list o p) × (slots ≡ listSlots list o p))
-      unfolding listRoom listFit listBytes listSlots
-      list-done i out slots l m w v =
-          let z : i ≡ n = omega arith in
-          rw (pairsIn-length store places n, told-true h k, le-leb n (length p / 4) few) (refl, (w ∙ rw z refl, v ∙ rw z refl))
+    pub list-outside : length o < start → Leaves Over o p
+    list-outside h = full (omega (arith, h))
 
-      pub list-room : (i at : ℕ) (out : Text) → i < n → at ≡ endBytes (pairsIn store places i) → out ≡ written (listText (pairsIn store places i)) o
-          → at + (length (keyAt store places false i) + length (keyAt store places true i)) ≤ length out
-      list-room i at out l e w =
-          let r : endBytes list ≤ length o = leb-true (endBytes list) (length o) (told-true h k) in
-          rw w (simp (length-append, length-drop) (omega (arith, r, end-next store places i, end-grows store places n (suc i) (omega arith))))
+    pub list-full : start ≤ length o → (b : Bool) → b ≡ leb (endBytes list) (length o - start) → not b ≡ true → Leaves Over o p
+    list-full g b h k = full (omega (arith, g, leb-false (endBytes list) (length o - start) (told-false h k)))
 
-      pub list-slot : (i : ℕ) (slots : List ℕ) → i < n → slots ≡ written (listPlaces 0 (pairsIn store places i)) p → 4 * i + 4 ≤ length slots
-      list-slot i slots l w = rw w (simp (length-append, length-drop) (omega arith))
+    pub list-done : n ≤ length p / 4 → start + endBytes list ≤ length o → (i : ℕ) (out : Text) (slots : List ℕ) → n ≤ i → i ≤ n → out ≡ over start (listText (first i)) o
+        → slots ≡ written (listPlaces start (first i)) p → Leaves (Written n) out slots
+    unfolding appendRoom appendFit appendBytes appendSlots
+    list-done few fits i out slots l m w v =
+        let z : i ≡ n = omega arith in
+        rw (pairsIn-length store places n, le-leb (start + endBytes list) (length o) fits, le-leb n (length p / 4) few) (refl, (w ∙ rw z refl, v ∙ rw z refl))
+
+-- `write_list`: from the beginning on
+module _ (l : List Pair) (o : Text) (p : List ℕ) where
+  pub list-first : (r : Fit) (out : Text) (slots : List ℕ) → (r ≡ appendFit 0 l o p) × ((out ≡ appendBytes 0 l o p) × (slots ≡ appendSlots 0 l o p))
+      → (r ≡ listFit l o p) × ((out ≡ listBytes l o p) × (slots ≡ listSlots l o p))
+  unfolding appendRoom appendFit appendBytes appendSlots listRoom listFit listBytes listSlots
+  list-first r out slots h = rw (zero-add (endBytes l), zero-add (length (listText l))) at h

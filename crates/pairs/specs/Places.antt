@@ -3,12 +3,14 @@
 use mathlib.Core.Path.{_≡_}
 use mathlib.Core.Bool.{Bool, true, cond, _&&_, _||_}
 use mathlib.Core.List.{List, [], _∷_, _++_}
-use Prim.Native.Nat.{ℕ, zero, suc, _+_, _*_, _/_}
+use Prim.Native.Nat.{ℕ, zero, suc, _+_, _-_, _*_, _/_}
 use lib.Dec.{leb}
 use lib.ListN.{length, getD, take, drop}
-use Rattle.text.specs.Text.{Text, written, placed}
+use Rattle.text.specs.Text.{Text, written, over, placed}
 use Rattle.text.specs.declared.Fit.{Fit}
 use Rattle.text.specs.declared.Fit.the-variants.{Written, Over}
+use Rattle.pairs.specs.declared.Room.{Room}
+use Rattle.pairs.specs.declared.Room.the-variants.{Left, Over as OverRoom}
 use Rattle.pairs.specs.Pair.{Pair}
 
 -- the place j: a start and a length
@@ -86,6 +88,11 @@ unfoldable pub endBytes : List Pair → ℕ
 endBytes [] = 0
 endBytes (x ∷ xs) = length (x .source) + length (x .target) + endBytes xs
 
+-- what is left of a room for bytes behind a list
+unfoldable pub roomLeft : List Pair → ℕ → Room
+unfolding endBytes
+roomLeft l room = cond (leb (endBytes l) room) (Left (room - endBytes l)) OverRoom
+
 -- the lent memory is enough: the bytes, and four numbers for each pair
 unfoldable pub listRoom : List Pair → Text → List ℕ → Bool
 unfolding endBytes
@@ -103,6 +110,23 @@ listBytes l out slots = cond (listRoom l out slots) (written (listText l) out) o
 unfoldable pub listSlots : List Pair → Text → List ℕ → List ℕ
 unfolding listRoom listPlaces
 listSlots l out slots = cond (listRoom l out slots) (written (listPlaces 0 l) slots) slots
+
+-- the same of a list behind the first `at` bytes, whose places say so
+unfoldable pub appendRoom : ℕ → List Pair → Text → List ℕ → Bool
+unfolding endBytes
+appendRoom at l out slots = leb (at + endBytes l) (length out) && leb (length l) (length slots / 4)
+
+unfoldable pub appendFit : ℕ → List Pair → Text → List ℕ → Fit
+unfolding appendRoom
+appendFit at l out slots = cond (appendRoom at l out slots) (Written (length l)) Over
+
+unfoldable pub appendBytes : ℕ → List Pair → Text → List ℕ → Text
+unfolding appendRoom listText
+appendBytes at l out slots = cond (appendRoom at l out slots) (over at (listText l) out) out
+
+unfoldable pub appendSlots : ℕ → List Pair → Text → List ℕ → List ℕ
+unfolding appendRoom listPlaces
+appendSlots at l out slots = cond (appendRoom at l out slots) (written (listPlaces at l) slots) slots
 
 -- a list that was written is read back as it was (proved in proofs/ListLaws.antt)
 abbrev pub ReadBack : Type 0

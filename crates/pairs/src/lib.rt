@@ -8,7 +8,7 @@ ghost use Prim.Native.Nat.{_+_, _*_, _≤_};
 ghost use Rattle.text.specs.Text.{over, placed};
 ghost use Rattle.grammar.specs.Legal.{legal, isEnd};
 ghost use lib.Dec.{leb};
-ghost use Rattle.pairs.specs.Places.{cut, keysHeld, pairsIn, copied, endBytes, listFit, listBytes, listSlots, fourOf, fitsAt, textAt, keyAt, placesFit, placesAll};
+ghost use Rattle.pairs.specs.Places.{cut, keysHeld, pairsIn, copied, endBytes, roomLeft, appendFit, appendBytes, appendSlots, listFit, listBytes, listSlots, fourOf, fitsAt, textAt, keyAt, placesFit, placesAll};
 ghost use Rattle.pairs.specs.Best.{least, serves, best, chosenIn, considered, isAt, beats, rivals};
 
 // The text at the place j; empty where the place is not there or reaches outside the store.
@@ -309,26 +309,42 @@ pub fn is_best(
     true
 }
 
-// Is the lent memory enough for the first n pairs, one behind the other?
-pub fn has_room(store: &[u8], places: &[usize], n: usize, room: usize) -> bool
-    ensures { λ r. ⌜ r ≡ leb (endBytes (pairsIn (now (store .entry)) (now (places .entry)) n)) room ⌝ }
+// What is left of a room for bytes.
+pub enum Room {
+    Left(usize),
+    Over,
+}
+
+// What is left of the room behind the first n pairs, one behind the other.
+pub fn room_left(store: &[u8], places: &[usize], n: usize, room: usize) -> Room
+    ensures { λ r. ⌜ r ≡ roomLeft (pairsIn (now (store .entry)) (now (places .entry)) n) room ⌝ }
 {
     let mut left = room;
     let mut i = 0;
     while i < n {
         let s = key_at(store, places, i, false).len();
         if left < s {
-            return false;
+            return Room::Over;
         }
         left -= s;
         let t = key_at(store, places, i, true).len();
         if left < t {
-            return false;
+            return Room::Over;
         }
         left -= t;
         i += 1;
     }
-    true
+    Room::Left(left)
+}
+
+// Is the lent memory enough for the first n pairs, one behind the other?
+pub fn has_room(store: &[u8], places: &[usize], n: usize, room: usize) -> bool
+    ensures { λ r. ⌜ r ≡ leb (endBytes (pairsIn (now (store .entry)) (now (places .entry)) n)) room ⌝ }
+{
+    match room_left(store, places, n, room) {
+        Room::Left(_) => true,
+        Room::Over => false,
+    }
 }
 
 // Writes the four numbers of pair w, where the slice has room for them.
@@ -387,8 +403,39 @@ fn write_pair(
     m + t.len()
 }
 
-// Writes the first n pairs, one behind the other, and their places; nothing where the memory is too
-// short.
+// Writes the first n pairs behind the first `at` bytes, one behind the other, and their places; nothing
+// where the memory is too short.
+pub fn append_list(
+    store: &[u8],
+    places: &[usize],
+    n: usize,
+    at: usize,
+    out: &mut [u8],
+    slots: &mut [usize],
+) -> text::Fit
+    ensures { λ r. ⌜ r ≡ appendFit at (pairsIn (now (store .entry)) (now (places .entry)) n) (now (out .entry)) (now (slots .entry)) ⌝ }
+    ensures { λ r. ⌜ now (out .exit) ≡ appendBytes at (pairsIn (now (store .entry)) (now (places .entry)) n) (now (out .entry)) (now (slots .entry)) ⌝ }
+    ensures { λ r. ⌜ now (slots .exit) ≡ appendSlots at (pairsIn (now (store .entry)) (now (places .entry)) n) (now (out .entry)) (now (slots .entry)) ⌝ }
+{
+    if slots.len() / 4 < n {
+        return text::Fit::Over;
+    }
+    if out.len() < at {
+        return text::Fit::Over;
+    }
+    if !has_room(store, places, n, out.len() - at) {
+        return text::Fit::Over;
+    }
+    let mut end = at;
+    let mut i = 0;
+    while i < n {
+        end = write_pair(store, places, i, end, out, slots);
+        i += 1;
+    }
+    text::Fit::Written(n)
+}
+
+// The same from the beginning on.
 pub fn write_list(
     store: &[u8],
     places: &[usize],
@@ -400,17 +447,5 @@ pub fn write_list(
     ensures { λ r. ⌜ now (out .exit) ≡ listBytes (pairsIn (now (store .entry)) (now (places .entry)) n) (now (out .entry)) (now (slots .entry)) ⌝ }
     ensures { λ r. ⌜ now (slots .exit) ≡ listSlots (pairsIn (now (store .entry)) (now (places .entry)) n) (now (out .entry)) (now (slots .entry)) ⌝ }
 {
-    if slots.len() / 4 < n {
-        return text::Fit::Over;
-    }
-    if !has_room(store, places, n, out.len()) {
-        return text::Fit::Over;
-    }
-    let mut at = 0;
-    let mut i = 0;
-    while i < n {
-        at = write_pair(store, places, i, at, out, slots);
-        i += 1;
-    }
-    text::Fit::Written(n)
+    append_list(store, places, n, 0, out, slots)
 }

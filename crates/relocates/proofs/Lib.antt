@@ -1,5 +1,5 @@
 pub mod StatusWays
-mod MarkWays
+pub mod MarkWays
 mod SearchWays
 mod StepWays
 mod ChainWays

@@ -1,0 +1,4 @@
+pub mod LineWays
+pub mod ActWays
+pub mod TurnWays
+pub mod FrameWays

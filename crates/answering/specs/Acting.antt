@@ -1,0 +1,74 @@
+-- What the code knows of a frame on which it has acted.
+use mathlib.Core.Path.{_≡_}
+use Prim.Native.Nat.{ℕ, _+_}
+use mathlib.Core.Bool.{Bool, cond}
+use mathlib.Core.List.{List}
+use mathlib.Core.Option.{some}
+use lib.Dec.{leb}
+use lib.ListN.{length}
+use Rattle.text.specs.Text.{Text, written}
+use Rattle.path.specs.declared.Reply.{Reply}
+use Rattle.path.specs.declared.Reply.the-variants.{Written, Refused}
+use Rattle.path.specs.Outcome.{Outcome}
+use Rattle.protocol.specs.Frame.{Frame}
+use Rattle.protocol.specs.State.{Answer, given, refusal, answerOf, more, Turn}
+use Rattle.frame.specs.declared.Read.{Read}
+use Rattle.frame.specs.declared.Read.the-variants.{Pair, Statuses, CloseMap, CloseRelocates, Out, Home, Count, Bad}
+use Rattle.frame.specs.Read.{meant}
+use Rattle.memory.specs.declared.Kept.{Kept}
+use Rattle.memory.specs.Memory.{Memory, memory, closeIn, turnIn}
+
+-- an answer as a reply, and its payload at the beginning of memory
+abbrev pub replyOf : Answer → Reply
+replyOf (given q) = Written (length q)
+replyOf (refusal x) = Refused x
+
+abbrev pub payloadOf : Answer → Text → Text
+payloadOf (given q) out = written q out
+payloadOf (refusal x) out = out
+
+-- an answer was given, or a path that an outcome has
+unfoldable pub Gave : Answer → Reply → Text → Text → Type 0
+Gave a r before behind = (r ≡ replyOf a) × (behind ≡ payloadOf a before)
+
+abbrev pub Went : Outcome → Reply → Text → Text → Type 0
+Went o r before behind = Gave (answerOf o) r before behind
+
+-- a turn was taken: the memory afterwards, the reply and its payload are those of the turn
+pub record Took (t : Turn Memory) (m : Memory) (r : Reply) (before behind : Text) : Type 0 where
+  pub state : m ≡ t .state
+  pub reply : r ≡ replyOf (t .answer)
+  pub payload : behind ≡ payloadOf (t .answer) before
+
+-- .. that of the frame that was read, where one was
+unfoldable pub Acted : Text → Read → Memory → Memory → Reply → Text → Text → Type 0
+unfolding meant turnIn
+Acted b r m m′ reply before behind = (f : Frame) → meant b r ≡ some f → Took (turnIn m f) m′ reply before behind
+
+-- the kind of a frame that was read in so many bytes; none has 0
+abbrev pub kindIn : ℕ → Read → ℕ
+kindIn len (Pair n m) = cond (leb (5 + n + m) len) 1 0
+kindIn len Statuses = 2
+kindIn len CloseMap = 3
+kindIn len CloseRelocates = 4
+kindIn len Out = 5
+kindIn len Home = 6
+kindIn len Count = 7
+kindIn len Bad = 0
+
+-- the count of 05 frames answered 00, by the reply
+abbrev pub countsReply : Reply → ℕ → ℕ
+countsReply (Written n) k = more k
+countsReply (Refused x) k = k
+
+-- a frame that touches the open list alone: whatever the rest of the memory is
+unfoldable pub OpenActed : Text → Read → Kept → Text → List ℕ → Kept → Reply → Text → List ℕ → Type 0
+unfolding Acted
+OpenActed b r k bytes places k′ reply bytes′ places′ =
+    (store : Text) (slots table : List ℕ) (payload : Text)
+    → Acted b r (memory k bytes places store slots table) (memory k′ bytes′ places′ store slots table) reply payload payload
+
+-- the open list was closed
+unfoldable pub CloseActed : Bool → Memory → Memory → Reply → Type 0
+unfolding closeIn
+CloseActed relocates m m′ reply = (payload : Text) → Took (closeIn relocates m) m′ reply payload payload

@@ -1,0 +1,69 @@
+-- The answer to one line, written behind others into lent memory.
+use mathlib.Core.Path.{_≡_}
+use Prim.Native.Nat.{ℕ, _+_, _≤_}
+use mathlib.Core.Bool.{Bool, cond}
+use mathlib.Core.List.{[], _∷_, _++_}
+use mathlib.Core.Option.{Option}
+use lib.Dec.{leb}
+use lib.ListN.{length, take}
+use Rattle.text.specs.Text.{Text, over}
+use Rattle.path.specs.declared.Reply.{Reply}
+use Rattle.path.specs.declared.Reply.the-variants.{Written, Refused}
+use Rattle.path.specs.Refusal.{number}
+use Rattle.lines.specs.Lines.{Line}
+use Rattle.digits.specs.Digits.{encoded}
+use Rattle.protocol.specs.Frame.{Frame, frameOf}
+use Rattle.protocol.specs.Run.{next, answer}
+use Rattle.protocol.specs.Input.{heard, nextLine, answerLine}
+use Rattle.memory.specs.Memory.{Memory, turnIn}
+
+-- the longest answer line: two bytes and a path of 255, two digits each, and the newline
+abbrev pub longest : ℕ
+longest = 515
+
+-- is there room for any answer behind `at` bytes?
+abbrev pub roomAt : ℕ → Text → Bool
+roomAt at out = leb (at + longest) (length out)
+
+-- the line of bytes, in capitals and with its newline
+unfoldable pub lineText : Text → Text
+unfolding encoded
+lineText b = encoded b ++ 10 ∷ []
+
+-- the line of a reply, whose payload stands at the beginning of memory
+unfoldable pub replyLine : ℕ → Reply → Text → Text
+unfolding lineText
+replyLine head (Written n) payload = lineText (head ∷ 0 ∷ take n payload)
+replyLine head (Refused x) payload = lineText (head ∷ number x ∷ [])
+
+-- .. which has that many bytes
+unfoldable pub Fitting : Reply → ℕ → Type 0
+Fitting (Written n) room = n ≤ room
+Fitting (Refused x) room = 0 ≤ room
+
+-- bytes from `at` on are a text, and it ends at `end`
+unfoldable pub Wrote : Text → ℕ → ℕ → Text → Text → Type 0
+Wrote t at end before behind = (end ≡ at + length t) × (behind ≡ over at t before)
+
+-- the digits of a line stand for r bytes, from which the frame is read
+unfoldable pub Heard : Line → ℕ → Text → Type 0
+unfolding heard frameOf
+Heard l r bytes = (r ≤ length bytes) × (frameOf (take r bytes) ≡ heard l)
+
+-- what a frame, or none, makes of the memory, and its answer
+unfoldable pub AnswersFrame : Option Frame → Memory → Memory → ℕ → ℕ → Text → Text → Type 0
+unfolding turnIn Wrote lineText
+AnswersFrame o m m′ at end before behind = (m′ ≡ next turnIn m o) × Wrote (lineText (answer turnIn m o)) at end before behind
+
+-- a line's answer behind `at` bytes; where there is no room for the longest one, nothing is taken, changed or written
+unfoldable pub memoryAfter : ℕ → Text → Memory → Line → Memory
+unfolding heard turnIn
+memoryAfter at out m l = cond (roomAt at out) (nextLine turnIn m l) m
+
+unfoldable pub outAfter : ℕ → Text → Memory → Line → Text
+unfolding answerLine
+outAfter at out m l = cond (roomAt at out) (over at (answerLine turnIn m l) out) out
+
+unfoldable pub endAfter : ℕ → Text → Memory → Line → ℕ
+unfolding answerLine
+endAfter at out m l = cond (roomAt at out) (at + length (answerLine turnIn m l)) at

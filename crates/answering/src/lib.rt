@@ -1,0 +1,411 @@
+// The answer to one line of the program `frames`. Nothing is assumed of the memory that is lent: specs/
+// of crate memory says what each frame makes of it, whatever it holds.
+ghost use mathlib.Core.Path.{_≡_};
+ghost use mathlib.Core.List.{[], _∷_};
+ghost use Prim.Native.Nat.{_+_, _*_, _≤_};
+ghost use lib.Dec.{leb};
+ghost use lib.ListN.{length, drop};
+ghost use Rattle.text.specs.Text.{written};
+ghost use Rattle.frame.specs.declared.Read.the-variants.{Pair};
+ghost use Rattle.path.specs.Refusal.{number};
+ghost use Rattle.protocol.specs.State.{answerOf, fourBytes, counts};
+ghost use Rattle.lines.specs.Taking.{lineAt};
+ghost use Rattle.protocol.specs.Frame.{frameOf};
+ghost use Rattle.memory.specs.Memory.{memory, statusesIn, goesIn};
+ghost use Rattle.answering.specs.declared.Effect.{Effect};
+ghost use Rattle.answering.specs.Acting.{countsReply, kindIn, Gave, Went, Acted, OpenActed, CloseActed};
+ghost use Rattle.answering.specs.Answer.{lineText, replyLine, Fitting, Wrote, Heard, AnswersFrame, memoryAfter, outAfter, endAfter};
+
+// What a frame came to: the numbers that are kept, and the reply; its bytes, where there are any, stand at
+// the beginning of the payload.
+struct Effect {
+    kept: memory::Kept,
+    reply: path::Reply,
+}
+
+// What a line came to: the numbers that are kept, and where its answer ends.
+pub struct Answered {
+    pub kept: memory::Kept,
+    pub end: usize,
+}
+
+// Document 01's number of a refusal.
+fn number_byte(x: path::Refusal) -> u8
+    ensures { λ r. ⌜ r ≡ number x ⌝ }
+{
+    codes::number_of(x) as u8
+}
+
+// Writes a line of two bytes and a payload, in capitals, and returns the place behind it.
+fn write_line(head: u8, answer: u8, payload: &[u8], at: usize, out: &mut [u8]) -> usize
+    requires { ⌜ at + 5 + 2 * length (now payload) ≤ length (now out) ⌝ }
+    ensures { λ r. ⌜ Wrote (lineText (head ∷ answer ∷ now (payload .entry))) at r (now (out .entry)) (now (out .exit)) ⌝ }
+{
+    let mut first = [0u8; 2];
+    first[0] = head;
+    first[1] = answer;
+    digits::encode(&first, at, out);
+    let behind = at + 4;
+    digits::encode(payload, behind, out);
+    let end = behind + 2 * payload.len();
+    text::write_at(b"\n", end, out);
+    end + 1
+}
+
+// What stands behind the kind of a frame.
+fn behind_kind<'a>(frame: &'a [u8]) -> &'a [u8]
+    ensures { λ r. ⌜ now r ≡ drop 1 (now (frame .entry)) ⌝ }
+{
+    if frame.len() == 0 {
+        return &frame[..0];
+    }
+    &frame[1..]
+}
+
+// Do a pair's frame and its two lengths lie within so many bytes?
+fn spans(len: usize, n: usize, m: usize) -> bool
+    ensures { λ r. ⌜ r ≡ leb (5 + n + m) len ⌝ }
+{
+    if len < 5 {
+        return false;
+    }
+    let left = len - 5;
+    if left < n {
+        return false;
+    }
+    m <= left - n
+}
+
+// The kind of a frame that was read in so many bytes, 0 where it is none.
+fn kind_of(r: frame::Read, len: usize) -> u8
+    ensures { λ k. ⌜ k ≡ kindIn len r ⌝ }
+{
+    match r {
+        frame::Read::Pair(n, m) => {
+            if !spans(len, n, m) {
+                return 0;
+            }
+            1
+        }
+        frame::Read::Statuses => 2,
+        frame::Read::CloseMap => 3,
+        frame::Read::CloseRelocates => 4,
+        frame::Read::Out => 5,
+        frame::Read::Home => 6,
+        frame::Read::Count => 7,
+        frame::Read::Bad => 0,
+    }
+}
+
+// 01: adds a pair, whose source has n bytes and whose target m, to the open list.
+fn act_pair(
+    frame: &[u8],
+    n: usize,
+    m: usize,
+    k: memory::Kept,
+    bytes: &mut [u8],
+    places: &mut [usize],
+) -> Effect
+    ensures { λ r. ⌜ OpenActed (now (frame .entry)) (Pair n m) k (now (bytes .entry)) (now (places .entry)) (r .kept) (r .reply) (now (bytes .exit)) (now (places .exit)) ⌝ }
+{
+    if !spans(frame.len(), n, m) {
+        return Effect {
+            kept: k,
+            reply: path::Reply::Refused(path::Refusal::NoRoom),
+        };
+    }
+    let end = 3 + n;
+    let start = 5 + n;
+    let last = start + m;
+    let opened = k.opened;
+    let legs = k.legs;
+    let a = holding::add_pair(opened, &frame[3..end], &frame[start..last], bytes, places);
+    match a {
+        holding::Added::Done(o) => Effect {
+            kept: memory::Kept {
+                opened: o,
+                legs,
+                answered: k.answered,
+            },
+            reply: path::Reply::Written(0),
+        },
+        holding::Added::Refused(x) => Effect {
+            kept: k,
+            reply: path::Reply::Refused(x),
+        },
+    }
+}
+
+// 05: counts the frame where it was answered 00.
+fn count_out(k: memory::Kept, r: path::Reply) -> Effect
+    ensures { λ a. ⌜ a ≡ record { kept = record { opened = k .opened; legs = k .legs; answered = countsReply r (k .answered) }; reply = r } ⌝ }
+{
+    if let path::Reply::Refused(x) = r {
+        return Effect { kept: k, reply: r };
+    }
+    if 4294967295 <= k.answered {
+        return Effect { kept: k, reply: r };
+    }
+    let opened = k.opened;
+    let legs = k.legs;
+    Effect {
+        kept: memory::Kept {
+            opened,
+            legs,
+            answered: k.answered + 1,
+        },
+        reply: r,
+    }
+}
+
+// Writes a number over the first four bytes, the high one first.
+fn write_count(n: usize, payload: &mut [u8])
+    requires { ⌜ 4 ≤ length (now payload) ⌝ }
+    ensures { λ _. ⌜ now (payload .exit) ≡ written (fourBytes n) (now (payload .entry)) ⌝ }
+{
+    let mut four = [0u8; 4];
+    four[0] = (n / 16777216 % 256) as u8;
+    four[1] = (n / 65536 % 256) as u8;
+    four[2] = (n / 256 % 256) as u8;
+    four[3] = (n % 256) as u8;
+    text::write_at(&four, 0, payload);
+}
+
+// 03 and 04: closes the open list as a leg.
+fn act_close(
+    relocates: bool,
+    k: memory::Kept,
+    bytes: &[u8],
+    places: &[usize],
+    store: &mut [u8],
+    slots: &mut [usize],
+    table: &mut [usize],
+) -> Effect
+    ensures { λ r. ⌜ CloseActed relocates (memory k (now (bytes .entry)) (now (places .entry)) (now (store .entry)) (now (slots .entry)) (now (table .entry))) (memory (r .kept) (now (bytes .entry)) (now (places .entry)) (now (store .exit)) (now (slots .exit)) (now (table .exit))) (r .reply) ⌝ }
+{
+    let opened = k.opened;
+    let legs = k.legs;
+    let c = closing::close(
+        relocates,
+        bytes,
+        places,
+        opened.pairs,
+        legs,
+        store,
+        slots,
+        table,
+    );
+    match c {
+        closing::Closed::Done(g) => Effect {
+            kept: memory::Kept {
+                opened: holding::Opened { pairs: 0, bytes: 0 },
+                legs: g,
+                answered: k.answered,
+            },
+            reply: path::Reply::Written(0),
+        },
+        closing::Closed::Refused(x) => Effect {
+            kept: k,
+            reply: path::Reply::Refused(x),
+        },
+    }
+}
+
+// 02: the statuses of the open list.
+fn act_statuses(k: memory::Kept, bytes: &[u8], places: &[usize], payload: &mut [u8]) -> path::Reply
+    requires { ⌜ length (now payload) ≡ 255 ⌝ }
+    ensures { λ r. ⌜ Gave (statusesIn (memory k (now (bytes .entry)) (now (places .entry)) [] [] [])) r (now (payload .entry)) (now (payload .exit)) ⌝ }
+{
+    let opened = k.opened;
+    relocates::analyze_relocate_occurrences(bytes, places, opened.pairs, payload)
+}
+
+// 05 and 06: the path of the frame over the legs, out or home.
+fn act_way(
+    back: bool,
+    frame: &[u8],
+    k: memory::Kept,
+    store: &[u8],
+    slots: &[usize],
+    table: &[usize],
+    payload: &mut [u8],
+) -> path::Reply
+    requires { ⌜ length (now payload) ≡ 255 ⌝ }
+    ensures { λ r. ⌜ Went (goesIn back (memory k [] [] (now (store .entry)) (now (slots .entry)) (now (table .entry))) (drop 1 (now (frame .entry)))) r (now (payload .entry)) (now (payload .exit)) ⌝ }
+{
+    let legs = k.legs;
+    let path = behind_kind(frame);
+    routing::route_after(
+        path::Asked::Passed,
+        store,
+        slots,
+        table,
+        legs.count,
+        back,
+        path,
+        payload,
+    )
+}
+
+// Does what the frame says. One that is not well formed does nothing.
+fn act(
+    r: frame::Read,
+    frame: &[u8],
+    k: memory::Kept,
+    bytes: &mut [u8],
+    places: &mut [usize],
+    store: &mut [u8],
+    slots: &mut [usize],
+    table: &mut [usize],
+    payload: &mut [u8],
+) -> Effect
+    requires { ⌜ length (now payload) ≡ 255 ⌝ }
+    ensures { λ a. ⌜ Acted (now (frame .entry)) r (memory k (now (bytes .entry)) (now (places .entry)) (now (store .entry)) (now (slots .entry)) (now (table .entry))) (memory (a .kept) (now (bytes .exit)) (now (places .exit)) (now (store .exit)) (now (slots .exit)) (now (table .exit))) (a .reply) (now (payload .entry)) (now (payload .exit)) ⌝ }
+{
+    match r {
+        frame::Read::Pair(n, m) => act_pair(frame, n, m, k, bytes, places),
+        frame::Read::Statuses => Effect {
+            kept: k,
+            reply: act_statuses(k, bytes, places, payload),
+        },
+        frame::Read::CloseMap => act_close(false, k, bytes, places, store, slots, table),
+        frame::Read::CloseRelocates => act_close(true, k, bytes, places, store, slots, table),
+        frame::Read::Out => {
+            let w = act_way(false, frame, k, store, slots, table, payload);
+            count_out(k, w)
+        }
+        frame::Read::Home => Effect {
+            kept: k,
+            reply: act_way(true, frame, k, store, slots, table, payload),
+        },
+        frame::Read::Count => {
+            write_count(k.answered, payload);
+            Effect {
+                kept: k,
+                reply: path::Reply::Written(4),
+            }
+        }
+        frame::Read::Bad => Effect {
+            kept: k,
+            reply: path::Reply::Refused(path::Refusal::NoPath),
+        },
+    }
+}
+
+// Writes the answer line of a reply, whose payload stands at the beginning of memory.
+fn write_reply(head: u8, reply: path::Reply, payload: &[u8], at: usize, out: &mut [u8]) -> usize
+    requires { ⌜ Fitting reply (length (now payload)) ⌝ }
+    requires { ⌜ (length (now payload) ≡ 255) × (at + 515 ≤ length (now out)) ⌝ }
+    ensures { λ r. ⌜ Wrote (replyLine head reply (now (payload .entry))) at r (now (out .entry)) (now (out .exit)) ⌝ }
+{
+    match reply {
+        path::Reply::Written(n) => write_line(head, 0, &payload[..n], at, out),
+        path::Reply::Refused(x) => write_line(head, number_byte(x), &payload[..0], at, out),
+    }
+}
+
+// Does what the bytes of a frame say, and writes the answer line.
+fn answer_frame(
+    frame: &[u8],
+    k: memory::Kept,
+    bytes: &mut [u8],
+    places: &mut [usize],
+    store: &mut [u8],
+    slots: &mut [usize],
+    table: &mut [usize],
+    at: usize,
+    out: &mut [u8],
+) -> Answered
+    requires { ⌜ at + 515 ≤ length (now out) ⌝ }
+    ensures { λ r. ⌜ AnswersFrame (frameOf (now (frame .entry))) (memory k (now (bytes .entry)) (now (places .entry)) (now (store .entry)) (now (slots .entry)) (now (table .entry))) (memory (r .kept) (now (bytes .exit)) (now (places .exit)) (now (store .exit)) (now (slots .exit)) (now (table .exit))) at (r .end) (now (out .entry)) (now (out .exit)) ⌝ }
+{
+    let r = frame::read_frame(frame);
+    let kind = kind_of(r, frame.len());
+    if kind == 0 {
+        let end = write_line(255, 9, &frame[..0], at, out);
+        return Answered { kept: k, end };
+    }
+    let mut payload = [0u8; 255];
+    let a = act(
+        r,
+        frame,
+        k,
+        bytes,
+        places,
+        store,
+        slots,
+        table,
+        &mut payload,
+    );
+    let kept = a.kept;
+    let reply = a.reply;
+    let end = write_reply(kind + 128, reply, &payload, at, out);
+    Answered { kept, end }
+}
+
+// The bytes that the digits of a line stand for, at the beginning of memory; none where it is overlong or
+// no line of digits.
+fn hear(line: &[u8], len: usize, frame: &mut [u8]) -> usize
+    requires { ⌜ length (now frame) ≡ 2048 ⌝ }
+    ensures { λ r. ⌜ Heard (lineAt len (now (line .entry))) r (now (frame .exit)) ⌝ }
+{
+    if 4096 < len {
+        return 0;
+    }
+    if line.len() < len {
+        return 0;
+    }
+    let d = digits::decode(&line[..len], frame);
+    match d {
+        digits::Decoded::Bytes(n) => n,
+        digits::Decoded::Bad => 0,
+        digits::Decoded::Over => 0,
+    }
+}
+
+// Is there room for the longest answer behind `at` bytes?
+fn has_room(at: usize, len: usize) -> bool
+    ensures { λ r. ⌜ r ≡ leb (at + 515) len ⌝ }
+{
+    if len < 515 {
+        return false;
+    }
+    at <= len - 515
+}
+
+// Answers the line of `len` bytes behind `at` bytes of out, and does what it says. A line with more bytes
+// than its memory, or than a line has, is overlong. Where there is no room for the longest answer, nothing
+// is taken, changed or written.
+pub fn answer_line(
+    line: &[u8],
+    len: usize,
+    k: memory::Kept,
+    bytes: &mut [u8],
+    places: &mut [usize],
+    store: &mut [u8],
+    slots: &mut [usize],
+    table: &mut [usize],
+    at: usize,
+    out: &mut [u8],
+) -> Answered
+    ensures { λ r. ⌜ memory (r .kept) (now (bytes .exit)) (now (places .exit)) (now (store .exit)) (now (slots .exit)) (now (table .exit)) ≡ memoryAfter at (now (out .entry)) (memory k (now (bytes .entry)) (now (places .entry)) (now (store .entry)) (now (slots .entry)) (now (table .entry))) (lineAt len (now (line .entry))) ⌝ }
+    ensures { λ r. ⌜ r .end ≡ endAfter at (now (out .entry)) (memory k (now (bytes .entry)) (now (places .entry)) (now (store .entry)) (now (slots .entry)) (now (table .entry))) (lineAt len (now (line .entry))) ⌝ }
+    ensures { λ r. ⌜ now (out .exit) ≡ outAfter at (now (out .entry)) (memory k (now (bytes .entry)) (now (places .entry)) (now (store .entry)) (now (slots .entry)) (now (table .entry))) (lineAt len (now (line .entry))) ⌝ }
+{
+    if !has_room(at, out.len()) {
+        return Answered { kept: k, end: at };
+    }
+    let mut frame = [0u8; 2048];
+    let n = hear(line, len, &mut frame);
+    answer_frame(
+        &frame[..n],
+        k,
+        bytes,
+        places,
+        store,
+        slots,
+        table,
+        at,
+        out,
+    )
+}

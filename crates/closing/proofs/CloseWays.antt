@@ -1,0 +1,281 @@
+-- What each way through the functions that close a list gives. Assumes nothing.
+use mathlib.Core.Path.{_≡_, refl, sym, ap, _∙_}
+use mathlib.Core.Bool.{Bool, true, false, not, cond, _&&_, _||_}
+use mathlib.Core.List.{List, [], _∷_, _++_, append-assoc}
+use Prim.Native.Nat.{ℕ, suc, _+_, _*_, _-_, _/_, _≤_, _<_}
+use native.Mathlib.Omega.{arith}
+use lib.Dec.{leb}
+use lib.ListN.{length, set, take, drop, length-drop, take-append-drop}
+use lib.Seq.{sets-eq, drop-append-le, drop-drop, length-take-le}
+use borrow.Author.Tests.{le-leb, lt-leb, leb-true}
+use Rattle.text.specs.Text.{Text, written, over}
+use Rattle.text.proofs.BoolLaws.{and-l, and-r, and-yes, told-false, told-true}
+use Rattle.pairs.specs.Pair.{Pair}
+use Rattle.pairs.specs.Places.{pairsIn, listPlaces, endBytes, roomLeft, appendRoom, appendBytes, appendSlots}
+use Rattle.pairs.specs.declared.Room.{Room}
+use Rattle.pairs.specs.declared.Room.the-variants.{Left, Over}
+use Rattle.pairs.proofs.PlaceLaws.{pairsIn-length}
+use Rattle.pairs.proofs.ListLaws.{places-length}
+use Rattle.pairs.proofs.RoomWays.{left-fits, over-full}
+use Rattle.path.specs.declared.Refusal.{Refusal}
+use Rattle.path.specs.declared.Refusal.the-variants.{TooMany, NoRoom}
+use Rattle.path.specs.declared.Asked.{Asked}
+use Rattle.path.specs.declared.Asked.the-variants.{Passed, Refused as RefusedAsked}
+use Rattle.asking.specs.Asking.{Lent, lentList, pairsOf, listCounts}
+use Rattle.asking.specs.Made.{canMake, madeOf}
+use Rattle.asking.proofs.EarlierLaws.{never}
+use Rattle.asking.proofs.MadeLaws.{made-all, made-few}
+use Rattle.maps.specs.Map.{Map}
+use Rattle.maps.specs.New.{anyRoots, noRoots, canonical, fromParts}
+use Rattle.maps.proofs.EndLaws.{fromParts-length}
+use Rattle.map_function.proofs.NewWays.{fromParts-bytes}
+use Rattle.relocates.specs.Status.{active}
+use Rattle.route.proofs.RelocateLaws.{active-few}
+use Rattle.closing.specs.declared.Legs.{Legs}
+use Rattle.closing.specs.declared.Closed.{Closed}
+use Rattle.closing.specs.declared.Closed.the-variants.{Done, Refused}
+use Rattle.closing.specs.Close.{counted, Vault, vault, takesLeg, takesBytes, closeAsked, withLeg, closedVault, closedReply, listReply, listVault, askedOf, closeReply, closeVault}
+
+-- `takes_leg`
+module _ (g : Legs) (slots table : List ℕ) where
+  abbrev takes : Bool
+  takes = takesLeg (vault g [] slots table)
+
+  pub leg-many : 16 ≤ g .count → false ≡ takes
+  leg-many h = rw (lt-leb (suc (g .count)) 16 (omega (arith, h))) refl
+
+  module _ (h : g .count < 16) where
+    pub leg-beyond : length slots / 256 ≤ g .count → false ≡ takes
+    leg-beyond m = rw (le-leb (suc (g .count)) 16 (omega (arith, h)), lt-leb (256 * suc (g .count)) (length slots) (omega (arith, m))) refl
+
+    module _ (m : g .count < length slots / 256) where
+      pub leg-short : length table / 3 ≤ g .count → false ≡ takes
+      leg-short o =
+          rw (le-leb (suc (g .count)) 16 (omega (arith, h)), le-leb (256 * suc (g .count)) (length slots) (omega (arith, m)), lt-leb (3 * suc (g .count)) (length table) (omega (arith, o))) refl
+
+      pub leg-more : g .count < length table / 3 → true ≡ takes
+      leg-more o =
+          rw (le-leb (suc (g .count)) 16 (omega (arith, h)), le-leb (256 * suc (g .count)) (length slots) (omega (arith, m)), le-leb (3 * suc (g .count)) (length table) (omega (arith, o))) refl
+
+  -- what it says where it passes
+  pub leg-fits : takes ≡ true → (g .count < 16) × (256 * g .count + 256 ≤ length slots) × (3 * g .count + 3 ≤ length table)
+  leg-fits e =
+      let a : Bool = leb (suc (g .count)) 16 in
+      let b : Bool = leb (256 * suc (g .count)) (length slots) in
+      let c : Bool = leb (3 * suc (g .count)) (length table) in (
+        leb-true (suc (g .count)) 16 (and-l a b (and-l (a && b) c e)),
+        omega (arith, leb-true (256 * suc (g .count)) (length slots) (and-r a b (and-l (a && b) c e))),
+        omega (arith, leb-true (3 * suc (g .count)) (length table) (and-r (a && b) c e)),
+      )
+
+  pub leg-few : (b : Bool) → b ≡ takes → not b ≡ false → g .count < 16
+  leg-few b e h = (leg-fits (told-true e h)) .0
+
+-- `ask_close`
+module _ (l : List Pair) (g : Legs) (store : Text) (slots table : List ℕ) (b : Bool) (e : b ≡ takesLeg (vault g [] slots table)) where
+  abbrev v : Vault
+  v = vault g store slots table
+
+  pub ask-many : not b ≡ true → Refused TooMany ≡ listReply l v
+  unfolding listReply closeAsked closedReply
+  ask-many h = rw (told-false e h) refl
+
+  module _ (h : not b ≡ false) where
+    full : takesBytes v (endBytes l) ≡ false → Refused NoRoom ≡ listReply l v
+    unfolding listReply closeAsked closedReply
+    full k = rw (told-true e h, k) refl
+
+    over-limit : 32768 < g .bytes + endBytes l → Refused NoRoom ≡ listReply l v
+    over-limit k = full (rw (lt-leb (g .bytes + endBytes l) 32768 k) refl)
+
+    pub ask-start : 32768 < g .bytes → Refused NoRoom ≡ listReply l v
+    ask-start k = over-limit (omega (arith, k))
+
+    module _ (m : g .bytes ≤ 32768) (room : Room) (f : room ≡ roomLeft l (32768 - g .bytes)) where
+      pub ask-over : room ≡ Over → Refused NoRoom ≡ listReply l v
+      ask-over k = over-limit (omega (arith, m, over-full l (32768 - g .bytes) room f k))
+
+      module _ (left : ℕ) (k : room ≡ Left left) where
+        total : endBytes l + left ≡ 32768 - g .bytes
+        total = left-fits l (32768 - g .bytes) room f left k
+
+        pub ask-short : length store < 32768 - left → Refused NoRoom ≡ listReply l v
+        ask-short o =
+            full (rw (le-leb (g .bytes + endBytes l) 32768 (omega (arith, m, total)), lt-leb (g .bytes + endBytes l) (length store) (omega (arith, m, total, o))) refl)
+
+        pub ask-done : 32768 - left ≤ length store → Done (record { count = g .count + 1; bytes = 32768 - left }) ≡ listReply l v
+        unfolding listReply closeAsked closedReply
+        ask-done o =
+            let z : 32768 - left ≡ g .bytes + endBytes l = omega (arith, m, total) in
+            rw (told-true e h, z, le-leb (g .bytes + endBytes l) 32768 (omega (arith, m, total)), le-leb (g .bytes + endBytes l) (length store) (omega (arith, m, total, o))) refl
+
+-- `is_marked`
+pub marked-so : (mark any r : Bool) → mark ≡ false → r ≡ any → r ≡ (mark || any)
+marked-so mark any r h e = rw h e
+
+-- `write_three`
+pub three-stored : (l : List ℕ) (j m a b : ℕ) (mark : Bool) → m ≡ cond mark 1 0 → j + 3 ≤ length l → set (set (set l j m) (j + 1) a) (j + 2) b ≡ over j (cond mark 1 0 ∷ a ∷ b ∷ []) l
+three-stored l j m a b mark e h =
+    let w : List ℕ = m ∷ a ∷ b ∷ [] in
+    let f : j + 1 ≡ suc j = omega arith in
+    let g : j + 2 ≡ suc (suc j) = omega arith in
+    rw (f, g, ← e) (sets-eq w l j h ∙ append-assoc (take j l) w (drop (j + 3) l))
+
+-- `close_list`
+reply-passed : (a : Asked) (g h : Legs) (n : ℕ) → closedReply a g n ≡ Done h → a ≡ Passed
+unfolding closedReply
+reply-passed Passed g h n e = refl
+reply-passed (RefusedAsked x) g h n e = absurd (let z : _≡_ {A = ℕ} 0 1 = cc in omega arith)
+
+-- a refusal changes nothing
+reply-refused : (a : Asked) (g : Legs) (n : ℕ) (x : Refusal) (v : Vault) (m : Map) → closedReply a g n ≡ Refused x → closedVault a v m n ≡ v
+unfolding closedReply closedVault
+reply-refused Passed g n x v m e = absurd (let z : _≡_ {A = ℕ} 0 1 = cc in omega arith)
+reply-refused (RefusedAsked y) g n x v m e = refl
+
+asked-fits : (v : Vault) (l : List Pair) → closeAsked v l ≡ Passed
+    → (v .legs .count < 16) × (256 * v .legs .count + 256 ≤ length (v .slots)) × (3 * v .legs .count + 3 ≤ length (v .table)) × (v .legs .bytes + endBytes l ≤ length (v .store))
+unfolding closeAsked
+asked-fits v l e = go (takesLeg v) refl (takesBytes v (endBytes l)) refl e
+  where
+    go : (a : Bool) → takesLeg v ≡ a → (b : Bool) → takesBytes v (endBytes l) ≡ b → cond a (cond b Passed (RefusedAsked NoRoom)) (RefusedAsked TooMany) ≡ Passed
+        → (v .legs .count < 16) × (256 * v .legs .count + 256 ≤ length (v .slots)) × (3 * v .legs .count + 3 ≤ length (v .table)) × (v .legs .bytes + endBytes l ≤ length (v .store))
+    go true h true k e =
+        let f = leg-fits (v .legs) (v .slots) (v .table) h in
+        let n : ℕ = v .legs .bytes + endBytes l in
+        (f .0, f .1, f .2, leb-true n (length (v .store)) (and-r (leb n 32768) (leb n (length (v .store))) k))
+    go true h false k e = absurd (never NoRoom e)
+    go false h b k e = absurd (never TooMany e)
+
+-- a part of the memory with a text over its beginning, put back
+module _ (at k : ℕ) (t s : List ℕ) (h : length t ≤ k) (f : at + k ≤ length s) where
+  pub part-over : take at s ++ (written t (take (at + k - at) (drop at s)) ++ drop (at + k - at) (drop at s)) ≡ over at t s
+  part-over =
+      let z : at + k - at ≡ k = omega arith in
+      let d : List ℕ = drop at s in
+      let n : length (take k d) ≡ k = length-take-le k d (rw (length-drop at s) (omega (arith, f))) in
+      let e : drop (length t) (take k d) ++ drop k d ≡ drop (at + length t) s
+      = sym (drop-append-le (length t) (take k d) (drop k d) (omega (arith, h, n))) ∙ ap (drop (length t)) (take-append-drop k d) ∙ drop-drop (length t) at s in
+      rw (z, append-assoc t (drop (length t) (take k d)) (drop k d), e) refl
+
+module _ (mark : Bool) (l : List Pair) (g : Legs) (store : Text) (slots table : List ℕ) (r : Closed) (e : r ≡ listReply l (vault g store slots table)) where
+  abbrev before : Vault
+  before = vault g store slots table
+
+  -- what the call gives
+  abbrev Closes : Closed → Text → List ℕ → List ℕ → Type 0
+  Closes r′ store′ slots′ table′ = (r′ ≡ listReply l before)
+      × ((store′ ≡ (listVault mark l before) .store) × ((slots′ ≡ (listVault mark l before) .slots) × (table′ ≡ (listVault mark l before) .table)))
+
+  pub list-refused : (x : Refusal) → r ≡ Refused x → Closes (Refused x) store slots table
+  unfolding listReply listVault
+  list-refused x h =
+      let z : listVault mark l before ≡ before = reply-refused (closeAsked before l) g (endBytes l) x before (fromParts l mark) (sym e ∙ h) in
+      (sym h ∙ e, (ap (λ (v : Vault). v .store) (sym z), (ap (λ (v : Vault). v .slots) (sym z), ap (λ (v : Vault). v .table) (sym z))))
+
+  module _ (legs : Legs) (h : r ≡ Done legs) where
+    passed : closeAsked before l ≡ Passed
+    unfolding listReply
+    passed = reply-passed (closeAsked before l) g legs (endBytes l) (sym e ∙ h)
+
+    pub list-fits : (g .count < 16) × (256 * g .count + 256 ≤ length slots) × (3 * g .count + 3 ≤ length table) × (g .bytes + endBytes l ≤ length store)
+    list-fits = asked-fits before l passed
+
+    module _ (bytes : Text) (places : List ℕ) (n : ℕ) (s : l ≡ pairsIn bytes places n) (few : n ≤ 64) (held : 4 * n ≤ length places)
+        (marked : Bool) (f : marked ≡ (mark || anyRoots l)) (room : ℕ) (enough : room ≡ 256) (kept : List ℕ) (w : ℕ)
+        (c : pairsIn bytes kept w ≡ madeOf (lentList bytes places n) room (canonical marked (noRoots l))) where
+      abbrev m : Map
+      m = fromParts l mark
+
+      pairs-are : pairsIn bytes kept w ≡ m .pairs
+      unfolding madeOf canMake listCounts fromParts
+      pairs-are =
+          c ∙ rw (le-leb n 64 few, le-leb n (length places / 4) (omega (arith, held)), le-leb 256 room (omega (arith, enough))) (ap (λ (b : Bool). canonical b (noRoots l)) f)
+
+      count-is : w ≡ length (m .pairs)
+      count-is = sym (pairsIn-length bytes kept w) ∙ ap length pairs-are
+
+      pairs-few : length (m .pairs) ≤ 64
+      pairs-few = omega (arith, fromParts-length l mark, ap length s, pairsIn-length bytes places n, few)
+
+      room-still : (block : List ℕ) → length block ≡ 256 → appendRoom (g .bytes) (m .pairs) store block ≡ true
+      unfolding appendRoom
+      room-still block z =
+          rw (
+            le-leb (g .bytes + endBytes (m .pairs)) (length store) (omega (arith, list-fits .3, fromParts-bytes l mark)),
+            le-leb (length (m .pairs)) (length block / 4) (omega (arith, pairs-few, z)),
+          ) refl
+
+      after : listVault mark l before ≡ withLeg before m (endBytes l)
+      unfolding listVault closedVault
+      after = rw passed refl
+
+      block-long : length (take (256 * g .count + 256 - 256 * g .count) (drop (256 * g .count) slots)) ≡ 256
+      block-long =
+          let z : 256 * g .count + 256 - 256 * g .count ≡ 256 = omega arith in
+          rw z (length-take-le 256 (drop (256 * g .count) slots) (rw (length-drop (256 * g .count) slots) (omega (arith, list-fits .1))))
+
+      abbrev block : List ℕ
+      block = take (256 * g .count + 256 - 256 * g .count) (drop (256 * g .count) slots)
+
+      pub list-closed : (store′ : Text) (block′ table′ : List ℕ) → store′ ≡ appendBytes (g .bytes) (pairsIn bytes kept w) store block
+          → block′ ≡ appendSlots (g .bytes) (pairsIn bytes kept w) store block → table′ ≡ over (3 * g .count) (cond marked 1 0 ∷ 64 * g .count ∷ w ∷ []) table
+          → Closes r store′ (take (256 * g .count) slots ++ (block′ ++ drop (256 * g .count + 256 - 256 * g .count) (drop (256 * g .count) slots))) table′
+      unfolding appendBytes appendSlots withLeg fromParts
+      list-closed store′ block′ table′ es eb et = (
+        e,
+        (
+          es ∙ rw (after, pairs-are, room-still block block-long) refl,
+          (
+            rw (eb, after, pairs-are, room-still block block-long)
+                (part-over (256 * g .count) 256 (listPlaces (g .bytes) (m .pairs)) slots (omega (arith, places-length (g .bytes) (m .pairs), pairs-few)) (list-fits .1)),
+            et ∙ rw (after, count-is, f) refl,
+          ),
+        ),
+      )
+
+-- `close`
+module _ (relocates : Bool) (bytes : Text) (places : List ℕ) (n : ℕ) (v : Vault) (b : Bool) (e : b ≡ canMake (lentList [] places n) 256) where
+  abbrev lent : Lent
+  lent = lentList bytes places n
+
+  abbrev Shuts : Closed → Text → List ℕ → List ℕ → Type 0
+  Shuts r store slots table = (r ≡ closeReply relocates lent v)
+      × ((store ≡ (closeVault relocates lent v) .store) × ((slots ≡ (closeVault relocates lent v) .slots) × (table ≡ (closeVault relocates lent v) .table)))
+
+  damaged : not b ≡ true → listCounts lent ≡ false
+  unfolding canMake listCounts
+  damaged h = sym (and-yes (listCounts lent)) ∙ told-false e h
+
+  pub close-damaged : not b ≡ true → Shuts (Refused TooMany) (v .store) (v .slots) (v .table)
+  unfolding closeReply closeVault askedOf closedReply closedVault
+  close-damaged h = rw (damaged h) (refl, (refl, (refl, refl)))
+
+  module _ (h : not b ≡ false) where
+    counts : listCounts lent ≡ true
+    unfolding canMake listCounts
+    counts = and-l (listCounts lent) (leb 256 256) (told-true e h)
+
+    pub close-as : (mark : Bool) → relocates ≡ mark → (l : List Pair) → l ≡ counted mark (pairsOf lent) → (r : Closed) (store : Text) (slots table : List ℕ)
+        → (r ≡ listReply l v) × ((store ≡ (listVault mark l v) .store) × ((slots ≡ (listVault mark l v) .slots) × (table ≡ (listVault mark l v) .table)))
+        → Shuts r store slots table
+    unfolding closeReply closeVault askedOf listReply listVault
+    close-as mark k l f r store slots table g = rw (k, counts, ← f) g
+
+-- the pairs of either leg
+module _ (bytes : Text) (places : List ℕ) (n : ℕ) where
+  pub all-counted : pairsIn bytes places n ≡ counted false (pairsIn bytes places n)
+  unfolding counted
+  all-counted = refl
+
+  module _ (b : Bool) (e : b ≡ canMake (lentList [] places n) 256) (h : not b ≡ false) (kept : List ℕ) (w room : ℕ) (z : room ≡ 256)
+      (f : pairsIn bytes kept w ≡ madeOf (lentList bytes places n) room (active (pairsIn bytes places n) n)) where
+    made : pairsIn bytes kept w ≡ active (pairsIn bytes places n) n
+    made = f ∙ rw z (made-all places n 256 b e h bytes (active (pairsIn bytes places n) n))
+
+    pub active-counted : pairsIn bytes kept w ≡ counted true (pairsIn bytes places n)
+    unfolding counted
+    active-counted = made ∙ ap (active (pairsIn bytes places n)) (sym (pairsIn-length bytes places n))
+
+    pub active-held : w ≤ 64
+    active-held = omega (arith, pairsIn-length bytes kept w, ap length made, active-few (pairsIn bytes places n) n, made-few places n 256 b e h)
