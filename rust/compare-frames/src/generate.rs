@@ -41,7 +41,7 @@ mod tests {
     #[test]
     fn every_answer_comes() {
         let (random, tally) = (&mut Random::new(1), &mut Tally::default());
-        for _ in 0..1_500 {
+        for _ in 0..500 {
             tally.count(&frames_original::answers(&script(random).input()));
         }
         let found: Vec<String> = tally.answers().map(|answer| answer.escape_ascii().to_string()).collect();

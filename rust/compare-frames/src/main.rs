@@ -17,8 +17,8 @@ The program is the one named, else that of the variable FRAMES, else target/bin/
 /// So long an answer is waited for.
 const PATIENCE: Duration = Duration::from_secs(20);
 
-/// Frames of the one long input, which the program reads in many blocks.
-const LONG: usize = 100_000;
+/// Frames of the one long input, which the program reads in many blocks. More than 65,535 of them come out.
+const LONG: usize = 150_000;
 
 /// Lines that are sent one by one.
 const SENT_ALONE: usize = 5_000;

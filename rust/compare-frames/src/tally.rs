@@ -9,14 +9,23 @@ pub struct Tally {
     pub lines: usize,
     /// By the first four digits of an answer line.
     answers: BTreeMap<[u8; 4], usize>,
+    /// Paths that came out, by the legs that they went over.
+    out: BTreeMap<usize, usize>,
 }
 
 impl Tally {
     pub fn count(&mut self, answers: &[u8]) {
         self.scripts += 1;
+        let mut legs = 0;
         for line in answers.split_inclusive(|byte| *byte == b'\n') {
             self.lines += 1;
-            *self.answers.entry(*line.first_chunk().expect("kind and number")).or_default() += 1;
+            let answer = *line.first_chunk().expect("kind and number");
+            *self.answers.entry(answer).or_default() += 1;
+            match &answer {
+                b"8300" | b"8400" => legs += 1,
+                b"8500" => *self.out.entry(legs).or_default() += 1,
+                _ => {}
+            }
         }
     }
 
@@ -26,7 +35,7 @@ impl Tally {
     }
 }
 
-/// A line for each kind, then the numbers of scripts and lines.
+/// A line for each kind, then how far paths came, then the numbers of scripts and lines.
 impl Display for Tally {
     fn fmt(&self, f: &mut fmt::Formatter<'_>) -> fmt::Result {
         let mut before = [0; 2];
@@ -40,6 +49,8 @@ impl Display for Tally {
             }
             before = [*a, *b];
         }
+        let out: Vec<String> = self.out.iter().map(|(legs, paths)| format!("{legs}: {paths}")).collect();
+        write!(f, "\npaths that came out, by legs  {}", out.join(", "))?;
         write!(f, "\nscripts: {}, lines: {}", self.scripts, self.lines)
     }
 }

@@ -2,10 +2,13 @@
 
 use crate::generate::flawed;
 use crate::generate::writer::{Pair, Writer};
-use frames_original::Frame;
+use frames_original::{Frame, State};
 use texts::ends::path_under;
 use texts::generate::{beginnings, continued};
 use texts::random::Random;
+
+/// So many lists are tried for a leg.
+const TRIES: usize = 10;
 
 /// Legs one after the other. A path is asked out between them, and paths are asked out and home at the end.
 pub fn journey(writer: &mut Writer) {
@@ -36,7 +39,8 @@ fn leg_count(random: &mut Random) -> usize {
 
 /// The pairs of a list, now and then its statuses, and a close.
 fn leg(writer: &mut Writer, reached: &[u8]) {
-    for pair in list(writer, reached) {
+    let way = writer.any_way();
+    for pair in list_for(writer, way, reached) {
         writer.pair(pair);
         if writer.random.one_in(12) {
             writer.frame(Frame::Statuses);
@@ -45,7 +49,27 @@ fn leg(writer: &mut Writer, reached: &[u8]) {
     if writer.random.one_in(3) {
         writer.frame(Frame::Statuses);
     }
-    writer.close_in_any_way();
+    writer.close_or_else(way);
+}
+
+/// The first list of some that lets the path by, or, one time in twelve, any.
+fn list_for(writer: &mut Writer, way: Frame, reached: &[u8]) -> Vec<Pair> {
+    let tries = if writer.random.one_in(12) { 1 } else { TRIES };
+    let mut pairs = list(writer, reached);
+    for _ in 1..tries {
+        if lets_by(&pairs, way, reached) {
+            break;
+        }
+        pairs = list(writer, reached);
+    }
+    pairs
+}
+
+/// Whether a path comes out over a leg of these pairs.
+fn lets_by(pairs: &[Pair], way: Frame, path: &[u8]) -> bool {
+    let mut state = State::default();
+    let added = |[source, target]: &Pair| state.answer(Frame::Pair { source, target }).is_ok();
+    pairs.iter().all(added) && state.answer(way).is_ok() && state.answer(Frame::Out(path)).is_ok()
 }
 
 /// Pairs over the writer's ends, among them mostly one whose source is a beginning of the path that came so far.

@@ -69,14 +69,20 @@ impl<'a> Writer<'a> {
         [self.any_end(), self.any_end()]
     }
 
-    /// Closes the open list in one of the two ways. Where that is refused, one time in two it is tried in the other.
+    /// A way to close the open list, two times in three as a map.
+    pub fn any_way(&mut self) -> Frame<'static> {
+        if self.random.one_in(3) { Frame::CloseRelocates } else { Frame::CloseMap }
+    }
+
     pub fn close_in_any_way(&mut self) {
-        let mut ways = [Frame::CloseMap, Frame::CloseRelocates];
-        if self.random.one_in(3) {
-            ways.reverse();
-        }
-        if !self.close(ways[0]) && self.random.one_in(2) {
-            self.close(ways[1]);
+        let way = self.any_way();
+        self.close_or_else(way);
+    }
+
+    /// Closes the open list. Where that is refused, one time in two it is tried in the other way.
+    pub fn close_or_else(&mut self, way: Frame) {
+        if !self.close(way) && self.random.one_in(2) {
+            self.close(if way == Frame::CloseMap { Frame::CloseRelocates } else { Frame::CloseMap });
         }
     }
 
