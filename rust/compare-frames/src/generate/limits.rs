@@ -1,5 +1,6 @@
 //! Scripts at each limit: what just passes, and what is just too much.
 
+use crate::generate::flawed;
 use crate::generate::journeys::any_frame;
 use crate::generate::writer::Writer;
 use frames_original::Frame;
@@ -27,6 +28,9 @@ fn pairs(writer: &mut Writer) {
     for _ in 0..writer.random.within(MOST_PAIRS - 1..=MOST_PAIRS + 2) {
         let pair = writer.any_pair();
         writer.pair(pair);
+    }
+    for _ in 0..writer.random.below(4) {
+        flawed::frame(writer);
     }
     writer.frame(Frame::Statuses);
     writer.close_in_any_way();
@@ -61,6 +65,17 @@ fn bytes_of_maps(writer: &mut Writer) {
             writer.close(Frame::CloseMap);
         }
     }
+    writer.close_in_any_way();
+    if writer.random.one_in(3) {
+        legs_and_bytes(writer);
+    }
+}
+
+/// Empty legs to their limit, then a list for which neither a leg nor bytes are left.
+fn legs_and_bytes(writer: &mut Writer) {
+    while writer.legs.len() < MOST_LEGS && writer.close(Frame::CloseMap) {}
+    let pair = [end_text(writer.random, LONGEST), Vec::new()];
+    writer.pair(pair);
     writer.close_in_any_way();
 }
 
