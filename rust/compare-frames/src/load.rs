@@ -11,6 +11,9 @@ pub struct Load {
     pub frames: usize,
 }
 
+/// Pairs of the list that stays open.
+const OPEN: usize = 8;
+
 const STAGES: [&str; 4] = ["World", "Region", "Site", "Depot"];
 const LINES: [&str; 3] = ["Line", "Track", "Yard"];
 const PARTS: [&str; 6] = [
@@ -29,7 +32,10 @@ impl Load {
         for leg in 0..self.legs {
             self.leg(leg, &mut lines);
         }
-        while lines.len() < self.frames {
+        for pair in 0..OPEN {
+            lines.push(pair_line(&format!("{}/Mast", signal(0, pair)), &format!("{}/Mast", signal(9, pair))));
+        }
+        while lines.len() + 1 < self.frames {
             lines.push(self.asked(random));
         }
         lines.push(Frame::Count.line());
@@ -40,25 +46,20 @@ impl Load {
     /// The pairs of a leg and its close. Every fourth leg is a relocate list, all of whose pairs are Active.
     fn leg(&self, leg: usize, lines: &mut Vec<Vec<u8>>) {
         for pair in 0..self.pairs {
-            let [source, target] = [signal(leg, pair), signal(leg + 1, pair)];
-            lines.push(Frame::Pair { source: source.as_bytes(), target: target.as_bytes() }.line());
+            lines.push(pair_line(&signal(leg, pair), &signal(leg + 1, pair)));
         }
         let close = if leg % 4 == 3 { Frame::CloseRelocates } else { Frame::CloseMap };
         lines.push(close.line());
     }
 
-    /// Of a thousand frames about 585 are 05, 395 are 06, 10 are 07, 9 are 01, one is 02.
+    /// Of a hundred frames about 58 are 05, 39 are 06, and one each is 07, 02 and 01; the 01 has a property for an end.
     fn asked(&self, random: &mut Random) -> Vec<u8> {
-        match random.below(1_000) {
-            0..585 => Frame::Out(self.path(random, 0).as_bytes()).line(),
-            585..980 => Frame::Home(self.path(random, self.legs).as_bytes()).line(),
-            980..990 => Frame::Count.line(),
-            990..999 => {
-                let source = format!("{}/Mast_{}", signal(0, random.below(self.pairs)), random.below(1_000));
-                let target = format!("{}/Mast", signal(9, random.below(self.pairs)));
-                Frame::Pair { source: source.as_bytes(), target: target.as_bytes() }.line()
-            }
-            _ => Frame::Statuses.line(),
+        match random.below(100) {
+            0..58 => Frame::Out(self.path(random, 0).as_bytes()).line(),
+            58..97 => Frame::Home(self.path(random, self.legs).as_bytes()).line(),
+            97 => Frame::Count.line(),
+            98 => Frame::Statuses.line(),
+            _ => pair_line(&self.path(random, 0), &format!("{}.state", signal(9, random.below(self.pairs)))),
         }
     }
 
@@ -68,6 +69,10 @@ impl Load {
         let key = if random.one_in(20) { "/Elsewhere".into() } else { signal(leg, random.below(self.pairs)) };
         format!("{key}{part}")
     }
+}
+
+fn pair_line(source: &str, target: &str) -> Vec<u8> {
+    Frame::Pair { source: source.as_bytes(), target: target.as_bytes() }.line()
 }
 
 /// The key of a pair before a leg, such as `/World/Line_12/Signal_034`. No two are equal, and none is above another.

@@ -116,14 +116,15 @@ fn empty(_: &mut Random, _: Vec<u8>) -> Vec<u8> {
     Vec::new()
 }
 
-/// The line goes on beyond the limit, sometimes beyond any block.
+/// The line goes on beyond the limit, sometimes beyond any block. A part of what is added would be a frame.
 fn overlong(random: &mut Random, mut line: Vec<u8>) -> Vec<u8> {
     let length = match random.below(8) {
         0..=3 => LONGEST_LINE + random.within(1..=3),
         4..=6 => LONGEST_LINE + random.below(10_000),
         _ => random.within(60_000..=140_000),
     };
-    line.resize(length.max(line.len()), b'0');
+    let more = length.saturating_sub(line.len());
+    line.extend(b"05".iter().cycle().take(more));
     line
 }
 
