@@ -24,7 +24,8 @@ pub fn cut_at(program: &Program, input: &[u8], place: usize) -> Result<(), Strin
         client.send(second);
         client.finish()
     };
-    same(&expected, run()).map_err(|wrong| format!("cut behind byte {place}: {wrong}"))
+    same(&expected, run())
+        .map_err(|wrong| format!("an input of {} bytes, cut behind byte {place}: {wrong}", input.len()))
 }
 
 /// Inputs to be cut, each with its places.

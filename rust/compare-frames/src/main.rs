@@ -24,16 +24,14 @@ const LONG: usize = 150_000;
 const SENT_ALONE: usize = 5_000;
 
 fn main() -> ExitCode {
-    let options = Options::read(&["--scripts", "--seed", "--program"]);
-    let numbers =
-        |options: &Options| Some((options.number("--scripts", 10_000)?, options.number("--seed", 1)?));
-    let Some((options, (scripts, seed))) =
-        options.and_then(|options| numbers(&options).map(|n| (options, n)))
-    else {
+    let Some((program, scripts, seed)) = settings() else {
         eprintln!("{USAGE}");
         return ExitCode::from(2);
     };
-    let program = Program { path: options.program(), patience: PATIENCE };
+    if !program.path.is_file() {
+        eprintln!("there is no program {}\n{USAGE}", program.path.display());
+        return ExitCode::from(2);
+    }
     match compare(&program, scripts, seed) {
         Ok(()) => {
             println!("compare-frames: no difference");
@@ -44,6 +42,13 @@ fn main() -> ExitCode {
             ExitCode::FAILURE
         }
     }
+}
+
+/// The program, how many scripts, and their seed; `None` where the arguments are no options.
+fn settings() -> Option<(Program, u64, u64)> {
+    let options = Options::read(&["--scripts", "--seed", "--program"])?;
+    let program = Program { path: options.program(), patience: PATIENCE };
+    Some((program, options.number("--scripts", 10_000)?, options.number("--seed", 1)?))
 }
 
 /// All parts, up to the first difference.

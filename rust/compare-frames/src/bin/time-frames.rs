@@ -23,12 +23,7 @@ struct Bench {
 }
 
 fn main() -> ExitCode {
-    let options = Options::read(&["--frames", "--rounds", "--program", "--original"]);
-    let numbers =
-        |options: &Options| Some((options.number("--frames", 1_000_000)?, options.number("--rounds", 5)?));
-    let Some((options, (frames, rounds))) =
-        options.and_then(|options| numbers(&options).map(|n| (options, n)))
-    else {
+    let Some((options, frames, rounds)) = settings() else {
         eprintln!("{USAGE}");
         return ExitCode::from(2);
     };
@@ -39,6 +34,13 @@ fn main() -> ExitCode {
             ExitCode::FAILURE
         }
     }
+}
+
+/// The options, and of them the numbers of frames and rounds; `None` where the arguments are no options.
+fn settings() -> Option<(Options, u64, u64)> {
+    let options = Options::read(&["--frames", "--rounds", "--program", "--original"])?;
+    let (frames, rounds) = (options.number("--frames", 1_000_000)?, options.number("--rounds", 5)?);
+    Some((options, frames, rounds))
 }
 
 fn run(options: &Options, frames: usize, rounds: u64) -> io::Result<()> {
