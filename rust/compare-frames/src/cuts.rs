@@ -2,7 +2,7 @@
 
 use crate::check::same;
 use crate::program::Program;
-use frames_original::Session;
+use frames_original::Run;
 use std::thread;
 use std::time::Duration;
 
@@ -12,7 +12,7 @@ pub fn cut_at(program: &Program, input: &[u8], place: usize) -> Result<(), Strin
     let (first, second) = input.split_at(place);
     let expected = frames_original::answers(input);
     let mut answered = Vec::new();
-    Session::default().feed(first, &mut answered);
+    Run::default().feed(first, &mut answered);
     let run = || {
         let mut client = program.start()?;
         client.send(first);

@@ -1,18 +1,18 @@
 //! A client that waits for the answer to each line before it sends the next.
 
 use crate::program::{Failure, Program};
-use frames_original::Session;
+use frames_original::Run;
 
 /// Sends line after line. What the program has answered before the next line is sent must be all that it is to
 /// answer so far.
 pub fn line_by_line(program: &Program, lines: &[Vec<u8>]) -> Result<(), String> {
-    let mut session = Session::default();
+    let mut run = Run::default();
     let mut expected = Vec::new();
     let mut client = program.start().map_err(|failure| failure.to_string())?;
     for (at, line) in lines.iter().enumerate() {
         let line = [line, &b"\n"[..]].concat();
         let before = expected.len();
-        session.feed(&line, &mut expected);
+        run.feed(&line, &mut expected);
         client.send(&line);
         let found = client.wait_for(expected.len()).map_err(|failure| after(at, &failure))?;
         if found != expected {

@@ -5,9 +5,9 @@
 
 pub mod digits;
 pub mod frame;
-pub mod session;
+pub mod run;
 pub mod state;
 
 pub use frame::Frame;
-pub use session::{Session, answers, serve};
+pub use run::{Run, answers, serve};
 pub use state::State;

@@ -3,7 +3,7 @@
 mod common;
 
 use common::{answered, line, pair};
-use frames_original::{Frame, Session, answers, serve};
+use frames_original::{Frame, Run, answers, serve};
 use std::io::Read;
 
 const EXAMPLE: [[&str; 2]; 6] = [
@@ -71,11 +71,11 @@ fn blocks_of_every_size_give_the_same_answers() {
     let input = format!("{}{overlong}\n07\n\n{overlong}", example(0));
     let expected = answers(input.as_bytes());
     for size in 1..=200 {
-        let (mut session, mut found) = (Session::default(), Vec::new());
+        let (mut run, mut found) = (Run::default(), Vec::new());
         for block in input.as_bytes().chunks(size) {
-            session.feed(block, &mut found);
+            run.feed(block, &mut found);
         }
-        session.finish(&mut found);
+        run.finish(&mut found);
         assert_eq!(found, expected, "blocks of {size} bytes");
     }
 }
@@ -94,7 +94,7 @@ impl Read for OneLineARead<'_> {
 }
 
 #[test]
-fn the_program_answers_what_the_session_does() {
+fn the_program_gives_the_same_answers() {
     let (input, mut output) = (example(0), Vec::new());
     serve(OneLineARead(input.as_bytes()), &mut output).expect("a run");
     assert_eq!(output, example(1).as_bytes());

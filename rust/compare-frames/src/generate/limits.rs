@@ -4,7 +4,7 @@ use crate::generate::flawed;
 use crate::generate::journeys::any_frame;
 use crate::generate::writer::Writer;
 use frames_original::Frame;
-use frames_original::session::LONGEST_LINE;
+use frames_original::run::LONGEST_LINE;
 use frames_original::state::{MOST_BYTES, MOST_LEGS, MOST_PAIRS};
 use texts::LONGEST;
 use texts::generate::end_text;

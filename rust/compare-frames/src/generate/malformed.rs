@@ -3,7 +3,7 @@
 use crate::generate::journeys::any_frame;
 use crate::generate::writer::Writer;
 use frames_original::Frame;
-use frames_original::session::LONGEST_LINE;
+use frames_original::run::LONGEST_LINE;
 use texts::random::Random;
 
 /// Makes a bad line of a good one.

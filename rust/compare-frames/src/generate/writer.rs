@@ -1,7 +1,7 @@
 //! Writes a script line by line, and knows the answers so far.
 
 use crate::script::Script;
-use frames_original::{Frame, Session, digits};
+use frames_original::{Frame, Run, digits};
 use texts::ends::family;
 use texts::random::Random;
 
@@ -17,7 +17,7 @@ pub struct Writer<'a> {
     pub legs: Vec<Vec<Pair>>,
     /// Paths that came out.
     pub reached: Vec<Vec<u8>>,
-    session: Session,
+    run: Run,
     lines: Vec<Vec<u8>>,
 }
 
@@ -25,8 +25,8 @@ impl<'a> Writer<'a> {
     pub fn new(random: &'a mut Random) -> Self {
         let size = random.within(3..=12);
         let ends = family(random, size);
-        let (open, legs, reached, session, lines) = Default::default();
-        Writer { random, ends, open, legs, reached, session, lines }
+        let (open, legs, reached, run, lines) = Default::default();
+        Writer { random, ends, open, legs, reached, run, lines }
     }
 
     /// One script in eight lacks its last newline.
@@ -37,8 +37,8 @@ impl<'a> Writer<'a> {
     /// Adds a line and gives the bytes of its answer.
     pub fn line(&mut self, line: Vec<u8>) -> Vec<u8> {
         let mut answer = Vec::new();
-        self.session.feed(&line, &mut answer);
-        self.session.feed(b"\n", &mut answer);
+        self.run.feed(&line, &mut answer);
+        self.run.feed(b"\n", &mut answer);
         self.lines.push(line);
         digits::read(answer.trim_ascii_end()).expect("an answer of digits")
     }

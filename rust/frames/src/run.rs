@@ -15,12 +15,12 @@ const BAD_FRAME: [u8; 2] = [0xFF, 9];
 
 /// The state, and the line so far. Of an overlong line one byte more than the limit is kept.
 #[derive(Default)]
-pub struct Session {
+pub struct Run {
     state: State,
     line: Vec<u8>,
 }
 
-impl Session {
+impl Run {
     /// Takes the next block of the input and appends the answers to the lines that end in it.
     pub fn feed(&mut self, block: &[u8], answers: &mut Vec<u8>) {
         let mut rest = block;
@@ -71,15 +71,15 @@ fn answer(state: &mut State, line: &[u8], answers: &mut Vec<u8>) {
 
 /// The answers to a whole input.
 pub fn answers(input: &[u8]) -> Vec<u8> {
-    let (mut session, mut answers) = (Session::default(), Vec::new());
-    session.feed(input, &mut answers);
-    session.finish(&mut answers);
+    let (mut run, mut answers) = (Run::default(), Vec::new());
+    run.feed(input, &mut answers);
+    run.finish(&mut answers);
     answers
 }
 
 /// Answers every line of the input. The answers to the lines so far are written before more is waited for.
 pub fn serve(mut input: impl Read, mut output: impl Write) -> io::Result<()> {
-    let (mut session, mut answers, mut block) = (Session::default(), Vec::new(), vec![0; BLOCK]);
+    let (mut run, mut answers, mut block) = (Run::default(), Vec::new(), vec![0; BLOCK]);
     loop {
         let length = match input.read(&mut block) {
             Ok(0) => break,
@@ -87,12 +87,12 @@ pub fn serve(mut input: impl Read, mut output: impl Write) -> io::Result<()> {
             Err(error) if error.kind() == ErrorKind::Interrupted => continue,
             Err(error) => return Err(error),
         };
-        session.feed(&block[..length], &mut answers);
+        run.feed(&block[..length], &mut answers);
         output.write_all(&answers)?;
         output.flush()?;
         answers.clear();
     }
-    session.finish(&mut answers);
+    run.finish(&mut answers);
     output.write_all(&answers)?;
     output.flush()
 }
