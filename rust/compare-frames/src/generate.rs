@@ -1,0 +1,59 @@
+//! Random scripts: the same seed gives the same ones.
+
+mod flawed;
+mod journeys;
+mod limits;
+mod malformed;
+mod writer;
+
+use crate::script::Script;
+use texts::random::Random;
+use writer::Writer;
+
+/// A script of any sort.
+pub fn script(random: &mut Random) -> Script {
+    let sort = random.below(20);
+    let writer = &mut Writer::new(random);
+    match sort {
+        0..=9 => journeys::journey(writer),
+        10 | 11 => journeys::medley(writer),
+        12..=15 => malformed::noise(writer),
+        _ => limits::at_a_limit(writer),
+    }
+    writer.script()
+}
+
+#[cfg(test)]
+mod tests {
+    use super::script;
+    use crate::tally::Tally;
+    use texts::random::Random;
+
+    #[test]
+    fn the_same_seed_gives_the_same_scripts() {
+        let [one, other] = [(); 2].map(|()| {
+            let random = &mut Random::new(5);
+            (0..50).map(|_| script(random)).collect::<Vec<_>>()
+        });
+        assert_eq!(one, other);
+    }
+
+    #[test]
+    fn every_answer_comes() {
+        let (random, tally) = (&mut Random::new(1), &mut Tally::default());
+        for _ in 0..500 {
+            tally.count(&frames_original::answers(&script(random).input()));
+        }
+        let found: Vec<String> = tally.answers().map(|answer| answer.escape_ascii().to_string()).collect();
+        let expected = "8100 8101 8102 8103 8104 8200 8300 8304 8305 8400 8404 8405 8500 8501 8502 8506 8507 8508 \
+                        8600 8601 8602 8606 8607 8608 8700 FF09";
+        assert_eq!(found.join(" "), expected);
+    }
+
+    #[test]
+    fn scripts_end_in_either_way() {
+        let random = &mut Random::new(1);
+        let open_ends = (0..200).filter(|_| script(random).open_end).count();
+        assert!((1..100).contains(&open_ends));
+    }
+}

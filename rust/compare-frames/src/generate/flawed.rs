@@ -1,0 +1,57 @@
+//! Well-formed frames whose texts are too long, not legal, or no ends.
+
+use crate::generate::writer::Writer;
+use frames_original::Frame;
+use texts::LONGEST;
+use texts::damage::damaged;
+use texts::generate::{legal_text, length};
+use texts::random::Random;
+
+/// The most bytes of both ends of a pair within a line.
+const MOST_BOTH: usize = 2_048 - 5;
+
+/// A pair or a path to be refused, mostly.
+pub fn frame(writer: &mut Writer) {
+    let text = text(writer.random);
+    match writer.random.below(4) {
+        0 => {
+            writer.out(&text);
+        }
+        1 => {
+            writer.home(&text);
+        }
+        2 => {
+            let mut pair = [writer.any_end(), text];
+            if writer.random.one_in(2) {
+                pair.reverse();
+            }
+            writer.pair(pair);
+        }
+        _ => {
+            let other = self::text(writer.random);
+            let room = MOST_BOTH.saturating_sub(text.len());
+            writer.frame(Frame::Pair { source: &text, target: &other[..other.len().min(room)] });
+        }
+    }
+}
+
+/// A text of a kind that some question refuses, or nearly.
+fn text(random: &mut Random) -> Vec<u8> {
+    match random.below(6) {
+        0 => {
+            let length = random.within(LONGEST - 1..=LONGEST + 2);
+            legal_text(random, length)
+        }
+        1 => {
+            let length = random.within(LONGEST + 1..=MOST_BOTH);
+            legal_text(random, length)
+        }
+        2 => (0..random.below(20)).map(|_| random.below(256) as u8).collect(),
+        3 => random.pick(&[&b"/A.b"[..], b"/A{v=p}", b"/A{v=p}B", b"/A/B.c:d", b"/A{v=p}.b"]).to_vec(),
+        _ => {
+            let length = length(random);
+            let legal = legal_text(random, length);
+            damaged(random, &legal)
+        }
+    }
+}

@@ -1,0 +1,182 @@
+//! Well-formed scripts: legs that go on where the leg before came to, and paths asked out over them and home.
+
+use crate::generate::flawed;
+use crate::generate::writer::{Pair, Writer};
+use frames_original::{Frame, State};
+use texts::ends::path_under;
+use texts::generate::{beginnings, continued};
+use texts::random::Random;
+
+/// So many lists are tried for a leg.
+const TRIES: usize = 10;
+
+/// Legs one after the other. A path is asked out between them, and paths are asked out and home at the end.
+pub fn journey(writer: &mut Writer) {
+    let pair = writer.any_pair();
+    let start = path_under(writer.random, &pair[0], &pair[1]);
+    let mut reached = start.clone();
+    for _ in 0..leg_count(writer.random) {
+        leg(writer, &reached);
+        if !writer.random.one_in(6) {
+            reached = writer.out(&start).unwrap_or(reached);
+        }
+    }
+    for _ in 0..writer.random.within(2..=10) {
+        ask(writer, &start);
+    }
+    writer.frame(Frame::Count);
+}
+
+/// Mostly few.
+fn leg_count(random: &mut Random) -> usize {
+    match random.below(10) {
+        0 => 0,
+        1..=6 => random.within(1..=4),
+        7 | 8 => random.within(5..=10),
+        _ => random.within(15..=17),
+    }
+}
+
+/// The pairs of a list, now and then its statuses, and a close.
+fn leg(writer: &mut Writer, reached: &[u8]) {
+    let way = writer.any_way();
+    for pair in list_for(writer, way, reached) {
+        writer.pair(pair);
+        if writer.random.one_in(12) {
+            writer.frame(Frame::Statuses);
+        }
+    }
+    if writer.random.one_in(3) {
+        writer.frame(Frame::Statuses);
+    }
+    writer.close_or_else(way);
+}
+
+/// The first list of some that lets the path by, or, one time in twelve, any.
+fn list_for(writer: &mut Writer, way: Frame, reached: &[u8]) -> Vec<Pair> {
+    let tries = if writer.random.one_in(12) { 1 } else { TRIES };
+    let mut pairs = list(writer, reached);
+    for _ in 1..tries {
+        if lets_by(&pairs, way, reached) {
+            break;
+        }
+        pairs = list(writer, reached);
+    }
+    pairs
+}
+
+/// Whether a path comes out over a leg of these pairs.
+fn lets_by(pairs: &[Pair], way: Frame, path: &[u8]) -> bool {
+    let mut state = State::default();
+    let added = |[source, target]: &Pair| state.answer(Frame::Pair { source, target }).is_ok();
+    pairs.iter().all(added) && state.answer(way).is_ok() && state.answer(Frame::Out(path)).is_ok()
+}
+
+/// Pairs over the writer's ends, among them mostly one whose source is a beginning of the path that came so far.
+fn list(writer: &mut Writer, reached: &[u8]) -> Vec<Pair> {
+    let count = if writer.random.one_in(15) { writer.random.within(20..=66) } else { writer.random.below(6) };
+    let mut pairs: Vec<Pair> = (0..count).map(|_| writer.any_pair()).collect();
+    if !pairs.is_empty() && !writer.random.one_in(6) {
+        let at = writer.random.below(count);
+        let source = end_above(writer.random, reached);
+        let other = writer.any_end();
+        let target = target(writer.random, &source, other);
+        pairs[at] = [source, target];
+    }
+    pairs
+}
+
+/// A beginning of the path that is an end.
+fn end_above(random: &mut Random, path: &[u8]) -> Vec<u8> {
+    let names = path.split(|byte| b"{.".contains(byte)).next().unwrap_or_default();
+    random.pick(&beginnings(names)).to_vec()
+}
+
+/// A target that often lies beside all others, so that the way back is clear.
+fn target(random: &mut Random, source: &[u8], other: Vec<u8>) -> Vec<u8> {
+    let names = |end: &[u8]| if end == b"/" { Vec::new() } else { end.to_vec() };
+    match random.below(3) {
+        0 => other,
+        1 => [&b"/New"[..], &names(source)].concat(),
+        _ => [&names(&other), &b"/New"[..]].concat(),
+    }
+}
+
+/// Asks one thing of the legs closed so far.
+fn ask(writer: &mut Writer, start: &[u8]) {
+    match writer.random.below(12) {
+        0..=4 => {
+            let path = path_for(writer, start);
+            if let Some(out) = writer.out(&path) {
+                writer.home(&out);
+            }
+        }
+        5 | 6 => {
+            let path = path_home(writer, start);
+            writer.home(&path);
+        }
+        7 if !writer.reached.is_empty() => {
+            let path = writer.random.pick(&writer.reached).clone();
+            writer.home(&path);
+        }
+        8 => {
+            writer.frame(Frame::Statuses);
+        }
+        9 => {
+            let pair = writer.any_pair();
+            writer.pair(pair);
+        }
+        10 => flawed::frame(writer),
+        _ => {
+            writer.frame(Frame::Count);
+        }
+    }
+}
+
+/// A path that begins as the first one, or lies under a source of the first leg.
+fn path_for(writer: &mut Writer, start: &[u8]) -> Vec<u8> {
+    match writer.legs.first().filter(|leg| !leg.is_empty() && writer.random.one_in(2)) {
+        Some(leg) => {
+            let [source, target] = writer.random.pick(leg);
+            path_under(writer.random, source, target)
+        }
+        None => {
+            let end = end_above(writer.random, start);
+            let length = (end.len() + writer.random.below(30)).min(texts::LONGEST);
+            continued(writer.random, &end, length)
+        }
+    }
+}
+
+/// A path that lies under a target of the last leg, or under the start.
+fn path_home(writer: &mut Writer, start: &[u8]) -> Vec<u8> {
+    match writer.legs.last().filter(|leg| !leg.is_empty()) {
+        Some(leg) => {
+            let [source, target] = writer.random.pick(leg);
+            path_under(writer.random, target, source)
+        }
+        None => start.to_vec(),
+    }
+}
+
+/// Frames of any kind in any order.
+pub fn medley(writer: &mut Writer) {
+    for _ in 0..writer.random.within(1..=40) {
+        any_frame(writer);
+    }
+}
+
+pub fn any_frame(writer: &mut Writer) {
+    match writer.random.below(10) {
+        0..=3 => {
+            let pair = writer.any_pair();
+            writer.pair(pair);
+        }
+        4 => writer.close_in_any_way(),
+        5 => flawed::frame(writer),
+        _ => {
+            let end = writer.any_end();
+            ask(writer, &end);
+        }
+    }
+}

@@ -1,0 +1,146 @@
+//! Scripts at each limit: what just passes, and what is just too much.
+
+use crate::generate::flawed;
+use crate::generate::journeys::any_frame;
+use crate::generate::writer::Writer;
+use frames_original::Frame;
+use frames_original::run::LONGEST_LINE;
+use frames_original::state::{MOST_BYTES, MOST_LEGS, MOST_PAIRS};
+use texts::LONGEST;
+use texts::generate::end_text;
+
+/// A script at one of the limits, with some frames after it.
+pub fn at_a_limit(writer: &mut Writer) {
+    match writer.random.below(6) {
+        0 => pairs(writer),
+        1 => legs(writer),
+        2 => bytes_of_maps(writer),
+        3 => bytes_of_relocates(writer),
+        4 => paths_made(writer),
+        _ => lines(writer),
+    }
+    for _ in 0..writer.random.below(10) {
+        any_frame(writer);
+    }
+}
+
+fn pairs(writer: &mut Writer) {
+    for _ in 0..writer.random.within(MOST_PAIRS - 1..=MOST_PAIRS + 2) {
+        let pair = writer.any_pair();
+        writer.pair(pair);
+    }
+    for _ in 0..writer.random.below(4) {
+        flawed::frame(writer);
+    }
+    writer.frame(Frame::Statuses);
+    writer.close_in_any_way();
+}
+
+fn legs(writer: &mut Writer) {
+    for _ in 0..writer.random.within(MOST_LEGS - 1..=MOST_LEGS + 2) {
+        for _ in 0..writer.random.below(3) {
+            let pair = writer.any_pair();
+            writer.pair(pair);
+        }
+        writer.close_in_any_way();
+    }
+    writer.frame(Frame::Statuses);
+}
+
+/// About as many bytes as all legs may have.
+fn about_most_bytes(writer: &mut Writer) -> usize {
+    MOST_BYTES - 2 + writer.random.below(5)
+}
+
+/// Map legs of long ends, whose last list brings the bytes to about the limit.
+fn bytes_of_maps(writer: &mut Writer) {
+    let mut left = about_most_bytes(writer);
+    while left > 0 {
+        let source = left.min(writer.random.within(LONGEST - 20..=LONGEST));
+        let target = (left - source).min(writer.random.within(LONGEST - 20..=LONGEST));
+        let pair = [source, target].map(|length| end_text(writer.random, length));
+        writer.pair(pair);
+        left -= source + target;
+        if writer.open.len() == MOST_PAIRS || left == 0 {
+            writer.close(Frame::CloseMap);
+        }
+    }
+    writer.close_in_any_way();
+    if writer.random.one_in(3) {
+        legs_and_bytes(writer);
+    }
+}
+
+/// Empty legs to their limit, then a list for which neither a leg nor bytes are left.
+fn legs_and_bytes(writer: &mut Writer) {
+    while writer.legs.len() < MOST_LEGS && writer.close(Frame::CloseMap) {}
+    let pair = [end_text(writer.random, LONGEST), Vec::new()];
+    writer.pair(pair);
+    writer.close_in_any_way();
+}
+
+/// Relocate legs of Active pairs beside structural ones, which do not count.
+fn bytes_of_relocates(writer: &mut Writer) {
+    let mut left = about_most_bytes(writer);
+    let mut number = 0;
+    while left > 0 {
+        // Room is left for one more source that can be made.
+        let length = if left <= LONGEST { left } else { LONGEST - 20 };
+        writer.pair([active_source(number, length), Vec::new()]);
+        left -= length;
+        number += 1;
+        if writer.random.one_in(8) {
+            writer.pair([b"/R".to_vec(), b"/S".to_vec()]);
+        }
+        if writer.open.len() >= MOST_PAIRS - 1 || left == 0 {
+            writer.close(Frame::CloseRelocates);
+        }
+    }
+    writer.close_in_any_way();
+}
+
+/// A source of so many bytes, which are at least 6, or as many as it takes to be no other one's prefix.
+fn active_source(number: usize, length: usize) -> Vec<u8> {
+    let mut source = format!("/R/{}", char::from(b'a' + (number % 26) as u8)).into_bytes();
+    source.extend(format!("{number}").into_bytes());
+    source.resize(length.max(source.len()), b'x');
+    source
+}
+
+/// Pairs that make paths of about the longest length, out and home.
+fn paths_made(writer: &mut Writer) {
+    let long = writer.random.within(LONGEST - 8..=LONGEST);
+    let mut pair = [b"/A".to_vec(), end_text(writer.random, long)];
+    if writer.random.one_in(2) {
+        pair.reverse();
+    }
+    writer.pair(pair.clone());
+    writer.close_in_any_way();
+    let [source, target] = &pair;
+    for end in [source, target] {
+        for more in 0..=10 {
+            let path = [end, &b"/bcdefghijk"[..more]].concat();
+            let property = [end, &b".b"[..]].concat();
+            for path in [path, property] {
+                writer.out(&path);
+                writer.home(&path);
+            }
+        }
+    }
+}
+
+/// Paths and pairs whose lines are of about the longest length.
+fn lines(writer: &mut Writer) {
+    for _ in 0..writer.random.within(1..=6) {
+        let bytes = LONGEST_LINE / 2 - 2 + writer.random.below(4);
+        let (source, target) = (vec![b'/'; writer.random.below(bytes - 5)], vec![b'A'; bytes]);
+        let rest = bytes - 5 - source.len();
+        let path = &target[..bytes - 1];
+        let pair = Frame::Pair { source: &source, target: &target[..rest] };
+        let mut line = writer.random.pick(&[pair, Frame::Out(path), Frame::Home(path)]).line();
+        if writer.random.one_in(4) {
+            line.push(*writer.random.pick(b"0\r "));
+        }
+        writer.line(line);
+    }
+}

@@ -1,0 +1,112 @@
+//! Writes a script line by line, and knows the answers so far.
+
+use crate::script::Script;
+use frames_original::{Frame, Run, digits};
+use texts::ends::family;
+use texts::random::Random;
+
+pub type Pair = [Vec<u8>; 2];
+
+pub struct Writer<'a> {
+    pub random: &'a mut Random,
+    /// What most ends of pairs are taken from.
+    pub ends: Vec<Vec<u8>>,
+    /// The pairs accepted since the last close that was.
+    pub open: Vec<Pair>,
+    /// The lists of the legs, such as they were closed.
+    pub legs: Vec<Vec<Pair>>,
+    /// Paths that came out.
+    pub reached: Vec<Vec<u8>>,
+    run: Run,
+    lines: Vec<Vec<u8>>,
+}
+
+impl<'a> Writer<'a> {
+    pub fn new(random: &'a mut Random) -> Self {
+        let size = random.within(3..=12);
+        let ends = family(random, size);
+        let (open, legs, reached, run, lines) = Default::default();
+        Writer { random, ends, open, legs, reached, run, lines }
+    }
+
+    /// One script in eight lacks its last newline.
+    pub fn script(&mut self) -> Script {
+        Script { lines: std::mem::take(&mut self.lines), open_end: self.random.one_in(8) }
+    }
+
+    /// Adds a line and gives the bytes of its answer.
+    pub fn line(&mut self, line: Vec<u8>) -> Vec<u8> {
+        let mut answer = Vec::new();
+        self.run.feed(&line, &mut answer);
+        self.run.feed(b"\n", &mut answer);
+        self.lines.push(line);
+        digits::read(answer.trim_ascii_end()).expect("an answer of digits")
+    }
+
+    /// Adds a frame, one in six in small or mixed letters, and gives the bytes of its answer.
+    pub fn frame(&mut self, frame: Frame) -> Vec<u8> {
+        let mut line = frame.line();
+        match self.random.below(12) {
+            0 => line.make_ascii_lowercase(),
+            1 => line.iter_mut().filter(|_| self.random.one_in(2)).for_each(u8::make_ascii_lowercase),
+            _ => {}
+        }
+        self.line(line)
+    }
+
+    pub fn pair(&mut self, pair: Pair) {
+        let [source, target] = &pair;
+        if self.frame(Frame::Pair { source, target })[1] == 0 {
+            self.open.push(pair);
+        }
+    }
+
+    pub fn any_end(&mut self) -> Vec<u8> {
+        self.random.pick(&self.ends).clone()
+    }
+
+    pub fn any_pair(&mut self) -> Pair {
+        [self.any_end(), self.any_end()]
+    }
+
+    /// A way to close the open list, two times in three as a map.
+    pub fn any_way(&mut self) -> Frame<'static> {
+        if self.random.one_in(3) { Frame::CloseRelocates } else { Frame::CloseMap }
+    }
+
+    pub fn close_in_any_way(&mut self) {
+        let way = self.any_way();
+        self.close_or_else(way);
+    }
+
+    /// Closes the open list. Where that is refused, one time in two it is tried in the other way.
+    pub fn close_or_else(&mut self, way: Frame) {
+        if !self.close(way) && self.random.one_in(2) {
+            self.close(if way == Frame::CloseMap { Frame::CloseRelocates } else { Frame::CloseMap });
+        }
+    }
+
+    /// Closes the open list, and gives whether that is accepted.
+    pub fn close(&mut self, way: Frame) -> bool {
+        let accepted = self.frame(way)[1] == 0;
+        if accepted {
+            self.legs.push(std::mem::take(&mut self.open));
+        }
+        accepted
+    }
+
+    /// Asks a path out, and gives where it comes to.
+    pub fn out(&mut self, path: &[u8]) -> Option<Vec<u8>> {
+        let reached = path_answered(self.frame(Frame::Out(path)));
+        self.reached.extend(reached.clone());
+        reached
+    }
+
+    pub fn home(&mut self, path: &[u8]) -> Option<Vec<u8>> {
+        path_answered(self.frame(Frame::Home(path)))
+    }
+}
+
+fn path_answered(answer: Vec<u8>) -> Option<Vec<u8>> {
+    if answer[1] == 0 { Some(answer[2..].to_vec()) } else { None }
+}

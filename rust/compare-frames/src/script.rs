@@ -1,0 +1,86 @@
+//! An input of the program as lines, and the smallest one that still fails.
+
+use std::fmt::{self, Display};
+
+#[derive(Clone, Debug, Default, PartialEq, Eq)]
+pub struct Script {
+    /// The lines without their newlines.
+    pub lines: Vec<Vec<u8>>,
+    /// The last line lacks its newline.
+    pub open_end: bool,
+}
+
+impl Script {
+    pub fn input(&self) -> Vec<u8> {
+        let mut input = self.lines.join(&b'\n');
+        if !self.open_end && !self.lines.is_empty() {
+            input.push(b'\n');
+        }
+        input
+    }
+
+    /// The script without as many of its lines as can be left out so that `fails` holds on.
+    pub fn shrunk(mut self, fails: &mut impl FnMut(&Script) -> bool) -> Script {
+        let mut size = self.lines.len().div_ceil(2);
+        while size > 0 {
+            let before = self.lines.len();
+            self = self.without_parts(size, fails);
+            if size > 1 || self.lines.len() == before {
+                size /= 2;
+            }
+        }
+        self
+    }
+
+    /// Leaves out parts of `size` lines, one after the other, each that is not needed.
+    fn without_parts(mut self, size: usize, fails: &mut impl FnMut(&Script) -> bool) -> Script {
+        let mut at = 0;
+        while at < self.lines.len() {
+            let mut shorter = self.clone();
+            shorter.lines.drain(at..self.lines.len().min(at + size));
+            if fails(&shorter) {
+                self = shorter;
+            } else {
+                at += size;
+            }
+        }
+        self
+    }
+}
+
+/// The lines as they stand, other bytes than visible ones escaped.
+impl Display for Script {
+    fn fmt(&self, f: &mut fmt::Formatter<'_>) -> fmt::Result {
+        for line in &self.lines {
+            writeln!(f, "    {}", line.escape_ascii())?;
+        }
+        if self.open_end { writeln!(f, "    (the last line lacks its newline)") } else { Ok(()) }
+    }
+}
+
+#[cfg(test)]
+mod tests {
+    use super::Script;
+
+    fn script(lines: &[&str]) -> Script {
+        Script { lines: lines.iter().map(|line| line.as_bytes().to_vec()).collect(), open_end: false }
+    }
+
+    #[test]
+    fn the_input_of_a_script() {
+        assert_eq!(script(&[]).input(), b"");
+        assert_eq!(script(&["", "07"]).input(), b"\n07\n");
+        assert_eq!(Script { open_end: true, ..script(&["", "07"]) }.input(), b"\n07");
+    }
+
+    #[test]
+    fn only_the_lines_needed_are_left() {
+        let needed = |script: &Script| {
+            let has = |line: &str| script.lines.contains(&line.as_bytes().to_vec());
+            has("b") && has("e")
+        };
+        let shrunk = script(&["a", "b", "c", "d", "e", "f", "g"]).shrunk(&mut |script| needed(script));
+        assert_eq!(shrunk, script(&["b", "e"]));
+        assert_eq!(script(&["a", "b"]).shrunk(&mut |_| true), script(&[]));
+    }
+}

@@ -1,0 +1,56 @@
+//! How many answers of each kind and number there were.
+
+use std::collections::BTreeMap;
+use std::fmt::{self, Display};
+
+#[derive(Default)]
+pub struct Tally {
+    pub scripts: usize,
+    pub lines: usize,
+    /// By the first four digits of an answer line.
+    answers: BTreeMap<[u8; 4], usize>,
+    /// Paths that came out, by the legs that they went over.
+    out: BTreeMap<usize, usize>,
+}
+
+impl Tally {
+    pub fn count(&mut self, answers: &[u8]) {
+        self.scripts += 1;
+        let mut legs = 0;
+        for line in answers.split_inclusive(|byte| *byte == b'\n') {
+            self.lines += 1;
+            let answer = *line.first_chunk().expect("kind and number");
+            *self.answers.entry(answer).or_default() += 1;
+            match &answer {
+                b"8300" | b"8400" => legs += 1,
+                b"8500" => *self.out.entry(legs).or_default() += 1,
+                _ => {}
+            }
+        }
+    }
+
+    /// The kind and the number of each answer that came, in digits.
+    pub fn answers(&self) -> impl Iterator<Item = [u8; 4]> {
+        self.answers.keys().copied()
+    }
+}
+
+/// A line for each kind, then how far paths came, then the numbers of scripts and lines.
+impl Display for Tally {
+    fn fmt(&self, f: &mut fmt::Formatter<'_>) -> fmt::Result {
+        let mut before = [0; 2];
+        for (answer @ [a, b, ..], count) in &self.answers {
+            let [kind, number] = [&answer[..2], &answer[2..]].map(<[u8]>::escape_ascii);
+            if before == [*a, *b] {
+                write!(f, ", {number}: {count}")?;
+            } else {
+                let gap = if before == [0; 2] { "" } else { "\n" };
+                write!(f, "{gap}answers {kind}  {number}: {count}")?;
+            }
+            before = [*a, *b];
+        }
+        let out: Vec<String> = self.out.iter().map(|(legs, paths)| format!("{legs}: {paths}")).collect();
+        write!(f, "\npaths that came out, by legs  {}", out.join(", "))?;
+        write!(f, "\nscripts: {}, lines: {}", self.scripts, self.lines)
+    }
+}

@@ -1,0 +1,169 @@
+//! What is kept between two lines, and what each frame answers.
+
+use crate::frame::Frame;
+use original::pcp::{MapFunction, relocates};
+use original::sdf::Path;
+use texts::LONGEST;
+use texts::legal::is_legal;
+
+pub const MOST_PAIRS: usize = 64;
+pub const MOST_LEGS: usize = 16;
+
+/// "In `frames` 32,768 over all legs": the bytes of the ends of all legs, before pairs are dropped.
+pub const MOST_BYTES: usize = 32_768;
+
+/// Document 01's number of a question that is answered "no".
+#[derive(Clone, Copy, Debug, PartialEq, Eq, PartialOrd, Ord)]
+#[repr(u8)]
+pub enum Refusal {
+    TooLong = 1,
+    NotLegal = 2,
+    NoEnd = 3,
+    TooMany = 4,
+    NoRoom = 5,
+    NoPath = 6,
+    MadeTooLong = 7,
+    MadeNotLegal = 8,
+}
+
+/// The payload of an answer 00.
+#[derive(Debug)]
+pub enum Payload {
+    Nothing,
+    Statuses(Vec<u8>),
+    Path(Path),
+    Count([u8; 4]),
+}
+
+impl Payload {
+    pub fn bytes(&self) -> &[u8] {
+        match self {
+            Payload::Nothing => &[],
+            Payload::Statuses(statuses) => statuses,
+            Payload::Path(path) => path.as_str().as_bytes(),
+            Payload::Count(count) => count,
+        }
+    }
+}
+
+#[derive(Default)]
+pub struct State {
+    open: Vec<(Path, Path)>,
+    legs: Vec<MapFunction>,
+    used: usize,
+    answered: u32,
+}
+
+impl State {
+    /// Answers one frame. A refused one changes nothing.
+    pub fn answer(&mut self, frame: Frame) -> Result<Payload, Refusal> {
+        match frame {
+            Frame::Pair { source, target } => self.add(source, target),
+            Frame::Statuses => Ok(Payload::Statuses(relocates::statuses(&self.open))),
+            Frame::CloseMap => self.close(self.open.clone(), false),
+            Frame::CloseRelocates => self.close(self.active(), true),
+            Frame::Out(path) => self.out(path),
+            Frame::Home(path) => self.home(path),
+            Frame::Count => Ok(Payload::Count(self.answered.to_be_bytes())),
+        }
+    }
+
+    fn add(&mut self, source: &[u8], target: &[u8]) -> Result<Payload, Refusal> {
+        let pair = match (end(source), end(target)) {
+            (Ok(source), Ok(target)) => (source, target),
+            // Each question is put to both ends before the next, so the smaller number is the answer.
+            (Err(one), Err(other)) => return Err(one.min(other)),
+            (Err(refusal), Ok(_)) | (Ok(_), Err(refusal)) => return Err(refusal),
+        };
+        if self.open.len() == MOST_PAIRS {
+            return Err(Refusal::TooMany);
+        }
+        self.open.push(pair);
+        Ok(Payload::Nothing)
+    }
+
+    /// The pairs of the open list whose status is Active.
+    fn active(&self) -> Vec<(Path, Path)> {
+        let statuses = relocates::statuses(&self.open);
+        let pairs = self.open.iter().zip(statuses);
+        pairs.filter(|(_, status)| *status == 0).map(|(pair, _)| pair.clone()).collect()
+    }
+
+    /// Makes a leg of `new` of the pairs, with `/`→`/` beside them where it is asked for, and empties the open list.
+    fn close(&mut self, mut pairs: Vec<(Path, Path)>, with_root: bool) -> Result<Payload, Refusal> {
+        if self.legs.len() == MOST_LEGS {
+            return Err(Refusal::TooMany);
+        }
+        let bytes = |(source, target): &(Path, Path)| source.as_str().len() + target.as_str().len();
+        let used = self.used + pairs.iter().map(bytes).sum::<usize>();
+        if used > MOST_BYTES {
+            return Err(Refusal::NoRoom);
+        }
+        if with_root {
+            pairs.push((Path::abs_root(), Path::abs_root()));
+        }
+        self.legs.push(MapFunction::new(pairs));
+        self.used = used;
+        self.open.clear();
+        Ok(Payload::Nothing)
+    }
+
+    fn out(&mut self, text: &[u8]) -> Result<Payload, Refusal> {
+        let step = |path: Path, leg: &MapFunction| made(leg.translate_to_target(&path));
+        let path = self.legs.iter().try_fold(path(text)?, step)?;
+        self.answered = self.answered.saturating_add(1);
+        Ok(Payload::Path(path))
+    }
+
+    fn home(&self, text: &[u8]) -> Result<Payload, Refusal> {
+        let step = |path: Path, leg: &MapFunction| made(leg.map_target_to_source(&path));
+        self.legs.iter().rev().try_fold(path(text)?, step).map(Payload::Path)
+    }
+}
+
+/// Questions 1 and 2.
+fn path(text: &[u8]) -> Result<Path, Refusal> {
+    if text.len() > LONGEST {
+        return Err(Refusal::TooLong);
+    }
+    match str::from_utf8(text) {
+        // The only legal text that `Path::new` refuses is the empty one.
+        Ok("") => Ok(Path::default()),
+        Ok(legal) if is_legal(text) => Path::new(legal).map_err(|_| Refusal::NotLegal),
+        _ => Err(Refusal::NotLegal),
+    }
+}
+
+/// Questions 1 to 3: "a prim path, `/` or empty".
+fn end(text: &[u8]) -> Result<Path, Refusal> {
+    let path = path(text)?;
+    if text.iter().any(|byte| b"{.".contains(byte)) { Err(Refusal::NoEnd) } else { Ok(path) }
+}
+
+/// Questions 6 to 8, put to what a leg gives.
+fn made(path: Option<Path>) -> Result<Path, Refusal> {
+    let path = path.ok_or(Refusal::NoPath)?;
+    let text = path.as_str().as_bytes();
+    if text.len() > LONGEST {
+        Err(Refusal::MadeTooLong)
+    } else if !is_legal(text) {
+        Err(Refusal::MadeNotLegal)
+    } else {
+        Ok(path)
+    }
+}
+
+#[cfg(test)]
+mod tests {
+    use super::State;
+    use crate::frame::Frame;
+
+    #[test]
+    fn the_count_is_held_at_its_largest() {
+        let mut state = State { answered: u32::MAX - 1, ..State::default() };
+        for _ in 0..3 {
+            state.answer(Frame::Out(b"/A")).expect("a path");
+            assert_eq!(state.answer(Frame::Count).expect("a count").bytes(), [0xFF; 4]);
+        }
+    }
+}

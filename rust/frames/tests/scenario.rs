@@ -1,0 +1,11 @@
+//! The scenario that is kept in the repository.
+
+use frames_original::answers;
+
+const FRAMES: &[u8] = include_bytes!("../../../scenarios/line-7.frames");
+const ANSWERS: &[u8] = include_bytes!("../../../scenarios/line-7.answers");
+
+#[test]
+fn line_7_gets_the_answers_stated() {
+    assert_eq!(answers(FRAMES).escape_ascii().to_string(), ANSWERS.escape_ascii().to_string());
+}
