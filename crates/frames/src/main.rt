@@ -1,0 +1,165 @@
+// The program `frames`: reads standard input, one frame of hexadecimal digits a line, and answers each line
+// on standard output before it reads on. Its memory is fixed: a block of input, the line so far, the open
+// list, the legs, and the answers to be written. It ends at the end of its input.
+use libc::STDIN_FILENO;
+use libc::STDOUT_FILENO;
+
+// Where the program is: what is left of the block, how long the line so far is, what is kept, and whether
+// there is more to do.
+struct Now {
+    at: usize,
+    end: usize,
+    len: usize,
+    kept: memory::Kept,
+    more: bool,
+}
+
+// Answers what it can of the bytes from `at` to `end`, and writes the answers.
+fn answer(
+    part: &[u8],
+    at: usize,
+    end: usize,
+    line: &mut [u8; 4096],
+    len: usize,
+    k: memory::Kept,
+    bytes: &mut [u8; 32640],
+    places: &mut [usize; 256],
+    store: &mut [u8; 32768],
+    slots: &mut [usize; 4096],
+    table: &mut [usize; 48],
+    out: &mut [u8; 65536],
+) -> Now {
+    let f = feeding::feed(part, line, len, k, bytes, places, store, slots, table, out);
+    let kept = f.kept;
+    let wrote = f.end;
+    let all = &out[..];
+    let is_written = io::write_all(STDOUT_FILENO, &all[..wrote]);
+    Now {
+        at: at + f.used,
+        end,
+        len: f.len,
+        kept,
+        more: is_written,
+    }
+}
+
+// Goes on by one step: answers what is left of the block, or reads the next one. At the end of the input a
+// line that lacks its newline is answered.
+fn step(
+    block: &mut [u8; 65536],
+    at: usize,
+    end: usize,
+    line: &mut [u8; 4096],
+    len: usize,
+    k: memory::Kept,
+    bytes: &mut [u8; 32640],
+    places: &mut [usize; 256],
+    store: &mut [u8; 32768],
+    slots: &mut [usize; 4096],
+    table: &mut [usize; 48],
+    out: &mut [u8; 65536],
+) -> Now {
+    if at < end {
+        let whole = &block[..];
+        return answer(
+            &whole[at..end],
+            at,
+            end,
+            line,
+            len,
+            k,
+            bytes,
+            places,
+            store,
+            slots,
+            table,
+            out,
+        );
+    }
+    let got = libc::read(STDIN_FILENO, block);
+    let n = io::count(got, block);
+    if n == 0 {
+        finish(line, len, k, bytes, places, store, slots, table, out);
+    }
+    Now {
+        at: 0,
+        end: n,
+        len,
+        kept: k,
+        more: n > 0,
+    }
+}
+
+// The input is at its end: answers a line that lacks its newline.
+fn finish(
+    line: &mut [u8; 4096],
+    len: usize,
+    k: memory::Kept,
+    bytes: &mut [u8; 32640],
+    places: &mut [usize; 256],
+    store: &mut [u8; 32768],
+    slots: &mut [usize; 4096],
+    table: &mut [usize; 48],
+    out: &mut [u8; 65536],
+) {
+    if len > 0 {
+        answer(
+            b"\n",
+            0,
+            1,
+            line,
+            len,
+            k,
+            bytes,
+            places,
+            store,
+            slots,
+            table,
+            out,
+        );
+    }
+}
+
+fn main() {
+    let mut block = [0u8; 65536];
+    let mut line = [0u8; 4096];
+    let mut bytes = [0u8; 32640];
+    let mut places = [0usize; 256];
+    let mut store = [0u8; 32768];
+    let mut slots = [0usize; 4096];
+    let mut table = [0usize; 48];
+    let mut out = [0u8; 65536];
+    let mut at = 0;
+    let mut end = 0;
+    let mut len = 0;
+    let mut kept = memory::Kept {
+        opened: holding::Opened { pairs: 0, bytes: 0 },
+        legs: closing::Legs { count: 0, bytes: 0 },
+        answered: 0,
+    };
+    let mut more = true;
+    let mut steps = u64::MAX;
+    while steps > 0 && more {
+        steps -= 1;
+        let now = step(
+            &mut block,
+            at,
+            end,
+            &mut line,
+            len,
+            kept,
+            &mut bytes,
+            &mut places,
+            &mut store,
+            &mut slots,
+            &mut table,
+            &mut out,
+        );
+        at = now.at;
+        end = now.end;
+        len = now.len;
+        let after = now.kept;
+        kept = after;
+        more = now.more;
+    }
+}
