@@ -1,10 +1,10 @@
 -- From the digits of a line to its answer: what each way gives. Assumes nothing.
-use mathlib.Core.Path.{_≡_, refl, sym, ap, _∙_}
+use mathlib.Core.Path.{_≡_, refl, sym, ap, _∙_, subst}
 use mathlib.Core.Logic.{_≢_}
 use mathlib.Core.Bool.{Bool, true, false, not, cond}
 use mathlib.Core.List.{[], _∷_}
 use mathlib.Core.Option.{Option, none, some}
-use Prim.Native.Nat.{ℕ, _+_, _*_, _≤_, _<_}
+use Prim.Native.Nat.{ℕ, _+_, _-_, _*_, _≤_, _<_}
 use native.Mathlib.Omega.{arith}
 use lib.Dec.{leb}
 use lib.ListN.{length, take, drop, length-append}
@@ -27,13 +27,13 @@ use Rattle.digits.proofs.DecodeLaws.{decoded-length}
 use Rattle.protocol.specs.Frame.{Frame, pair, statuses, close-map, close-relocates, out, home, count, kind, frameOf}
 use Rattle.protocol.specs.State.{Answer, given, refusal, answerBytes, Turn}
 use Rattle.protocol.specs.Run.{next, answer}
-use Rattle.protocol.specs.Input.{ofBytes, heard}
+use Rattle.protocol.specs.Input.{ofBytes, heard, answerLine}
 use Rattle.frame.specs.declared.Read.{Read}
 use Rattle.frame.specs.declared.Read.the-variants.{Pair, Statuses, CloseMap, CloseRelocates, Out, Home, Count, Bad}
 use Rattle.frame.specs.Read.{meant}
 use Rattle.memory.specs.Memory.{Memory, turnIn}
 use Rattle.answering.specs.Acting.{replyOf, payloadOf, Took, Acted, kindIn}
-use Rattle.answering.specs.Answer.{lineText, replyLine, Fitting, Wrote, Heard, AnswersFrame}
+use Rattle.answering.specs.Answer.{lineText, replyLine, Fitting, Wrote, Heard, AnswersFrame, memoryAfter, endAfter, outAfter}
 
 -- `hear`
 module _ (line : Text) (len : ℕ) where
@@ -71,7 +71,7 @@ module _ (line : Text) (len : ℕ) where
     short = rw (length-take-le len line i) h
 
     -- the frame of what was decoded is that of the line
-    hears : (r : ℕ) → (r ≤ 2048) × (frameOf (take r bytes) ≡ ofBytes (decoded (take len line))) → Heard (lineAt len line) r bytes
+    hears : (r : ℕ) → (r ≤ length bytes) × (frameOf (take r bytes) ≡ ofBytes (decoded (take len line))) → Heard (lineAt len line) r bytes
     unfolding Heard heard
     hears r w = rw a-line w
 
@@ -81,14 +81,15 @@ module _ (line : Text) (len : ℕ) where
     pub hear-bytes : (n : ℕ) → d ≡ Bytes n → Heard (lineAt len line) n bytes
     hear-bytes n w = hears n (go (decoded (take len line)) refl (sym w ∙ (rw room at e)) f)
       where
-        go : (o : Option Text) → decoded (take len line) ≡ o → Bytes n ≡ decodeReply o 2048 → bytes ≡ decodeMemory o before → (n ≤ 2048) × (frameOf (take n bytes) ≡ ofBytes o)
+        go : (o : Option Text) → decoded (take len line) ≡ o → Bytes n ≡ decodeReply o 2048 → bytes ≡ decodeMemory o before → (n ≤ length bytes) × (frameOf (take n bytes) ≡ ofBytes o)
         go none x y z = absurd (let v : _≡_ {A = ℕ} 0 1 = cc in omega arith)
         go (some t) x y z =
             let l : length t ≤ 2048 = fits-half t x in
             let u : Bytes n ≡ Bytes (length t) = y ∙ rw (le-leb (length t) 2048 l) refl in
-            let k : n ≡ length t = cc in (
-              rw k l,
-              ap frameOf (ap (λ (j : ℕ). take j bytes) k ∙ ap (take (length t)) (z ∙ placed-first t before (rw room l)) ∙ read-back t before),
+            let k : n ≡ length t = cc in
+            let v : bytes ≡ written t before = z ∙ placed-first t before (rw room l) in (
+              omega (arith, k, ap length v, length-append t (drop (length t) before)),
+              ap frameOf (ap (λ (j : ℕ). take j bytes) k ∙ ap (take (length t)) v ∙ read-back t before),
             )
 
     -- nothing was heard
@@ -131,7 +132,7 @@ says : (b : Text) (r : Read) → kindIn (length b) r ≢ 0 → Says b r
 unfolding meant
 says b (Pair n m) h = go (leb (5 + n + m) (length b)) refl h
   where
-    go : (t : Bool) → leb (5 + n + m) (length b) ≡ t → cond t 1 0 ≢ 0 → Says b (Pair n m)
+    go : (t : Bool) → leb (5 + n + m) (length b) ≡ t → _≢_ {A = ℕ} (cond t 1 0) 0 → Says b (Pair n m)
     go true e h = record { frame = pair (take n (drop 3 b)) (take m (drop (5 + n) b)); read = rw e refl; kinds = rw e refl }
     go false e h = absurd (h refl)
 says b Statuses h = record { frame = statuses; read = refl; kinds = refl }
@@ -146,7 +147,7 @@ silent-kind : (b : Text) (r : Read) → kindIn (length b) r ≡ 0 → meant b r 
 unfolding meant
 silent-kind b (Pair n m) h = go (leb (5 + n + m) (length b)) h
   where
-    go : (t : Bool) → cond t 1 0 ≡ 0 → cond t (some (pair (take n (drop 3 b)) (take m (drop (5 + n) b)))) none ≡ none
+    go : (t : Bool) → _≡_ {A = ℕ} (cond t 1 0) 0 → cond t (some (pair (take n (drop 3 b)) (take m (drop (5 + n) b)))) none ≡ none
     go true h = absurd (omega arith)
     go false h = refl
 silent-kind b Statuses h = absurd (omega arith)
@@ -186,6 +187,13 @@ pub fitting-room : (r : Reply) (n room : ℕ) → r ≡ Written n → Fitting r 
 unfolding Fitting
 fitting-room r n room e f = rw e at f
 
+pub part-length : (n : ℕ) (t : Text) → n ≤ length t → n ≡ length (take n t)
+part-length n t h = sym (length-take-le n t h)
+
+pub reply-room : (n at : ℕ) (payload before : Text) → n ≤ length payload → length payload ≡ 255 → at + 515 ≤ length before
+    → at + 5 + 2 * length (take n payload) ≤ length before
+reply-room n at payload before h e r = omega (arith, part-length n payload h, e, r, h)
+
 -- `answer_frame`
 module _ (b : Text) (r : Read) (e : meant b r ≡ frameOf b) (k : ℕ) (h : k ≡ kindIn (length b) r) (m : Memory) (at end : ℕ) (before behind : Text) where
   pub frame-bad : k ≡ 0 → Wrote (lineText (255 ∷ 9 ∷ [])) at end before behind → AnswersFrame (frameOf b) m m at end before behind
@@ -207,20 +215,58 @@ module _ (b : Text) (r : Read) (e : meant b r ≡ frameOf b) (k : ℕ) (h : k �
     unfolding Acted
     took = a (said .frame) (said .read)
 
+    is-frame : some (said .frame) ≡ frameOf b
+    is-frame = sym (said .read) ∙ e
+
+    line-same : replyLine (k + 128) reply payload′ ≡ lineText (answer turnIn m (frameOf b))
+    line-same =
+        let t = took in
+        reply-line ((turnIn m (said .frame)) .answer) (k + 128) reply payload payload′ (t .reply) (t .payload)
+        ∙ ap (λ (n : ℕ). lineText ((n + 128) ∷ answerBytes ((turnIn m (said .frame)) .answer))) (h ∙ said .kinds)
+        ∙ ap (λ (o : Option Frame). lineText (answer turnIn m o)) is-frame
+
     pub frame-acted : Wrote (replyLine (k + 128) reply payload′) at end before behind → AnswersFrame (frameOf b) m m′ at end before behind
     unfolding AnswersFrame
-    frame-acted w =
-        let t = took in
-        let n : k ≡ kind (said .frame) = h ∙ said .kinds in
-        rw (← e, said .read) (
-          t .state,
-          rw (← n, ← (reply-line ((turnIn m (said .frame)) .answer) (k + 128) reply payload payload′ (t .reply) (t .payload))) w,
-        )
+    frame-acted w = (took .state ∙ ap (next turnIn m) is-frame, subst (λ (t : Text). Wrote t at end before behind) line-same w)
 
-    pub frame-fits : length payload′ ≡ 255 → Fitting reply 255
+    pub frame-fits : Fitting reply (length payload′)
     unfolding Fitting
-    frame-fits l = go ((turnIn m (said .frame)) .answer) (took .reply) (took .payload)
+    frame-fits = go ((turnIn m (said .frame)) .answer) (took .reply) (took .payload)
       where
-        go : (x : Answer) → reply ≡ replyOf x → payload′ ≡ payloadOf x payload → Fitting reply 255
-        go (given q) f g = rw f (omega (arith, l, ap length g, length-append q (drop (length q) payload)))
+        go : (x : Answer) → reply ≡ replyOf x → payload′ ≡ payloadOf x payload → Fitting reply (length payload′)
+        go (given q) f g = rw f (omega (arith, ap length g, length-append q (drop (length q) payload)))
         go (refusal x) f g = rw f (omega arith)
+
+-- `has_room`
+pub room-short : (at len : ℕ) → len < 515 → false ≡ leb (at + 515) len
+room-short at len h = sym (lt-leb (at + 515) len (omega (arith, h)))
+
+pub room-rest : (at len : ℕ) → 515 ≤ len → leb at (len - 515) ≡ leb (at + 515) len
+room-rest at len h = go (leb at (len - 515)) refl
+  where
+    go : (b : Bool) → leb at (len - 515) ≡ b → b ≡ leb (at + 515) len
+    go true e = sym (le-leb (at + 515) len (omega (arith, leb-true at (len - 515) e, h)))
+    go false e = sym (lt-leb (at + 515) len (omega (arith, leb-false at (len - 515) e, h)))
+
+-- `answer_line`
+pub line-room : (at : ℕ) (before : Text) (b : Bool) → b ≡ leb (at + 515) (length before) → not b ≡ false → at + 515 ≤ length before
+line-room at before b e h = leb-true (at + 515) (length before) (told-true e h)
+
+module _ (l : Line) (m : Memory) (at : ℕ) (before : Text) (b : Bool) (e : b ≡ leb (at + 515) (length before)) where
+  abbrev Answers : Memory → ℕ → Text → Type 0
+  Answers m′ end behind = (m′ ≡ memoryAfter at before m l) × ((end ≡ endAfter at before m l) × (behind ≡ outAfter at before m l))
+
+  pub line-refused : not b ≡ true → Answers m at before
+  unfolding memoryAfter endAfter outAfter
+  line-refused h = rw (told-false e h) (refl, (refl, refl))
+
+  pub line-answered : not b ≡ false → (n : ℕ) (bytes : Text) → Heard l n bytes → (m′ : Memory) (end : ℕ) (behind : Text)
+      → AnswersFrame (frameOf (take n bytes)) m m′ at end before behind → Answers m′ end behind
+  unfolding memoryAfter endAfter outAfter Heard AnswersFrame Wrote lineText answerLine
+  line-answered h n bytes g m′ end behind a =
+      let w = subst (λ (o : Option Frame). AnswersFrame o m m′ at end before behind) (g .1) a in
+      rw (told-true e h) (w .0, (w .1 .0, w .1 .1))
+
+pub heard-few : (l : Line) (n : ℕ) (bytes : Text) → Heard l n bytes → n ≤ length bytes
+unfolding Heard
+heard-few l n bytes g = g .0

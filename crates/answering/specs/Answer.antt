@@ -48,7 +48,7 @@ Wrote t at end before behind = (end ≡ at + length t) × (behind ≡ over at t 
 -- the digits of a line stand for r bytes, from which the frame is read
 unfoldable pub Heard : Line → ℕ → Text → Type 0
 unfolding heard frameOf
-Heard l r bytes = (r ≤ 2048) × (frameOf (take r bytes) ≡ heard l)
+Heard l r bytes = (r ≤ length bytes) × (frameOf (take r bytes) ≡ heard l)
 
 -- what a frame, or none, makes of the memory, and its answer
 unfoldable pub AnswersFrame : Option Frame → Memory → Memory → ℕ → ℕ → Text → Text → Type 0

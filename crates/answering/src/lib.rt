@@ -14,7 +14,7 @@ ghost use Rattle.protocol.specs.Frame.{frameOf};
 ghost use Rattle.memory.specs.Memory.{memory, statusesIn, goesIn};
 ghost use Rattle.answering.specs.declared.Effect.{Effect};
 ghost use Rattle.answering.specs.Acting.{countsReply, kindIn, Gave, Went, Acted, OpenActed, CloseActed};
-ghost use Rattle.answering.specs.Answer.{lineText, replyLine, Fitting, Wrote, Heard, AnswersFrame};
+ghost use Rattle.answering.specs.Answer.{lineText, replyLine, Fitting, Wrote, Heard, AnswersFrame, memoryAfter, outAfter, endAfter};
 
 // What a frame came to: the numbers that are kept, and the reply; its bytes, where there are any, stand at
 // the beginning of the payload.
@@ -361,4 +361,51 @@ fn hear(line: &[u8], len: usize, frame: &mut [u8]) -> usize
         digits::Decoded::Bad => 0,
         digits::Decoded::Over => 0,
     }
+}
+
+// Is there room for the longest answer behind `at` bytes?
+fn has_room(at: usize, len: usize) -> bool
+    ensures { λ r. ⌜ r ≡ leb (at + 515) len ⌝ }
+{
+    if len < 515 {
+        return false;
+    }
+    at <= len - 515
+}
+
+// Answers the line of `len` bytes behind `at` bytes of out, and does what it says. A line with more bytes
+// than its memory, or than a line has, is overlong. Where there is no room for the longest answer, nothing
+// is taken, changed or written.
+pub fn answer_line(
+    line: &[u8],
+    len: usize,
+    k: memory::Kept,
+    bytes: &mut [u8],
+    places: &mut [usize],
+    store: &mut [u8],
+    slots: &mut [usize],
+    table: &mut [usize],
+    at: usize,
+    out: &mut [u8],
+) -> Answered
+    ensures { λ r. ⌜ memory (r .kept) (now (bytes .exit)) (now (places .exit)) (now (store .exit)) (now (slots .exit)) (now (table .exit)) ≡ memoryAfter at (now (out .entry)) (memory k (now (bytes .entry)) (now (places .entry)) (now (store .entry)) (now (slots .entry)) (now (table .entry))) (lineAt len (now (line .entry))) ⌝ }
+    ensures { λ r. ⌜ r .end ≡ endAfter at (now (out .entry)) (memory k (now (bytes .entry)) (now (places .entry)) (now (store .entry)) (now (slots .entry)) (now (table .entry))) (lineAt len (now (line .entry))) ⌝ }
+    ensures { λ r. ⌜ now (out .exit) ≡ outAfter at (now (out .entry)) (memory k (now (bytes .entry)) (now (places .entry)) (now (store .entry)) (now (slots .entry)) (now (table .entry))) (lineAt len (now (line .entry))) ⌝ }
+{
+    if !has_room(at, out.len()) {
+        return Answered { kept: k, end: at };
+    }
+    let mut frame = [0u8; 2048];
+    let n = hear(line, len, &mut frame);
+    answer_frame(
+        &frame[..n],
+        k,
+        bytes,
+        places,
+        store,
+        slots,
+        table,
+        at,
+        out,
+    )
 }

@@ -1,3 +1,7 @@
+use lib.ListN.{length}
+use mathlib.Core.List.{[]}
+use native.Mathlib.Omega.{arith}
+use Rattle.answering.proofs.FrameWays.{kind-few, frame-bad, frame-acted, frame-fits}
 use borrow.Author.Needs.{needs}
 use Rattle.answering.proofs.answer_frame.Statement.{statement}
 use Rattle.answering.proofs.answer_frame.Tie as tie
@@ -31,7 +35,7 @@ same-length c = search needs
 
 -- src/lib.rt:321:9
 returns : tie.Need-returns
-returns c = ?
+returns c = frame-bad _ _ (c .before .before .before .before .before .before .before .read-frame .ensures) _ (c .before .before .before .before .before .before .kind-of .ensures) _ _ _ _ _ (c .before .before .before .before .before .if1 .taken) (c .before .before .write-line .ensures)
 
 -- src/lib.rt:333:9
 slice-aggregate-act : tie.Need-slice-aggregate-act
@@ -43,7 +47,7 @@ act-requires c κs = search needs
 
 -- src/lib.rt:337:27
 add-write-reply : tie.Need-add-write-reply
-add-write-reply c = ?
+add-write-reply c = omega (arith, kind-few (length (c .before .before .before .before .before .before .before .before .before .before .before .before .before .before .before .before .before .before .before .before .before .before .before .before .before .before .before .before .before .args .frame .now)) (c .before .before .before .before .before .before .before .before .before .before .before .before .before .before .before .before .before .before .before .before .before .read-frame .result), c .before .before .before .before .before .before .before .before .before .before .before .before .before .before .before .before .before .before .before .before .kind-of .ensures)
 
 -- src/lib.rt:337:46
 slice-aggregate-write-reply : tie.Need-slice-aggregate-write-reply
@@ -51,7 +55,7 @@ slice-aggregate-write-reply c = search needs
 
 -- src/lib.rt:337:9
 write-reply-requires : tie.Need-write-reply-requires
-write-reply-requires c κs = ?
+write-reply-requires c κs = (frame-fits _ _ (c .before .before .before .before .before .before .before .before .before .before .before .before .before .before .before .before .before .before .before .before .before .before .before .read-frame .ensures) _ (c .before .before .before .before .before .before .before .before .before .before .before .before .before .before .before .before .before .before .before .before .before .before .kind-of .ensures) _ 0 0 [] [] _ _ _ _ (c .before .before .before .before .before .before .before .before .before .before .before .before .before .before .act .ensures) (c .before .before .before .before .before .before .before .before .before .before .before .before .before .before .before .before .before .before .before .before .before .if1 .left), (search needs, c .before .before .before .before .before .before .before .before .before .before .before .before .before .before .before .before .before .before .before .before .before .before .before .before .before .before .before .before .before .before .before .pre))
 
 -- src/lib.rt:303:1
 same-length-2 : tie.Need-same-length-2
@@ -79,7 +83,7 @@ same-length-7 c = search needs
 
 -- src/lib.rt:303:1
 returns-2 : tie.Need-returns-2
-returns-2 c = ?
+returns-2 c = frame-acted _ _ (c .before .before .before .before .before .before .before .before .before .before .before .before .before .before .before .before .before .before .before .before .before .before .before .before .before .before .read-frame .ensures) _ (c .before .before .before .before .before .before .before .before .before .before .before .before .before .before .before .before .before .before .before .before .before .before .before .before .before .kind-of .ensures) _ _ _ _ _ _ _ _ _ (c .before .before .before .before .before .before .before .before .before .before .before .before .before .before .before .before .before .act .ensures) (c .before .before .before .before .before .before .before .before .before .before .before .before .before .before .before .before .before .before .before .before .before .before .before .before .if1 .left) (c .before .before .write-reply .ensures)
 
 pub answer-frame-spec : {M : Type 1} → statement M
 answer-frame-spec =

@@ -1,3 +1,5 @@
+use Rattle.answering.proofs.FrameWays.{part-length}
+use Rattle.answering.proofs.FrameWays.{hear-long, hear-beyond, hear-bytes, hear-bad, hear-over}
 use borrow.Author.Needs.{needs}
 use Rattle.answering.proofs.hear.Statement.{statement}
 use Rattle.answering.proofs.hear.Tie as tie
@@ -7,15 +9,15 @@ use Rattle.digits.proofs.decode.Reads as decode-reads
 
 -- src/lib.rt:348:9
 returns : tie.Need-returns
-returns c = ?
+returns c = hear-long _ _ _ (c .if1 .taken)
 
 -- src/lib.rt:351:9
 returns-2 : tie.Need-returns-2
-returns-2 c = ?
+returns-2 c = hear-beyond _ _ _ (c .if2 .taken)
 
 -- src/lib.rt:353:28
 slice-aggregate-decode : tie.Need-slice-aggregate-decode
-slice-aggregate-decode c = ?
+slice-aggregate-decode c = part-length _ _ (c .before .if2 .left)
 
 -- src/lib.rt:353:9
 decode-requires : tie.Need-decode-requires
@@ -39,7 +41,7 @@ same-length c = search needs
 
 -- src/lib.rt:343:1
 returns-3 : tie.Need-returns-3
-returns-3 c = ?
+returns-3 c = hear-bytes _ _ (c .before .before .before .before .before .before .before .before .before .if1 .left) (c .before .before .before .before .before .before .before .before .if2 .left) _ _ _ (c .before .before .before .before .before .before .before .before .before .before .before .before .pre) (c .before .before .before .before .before .decode .ensures .0) (c .before .before .before .before .before .decode .ensures .1) _ (c .before .d .given .1)
 
 -- src/lib.rt:343:1
 same-length-2 : tie.Need-same-length-2
@@ -47,7 +49,7 @@ same-length-2 c = search needs
 
 -- src/lib.rt:343:1
 returns-4 : tie.Need-returns-4
-returns-4 c = ?
+returns-4 c = hear-bad _ _ (c .before .before .before .before .before .before .before .before .if1 .left) (c .before .before .before .before .before .before .before .if2 .left) _ _ _ (c .before .before .before .before .before .before .before .before .before .before .before .pre) (c .before .before .before .before .decode .ensures .0) (c .before .before .before .before .decode .ensures .1) (c .enum-told .given .1)
 
 -- src/lib.rt:343:1
 same-length-3 : tie.Need-same-length-3
@@ -55,7 +57,7 @@ same-length-3 c = search needs
 
 -- src/lib.rt:343:1
 returns-5 : tie.Need-returns-5
-returns-5 c = ?
+returns-5 c = hear-over _ _ (c .before .before .before .before .before .before .before .before .if1 .left) (c .before .before .before .before .before .before .before .if2 .left) _ _ _ (c .before .before .before .before .before .before .before .before .before .before .before .pre) (c .before .before .before .before .decode .ensures .0) (c .before .before .before .before .decode .ensures .1) (c .enum-told2 .given .1)
 
 pub hear-spec : {M : Type 1} → statement M
 hear-spec =
