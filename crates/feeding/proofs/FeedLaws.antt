@@ -1,7 +1,7 @@
 -- Bytes that go through the machine: one part after another, and what a caller of `feed` makes of two calls. Assumes nothing.
 use mathlib.Core.Path.{_≡_, refl, sym, ap, _∙_}
 use mathlib.Core.List.{[], _∷_, _++_}
-use Prim.Native.Nat.{ℕ, _+_, _-_, _≤_, _<_}
+use Prim.Native.Nat.{ℕ, zero, suc, _+_, _-_, _≤_, _<_}
 use native.Mathlib.Nat.{zero-add}
 use native.Mathlib.Omega.{arith}
 use lib.ListN.{length, take, drop, length-append, length-take, length-drop, take-append-drop}
@@ -91,7 +91,13 @@ feeds-said most c block out r c′ out′ f = rw (f .ends, f .wrote) (read-back 
 pub feeds-on : (most : ℕ) (c : Line × Memory) (block out : Text) (r : Fed) (c′ : Line × Memory) (out′ : Text) → Feeds most c block out r c′ out′
     → 0 < length block → longest ≤ length out → 0 < r .used
 unfolding said
-feeds-on most c block out r c′ out′ f b h = ?
+feeds-on most c block out r c′ out′ f b h = go (r .used) refl
+  where
+    go : (n : ℕ) → r .used ≡ n → 0 < n
+    go zero e =
+        let s : r .end ≡ 0 = f .ends ∙ ap (λ (n : ℕ). length (saidIn most c (take n block))) e in
+        absurd (omega (arith, f .further (omega (arith, e)), s))
+    go (suc n) e = omega arith
 
 -- what is left of a block is fed as a block of its own: the machine goes on, and the answers of both are those of the whole
 pub feeds-then : (most : ℕ) (c c₁ c₂ : Line × Memory) (block out₁ out₁′ out₂ out₂′ : Text) (r₁ r₂ : Fed) → Feeds most c block out₁ r₁ c₁ out₁′
