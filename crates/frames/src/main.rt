@@ -1,8 +1,19 @@
 // The program `frames`: reads standard input, one frame of hexadecimal digits a line, and answers each line
 // on standard output before it reads on. Its memory is fixed: a block of input, the line so far, the open
 // list, the legs, and the answers to be written. It ends at the end of its input.
+ghost use Prim.Native.Nat.{_≤_};
+ghost use lib.ListN.{length};
 use libc::STDIN_FILENO;
 use libc::STDOUT_FILENO;
+
+// What was made of some bytes: how many were used, how long the line so far is, what is kept, and whether
+// the answers were written.
+struct Part {
+    used: usize,
+    len: usize,
+    kept: memory::Kept,
+    written: bool,
+}
 
 // Where the program is: what is left of the block, how long the line so far is, what is kept, and whether
 // there is more to do.
@@ -14,11 +25,9 @@ struct Now {
     more: bool,
 }
 
-// Answers what it can of the bytes from `at` to `end`, and writes the answers.
+// Answers what it can of some bytes, and writes the answers.
 fn answer(
     part: &[u8],
-    at: usize,
-    end: usize,
     line: &mut [u8; 4096],
     len: usize,
     k: memory::Kept,
@@ -28,18 +37,19 @@ fn answer(
     slots: &mut [usize; 4096],
     table: &mut [usize; 48],
     out: &mut [u8; 65536],
-) -> Now {
+) -> Part
+    ensures { λ r. ⌜ r .used ≤ length (now (part .entry)) ⌝ }
+{
     let f = feeding::feed(part, line, len, k, bytes, places, store, slots, table, out);
     let kept = f.kept;
     let wrote = f.end;
     let all = &out[..];
-    let is_written = io::write_all(STDOUT_FILENO, &all[..wrote]);
-    Now {
-        at: at + f.used,
-        end,
+    let written = io::write_all(STDOUT_FILENO, &all[..wrote]);
+    Part {
+        used: f.used,
         len: f.len,
         kept,
-        more: is_written,
+        written,
     }
 }
 
@@ -59,22 +69,18 @@ fn step(
     table: &mut [usize; 48],
     out: &mut [u8; 65536],
 ) -> Now {
-    if at < end {
+    if at < end && end <= 65536 {
         let whole = &block[..];
-        return answer(
-            &whole[at..end],
-            at,
+        let part = &whole[at..end];
+        let p = answer(part, line, len, k, bytes, places, store, slots, table, out);
+        let kept = p.kept;
+        return Now {
+            at: at + p.used,
             end,
-            line,
-            len,
-            k,
-            bytes,
-            places,
-            store,
-            slots,
-            table,
-            out,
-        );
+            len: p.len,
+            kept,
+            more: p.written,
+        };
     }
     let got = libc::read(STDIN_FILENO, block);
     let n = io::count(got, block);
@@ -105,8 +111,6 @@ fn finish(
     if len > 0 {
         answer(
             b"\n",
-            0,
-            1,
             line,
             len,
             k,
