@@ -11,7 +11,7 @@
    for its whole length, and what is written must not overlap anything else that is lent to the same call; with length 0
    the pointer is not followed and may be NULL. Nothing else is asked of the caller: every text, place, count and float may
    have any value. A text needs no 0 at its end, and none is written behind an answer. A `bool` is false or true. Working
-   memory of its own a call takes from the stack, in the calls on two maps up to about 300 KiB.
+   memory of its own a call takes from the stack, up to about 300 KiB.
 
    A REPLY is one number: 256 times a value, and document 01's number in its low byte, which is 0 for an answer and one of
    the numbers below for a refusal. The value of a refusal is 0. A refused call writes nothing. An accepted one writes the
