@@ -49,6 +49,6 @@ module _ (h a : ℕ) (payload out : Text) (at : ℕ) (room : at + 5 + 2 * length
       let n : at + 4 + 2 * length payload ≡ at + length digits = omega (arith, size) in (
         rw (length-append digits (10 ∷ [])) (omega (arith, size)),
         g ∙ ap (λ (k : ℕ). placed k (10 ∷ []) two) n
-        ∙ ap (placed (at + length digits) (10 ∷ [])) (f ∙ ap (placed (at + 4) (encoded payload)) e ∙ both ∙ sym (placed-fits at digits out (omega (arith, size, room))))
-        ∙ over-over at digits (10 ∷ []) out (omega (arith, size, room)),
+            ∙ ap (placed (at + length digits) (10 ∷ [])) (f ∙ ap (placed (at + 4) (encoded payload)) e ∙ both ∙ sym (placed-fits at digits out (omega (arith, size, room))))
+            ∙ over-over at digits (10 ∷ []) out (omega (arith, size, room)),
       )

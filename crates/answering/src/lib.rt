@@ -397,15 +397,5 @@ pub fn answer_line(
     }
     let mut frame = [0u8; 2048];
     let n = hear(line, len, &mut frame);
-    answer_frame(
-        &frame[..n],
-        k,
-        bytes,
-        places,
-        store,
-        slots,
-        table,
-        at,
-        out,
-    )
+    answer_frame(&frame[..n], k, bytes, places, store, slots, table, at, out)
 }
