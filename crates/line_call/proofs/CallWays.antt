@@ -20,7 +20,7 @@ use Rattle.lines.specs.Lines.{Line}
 use Rattle.protocol.specs.Input.{nextLine, answerLine}
 use Rattle.memory.specs.declared.Kept.{Kept}
 use Rattle.memory.specs.Memory.{Memory, memory, turnIn}
-use Rattle.answering.specs.Answer.{longest, memoryAfter, endAfter, outAfter}
+use Rattle.answering.specs.Answer.{memoryAfter, endAfter, outAfter}
 use Rattle.line_call.specs.Call.{keptOf, fiveOf, callAsked, callReply, callMemory, callOut, callKept}
 
 -- `write_kept`

@@ -1,18 +1,13 @@
 use Rattle.line_call.proofs.CallWays.{few-kept, few-out, enough}
 use Rattle.line_call.proofs.ask_room.Statement.{statement}
 use Rattle.line_call.proofs.ask_room.Tie as tie
-use Rattle.line_call.proofs.ask_room.Reads as reads
-use Rattle.line_call.proofs.ask_room.Lts as lts
 
--- src/lib.rt:47:9
 returns : tie.Need-returns
 returns c = few-kept _ (c .before .args .out .now) (c .if1 .taken)
 
--- src/lib.rt:50:9
 returns-2 : tie.Need-returns-2
 returns-2 c = few-out _ _ (c .before .if1 .left) (c .if2 .taken)
 
--- src/lib.rt:43:1
 returns-3 : tie.Need-returns-3
 returns-3 c = enough _ _ (c .before .if1 .left) (c .if2 .left)
 
