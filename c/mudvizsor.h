@@ -94,6 +94,17 @@ enum {
     MUDVIZSOR_MAP_SLOTS = 256
 };
 
+/* What mudvizsor_frames_line is lent: as many bytes or numbers in each. */
+enum {
+    MUDVIZSOR_FRAMES_KEPT = 5,
+    MUDVIZSOR_FRAMES_BYTES = 32640,
+    MUDVIZSOR_FRAMES_PLACES = 256,
+    MUDVIZSOR_FRAMES_STORE = 32768,
+    MUDVIZSOR_FRAMES_SLOTS = 4096,
+    MUDVIZSOR_FRAMES_TABLE = 48,
+    MUDVIZSOR_FRAMES_OUT = 515
+};
+
 /* Document 01's number: 0 for an answer. */
 static inline int mudvizsor_number(size_t reply) { return (int)(reply % 256); }
 
@@ -290,6 +301,19 @@ size_t mudvizsor_route_all(
     const char *store, size_t store_length, const size_t *places, size_t places_length, const size_t *legs,
     size_t legs_length, size_t count, bool home, const char *texts, size_t texts_length, const size_t *spots,
     size_t spots_length, size_t n, char *out, size_t out_length, size_t *replies, size_t replies_length);
+
+/* ---- A line of the program `frames` ---- */
+
+/* Does what a line of hexadecimal digits says, given without its newline, and writes the answer line with its newline to
+   out; the value is its length. Bad frames are answered too, with FF09. Between two calls the caller keeps, unaltered, the
+   five numbers of `kept`, all 0 at first (pairs and bytes of the open list, legs and their bytes, 05 frames answered 00), the
+   open list in `bytes` and `places`, and the legs in `store`, `slots` and `table`, whose first contents do not matter. The
+   constants above have enough of each; a frame for which there is not enough is answered with 05, and memory that was
+   altered changes the answers and nothing else. Kept: 5 numbers. Out: 515 bytes. Refusals: 5. */
+size_t mudvizsor_frames_line(
+    const char *line, size_t line_length, size_t *kept, size_t kept_length, char *bytes, size_t bytes_length,
+    size_t *places, size_t places_length, char *store, size_t store_length, size_t *slots, size_t slots_length,
+    size_t *table, size_t table_length, char *out, size_t out_length);
 
 /* ---- Time offsets ----
 

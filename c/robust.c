@@ -50,7 +50,10 @@ static double some_float(void) {
 
 /* ---- What is lent: its contents, and where they lie ---- */
 
-enum { STORE, PLACES, ISTORE, IPLACES, LEGS, PATH, SECOND, THIRD, TEXTS, SPOTS, OUT, SLOTS, TIME, LENT };
+enum {
+    STORE, PLACES, ISTORE, IPLACES, LEGS, PATH, SECOND, THIRD, TEXTS, SPOTS, OUT, SLOTS, TIME,
+    KEPT, OPEN_BYTES, OPEN_PLACES, LEG_STORE, LEG_SLOTS, LEG_TABLE, LENT
+};
 enum { CAPACITY = 1 << 18, ZONE = 64 };
 enum where { BEFORE_GUARD, BEHIND_GUARD, HEAP };
 
@@ -535,16 +538,16 @@ static void call_twice(struct entry *entry) {
     make_input(entry);
     make_rooms(entry);
     size_t lengths[LENT] = {0}, first = call_once(entry);
-    for (size_t i = OUT; i < LENT; i++) {
+    for (size_t i = OUT; i <= TIME; i++) {
         if (!(entry->uses & BIT(i))) continue;
         lengths[i] = filled(entry, i, first);
         if (lengths[i] > 0) memcpy(answers[i], lent[i].at, lengths[i]);
     }
     give_all_back(entry);
-    for (size_t i = OUT; i < LENT; i++) make_room(i, contents[i].length);
+    for (size_t i = OUT; i <= TIME; i++) make_room(i, contents[i].length);
     size_t second = call_once(entry);
     check(first == second, "another reply to the same call");
-    for (size_t i = OUT; i < LENT; i++)
+    for (size_t i = OUT; i <= TIME; i++)
         if (lengths[i] > 0) check(memcmp(answers[i], lent[i].at, lengths[i]) == 0, "another answer to the same call");
     give_all_back(entry);
 }
@@ -606,6 +609,114 @@ static void call_times(void) {
     give_back(TIME);
 }
 
+/* ---- Lines of frames ---- */
+
+static size_t frames_answered, frames_refused;
+
+static void put_digits(size_t byte) {
+    const char digits[] = "0123456789ABCDEF0123456789abcdef";
+    size_t lower = percent(50) ? 16 : 0, at = contents[PATH].length;
+    contents[PATH].bytes[at] = (unsigned char)digits[lower + byte / 16 % 16];
+    contents[PATH].bytes[at + 1] = (unsigned char)digits[lower + byte % 16];
+    contents[PATH].length = at + 2;
+}
+
+static void put_frame_text(const char *text, size_t length, bool counted) {
+    if (counted) put_digits(length / 256), put_digits(length);
+    for (size_t i = 0; i < length; i++) put_digits((unsigned char)text[i]);
+}
+
+/* A frame by chance, mostly well formed; now and then noise or an overlong line. */
+static void make_line(void) {
+    char text[TEXT_MOST + 16];
+    size_t kind = percent(97) ? 1 + below(7) : below(256);
+    contents[PATH].length = 0;
+    if (kind > 2 && kind < 5 && percent(60)) kind = 1;
+    put_digits(kind);
+    for (size_t i = 0; i < 2 && kind == 1; i++) put_frame_text(text, some_end(text, percent(10)), true);
+    if (kind == 5 || kind == 6) put_frame_text(text, some_text(text), false);
+    if (percent(4)) contents[PATH].bytes[below(contents[PATH].length)] = (unsigned char)chance();
+    if (percent(2)) contents[PATH].length -= 1;
+    if (percent(1)) contents[PATH].length += 4090 + below(10);
+}
+
+/* Memory of a new run, of any length; or one number of what is there altered. */
+static void make_frames_memory(void) {
+    const size_t enough[] = {5 * 8, 32640, 256 * 8, 32768, 4096 * 8, 48 * 8};
+    for (size_t i = KEPT; i < LENT; i++) {
+        size_t whole = enough[i - KEPT] / 8;
+        make_room(i, 8 * (percent(80) ? (percent(30) ? whole : whole / 16 + 5) : below(whole + 2)));
+    }
+    memset(contents[KEPT].bytes, 0, contents[KEPT].length);
+}
+
+static void alter_frames_memory(void) {
+    const size_t which[] = {KEPT, OPEN_PLACES, LEG_SLOTS, LEG_TABLE};
+    size_t i = which[below(4)], numbers = numbers_in(i) < 40 ? numbers_in(i) : 40;
+    if (numbers > 0) put_number(i, below(numbers), percent(50) ? huge_number() : below(70));
+}
+
+static bool used_by_frames(size_t i) { return i == PATH || i == OUT || i >= KEPT; }
+
+static size_t call_frames_once(void) {
+    for (size_t i = 0; i < LENT; i++)
+        if (used_by_frames(i)) lend(i);
+    size_t reply = mudvizsor_frames_line(
+        BYTES(PATH), (size_t *)lent[KEPT].at, numbers_in(KEPT), (char *)lent[OPEN_BYTES].at, contents[OPEN_BYTES].length,
+        (size_t *)lent[OPEN_PLACES].at, numbers_in(OPEN_PLACES), (char *)lent[LEG_STORE].at, contents[LEG_STORE].length,
+        (size_t *)lent[LEG_SLOTS].at, numbers_in(LEG_SLOTS), (size_t *)lent[LEG_TABLE].at, numbers_in(LEG_TABLE), ROOM);
+    call_count++;
+    for (size_t i = 0; i < LENT; i++)
+        if (used_by_frames(i) && has_zone(i))
+            check(memcmp(zone_of(i), lent[i].zone, ZONE) == 0, "memory beside what was lent changed");
+    check(all_kept(PATH), "the line changed");
+    check(kept(KEPT, 5 * sizeof(size_t), contents[KEPT].length), "a number behind the five changed");
+    return reply;
+}
+
+/* The answer is a line of capital digits; a refused call, and one that answers FF09, changes nothing. */
+static void check_frames(size_t reply) {
+    size_t length = mudvizsor_value(reply);
+    bool room = numbers_in(KEPT) >= 5 && contents[OUT].length >= 515;
+    bool bad = length == 5 && memcmp(lent[OUT].at, "FF09\n", 5) == 0;
+    check(mudvizsor_number(reply) == (room ? 0 : MUDVIZSOR_NO_ROOM), "refused with enough, or not without");
+    check(room ? length >= 5 && length <= 515 && length % 2 == 1 : length == 0, "the length of the answer");
+    check(kept(OUT, length, contents[OUT].length), "a byte behind the answer changed");
+    check(length == 0 || lent[OUT].at[length - 1] == '\n', "no newline");
+    for (size_t k = 0; k + 1 < length; k++) check(strchr("0123456789ABCDEF", lent[OUT].at[k]) != NULL, "no digit");
+    for (size_t i = KEPT; i < LENT && (!room || bad); i++) check(all_kept(i), "memory changed though nothing was done");
+    if (room) frames_answered++;
+    else frames_refused++;
+}
+
+static void give_frames_back(void) {
+    for (size_t i = 0; i < LENT; i++)
+        if (used_by_frames(i)) give_back(i);
+}
+
+/* A line twice on the same memory in two places; what it leaves is the memory of the next line. */
+static void call_frames(void) {
+    static unsigned char after[LENT][CAPACITY];
+    entry_name = "mudvizsor_frames_line";
+    if (contents[KEPT].length == 0 || percent(2)) make_frames_memory();
+    if (percent(3)) alter_frames_memory();
+    make_line();
+    make_room(OUT, percent(95) ? 515 : below(600));
+    size_t first = call_frames_once(), length = mudvizsor_value(first);
+    check_frames(first);
+    for (size_t i = OUT; i < LENT; i++)
+        if (used_by_frames(i) && contents[i].length > 0) memcpy(after[i], lent[i].at, contents[i].length);
+    give_frames_back();
+    make_room(OUT, contents[OUT].length);
+    size_t second = call_frames_once();
+    check_frames(second);
+    check(first == second && (length == 0 || memcmp(after[OUT], lent[OUT].at, length) == 0), "another answer to a line");
+    for (size_t i = KEPT; i < LENT; i++)
+        check(contents[i].length == 0 || memcmp(after[i], lent[i].at, contents[i].length) == 0, "another memory");
+    give_frames_back();
+    for (size_t i = KEPT; i < LENT; i++) memcpy(contents[i].bytes, after[i], contents[i].length);
+}
+
 /* ---- The run ---- */
 
 static double seconds_now(void) {
@@ -621,6 +732,8 @@ static void print_table(void) {
         for (size_t k = 1; k <= 8; k++) printf(" %zu", entries[i].numbers[k]);
         printf("\n");
     }
+    printf("%-42s %9zu %9zu  0 0 0 0 %zu 0 0 0\n", "mudvizsor_frames_line", frames_answered + frames_refused,
+           frames_answered, frames_refused);
 }
 
 /* A run that is long enough must have met answers and refusals of every entry. */
@@ -650,10 +763,11 @@ int main(int argc, char **argv) {
     while (seconds > 0 ? seconds_now() - begun < seconds : call_count < calls) {
         for (size_t i = 0; i < ENTRY_COUNT; i++) call_twice(&entries[i]);
         call_times();
+        call_frames();
     }
     check_met();
     if (table) print_table();
-    printf("%zu calls of %d entries, seed %llu, %.1f s, %zu wrong\n", call_count, ENTRY_COUNT + 11,
+    printf("%zu calls of %d entries, seed %llu, %.1f s, %zu wrong\n", call_count, ENTRY_COUNT + 12,
            (unsigned long long)seed, seconds_now() - begun, wrong_count);
     return wrong_count == 0 ? 0 : 1;
 }

@@ -750,6 +750,47 @@ static void test_route_all(void) {
     kept_many(entry, "too few replies", reply, room);
 }
 
+/* ---- A line of frames ---- */
+
+/* Document 01's example, a bad frame, and an open list that a refused call leaves alone. */
+static const struct { const char *line, *answer; } exchanges[] = {
+    {"0100022F4100022F42", "8100\n"}, {"03", "8300\n"}, {"052F412F43", "85002F422F43\n"},
+    {"062F422F43", "86002F412F43\n"}, {"052F51", "8506\n"}, {"07", "870000000001\n"},
+    {"", "FF09\n"}, {"0100022F4100022f4", "FF09\n"}, {"0100022F6100022F62", "8100\n"}, {"02", "820001\n"},
+};
+
+static struct frames_memory {
+    size_t kept[MUDVIZSOR_FRAMES_KEPT + 1], places[MUDVIZSOR_FRAMES_PLACES], slots[MUDVIZSOR_FRAMES_SLOTS];
+    size_t table[MUDVIZSOR_FRAMES_TABLE];
+    char bytes[MUDVIZSOR_FRAMES_BYTES], store[MUDVIZSOR_FRAMES_STORE];
+} frames;
+
+static size_t frames_line(const char *line, size_t kept_length, struct room *room) {
+    return mudvizsor_frames_line(TEXT(line), frames.kept, kept_length, frames.bytes, sizeof frames.bytes, frames.places,
+                                 LENGTH(frames.places), frames.store, sizeof frames.store, frames.slots,
+                                 LENGTH(frames.slots), frames.table, LENGTH(frames.table), OUT(room));
+}
+
+static void test_frames(void) {
+    const char *entry = "mudvizsor_frames_line";
+    const size_t kept_after[] = {1, 4, 1, 4, 1, 77};
+    memset(&frames, 0x5a, sizeof frames);
+    memset(frames.kept, 0, sizeof frames.kept);
+    frames.kept[5] = 77;
+    for (size_t i = 0; i < LENGTH(exchanges); i++) {
+        struct room *room = lend(515, 0);
+        wrote(entry, exchanges[i].line, frames_line(exchanges[i].line, 5, room), room, 0, exchanges[i].answer);
+    }
+    check(memcmp(frames.kept, kept_after, sizeof kept_after) == 0, entry, "all lines", "kept");
+    static struct frames_memory before;
+    before = frames;
+    struct room *room = lend(514, 0);
+    wrote(entry, "514 lent bytes", frames_line("03", 5, room), room, MUDVIZSOR_NO_ROOM, "");
+    room = lend(515, 0);
+    wrote(entry, "4 kept numbers", frames_line("03", 4, room), room, MUDVIZSOR_NO_ROOM, "");
+    check(memcmp(&frames, &before, sizeof frames) == 0, entry, "refused", "nothing is written");
+}
+
 /* ---- Time offsets ---- */
 
 static void timed(const char *entry, bool good, const char *what) {
@@ -809,7 +850,7 @@ int main(void) {
         test_questions, test_has_prefix, test_replace_prefix, test_parts, test_ancestors, test_carries,
         test_damaged_lists, test_map_all, test_new, test_made_map_is_lent, test_pair_makes, test_map_makes,
         test_path_makes, test_rebases, test_two_makes, test_is_noop, test_analyses, test_chains, test_shifts, test_ways,
-        test_many_legs, test_route_all, test_tests_of_times, test_made_times, test_bits,
+        test_many_legs, test_route_all, test_frames, test_tests_of_times, test_made_times, test_bits,
     };
     for (size_t i = 0; i < LENGTH(tests); i++) tests[i]();
     for (size_t i = 0; i < met_count; i++)
