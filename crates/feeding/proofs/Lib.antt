@@ -1,2 +1,2 @@
-pub mod FeedLaws
+pub mod AnswerLaws
 pub mod TurnWays
