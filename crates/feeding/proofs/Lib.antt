@@ -1,3 +1,4 @@
 pub mod AnswerLaws
 pub mod TurnWays
 pub mod FeedLaws
+pub mod Theorem

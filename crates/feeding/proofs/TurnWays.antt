@@ -63,7 +63,7 @@ turn-from rest a = go (takenOf rest (a .len) (length (a .line))) (takenMemory re
     go t line = by t line (t .done) refl
 
 -- a new line
-line-new : (mem : Text) → lineAt 0 mem ≡ text []
+pub line-new : (mem : Text) → lineAt 0 mem ≡ text []
 unfolding lineAt
 line-new mem = rw (le-leb 0 (mostIn (length mem)) (omega arith))
 
