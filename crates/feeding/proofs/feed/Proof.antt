@@ -62,8 +62,7 @@ loop-again c =
     let t = c .before .before .before .before .before .before .before .before .before .before .before .before .before .before .before .before .turn in
     let a = c .before .before .before .before .before .before .before .before .before .before .before .before .before .before .before .before .before .before .before .before .before .before .before .before .before .before .before .before .before .before .before .before .before .before .before .before .args in
     let q : 515 ≤ length (l .out) - l .end = leb-true 515 (length (l .out) - l .end) (c .before .before .before .before .before .before .before .before .before .before .before .before .before .before .before .before .before .before .before .before .before .before .before .before .before .if1 .taken) in
-    let m = feed-turn (a .block .now) (at (record { used = l .used; len = l .n; kept = l .kept; end = l .end }) (l .line) (l .bytes) (l .places) (l .store) (l .slots) (l .table) (l .out)) _ (omega (arith, c .before .before .before .before .before .before .before .before .before .before .before .before .before .before .before .before .before .before .before .before .before .before .before .before .before .before .loop-test .taken)) (omega (arith, q, l .inv .1, l .inv .9)) (t .ensures) in
-    (
+    let m = feed-turn (a .block .now) (at (record { used = l .used; len = l .n; kept = l .kept; end = l .end }) (l .line) (l .bytes) (l .places) (l .store) (l .slots) (l .table) (l .out)) _ (omega (arith, c .before .before .before .before .before .before .before .before .before .before .before .before .before .before .before .before .before .before .before .before .before .before .before .before .before .before .loop-test .taken)) (omega (arith, q, l .inv .1, l .inv .9)) (t .ensures) in (
       m .inside,
       omega (arith, m .fits, l .inv .9),
       m .same ∙ l .inv .2,
