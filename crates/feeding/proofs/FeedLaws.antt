@@ -1,17 +1,17 @@
 -- Turns one after another: what `feed` comes to, and that the bytes it used went through the machine. Assumes nothing.
 use mathlib.Core.Path.{_≡_, refl, sym, ap, subst, _∙_}
-use mathlib.Core.Bool.{Bool, true, false, cond, _&&_}
+use mathlib.Core.Bool.{Bool, true, false, cond}
 use mathlib.Core.List.{[], _++_}
 use Prim.Native.Nat.{ℕ, zero, suc, _+_, _-_, _≤_, _<_}
 use native.Mathlib.Nat.{zero-add}
 use native.Mathlib.Omega.{arith}
-use lib.Dec.{leb, ltb}
+use lib.Dec.{ltb}
 use lib.ListN.{length, take, drop, length-append, length-take, length-drop}
 use lib.Seq.{take-add}
 use borrow.Author.Tests.{le-leb, lt-leb, leb-true, leb-false, lt-ltb, le-ltb, ltb-true}
 use Rattle.text.specs.Text.{Text, over, placed}
 use Rattle.text.proofs.BoolLaws.{and-l, and-r, and-no}
-use Rattle.text.proofs.WriteLaws.{rest-whole, read-back}
+use Rattle.text.proofs.WriteLaws.{rest-whole}
 use Rattle.pairs.proofs.WriteWays.{over-over}
 use Rattle.lines.specs.Lines.{Line}
 use Rattle.lines.specs.Blocks.{fed, said}
@@ -22,7 +22,7 @@ use Rattle.memory.specs.Memory.{Memory, turnIn}
 use Rattle.answering.specs.Answer.{longest, roomAt}
 use Rattle.feeding.specs.Feed.{At, turnOf, goesOn, feedFrom, feedOf}
 use Rattle.feeding.specs.Claims.{machine, mostOf, fedIn, saidIn, Feeds, again}
-use Rattle.feeding.proofs.TurnWays.{from, turn-from, over-nil, Goes, Turned, turned}
+use Rattle.feeding.proofs.TurnWays.{from, turn-from, over-nil, Goes, turned}
 
 -- the turn that comes next
 abbrev pub nextTurn : Text → At → At

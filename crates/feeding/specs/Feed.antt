@@ -2,16 +2,16 @@
 use Prim.Native.Nat.{ℕ, zero, suc, _+_}
 use mathlib.Core.Bool.{Bool, cond, _&&_}
 use mathlib.Core.List.{List}
-use lib.Dec.{leb, ltb}
+use lib.Dec.{ltb}
 use lib.ListN.{length, drop}
-use Rattle.text.specs.Text.{Text, over, placed}
+use Rattle.text.specs.Text.{Text, over}
 use Rattle.lines.specs.Lines.{Line}
 use Rattle.lines.specs.Taking.{lineAt, takenOf, takenMemory}
 use Rattle.lines.specs.declared.Taken.{Taken}
 use Rattle.protocol.specs.Input.{nextLine, answerLine}
 use Rattle.memory.specs.declared.Kept.{Kept}
 use Rattle.memory.specs.Memory.{Memory, memory, turnIn}
-use Rattle.answering.specs.Answer.{longest, roomAt}
+use Rattle.answering.specs.Answer.{roomAt}
 use Rattle.feeding.specs.declared.Fed.{Fed}
 
 -- what is there between two turns

@@ -1,11 +1,11 @@
-use mathlib.Core.Path.{refl, ap, sym, _∙_, _≡_}
-use Prim.Native.Nat.{_+_, _-_, _≤_, _<_}
+use mathlib.Core.Path.{refl, sym, _∙_, _≡_}
+use Prim.Native.Nat.{_-_, _≤_}
 use native.Mathlib.Omega.{arith}
 use lib.ListN.{length}
 use borrow.Author.Needs.{needs}
 use borrow.Author.Tests.{leb-true, leb-false}
 use Rattle.feeding.specs.Feed.{at, begun, feedOf}
-use Rattle.feeding.proofs.FeedLaws.{Stepped, feed-turn, feed-used, feed-full}
+use Rattle.feeding.proofs.FeedLaws.{feed-turn, feed-used, feed-full}
 use Rattle.feeding.proofs.feed.Statement.{statement}
 use Rattle.feeding.proofs.feed.Tie as tie
 
