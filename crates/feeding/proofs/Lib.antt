@@ -1,2 +1,4 @@
-pub mod FeedLaws
+pub mod AnswerLaws
 pub mod TurnWays
+pub mod FeedLaws
+pub mod Theorem

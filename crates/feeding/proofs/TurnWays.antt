@@ -1,125 +1,170 @@
--- What each way through a turn gives, in the words of the machine. Assumes nothing.
+-- What each way through a turn gives: the turn of the definition, and the bytes that go through the machine in it. Assumes nothing.
 use mathlib.Core.Path.{_≡_, refl, sym, ap, _∙_}
-use mathlib.Core.Bool.{Bool, true, false, true≢false}
-use mathlib.Core.List.{[], _++_}
+use mathlib.Core.Bool.{Bool, true, false}
+use mathlib.Core.List.{[]}
 use Prim.Native.Nat.{ℕ, suc, _+_, _-_, _≤_, _<_}
+use native.Mathlib.Nat.{zero-add}
 use native.Mathlib.Numerals.{add-one}
 use native.Mathlib.Omega.{arith}
 use lib.Dec.{ltb}
-use lib.ListN.{length, take, drop, length-append, length-drop, take-append-drop}
+use lib.ListN.{length, take, take-append-drop}
 use lib.Seq.{take-all, length-take-le}
 use borrow.Author.Tests.{le-leb, ltb-true, ltb-false}
 use Rattle.text.specs.Text.{Text, over}
-use Rattle.lines.specs.Lines.{text}
+use Rattle.lines.specs.Lines.{Line, text}
 use Rattle.lines.specs.Blocks.{grown}
 use Rattle.lines.specs.Taking.{stop, mostIn, lineAt, lengthAfter, takenOf, takenMemory}
 use Rattle.lines.specs.declared.Taken.{Taken}
-use Rattle.lines.proofs.TakeLaws.{stop-le}
-use Rattle.lines.proofs.LineLaws.{line-grown}
+use Rattle.lines.proofs.TakeLaws.{stop-le, most-le}
+use Rattle.lines.proofs.LineLaws.{line-grown, memory-length}
 use Rattle.lines.proofs.FeedLaws.{fed-one, said-one, fed-part, said-part}
 use Rattle.protocol.specs.Input.{nextLine, answerLine}
 use Rattle.memory.specs.Memory.{Memory, turnIn}
 use Rattle.answering.specs.Answer.{memoryAfter as answeredMemory, outAfter, endAfter}
-use Rattle.feeding.specs.Feed.{saidIn, Goes, Moves}
+use Rattle.feeding.specs.Feed.{At, afterTaken, turnOf}
+use Rattle.feeding.specs.Claims.{machine, mostOf, fedIn, saidIn}
+use Rattle.feeding.proofs.AnswerLaws.{answer-fits}
+
+-- `turn`
+module _ (block line line′ : Text) (len end : ℕ) (out : Text) (m : Memory) (t : Taken) (e : t ≡ takenOf block len (length line)) (w : line′ ≡ takenMemory block len line) where
+  abbrev first : At
+  first = record { used = 0; len = len; line = line; mem = m; end = end; out = out }
+
+  -- the line does not end in the block
+  pub turn-part : t .done ≡ false → record { used = t .used; len = t .len; line = line′; mem = m; end = end; out = out } ≡ turnOf block first
+  unfolding turnOf
+  turn-part d = rw (← e, ← w, d, zero-add)
+
+  -- it ends, and is answered
+  pub turn-line : end + 515 ≤ length out → t .done ≡ true → (m′ : Memory) (end′ : ℕ) (out′ : Text) → m′ ≡ answeredMemory end out m (lineAt (t .len) line′)
+      → end′ ≡ endAfter end out m (lineAt (t .len) line′) → out′ ≡ outAfter end out m (lineAt (t .len) line′)
+      → record { used = t .used; len = 0; line = line′; mem = m′; end = end′; out = out′ } ≡ turnOf block first
+  unfolding turnOf answeredMemory endAfter outAfter
+  turn-line room d m′ end′ out′ f g h =
+      let yes = le-leb (end + 515) (length out) room in
+      let f′ : m′ ≡ nextLine turnIn m (lineAt (t .len) line′) = rw yes at f in
+      let g′ : end′ ≡ end + length (answerLine turnIn m (lineAt (t .len) line′)) = rw yes at g in
+      let h′ : out′ ≡ over end (answerLine turnIn m (lineAt (t .len) line′)) out = rw yes at h in
+      rw (← e, ← w, d, zero-add, f′, g′, h′)
+
+-- a turn in the middle of a block
+abbrev pub from : ℕ → At → At
+from u a = record { used = u; len = a .len; line = a .line; mem = a .mem; end = a .end; out = a .out }
+
+pub turn-from : (rest : Text) (a : At) → from (a .used + (turnOf rest (from 0 a)) .used) (turnOf rest (from 0 a)) ≡ turnOf rest a
+unfolding turnOf
+turn-from rest a = go (takenOf rest (a .len) (length (a .line))) (takenMemory rest (a .len) (a .line))
+  where
+    by : (t : Taken) (line : Text) (v : Bool) → t .done ≡ v → from (a .used + (afterTaken t line (from 0 a)) .used) (afterTaken t line (from 0 a)) ≡ afterTaken t line a
+    by t line true e = rw (e, zero-add)
+    by t line false e = rw (e, zero-add)
+
+    go : (t : Taken) (line : Text) → from (a .used + (afterTaken t line (from 0 a)) .used) (afterTaken t line (from 0 a)) ≡ afterTaken t line a
+    go t line = by t line (t .done) refl
 
 -- a new line
-line-new : (mem : Text) → lineAt 0 mem ≡ text []
+pub line-new : (mem : Text) → lineAt 0 mem ≡ text []
 unfolding lineAt
 line-new mem = rw (le-leb 0 (mostIn (length mem)) (omega arith))
 
 -- nothing is written
-over-nil : (at : ℕ) (out : Text) → out ≡ over at [] out
+pub over-nil : (at : ℕ) (out : Text) → out ≡ over at [] out
 over-nil at out = let z : at + 0 ≡ at = omega arith in rw z (sym (take-append-drop at out))
 
--- memory that kept its length had room for what was written
-over-fits : (at : ℕ) (t out out′ : Text) → at ≤ length out → out′ ≡ over at t out → length out′ ≡ length out → at + length t ≤ length out
-over-fits at t out out′ h e l =
-    let n : length (over at t out) ≡ at + (length t + (length out - (at + length t)))
-    = length-append (take at out) (t ++ drop (at + length t) out)
-    ∙ rw (length-take-le at out h, length-append t (drop (at + length t) out), length-drop (at + length t) out) refl in
-    omega (arith, ap length e, l, n)
+-- the bytes s take the machine from one place to another, and their answers are written behind the others
+pub record Goes (s : Text) (a a′ : At) : Type 0 where
+  pub state : fedIn a s ≡ machine a′
+  pub wrote : a′ .out ≡ over (a .end) (saidIn a s) (a .out)
+  pub ends : a′ .end ≡ a .end + length (saidIn a s)
+  pub line : length (a′ .line) ≡ length (a .line)
 
-module _ (block mem mem′ : Text) (len : ℕ) (t : Taken) (e : t ≡ takenOf block len (length mem)) (w : mem′ ≡ takenMemory block len mem) where
-  abbrev most : ℕ
-  most = mostIn (length mem)
+-- a turn: its bytes go through the machine, there is one where there is one left, and its answer is not longer than the longest
+pub record Turned (rest : Text) (a a′ : At) : Type 0 where
+  pub count : ℕ
+  pub used : a′ .used ≡ a .used + count
+  pub inside : count ≤ length rest
+  pub further : 0 < length rest → 0 < count
+  pub goes : Goes (take count rest) a a′
+  pub fits : a′ .end ≤ a .end + 515
 
-  -- what was taken: with the newline, ..
-  record Line-taken : Type 0 where
-    found : stop block < length block
-    used : t .used ≡ stop block + 1
-    line : lineAt (t .len) mem′ ≡ grown most (lineAt len mem) (take (stop block) block)
+module _ (rest : Text) (a : At) where
+  abbrev t : Taken
+  t = takenOf rest (a .len) (length (a .line))
 
-  -- .. or without one
-  record Part-taken : Type 0 where
-    none : length block ≤ stop block
-    used : t .used ≡ length block
-    line : lineAt (t .len) mem′ ≡ grown most (lineAt len mem) (take (stop block) block)
+  abbrev line : Text
+  line = takenMemory rest (a .len) (a .line)
 
-  line-so-far : t .len ≡ lengthAfter most len (stop block) → lineAt (t .len) mem′ ≡ grown most (lineAt len mem) (take (stop block) block)
+  abbrev part : Text
+  part = take (stop rest) rest
+
+  kept-length : length line ≡ length (a .line)
+  unfolding takenMemory
+  kept-length = memory-length (mostOf a) (a .len) part (a .line) (most-le (length (a .line)))
+
+  line-so-far : t .len ≡ lengthAfter (mostOf a) (a .len) (stop rest) → lineAt (t .len) line ≡ grown (mostOf a) (lineAt (a .len) (a .line)) part
   unfolding takenMemory
   line-so-far l =
-      let k : stop block ≡ length (take (stop block) block) = sym (length-take-le (stop block) block (stop-le block)) in
-      ap (λ (n : ℕ). lineAt n mem′) (l ∙ ap (lengthAfter most len) k) ∙ ap (lineAt (lengthAfter most len (length (take (stop block) block)))) w
-      ∙ line-grown len mem (take (stop block) block)
+      let k : stop rest ≡ length part = sym (length-take-le (stop rest) rest (stop-le rest)) in
+      ap (λ (n : ℕ). lineAt n line) (l ∙ ap (lengthAfter (mostOf a) (a .len)) k) ∙ line-grown (a .len) (a .line) part
 
-  line-taken : t .done ≡ true → Line-taken
-  unfolding takenOf
-  line-taken d = go (ltb (stop block) (length block)) refl
+  -- a line with its newline
+  by-line : stop rest < length rest → t ≡ record { used = stop rest + 1; done = true; len = lengthAfter (mostOf a) (a .len) (stop rest) } → Turned rest a (afterTaken t line a)
+  by-line h e =
+      let l : Line = lineAt (t .len) line in
+      let r : Text = answerLine turnIn (a .mem) l in
+      let d : t .done ≡ true = ap (λ (x : Taken). x .done) e in
+      let u : t .used ≡ stop rest + 1 = ap (λ (x : Taken). x .used) e in
+      let g : l ≡ grown (mostOf a) (lineAt (a .len) (a .line)) part = line-so-far (ap (λ (x : Taken). x .len) e) in
+      let b : take (t .used) rest ≡ take (suc (stop rest)) rest = rw (u, add-one) in
+      let s : saidIn a (take (t .used) rest) ≡ r
+      = rw b (said-one (mostOf a) (nextLine turnIn) (answerLine turnIn) (lineAt (a .len) (a .line)) (a .mem) rest h) ∙ ap (answerLine turnIn (a .mem)) (sym g) in
+      let f : fedIn a (take (t .used) rest) ≡ (lineAt 0 line, nextLine turnIn (a .mem) l)
+      = rw b (fed-one (mostOf a) (nextLine turnIn) (answerLine turnIn) (lineAt (a .len) (a .line)) (a .mem) rest h)
+      ∙ ap (λ (x : Line). (text [], nextLine turnIn (a .mem) x)) (sym g) ∙ ap (λ (x : Line). (x, nextLine turnIn (a .mem) l)) (sym (line-new line)) in
+      rw d (record {
+        count = t .used;
+        used = refl;
+        inside = omega (arith, u);
+        further = λ z. omega (arith, u);
+        goes = record {
+          state = f;
+          wrote = ap (λ (x : Text). over (a .end) x (a .out)) (sym s);
+          ends = ap (λ (x : Text). a .end + length x) (sym s);
+          line = kept-length;
+        };
+        fits = omega (arith, answer-fits (a .mem) l);
+      })
+
+  -- a part of one
+  by-part : length rest ≤ stop rest → t ≡ record { used = length rest; done = false; len = lengthAfter (mostOf a) (a .len) (stop rest) } → Turned rest a (afterTaken t line a)
+  by-part h e =
+      let d : t .done ≡ false = ap (λ (x : Taken). x .done) e in
+      let u : t .used ≡ length rest = ap (λ (x : Taken). x .used) e in
+      let g : lineAt (t .len) line ≡ grown (mostOf a) (lineAt (a .len) (a .line)) part = line-so-far (ap (λ (x : Taken). x .len) e) in
+      let b : take (t .used) rest ≡ rest = rw u (take-all (length rest) rest (omega arith)) in
+      let k : part ≡ rest = take-all (stop rest) rest h in
+      let s : saidIn a (take (t .used) rest) ≡ [] = rw b (said-part (mostOf a) (nextLine turnIn) (answerLine turnIn) (lineAt (a .len) (a .line)) (a .mem) rest h) in
+      let f : fedIn a (take (t .used) rest) ≡ (lineAt (t .len) line, a .mem)
+      = rw b (fed-part (mostOf a) (nextLine turnIn) (answerLine turnIn) (lineAt (a .len) (a .line)) (a .mem) rest h)
+      ∙ ap (λ (x : Text). (grown (mostOf a) (lineAt (a .len) (a .line)) x, a .mem)) (sym k) ∙ ap (λ (x : Line). (x, a .mem)) (sym g) in
+      rw d (record {
+        count = t .used;
+        used = refl;
+        inside = omega (arith, u);
+        further = λ z. omega (arith, u, z);
+        goes = record {
+          state = f;
+          wrote = over-nil (a .end) (a .out) ∙ ap (λ (x : Text). over (a .end) x (a .out)) (sym s);
+          ends = omega (arith, ap length s);
+          line = kept-length;
+        };
+        fits = omega arith;
+      })
+
+  pub turned : Turned rest a (turnOf rest a)
+  unfolding turnOf takenOf
+  turned = go (ltb (stop rest) (length rest)) refl
     where
-      go : (v : Bool) → ltb (stop block) (length block) ≡ v → Line-taken
-      go true f = record {
-        found = ltb-true (stop block) (length block) f;
-        used = rw f at (ap (λ (x : Taken). x .used) e);
-        line = line-so-far (rw f at (ap (λ (x : Taken). x .len) e));
-      }
-      go false f = absurd (true≢false (sym d ∙ (rw f at (ap (λ (x : Taken). x .done) e))))
-
-  part-taken : t .done ≡ false → Part-taken
-  unfolding takenOf
-  part-taken d = go (ltb (stop block) (length block)) refl
-    where
-      go : (v : Bool) → ltb (stop block) (length block) ≡ v → Part-taken
-      go true f = absurd (true≢false (sym (sym d ∙ (rw f at (ap (λ (x : Taken). x .done) e)))))
-      go false f = record {
-        none = ltb-false (stop block) (length block) f;
-        used = rw f at (ap (λ (x : Taken). x .used) e);
-        line = line-so-far (rw f at (ap (λ (x : Taken). x .len) e));
-      }
-
-  module _ (m : Memory) (at : ℕ) (out : Text) (room : at + 515 ≤ length out) where
-    -- the line does not end in the block
-    pub turn-part : t .done ≡ false
-        → Goes most (lineAt len mem, m) (take (t .used) block) at out (lineAt (t .len) mem′, m) at out × Moves (length block) (t .used) at (length out)
-    turn-part d =
-        let p = part-taken d in
-        let b : take (t .used) block ≡ block = rw (p .used) (take-all (length block) block (omega arith)) in
-        let k : take (stop block) block ≡ block = take-all (stop block) block (p .none) in (
-          record {
-            state = rw (b, fed-part most (nextLine turnIn) (answerLine turnIn) (lineAt len mem) m block (p .none), p .line, k);
-            wrote = rw (b, said-part most (nextLine turnIn) (answerLine turnIn) (lineAt len mem) m block (p .none)) (over-nil at out);
-            ends = rw (b, said-part most (nextLine turnIn) (answerLine turnIn) (lineAt len mem) m block (p .none)) (omega arith);
-          },
-          record { inside = omega (arith, p .used); further = λ z. omega (arith, p .used, z); fits = omega arith },
-        )
-
-    -- it ends, and is answered
-    pub turn-line : t .done ≡ true → (m′ : Memory) (end : ℕ) (out′ : Text) → m′ ≡ answeredMemory at out m (lineAt (t .len) mem′)
-        → end ≡ endAfter at out m (lineAt (t .len) mem′) → out′ ≡ outAfter at out m (lineAt (t .len) mem′) → length out′ ≡ length out
-        → Goes most (lineAt len mem, m) (take (t .used) block) at out (lineAt 0 mem′, m′) end out′ × Moves (length block) (t .used) end (length out)
-    unfolding answeredMemory endAfter outAfter
-    turn-line d m′ end out′ f g h l =
-        let p = line-taken d in
-        let r : Text = answerLine turnIn m (lineAt (t .len) mem′) in
-        let yes = le-leb (at + 515) (length out) room in
-        let o : out′ ≡ over at r out = rw yes at h in
-        let n : end ≡ at + length r = rw yes at g in
-        let b : take (t .used) block ≡ take (suc (stop block)) block = rw (p .used, add-one) in
-        let s : saidIn most (lineAt len mem, m) (take (t .used) block) ≡ r
-        = rw b (said-one most (nextLine turnIn) (answerLine turnIn) (lineAt len mem) m block (p .found)) ∙ ap (answerLine turnIn m) (sym (p .line)) in (
-          record {
-            state = rw (b, fed-one most (nextLine turnIn) (answerLine turnIn) (lineAt len mem) m block (p .found), line-new mem′, ← p .line) (ap (λ (x : Memory). (text [], x)) (sym (rw yes at f)));
-            wrote = o ∙ ap (λ (x : Text). over at x out) (sym s);
-            ends = n ∙ ap (λ (x : Text). at + length x) (sym s);
-          },
-          record { inside = omega (arith, p .used, p .found); further = λ z. omega (arith, p .used); fits = omega (arith, n, over-fits at r out out′ (omega arith) o l) },
-        )
+      go : (v : Bool) → ltb (stop rest) (length rest) ≡ v → Turned rest a (afterTaken t line a)
+      go true f = by-line (ltb-true (stop rest) (length rest) f) (rw f)
+      go false f = by-part (ltb-false (stop rest) (length rest) f) (rw f)

@@ -1,43 +1,74 @@
--- What is made of the bytes of a block: the byte machine of crate lines, whose states are what lent memory holds.
-use mathlib.Core.Path.{_≡_}
-use Prim.Native.Nat.{ℕ, _+_, _≤_, _<_}
-use lib.ListN.{length, take}
-use Rattle.text.specs.Text.{Text, written, over}
+-- What is made of a block of bytes: turn by turn a line to its end, or what is there of it, every byte and number.
+use Prim.Native.Nat.{ℕ, zero, suc, _+_}
+use mathlib.Core.Bool.{Bool, cond, _&&_}
+use mathlib.Core.List.{List}
+use lib.Dec.{ltb}
+use lib.ListN.{length, drop}
+use Rattle.text.specs.Text.{Text, over}
 use Rattle.lines.specs.Lines.{Line}
-use Rattle.lines.specs.Blocks.{fed, said}
+use Rattle.lines.specs.Taking.{lineAt, takenOf, takenMemory}
+use Rattle.lines.specs.declared.Taken.{Taken}
 use Rattle.protocol.specs.Input.{nextLine, answerLine}
-use Rattle.memory.specs.Memory.{Memory, turnIn}
-use Rattle.answering.specs.Answer.{longest}
+use Rattle.memory.specs.declared.Kept.{Kept}
+use Rattle.memory.specs.Memory.{Memory, memory, turnIn}
+use Rattle.answering.specs.Answer.{roomAt}
 use Rattle.feeding.specs.declared.Fed.{Fed}
 
--- the line so far and the memory after bytes, where a line has at most `most`, ..
-abbrev pub fedIn : ℕ → Line × Memory → Text → Line × Memory
-fedIn most c s = fed most (nextLine turnIn) (answerLine turnIn) c s
+-- what is there between two turns
+pub record At : Type 0 where
+  -- how many bytes of the block were used
+  pub used : ℕ
+  -- the line so far: how many bytes it has, and its memory
+  pub len : ℕ
+  pub line : Text
+  pub mem : Memory
+  -- where the answers end, and their memory
+  pub end : ℕ
+  pub out : Text
 
--- .. and the answers to the lines that end in them
-abbrev pub saidIn : ℕ → Line × Memory → Text → Text
-saidIn most c s = said most (nextLine turnIn) (answerLine turnIn) c s
+-- .. in a reply and lent memory
+abbrev pub at : Fed → Text → Text → List ℕ → Text → List ℕ → List ℕ → Text → At
+at r line bytes places store slots table out =
+    record { used = r .used; len = r .len; line = line; mem = memory (r .kept) bytes places store slots table; end = r .end; out = out }
 
--- the bytes s take one line so far and memory to another, and their answers are written from `at` on and end at `end`
-pub record Goes (most : ℕ) (c : Line × Memory) (s : Text) (at : ℕ) (out : Text) (c′ : Line × Memory) (end : ℕ) (out′ : Text) : Type 0 where
-  pub state : fedIn most c s ≡ c′
-  pub wrote : out′ ≡ over at (saidIn most c s) out
-  pub ends : end ≡ at + length (saidIn most c s)
+-- .. before the first turn with a block
+abbrev pub begun : ℕ → Kept → ℕ → Fed
+begun len k end = record { used = 0; len = len; kept = k; end = end }
 
--- a turn stays in the block and in the memory for answers, and uses a byte where there is one
-pub record Moves (block used end room : ℕ) : Type 0 where
-  pub inside : used ≤ block
-  pub further : 0 < block → 0 < used
-  pub fits : end ≤ room
+-- a line at its end is answered behind the other answers, and the next one is new
+abbrev pub lineEnds : ℕ → Text → Line → At → At
+lineEnds n line l a = record {
+  used = a .used + n;
+  len = 0;
+  line = line;
+  mem = nextLine turnIn (a .mem) l;
+  end = a .end + length (answerLine turnIn (a .mem) l);
+  out = over (a .end) (answerLine turnIn (a .mem) l) (a .out);
+}
 
--- what was made of a block
-pub record Feeds (most : ℕ) (c : Line × Memory) (block out : Text) (r : Fed) (c′ : Line × Memory) (out′ : Text) : Type 0 where
-  -- the line so far and the memory are those after the bytes that were used, ..
-  pub state : fedIn most c (take (r .used) block) ≡ c′
-  -- .. whose answers stand at the beginning of the memory for answers; the rest of it is as it was
-  pub wrote : out′ ≡ written (saidIn most c (take (r .used) block)) out
-  pub ends : r .end ≡ length (saidIn most c (take (r .used) block))
-  pub inside : r .used ≤ length block
-  pub fits : r .end ≤ length out
-  -- bytes are left only where there was no room for one more answer
-  pub further : r .used < length block → length out < r .end + longest
+-- a line that goes on behind the block
+abbrev pub lineGoesOn : ℕ → Text → ℕ → At → At
+lineGoesOn n line len a = record { used = a .used + n; len = len; line = line; mem = a .mem; end = a .end; out = a .out }
+
+abbrev pub afterTaken : Taken → Text → At → At
+afterTaken t line a = cond (t .done) (lineEnds (t .used) line (lineAt (t .len) line) a) (lineGoesOn (t .used) line (t .len) a)
+
+-- one turn with what is left of the block
+unfoldable pub turnOf : Text → At → At
+unfolding takenOf takenMemory lineAt answerLine turnIn
+turnOf rest a = afterTaken (takenOf rest (a .len) (length (a .line))) (takenMemory rest (a .len) (a .line)) a
+
+-- there is a byte left, and room for the longest answer
+abbrev pub goesOn : Text → At → Bool
+goesOn block a = ltb (a .used) (length block) && roomAt (a .end) (a .out)
+
+-- at most so many turns
+unfoldable pub feedFrom : ℕ → Text → At → At
+unfolding turnOf
+feedFrom zero block a = a
+feedFrom (suc n) block a = cond (goesOn block a) (feedFrom n block (turnOf (drop (a .used) block) a)) a
+
+-- all turns: each uses a byte, so there are not more of them than bytes (specs/Claims.antt: never-short)
+unfoldable pub feedOf : Text → At → At
+unfolding feedFrom
+feedOf block a = feedFrom (length block) block a

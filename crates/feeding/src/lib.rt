@@ -1,9 +1,8 @@
 // The program `frames` fed with blocks of bytes of any size. Nothing is assumed of the memory that is lent.
+ghost use mathlib.Core.Path.{_≡_};
 ghost use Prim.Native.Nat.{_+_, _≤_};
-ghost use lib.ListN.{length, take};
-ghost use Rattle.lines.specs.Taking.{mostIn, lineAt};
-ghost use Rattle.memory.specs.Memory.{memory};
-ghost use Rattle.feeding.specs.Feed.{Goes, Moves, Feeds};
+ghost use lib.ListN.{length};
+ghost use Rattle.feeding.specs.Feed.{at, begun, turnOf, feedOf};
 
 // The longest answer line.
 const LONGEST: usize = 515;
@@ -21,7 +20,7 @@ pub struct Fed {
 }
 
 // Takes the bytes of a block to the end of one line, or all of them where it does not end, and writes the
-// answer of a line at its end behind `at` bytes of out.
+// answer of a line at its end behind `end` bytes of out.
 fn turn(
     block: &[u8],
     line: &mut [u8],
@@ -32,12 +31,11 @@ fn turn(
     store: &mut [u8],
     slots: &mut [usize],
     table: &mut [usize],
-    at: usize,
+    end: usize,
     out: &mut [u8],
 ) -> Fed
-    requires { ⌜ at + 515 ≤ length (now out) ⌝ }
-    ensures { λ r. ⌜ Goes (mostIn (length (now (line .entry)))) (lineAt len (now (line .entry)), memory k (now (bytes .entry)) (now (places .entry)) (now (store .entry)) (now (slots .entry)) (now (table .entry))) (take (r .used) (now (block .entry))) at (now (out .entry)) (lineAt (r .len) (now (line .exit)), memory (r .kept) (now (bytes .exit)) (now (places .exit)) (now (store .exit)) (now (slots .exit)) (now (table .exit))) (r .end) (now (out .exit)) ⌝ }
-    ensures { λ r. ⌜ Moves (length (now (block .entry))) (r .used) (r .end) (length (now (out .entry))) ⌝ }
+    requires { ⌜ end + 515 ≤ length (now out) ⌝ }
+    ensures { λ r. ⌜ at r (now (line .exit)) (now (bytes .exit)) (now (places .exit)) (now (store .exit)) (now (slots .exit)) (now (table .exit)) (now (out .exit)) ≡ turnOf (now (block .entry)) (at (begun len k end) (now (line .entry)) (now (bytes .entry)) (now (places .entry)) (now (store .entry)) (now (slots .entry)) (now (table .entry)) (now (out .entry))) ⌝ }
 {
     let t = lines::take_line(block, line, len);
     if !t.done {
@@ -45,10 +43,10 @@ fn turn(
             used: t.used,
             len: t.len,
             kept: k,
-            end: at,
+            end,
         };
     }
-    let a = answering::answer_line(line, t.len, k, bytes, places, store, slots, table, at, out);
+    let a = answering::answer_line(line, t.len, k, bytes, places, store, slots, table, end, out);
     let kept = a.kept;
     Fed {
         used: t.used,
@@ -73,7 +71,7 @@ pub fn feed(
     table: &mut [usize],
     out: &mut [u8],
 ) -> Fed
-    ensures { λ r. ⌜ Feeds (mostIn (length (now (line .entry)))) (lineAt len (now (line .entry)), memory k (now (bytes .entry)) (now (places .entry)) (now (store .entry)) (now (slots .entry)) (now (table .entry))) (now (block .entry)) (now (out .entry)) r (lineAt (r .len) (now (line .exit)), memory (r .kept) (now (bytes .exit)) (now (places .exit)) (now (store .exit)) (now (slots .exit)) (now (table .exit))) (now (out .exit)) ⌝ }
+    ensures { λ r. ⌜ at r (now (line .exit)) (now (bytes .exit)) (now (places .exit)) (now (store .exit)) (now (slots .exit)) (now (table .exit)) (now (out .exit)) ≡ feedOf (now (block .entry)) (at (begun len k 0) (now (line .entry)) (now (bytes .entry)) (now (places .entry)) (now (store .entry)) (now (slots .entry)) (now (table .entry)) (now (out .entry))) ⌝ }
 {
     let mut used = 0;
     let mut n = len;

@@ -62,7 +62,7 @@ module _ (n : ℕ) (s mem : Text) (h : n + length s ≤ length mem) where
       rw (placed-head, length-append (take n mem ++ s) (drop (n + length s) mem), head-length, length-drop (n + length s) mem) (omega arith)
 
 module _ (most n : ℕ) (s mem : Text) (h : most ≤ length mem) where
-  memory-length : length (memoryAfter most n s mem) ≡ length mem
+  pub memory-length : length (memoryAfter most n s mem) ≡ length mem
   unfolding memoryAfter
   memory-length = go (leb (n + length s) most) refl
     where

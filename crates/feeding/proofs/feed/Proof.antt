@@ -1,28 +1,24 @@
-use mathlib.Core.Path.{refl, ap, _∙_, _≡_}
+use mathlib.Core.Path.{refl, sym, _∙_, _≡_}
 use Prim.Native.Nat.{_-_, _≤_}
 use native.Mathlib.Omega.{arith}
-use lib.ListN.{length, take}
+use lib.ListN.{length}
 use borrow.Author.Needs.{needs}
 use borrow.Author.Tests.{leb-true, leb-false}
-use Rattle.lines.specs.Taking.{mostIn, lineAt}
-use Rattle.memory.specs.Memory.{memory}
-use Rattle.feeding.specs.Feed.{Goes}
-use Rattle.feeding.proofs.FeedLaws.{goes-none, goes-turn, turn-moves, feeds-done}
+use Rattle.feeding.specs.Feed.{at, begun, feedOf}
+use Rattle.feeding.proofs.FeedLaws.{feed-turn, feed-used, feed-full}
 use Rattle.feeding.proofs.feed.Statement.{statement}
 use Rattle.feeding.proofs.feed.Tie as tie
 
 abbrev Inv-loop : tie.InvT-loop
 Inv-loop block line₀ len bytes₀ places₀ store₀ slots₀ table₀ out₀ used₀ n₀ kept₀ end₀ line bytes places store slots table out used n kept end =
-    (used ≤ length block) × (end ≤ length out₀) × Goes (mostIn (length line₀)) (lineAt n₀ line₀, memory kept₀ bytes₀ places₀ store₀ slots₀ table₀) (take used block) 0 out₀ (lineAt n line, memory kept bytes places store slots table) end out × (length line ≡ length line₀) × (length bytes ≡ length bytes₀) × (length places ≡ length places₀) × (length store ≡ length store₀) × (length slots ≡ length slots₀) × (length table ≡ length table₀) × (length out ≡ length out₀)
+    (used ≤ length block) × (end ≤ length out₀) × (feedOf block (at (record { used = used; len = n; kept = kept; end = end }) line bytes places store slots table out) ≡ feedOf block (at (begun n₀ kept₀ 0) line₀ bytes₀ places₀ store₀ slots₀ table₀ out₀)) × (length line ≡ length line₀) × (length bytes ≡ length bytes₀) × (length places ≡ length places₀) × (length store ≡ length store₀) × (length slots ≡ length slots₀) × (length table ≡ length table₀) × (length out ≡ length out₀)
 
 abbrev μ-loop : tie.MeasureT-loop
 μ-loop block line₀ len bytes₀ places₀ store₀ slots₀ table₀ out₀ used₀ n₀ kept₀ end₀ line bytes places store slots table out used n kept end =
     length block - used
 
 loop-holds : tie.Need-loop-holds Inv-loop μ-loop
-loop-holds c =
-    let a = c .before .before .before .before .before .before .before .before .args in
-    (omega arith, omega arith, goes-none (mostIn (length (a .line .now))) (lineAt (a .len) (a .line .now), memory (a .k) (a .bytes .now) (a .places .now) (a .store .now) (a .slots .now) (a .table .now)) (a .out .now), refl, refl, refl, refl, refl, refl, refl)
+loop-holds c = (omega arith, omega arith, refl, refl, refl, refl, refl, refl, refl, refl)
 
 sub-if1 : tie.Need-sub-if1 Inv-loop μ-loop
 sub-if1 c = search needs
@@ -47,27 +43,29 @@ add-used c =
     let l = c .before .before .before .before .before .before .before .before .before .before .before .before .before .before .before .before .before .before .before .before .before .before .before .before .before .before .loop in
     let t = c .before .before .before .before .before .before .before .before .before .before .before .before .before .before .before .turn in
     let a = c .before .before .before .before .before .before .before .before .before .before .before .before .before .before .before .before .before .before .before .before .before .before .before .before .before .before .before .before .before .before .before .before .before .before .before .args in
-    let m = turn-moves (a .block .now) (l .used) (t .result .used) (t .result .end) (length (l .out)) (omega (arith, c .before .before .before .before .before .before .before .before .before .before .before .before .before .before .before .before .before .before .before .before .before .before .before .before .before .loop-test .taken)) (t .ensures .1) in
-    omega (arith, m .0, c .before .before .before .before .before .before .before .before .before .before .before .before .before .before .before .before .before .before .before .before .before .before .before .before .before .before .before .before .before .before .before .before .before .before .before .good)
+    let q : 515 ≤ length (l .out) - l .end = leb-true 515 (length (l .out) - l .end) (c .before .before .before .before .before .before .before .before .before .before .before .before .before .before .before .before .before .before .before .before .before .before .before .before .if1 .taken) in
+    let m = feed-turn (a .block .now) (at (record { used = l .used; len = l .n; kept = l .kept; end = l .end }) (l .line) (l .bytes) (l .places) (l .store) (l .slots) (l .table) (l .out)) _ (omega (arith, c .before .before .before .before .before .before .before .before .before .before .before .before .before .before .before .before .before .before .before .before .before .before .before .before .before .loop-test .taken)) (omega (arith, q, l .inv .1, l .inv .9)) (t .ensures) in
+    omega (arith, m .inside, c .before .before .before .before .before .before .before .before .before .before .before .before .before .before .before .before .before .before .before .before .before .before .before .before .before .before .before .before .before .before .before .before .before .before .before .good)
 
 loop-less : tie.Need-loop-less Inv-loop μ-loop
 loop-less c =
     let l = c .before .before .before .before .before .before .before .before .before .before .before .before .before .before .before .before .before .before .before .before .before .before .before .before .before .before .before .loop in
     let t = c .before .before .before .before .before .before .before .before .before .before .before .before .before .before .before .before .turn in
     let a = c .before .before .before .before .before .before .before .before .before .before .before .before .before .before .before .before .before .before .before .before .before .before .before .before .before .before .before .before .before .before .before .before .before .before .before .before .args in
-    let m = turn-moves (a .block .now) (l .used) (t .result .used) (t .result .end) (length (l .out)) (omega (arith, c .before .before .before .before .before .before .before .before .before .before .before .before .before .before .before .before .before .before .before .before .before .before .before .before .before .before .loop-test .taken)) (t .ensures .1) in
-    omega (arith, m .0, m .1)
+    let q : 515 ≤ length (l .out) - l .end = leb-true 515 (length (l .out) - l .end) (c .before .before .before .before .before .before .before .before .before .before .before .before .before .before .before .before .before .before .before .before .before .before .before .before .before .if1 .taken) in
+    let m = feed-turn (a .block .now) (at (record { used = l .used; len = l .n; kept = l .kept; end = l .end }) (l .line) (l .bytes) (l .places) (l .store) (l .slots) (l .table) (l .out)) _ (omega (arith, c .before .before .before .before .before .before .before .before .before .before .before .before .before .before .before .before .before .before .before .before .before .before .before .before .before .before .loop-test .taken)) (omega (arith, q, l .inv .1, l .inv .9)) (t .ensures) in
+    omega (arith, m .inside, m .further)
 
 loop-again : tie.Need-loop-again Inv-loop μ-loop
 loop-again c =
     let l = c .before .before .before .before .before .before .before .before .before .before .before .before .before .before .before .before .before .before .before .before .before .before .before .before .before .before .before .loop in
     let t = c .before .before .before .before .before .before .before .before .before .before .before .before .before .before .before .before .turn in
     let a = c .before .before .before .before .before .before .before .before .before .before .before .before .before .before .before .before .before .before .before .before .before .before .before .before .before .before .before .before .before .before .before .before .before .before .before .before .args in
-    let m = turn-moves (a .block .now) (l .used) (t .result .used) (t .result .end) (length (l .out)) (omega (arith, c .before .before .before .before .before .before .before .before .before .before .before .before .before .before .before .before .before .before .before .before .before .before .before .before .before .before .loop-test .taken)) (t .ensures .1) in
-    let f : t .result .end ≤ length (a .out .now) = omega (arith, (t .ensures .1) .fits, l .inv .9) in (
-      m .0,
-      f,
-      goes-turn (a .block .now) (l .used) (t .result .used) (ap mostIn (l .inv .3)) f (l .inv .2) (t .ensures .0),
+    let q : 515 ≤ length (l .out) - l .end = leb-true 515 (length (l .out) - l .end) (c .before .before .before .before .before .before .before .before .before .before .before .before .before .before .before .before .before .before .before .before .before .before .before .before .before .if1 .taken) in
+    let m = feed-turn (a .block .now) (at (record { used = l .used; len = l .n; kept = l .kept; end = l .end }) (l .line) (l .bytes) (l .places) (l .store) (l .slots) (l .table) (l .out)) _ (omega (arith, c .before .before .before .before .before .before .before .before .before .before .before .before .before .before .before .before .before .before .before .before .before .before .before .before .before .before .loop-test .taken)) (omega (arith, q, l .inv .1, l .inv .9)) (t .ensures) in (
+      m .inside,
+      omega (arith, m .fits, l .inv .9),
+      m .same ∙ l .inv .2,
       t .kept .1 .0 ∙ l .inv .3,
       t .kept .1 .1 .1 .1 .0 ∙ l .inv .4,
       t .kept .1 .1 .1 .1 .1 .0 ∙ l .inv .5,
@@ -102,7 +100,7 @@ returns : tie.Need-returns Inv-loop μ-loop
 returns c =
     let l = c .before .before .loop in
     let a = c .before .before .before .before .before .before .before .before .before .before .before .args in
-    feeds-done (mostIn (length (a .line .now))) (lineAt (a .len) (a .line .now), memory (a .k) (a .bytes .now) (a .places .now) (a .store .now) (a .slots .now) (a .table .now)) (a .block .now) (a .out .now) (record { used = l .used; len = l .n; kept = l .kept; end = l .end }) _ (l .out) (l .inv .2) (l .inv .0) (l .inv .1) (λ z. omega (arith, leb-false 515 (length (l .out) - l .end) (c .if1 .left), l .inv .1, l .inv .9))
+    sym (feed-full (a .block .now) (at (record { used = l .used; len = l .n; kept = l .kept; end = l .end }) (l .line) (l .bytes) (l .places) (l .store) (l .slots) (l .table) (l .out)) (omega (arith, leb-false 515 (length (l .out) - l .end) (c .if1 .left), l .inv .1, l .inv .9))) ∙ l .inv .2
 
 same-length-8 : tie.Need-same-length-8 Inv-loop μ-loop
 same-length-8 c = c .before .loop .inv .3
@@ -129,7 +127,7 @@ returns-2 : tie.Need-returns-2 Inv-loop μ-loop
 returns-2 c =
     let l = c .before .loop in
     let a = c .before .before .before .before .before .before .before .before .before .before .args in
-    feeds-done (mostIn (length (a .line .now))) (lineAt (a .len) (a .line .now), memory (a .k) (a .bytes .now) (a .places .now) (a .store .now) (a .slots .now) (a .table .now)) (a .block .now) (a .out .now) (record { used = l .used; len = l .n; kept = l .kept; end = l .end }) _ (l .out) (l .inv .2) (l .inv .0) (l .inv .1) (λ z. absurd (omega (arith, z, c .loop-test .left)))
+    sym (feed-used (a .block .now) (at (record { used = l .used; len = l .n; kept = l .kept; end = l .end }) (l .line) (l .bytes) (l .places) (l .store) (l .slots) (l .table) (l .out)) (omega (arith, c .loop-test .left))) ∙ l .inv .2
 
 pub feed-spec : {M : Type 1} → statement M
 feed-spec =

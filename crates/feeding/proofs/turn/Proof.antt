@@ -15,7 +15,7 @@ returns : tie.Need-returns
 returns c =
     let a = c .before .before .before .before .before .before .before .before .before .before .before .before .before .before .args in
     let t = c .before .before .before .before .take-line in
-    turn-part (a .block .now) (a .line .now) (t .last .1 .0) (a .len) (t .result) (t .ensures .0) (t .ensures .1) (memory (a .k) (a .bytes .now) (a .places .now) (a .store .now) (a .slots .now) (a .table .now)) (a .at) (a .out .now) (c .before .before .before .before .before .before .before .before .before .before .before .before .before .before .pre) (not-true (t .result .done) (c .if1 .taken))
+    turn-part (a .block .now) (a .line .now) (t .last .1 .0) (a .len) (a .end) (a .out .now) (memory (a .k) (a .bytes .now) (a .places .now) (a .store .now) (a .slots .now) (a .table .now)) (t .result) (t .ensures .0) (t .ensures .1) (not-true (t .result .done) (c .if1 .taken))
 
 answer-line-requires : tie.Need-answer-line-requires
 answer-line-requires c κs = search needs
@@ -46,7 +46,7 @@ returns-2 c =
     let a = c .before .before .before .before .before .before .before .before .before .before .before .before .before .before .before .before .before .before .before .before .before .before .before .before .before .before .before .before .before .before .before .before .before .before .before .args in
     let t = c .before .before .before .before .before .before .before .before .before .before .before .before .before .before .before .before .before .before .before .before .before .before .before .before .before .take-line in
     let r = c .before .before .before .before .before .before .before .before .before .before .before .before .before .answer-line in
-    turn-line (a .block .now) (a .line .now) (t .last .1 .0) (a .len) (t .result) (t .ensures .0) (t .ensures .1) (memory (a .k) (a .bytes .now) (a .places .now) (a .store .now) (a .slots .now) (a .table .now)) (a .at) (a .out .now) (c .before .before .before .before .before .before .before .before .before .before .before .before .before .before .before .before .before .before .before .before .before .before .before .before .before .before .before .before .before .before .before .before .before .before .before .pre) (not-false (t .result .done) (c .before .before .before .before .before .before .before .before .before .before .before .before .before .before .before .before .before .before .before .before .before .if1 .left)) _ (r .result .end) (r .last .1 .1 .1 .1 .1 .1 .1 .1 .1 .0) (r .ensures .0) (r .ensures .1 .0) (r .ensures .1 .1) (r .kept .1 .1 .1 .1 .1 .1 .1 .1 .1 .0)
+    turn-line (a .block .now) (a .line .now) (t .last .1 .0) (a .len) (a .end) (a .out .now) (memory (a .k) (a .bytes .now) (a .places .now) (a .store .now) (a .slots .now) (a .table .now)) (t .result) (t .ensures .0) (t .ensures .1) (c .before .before .before .before .before .before .before .before .before .before .before .before .before .before .before .before .before .before .before .before .before .before .before .before .before .before .before .before .before .before .before .before .before .before .before .pre) (not-false (t .result .done) (c .before .before .before .before .before .before .before .before .before .before .before .before .before .before .before .before .before .before .before .before .before .if1 .left)) _ (r .result .end) (r .last .1 .1 .1 .1 .1 .1 .1 .1 .1 .0) (r .ensures .0) (r .ensures .1 .0) (r .ensures .1 .1)
 
 pub turn-spec : {M : Type 1} → statement M
 turn-spec =
