@@ -2,8 +2,14 @@
 
 mod common;
 
-use common::{Ran, run, scenario};
+use common::{Ran, run};
 use std::fs;
+use std::path::PathBuf;
+
+/// A file of the repository's scenarios.
+fn scenario(name: &str) -> PathBuf {
+    PathBuf::from(env!("CARGO_MANIFEST_DIR")).join("../../scenarios").join(name)
+}
 
 fn kept(name: &str) -> String {
     fs::read_to_string(scenario(name)).expect("a scenario's file")

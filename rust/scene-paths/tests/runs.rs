@@ -99,9 +99,6 @@ fn many_signals() {
     let signals: String = (0..25_000).map(|i| format!("/A/n{i}\n")).collect();
     let ran = run(&[], format!("{LEGS}signals\n{signals}/Q\n").as_bytes());
     assert_eq!((ran.status, ran.errors.as_str()), (1, ""));
-    assert!(
-        ran.out.contains("line 25005: /Q\n  leg 1   stopped: 6, ") == (LEGS.lines().count() == 4),
-        "the last line"
-    );
+    assert!(ran.out.contains("line 25006: /Q\n  leg 1   stopped: 6, "));
     assert!(ran.out.ends_with("25001 signals: 25000 came home, 1 did not\n"));
 }

@@ -1,7 +1,6 @@
 //! Runs the program.
 
 use std::io::Write;
-use std::path::PathBuf;
 use std::process::{Command, Stdio};
 
 /// What the program wrote, and its exit status.
@@ -26,9 +25,4 @@ pub fn run(arguments: &[&str], input: &[u8]) -> Ran {
         errors: text(output.stderr),
         status: output.status.code().expect("a status"),
     }
-}
-
-/// A file of the repository's scenarios.
-pub fn scenario(name: &str) -> PathBuf {
-    PathBuf::from(env!("CARGO_MANIFEST_DIR")).join("../../scenarios").join(name)
 }
