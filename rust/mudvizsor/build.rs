@@ -40,14 +40,16 @@ fn own_folder() -> PathBuf {
     folder
 }
 
-/// Builds the library from the repository's sources, whose proofs are checked on the way.
+/// Builds the library from the repository's sources, whose proofs are checked on the way, which takes minutes.
 fn build(repository: &Path) {
     println!(
         "cargo::warning={LIBRARY} is missing and is built now: its proofs are checked, which takes minutes"
     );
     let run = Command::new("rt").args(["staticlib", "exports"]).current_dir(repository).output();
     match run {
-        Ok(output) if output.status.success() => {}
+        Ok(output) if output.status.success() => {
+            println!("cargo::warning={LIBRARY} was missing and has been built by `rt staticlib exports`");
+        }
         Ok(output) => {
             eprintln!("{}", String::from_utf8_lossy(&output.stdout));
             eprintln!("{}", String::from_utf8_lossy(&output.stderr));

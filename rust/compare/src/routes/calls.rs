@@ -10,7 +10,7 @@ use crate::tally::Call;
 use crate::text::{Answer, Text};
 use mudvizsor::ffi::Reply;
 use mudvizsor::ffi::maps::Paths;
-use mudvizsor::ffi::routes::{route_all, route_home, route_out};
+use mudvizsor::ffi::routes::{self, route_all, route_home, route_out};
 use original::pcp::MapFunction;
 use original::sdf::Path;
 use texts::LONGEST;
@@ -19,7 +19,7 @@ use texts::LONGEST;
 pub struct RouteCall {
     name: &'static str,
     home: bool,
-    entry: fn(mudvizsor::ffi::routes::Route, &[u8], &mut [u8]) -> Reply,
+    entry: fn(routes::Route, &[u8], &mut [u8]) -> Reply,
 }
 
 pub const OUT: RouteCall = RouteCall { name: "route_out", home: false, entry: route_out };
