@@ -1,8 +1,8 @@
 -- What each way through the acts of frames gives. Assumes nothing.
 use mathlib.Core.Path.{_≡_, refl, sym, ap, _∙_}
-use mathlib.Core.Bool.{Bool, true, false, not, cond}
+use mathlib.Core.Bool.{Bool, true, false, not}
 use mathlib.Core.List.{List, [], _∷_}
-use mathlib.Core.Option.{Option, none, some}
+use mathlib.Core.Option.{none, some}
 use Prim.Native.Nat.{ℕ, suc, _+_, _-_, _≤_, _<_}
 use native.Mathlib.Omega.{arith}
 use lib.Dec.{leb}
@@ -18,7 +18,7 @@ use Rattle.path.specs.declared.Asked.the-variants.{Passed, Refused as RefusedAs
 use Rattle.path.specs.declared.Reply.{Reply}
 use Rattle.path.specs.declared.Reply.the-variants.{Written, Refused}
 use Rattle.protocol.specs.Frame.{Frame, pair}
-use Rattle.protocol.specs.State.{more, fourBytes}
+use Rattle.protocol.specs.State.{fourBytes}
 use Rattle.frame.specs.declared.Read.the-variants.{Pair}
 use Rattle.frame.specs.Read.{meant}
 use Rattle.holding.specs.declared.Opened.{Opened}

@@ -10,7 +10,7 @@ use lib.Dec.{leb}
 use lib.ListN.{length, take, drop, length-append}
 use lib.Seq.{length-take-le}
 use borrow.Author.Tests.{le-leb, lt-leb, leb-true, leb-false}
-use Rattle.text.specs.Text.{Text, written, placed}
+use Rattle.text.specs.Text.{Text, written}
 use Rattle.text.proofs.BoolLaws.{told-false, told-true}
 use Rattle.text.proofs.WriteLaws.{placed-first, read-back}
 use Rattle.path.specs.declared.Reply.{Reply}
@@ -25,7 +25,7 @@ use Rattle.digits.specs.declared.Decoded.{Decoded}
 use Rattle.digits.specs.declared.Decoded.the-variants.{Bytes, Bad as BadDigits, Over}
 use Rattle.digits.proofs.DecodeLaws.{decoded-length}
 use Rattle.protocol.specs.Frame.{Frame, pair, statuses, close-map, close-relocates, out, home, count, kind, frameOf}
-use Rattle.protocol.specs.State.{Answer, given, refusal, answerBytes, Turn}
+use Rattle.protocol.specs.State.{Answer, given, refusal, answerBytes}
 use Rattle.protocol.specs.Run.{next, answer}
 use Rattle.protocol.specs.Input.{ofBytes, heard, answerLine}
 use Rattle.frame.specs.declared.Read.{Read}

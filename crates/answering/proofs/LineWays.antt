@@ -1,6 +1,6 @@
 -- What each way through the writing of a line gives. Assumes nothing.
-use mathlib.Core.Path.{_≡_, refl, sym, ap, _∙_}
-use mathlib.Core.List.{[], _∷_, _++_}
+use mathlib.Core.Path.{_≡_, sym, ap, _∙_}
+use mathlib.Core.List.{[], _∷_}
 use Prim.Native.Nat.{ℕ, _+_, _*_, _≤_}
 use native.Mathlib.Omega.{arith}
 use lib.ListN.{length, length-append}
@@ -49,6 +49,6 @@ module _ (h a : ℕ) (payload out : Text) (at : ℕ) (room : at + 5 + 2 * length
       let n : at + 4 + 2 * length payload ≡ at + length digits = omega (arith, size) in (
         rw (length-append digits (10 ∷ [])) (omega (arith, size)),
         g ∙ ap (λ (k : ℕ). placed k (10 ∷ []) two) n
-        ∙ ap (placed (at + length digits) (10 ∷ [])) (f ∙ ap (placed (at + 4) (encoded payload)) e ∙ both ∙ sym (placed-fits at digits out (omega (arith, size, room))))
-        ∙ over-over at digits (10 ∷ []) out (omega (arith, size, room)),
+            ∙ ap (placed (at + length digits) (10 ∷ [])) (f ∙ ap (placed (at + 4) (encoded payload)) e ∙ both ∙ sym (placed-fits at digits out (omega (arith, size, room))))
+            ∙ over-over at digits (10 ∷ []) out (omega (arith, size, room)),
       )

@@ -2,14 +2,13 @@
 use mathlib.Core.Path.{_≡_, refl, sym, ap, _∙_}
 use mathlib.Core.Bool.{Bool, true, false, cond}
 use mathlib.Core.List.{List, [], _∷_}
-use mathlib.Core.Option.{none, some}
+use mathlib.Core.Option.{some}
 use Prim.Native.Nat.{ℕ, _≤_}
 use native.Mathlib.Omega.{arith}
 use lib.Dec.{leb}
 use lib.ListN.{length, drop}
 use borrow.Author.Tests.{le-leb}
 use Rattle.text.specs.Text.{Text, written}
-use Rattle.path.specs.declared.Refusal.{Refusal}
 use Rattle.path.specs.declared.Refusal.the-variants.{NoRoom}
 use Rattle.path.specs.declared.Asked.{Asked}
 use Rattle.path.specs.declared.Asked.the-variants.{Passed, Refused as RefusedAsked}
@@ -25,15 +24,15 @@ use Rattle.relocates.specs.Calls.{analyzeReply, analyzeMemory}
 use Rattle.relocates.proofs.MarkWays.{bytes-length}
 use Rattle.legs.specs.Lent.{LentRoute, lentRoute}
 use Rattle.routing.specs.Quick.{afterLegs}
-use Rattle.protocol.specs.Frame.{Frame, pair, statuses, close-map, close-relocates, out, home, count}
+use Rattle.protocol.specs.Frame.{Frame, statuses, close-map, close-relocates, out, home, count}
 use Rattle.protocol.specs.State.{given, refusal, answerOf, counts, fourBytes}
 use Rattle.frame.specs.declared.Read.{Read}
 use Rattle.frame.specs.declared.Read.the-variants.{Pair, Statuses, CloseMap, CloseRelocates, Out, Home, Count, Bad}
 use Rattle.frame.specs.Read.{meant}
 use Rattle.memory.specs.declared.Kept.{Kept}
-use Rattle.memory.specs.Memory.{Memory, memory, openList, statusesIn, closeIn, goesIn, turnIn}
+use Rattle.memory.specs.Memory.{Memory, memory, statusesIn, goesIn, turnIn}
 use Rattle.answering.specs.declared.Effect.{Effect}
-use Rattle.answering.specs.Acting.{replyOf, payloadOf, Gave, Went, Took, Acted, OpenActed, CloseActed, countsReply}
+use Rattle.answering.specs.Acting.{replyOf, payloadOf, Gave, Went, Acted, OpenActed, CloseActed, countsReply}
 use Rattle.answering.proofs.ActWays.{no-frame, same-frame, countedEffect}
 
 -- `act_statuses`: a list that passes its questions has at most 64 pairs

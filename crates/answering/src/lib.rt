@@ -8,7 +8,7 @@ ghost use lib.ListN.{length, drop};
 ghost use Rattle.text.specs.Text.{written};
 ghost use Rattle.frame.specs.declared.Read.the-variants.{Pair};
 ghost use Rattle.path.specs.Refusal.{number};
-ghost use Rattle.protocol.specs.State.{answerOf, fourBytes, counts};
+ghost use Rattle.protocol.specs.State.{fourBytes, counts};
 ghost use Rattle.lines.specs.Taking.{lineAt};
 ghost use Rattle.protocol.specs.Frame.{frameOf};
 ghost use Rattle.memory.specs.Memory.{memory, statusesIn, goesIn};
@@ -397,15 +397,5 @@ pub fn answer_line(
     }
     let mut frame = [0u8; 2048];
     let n = hear(line, len, &mut frame);
-    answer_frame(
-        &frame[..n],
-        k,
-        bytes,
-        places,
-        store,
-        slots,
-        table,
-        at,
-        out,
-    )
+    answer_frame(&frame[..n], k, bytes, places, store, slots, table, at, out)
 }

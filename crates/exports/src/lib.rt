@@ -11,6 +11,7 @@ ghost use Rattle.batch.specs.Batch.{carriedAt, enough, allAsked, allBytes, allR
 ghost use Rattle.exports.specs.Map.{timeless, wayOf};
 ghost use Rattle.codes.specs.Code.{askedCode, testCode, countCode, replyCode};
 
+mod frames;
 mod makes;
 mod moves;
 mod routes;

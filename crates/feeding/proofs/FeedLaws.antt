@@ -1,13 +1,13 @@
 -- Bytes that go through the machine: one part after another, and what a caller of `feed` makes of two calls. Assumes nothing.
 use mathlib.Core.Path.{_≡_, refl, sym, ap, _∙_}
-use mathlib.Core.List.{[], _∷_, _++_}
+use mathlib.Core.List.{[], _++_}
 use Prim.Native.Nat.{ℕ, zero, suc, _+_, _-_, _≤_, _<_}
 use native.Mathlib.Nat.{zero-add}
 use native.Mathlib.Omega.{arith}
-use lib.ListN.{length, take, drop, length-append, length-take, length-drop, take-append-drop}
+use lib.ListN.{length, take, drop, length-append, length-take, length-drop}
 use lib.Seq.{take-add}
 use borrow.Author.Tests.{le-leb}
-use Rattle.text.specs.Text.{Text, written, over, placed}
+use Rattle.text.specs.Text.{Text, over, placed}
 use Rattle.text.proofs.WriteLaws.{rest-whole, read-back}
 use Rattle.pairs.proofs.WriteWays.{over-over}
 use Rattle.lines.specs.Lines.{Line}

@@ -6,21 +6,20 @@ use Prim.Native.Nat.{ℕ, suc, _+_, _-_, _≤_, _<_}
 use native.Mathlib.Numerals.{add-one}
 use native.Mathlib.Omega.{arith}
 use lib.Dec.{ltb}
-use lib.ListN.{length, take, drop, length-append, length-take, length-drop, take-append-drop}
+use lib.ListN.{length, take, drop, length-append, length-drop, take-append-drop}
 use lib.Seq.{take-all, length-take-le}
 use borrow.Author.Tests.{le-leb, ltb-true, ltb-false}
 use Rattle.text.specs.Text.{Text, over}
-use Rattle.text.proofs.BoolLaws.{not-true, not-false}
-use Rattle.lines.specs.Lines.{Line, text}
+use Rattle.lines.specs.Lines.{text}
 use Rattle.lines.specs.Blocks.{grown}
-use Rattle.lines.specs.Taking.{stop, mostIn, lineAt, lengthAfter, memoryAfter, takenOf, takenMemory}
+use Rattle.lines.specs.Taking.{stop, mostIn, lineAt, lengthAfter, takenOf, takenMemory}
 use Rattle.lines.specs.declared.Taken.{Taken}
 use Rattle.lines.proofs.TakeLaws.{stop-le}
 use Rattle.lines.proofs.LineLaws.{line-grown}
 use Rattle.lines.proofs.FeedLaws.{fed-one, said-one, fed-part, said-part}
 use Rattle.protocol.specs.Input.{nextLine, answerLine}
 use Rattle.memory.specs.Memory.{Memory, turnIn}
-use Rattle.answering.specs.Answer.{longest, memoryAfter as answeredMemory, outAfter, endAfter}
+use Rattle.answering.specs.Answer.{memoryAfter as answeredMemory, outAfter, endAfter}
 use Rattle.feeding.specs.Feed.{saidIn, Goes, Moves}
 
 -- a new line

@@ -48,18 +48,7 @@ fn turn(
             end: at,
         };
     }
-    let a = answering::answer_line(
-        line,
-        t.len,
-        k,
-        bytes,
-        places,
-        store,
-        slots,
-        table,
-        at,
-        out,
-    );
+    let a = answering::answer_line(line, t.len, k, bytes, places, store, slots, table, at, out);
     let kept = a.kept;
     Fed {
         used: t.used,

@@ -109,18 +109,7 @@ fn finish(
     out: &mut [u8; 65536],
 ) {
     if len > 0 {
-        answer(
-            b"\n",
-            line,
-            len,
-            k,
-            bytes,
-            places,
-            store,
-            slots,
-            table,
-            out,
-        );
+        answer(b"\n", line, len, k, bytes, places, store, slots, table, out);
     }
 }
 

@@ -1,13 +1,15 @@
 -- A whole input: its lines, the frames that they say, and the output. Nothing here depends on how the input is cut into blocks.
+use mathlib.Core.Path.{_≡_}
+use mathlib.Core.Bool.{true}
 use Prim.Native.Nat.{ℕ}
 use mathlib.Core.List.{List, [], _∷_, _++_, map}
 use mathlib.Core.Option.{Option, none, some}
-use Rattle.text.specs.Text.{Text}
+use Rattle.text.specs.Text.{Text, lacks}
 use Rattle.lines.specs.Lines.{Line, text, overlong, linesOf, answers}
 use Rattle.digits.specs.Digits.{decoded, encoded}
-use Rattle.protocol.specs.Frame.{Frame, frameOf}
-use Rattle.protocol.specs.State.{State, Turn, start, turn}
-use Rattle.protocol.specs.Run.{next, answer}
+use Rattle.protocol.specs.Frame.{Frame, out, home, frameOf}
+use Rattle.protocol.specs.State.{State, Turn, start, given, turn}
+use Rattle.protocol.specs.Run.{next, answer, after}
 
 -- "a line of at most 4,096 digits"
 abbrev pub mostDigits : ℕ
@@ -35,7 +37,30 @@ module _ {S : Type 0} (turns : S → Frame → Turn S) where
   unfolding heard encoded
   answerLine st l = encoded (answer turns st (heard l)) ++ 10 ∷ []
 
--- what the program writes for an input
+-- what the program writes for lines, ..
+unfoldable pub answersTo : List Line → Text
+unfolding answers heard answerLine turn
+answersTo ls = answers (nextLine turn) (answerLine turn) start ls
+
+-- .. and for an input
 unfoldable pub output : Text → Text
-unfolding linesOf answers heard answerLine turn
-output input = answers (nextLine turn) (answerLine turn) start (linesOf mostDigits input)
+unfolding linesOf answersTo
+output input = answersTo (linesOf mostDigits input)
+
+-- the state after lines
+unfoldable pub stateAfter : List Line → State
+unfolding after heard
+stateAfter ls = after start (map heard ls)
+
+-- the line that says a kind, the answer 00 and a payload
+abbrev pub accepts : ℕ → Text → Text
+accepts kind q = encoded (kind ∷ 0 ∷ q) ++ 10 ∷ []
+
+-- what is claimed of the lines of every input (proofs/InputLaws.antt)
+pub record InputClaims : Type 0 where
+  -- A line is answered behind the answers to the lines before it, in the state after them.
+  pub line-more : (ls : List Line) (l : Line) → answersTo (ls ++ l ∷ []) ≡ answersTo ls ++ answerLine turn (stateAfter ls) l
+  -- Where 05 with a path free of selections was answered 00 with q, the next line, where it is 06 with q, is answered 00 with that path.
+  pub comes-home : (ls : List Line) (l k : Line) (p q : Text) → heard l ≡ some (out p) → lacks 123 p ≡ true
+      → (turn (stateAfter ls) (out p)) .answer ≡ given q → heard k ≡ some (home q)
+      → (answerLine turn (stateAfter ls) l ≡ accepts 133 q) × (answerLine turn (stateAfter (ls ++ l ∷ [])) k ≡ accepts 134 p)

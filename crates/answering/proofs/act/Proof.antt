@@ -2,204 +2,148 @@ use Rattle.answering.proofs.TurnWays.{as-pair, as-statuses, as-map, as-
 use borrow.Author.Needs.{needs}
 use Rattle.answering.proofs.act.Statement.{statement}
 use Rattle.answering.proofs.act.Tie as tie
-use Rattle.answering.proofs.act.Reads as reads
-use Rattle.answering.proofs.act.Lts as lts
-use Rattle.answering.proofs.act_close.Reads as act-close-reads
-use Rattle.answering.proofs.act_pair.Reads as act-pair-reads
-use Rattle.answering.proofs.act_statuses.Reads as act-statuses-reads
-use Rattle.answering.proofs.act_way.Reads as act-way-reads
-use Rattle.answering.proofs.count_out.Reads as count-out-reads
-use Rattle.answering.proofs.write_count.Reads as write-count-reads
 
--- src/lib.rt:260:27
 enum-known-r : tie.Need-enum-known-r
 enum-known-r c = search needs
 
--- src/lib.rt:260:36
 act-pair-requires : tie.Need-act-pair-requires
 act-pair-requires c κs = search needs
 
--- src/lib.rt:263:36
 enum-told : tie.Need-enum-told
 enum-told c = search needs
 
--- src/lib.rt:263:20
 act-statuses-requires : tie.Need-act-statuses-requires
 act-statuses-requires c κs = search needs
 
--- src/lib.rt:265:54
 enum-told-2 : tie.Need-enum-told-2
 enum-told-2 c = search needs
 
--- src/lib.rt:265:34
 act-close-requires : tie.Need-act-close-requires
 act-close-requires c κs = search needs
 
--- src/lib.rt:266:59
 enum-told-3 : tie.Need-enum-told-3
 enum-told-3 c = search needs
 
--- src/lib.rt:266:40
 act-close-requires-2 : tie.Need-act-close-requires-2
 act-close-requires-2 c κs = search needs
 
--- src/lib.rt:268:46
 enum-told-4 : tie.Need-enum-told-4
 enum-told-4 c = search needs
 
--- src/lib.rt:268:17
 act-way-requires : tie.Need-act-way-requires
 act-way-requires c κs = search needs
 
--- src/lib.rt:269:13
 count-out-requires : tie.Need-count-out-requires
 count-out-requires c κs = search needs
 
--- src/lib.rt:273:44
 enum-told-5 : tie.Need-enum-told-5
 enum-told-5 c = search needs
 
--- src/lib.rt:273:20
 act-way-requires-2 : tie.Need-act-way-requires-2
 act-way-requires-2 c κs = search needs
 
--- src/lib.rt:276:37
 enum-told-6 : tie.Need-enum-told-6
 enum-told-6 c = search needs
 
--- src/lib.rt:276:13
 write-count-requires : tie.Need-write-count-requires
 write-count-requires c κs = search needs
 
--- src/lib.rt:284:41
 enum-told-7 : tie.Need-enum-told-7
 enum-told-7 c = search needs
 
--- src/lib.rt:245:1
 same-length : tie.Need-same-length
 same-length c = search needs
 
--- src/lib.rt:245:1
 same-length-2 : tie.Need-same-length-2
 same-length-2 c = search needs
 
--- src/lib.rt:245:1
 returns : tie.Need-returns
 returns c = as-pair _ _ _ _ _ _ _ _ _ (c .before .before .before .before .before .before .before .before .before .before .before .before .before .before .before .before .before .args .payload .now) _ _ (c .before .before .before .before .before .before .before .before .r .given .1) _ _ _ _ (c .before .before .before .before .act-pair .ensures)
 
--- src/lib.rt:245:1
 same-length-3 : tie.Need-same-length-3
 same-length-3 c = search needs
 
--- src/lib.rt:245:1
 same-length-4 : tie.Need-same-length-4
 same-length-4 c = search needs
 
--- src/lib.rt:245:1
 same-length-5 : tie.Need-same-length-5
 same-length-5 c = search needs
 
--- src/lib.rt:245:1
 returns-2 : tie.Need-returns-2
 returns-2 c = as-statuses _ _ _ _ _ _ _ _ _ _ (c .before .before .before .before .before .before .enum-told .given .1) _ (c .before .before .act-statuses .ensures)
 
--- src/lib.rt:245:1
 same-length-6 : tie.Need-same-length-6
 same-length-6 c = search needs
 
--- src/lib.rt:245:1
 same-length-7 : tie.Need-same-length-7
 same-length-7 c = search needs
 
--- src/lib.rt:245:1
 same-length-8 : tie.Need-same-length-8
 same-length-8 c = search needs
 
--- src/lib.rt:245:1
 same-length-9 : tie.Need-same-length-9
 same-length-9 c = search needs
 
--- src/lib.rt:245:1
 same-length-10 : tie.Need-same-length-10
 same-length-10 c = search needs
 
--- src/lib.rt:245:1
 returns-3 : tie.Need-returns-3
 returns-3 c = as-map _ _ _ _ _ _ _ _ _ (c .before .before .before .before .before .before .before .before .before .before .before .before .before .before .before .before .before .before .before .before .before .args .payload .now) (c .before .before .before .before .before .before .before .before .before .before .before .before .enum-told2 .given .1) _ _ (c .before .before .before .before .before .before .act-close .ensures)
 
--- src/lib.rt:245:1
 same-length-11 : tie.Need-same-length-11
 same-length-11 c = search needs
 
--- src/lib.rt:245:1
 same-length-12 : tie.Need-same-length-12
 same-length-12 c = search needs
 
--- src/lib.rt:245:1
 same-length-13 : tie.Need-same-length-13
 same-length-13 c = search needs
 
--- src/lib.rt:245:1
 same-length-14 : tie.Need-same-length-14
 same-length-14 c = search needs
 
--- src/lib.rt:245:1
 same-length-15 : tie.Need-same-length-15
 same-length-15 c = search needs
 
--- src/lib.rt:245:1
 returns-4 : tie.Need-returns-4
 returns-4 c = as-relocates _ _ _ _ _ _ _ _ _ (c .before .before .before .before .before .before .before .before .before .before .before .before .before .before .before .before .before .before .before .before .before .args .payload .now) (c .before .before .before .before .before .before .before .before .before .before .before .before .enum-told3 .given .1) _ _ (c .before .before .before .before .before .before .act-close2 .ensures)
 
--- src/lib.rt:245:1
 same-length-16 : tie.Need-same-length-16
 same-length-16 c = search needs
 
--- src/lib.rt:245:1
 same-length-17 : tie.Need-same-length-17
 same-length-17 c = search needs
 
--- src/lib.rt:245:1
 same-length-18 : tie.Need-same-length-18
 same-length-18 c = search needs
 
--- src/lib.rt:245:1
 same-length-19 : tie.Need-same-length-19
 same-length-19 c = search needs
 
--- src/lib.rt:245:1
 returns-5 : tie.Need-returns-5
 returns-5 c = as-out _ _ _ _ _ _ _ _ _ _ (c .before .before .before .before .before .before .before .before .enum-told4 .given .1) _ (c .before .before .before .act-way .ensures) _ (c .count-out .ensures)
 
--- src/lib.rt:245:1
 same-length-20 : tie.Need-same-length-20
 same-length-20 c = search needs
 
--- src/lib.rt:245:1
 same-length-21 : tie.Need-same-length-21
 same-length-21 c = search needs
 
--- src/lib.rt:245:1
 same-length-22 : tie.Need-same-length-22
 same-length-22 c = search needs
 
--- src/lib.rt:245:1
 same-length-23 : tie.Need-same-length-23
 same-length-23 c = search needs
 
--- src/lib.rt:245:1
 returns-6 : tie.Need-returns-6
 returns-6 c = as-home _ _ _ _ _ _ _ _ _ _ (c .before .before .before .before .before .before .before .enum-told5 .given .1) _ (c .before .before .act-way2 .ensures)
 
--- src/lib.rt:245:1
 same-length-24 : tie.Need-same-length-24
 same-length-24 c = search needs
 
--- src/lib.rt:245:1
 returns-7 : tie.Need-returns-7
 returns-7 c = as-count _ _ _ _ _ _ _ _ _ _ (c .before .before .before .before .enum-told6 .given .1) (c .before .before .write-count .ensures)
 
--- src/lib.rt:245:1
 returns-8 : tie.Need-returns-8
 returns-8 c = as-bad _ _ _ _ _ _ _ _ _ (c .before .before .before .before .before .before .before .before .before .args .payload .now) (c .enum-told7 .given .1) _
 

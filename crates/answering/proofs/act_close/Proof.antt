@@ -3,51 +3,37 @@ use Rattle.answering.proofs.ActWays.{close-done, close-refused}
 use borrow.Author.Needs.{needs}
 use Rattle.answering.proofs.act_close.Statement.{statement}
 use Rattle.answering.proofs.act_close.Tie as tie
-use Rattle.answering.proofs.act_close.Reads as reads
-use Rattle.answering.proofs.act_close.Lts as lts
-use Rattle.closing.proofs.close.Reads as close-reads
 
--- src/lib.rt:182:9
 close-requires : tie.Need-close-requires
 close-requires c κs = search needs
 
--- src/lib.rt:193:31
 enum-known-c : tie.Need-enum-known-c
 enum-known-c c = search needs
 
--- src/lib.rt:201:34
 enum-known-c-2 : tie.Need-enum-known-c-2
 enum-known-c-2 c = search needs
 
--- src/lib.rt:169:1
 same-length : tie.Need-same-length
 same-length c = search needs
 
--- src/lib.rt:169:1
 same-length-2 : tie.Need-same-length-2
 same-length-2 c = search needs
 
--- src/lib.rt:169:1
 same-length-3 : tie.Need-same-length-3
 same-length-3 c = search needs
 
--- src/lib.rt:169:1
 returns : tie.Need-returns
 returns c = close-done _ (memory (c .before .before .before .before .before .before .before .before .before .before .before .before .before .before .before .before .before .before .before .before .args .k) (c .before .before .before .before .before .before .before .before .before .before .before .before .before .before .before .before .before .before .before .before .args .bytes .now) (c .before .before .before .before .before .before .before .before .before .before .before .before .before .before .before .before .before .before .before .before .args .places .now) (c .before .before .before .before .before .before .before .before .before .before .before .before .before .before .before .before .before .before .before .before .args .store .now) (c .before .before .before .before .before .before .before .before .before .before .before .before .before .before .before .before .before .before .before .before .args .slots .now) (c .before .before .before .before .before .before .before .before .before .before .before .before .before .before .before .before .before .before .before .before .args .table .now)) _ (c .before .before .before .before .before .before .before .before .before .close .ensures .0) _ (c .before .before .before .before .before .before .before .before .before .close .ensures .1 .0) _ (c .before .before .before .before .before .before .before .before .before .close .ensures .1 .1 .0) _ (c .before .before .before .before .before .before .before .before .before .close .ensures .1 .1 .1) _ (c .before .c .given .1)
 
--- src/lib.rt:169:1
 same-length-4 : tie.Need-same-length-4
 same-length-4 c = search needs
 
--- src/lib.rt:169:1
 same-length-5 : tie.Need-same-length-5
 same-length-5 c = search needs
 
--- src/lib.rt:169:1
 same-length-6 : tie.Need-same-length-6
 same-length-6 c = search needs
 
--- src/lib.rt:169:1
 returns-2 : tie.Need-returns-2
 returns-2 c = close-refused _ (memory (c .before .before .before .before .before .before .before .before .before .before .before .before .before .before .before .before .before .before .before .before .args .k) (c .before .before .before .before .before .before .before .before .before .before .before .before .before .before .before .before .before .before .before .before .args .bytes .now) (c .before .before .before .before .before .before .before .before .before .before .before .before .before .before .before .before .before .before .before .before .args .places .now) (c .before .before .before .before .before .before .before .before .before .before .before .before .before .before .before .before .before .before .before .before .args .store .now) (c .before .before .before .before .before .before .before .before .before .before .before .before .before .before .before .before .before .before .before .before .args .slots .now) (c .before .before .before .before .before .before .before .before .before .before .before .before .before .before .before .before .before .before .before .before .args .table .now)) _ (c .before .before .before .before .before .before .before .before .before .close .ensures .0) _ (c .before .before .before .before .before .before .before .before .before .close .ensures .1 .0) _ (c .before .before .before .before .before .before .before .before .before .close .ensures .1 .1 .0) _ (c .before .before .before .before .before .before .before .before .before .close .ensures .1 .1 .1) _ (c .before .c2 .given .1)
 

@@ -4,88 +4,64 @@ use native.Mathlib.Omega.{arith}
 use borrow.Author.Needs.{needs}
 use Rattle.answering.proofs.act_pair.Statement.{statement}
 use Rattle.answering.proofs.act_pair.Tie as tie
-use Rattle.answering.proofs.act_pair.Reads as reads
-use Rattle.answering.proofs.act_pair.Lts as lts
-use Rattle.answering.proofs.spans.Reads as spans-reads
-use Rattle.holding.proofs.add_pair.Reads as add-pair-reads
 
--- src/lib.rt:105:9
 spans-requires : tie.Need-spans-requires
 spans-requires c κs = search needs
 
--- src/lib.rt:106:9
 returns : tie.Need-returns
 returns c = pair-outside _ _ _ _ _ _ _ (c .before .spans .ensures) (c .if1 .taken)
 
--- src/lib.rt:111:15
 add-end : tie.Need-add-end
 add-end c = let h = pair-inside (c .before .before .before .before .before .args .frame .now) _ _ _ (c .before .spans .ensures) (c .if1 .left) in omega (arith, h, c .before .before .before .before .before .good)
 
--- src/lib.rt:112:17
 add-start : tie.Need-add-start
 add-start c = let h = pair-inside (c .before .before .before .before .before .args .frame .now) _ _ _ (c .before .spans .ensures) (c .if1 .left) in omega (arith, h, c .before .before .before .before .before .good)
 
--- src/lib.rt:113:16
 add-last : tie.Need-add-last
 add-last c = let h = pair-inside (c .before .before .before .before .before .args .frame .now) _ _ _ (c .before .spans .ensures) (c .if1 .left) in omega (arith, h, c .before .before .before .before .before .good)
 
--- src/lib.rt:116:39
 sub-add-pair : tie.Need-sub-add-pair
 sub-add-pair c = search needs
 
--- src/lib.rt:116:39
 part-add-pair-start : tie.Need-part-add-pair-start
 part-add-pair-start c = search needs
 
--- src/lib.rt:116:39
 part-add-pair-end : tie.Need-part-add-pair-end
 part-add-pair-end c = let h = pair-inside (c .before .before .before .before .before .before .before .args .frame .now) _ _ _ (c .before .before .before .spans .ensures) (c .before .before .if1 .left) in omega (arith, h)
 
--- src/lib.rt:116:55
 sub-add-pair-2 : tie.Need-sub-add-pair-2
 sub-add-pair-2 c = search needs
 
--- src/lib.rt:116:55
 part-add-pair-start-2 : tie.Need-part-add-pair-start-2
 part-add-pair-start-2 c = search needs
 
--- src/lib.rt:116:55
 part-add-pair-end-2 : tie.Need-part-add-pair-end-2
 part-add-pair-end-2 c = let h = pair-inside (c .before .before .before .before .before .before .before .before .args .frame .now) _ _ _ (c .before .before .before .before .spans .ensures) (c .before .before .before .if1 .left) in omega (arith, h)
 
--- src/lib.rt:116:9
 add-pair-requires : tie.Need-add-pair-requires
 add-pair-requires c κs = search needs
 
--- src/lib.rt:118:30
 enum-known-a : tie.Need-enum-known-a
 enum-known-a c = search needs
 
--- src/lib.rt:126:33
 enum-known-a-2 : tie.Need-enum-known-a-2
 enum-known-a-2 c = search needs
 
--- src/lib.rt:95:1
 same-length : tie.Need-same-length
 same-length c = search needs
 
--- src/lib.rt:95:1
 same-length-2 : tie.Need-same-length-2
 same-length-2 c = search needs
 
--- src/lib.rt:95:1
 returns-2 : tie.Need-returns-2
 returns-2 c = pair-done _ _ _ _ _ _ _ (c .before .before .before .before .before .before .before .before .before .before .before .before .before .before .before .spans .ensures) (c .before .before .before .before .before .before .before .before .before .before .before .before .before .before .if1 .left) _ _ (cut-at 3 (c .before .before .before .before .before .before .before .before .before .before .before .before .before .before .before .before .before .before .before .args .n) (c .before .before .before .before .before .before .before .before .before .before .before .before .before .before .before .before .before .before .before .args .frame .now)) (cut-at (5 + c .before .before .before .before .before .before .before .before .before .before .before .before .before .before .before .before .before .before .before .args .n) (c .before .before .before .before .before .before .before .before .before .before .before .before .before .before .before .before .before .before .before .args .m) (c .before .before .before .before .before .before .before .before .before .before .before .before .before .before .before .before .before .before .before .args .frame .now)) _ (c .before .before .before .before .before .before .before .add-pair .ensures .0) _ (c .before .before .before .before .before .before .before .add-pair .ensures .1 .0) _ (c .before .before .before .before .before .before .before .add-pair .ensures .1 .1) _ (c .before .a .given .1)
 
--- src/lib.rt:95:1
 same-length-3 : tie.Need-same-length-3
 same-length-3 c = search needs
 
--- src/lib.rt:95:1
 same-length-4 : tie.Need-same-length-4
 same-length-4 c = search needs
 
--- src/lib.rt:95:1
 returns-3 : tie.Need-returns-3
 returns-3 c = pair-refused _ _ _ _ _ _ _ (c .before .before .before .before .before .before .before .before .before .before .before .before .before .before .before .spans .ensures) (c .before .before .before .before .before .before .before .before .before .before .before .before .before .before .if1 .left) _ _ (cut-at 3 (c .before .before .before .before .before .before .before .before .before .before .before .before .before .before .before .before .before .before .before .args .n) (c .before .before .before .before .before .before .before .before .before .before .before .before .before .before .before .before .before .before .before .args .frame .now)) (cut-at (5 + c .before .before .before .before .before .before .before .before .before .before .before .before .before .before .before .before .before .before .before .args .n) (c .before .before .before .before .before .before .before .before .before .before .before .before .before .before .before .before .before .before .before .args .m) (c .before .before .before .before .before .before .before .before .before .before .before .before .before .before .before .before .before .before .before .args .frame .now)) _ (c .before .before .before .before .before .before .before .add-pair .ensures .0) _ (c .before .before .before .before .before .before .before .add-pair .ensures .1 .0) _ (c .before .before .before .before .before .before .before .add-pair .ensures .1 .1) _ (c .before .a2 .given .1)
 

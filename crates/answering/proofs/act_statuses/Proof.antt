@@ -2,19 +2,13 @@ use Rattle.answering.proofs.TurnWays.{statuses-given}
 use borrow.Author.Needs.{needs}
 use Rattle.answering.proofs.act_statuses.Statement.{statement}
 use Rattle.answering.proofs.act_statuses.Tie as tie
-use Rattle.answering.proofs.act_statuses.Reads as reads
-use Rattle.answering.proofs.act_statuses.Lts as lts
-use Rattle.relocates.proofs.analyze_relocate_occurrences.Reads as analyze-relocate-occurrences-reads
 
--- src/lib.rt:214:5
 analyze-relocate-occurrences-requires : tie.Need-analyze-relocate-occurrences-requires
 analyze-relocate-occurrences-requires c κs = search needs
 
--- src/lib.rt:209:1
 same-length : tie.Need-same-length
 same-length c = search needs
 
--- src/lib.rt:209:1
 returns : tie.Need-returns
 returns c = statuses-given _ _ _ _ _ (c .before .before .before .before .before .before .before .before .pre) _ (c .before .before .analyze-relocate-occurrences .ensures .0) (c .before .before .analyze-relocate-occurrences .ensures .1)
 

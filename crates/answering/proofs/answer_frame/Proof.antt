@@ -5,83 +5,58 @@ use Rattle.answering.proofs.FrameWays.{kind-few, frame-bad, frame-acted
 use borrow.Author.Needs.{needs}
 use Rattle.answering.proofs.answer_frame.Statement.{statement}
 use Rattle.answering.proofs.answer_frame.Tie as tie
-use Rattle.answering.proofs.answer_frame.Reads as reads
-use Rattle.answering.proofs.answer_frame.Lts as lts
-use Rattle.answering.proofs.act.Reads as act-reads
-use Rattle.answering.proofs.kind_of.Reads as kind-of-reads
-use Rattle.answering.proofs.write_line.Reads as write-line-reads
-use Rattle.answering.proofs.write_reply.Reads as write-reply-reads
-use Rattle.frame.proofs.read_frame.Reads as read-frame-reads
 
--- src/lib.rt:317:9
 read-frame-requires : tie.Need-read-frame-requires
 read-frame-requires c κs = search needs
 
--- src/lib.rt:318:9
 kind-of-requires : tie.Need-kind-of-requires
 kind-of-requires c κs = search needs
 
--- src/lib.rt:320:38
 slice-aggregate-write-line : tie.Need-slice-aggregate-write-line
 slice-aggregate-write-line c = search needs
 
--- src/lib.rt:320:13
 write-line-requires : tie.Need-write-line-requires
 write-line-requires c κs = search needs
 
--- src/lib.rt:321:9
 same-length : tie.Need-same-length
 same-length c = search needs
 
--- src/lib.rt:321:9
 returns : tie.Need-returns
 returns c = frame-bad _ _ (c .before .before .before .before .before .before .before .read-frame .ensures) _ (c .before .before .before .before .before .before .kind-of .ensures) _ _ _ _ _ (c .before .before .before .before .before .if1 .taken) (c .before .before .write-line .ensures)
 
--- src/lib.rt:333:9
 slice-aggregate-act : tie.Need-slice-aggregate-act
 slice-aggregate-act c = search needs
 
--- src/lib.rt:324:9
 act-requires : tie.Need-act-requires
 act-requires c κs = search needs
 
--- src/lib.rt:337:27
 add-write-reply : tie.Need-add-write-reply
 add-write-reply c = omega (arith, kind-few (length (c .before .before .before .before .before .before .before .before .before .before .before .before .before .before .before .before .before .before .before .before .before .before .before .before .before .before .before .before .before .args .frame .now)) (c .before .before .before .before .before .before .before .before .before .before .before .before .before .before .before .before .before .before .before .before .before .read-frame .result), c .before .before .before .before .before .before .before .before .before .before .before .before .before .before .before .before .before .before .before .before .kind-of .ensures)
 
--- src/lib.rt:337:46
 slice-aggregate-write-reply : tie.Need-slice-aggregate-write-reply
 slice-aggregate-write-reply c = search needs
 
--- src/lib.rt:337:9
 write-reply-requires : tie.Need-write-reply-requires
 write-reply-requires c κs = (frame-fits _ _ (c .before .before .before .before .before .before .before .before .before .before .before .before .before .before .before .before .before .before .before .before .before .before .before .read-frame .ensures) _ (c .before .before .before .before .before .before .before .before .before .before .before .before .before .before .before .before .before .before .before .before .before .before .kind-of .ensures) _ 0 0 [] [] _ _ _ _ (c .before .before .before .before .before .before .before .before .before .before .before .before .before .before .act .ensures) (c .before .before .before .before .before .before .before .before .before .before .before .before .before .before .before .before .before .before .before .before .before .if1 .left), (search needs, c .before .before .before .before .before .before .before .before .before .before .before .before .before .before .before .before .before .before .before .before .before .before .before .before .before .before .before .before .before .before .before .pre))
 
--- src/lib.rt:303:1
 same-length-2 : tie.Need-same-length-2
 same-length-2 c = search needs
 
--- src/lib.rt:303:1
 same-length-3 : tie.Need-same-length-3
 same-length-3 c = search needs
 
--- src/lib.rt:303:1
 same-length-4 : tie.Need-same-length-4
 same-length-4 c = search needs
 
--- src/lib.rt:303:1
 same-length-5 : tie.Need-same-length-5
 same-length-5 c = search needs
 
--- src/lib.rt:303:1
 same-length-6 : tie.Need-same-length-6
 same-length-6 c = search needs
 
--- src/lib.rt:303:1
 same-length-7 : tie.Need-same-length-7
 same-length-7 c = search needs
 
--- src/lib.rt:303:1
 returns-2 : tie.Need-returns-2
 returns-2 c = frame-acted _ _ (c .before .before .before .before .before .before .before .before .before .before .before .before .before .before .before .before .before .before .before .before .before .before .before .before .before .before .read-frame .ensures) _ (c .before .before .before .before .before .before .before .before .before .before .before .before .before .before .before .before .before .before .before .before .before .before .before .before .before .kind-of .ensures) _ _ _ _ _ _ _ _ _ (c .before .before .before .before .before .before .before .before .before .before .before .before .before .before .before .before .before .act .ensures) (c .before .before .before .before .before .before .before .before .before .before .before .before .before .before .before .before .before .before .before .before .before .before .before .before .if1 .left) (c .before .before .write-reply .ensures)
 

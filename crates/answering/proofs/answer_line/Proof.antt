@@ -1,67 +1,47 @@
-use native.Mathlib.Omega.{arith}
 use Rattle.answering.proofs.FrameWays.{part-length, heard-few, line-refused, line-room, line-answered}
 use borrow.Author.Needs.{needs}
 use Rattle.answering.proofs.answer_line.Statement.{statement}
 use Rattle.answering.proofs.answer_line.Tie as tie
-use Rattle.answering.proofs.answer_line.Reads as reads
-use Rattle.answering.proofs.answer_line.Lts as lts
-use Rattle.answering.proofs.answer_frame.Reads as answer-frame-reads
-use Rattle.answering.proofs.has_room.Reads as has-room-reads
-use Rattle.answering.proofs.hear.Reads as hear-reads
 
--- src/lib.rt:395:9
 has-room-requires : tie.Need-has-room-requires
 has-room-requires c κs = search needs
 
--- src/lib.rt:396:9
 returns : tie.Need-returns
 returns c = line-refused _ _ _ _ _ (c .before .has-room .ensures) (c .if1 .taken)
 
--- src/lib.rt:399:29
 slice-aggregate-hear : tie.Need-slice-aggregate-hear
 slice-aggregate-hear c = search needs
 
--- src/lib.rt:399:9
 hear-requires : tie.Need-hear-requires
 hear-requires c κs = search needs
 
--- src/lib.rt:401:9
 array-share-prefix-frame : tie.Need-array-share-prefix-frame
 array-share-prefix-frame c = heard-few _ _ _ (c .before .hear .ensures)
 
--- src/lib.rt:401:9
 slice-aggregate-answer-frame : tie.Need-slice-aggregate-answer-frame
 slice-aggregate-answer-frame c = part-length _ _ (heard-few _ _ _ (c .before .before .hear .ensures))
 
--- src/lib.rt:400:5
 answer-frame-requires : tie.Need-answer-frame-requires
 answer-frame-requires c κs = line-room _ (c .before .before .before .before .before .before .before .before .before .before .before .before .before .before .before .before .before .before .before .args .out .now) _ (c .before .before .before .before .before .before .before .before .before .before .before .has-room .ensures) (c .before .before .before .before .before .before .before .before .before .before .if1 .left)
 
--- src/lib.rt:379:1
 same-length : tie.Need-same-length
 same-length c = search needs
 
--- src/lib.rt:379:1
 same-length-2 : tie.Need-same-length-2
 same-length-2 c = search needs
 
--- src/lib.rt:379:1
 same-length-3 : tie.Need-same-length-3
 same-length-3 c = search needs
 
--- src/lib.rt:379:1
 same-length-4 : tie.Need-same-length-4
 same-length-4 c = search needs
 
--- src/lib.rt:379:1
 same-length-5 : tie.Need-same-length-5
 same-length-5 c = search needs
 
--- src/lib.rt:379:1
 same-length-6 : tie.Need-same-length-6
 same-length-6 c = search needs
 
--- src/lib.rt:379:1
 returns-2 : tie.Need-returns-2
 returns-2 c = line-answered _ _ _ _ _ (c .before .before .before .before .before .before .before .before .before .before .before .before .before .before .before .before .before .before .before .before .before .before .before .before .has-room .ensures) (c .before .before .before .before .before .before .before .before .before .before .before .before .before .before .before .before .before .before .before .before .before .before .before .if1 .left) _ _ (c .before .before .before .before .before .before .before .before .before .before .before .before .before .before .before .before .before .before .before .before .before .hear .ensures) _ _ _ (c .before .before .before .before .before .before .before .before .before .before .before .before .answer-frame .ensures)
 

@@ -2,30 +2,22 @@ use Rattle.answering.proofs.ActWays.{kind-none, kind-some}
 use borrow.Author.Needs.{needs}
 use Rattle.answering.proofs.behind_kind.Statement.{statement}
 use Rattle.answering.proofs.behind_kind.Tie as tie
-use Rattle.answering.proofs.behind_kind.Reads as reads
-use Rattle.answering.proofs.behind_kind.Lts as lts
 
--- src/lib.rt:75:9
 slice-aggregate-result : tie.Need-slice-aggregate-result
 slice-aggregate-result c = search needs
 
--- src/lib.rt:75:9
 returns : tie.Need-returns
 returns c = kind-none (c .before .before .args .frame .now) (c .before .if1 .taken)
 
--- src/lib.rt:77:5
 sub-result : tie.Need-sub-result
 sub-result c = search needs
 
--- src/lib.rt:77:5
 part-result-start : tie.Need-part-result-start
 part-result-start c = search needs
 
--- src/lib.rt:77:5
 part-result-end : tie.Need-part-result-end
 part-result-end c = search needs
 
--- src/lib.rt:71:1
 returns-2 : tie.Need-returns-2
 returns-2 c = kind-some (c .before .before .args .frame .now)
 

@@ -2,29 +2,22 @@ use Rattle.answering.proofs.ActWays.{count-refused, count-held, count-m
 use borrow.Author.Needs.{needs}
 use Rattle.answering.proofs.count_out.Statement.{statement}
 use Rattle.answering.proofs.count_out.Tie as tie
-use Rattle.answering.proofs.count_out.Reads as reads
-use Rattle.answering.proofs.count_out.Lts as lts
 
--- src/lib.rt:137:33
 enum-known-r : tie.Need-enum-known-r
 enum-known-r c = search needs
 
--- src/lib.rt:138:9
 returns : tie.Need-returns
 returns c = count-refused _ _ _ (c .before .r .given .1)
 
 enum-told : tie.Need-enum-told
 enum-told c = search needs
 
--- src/lib.rt:141:9
 returns-2 : tie.Need-returns-2
 returns-2 c = count-held _ _ _ (c .before .before .enum-told .given .1) (c .if1 .taken)
 
--- src/lib.rt:149:23
 add-t7 : tie.Need-add-t7
 add-t7 c = search needs
 
--- src/lib.rt:134:1
 returns-3 : tie.Need-returns-3
 returns-3 c = count-more _ _ _ (c .before .before .before .before .before .enum-told .given .1) (c .before .before .before .if1 .left)
 

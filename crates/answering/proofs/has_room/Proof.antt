@@ -1,14 +1,10 @@
 use Rattle.answering.proofs.FrameWays.{room-short, room-rest}
 use Rattle.answering.proofs.has_room.Statement.{statement}
 use Rattle.answering.proofs.has_room.Tie as tie
-use Rattle.answering.proofs.has_room.Reads as reads
-use Rattle.answering.proofs.has_room.Lts as lts
 
--- src/lib.rt:371:9
 returns : tie.Need-returns
 returns c = room-short _ _ (c .if1 .taken)
 
--- src/lib.rt:367:1
 returns-2 : tie.Need-returns-2
 returns-2 c = room-rest _ _ (c .if1 .left)
 

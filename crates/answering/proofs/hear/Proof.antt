@@ -3,59 +3,43 @@ use Rattle.answering.proofs.FrameWays.{hear-long, hear-beyond, hear-byt
 use borrow.Author.Needs.{needs}
 use Rattle.answering.proofs.hear.Statement.{statement}
 use Rattle.answering.proofs.hear.Tie as tie
-use Rattle.answering.proofs.hear.Reads as reads
-use Rattle.answering.proofs.hear.Lts as lts
-use Rattle.digits.proofs.decode.Reads as decode-reads
 
--- src/lib.rt:348:9
 returns : tie.Need-returns
 returns c = hear-long _ _ _ (c .if1 .taken)
 
--- src/lib.rt:351:9
 returns-2 : tie.Need-returns-2
 returns-2 c = hear-beyond _ _ _ (c .if2 .taken)
 
--- src/lib.rt:353:28
 slice-aggregate-decode : tie.Need-slice-aggregate-decode
 slice-aggregate-decode c = part-length _ _ (c .before .if2 .left)
 
--- src/lib.rt:353:9
 decode-requires : tie.Need-decode-requires
 decode-requires c κs = search needs
 
--- src/lib.rt:355:32
 enum-known-d : tie.Need-enum-known-d
 enum-known-d c = search needs
 
--- src/lib.rt:356:33
 enum-told : tie.Need-enum-told
 enum-told c = search needs
 
--- src/lib.rt:357:34
 enum-told-2 : tie.Need-enum-told-2
 enum-told-2 c = search needs
 
--- src/lib.rt:343:1
 same-length : tie.Need-same-length
 same-length c = search needs
 
--- src/lib.rt:343:1
 returns-3 : tie.Need-returns-3
 returns-3 c = hear-bytes _ _ (c .before .before .before .before .before .before .before .before .before .if1 .left) (c .before .before .before .before .before .before .before .before .if2 .left) _ _ _ (c .before .before .before .before .before .before .before .before .before .before .before .before .pre) (c .before .before .before .before .before .decode .ensures .0) (c .before .before .before .before .before .decode .ensures .1) _ (c .before .d .given .1)
 
--- src/lib.rt:343:1
 same-length-2 : tie.Need-same-length-2
 same-length-2 c = search needs
 
--- src/lib.rt:343:1
 returns-4 : tie.Need-returns-4
 returns-4 c = hear-bad _ _ (c .before .before .before .before .before .before .before .before .if1 .left) (c .before .before .before .before .before .before .before .if2 .left) _ _ _ (c .before .before .before .before .before .before .before .before .before .before .before .pre) (c .before .before .before .before .decode .ensures .0) (c .before .before .before .before .decode .ensures .1) (c .enum-told .given .1)
 
--- src/lib.rt:343:1
 same-length-3 : tie.Need-same-length-3
 same-length-3 c = search needs
 
--- src/lib.rt:343:1
 returns-5 : tie.Need-returns-5
 returns-5 c = hear-over _ _ (c .before .before .before .before .before .before .before .before .if1 .left) (c .before .before .before .before .before .before .before .if2 .left) _ _ _ (c .before .before .before .before .before .before .before .before .before .before .before .pre) (c .before .before .before .before .decode .ensures .0) (c .before .before .before .before .decode .ensures .1) (c .enum-told2 .given .1)
 

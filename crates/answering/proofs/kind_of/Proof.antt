@@ -2,79 +2,58 @@ use Rattle.answering.proofs.FrameWays.{kind-outside, kind-inside}
 use borrow.Author.Needs.{needs}
 use Rattle.answering.proofs.kind_of.Statement.{statement}
 use Rattle.answering.proofs.kind_of.Tie as tie
-use Rattle.answering.proofs.kind_of.Reads as reads
-use Rattle.answering.proofs.kind_of.Lts as lts
-use Rattle.answering.proofs.spans.Reads as spans-reads
 
--- src/lib.rt:84:27
 enum-known-r : tie.Need-enum-known-r
 enum-known-r c = search needs
 
--- src/lib.rt:85:17
 spans-requires : tie.Need-spans-requires
 spans-requires c κs = search needs
 
--- src/lib.rt:86:17
 returns : tie.Need-returns
 returns c = kind-outside _ _ _ _ (c .before .spans .ensures) (c .if1 .taken) _ (c .before .before .before .r .given .1)
 
--- src/lib.rt:90:34
 enum-told : tie.Need-enum-told
 enum-told c = search needs
 
--- src/lib.rt:91:34
 enum-told-2 : tie.Need-enum-told-2
 enum-told-2 c = search needs
 
--- src/lib.rt:92:40
 enum-told-3 : tie.Need-enum-told-3
 enum-told-3 c = search needs
 
--- src/lib.rt:93:29
 enum-told-4 : tie.Need-enum-told-4
 enum-told-4 c = search needs
 
--- src/lib.rt:94:30
 enum-told-5 : tie.Need-enum-told-5
 enum-told-5 c = search needs
 
--- src/lib.rt:95:31
 enum-told-6 : tie.Need-enum-told-6
 enum-told-6 c = search needs
 
--- src/lib.rt:96:29
 enum-told-7 : tie.Need-enum-told-7
 enum-told-7 c = search needs
 
--- src/lib.rt:80:1
 returns-2 : tie.Need-returns-2
 returns-2 c = kind-inside _ _ _ _ (c .before .spans .ensures) (c .if1 .left) _ (c .before .before .before .r .given .1)
 
--- src/lib.rt:80:1
 returns-3 : tie.Need-returns-3
 returns-3 c = search needs
 
--- src/lib.rt:80:1
 returns-4 : tie.Need-returns-4
 returns-4 c = search needs
 
--- src/lib.rt:80:1
 returns-5 : tie.Need-returns-5
 returns-5 c = search needs
 
--- src/lib.rt:80:1
 returns-6 : tie.Need-returns-6
 returns-6 c = search needs
 
--- src/lib.rt:80:1
 returns-7 : tie.Need-returns-7
 returns-7 c = search needs
 
--- src/lib.rt:80:1
 returns-8 : tie.Need-returns-8
 returns-8 c = search needs
 
--- src/lib.rt:80:1
 returns-9 : tie.Need-returns-9
 returns-9 c = search needs
 

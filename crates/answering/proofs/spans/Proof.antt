@@ -1,18 +1,13 @@
 use Rattle.answering.proofs.ActWays.{spans-head, spans-source, spans-all}
 use Rattle.answering.proofs.spans.Statement.{statement}
 use Rattle.answering.proofs.spans.Tie as tie
-use Rattle.answering.proofs.spans.Reads as reads
-use Rattle.answering.proofs.spans.Lts as lts
 
--- src/lib.rt:85:9
 returns : tie.Need-returns
 returns c = spans-head _ _ _ (c .if1 .taken)
 
--- src/lib.rt:89:9
 returns-2 : tie.Need-returns-2
 returns-2 c = spans-source _ _ _ (c .before .if1 .left) (c .if2 .taken)
 
--- src/lib.rt:81:1
 returns-3 : tie.Need-returns-3
 returns-3 c = spans-all _ _ _ (c .before .if1 .left) (c .if2 .left)
 

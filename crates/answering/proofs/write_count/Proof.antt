@@ -2,55 +2,40 @@ use Rattle.answering.proofs.ActWays.{count-written}
 use borrow.Author.Needs.{needs}
 use Rattle.answering.proofs.write_count.Statement.{statement}
 use Rattle.answering.proofs.write_count.Tie as tie
-use Rattle.answering.proofs.write_count.Reads as reads
-use Rattle.answering.proofs.write_count.Lts as lts
-use Rattle.text.proofs.write_at.Reads as write-at-reads
 
--- src/lib.rt:161:15
 cast-four : tie.Need-cast-four
 cast-four c = search needs
 
--- src/lib.rt:161:5
 array-write-four : tie.Need-array-write-four
 array-write-four c = search needs
 
--- src/lib.rt:162:15
 cast-four-2 : tie.Need-cast-four-2
 cast-four-2 c = search needs
 
--- src/lib.rt:162:5
 array-write-four-2 : tie.Need-array-write-four-2
 array-write-four-2 c = search needs
 
--- src/lib.rt:163:15
 cast-four-3 : tie.Need-cast-four-3
 cast-four-3 c = search needs
 
--- src/lib.rt:163:5
 array-write-four-3 : tie.Need-array-write-four-3
 array-write-four-3 c = search needs
 
--- src/lib.rt:164:15
 cast-four-4 : tie.Need-cast-four-4
 cast-four-4 c = search needs
 
--- src/lib.rt:164:5
 array-write-four-4 : tie.Need-array-write-four-4
 array-write-four-4 c = search needs
 
--- src/lib.rt:165:20
 slice-aggregate-write-at : tie.Need-slice-aggregate-write-at
 slice-aggregate-write-at c = search needs
 
--- src/lib.rt:165:5
 write-at-requires : tie.Need-write-at-requires
 write-at-requires c κs = search needs
 
--- src/lib.rt:156:1
 same-length : tie.Need-same-length
 same-length c = search needs
 
--- src/lib.rt:156:1
 returns : tie.Need-returns
 returns c = count-written _ _ _ (c .before .before .before .before .before .before .pre) (c .before .before .write-at .ensures)
 

@@ -2,60 +2,43 @@ use Rattle.answering.proofs.LineWays.{line-written}
 use borrow.Author.Needs.{needs}
 use Rattle.answering.proofs.write_line.Statement.{statement}
 use Rattle.answering.proofs.write_line.Tie as tie
-use Rattle.answering.proofs.write_line.Reads as reads
-use Rattle.answering.proofs.write_line.Lts as lts
-use Rattle.digits.proofs.encode.Reads as encode-reads
-use Rattle.text.proofs.write_at.Reads as write-at-reads
 
--- src/lib.rt:56:5
 array-write-first : tie.Need-array-write-first
 array-write-first c = search needs
 
--- src/lib.rt:57:5
 array-write-first-2 : tie.Need-array-write-first-2
 array-write-first-2 c = search needs
 
--- src/lib.rt:58:20
 slice-aggregate-encode : tie.Need-slice-aggregate-encode
 slice-aggregate-encode c = search needs
 
--- src/lib.rt:58:5
 encode-requires : tie.Need-encode-requires
 encode-requires c κs = search needs
 
--- src/lib.rt:59:18
 add-behind : tie.Need-add-behind
 add-behind c = search needs
 
--- src/lib.rt:60:5
 encode-requires-2 : tie.Need-encode-requires-2
 encode-requires-2 c κs = search needs
 
--- src/lib.rt:61:24
 mul-end : tie.Need-mul-end
 mul-end c = search needs
 
--- src/lib.rt:61:15
 add-end : tie.Need-add-end
 add-end c = search needs
 
--- src/lib.rt:62:20
 slice-aggregate-write-at : tie.Need-slice-aggregate-write-at
 slice-aggregate-write-at c = search needs
 
--- src/lib.rt:62:5
 write-at-requires : tie.Need-write-at-requires
 write-at-requires c κs = search needs
 
--- src/lib.rt:63:5
 add-result : tie.Need-add-result
 add-result c = search needs
 
--- src/lib.rt:51:1
 same-length : tie.Need-same-length
 same-length c = search needs
 
--- src/lib.rt:51:1
 returns : tie.Need-returns
 returns c = line-written _ _ _ _ _ (c .before .before .before .before .before .before .before .before .before .before .before .before .before .before .before .before .pre) _ _ _ (c .before .before .before .before .before .before .before .before .before .before .before .encode .ensures) (c .before .before .before .before .before .before .before .encode2 .ensures) (c .before .before .write-at .ensures)
 

@@ -4,59 +4,43 @@ use Rattle.feeding.proofs.TurnWays.{turn-part, turn-line}
 use borrow.Author.Needs.{needs}
 use Rattle.feeding.proofs.turn.Statement.{statement}
 use Rattle.feeding.proofs.turn.Tie as tie
-use Rattle.feeding.proofs.turn.Reads as reads
-use Rattle.feeding.proofs.turn.Lts as lts
-use Rattle.answering.proofs.answer_line.Reads as answer-line-reads
-use Rattle.lines.proofs.take_line.Reads as take-line-reads
 
--- src/lib.rt:42:9
 take-line-requires : tie.Need-take-line-requires
 take-line-requires c κs = search needs
 
--- src/lib.rt:44:9
 same-length : tie.Need-same-length
 same-length c = search needs
 
--- src/lib.rt:44:9
 returns : tie.Need-returns
 returns c =
     let a = c .before .before .before .before .before .before .before .before .before .before .before .before .before .before .args in
     let t = c .before .before .before .before .take-line in
     turn-part (a .block .now) (a .line .now) (t .last .1 .0) (a .len) (t .result) (t .ensures .0) (t .ensures .1) (memory (a .k) (a .bytes .now) (a .places .now) (a .store .now) (a .slots .now) (a .table .now)) (a .at) (a .out .now) (c .before .before .before .before .before .before .before .before .before .before .before .before .before .before .pre) (not-true (t .result .done) (c .if1 .taken))
 
--- src/lib.rt:51:9
 answer-line-requires : tie.Need-answer-line-requires
 answer-line-requires c κs = search needs
 
--- src/lib.rt:25:1
 same-length-2 : tie.Need-same-length-2
 same-length-2 c = search needs
 
--- src/lib.rt:25:1
 same-length-3 : tie.Need-same-length-3
 same-length-3 c = search needs
 
--- src/lib.rt:25:1
 same-length-4 : tie.Need-same-length-4
 same-length-4 c = search needs
 
--- src/lib.rt:25:1
 same-length-5 : tie.Need-same-length-5
 same-length-5 c = search needs
 
--- src/lib.rt:25:1
 same-length-6 : tie.Need-same-length-6
 same-length-6 c = search needs
 
--- src/lib.rt:25:1
 same-length-7 : tie.Need-same-length-7
 same-length-7 c = search needs
 
--- src/lib.rt:25:1
 same-length-8 : tie.Need-same-length-8
 same-length-8 c = search needs
 
--- src/lib.rt:25:1
 returns-2 : tie.Need-returns-2
 returns-2 c =
     let a = c .before .before .before .before .before .before .before .before .before .before .before .before .before .before .before .before .before .before .before .before .before .before .before .before .before .before .before .before .before .before .before .before .before .before .before .args in

@@ -6,24 +6,16 @@ use lib.Seq.{length-take-le}
 use borrow.Author.Needs.{needs}
 use Rattle.frames.proofs.answer.Statement.{statement}
 use Rattle.frames.proofs.answer.Tie as tie
-use Rattle.frames.proofs.answer.Reads as reads
-use Rattle.frames.proofs.answer.Lts as lts
-use Rattle.feeding.proofs.feed.Reads as feed-reads
-use Rattle.io.proofs.write_all.Reads as write-all-reads
 
--- src/main.rt:43:9
 feed-requires : tie.Need-feed-requires
 feed-requires c κs = search needs
 
--- src/main.rt:47:48
 slice-aggregate-write-all : tie.Need-slice-aggregate-write-all
 slice-aggregate-write-all c = let f = c .before .before .before .before .feed in let h : f .result .end ≤ length (f .last .1 .1 .1 .1 .1 .1 .1 .1 .1 .0) = omega (arith, f .ensures .fits, f .kept .1 .1 .1 .1 .1 .1 .1 .1 .1 .0) in sym (length-take-le (f .result .end) (f .last .1 .1 .1 .1 .1 .1 .1 .1 .1 .0) h)
 
--- src/main.rt:47:9
 write-all-requires : tie.Need-write-all-requires
 write-all-requires c κs = search needs
 
--- src/main.rt:29:1
 returns : tie.Need-returns
 returns c = search needs
 

@@ -1,9 +1,6 @@
 use borrow.Author.Needs.{needs}
 use Rattle.frames.proofs.main.Statement.{statement}
 use Rattle.frames.proofs.main.Tie as tie
-use Rattle.frames.proofs.main.Reads as reads
-use Rattle.frames.proofs.main.Lts as lts
-use Rattle.frames.proofs.step.Reads as step-reads
 
 abbrev Inv-loop : tie.InvT-loop
 Inv-loop block₀ line₀ bytes₀ places₀ store₀ slots₀ table₀ out₀ at₀ end₀ len₀ kept₀ more₀ steps₀ block line bytes places store slots table out at end len kept more steps = Unit {0}
@@ -11,31 +8,24 @@ Inv-loop block₀ line₀ bytes₀ places₀ store₀ slots₀ table₀ out₀ a
 abbrev μ-loop : tie.MeasureT-loop
 μ-loop block₀ line₀ bytes₀ places₀ store₀ slots₀ table₀ out₀ at₀ end₀ len₀ kept₀ more₀ steps₀ block line bytes places store slots table out at end len kept more steps = steps
 
--- src/main.rt:146:5
 loop-holds : tie.Need-loop-holds Inv-loop μ-loop
 loop-holds c = tt
 
--- src/main.rt:147:9
 sub-steps : tie.Need-sub-steps Inv-loop μ-loop
 sub-steps c = search needs
 
--- src/main.rt:148:13
 step-requires : tie.Need-step-requires Inv-loop μ-loop
 step-requires c κs = search needs
 
--- src/main.rt:146:5
 loop-less : tie.Need-loop-less Inv-loop μ-loop
 loop-less c = search needs
 
--- src/main.rt:146:5
 loop-again : tie.Need-loop-again Inv-loop μ-loop
 loop-again c = tt
 
--- src/main.rt:127:1
 returns : tie.Need-returns Inv-loop μ-loop
 returns c = search needs
 
--- src/main.rt:127:1
 returns-2 : tie.Need-returns-2 Inv-loop μ-loop
 returns-2 c = search needs
 
