@@ -5,6 +5,8 @@
 //! places of these ([`maps::List`], [`makes::Map`], [`routes::Route`]). An entry trusts nothing that it is lent: a place outside its
 //! bytes, an illegal text or a count beyond its slice is refused. A refused call writes nothing.
 //!
+//! Not bound is `mudvizsor_frames_line`, a line of the program `frames`.
+//!
 //! Nothing checks the declarations against the library's source; the comparison with the original calls every one of them.
 //!
 //! ```
