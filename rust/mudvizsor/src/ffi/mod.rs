@@ -1,13 +1,15 @@
 //! The static library's entries, one safe function each, over memory that the caller lends.
 //!
-//! This is the crate's only binding, and the only place with `unsafe`. The types of the crate stand on it; it is public for programs that lend
-//! their own memory, such as the comparison with the original. A list, a map or a route passes as the bytes of its ends and the
-//! places of these ([`maps::List`], [`makes::Map`], [`routes::Route`]). An entry trusts nothing that it is lent: a place outside its
-//! bytes, an illegal text or a count beyond its slice is refused. A refused call writes nothing.
+//! This is the crate's only binding, and the only place with `unsafe`. The types of the crate stand on it; it is
+//! public for programs that lend their own memory, such as the comparison with the original. A list, a map or a route
+//! passes as the bytes of its ends and the places of these ([`maps::List`], [`makes::Map`], [`routes::Route`]). An entry
+//! trusts nothing that it is lent: a place outside its bytes, an illegal text or a count beyond its slice is refused. A
+//! refused call writes nothing.
 //!
 //! Not bound is `mudvizsor_frames_line`, a line of the program `frames`.
 //!
-//! Nothing checks the declarations against the library's source; the comparison with the original calls every one of them.
+//! Nothing checks the declarations against the library's source; the comparison with the original calls every one of
+//! them.
 //!
 //! ```
 //! use mudvizsor::ffi::{Reply, paths};
