@@ -6,6 +6,7 @@ mod maps;
 mod routes;
 
 use inputs::{Names, Replacement};
+use mudvizsor::ffi;
 use original::sdf::Path;
 use routes::Kind;
 use std::hint::black_box;
@@ -55,7 +56,7 @@ fn main() {
 
 fn time_new(names: Names, length: usize) {
     let paths = inputs::paths(names, length, COUNT);
-    assert!(paths.iter().all(|path| library::new(path.as_bytes()).number() == 0));
+    assert!(paths.iter().all(|path| ffi::paths::new(path.as_bytes()).number() == 0));
     let mean = mean(paths.iter().map(String::len));
     let original = || {
         for path in &paths {
@@ -64,7 +65,7 @@ fn time_new(names: Names, length: usize) {
     };
     let library = || {
         for path in &paths {
-            black_box(library::new(black_box(path.as_bytes())));
+            black_box(ffi::paths::new(black_box(path.as_bytes())));
         }
     };
     let times = best_times(original, library);
@@ -101,7 +102,7 @@ fn original_replace(each: &Replacement, out: &mut [u8]) -> usize {
 }
 
 fn library_replace(each: &Replacement, out: &mut [u8]) -> usize {
-    library::replace_prefix(each.path.as_bytes(), each.old.as_bytes(), each.new.as_bytes(), out).value()
+    ffi::paths::replace_prefix(each.path.as_bytes(), each.old.as_bytes(), each.new.as_bytes(), out).value()
 }
 
 fn sides_agree(each: &Replacement) -> bool {

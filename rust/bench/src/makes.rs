@@ -3,9 +3,9 @@
 
 use crate::inputs;
 use crate::{COUNT, best_times, print_row};
-use library::makes::{Map, Room};
-use library::maps::List;
-use library::{makes, relocates};
+use mudvizsor::ffi::makes::{Map, Room};
+use mudvizsor::ffi::maps::List;
+use mudvizsor::ffi::{makes, relocates};
 use original::pcp::MapFunction;
 use original::sdf::Path;
 use std::hint::black_box;

@@ -3,7 +3,7 @@
 
 use crate::inputs::{self, Carried};
 use crate::{COUNT, best_times, mean, print_row};
-use library::maps::{List, Paths, Way, carry, carry_all};
+use mudvizsor::ffi::maps::{List, Paths, Way, carry, carry_all};
 use original::pcp::MapFunction;
 use original::sdf::Path;
 use std::hint::black_box;

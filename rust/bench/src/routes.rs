@@ -4,8 +4,8 @@
 use crate::inputs::{self, Routed};
 use crate::maps::{packed, parsed};
 use crate::{COUNT, best_times, print_row};
-use library::maps::Paths;
-use library::routes::{Route, route_all};
+use mudvizsor::ffi::maps::Paths;
+use mudvizsor::ffi::routes::{Route, route_all};
 use original::pcp::MapFunction;
 use original::sdf::Path;
 use std::hint::black_box;

@@ -1,7 +1,7 @@
 //! The calls on paths: the library's entry beside the original's function, and the answer that is expected.
 
 use crate::text::{Answer, MADE_NOT_LEGAL, MADE_TOO_LONG, NO_PATH, TOO_LITTLE_MEMORY, Text, paths};
-use library::Reply;
+use mudvizsor::ffi::{Reply, paths};
 use original::sdf::Path;
 use texts::LONGEST;
 use texts::legal::is_legal;
@@ -34,40 +34,40 @@ impl PathCall {
 }
 
 /// The original gives a path or an error, and no value beside the path.
-pub const NEW: NumberCall = NumberCall { name: "new", entry: library::new, original: |_| 0 };
+pub const NEW: NumberCall = NumberCall { name: "new", entry: paths::new, original: |_| 0 };
 
 pub const IS_END: NumberCall =
-    NumberCall { name: "is_end", entry: library::is_end, original: |path| usize::from(is_end(path)) };
+    NumberCall { name: "is_end", entry: paths::is_end, original: |path| usize::from(is_end(path)) };
 
 pub const HAS_VARIANT_SELECTION: NumberCall = NumberCall {
     name: "has_variant_selection",
-    entry: library::has_variant_selection,
+    entry: paths::has_variant_selection,
     original: |path| usize::from(path.has_variant_selection()),
 };
 
 pub const ELEMENT_COUNT: NumberCall =
-    NumberCall { name: "element_count", entry: library::element_count, original: Path::element_count };
+    NumberCall { name: "element_count", entry: paths::element_count, original: Path::element_count };
 
 pub const PRIM_ELEMENT_COUNT: NumberCall = NumberCall {
     name: "prim_element_count",
-    entry: library::prim_element_count,
+    entry: paths::prim_element_count,
     original: Path::prim_element_count,
 };
 
-pub const PARENT: PathCall = PathCall { name: "parent", entry: library::parent, original: Path::parent };
+pub const PARENT: PathCall = PathCall { name: "parent", entry: paths::parent, original: Path::parent };
 
 pub const PRIM_PATH: PathCall =
-    PathCall { name: "prim_path", entry: library::prim_path, original: |path| Some(path.prim_path()) };
+    PathCall { name: "prim_path", entry: paths::prim_path, original: |path| Some(path.prim_path()) };
 
 pub const SPLIT_PROPERTY: PathCall = PathCall {
     name: "split_property",
-    entry: library::split_property,
+    entry: paths::split_property,
     original: |path| path.split_property().map(|(prim, _)| prim),
 };
 
 pub const STRIP_VARIANT_SELECTIONS: PathCall = PathCall {
     name: "strip_variant_selections",
-    entry: library::strip_variant_selections,
+    entry: paths::strip_variant_selections,
     original: |path| Some(path.strip_variant_selections()),
 };
 

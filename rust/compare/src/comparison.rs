@@ -2,11 +2,10 @@
 
 use crate::calls::{self, NumberCall, PathCall};
 use crate::lent::Lent;
-#[cfg(feature = "maps")]
 use crate::routes::reach::Reach;
 use crate::tally::{Call, Given, Tally};
 use crate::text::{Answer, Text, Texts};
-use library::Reply;
+use mudvizsor::ffi::{Reply, paths};
 use original::sdf::Path;
 use std::collections::BTreeSet;
 use texts::LONGEST;
@@ -33,7 +32,6 @@ pub struct Comparison {
     /// The legal texts that `Path::new` refuses.
     pub refused_by_original: BTreeSet<Vec<u8>>,
     /// How far the paths of random routes get.
-    #[cfg(feature = "maps")]
     pub reach: Reach,
     bytes: Lent<u8>,
     numbers: Lent<usize>,
@@ -44,7 +42,6 @@ impl Comparison {
         Comparison {
             tally: Tally::default(),
             refused_by_original: BTreeSet::new(),
-            #[cfg(feature = "maps")]
             reach: Reach::default(),
             bytes: Lent::bytes(ROOMS[ROOMS.len() - 1]),
             numbers: Lent::numbers(NUMBERS),
@@ -67,13 +64,13 @@ impl Comparison {
 
     pub fn has_prefix(&mut self, text: &Text, prefix: &Text) {
         let expected = calls::has_prefix(text, prefix).map(usize::from);
-        let found = library::has_prefix(&text.bytes, &prefix.bytes);
+        let found = paths::has_prefix(&text.bytes, &prefix.bytes);
         self.number("has_prefix", &Texts(&[text, prefix]), expected, found);
     }
 
     pub fn replace_prefix(&mut self, text: &Text, old: &Text, new: &Text) {
         let expected = calls::replace_prefix(text, old, new);
-        let entry = |out: &mut [u8]| library::replace_prefix(&text.bytes, &old.bytes, &new.bytes, out);
+        let entry = |out: &mut [u8]| paths::replace_prefix(&text.bytes, &old.bytes, &new.bytes, out);
         self.path("replace_prefix", &Texts(&[text, old, new]), &ROOMS, &expected, entry);
     }
 
@@ -109,7 +106,7 @@ impl Comparison {
         let needed = full.map_or(1, <[usize]>::len);
         for room in [needed - 1, needed, needed + 3] {
             let expected = calls::within(room, needed, full);
-            let found = library::ancestors(&text.bytes, self.numbers.lend(room));
+            let found = paths::ancestors(&text.bytes, self.numbers.lend(room));
             let wrong = self.numbers.first_wrong(expected.unwrap_or_default());
             let call = Call { name: "ancestors", given: &Texts(&[text]), room: Some(room) };
             self.tally.compare(call, expected.map(<[usize]>::len), found, wrong);

@@ -34,7 +34,6 @@ impl<T: Copy + PartialEq> Lent<T> {
     }
 
     /// What `room` lent items hold before the call.
-    #[cfg(feature = "maps")]
     pub fn before(&self, room: usize) -> &[T] {
         &self.pattern[MARGIN..MARGIN + room]
     }

@@ -6,17 +6,12 @@ mod comparison;
 mod exhaustive;
 mod facts;
 mod lent;
-#[cfg(feature = "maps")]
 mod makes;
-#[cfg(feature = "maps")]
 mod many;
-#[cfg(feature = "maps")]
 mod maps;
 mod phase;
 mod record;
-#[cfg(feature = "maps")]
 mod relocates;
-#[cfg(feature = "maps")]
 mod routes;
 mod tally;
 mod text;
@@ -39,13 +34,9 @@ struct Part {
 
 const PARTS: &[Part] = &[
     Part { name: "paths", run: compare_paths },
-    #[cfg(feature = "maps")]
     Part { name: "maps", run: compare_maps },
-    #[cfg(feature = "maps")]
     Part { name: "makes", run: compare_makes },
-    #[cfg(feature = "maps")]
     Part { name: "relocates", run: compare_relocates },
-    #[cfg(feature = "maps")]
     Part { name: "routes", run: compare_routes },
     Part { name: "times", run: compare_times },
 ];
@@ -104,25 +95,21 @@ fn compare_paths(comparison: &mut Comparison, options: &Options) {
     println!("legal texts that Path::new refuses: {}", comparison.refused_by_original.len());
 }
 
-#[cfg(feature = "maps")]
 fn compare_maps(comparison: &mut Comparison, options: &Options) {
     maps::run(comparison, options.seed);
     random_phase(comparison, "lists", options.seed, &options.limit, maps::cases::case);
 }
 
-#[cfg(feature = "maps")]
 fn compare_makes(comparison: &mut Comparison, options: &Options) {
     makes::run(comparison);
     random_phase(comparison, "maps made", options.seed, &options.limit, makes::cases::case);
 }
 
-#[cfg(feature = "maps")]
 fn compare_relocates(comparison: &mut Comparison, options: &Options) {
     relocates::run(comparison);
     random_phase(comparison, "relocate lists", options.seed, &options.limit, relocates::cases::case);
 }
 
-#[cfg(feature = "maps")]
 fn compare_routes(comparison: &mut Comparison, options: &Options) {
     routes::run(comparison, options.seed);
     random_phase(comparison, "routes", options.seed, &options.limit, routes::cases::case);

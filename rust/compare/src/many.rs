@@ -5,8 +5,8 @@ use crate::lent::Lent;
 use crate::maps::calls::WithText;
 use crate::tally::{Call, Given};
 use crate::text::{Answer, TOO_LITTLE_MEMORY, TOO_LONG, Text};
-use library::Reply;
-use library::maps::Paths;
+use mudvizsor::ffi::Reply;
+use mudvizsor::ffi::maps::Paths;
 use original::sdf::Path;
 use texts::LONGEST;
 

@@ -1,7 +1,7 @@
 //! Counts comparisons and keeps the smallest input of each kind of difference.
 
 use crate::text::Answer;
-use library::Reply;
+use mudvizsor::ffi::Reply;
 use std::collections::BTreeMap;
 use std::fmt::{self, Debug, Display};
 

@@ -6,7 +6,7 @@ use crate::many::Many;
 use crate::maps::list::List;
 use crate::tally::Given;
 use crate::text::{Answer, Text};
-use library::maps::{Paths, Way, carry, carry_all};
+use mudvizsor::ffi::maps::{Paths, Way, carry, carry_all};
 use original::pcp::MapFunction;
 use original::sdf::Path;
 use std::fmt::{self, Display};

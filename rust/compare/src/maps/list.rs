@@ -3,6 +3,7 @@
 use crate::calls::is_end;
 use crate::tally::Given;
 use crate::text::{Answer, TOO_LONG, path_of};
+use mudvizsor::ffi;
 use original::pcp::MapFunction;
 use original::sdf::Path;
 use std::fmt::{self, Display};
@@ -44,19 +45,19 @@ impl LentList {
         held(self.for_library())
     }
 
-    fn for_library(&self) -> library::maps::List<'_> {
+    fn for_library(&self) -> ffi::maps::List<'_> {
         let LentList { store, places, count, mark } = self;
-        library::maps::List { store, places, count: *count, mark: *mark }
+        ffi::maps::List { store, places, count: *count, mark: *mark }
     }
 }
 
 /// How many of the pairs counted have their places in the slice.
-pub fn held(list: library::maps::List) -> usize {
+pub fn held(list: ffi::maps::List) -> usize {
     list.count.min(list.places.len() / 4)
 }
 
 /// The places of the ends of the pairs held.
-fn ends<'a>(list: library::maps::List<'a>) -> impl Iterator<Item = Place<'a>> {
+fn ends<'a>(list: ffi::maps::List<'a>) -> impl Iterator<Item = Place<'a>> {
     let numbers = list.places[..4 * held(list)].chunks_exact(2);
     numbers.map(move |place| Place { store: list.store, start: place[0], length: place[1] })
 }
@@ -106,7 +107,7 @@ impl List {
         List::new(LentList::packed(pairs, mark))
     }
 
-    pub fn for_library(&self) -> library::maps::List<'_> {
+    pub fn for_library(&self) -> ffi::maps::List<'_> {
         self.lent.for_library()
     }
 
@@ -125,7 +126,7 @@ impl List {
 
 /// The original's map of a list, or the first "no" of questions 1 to 4. Each question is put to every end before the
 /// next, so the smallest number is the answer.
-pub fn map_of(list: library::maps::List) -> Answer<MapFunction> {
+pub fn map_of(list: ffi::maps::List) -> Answer<MapFunction> {
     let ends: Vec<Answer<Path>> = ends(list).map(|end| end.path()).collect();
     if let Some(number) = ends.iter().filter_map(|end| end.as_ref().err()).min() {
         return Err(*number);
@@ -153,12 +154,12 @@ impl Display for List {
 }
 
 /// A pair counts as one byte more than its ends.
-pub fn size(list: library::maps::List) -> usize {
+pub fn size(list: ffi::maps::List) -> usize {
     let bytes: usize = ends(list).filter_map(|end| end.bytes()).map(<[u8]>::len).sum();
     bytes + held(list)
 }
 
-pub fn show_pairs(list: library::maps::List, f: &mut fmt::Formatter<'_>) -> fmt::Result {
+pub fn show_pairs(list: ffi::maps::List, f: &mut fmt::Formatter<'_>) -> fmt::Result {
     let ends: Vec<Place> = ends(list).collect();
     for pair in ends.chunks_exact(2) {
         write!(f, ", {} -> {}", pair[0], pair[1])?;

@@ -7,7 +7,7 @@ use crate::maps::calls::{WithText, both};
 use crate::maps::list::List;
 use crate::tally::{Call, Given};
 use crate::text::{Answer, TOO_LITTLE_MEMORY, Text};
-use library::relocates as entries;
+use mudvizsor::ffi::relocates as entries;
 use original::pcp::relocates;
 use original::sdf::Path;
 use std::fmt::{self, Display};

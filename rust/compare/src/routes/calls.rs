@@ -8,9 +8,9 @@ use crate::maps::calls::{WithText, both};
 use crate::routes::lent_route::Route;
 use crate::tally::Call;
 use crate::text::{Answer, Text};
-use library::Reply;
-use library::maps::Paths;
-use library::routes::{route_all, route_home, route_out};
+use mudvizsor::ffi::Reply;
+use mudvizsor::ffi::maps::Paths;
+use mudvizsor::ffi::routes::{self, route_all, route_home, route_out};
 use original::pcp::MapFunction;
 use original::sdf::Path;
 use texts::LONGEST;
@@ -19,7 +19,7 @@ use texts::LONGEST;
 pub struct RouteCall {
     name: &'static str,
     home: bool,
-    entry: fn(library::routes::Route, &[u8], &mut [u8]) -> Reply,
+    entry: fn(routes::Route, &[u8], &mut [u8]) -> Reply,
 }
 
 pub const OUT: RouteCall = RouteCall { name: "route_out", home: false, entry: route_out };

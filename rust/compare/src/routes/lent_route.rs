@@ -3,7 +3,7 @@
 use crate::maps::list::{LentList, TOO_MANY_PAIRS, map_of, show_pairs, size};
 use crate::tally::Given;
 use crate::text::Answer;
-use library::maps::List;
+use mudvizsor::ffi::{self, maps::List};
 use original::pcp::{MapFunction, relocates};
 use original::sdf::Path;
 use std::fmt::{self, Display};
@@ -93,9 +93,9 @@ impl Route {
         Route::new(LentRoute::packed(legs))
     }
 
-    pub fn for_library(&self) -> library::routes::Route<'_> {
+    pub fn for_library(&self) -> ffi::routes::Route<'_> {
         let LentRoute { list, legs, count } = &self.lent;
-        library::routes::Route { store: &list.store, places: &list.places, legs, count: *count }
+        ffi::routes::Route { store: &list.store, places: &list.places, legs, count: *count }
     }
 
     /// The original's maps of the legs, or the first "no" of questions 1 to 4.

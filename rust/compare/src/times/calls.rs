@@ -3,7 +3,7 @@
 
 use crate::comparison::Comparison;
 use crate::tally::{Call, Given};
-use library::times;
+use mudvizsor::ffi::times;
 use original::sdf::LayerOffset;
 use std::fmt::{self, Display};
 

@@ -1,8 +1,7 @@
 //! The entries on relocate lists. The mark of a list is not looked at.
 
-use crate::Reply;
-use crate::entry::entry;
-use crate::maps::List;
+use super::maps::List;
+use super::{Reply, entry};
 
 /// Writes the status byte of each pair and gives their number.
 pub fn analyze_relocate_occurrences(list: List, out: &mut [u8]) -> Reply {

@@ -1,12 +1,12 @@
 //! The entries that make a map.
 
-use crate::Reply;
-use crate::entry::entry;
-use crate::maps::List;
+use super::maps::List;
+use super::{Reply, entry};
 
 /// A map as it is lent: its list, with the mark, and its time offset.
 #[derive(Clone, Copy)]
 pub struct Map<'a> {
+    /// Its pairs and its mark.
     pub list: List<'a>,
     /// Offset and scale.
     pub time: [f64; 2],

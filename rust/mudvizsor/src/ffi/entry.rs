@@ -18,7 +18,7 @@ macro_rules! entry {
         }
         // SAFETY: an entry reads the bytes and numbers that it is lent, of which it trusts none, writes at most those
         // that are borrowed as mutable, for this call alone, and keeps no pointer.
-        $crate::Reply(unsafe { $name($($value),*) })
+        $crate::ffi::Reply(unsafe { $name($($value),*) })
     }};
     (@ $name:ident [$($done:tt)*] text $x:expr, $($rest:tt)*) => {
         entry!(@ $name [$($done)* *const u8 = $x.as_ptr(), usize = $x.len(),] $($rest)*)

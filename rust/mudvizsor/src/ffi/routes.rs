@@ -1,8 +1,7 @@
 //! The entries that take a path over a route of legs.
 
-use crate::Reply;
-use crate::entry::entry;
-use crate::maps::Paths;
+use super::maps::Paths;
+use super::{Reply, entry};
 
 /// A route as it is lent: its legs are lists of pairs in one store.
 #[derive(Clone, Copy)]

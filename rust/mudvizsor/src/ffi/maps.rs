@@ -1,7 +1,6 @@
 //! The entries that map a path through a list of pairs.
 
-use crate::Reply;
-use crate::entry::entry;
+use super::{Reply, entry};
 
 /// A list of pairs as it is lent.
 #[derive(Clone, Copy)]

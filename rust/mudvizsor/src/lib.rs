@@ -1,0 +1,69 @@
+//! Scene paths, maps, relocates and routes over a proved library.
+//!
+//! The calls are those of the Rust repository [mxpv/openusd](https://github.com/mxpv/openusd) that document 01 names,
+//! with its limits and refusals. Where a path goes is decided by the static library `libexports.a`, written in Rattle
+//! and proved; this crate lends it memory and gives its answers Rust's types. What the crate does of its own is to
+//! pack texts, to read answers back, and the calls on a map that only read or set its own numbers
+//! ([`MapFunction::identity`], [`null`](MapFunction::null), [`is_null`](MapFunction::is_null),
+//! [`path_is_identity`](MapFunction::path_is_identity), [`time_offset`](MapFunction::time_offset) and their like).
+//! These are tested, not proved.
+//!
+//! A signal that a modeller sent goes out to the stage, and comes home:
+//!
+//! ```
+//! use mudvizsor::{MapFunction, Path, Refusal, Relocates, Route};
+//!
+//! # fn main() -> mudvizsor::Result<()> {
+//! let placed = MapFunction::new([("/Mast", "/Line7/Harbour/Signal_1"), ("/Mast/Spare", "")])?;
+//! let moved = Relocates::new([("/Line7/Harbour/Signal_1", "/Line7/Quay/Signal_12")])?;
+//! let stage = MapFunction::from_pair("/Line7", "/Town/Trams/Line7")?;
+//! let route = Route::new([placed.into(), moved.into(), stage.into()])?;
+//!
+//! let lamp = Path::new("/Mast/Head/Lamp_2.aspect:state")?;
+//! let there = route.out(&lamp)?;
+//! assert_eq!(there.as_str(), "/Town/Trams/Line7/Quay/Signal_12/Head/Lamp_2.aspect:state");
+//! assert_eq!(route.home(&there)?, lamp);
+//!
+//! // The spare lamp is left out: its target is empty.
+//! assert_eq!(route.out(&Path::new("/Mast/Spare")?), Err(Refusal::NoPath));
+//! # Ok(())
+//! # }
+//! ```
+//!
+//! # Refusals
+//!
+//! A call that cannot be answered is refused with one of document 01's numbers, as a [`Refusal`]. Questions are put
+//! to a call in the order of their numbers, and the first "no" counts. A call that can never be refused gives its
+//! answer without a `Result`: a [`Path`] has been checked when it was made. The crate lends the memory itself, so that
+//! 5 does not come, and it reads no frames, so that 9 does not come.
+//!
+//! # Linking
+//!
+//! The build script links `libexports.a` from the folder that `MUDVIZSOR_LIB_DIR` names, else from `target/staticlib`
+//! of the repository, where `rt staticlib exports` builds it; it runs that where the file is missing.
+#![deny(unsafe_op_in_unsafe_fn, unsafe_code, missing_docs)]
+
+pub mod ffi;
+mod layer_offset;
+mod many;
+mod map_function;
+mod pair_list;
+mod path;
+mod refusal;
+mod relocates;
+mod route;
+
+pub use ffi::maps::Way;
+pub use layer_offset::LayerOffset;
+pub use map_function::MapFunction;
+pub use pair_list::Pairs;
+pub use path::{Ancestors, LONGEST, Path};
+pub use refusal::{Refusal, Result};
+pub use relocates::{Chain, Relocates, Status};
+pub use route::{Leg, Route, Steps};
+
+/// The most pairs of a list.
+pub const MOST_PAIRS: usize = 64;
+
+/// The most legs of a route.
+pub const MOST_LEGS: usize = 16;

@@ -1,0 +1,393 @@
+//! Maps.
+
+use crate::ffi::Reply;
+use crate::ffi::makes::{self, Map, Room};
+use crate::ffi::maps::{self, List, Way};
+use crate::many::carried;
+use crate::pair_list::{Packed, PairList, Pairs};
+use crate::path::made;
+use crate::refusal::{Result, read, settled, sure};
+use crate::{LayerOffset, MOST_PAIRS, Path};
+
+/// The most bytes of an end that composing makes, which is counted before it is refused for its length: a path of 255
+/// bytes whose prefix is replaced twice.
+const LONGEST_MADE: usize = 3 * 256;
+
+/// The most lists that a call makes on the way to its map.
+const LISTS: usize = 3;
+
+/// A map of paths: pairs of a source and a target, each a prim path, `/` or empty; the root-identity mark, with which a
+/// path that no pair takes stays where it is; and a time offset.
+///
+/// Of the pairs whose source is a prefix of a path the one with most elements takes it, the later on a tie. An empty
+/// target takes it nowhere. The calls that make a map of texts take them as `&str`, `String` or [`Path`].
+///
+/// ```
+/// use mudvizsor::{MapFunction, Path, Refusal};
+///
+/// let map = MapFunction::new([("/Mast", "/Line7/Signal_1"), ("/Mast/Spare", "")])?;
+/// assert_eq!(map.map_source_to_target(&Path::new("/Mast/Head.lit")?)?.as_str(), "/Line7/Signal_1/Head.lit");
+/// assert_eq!(map.map_source_to_target(&Path::new("/Mast/Spare")?), Err(Refusal::NoPath));
+/// assert_eq!(map.map_source_to_target(&Path::new("/Bench")?), Err(Refusal::NoPath));
+/// # Ok::<(), Refusal>(())
+/// ```
+#[derive(Debug, Clone, PartialEq)]
+pub struct MapFunction {
+    list: PairList,
+    mark: bool,
+    time: LayerOffset,
+}
+
+/// Making a map of pairs.
+impl MapFunction {
+    /// The map of these pairs: each `/` to `/` becomes the mark, pairs are sorted by the elements of their sources, and a
+    /// pair is dropped where those before it already take its source to its target.
+    ///
+    /// Refused with 1 or 2 for an end that is too long or not legal, 3 for one that is a path but no end, 4 for more than
+    /// 64 pairs.
+    ///
+    /// ```
+    /// use mudvizsor::{MapFunction, Refusal};
+    ///
+    /// let map = MapFunction::new([("/", "/"), ("/A/B", "/X/B"), ("/A", "/X")])?;
+    /// assert!(map.has_root_identity());
+    /// assert_eq!(map.pairs().map(|(source, _)| source.as_str()).collect::<Vec<_>>(), ["/A"]);
+    /// assert_eq!(MapFunction::new([("/A.b", "/X")]), Err(Refusal::NotAnEnd));
+    /// # Ok::<(), Refusal>(())
+    /// ```
+    pub fn new<S: AsRef<str>, T: AsRef<str>>(pairs: impl IntoIterator<Item = (S, T)>) -> Result<Self> {
+        let lent = Packed::new(pairs);
+        make(lent.store.len(), lent.count(), |room| makes::new(lent.list(false), room))
+    }
+
+    /// The map of one pair, which stays as it is, without the mark. Refused with 1, 2 or 3 for its ends.
+    ///
+    /// ```
+    /// # use mudvizsor::{MapFunction, Path, Refusal};
+    /// let map = MapFunction::from_pair("/Line7", "/Town/Line7")?;
+    /// assert_eq!(map.map_source_to_target(&Path::new("/Line8")?), Err(Refusal::NoPath));
+    /// # Ok::<(), Refusal>(())
+    /// ```
+    pub fn from_pair(source: impl AsRef<str>, target: impl AsRef<str>) -> Result<Self> {
+        let (source, target) = (source.as_ref().as_bytes(), target.as_ref().as_bytes());
+        make(source.len() + target.len(), 1, |room| makes::from_pair(source, target, room))
+    }
+
+    /// The map of one pair, with the mark. Refused with 1, 2 or 3 for its ends.
+    ///
+    /// ```
+    /// # use mudvizsor::{MapFunction, Path};
+    /// let map = MapFunction::from_pair_identity("/Line7", "/Town/Line7")?;
+    /// assert_eq!(map.map_source_to_target(&Path::new("/Line8")?)?.as_str(), "/Line8");
+    /// # Ok::<(), mudvizsor::Refusal>(())
+    /// ```
+    pub fn from_pair_identity(source: impl AsRef<str>, target: impl AsRef<str>) -> Result<Self> {
+        let (source, target) = (source.as_ref().as_bytes(), target.as_ref().as_bytes());
+        make(source.len() + target.len(), 1, |room| makes::from_pair_identity(source, target, room))
+    }
+
+    /// The map that leaves every path and every time as it is: the mark, and no pairs.
+    ///
+    /// ```
+    /// # use mudvizsor::{MapFunction, Path};
+    /// let path = Path::new("/Line7.state")?;
+    /// assert_eq!(MapFunction::identity().map_source_to_target(&path)?, path);
+    /// # Ok::<(), mudvizsor::Refusal>(())
+    /// ```
+    pub fn identity() -> Self {
+        MapFunction { mark: true, ..MapFunction::null() }
+    }
+
+    /// The map that maps nothing.
+    ///
+    /// ```
+    /// # use mudvizsor::{MapFunction, Path, Refusal};
+    /// assert_eq!(MapFunction::null().map_source_to_target(&Path::root()), Err(Refusal::NoPath));
+    /// ```
+    pub fn null() -> Self {
+        MapFunction { list: PairList::default(), mark: false, time: LayerOffset::IDENTITY }
+    }
+}
+
+/// Reading a map.
+impl MapFunction {
+    /// Its pairs, without the mark.
+    ///
+    /// ```
+    /// # use mudvizsor::MapFunction;
+    /// let map = MapFunction::from_pair("/A", "/B")?;
+    /// let (source, target) = map.pairs().next().unwrap();
+    /// assert_eq!((source.as_str(), target.as_str()), ("/A", "/B"));
+    /// # Ok::<(), mudvizsor::Refusal>(())
+    /// ```
+    pub fn pairs(&self) -> Pairs<'_> {
+        Pairs::new(&self.list)
+    }
+
+    /// Whether it has the root-identity mark.
+    ///
+    /// ```
+    /// # use mudvizsor::MapFunction;
+    /// assert!(MapFunction::identity().has_root_identity());
+    /// ```
+    pub fn has_root_identity(&self) -> bool {
+        self.mark
+    }
+
+    /// Its time offset.
+    ///
+    /// ```
+    /// # use mudvizsor::{LayerOffset, MapFunction};
+    /// assert_eq!(MapFunction::identity().time_offset(), LayerOffset::IDENTITY);
+    /// ```
+    pub fn time_offset(&self) -> LayerOffset {
+        self.time
+    }
+
+    /// Whether it maps nothing: no pairs, no mark.
+    ///
+    /// ```
+    /// # use mudvizsor::MapFunction;
+    /// assert!(MapFunction::null().is_null() && !MapFunction::identity().is_null());
+    /// ```
+    pub fn is_null(&self) -> bool {
+        self.list.pairs.is_empty() && !self.mark
+    }
+
+    /// Whether it leaves every path as it is: no pairs, but the mark.
+    ///
+    /// ```
+    /// # use mudvizsor::{LayerOffset, MapFunction};
+    /// let late = MapFunction::identity().with_time_offset(LayerOffset::new(1.0, 1.0));
+    /// assert!(late.path_is_identity() && !late.is_identity());
+    /// ```
+    pub fn path_is_identity(&self) -> bool {
+        self.list.pairs.is_empty() && self.mark
+    }
+
+    /// Whether it leaves every path and every time as it is: no pairs, but the mark, and the offset (0, 1).
+    ///
+    /// ```
+    /// # use mudvizsor::MapFunction;
+    /// assert!(MapFunction::identity().is_identity());
+    /// ```
+    pub fn is_identity(&self) -> bool {
+        self.path_is_identity() && self.time.is_identity()
+    }
+
+    /// Whether it maps and changes nothing: it is not null, every pair has equal ends, and the offset is (0, 1).
+    ///
+    /// ```
+    /// # use mudvizsor::MapFunction;
+    /// assert!(MapFunction::from_pair("/Line7", "/Line7")?.is_noop());
+    /// assert!(!MapFunction::null().is_noop());
+    /// # Ok::<(), mudvizsor::Refusal>(())
+    /// ```
+    pub fn is_noop(&self) -> bool {
+        sure(makes::is_noop(self.lent())) != 0
+    }
+}
+
+/// Carrying paths.
+impl MapFunction {
+    /// Where the map takes the path: 6 where it has no path for it, 7 or 8 where the path made is too long or not legal.
+    ///
+    /// ```
+    /// # use mudvizsor::{MapFunction, Path};
+    /// // Of two equal sources the later counts.
+    /// let map = MapFunction::new([("/A", "/X"), ("/A", "/Y")])?;
+    /// assert_eq!(map.map_source_to_target(&Path::new("/A/c")?)?.as_str(), "/Y/c");
+    /// # Ok::<(), mudvizsor::Refusal>(())
+    /// ```
+    pub fn map_source_to_target(&self, path: &Path) -> Result<Path> {
+        self.carry(Way::Out, path)
+    }
+
+    /// Where the map takes the path back to, its targets being the keys: 6, 7 or 8 as on the way out.
+    ///
+    /// ```
+    /// # use mudvizsor::{MapFunction, Path};
+    /// let map = MapFunction::from_pair("/A", "/X")?;
+    /// assert_eq!(map.map_target_to_source(&Path::new("/X/c")?)?.as_str(), "/A/c");
+    /// # Ok::<(), mudvizsor::Refusal>(())
+    /// ```
+    pub fn map_target_to_source(&self, path: &Path) -> Result<Path> {
+        self.carry(Way::Home, path)
+    }
+
+    /// Where the map takes the path without its selections; 6 also where the way back would take another pair.
+    ///
+    /// ```
+    /// # use mudvizsor::{MapFunction, Path, Refusal};
+    /// let map = MapFunction::from_pair_identity("/A", "/X")?;
+    /// assert_eq!(map.translate_to_target(&Path::new("/A{v=p}c")?)?.as_str(), "/X/c");
+    /// assert_eq!(map.map_source_to_target(&Path::new("/X/y")?)?.as_str(), "/X/y");
+    /// assert_eq!(map.translate_to_target(&Path::new("/X/y")?), Err(Refusal::NoPath));
+    /// # Ok::<(), Refusal>(())
+    /// ```
+    pub fn translate_to_target(&self, path: &Path) -> Result<Path> {
+        self.carry(Way::Translated, path)
+    }
+
+    /// Where the map takes each of many paths, in their order. The library checks the list once, not for each path.
+    ///
+    /// ```
+    /// # use mudvizsor::{MapFunction, Path, Refusal, Way};
+    /// let map = MapFunction::from_pair("/A", "/X")?;
+    /// let paths = [Path::new("/A/b")?, Path::new("/C")?];
+    /// assert_eq!(map.map_all(Way::Out, &paths), [Path::new("/X/b"), Err(Refusal::NoPath)]);
+    /// # Ok::<(), Refusal>(())
+    /// ```
+    pub fn map_all<'a>(&self, way: Way, paths: impl IntoIterator<Item = &'a Path>) -> Vec<Result<Path>> {
+        carried(paths, |paths, out, replies| maps::carry_all(way, self.lent_list(), paths, out, replies))
+    }
+
+    fn carry(&self, way: Way, path: &Path) -> Result<Path> {
+        made(|out| maps::carry(way, self.lent_list(), path.as_bytes(), out))
+    }
+}
+
+/// Making a map of maps.
+impl MapFunction {
+    /// The map with another time offset.
+    ///
+    /// ```
+    /// # use mudvizsor::{LayerOffset, MapFunction};
+    /// let late = MapFunction::from_pair("/A", "/B")?.with_time_offset(LayerOffset::new(10.0, 2.0));
+    /// assert_eq!(late.time_offset().apply(5.0), 20.0);
+    /// # Ok::<(), mudvizsor::Refusal>(())
+    /// ```
+    pub fn with_time_offset(self, time: LayerOffset) -> Self {
+        MapFunction { time, ..self }
+    }
+
+    /// The map with the mark put to it. Nothing is dropped.
+    ///
+    /// ```
+    /// # use mudvizsor::{MapFunction, Path};
+    /// let map = MapFunction::from_pair("/A", "/A")?.with_root_identity();
+    /// assert!(map.has_root_identity() && map.pairs().len() == 1);
+    /// # Ok::<(), mudvizsor::Refusal>(())
+    /// ```
+    pub fn with_root_identity(&self) -> Self {
+        settled(self.rearranged(makes::with_root_identity))
+    }
+
+    /// The map with the ends of each pair exchanged, and the time offset (0, 1).
+    ///
+    /// ```
+    /// # use mudvizsor::MapFunction;
+    /// assert_eq!(MapFunction::from_pair("/A", "/B")?.inverse(), MapFunction::from_pair("/B", "/A")?);
+    /// # Ok::<(), mudvizsor::Refusal>(())
+    /// ```
+    pub fn inverse(&self) -> Self {
+        settled(self.rearranged(makes::inverse))
+    }
+
+    /// The map without the pairs that have this source: 3 where that is no end.
+    ///
+    /// ```
+    /// # use mudvizsor::{MapFunction, Path};
+    /// let map = MapFunction::new([("/A", "/X"), ("/B", "/Y")])?;
+    /// assert_eq!(map.dropping_source(&Path::new("/A")?)?, MapFunction::from_pair("/B", "/Y")?);
+    /// # Ok::<(), mudvizsor::Refusal>(())
+    /// ```
+    pub fn dropping_source(&self, source: &Path) -> Result<Self> {
+        self.rearranged(|map, room| makes::dropping_source(map, source.as_bytes(), room))
+    }
+
+    /// This map after `inner`, as one map: 4 where it would have more than 64 pairs before dropping, 7 for an end that is
+    /// made too long. It is not always one after the other: the pair nearest to a path counts over both.
+    ///
+    /// ```
+    /// # use mudvizsor::{MapFunction, Path};
+    /// let inner = MapFunction::new([("/A", "/X"), ("/A/B", "/Y")])?;
+    /// let outer = MapFunction::new([("/X/B/C", "/Z"), ("/Y", "/W")])?;
+    /// let path = Path::new("/A/B/C")?;
+    /// assert_eq!(outer.compose(&inner)?.map_source_to_target(&path)?.as_str(), "/Z");
+    /// let there = inner.map_source_to_target(&path)?;
+    /// assert_eq!(outer.map_source_to_target(&there)?.as_str(), "/W/C");
+    /// # Ok::<(), mudvizsor::Refusal>(())
+    /// ```
+    pub fn compose(&self, inner: &MapFunction) -> Result<Self> {
+        make_longer(|room| makes::compose(self.lent(), inner.lent(), room))
+    }
+
+    /// The map with every target below `from` put below `to`; the identity becomes the pair of the two. Refused with 3
+    /// where one of them is no end, 7 or 8 where a target is made too long or not legal.
+    ///
+    /// ```
+    /// # use mudvizsor::{MapFunction, Path};
+    /// let map = MapFunction::from_pair("/A", "/Line7/A")?;
+    /// let rebased = map.rebase_target(&Path::new("/Line7")?, &Path::new("/Town")?)?;
+    /// assert_eq!(rebased, MapFunction::from_pair("/A", "/Town/A")?);
+    /// # Ok::<(), mudvizsor::Refusal>(())
+    /// ```
+    pub fn rebase_target(&self, from: &Path, to: &Path) -> Result<Self> {
+        make_longer(|room| makes::rebase_target(self.lent(), from.as_bytes(), to.as_bytes(), room))
+    }
+
+    /// The map with the pair nearest above `node`, its selections left out, put at `node`. Refused with 3 where that is no
+    /// end, 7 or 8 where a target is made too long or not legal.
+    ///
+    /// ```
+    /// # use mudvizsor::{MapFunction, Path};
+    /// let map = MapFunction::from_pair("/A", "/X")?;
+    /// assert_eq!(map.deepen_to(&Path::new("/A/b/c")?)?, MapFunction::from_pair("/A/b/c", "/X/b/c")?);
+    /// # Ok::<(), mudvizsor::Refusal>(())
+    /// ```
+    pub fn deepen_to(&self, node: &Path) -> Result<Self> {
+        make_longer(|room| makes::deepen_to(self.lent(), node.as_bytes(), room))
+    }
+
+    /// The map of the class across this transfer: the transfer after the class after the transfer's inverse, with the
+    /// mark. Refused with 4 or 7 as in composing.
+    ///
+    /// ```
+    /// # use mudvizsor::{MapFunction, Path};
+    /// let transfer = MapFunction::from_pair("/Model", "/Line7/Signal")?;
+    /// let class = MapFunction::from_pair_identity("/Model/Class", "/Model/Lamp")?;
+    /// let implied = transfer.implied_class(&class)?;
+    /// let path = implied.map_source_to_target(&Path::new("/Line7/Signal/Class.lit")?)?;
+    /// assert_eq!(path.as_str(), "/Line7/Signal/Lamp.lit");
+    /// # Ok::<(), mudvizsor::Refusal>(())
+    /// ```
+    pub fn implied_class(&self, class: &MapFunction) -> Result<Self> {
+        make_longer(|room| makes::implied_class(self.lent(), class.lent(), room))
+    }
+
+    /// A map whose ends are all among this map's.
+    fn rearranged(&self, call: impl FnOnce(Map, Room) -> Reply) -> Result<Self> {
+        make(self.list.bytes(), self.list.pairs.len(), |room| call(self.lent(), room))
+    }
+}
+
+impl MapFunction {
+    /// The map as it is lent.
+    fn lent(&self) -> Map<'_> {
+        Map { list: self.lent_list(), time: self.time.into() }
+    }
+
+    /// Its pairs and mark as they are lent.
+    pub(crate) fn lent_list(&self) -> List<'_> {
+        self.list.packed.list(self.mark)
+    }
+}
+
+/// The map that a call makes, with so many bytes and pairs lent.
+fn make(bytes: usize, pairs: usize, call: impl FnOnce(Room) -> Reply) -> Result<MapFunction> {
+    let mut room = Packed::room(bytes, pairs);
+    let mut time = [0.0; 2];
+    let reply = call(Room { out: &mut room.store, slots: &mut room.places, time: &mut time });
+    let value = read(reply)?;
+    Ok(MapFunction { list: PairList::read(room, value / 2), mark: value % 2 == 1, time: time.into() })
+}
+
+/// The map that a call makes which may lengthen ends, with all memory lent that such a call can need.
+fn make_longer(call: impl FnOnce(Room) -> Reply) -> Result<MapFunction> {
+    let pairs = LISTS * MOST_PAIRS;
+    make(2 * LONGEST_MADE * pairs, pairs, call)
+}
+
+#[cfg(test)]
+mod tests;

@@ -1,0 +1,150 @@
+use super::*;
+use crate::Refusal;
+
+fn path(text: &str) -> Path {
+    Path::new(text).unwrap()
+}
+
+fn map(pairs: &[(&str, &str)]) -> MapFunction {
+    MapFunction::new(pairs.iter().copied()).unwrap()
+}
+
+fn texts(map: &MapFunction) -> Vec<(&str, &str)> {
+    map.pairs().map(|(source, target)| (source.as_str(), target.as_str())).collect()
+}
+
+/// A prim path of so many bytes.
+fn named(first: char, length: usize) -> String {
+    format!("/{first}{}", "n".repeat(length - 2))
+}
+
+/// Document 01's cases.
+#[test]
+fn plain_mapping() {
+    let later = map(&[("/A", "/X"), ("/A", "/Y")]);
+    assert_eq!(later.map_source_to_target(&path("/A/c")), Path::new("/Y/c"));
+    let dropped = map(&[("/A", ""), ("/A/B", "/B")]);
+    assert_eq!(texts(&dropped), [("/A", "")]);
+    assert_eq!(dropped.map_source_to_target(&path("/A/B/C")), Err(Refusal::NoPath));
+    let to_root = map(&[("/A", "/")]);
+    assert_eq!(to_root.map_source_to_target(&path("/A.b")), Err(Refusal::MadeNotLegal));
+    assert_eq!(map(&[("/A", "/C")]).map_source_to_target(&path("/AB")), Err(Refusal::NoPath));
+}
+
+/// Document 01's cases.
+#[test]
+fn translating() {
+    let marked = MapFunction::from_pair_identity("/A", "/X").unwrap();
+    assert_eq!(marked.map_source_to_target(&path("/X/y")), Path::new("/X/y"));
+    assert_eq!(marked.translate_to_target(&path("/X/y")), Err(Refusal::NoPath));
+    let from_empty = MapFunction::from_pair_identity("", "/").unwrap();
+    assert_eq!(from_empty.map_source_to_target(&path("/A")), Path::new("/A"));
+    assert_eq!(from_empty.map_target_to_source(&path("/A")), Path::new("/A"));
+    assert_eq!(from_empty.translate_to_target(&path("/A")), Err(Refusal::NoPath));
+}
+
+/// Document 01's case: the composed map is not one map after the other.
+#[test]
+fn composing() {
+    let inner = map(&[("/A", "/X"), ("/A/B", "/Y")]);
+    let outer = map(&[("/X/B/C", "/Z"), ("/Y", "/W")]);
+    let composed = outer.compose(&inner).unwrap();
+    assert_eq!(composed.map_source_to_target(&path("/A/B/C")), Path::new("/Z"));
+    let there = inner.map_source_to_target(&path("/A/B/C")).unwrap();
+    assert_eq!(outer.map_source_to_target(&there), Path::new("/W/C"));
+}
+
+/// Questions are put to the whole call in their order, whichever pair comes first.
+#[test]
+fn questions_in_order() {
+    let long = named('A', 256);
+    assert_eq!(MapFunction::new([("/A.b", "/X"), ("bad", "/X"), (&long, "/X")]), Err(Refusal::TooLong));
+    assert_eq!(MapFunction::new([("/A.b", "/X"), ("bad", "/X")]), Err(Refusal::NotLegal));
+    assert_eq!(MapFunction::from_pair("/A", "/X{v=p}"), Err(Refusal::NotAnEnd));
+    assert_eq!(MapFunction::from_pair_identity("/A", "bad"), Err(Refusal::NotLegal));
+}
+
+#[test]
+fn at_most_64_pairs() {
+    let pairs = |count: usize| (0..count).map(|i| (format!("/A{i}"), format!("/B{i}")));
+    let most = MapFunction::new(pairs(MOST_PAIRS)).unwrap();
+    assert_eq!(most.pairs().len(), MOST_PAIRS);
+    assert_eq!(MapFunction::new(pairs(MOST_PAIRS + 1)), Err(Refusal::TooMany));
+    assert_eq!(most.inverse().inverse(), most);
+    let one_more = MapFunction::from_pair_identity("/Q", "/R").unwrap();
+    assert_eq!(most.compose(&one_more), Err(Refusal::TooMany));
+}
+
+#[test]
+fn marks_and_nulls() {
+    assert_eq!(map(&[("/", "/")]), MapFunction::identity());
+    assert_eq!(map(&[]), MapFunction::null());
+    assert_eq!(texts(&MapFunction::from_pair("/", "/").unwrap()), [("/", "/")]);
+    assert_eq!(MapFunction::from_pair_identity("/A", "/A").unwrap(), MapFunction::identity());
+    assert!(MapFunction::identity().is_noop() && MapFunction::identity().is_identity());
+    assert!(!MapFunction::null().is_identity() && !MapFunction::null().path_is_identity());
+    assert!(!map(&[("/A", "/B")]).is_noop());
+    assert!(MapFunction::null().with_root_identity().is_identity());
+}
+
+#[test]
+fn time_offsets() {
+    let (ten, three) = (LayerOffset::new(10.0, 2.0), LayerOffset::new(1.0, 3.0));
+    let (outer, inner) = (map(&[("/B", "/C")]), map(&[("/A", "/B")]).with_time_offset(three));
+    let composed = outer.clone().with_time_offset(ten).compose(&inner).unwrap();
+    assert_eq!(texts(&composed), [("/A", "/C")]);
+    assert_eq!(composed.time_offset(), LayerOffset::new(12.0, 6.0));
+    assert_eq!(inner.inverse().time_offset(), LayerOffset::IDENTITY);
+    assert_eq!(inner.with_root_identity().time_offset(), three);
+    assert_eq!(inner.dropping_source(&path("/A")).unwrap().time_offset(), three);
+    let minus_zero = MapFunction::identity().with_time_offset(LayerOffset::new(-0.0, 1.0));
+    let time = minus_zero.compose(&outer).unwrap().time_offset();
+    assert_eq!(time.to_bits(), LayerOffset::IDENTITY.to_bits());
+}
+
+#[test]
+fn putting_ends_elsewhere() {
+    let some = map(&[("/A", "/L/A"), ("/B", "/M")]);
+    assert_eq!(texts(&some.rebase_target(&path("/L"), &path("/T")).unwrap()), [("/A", "/T/A"), ("/B", "/M")]);
+    let pair = MapFunction::identity().rebase_target(&path("/L"), &path("/T")).unwrap();
+    assert!(texts(&pair) == [("/L", "/T")] && pair.has_root_identity());
+    assert_eq!(some.rebase_target(&path("/L.p"), &path("/T")), Err(Refusal::NotAnEnd));
+    assert_eq!(texts(&some.deepen_to(&path("/A{v=p}x")).unwrap()), [("/B", "/M"), ("/A/x", "/L/A/x")]);
+    assert_eq!(some.deepen_to(&path("/A.p")), Err(Refusal::NotAnEnd));
+    assert_eq!(some.dropping_source(&path("/A{v=p}")), Err(Refusal::NotAnEnd));
+    let below = MapFunction::from_pair("/A", "/").unwrap();
+    assert_eq!(below.rebase_target(&Path::empty(), &path("/X")), Err(Refusal::MadeNotLegal));
+}
+
+#[test]
+fn implied_classes() {
+    let class = map(&[("/M/C", "/M/I"), ("/", "/")]);
+    let implied = map(&[("/M", "/W/P")]).implied_class(&class).unwrap();
+    assert_eq!(implied.map_source_to_target(&path("/W/P/C/x")), Path::new("/W/P/I/x"));
+    assert!(implied.has_root_identity());
+    assert_eq!(MapFunction::identity().implied_class(&map(&[("/A", "/B")])).unwrap(), map(&[("/A", "/B")]));
+}
+
+/// The memory that the crate lends is enough for the longest ends: the answer is 7, as it is asked after 5.
+#[test]
+fn the_longest_ends() {
+    let deep = |i: usize| format!("{}/c{i}", named('S', 250));
+    let longest = |c: char, i: usize| format!("{}{i:02}", named(c, 253));
+    let class = MapFunction::new((0..30).map(|i| (deep(i), longest('C', i)))).unwrap();
+    let transfer = MapFunction::new([(named('S', 250), longest('T', 0))]).unwrap();
+    assert_eq!(transfer.implied_class(&class), Err(Refusal::MadeTooLong));
+    let outer = MapFunction::new([(named('B', 2), longest('T', 0))]).unwrap();
+    let inner = MapFunction::new((0..63).map(|i| (longest('S', i), format!("/B/{}{i:02}", "n".repeat(250)))))
+        .unwrap();
+    assert_eq!(outer.compose(&inner), Err(Refusal::MadeTooLong));
+}
+
+#[test]
+fn many_paths_go_as_one_does() {
+    let some = map(&[("/A", "/X"), ("/A/B", ""), ("/C", "/X/C"), ("/", "/")]);
+    let paths: Vec<Path> = ["", "/", "/A/b.c", "/A/B/C", "/C", "/X/C", "/A{v=p}", "/D"].map(path).into();
+    for way in [Way::Out, Way::Home, Way::Translated] {
+        let singly: Vec<_> = paths.iter().map(|path| some.carry(way, path)).collect();
+        assert_eq!(some.map_all(way, &paths), singly);
+    }
+}

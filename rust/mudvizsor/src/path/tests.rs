@@ -1,0 +1,99 @@
+use super::*;
+use std::collections::{BTreeSet, HashSet};
+
+fn path(text: &str) -> Path {
+    Path::new(text).unwrap()
+}
+
+/// A path of one name with so many bytes.
+fn named(length: usize) -> String {
+    format!("/{}", "n".repeat(length - 1))
+}
+
+#[test]
+fn legal_and_illegal_texts() {
+    for text in ["", "/", "/A", "/_a1/B2", "/A{v=p}", "/A{v=p}{w=q}B.c", "/A.b:c:d", "/A/B{s=1x}.y"] {
+        assert_eq!(Path::new(text).unwrap().as_str(), text);
+    }
+    for text in ["A", "/A/", "//", "/1", "/A.", "/A.b:", "/A{v=}", "/A{v=p}/B", "/.b", "/A b", "/Ä", "/A[x]"]
+    {
+        assert_eq!(Path::new(text), Err(Refusal::NotLegal), "{text}");
+    }
+}
+
+#[test]
+fn the_longest_path() {
+    assert!(Path::new(&named(LONGEST)).is_ok());
+    assert_eq!(Path::new(&named(LONGEST + 1)), Err(Refusal::TooLong));
+    let (one, longest) = (path("/A"), path(&named(LONGEST)));
+    assert_eq!(path("/A/b").replace_prefix(&one, &longest), Err(Refusal::MadeTooLong));
+}
+
+/// Document 01's cases.
+#[test]
+fn replacing_prefixes() {
+    let replaced = |text: &str, old: &str, new: &str| path(text).replace_prefix(&path(old), &path(new));
+    assert_eq!(replaced("/AB", "/A", "/C"), Err(Refusal::NoPath));
+    assert_eq!(replaced("/A{v=p}B", "/A{v=p}", "/C"), Path::new("/C/B"));
+    assert_eq!(replaced("/A/B", "/A", "/C{v=p}"), Path::new("/C{v=p}B"));
+    assert_eq!(replaced("/A.b", "/A", "/"), Err(Refusal::MadeNotLegal));
+    assert_eq!(replaced("/B", "/", "/C{v=p}"), Err(Refusal::MadeNotLegal));
+}
+
+/// Document 01's cases.
+#[test]
+fn parts() {
+    for (text, parent) in [("/A.b", "/A"), ("/A{v=p}B", "/A{v=p}"), ("/A", "/")] {
+        assert_eq!(path(text).parent(), Path::new(parent));
+    }
+    for text in ["", "/"] {
+        assert_eq!(path(text).parent(), Err(Refusal::NoPath));
+        assert_eq!(path(text).prim_path().as_str(), text);
+        assert_eq!((path(text).element_count(), path(text).prim_element_count()), (0, 0));
+    }
+    assert_eq!(path("/A{v=p}{w=q}B.c").strip_variant_selections().as_str(), "/A/B.c");
+    assert_eq!(path("/A{v=p}.b").prim_path().as_str(), "/A{v=p}");
+    assert_eq!(path("/A{v=p}{w=q}").prim_path().as_str(), "/A{v=p}");
+    assert_eq!(path("/A.b:c").split_property(), Ok((path("/A"), "b:c")));
+}
+
+#[test]
+fn prefixes() {
+    for (text, prefix, expected) in
+        [("/A", "", true), ("", "", true), ("/A", "/", true), ("/A{v=p}B", "/A", true), ("", "/", false)]
+    {
+        assert_eq!(path(text).has_prefix(&path(prefix)), expected, "{text} {prefix}");
+    }
+}
+
+#[test]
+fn kinds_of_paths() {
+    for (text, end, selection) in
+        [("", true, false), ("/", true, false), ("/A{v=p}", false, true), ("/A.b", false, false)]
+    {
+        assert_eq!((path(text).is_end(), path(text).has_variant_selection()), (end, selection), "{text}");
+    }
+}
+
+#[test]
+fn ancestors_from_both_sides() {
+    let texts = |path: &Path| path.ancestors().map(String::from).collect::<Vec<_>>();
+    let all = ["/A{v=p}B.c", "/A{v=p}B", "/A{v=p}", "/A", "/"];
+    assert_eq!(texts(&path(all[0])), all);
+    assert_eq!(texts(&path("")), [""]);
+    let backwards: Vec<_> = path(all[0]).ancestors().rev().map(String::from).collect();
+    assert_eq!(backwards, Vec::from_iter(all.into_iter().rev()));
+    let deepest = path(&"/n".repeat(127));
+    assert_eq!(deepest.ancestors().len(), MOST_ANCESTORS);
+    assert!(deepest.ancestors().zip(deepest.ancestors().skip(1)).all(|(one, next)| one.parent() == Ok(next)));
+}
+
+#[test]
+fn the_traits_of_a_path() {
+    assert_eq!("/A".parse::<Path>(), Path::try_from("/A".to_string()));
+    assert_eq!(format!("[{:>4}] {0:?}", path("/A")), "[  /A] Path(\"/A\")");
+    assert!(path("/A") < path("/A/b") && path("/A/b") < path("/B"));
+    assert!(HashSet::from([path("/A")]).contains("/A") && BTreeSet::from([path("/A")]).contains("/A"));
+    assert_eq!(Path::default(), Path::empty());
+    assert_eq!(path("/").as_ref(), Path::root().as_str());
+}

@@ -1,0 +1,208 @@
+//! Relocate lists.
+
+use crate::Path;
+use crate::ffi::maps::List;
+use crate::ffi::relocates;
+use crate::pair_list::{Packed, PairList, Pairs};
+use crate::path::{LONGEST, made};
+use crate::refusal::{Result, read};
+use std::fmt;
+
+/// A list of relocates, each a pair of a source and a target, with the status of each.
+///
+/// ```
+/// use mudvizsor::{Path, Relocates, Status};
+///
+/// let moved = Relocates::new([("/Line7/Signal_1", "/Line7/Quay/Signal_12"), ("/Line7", "/Line8")])?;
+/// assert_eq!(moved.statuses(), [Status::Active, Status::Structural]);
+/// # Ok::<(), mudvizsor::Refusal>(())
+/// ```
+#[derive(Debug, Clone, PartialEq)]
+pub struct Relocates {
+    list: PairList,
+    statuses: Vec<Status>,
+}
+
+/// Whether a relocate counts, with document 01's status byte as the discriminant.
+///
+/// ```
+/// use mudvizsor::Status;
+///
+/// assert_eq!(Status::Conflict as u8, 3);
+/// assert_eq!(Status::DuplicateSource.to_string(), "duplicate source");
+/// ```
+#[derive(Debug, Clone, Copy, PartialEq, Eq, PartialOrd, Ord, Hash)]
+#[repr(u8)]
+pub enum Status {
+    /// It counts.
+    Active = 0,
+    /// Its source has one name, its ends are equal, or one end lies below the other.
+    Structural = 1,
+    /// An earlier pair that is not structural has this source.
+    DuplicateSource = 2,
+    /// It stands against another pair.
+    Conflict = 3,
+}
+
+impl Status {
+    /// All statuses, in the order of their bytes.
+    ///
+    /// ```
+    /// # use mudvizsor::Status;
+    /// assert_eq!(Status::ALL.map(|status| status as u8), [0, 1, 2, 3]);
+    /// ```
+    pub const ALL: [Status; 4] =
+        [Status::Active, Status::Structural, Status::DuplicateSource, Status::Conflict];
+
+    /// The status with this byte.
+    ///
+    /// ```
+    /// # use mudvizsor::Status;
+    /// assert_eq!(Status::from_byte(1), Some(Status::Structural));
+    /// assert_eq!(Status::from_byte(4), None);
+    /// ```
+    pub fn from_byte(byte: u8) -> Option<Self> {
+        Status::ALL.get(usize::from(byte)).copied()
+    }
+}
+
+impl fmt::Display for Status {
+    fn fmt(&self, f: &mut fmt::Formatter) -> fmt::Result {
+        f.pad(match self {
+            Status::Active => "active",
+            Status::Structural => "structural",
+            Status::DuplicateSource => "duplicate source",
+            Status::Conflict => "conflict",
+        })
+    }
+}
+
+/// Where a chain of relocates ends.
+///
+/// ```
+/// use mudvizsor::{Chain, Path, Relocates};
+///
+/// let moved = Relocates::new([("/L/a", "/L/b"), ("/L/b", "/L/c")])?;
+/// let Chain { path, steps } = moved.chain(&Path::new("/L/a/x")?)?;
+/// assert_eq!((path.as_str(), steps), ("/L/c/x", 2));
+/// # Ok::<(), mudvizsor::Refusal>(())
+/// ```
+#[derive(Debug, Clone, PartialEq, Eq)]
+pub struct Chain {
+    /// The path at its end.
+    pub path: Path,
+    /// The replacements made.
+    pub steps: usize,
+}
+
+impl Relocates {
+    /// The list of these pairs, with their statuses. Refused with 1 or 2 for an end that is too long or not legal, 3 for
+    /// one that is a path but no end, 4 for more than 64 pairs.
+    ///
+    /// ```
+    /// # use mudvizsor::{Refusal, Relocates};
+    /// assert!(Relocates::new([("/Line7/Bench", "")]).is_ok());
+    /// assert_eq!(Relocates::new([("/Line7.state", "")]), Err(Refusal::NotAnEnd));
+    /// ```
+    pub fn new<S: AsRef<str>, T: AsRef<str>>(pairs: impl IntoIterator<Item = (S, T)>) -> Result<Self> {
+        let packed = Packed::new(pairs);
+        let mut bytes = vec![0; packed.count()];
+        let count = read(relocates::analyze_relocate_occurrences(packed.list(false), &mut bytes))?;
+        let status = |&byte| Status::from_byte(byte).expect("the library writes statuses");
+        Ok(Relocates { list: PairList::read(packed, count), statuses: bytes.iter().map(status).collect() })
+    }
+
+    /// Its pairs, all of them, as they were given.
+    ///
+    /// ```
+    /// # use mudvizsor::Relocates;
+    /// assert_eq!(Relocates::new([("/L/a", "/L/b"), ("/L", "/M")])?.pairs().len(), 2);
+    /// # Ok::<(), mudvizsor::Refusal>(())
+    /// ```
+    pub fn pairs(&self) -> Pairs<'_> {
+        Pairs::new(&self.list)
+    }
+
+    /// The status of each pair.
+    ///
+    /// ```
+    /// # use mudvizsor::{Relocates, Status};
+    /// let both_to_b = Relocates::new([("/L/a", "/L/b"), ("/L/c", "/L/b")])?;
+    /// assert_eq!(both_to_b.statuses(), [Status::Conflict, Status::Conflict]);
+    /// # Ok::<(), mudvizsor::Refusal>(())
+    /// ```
+    pub fn statuses(&self) -> &[Status] {
+        &self.statuses
+    }
+
+    /// The pairs that count.
+    ///
+    /// ```
+    /// # use mudvizsor::Relocates;
+    /// let moved = Relocates::new([("/L", "/M"), ("/L/a", "/L/b")])?;
+    /// let sources: Vec<_> = moved.active_pairs().map(|(source, _)| source.as_str()).collect();
+    /// assert_eq!(sources, ["/L/a"]);
+    /// # Ok::<(), mudvizsor::Refusal>(())
+    /// ```
+    pub fn active_pairs(&self) -> impl Iterator<Item = (&Path, &Path)> {
+        let both = self.pairs().zip(&self.statuses);
+        both.filter(|(_, status)| **status == Status::Active).map(|(pair, _)| pair)
+    }
+
+    /// The end of the path's chain: at most as many replacements as there are pairs, each by the source longest in bytes.
+    /// All pairs take part, whatever their status. Refused with 7 or 8 where a step makes a path too long or not legal.
+    ///
+    /// ```
+    /// # use mudvizsor::{Path, Relocates};
+    /// let moved = Relocates::new([("/R/a/b", "/R/c"), ("/R/c/d", "/R/a")])?;
+    /// let end = moved.chain(&Path::new("/R/a/b/d/b/d")?)?;
+    /// assert_eq!((end.path.as_str(), end.steps), ("/R/a/b/d", 2));
+    /// # Ok::<(), mudvizsor::Refusal>(())
+    /// ```
+    pub fn chain(&self, path: &Path) -> Result<Chain> {
+        self.chained(false, &Path::empty(), path)
+    }
+
+    /// The end of the path's chain without the pairs that have the source `skipped`.
+    ///
+    /// ```
+    /// # use mudvizsor::{Path, Relocates};
+    /// let moved = Relocates::new([("/L/a", "/L/b"), ("/L/b", "/L/c")])?;
+    /// let end = moved.chain_skipping(&Path::new("/L/b")?, &Path::new("/L/a")?)?;
+    /// assert_eq!((end.path.as_str(), end.steps), ("/L/b", 1));
+    /// # Ok::<(), mudvizsor::Refusal>(())
+    /// ```
+    pub fn chain_skipping(&self, skipped: &Path, path: &Path) -> Result<Chain> {
+        self.chained(true, skipped, path)
+    }
+
+    /// The endpoint under the nearest rename above it, or itself. Refused with 7 or 8 where the path made is too long or
+    /// not legal.
+    ///
+    /// ```
+    /// # use mudvizsor::{Path, Relocates};
+    /// let moved = Relocates::new([("/L/a", "/L/b")])?;
+    /// assert_eq!(moved.shift(&Path::new("/L/a/x")?)?.as_str(), "/L/b/x");
+    /// assert_eq!(moved.shift(&Path::new("/L/c")?)?.as_str(), "/L/c");
+    /// # Ok::<(), mudvizsor::Refusal>(())
+    /// ```
+    pub fn shift(&self, endpoint: &Path) -> Result<Path> {
+        made(|out| relocates::shift_through_nearest_ancestor(self.lent_list(), endpoint.as_bytes(), out))
+    }
+
+    fn chained(&self, skips: bool, skipped: &Path, path: &Path) -> Result<Chain> {
+        let mut out = [0; LONGEST];
+        let (skipped, path) = (skipped.as_bytes(), path.as_bytes());
+        let reply = relocates::chain_through_relocates(self.lent_list(), skips, skipped, path, &mut out);
+        let value = read(reply)?;
+        Ok(Chain { path: Path::written(&out[..value % 256]), steps: value / 256 })
+    }
+
+    /// The list as it is lent.
+    fn lent_list(&self) -> List<'_> {
+        self.list.packed.list(false)
+    }
+}
+
+#[cfg(test)]
+mod tests;

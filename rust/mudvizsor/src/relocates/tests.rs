@@ -1,0 +1,67 @@
+use super::*;
+use crate::Refusal;
+
+fn path(text: &str) -> Path {
+    Path::new(text).unwrap()
+}
+
+fn relocates(pairs: &[(&str, &str)]) -> Relocates {
+    Relocates::new(pairs.iter().copied()).unwrap()
+}
+
+fn bytes(pairs: &[(&str, &str)]) -> Vec<u8> {
+    relocates(pairs).statuses().iter().map(|&status| status as u8).collect()
+}
+
+/// Document 01's cases.
+#[test]
+fn statuses() {
+    assert_eq!(bytes(&[("/R", "")]), [0]);
+    assert_eq!(bytes(&[("/R", "/S")]), [1]);
+    assert_eq!(bytes(&[("/R/a", "/R/b"), ("/R/c", "/R/b"), ("/R/b", "/R/d")]), [3, 3, 3]);
+    assert_eq!(bytes(&[("/R/a/b", "/R/c"), ("/R/c/d", "/R/a")]), [0, 0]);
+    assert_eq!(bytes(&[("/R/a", "/R/b"), ("/R/a", "/R/c")]), [0, 2]);
+    assert_eq!(bytes(&[]), []);
+}
+
+/// Document 01's case, and a skipped source.
+#[test]
+fn chains() {
+    let moved = relocates(&[("/R/a/b", "/R/c"), ("/R/c/d", "/R/a")]);
+    let end = |text, steps| Ok(Chain { path: path(text), steps });
+    assert_eq!(moved.chain(&path("/R/a/b/d/b/d")), end("/R/a/b/d", 2));
+    assert_eq!(moved.chain_skipping(&path("/R/c/d"), &path("/R/a/b/d")), end("/R/c/d", 1));
+    assert_eq!(moved.chain(&path("/R/x")), end("/R/x", 0));
+    let from_empty = relocates(&[("", "/X")]);
+    assert_eq!(from_empty.chain(&path("/A")), end("/X/A", 1));
+    assert_eq!(from_empty.chain_skipping(&Path::empty(), &path("/A")), end("/A", 0));
+}
+
+#[test]
+fn refused_steps() {
+    let to_root = relocates(&[("/A/b", "/")]);
+    assert_eq!(to_root.chain(&path("/A/b.c")), Err(Refusal::MadeNotLegal));
+    let long = format!("/{}", "n".repeat(254));
+    let longer = relocates(&[("/A/b", &long)]);
+    assert_eq!(longer.chain(&path("/A/b/c")), Err(Refusal::MadeTooLong));
+    assert_eq!(longer.shift(&path("/A/b/c")), Err(Refusal::MadeTooLong));
+}
+
+#[test]
+fn at_most_64_pairs() {
+    let pairs = |count: usize| (0..count).map(|i| (format!("/A/s{i}"), format!("/A/t{i}")));
+    assert_eq!(Relocates::new(pairs(64)).unwrap().active_pairs().count(), 64);
+    assert_eq!(Relocates::new(pairs(65)), Err(Refusal::TooMany));
+    assert_eq!(Relocates::new([("/A{v=p}", "bad")]), Err(Refusal::NotLegal));
+}
+
+#[test]
+fn statuses_have_names() {
+    for (i, status) in Status::ALL.into_iter().enumerate() {
+        assert_eq!(Status::from_byte(i as u8), Some(status));
+    }
+    assert_eq!(
+        Status::ALL.map(|status| status.to_string()),
+        ["active", "structural", "duplicate source", "conflict"]
+    );
+}

@@ -1,0 +1,264 @@
+//! Routes of maps and relocate lists.
+
+use crate::ffi::routes::{self, Route as Lent};
+use crate::many::carried;
+use crate::pair_list::{Packed, Pairs};
+use crate::path::{LONGEST, made};
+use crate::refusal::{Refusal, Result, read};
+use crate::{MapFunction, Path, Relocates};
+use std::ops::Range;
+
+/// A leg of a route.
+///
+/// ```
+/// use mudvizsor::{Leg, MapFunction, Relocates};
+///
+/// let placed: Leg = MapFunction::from_pair("/Mast", "/Line7/Signal_1")?.into();
+/// let moved: Leg = Relocates::new([("/Line7/Signal_1", "/Line7/Signal_2")])?.into();
+/// assert!(matches!((placed, moved), (Leg::Map(_), Leg::Relocates(_))));
+/// # Ok::<(), mudvizsor::Refusal>(())
+/// ```
+#[derive(Debug, Clone, PartialEq)]
+pub enum Leg {
+    /// A map, whose time offset plays no part on a route.
+    Map(MapFunction),
+    /// A relocate list, which stands for the map that [`MapFunction::new`] makes of its active pairs and `/` to `/`.
+    Relocates(Relocates),
+}
+
+impl Leg {
+    /// Its pairs.
+    ///
+    /// ```
+    /// # use mudvizsor::{Leg, MapFunction};
+    /// assert_eq!(Leg::from(MapFunction::from_pair("/A", "/B")?).pairs().len(), 1);
+    /// # Ok::<(), mudvizsor::Refusal>(())
+    /// ```
+    pub fn pairs(&self) -> Pairs<'_> {
+        match self {
+            Leg::Map(map) => map.pairs(),
+            Leg::Relocates(relocates) => relocates.pairs(),
+        }
+    }
+
+    /// The number that stands for its kind where it is lent.
+    fn kind(&self) -> usize {
+        match self {
+            Leg::Map(map) => usize::from(map.has_root_identity()),
+            Leg::Relocates(_) => 2,
+        }
+    }
+}
+
+impl From<MapFunction> for Leg {
+    fn from(map: MapFunction) -> Self {
+        Leg::Map(map)
+    }
+}
+
+impl From<Relocates> for Leg {
+    fn from(relocates: Relocates) -> Self {
+        Leg::Relocates(relocates)
+    }
+}
+
+/// Maps and relocate lists, one after the other.
+///
+/// On the way out each leg translates what the leg before gave; a leg without a path for it ends the way. On the way home
+/// the legs map back in reverse. It is proved that a path without selections which comes out comes home to itself, over
+/// the whole route.
+///
+/// ```
+/// use mudvizsor::{MapFunction, Path, Relocates, Route};
+///
+/// let placed = MapFunction::from_pair("/Mast", "/Line7/Harbour/Signal_1")?;
+/// let moved = Relocates::new([("/Line7/Harbour/Signal_1", "/Line7/Quay/Signal_12")])?;
+/// let route = Route::new([placed.into(), moved.into()])?;
+/// let there = route.out(&Path::new("/Mast/Head.lit")?)?;
+/// assert_eq!(there.as_str(), "/Line7/Quay/Signal_12/Head.lit");
+/// assert_eq!(route.home(&there)?.as_str(), "/Mast/Head.lit");
+/// # Ok::<(), mudvizsor::Refusal>(())
+/// ```
+#[derive(Debug, Clone)]
+pub struct Route {
+    legs: Vec<Leg>,
+    /// The pairs of all legs.
+    packed: Packed,
+    /// Three numbers for each leg: its kind, its first pair, how many pairs it has.
+    numbers: Vec<usize>,
+}
+
+impl Route {
+    /// The route over these legs: 4 where there are more than 16.
+    ///
+    /// ```
+    /// # use mudvizsor::{MapFunction, Refusal, Route};
+    /// let legs = |count| std::iter::repeat_n(MapFunction::identity().into(), count);
+    /// assert_eq!(Route::new(legs(16))?.legs().len(), 16);
+    /// assert_eq!(Route::new(legs(17)).unwrap_err(), Refusal::TooMany);
+    /// # Ok::<(), Refusal>(())
+    /// ```
+    pub fn new(legs: impl IntoIterator<Item = Leg>) -> Result<Self> {
+        let legs: Vec<Leg> = legs.into_iter().collect();
+        let packed = Packed::new(legs.iter().flat_map(Leg::pairs));
+        let mut numbers = Vec::new();
+        let mut first = 0;
+        for leg in &legs {
+            let count = leg.pairs().len();
+            numbers.extend([leg.kind(), first, count]);
+            first += count;
+        }
+        let route = Route { legs, packed, numbers };
+        route.checked()?;
+        Ok(route)
+    }
+
+    /// Puts the questions about the legs, which come before any about where a path goes.
+    fn checked(&self) -> Result<()> {
+        let reply = routes::route_out(self.lent(0..self.legs.len()), b"", &mut [0; LONGEST]);
+        match read(reply) {
+            Err(refusal) if refusal < Refusal::NoPath => Err(refusal),
+            _ => Ok(()),
+        }
+    }
+
+    /// Its legs.
+    ///
+    /// ```
+    /// # use mudvizsor::{Leg, MapFunction, Route};
+    /// let route = Route::new([MapFunction::identity().into()])?;
+    /// assert_eq!(route.legs(), [Leg::Map(MapFunction::identity())]);
+    /// # Ok::<(), mudvizsor::Refusal>(())
+    /// ```
+    pub fn legs(&self) -> &[Leg] {
+        &self.legs
+    }
+
+    /// Where the path comes to on the way out: 6, 7 or 8 where a leg has no path for it, or makes one that is too long or
+    /// not legal. The first leg leaves out its selections; without legs the path stays as it is.
+    ///
+    /// ```
+    /// # use mudvizsor::{MapFunction, Path, Refusal, Route};
+    /// let route = Route::new([MapFunction::from_pair("/A", "/B")?.into()])?;
+    /// assert_eq!(route.out(&Path::new("/A{v=p}c")?)?.as_str(), "/B/c");
+    /// assert_eq!(route.out(&Path::new("/Q")?), Err(Refusal::NoPath));
+    /// # Ok::<(), Refusal>(())
+    /// ```
+    pub fn out(&self, path: &Path) -> Result<Path> {
+        self.over(0..self.legs.len(), false, path)
+    }
+
+    /// Where the path comes to on the way home, the last leg first: 6, 7 or 8 as on the way out.
+    ///
+    /// ```
+    /// # use mudvizsor::{MapFunction, Path, Route};
+    /// let route = Route::new([MapFunction::from_pair("/A", "/B")?.into()])?;
+    /// assert_eq!(route.home(&Path::new("/B/c")?)?.as_str(), "/A/c");
+    /// # Ok::<(), mudvizsor::Refusal>(())
+    /// ```
+    pub fn home(&self, path: &Path) -> Result<Path> {
+        self.over(0..self.legs.len(), true, path)
+    }
+
+    /// Where each of many paths comes to on the way out, in their order. The library checks the legs once for all.
+    ///
+    /// ```
+    /// # use mudvizsor::{MapFunction, Path, Refusal, Route};
+    /// let route = Route::new([MapFunction::from_pair("/A", "/B")?.into()])?;
+    /// let paths = [Path::new("/A/c")?, Path::new("/Q")?];
+    /// assert_eq!(route.out_all(&paths), [Path::new("/B/c"), Err(Refusal::NoPath)]);
+    /// # Ok::<(), Refusal>(())
+    /// ```
+    pub fn out_all<'a>(&self, paths: impl IntoIterator<Item = &'a Path>) -> Vec<Result<Path>> {
+        self.all_over(false, paths)
+    }
+
+    /// Where each of many paths comes to on the way home, in their order.
+    ///
+    /// ```
+    /// # use mudvizsor::{MapFunction, Path, Route};
+    /// let route = Route::new([MapFunction::from_pair("/A", "/B")?.into()])?;
+    /// assert_eq!(route.home_all([&Path::new("/B/c")?]), [Path::new("/A/c")]);
+    /// # Ok::<(), mudvizsor::Refusal>(())
+    /// ```
+    pub fn home_all<'a>(&self, paths: impl IntoIterator<Item = &'a Path>) -> Vec<Result<Path>> {
+        self.all_over(true, paths)
+    }
+
+    /// What each leg gives on the way out, one after the other. A refusal is the last item.
+    ///
+    /// ```
+    /// # use mudvizsor::{MapFunction, Path, Refusal, Route};
+    /// let map = |source, target| MapFunction::from_pair(source, target);
+    /// let route = Route::new([map("/A", "/B")?.into(), map("/B/c", "/D")?.into()])?;
+    /// let steps: Vec<_> = route.steps_out(&Path::new("/A/c")?).collect();
+    /// assert_eq!(steps, [Path::new("/B/c"), Path::new("/D")]);
+    /// let steps: Vec<_> = route.steps_out(&Path::new("/A/x")?).collect();
+    /// assert_eq!(steps, [Path::new("/B/x"), Err(Refusal::NoPath)]);
+    /// # Ok::<(), Refusal>(())
+    /// ```
+    pub fn steps_out(&self, path: &Path) -> Steps<'_> {
+        Steps { route: self, home: false, left: 0..self.legs.len(), at: Some(path.clone()) }
+    }
+
+    /// What each leg gives on the way home, the last leg first. A refusal is the last item.
+    ///
+    /// ```
+    /// # use mudvizsor::{MapFunction, Path, Route};
+    /// let map = |source, target| MapFunction::from_pair(source, target);
+    /// let route = Route::new([map("/A", "/B")?.into(), map("/B/c", "/D")?.into()])?;
+    /// let steps: Vec<_> = route.steps_home(&Path::new("/D")?).collect();
+    /// assert_eq!(steps, [Path::new("/B/c"), Path::new("/A/c")]);
+    /// # Ok::<(), mudvizsor::Refusal>(())
+    /// ```
+    pub fn steps_home(&self, path: &Path) -> Steps<'_> {
+        Steps { route: self, home: true, left: 0..self.legs.len(), at: Some(path.clone()) }
+    }
+
+    /// Some of the legs as they are lent.
+    fn lent(&self, legs: Range<usize>) -> Lent<'_> {
+        let numbers = &self.numbers[3 * legs.start..3 * legs.end];
+        Lent { store: &self.packed.store, places: &self.packed.places, legs: numbers, count: legs.len() }
+    }
+
+    /// The path over some of the legs.
+    fn over(&self, legs: Range<usize>, home: bool, path: &Path) -> Result<Path> {
+        let route = self.lent(legs);
+        match home {
+            false => made(|out| routes::route_out(route, path.as_bytes(), out)),
+            true => made(|out| routes::route_home(route, path.as_bytes(), out)),
+        }
+    }
+
+    fn all_over<'a>(&self, home: bool, paths: impl IntoIterator<Item = &'a Path>) -> Vec<Result<Path>> {
+        let route = self.lent(0..self.legs.len());
+        carried(paths, |paths, out, replies| routes::route_all(route, home, paths, out, replies))
+    }
+}
+
+/// The steps of a path over a route, as [`Route::steps_out`] and [`Route::steps_home`] give them.
+#[derive(Debug, Clone)]
+pub struct Steps<'a> {
+    route: &'a Route,
+    home: bool,
+    /// The legs that are left.
+    left: Range<usize>,
+    /// Where the path has come to, unless its way has ended.
+    at: Option<Path>,
+}
+
+impl Iterator for Steps<'_> {
+    type Item = Result<Path>;
+
+    fn next(&mut self) -> Option<Self::Item> {
+        let leg = if self.home { self.left.next_back() } else { self.left.next() }?;
+        let step = self.route.over(leg..leg + 1, self.home, self.at.as_ref()?);
+        self.at = step.as_ref().ok().cloned();
+        Some(step)
+    }
+}
+
+impl std::iter::FusedIterator for Steps<'_> {}
+
+#[cfg(test)]
+mod tests;

@@ -1,0 +1,112 @@
+use super::*;
+use crate::MOST_LEGS;
+
+fn path(text: &str) -> Path {
+    Path::new(text).unwrap()
+}
+
+fn map(pairs: &[(&str, &str)]) -> Leg {
+    MapFunction::new(pairs.iter().copied()).unwrap().into()
+}
+
+fn relocates(pairs: &[(&str, &str)]) -> Leg {
+    Relocates::new(pairs.iter().copied()).unwrap().into()
+}
+
+fn tram_line() -> Route {
+    let placed = map(&[
+        ("/Mast", "/Line7/Harbour/Signal_1"),
+        ("/Mast/Spare", ""),
+        ("/Switch", "/Line7/Harbour/Points_A"),
+    ]);
+    let moved = relocates(&[
+        ("/Line7/Harbour/Signal_1", "/Line7/Quay/Signal_12"),
+        ("/Line7/Harbour/Bench", ""),
+        ("/Line7", "/Line8"),
+        ("/Line7/Harbour/Signal_1", "/Line7/Depot/Signal_40"),
+    ]);
+    Route::new([placed, moved, map(&[("/Line7", "/Town/Trams/Line7")])]).unwrap()
+}
+
+/// The scenario of line 7.
+#[test]
+fn out_and_home() {
+    let route = tram_line();
+    for (text, there, home) in [
+        (
+            "/Mast/Lamp_2.aspect:state",
+            "/Town/Trams/Line7/Quay/Signal_12/Lamp_2.aspect:state",
+            "/Mast/Lamp_2.aspect:state",
+        ),
+        ("/Mast{season=winter}Head", "/Town/Trams/Line7/Quay/Signal_12/Head", "/Mast/Head"),
+        ("/Switch.position", "/Town/Trams/Line7/Harbour/Points_A.position", "/Switch.position"),
+    ] {
+        assert_eq!(route.out(&path(text)), Path::new(there));
+        assert_eq!(route.home(&path(there)), Path::new(home));
+    }
+    for text in ["/Mast/Spare.aspect:state", "/Barrier/Arm.angle"] {
+        assert_eq!(route.out(&path(text)), Err(Refusal::NoPath));
+    }
+}
+
+/// The steps of each leg end where the whole route does, and the way home meets the same paths in reverse.
+#[test]
+fn steps_are_the_route() {
+    let route = tram_line();
+    for text in ["/Mast", "/Mast/Head.lit", "/Mast/Spare", "/Switch", "/Barrier", "/", ""] {
+        let start = path(text);
+        let out: Vec<_> = route.steps_out(&start).collect();
+        assert_eq!(*out.last().unwrap(), route.out(&start), "{text}");
+        let Ok(there) = route.out(&start) else { continue };
+        let home: Vec<_> = route.steps_home(&there).collect();
+        let mut met: Vec<_> = out.into_iter().rev().skip(1).collect();
+        met.push(Ok(start));
+        assert_eq!(home, met, "{text}");
+    }
+}
+
+#[test]
+fn steps_end_at_a_refusal() {
+    let (route, start) = (tram_line(), path("/Mast/Spare"));
+    let mut steps = route.steps_out(&start);
+    assert_eq!(steps.next(), Some(Err(Refusal::NoPath)));
+    assert_eq!(steps.next(), None);
+    assert_eq!(steps.next(), None);
+}
+
+#[test]
+fn many_paths_go_as_one_does() {
+    let route = tram_line();
+    let paths: Vec<Path> =
+        ["/Mast/x", "/Mast/Spare", "/Switch", "/", "/Town/Trams/Line7/Quay/Signal_12"].map(path).into();
+    assert_eq!(route.out_all(&paths), paths.iter().map(|each| route.out(each)).collect::<Vec<_>>());
+    assert_eq!(route.home_all(&paths), paths.iter().map(|each| route.home(each)).collect::<Vec<_>>());
+}
+
+#[test]
+fn no_legs() {
+    let route = Route::new([]).unwrap();
+    let start = path("/A{v=p}B.c");
+    assert_eq!((route.out(&start), route.home(&start)), (Ok(start.clone()), Ok(start.clone())));
+    assert_eq!(route.steps_out(&start).count(), 0);
+}
+
+#[test]
+fn limits() {
+    let most = relocates(&[]);
+    assert!(Route::new(vec![most.clone(); MOST_LEGS]).is_ok());
+    assert_eq!(Route::new(vec![most; MOST_LEGS + 1]).unwrap_err(), Refusal::TooMany);
+    // The `/` to `/` that a relocate leg adds is not counted.
+    let pairs = (0..64).map(|i| (format!("/A/s{i}"), format!("/A/t{i}")));
+    let full = Route::new(vec![Relocates::new(pairs).unwrap().into(); MOST_LEGS]).unwrap();
+    assert_eq!(full.out(&path("/A/s63.p")), Err(Refusal::NoPath));
+    assert_eq!(full.out(&path("/B")), Path::new("/B"));
+}
+
+#[test]
+fn marks_are_passed_on() {
+    let marked = Route::new([MapFunction::from_pair_identity("/A", "/X").unwrap().into()]).unwrap();
+    assert_eq!(marked.out(&path("/B")), Path::new("/B"));
+    let unmarked = Route::new([MapFunction::from_pair("/A", "/X").unwrap().into()]).unwrap();
+    assert_eq!(unmarked.out(&path("/B")), Err(Refusal::NoPath));
+}

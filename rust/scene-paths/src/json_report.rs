@@ -1,0 +1,128 @@
+//! Journeys as JSON for scripts: one object with `legs`, `signals` and `summary`, a line for each leg and signal.
+
+use crate::journey::{End, Journey};
+use crate::json::{array, object, string};
+use crate::report::{Report, Summary};
+use crate::scenario::Section;
+use mudvizsor::{Leg, Path, Refusal};
+use std::io::{Result, Write};
+
+pub struct JsonReport<W: Write> {
+    out: W,
+    /// Whether a signal has been written.
+    begun: bool,
+}
+
+impl<W: Write> JsonReport<W> {
+    pub fn new(out: W) -> Self {
+        JsonReport { out, begun: false }
+    }
+}
+
+impl<W: Write> Report for JsonReport<W> {
+    fn begin(&mut self, legs: &[Section]) -> Result<()> {
+        let legs: Vec<String> = legs.iter().enumerate().map(|(i, section)| leg(i + 1, section)).collect();
+        let lines =
+            if legs.is_empty() { String::new() } else { format!("\n    {}\n  ", legs.join(",\n    ")) };
+        write!(self.out, "{{\n  \"legs\": [{lines}],\n  \"signals\": [")
+    }
+
+    fn journey(&mut self, journey: &Journey) -> Result<()> {
+        let before = if self.begun { "," } else { "" };
+        self.begun = true;
+        write!(self.out, "{before}\n    {}", object(members(journey)))
+    }
+
+    fn end(&mut self, summary: &Summary) -> Result<()> {
+        let Summary { signals, came_home } = *summary;
+        let numbers = [("signals", signals), ("came_home", came_home), ("did_not", signals - came_home)];
+        let summary = object(numbers.map(|(name, number)| (name, number.to_string())));
+        write!(self.out, "\n  ],\n  \"summary\": {summary}\n}}\n")?;
+        self.out.flush()
+    }
+
+    fn flush(&mut self) -> Result<()> {
+        self.out.flush()
+    }
+}
+
+fn leg(number: usize, section: &Section) -> String {
+    let mut members = vec![
+        ("leg", number.to_string()),
+        ("kind", string(section.kind())),
+        ("line", section.line.to_string()),
+        ("title", string(&section.title)),
+        ("pairs", section.lines.len().to_string()),
+    ];
+    if let Leg::Relocates(relocates) = &section.leg {
+        let statuses = relocates.statuses().iter().map(|&status| (status as u8).to_string());
+        members.push(("statuses", array(statuses)));
+    }
+    object(members)
+}
+
+fn members(journey: &Journey) -> Vec<(&'static str, String)> {
+    let mut members = vec![
+        ("line", journey.signal.line.to_string()),
+        ("signal", string(&journey.signal.text)),
+        ("steps", array(journey.steps.iter().map(|step| string(step.as_str())))),
+        ("came_home", matches!(journey.end, End::Home(_)).to_string()),
+    ];
+    members.extend(match &journey.end {
+        End::Home(path) | End::Astray(Ok(path)) => vec![home(path)],
+        End::NoSignal(refusal) => stopped("signal", None, *refusal),
+        End::Stopped { leg, refusal } => stopped("out", Some(*leg), *refusal),
+        End::Astray(Err(refusal)) => stopped("home", None, *refusal),
+    });
+    members
+}
+
+fn home(path: &Path) -> (&'static str, String) {
+    ("home", string(path.as_str()))
+}
+
+/// Where a journey stopped: at the `signal` itself, on the way `out` or on the way `home`; at which leg; and why.
+fn stopped(place: &str, leg: Option<usize>, refusal: Refusal) -> Vec<(&'static str, String)> {
+    let mut members = vec![("at", string(place))];
+    members.extend(leg.map(|leg| ("leg", leg.to_string())));
+    members.push(("number", refusal.number().to_string()));
+    members.push(("meaning", string(&refusal.to_string())));
+    vec![("stopped", object(members))]
+}
+
+#[cfg(test)]
+mod tests {
+    use super::*;
+    use crate::scenario::Signal;
+
+    fn written(end: End) -> String {
+        let signal = Signal { line: 3, text: "/A\"".to_string() };
+        object(members(&Journey { signal: &signal, steps: vec![Path::root()], end }))
+    }
+
+    #[test]
+    fn ends() {
+        let path = Path::new("/A").unwrap();
+        let before = "{\"line\": 3, \"signal\": \"/A\\\"\", \"steps\": [\"/\"], \"came_home\": ";
+        let cases = [
+            (End::Home(path.clone()), "true, \"home\": \"/A\"}"),
+            (End::Astray(Ok(path)), "false, \"home\": \"/A\"}"),
+            (
+                End::NoSignal(Refusal::TooLong),
+                "false, \"stopped\": {\"at\": \"signal\", \"number\": 1, \
+                 \"meaning\": \"the path text is longer than 255 bytes\"}}",
+            ),
+            (
+                End::Stopped { leg: 2, refusal: Refusal::NoPath },
+                "false, \"stopped\": {\"at\": \"out\", \"leg\": 2, \"number\": 6, \"meaning\": \"no path\"}}",
+            ),
+            (
+                End::Astray(Err(Refusal::NoPath)),
+                "false, \"stopped\": {\"at\": \"home\", \"number\": 6, \"meaning\": \"no path\"}}",
+            ),
+        ];
+        for (end, expected) in cases {
+            assert_eq!(written(end), format!("{before}{expected}"));
+        }
+    }
+}

@@ -1,0 +1,98 @@
+use super::*;
+
+fn problems(text: &str) -> Vec<(usize, String)> {
+    let problems = Scenario::read(text.as_bytes()).expect_err("a bad scenario");
+    problems.into_iter().map(|problem| (problem.line, problem.message)).collect()
+}
+
+/// The one problem of a text.
+fn problem(text: &str) -> (usize, String) {
+    let mut all = problems(text);
+    assert_eq!(all.len(), 1, "{all:?}");
+    all.remove(0)
+}
+
+#[test]
+fn a_scenario_is_read() {
+    let text = "\u{feff}# line 7\r\n\r\nmap  the  layer # placed\r\n /A -> /B\n/A/c -> - # gone\nrelocates\nsignals\n /A{v=p}\n-\n";
+    let scenario = Scenario::read(text.as_bytes()).unwrap();
+    let [map, relocates] = &scenario.legs[..] else { panic!("two legs") };
+    assert_eq!(
+        (map.line, map.kind(), map.title.as_str(), &map.lines[..]),
+        (3, "map", "the layer", &[4, 5][..])
+    );
+    assert_eq!((relocates.line, relocates.kind(), relocates.title.as_str()), (6, "relocates", ""));
+    assert_eq!(map.leg, MapFunction::new([("/A", "/B"), ("/A/c", "")]).unwrap().into());
+    let signals: Vec<_> = scenario.signals.iter().map(|signal| (signal.line, signal.text.as_str())).collect();
+    assert_eq!(signals, [(8, "/A{v=p}"), (9, "")]);
+}
+
+#[test]
+fn signals_may_stand_in_several_parts() {
+    let scenario = Scenario::read(b"signals\n/A\nsignals\nnot/legal").unwrap();
+    assert_eq!(scenario.signals.len(), 2);
+    assert_eq!(scenario.signals[1].text, "not/legal");
+}
+
+#[test]
+fn lines_in_no_section() {
+    assert_eq!(problem("/A -> /B\nsignals\n/A").0, 1);
+    assert!(problem("\nmapp\nsignals\n/A").1.starts_with("no section has begun"));
+}
+
+#[test]
+fn lines_that_are_no_pair() {
+    for line in ["/A /B", "/A ->", "-> /B", "/A -> /B /C", "relocate", "/A->/B"] {
+        let (number, message) = problem(&format!("map\n{line}\nsignals\n/A"));
+        assert!(number == 2 && message.starts_with("neither a pair"), "{line}: {message}");
+    }
+}
+
+#[test]
+fn ends_that_are_refused() {
+    let long = format!("/{}", "n".repeat(255));
+    let ends = [
+        ("Mast", "not a legal path (2)"),
+        ("/A.b", "or empty (3)"),
+        ("/A{v=p}", "or empty (3)"),
+        (&long, "bytes (1)"),
+    ];
+    for (text, expected) in ends {
+        let (number, message) = problem(&format!("map\n/A -> /B\n/C -> {text}\nsignals\n/A"));
+        assert!(number == 3 && message.ends_with(expected), "{message}");
+        assert!(message.starts_with(&format!("`{text}`: ")), "{message}");
+    }
+}
+
+#[test]
+fn all_problems_are_given() {
+    let found = problems("map\nA -> B\nsignals here\nsignals\n/A /B\nmap\n");
+    let lines: Vec<usize> = found.iter().map(|(line, _)| *line).collect();
+    assert_eq!(lines, [2, 2, 3, 5, 6]);
+    assert!(found[4].1.starts_with("a leg behind the signals"));
+}
+
+#[test]
+fn limits() {
+    let pairs = |count: usize| (0..count).map(|i| format!("/A{i} -> /B{i}\n")).collect::<String>();
+    assert!(Scenario::read(format!("map\n{}signals\n/A", pairs(64)).as_bytes()).is_ok());
+    assert_eq!(
+        problem(&format!("map\n{}signals\n/A", pairs(70))),
+        (66, "more than 64 pairs in this leg (4)".into())
+    );
+    assert!(Scenario::read(("map\n".repeat(16) + "signals\n/A").as_bytes()).is_ok());
+    assert_eq!(problem(&("map\n".repeat(20) + "signals\n/A")), (17, "more than 16 legs (4)".into()));
+}
+
+#[test]
+fn a_scenario_without_signals() {
+    assert_eq!(problem("").0, 1);
+    assert_eq!(problem("map\n/A -> /B\n").0, 2);
+    assert!(problem("map\n/A -> /B\nsignals\n").1.contains("without a signal"));
+}
+
+#[test]
+fn bytes_that_are_no_text() {
+    let problems = Scenario::read(b"map\n/A -> /B\n\xff").unwrap_err();
+    assert_eq!(problems, [Problem { line: 3, message: "the text is not UTF-8".into() }]);
+}
