@@ -35,7 +35,7 @@
 //! A call that cannot be answered is refused with one of document 01's numbers, as a [`Refusal`]. Questions are put
 //! to a call in the order of their numbers, and the first "no" counts. A call that can never be refused gives its
 //! answer without a `Result`: a [`Path`] has been checked when it was made. The crate lends the memory itself, so that
-//! 5 does not come, and it reads no frames, so that 9 does not come.
+//! 5 does not come; a line that is no frame gets an answer of [`Frames`] that says 9, and no refusal.
 //!
 //! # Linking
 //!
@@ -44,6 +44,7 @@
 #![deny(unsafe_op_in_unsafe_fn, unsafe_code, missing_docs)]
 
 pub mod ffi;
+mod frames;
 mod layer_offset;
 mod many;
 mod map_function;
@@ -54,6 +55,7 @@ mod relocates;
 mod route;
 
 pub use ffi::maps::Way;
+pub use frames::Frames;
 pub use layer_offset::LayerOffset;
 pub use map_function::MapFunction;
 pub use pair_list::Pairs;

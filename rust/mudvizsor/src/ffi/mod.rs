@@ -6,10 +6,8 @@
 //! trusts nothing that it is lent: a place outside its bytes, an illegal text or a count beyond its slice is refused. A
 //! refused call writes nothing.
 //!
-//! Not bound is `mudvizsor_frames_line`, a line of the program `frames`.
-//!
 //! Nothing checks the declarations against the library's source; the comparison with the original calls every one of
-//! them.
+//! them but that of [`frames`], which the tests of the crate call.
 //!
 //! ```
 //! use mudvizsor::ffi::{Reply, paths};
@@ -25,6 +23,7 @@
 #![allow(unsafe_code)]
 
 mod entry;
+pub mod frames;
 pub mod makes;
 pub mod maps;
 pub mod paths;

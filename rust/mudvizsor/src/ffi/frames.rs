@@ -1,0 +1,29 @@
+//! The entry for a line of the program `frames`.
+
+use super::{Reply, entry};
+
+/// What is kept between two lines, as it is lent. All of it is 0 before the first line, and has the lengths that are
+/// named here; an entry that finds less answers with document 01's numbers 4 and 5.
+pub struct Kept<'a> {
+    /// Five numbers: the pairs and bytes of the open list, the legs and their bytes before dropping, the 05 frames
+    /// answered 00.
+    pub numbers: &'a mut [usize],
+    /// The bytes of the open list's ends, 32,640.
+    pub bytes: &'a mut [u8],
+    /// Their places, 256 numbers.
+    pub places: &'a mut [usize],
+    /// The bytes of the legs' ends, 32,768.
+    pub store: &'a mut [u8],
+    /// Their places, 4,096 numbers.
+    pub slots: &'a mut [usize],
+    /// Three numbers for each leg, 48.
+    pub table: &'a mut [usize],
+}
+
+/// Does what a line says, which is given without its newline, writes the answer line with its newline to `out`, which
+/// has at least 515 bytes, and gives its length.
+pub fn line(line: &[u8], kept: Kept, out: &mut [u8]) -> Reply {
+    entry!(mudvizsor_frames_line:
+        text line, slots kept.numbers, out kept.bytes, slots kept.places, out kept.store, slots kept.slots,
+        slots kept.table, out out,)
+}
