@@ -6,7 +6,7 @@ use native.Mathlib.Omega.{arith}
 use lib.ListN.{length, length-append}
 use borrow.Author.Tests.{le-leb}
 use Rattle.text.specs.Text.{Text, over, placed}
-use Rattle.pairs.proofs.WriteWays.{over-over}
+use Rattle.listing.proofs.WriteWays.{over-over}
 use Rattle.path.specs.declared.Refusal.{Refusal}
 use Rattle.path.specs.declared.Refusal.the-variants.{TooLong, Illegal, NotAnEnd, TooMany, NoRoom, NoPath, MadeTooLong, MadeIllegal}
 use Rattle.path.specs.Refusal.{number}

@@ -17,9 +17,10 @@ use Rattle.text.proofs.WriteLaws.{placed-first, rest-whole, fit-length, fit-roo
 use Rattle.grammar.specs.Legal.{fits}
 use Rattle.prefix.specs.Join.{joined, spoils}
 use Rattle.pairs.specs.Places.{keyAt}
-use Rattle.pairs.specs.Best.{best, serves, chosenIn}
+use Rattle.pairs.specs.Best.{best, serves}
+use Rattle.serving.specs.Search.{chosenIn}
 use Rattle.pairs.proofs.PlaceLaws.{chosen-best}
-use Rattle.pairs.specs.declared.Found.{Found}
+use Rattle.serving.specs.declared.Found.{Found}
 use Rattle.path.specs.declared.Refusal.the-variants.{NoPath, MadeTooLong, MadeIllegal}
 use Rattle.path.specs.declared.Reply.{Reply}
 use Rattle.path.specs.declared.Reply.the-variants.{Written, Refused}

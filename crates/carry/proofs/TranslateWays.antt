@@ -15,8 +15,9 @@ use Rattle.text.proofs.BoolLaws.{and-no, not-true, not-false}
 use Rattle.text.proofs.WriteLaws.{fit-room, fit-over, fit-back}
 use Rattle.prefix.specs.Join.{joined, spoils}
 use Rattle.pairs.specs.Places.{keyAt}
-use Rattle.pairs.specs.Best.{best, chosenIn, isAt}
-use Rattle.pairs.specs.declared.Found.{Found}
+use Rattle.pairs.specs.Best.{best}
+use Rattle.serving.specs.Search.{chosenIn, isAt}
+use Rattle.serving.specs.declared.Found.{Found}
 use Rattle.path.specs.declared.Refusal.the-variants.{NoPath, MadeTooLong, MadeIllegal}
 use Rattle.path.specs.declared.Reply.{Reply}
 use Rattle.path.specs.declared.Reply.the-variants.{Refused}

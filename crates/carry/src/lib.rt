@@ -53,7 +53,7 @@ pub fn map_text(
     ensures { λ r. ⌜ r ≡ reply (quick invert (lentMap (now (store .entry)) (now (places .entry)) n mark) (now (path .entry))) ⌝ }
     ensures { λ r. ⌜ now (out .exit) ≡ memory (quick invert (lentMap (now (store .entry)) (now (places .entry)) n mark) (now (path .entry))) (now (out .entry)) ⌝ }
 {
-    let f = pairs::best_prefix(store, places, n, invert, path);
+    let f = serving::best_prefix(store, places, n, invert, path);
     if !f.found {
         return keep(mark, path, out);
     }
@@ -82,7 +82,7 @@ fn translate_marked(
     if !mark {
         return path::Reply::Refused(path::Refusal::NoPath);
     }
-    let home = pairs::best_prefix(store, places, n, true, path);
+    let home = serving::best_prefix(store, places, n, true, path);
     if home.found {
         return path::Reply::Refused(path::Refusal::NoPath);
     }
@@ -120,7 +120,7 @@ fn translate_pair(
     let text::Fit::Written(len) = fit else {
         return path::Reply::Refused(path::Refusal::MadeTooLong);
     };
-    if !pairs::is_best(store, places, n, true, &made[..len], i) {
+    if !serving::is_best(store, places, n, true, &made[..len], i) {
         return path::Reply::Refused(path::Refusal::NoPath);
     }
     let spoilt = prefix::is_spoilt(new, rest);
@@ -139,7 +139,7 @@ pub fn translate_text(
     ensures { λ r. ⌜ r ≡ reply (quickTranslate (lentMap (now (store .entry)) (now (places .entry)) n mark) (now (path .entry))) ⌝ }
     ensures { λ r. ⌜ now (out .exit) ≡ memory (quickTranslate (lentMap (now (store .entry)) (now (places .entry)) n mark) (now (path .entry))) (now (out .entry)) ⌝ }
 {
-    let f = pairs::best_prefix(store, places, n, false, path);
+    let f = serving::best_prefix(store, places, n, false, path);
     if !f.found {
         return translate_marked(store, places, n, mark, path, out);
     }

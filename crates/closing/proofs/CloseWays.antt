@@ -11,12 +11,13 @@ use borrow.Author.Tests.{le-leb, lt-leb, leb-true}
 use Rattle.text.specs.Text.{Text, written, over}
 use Rattle.text.proofs.BoolLaws.{and-l, and-r, and-yes, told-false, told-true}
 use Rattle.pairs.specs.Pair.{Pair}
-use Rattle.pairs.specs.Places.{pairsIn, listPlaces, endBytes, roomLeft, appendRoom, appendBytes, appendSlots}
-use Rattle.pairs.specs.declared.Room.{Room}
-use Rattle.pairs.specs.declared.Room.the-variants.{Left, Over}
+use Rattle.pairs.specs.Places.{pairsIn, listPlaces, endBytes}
+use Rattle.listing.specs.Lists.{roomLeft, appendRoom, appendBytes, appendSlots}
+use Rattle.listing.specs.declared.Room.{Room}
+use Rattle.listing.specs.declared.Room.the-variants.{Left, Over}
 use Rattle.pairs.proofs.PlaceLaws.{pairsIn-length}
 use Rattle.pairs.proofs.ListLaws.{places-length}
-use Rattle.pairs.proofs.RoomWays.{left-fits, over-full}
+use Rattle.listing.proofs.RoomWays.{left-fits, over-full}
 use Rattle.path.specs.declared.Refusal.{Refusal}
 use Rattle.path.specs.declared.Refusal.the-variants.{TooMany, NoRoom}
 use Rattle.path.specs.declared.Asked.{Asked}

@@ -58,8 +58,8 @@ fn ask_close(
     if 32768 < at {
         return Closed::Refused(path::Refusal::NoRoom);
     }
-    let room = pairs::room_left(bytes, places, n, 32768 - at);
-    let pairs::Room::Left(left) = room else {
+    let room = listing::room_left(bytes, places, n, 32768 - at);
+    let listing::Room::Left(left) = room else {
         return Closed::Refused(path::Refusal::NoRoom);
     };
     let total = 32768 - left;
@@ -129,7 +129,7 @@ fn close_list(
     let w = map_function::canonical_places(bytes, places, n, marked, &mut kept);
     let at = 256 * v.count;
     let end = at + 256;
-    pairs::append_list(bytes, &kept, w, v.bytes, store, &mut slots[at..end]);
+    listing::append_list(bytes, &kept, w, v.bytes, store, &mut slots[at..end]);
     write_three(v.count, marked, w, table);
     r
 }

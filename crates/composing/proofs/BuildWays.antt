@@ -10,7 +10,7 @@ use lib.ListN.{length, length-append}
 use Rattle.text.specs.Text.{Text, over}
 use Rattle.pairs.specs.Pair.{Pair, everyEnd}
 use Rattle.pairs.specs.Places.{textAt, keyAt, pairIn, pairsIn, fourOf, endBytes}
-use Rattle.pairs.proofs.RoomWays.{end-snoc}
+use Rattle.listing.proofs.RoomWays.{end-snoc}
 use Rattle.maps.specs.Map.{Map, plainHome}
 use Rattle.maps.specs.Compose.{carried, hasSource, added, pulled, composedPairs}
 use Rattle.composing.specs.Scratch.{plain, needed, carriedTo, modest, Holds}

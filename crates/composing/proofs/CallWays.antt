@@ -15,7 +15,8 @@ use Rattle.grammar.specs.Legal.{fits}
 use Rattle.layer_offset.specs.declared.LayerOffset.{LayerOffset}
 use Rattle.layer_offset.specs.Offset.{identity, isIdentity, concatenated}
 use Rattle.pairs.specs.Pair.{Pair, everyEnd, allShort}
-use Rattle.pairs.specs.Places.{keyAt, pairIn, pairsIn, listPlaces, endBytes, listRoom}
+use Rattle.pairs.specs.Places.{keyAt, pairIn, pairsIn, listPlaces, endBytes}
+use Rattle.listing.specs.Lists.{listRoom}
 use Rattle.pairs.proofs.PlaceLaws.{pairsIn-length}
 use Rattle.pairs.proofs.ListLaws.{places-length}
 use Rattle.path.specs.declared.Refusal.{Refusal}

@@ -14,10 +14,11 @@ use Rattle.grammar.specs.Legal.{fits}
 use Rattle.layer_offset.specs.declared.LayerOffset.{LayerOffset}
 use Rattle.layer_offset.specs.Offset.{identity}
 use Rattle.pairs.specs.Pair.{Pair, everyEnd, allShort}
-use Rattle.pairs.specs.Places.{pairIn, pairsIn, endBytes, listRoom}
+use Rattle.pairs.specs.Places.{pairIn, pairsIn, endBytes}
+use Rattle.listing.specs.Lists.{listRoom}
 use Rattle.pairs.proofs.PlaceLaws.{pairsIn-length}
 use Rattle.pairs.proofs.ListLaws.{read-back}
-use Rattle.pairs.proofs.CopyLaws.{text-same, list-same, over-below, over-inside}
+use Rattle.listing.proofs.CopyLaws.{text-same, list-same, over-below, over-inside}
 use Rattle.path.specs.declared.Refusal.{Refusal}
 use Rattle.path.specs.declared.Refusal.the-variants.{TooMany, NoRoom, MadeTooLong}
 use Rattle.path.specs.declared.Asked.{Asked}

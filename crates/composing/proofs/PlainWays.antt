@@ -20,11 +20,11 @@ use Rattle.prefix.specs.Prefix.{hasPrefix}
 use Rattle.prefix.specs.Join.{joined, replacePrefix}
 use Rattle.prefix.proofs.PrefixLaws.{replace-prefix}
 use Rattle.pairs.specs.Places.{keyAt}
-use Rattle.pairs.specs.Best.{best, serves, chosenIn}
+use Rattle.pairs.specs.Best.{best, serves}
+use Rattle.serving.specs.Search.{chosenIn}
 use Rattle.pairs.proofs.PlaceLaws.{chosen-best}
-use Rattle.pairs.specs.declared.Found.{Found}
-use Rattle.maps.specs.Map.{Map, source, target, by, plainOut, plainHome}
-use Rattle.maps.specs.Map.{lentMap}
+use Rattle.serving.specs.declared.Found.{Found}
+use Rattle.maps.specs.Map.{Map, source, target, by, plainOut, plainHome, lentMap}
 use Rattle.maps.proofs.LentLaws.{out-keys, home-keys, ends-by}
 use Rattle.carry.proofs.MapWays.{nil-length, not-nil-length}
 use Rattle.composing.specs.declared.Image.{Image}

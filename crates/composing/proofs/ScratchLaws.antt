@@ -8,9 +8,9 @@ use lib.Seq.{take-append-seam, drop-append-add, drop-append-seam}
 use Rattle.text.specs.Text.{Text, written, over, placed}
 use Rattle.pairs.specs.Pair.{Pair}
 use Rattle.pairs.specs.Places.{pairsIn, listText, listPlaces, fourOf, endBytes}
-use Rattle.pairs.proofs.RoomWays.{end-snoc}
+use Rattle.listing.proofs.RoomWays.{end-snoc}
 use Rattle.pairs.proofs.ListLaws.{list-length, places-length, read-back}
-use Rattle.pairs.proofs.WriteWays.{over-over, list-snoc, places-snoc}
+use Rattle.listing.proofs.WriteWays.{over-over, list-snoc, places-snoc}
 use Rattle.composing.specs.Scratch.{Holds}
 
 -- nothing is held by any memory

@@ -6,7 +6,8 @@ ghost use Prim.Native.Nat.{_+_, _*_, _≤_};
 ghost use lib.ListN.{length};
 ghost use Rattle.layer_offset.specs.Offset.{identity};
 ghost use Rattle.pairs.specs.Pair.{everyEnd, allShort};
-ghost use Rattle.pairs.specs.Places.{pairsIn, listRoom};
+ghost use Rattle.pairs.specs.Places.{pairsIn};
+ghost use Rattle.listing.specs.Lists.{listRoom};
 ghost use Rattle.maps.specs.Map.{lentMap};
 ghost use Rattle.maps.specs.Derive.{inverse};
 ghost use Rattle.map_function.specs.Read.{isPathIdentity, mapOf};
@@ -24,7 +25,7 @@ fn exchange_all(places: &[usize], n: usize, slots: &mut [usize])
     let mut i = 0;
     while i < n {
         let j = 4 * i;
-        pairs::write_four(
+        listing::write_four(
             i,
             places[j + 2],
             places[j + 3],
@@ -197,7 +198,7 @@ fn has_place(
     if left < d.at {
         return false;
     }
-    pairs::has_room(store, places, n, left - d.at)
+    listing::has_room(store, places, n, left - d.at)
 }
 
 // The transfer after the class's part, of which b tells the list and `short` its question 7.

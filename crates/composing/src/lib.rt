@@ -64,7 +64,7 @@ fn map_at(
     ensures { λ r. ⌜ r ≡ image (plain invert (lentMap (now (store .entry)) (now (places .entry)) n mark) (now (path .entry))) ⌝ }
     ensures { λ r. ⌜ now (bytes .exit) ≡ imaged at (plain invert (lentMap (now (store .entry)) (now (places .entry)) n mark) (now (path .entry))) (now (bytes .entry)) ⌝ }
 {
-    let f = pairs::best_prefix(store, places, n, invert, path);
+    let f = serving::best_prefix(store, places, n, invert, path);
     if !f.found {
         return keep_at(mark, path, at, bytes);
     }
@@ -369,7 +369,7 @@ fn from_made(
     if slots.len() / 4 < n {
         return map_function::MapReply::Refused(path::Refusal::NoRoom);
     }
-    if !pairs::has_room(store, places, n, out.len()) {
+    if !listing::has_room(store, places, n, out.len()) {
         return map_function::MapReply::Refused(path::Refusal::NoRoom);
     }
     map_function::MapReply::Refused(path::Refusal::MadeTooLong)

@@ -12,7 +12,7 @@ use borrow.Author.Tests.{le-leb, lt-leb, leb-true, leb-false, lt-ltb, le-ltb, lt
 use Rattle.text.specs.Text.{Text, over, placed}
 use Rattle.text.proofs.BoolLaws.{and-l, and-r, and-no}
 use Rattle.text.proofs.WriteLaws.{rest-whole}
-use Rattle.pairs.proofs.WriteWays.{over-over}
+use Rattle.listing.proofs.WriteWays.{over-over}
 use Rattle.lines.specs.Lines.{Line}
 use Rattle.lines.specs.Blocks.{fed, said}
 use Rattle.lines.specs.Taking.{mostIn}

@@ -6,7 +6,7 @@ use native.Mathlib.Omega.{arith}
 use lib.ListN.{length}
 use borrow.Author.Tests.{le-leb, lt-leb}
 use Rattle.text.specs.Text.{Text, placed}
-use Rattle.pairs.proofs.WriteWays.{pair-text, pair-slots}
+use Rattle.listing.proofs.WriteWays.{pair-text, pair-slots}
 use Rattle.path.specs.declared.Refusal.{Refusal}
 use Rattle.path.specs.declared.Refusal.the-variants.{TooMany, NoRoom}
 use Rattle.path.specs.declared.Asked.{Asked}

@@ -13,7 +13,7 @@ use Rattle.text.proofs.WriteLaws.{placed-next}
 use Rattle.pairs.specs.Pair.{Pair, pair}
 use Rattle.pairs.specs.Places.{pairsIn, listText, listPlaces, endBytes, fourOf}
 use Rattle.pairs.proofs.ListLaws.{list-length, places-length, read-back}
-use Rattle.pairs.proofs.WriteWays.{list-snoc, places-snoc}
+use Rattle.listing.proofs.WriteWays.{list-snoc, places-snoc}
 use Rattle.path.specs.declared.Refusal.the-variants.{TooMany, NoRoom}
 use Rattle.path.specs.declared.Asked.{Asked}
 use Rattle.path.specs.declared.Asked.the-variants.{Passed, Refused as RefusedAsked}

@@ -68,7 +68,7 @@ pub fn add_pair(
     let m = at + source.len();
     text::write_at(source, at, bytes);
     text::write_at(target, m, bytes);
-    pairs::write_four(k.pairs, at, source.len(), m, target.len(), places);
+    listing::write_four(k.pairs, at, source.len(), m, target.len(), places);
     Added::Done(Opened {
         pairs: k.pairs + 1,
         bytes: m + target.len(),

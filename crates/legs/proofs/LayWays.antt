@@ -14,9 +14,10 @@ use borrow.Author.Tests.{eq-eqb, ne-eqb, le-leb, leb-true}
 use Rattle.text.specs.Text.{Text}
 use Rattle.text.proofs.BoolLaws.{and-l}
 use Rattle.pairs.specs.Pair.{Pair}
-use Rattle.pairs.specs.Places.{pairsIn, copied}
+use Rattle.pairs.specs.Places.{pairsIn}
+use Rattle.listing.specs.Lists.{copied}
 use Rattle.pairs.proofs.PlaceLaws.{pairsIn-length}
-use Rattle.pairs.proofs.CopyLaws.{list-same, pushed, copied-over}
+use Rattle.listing.proofs.CopyLaws.{list-same, pushed, copied-over}
 use Rattle.asking.specs.Asking.{Lent, lentList, listCounts}
 use Rattle.asking.specs.Made.{canMake, madeOf}
 use Rattle.asking.proofs.MadeLaws.{made-all, sound-made}

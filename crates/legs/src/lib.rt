@@ -131,7 +131,7 @@ fn copy_pairs(places: &[usize], n: usize, block: &mut [usize])
 {
     let mut i = 0;
     while i < n {
-        pairs::copy_pair(places, i, i, block);
+        listing::copy_pair(places, i, i, block);
         i += 1;
     }
 }

@@ -13,11 +13,12 @@ use borrow.Author.Tests.{le-leb}
 use Rattle.text.specs.Text.{Text, written, over, placed, equal}
 use Rattle.text.proofs.BoolLaws.{told, told-false, told-true, and-yes, and-no}
 use Rattle.pairs.specs.Pair.{Pair, pair}
-use Rattle.pairs.specs.Places.{textAt, keyAt, pairIn, pairsIn, listText, listPlaces, fourOf, copied}
+use Rattle.pairs.specs.Places.{textAt, keyAt, pairIn, pairsIn, listText, listPlaces, fourOf}
+use Rattle.listing.specs.Lists.{copied}
 use Rattle.pairs.proofs.PlaceLaws.{pairsIn-length}
 use Rattle.pairs.proofs.ListLaws.{read-back}
-use Rattle.pairs.proofs.WriteWays.{over-over, source-key, target-key}
-use Rattle.pairs.proofs.CopyLaws.{text-same, list-same, over-below, over-inside, copied-over, pushed}
+use Rattle.listing.proofs.WriteWays.{over-over, source-key, target-key}
+use Rattle.listing.proofs.CopyLaws.{text-same, list-same, over-below, over-inside, copied-over, pushed}
 use Rattle.maps.specs.Compose.{hasSource}
 use Rattle.maps.specs.Derive.{withoutSource, exchanged}
 use Rattle.making.specs.Calls.{allSame}

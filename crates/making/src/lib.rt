@@ -58,7 +58,7 @@ fn store_pair(s: &[u8], t: &[u8], store: &mut [u8], places: &mut [usize])
     let n = s.len();
     text::write_at(s, 0, store);
     text::write_at(t, n, store);
-    pairs::write_four(0, 0, n, n, t.len(), places);
+    listing::write_four(0, 0, n, n, t.len(), places);
 }
 
 // The map of one pair as it stands.
@@ -114,7 +114,7 @@ fn exchange(store: &[u8], places: &[usize], n: usize, other: &mut [usize])
     let mut i = 0;
     while i < n {
         let j = 4 * i;
-        pairs::write_four(
+        listing::write_four(
             i,
             places[j + 2],
             places[j + 3],
@@ -166,7 +166,7 @@ fn keep_other(
     if text::is_equal(pairs::key_at(store, places, i, false), source) {
         return w;
     }
-    pairs::copy_pair(places, i, w, kept);
+    listing::copy_pair(places, i, w, kept);
     w + 1
 }
 

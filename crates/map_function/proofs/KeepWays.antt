@@ -18,12 +18,14 @@ use Rattle.prefix.specs.Elements.{elements}
 use Rattle.prefix.specs.Join.{joined, replacePrefix}
 use Rattle.prefix.proofs.PrefixLaws.{replace-prefix}
 use Rattle.pairs.specs.Pair.{Pair}
-use Rattle.pairs.specs.Places.{keyAt, pairIn, pairsIn, copied}
-use Rattle.pairs.specs.Best.{best, serves, chosenIn}
-use Rattle.pairs.specs.declared.Found.{Found}
+use Rattle.pairs.specs.Places.{keyAt, pairIn, pairsIn}
+use Rattle.listing.specs.Lists.{copied}
+use Rattle.pairs.specs.Best.{best, serves}
+use Rattle.serving.specs.Search.{chosenIn}
+use Rattle.serving.specs.declared.Found.{Found}
 use Rattle.pairs.proofs.PlaceLaws.{chosen-best}
-use Rattle.pairs.proofs.WriteWays.{source-key, target-key}
-use Rattle.pairs.proofs.CopyLaws.{copied-over, pushed}
+use Rattle.listing.proofs.WriteWays.{source-key, target-key}
+use Rattle.listing.proofs.CopyLaws.{copied-over, pushed}
 use Rattle.maps.specs.Map.{Map, lentMap, source, target, chosenOut}
 use Rattle.maps.specs.New.{isRoots, anyRoots, viaPair, via, isText, implied, keep}
 use Rattle.maps.proofs.LentLaws.{serves-prefix, served-long, out-keys, ends-by}

@@ -16,9 +16,10 @@ use Rattle.text.proofs.BoolLaws.{and-no, told-false, told-true}
 use Rattle.prefix.specs.Elements.{elements}
 use Rattle.layer_offset.specs.declared.LayerOffset.{LayerOffset}
 use Rattle.pairs.specs.Pair.{Pair}
-use Rattle.pairs.specs.Places.{keyAt, pairIn, pairsIn, endBytes, listText, listPlaces, listRoom, listFit, listBytes, listSlots}
+use Rattle.pairs.specs.Places.{keyAt, pairIn, pairsIn, endBytes, listText, listPlaces}
+use Rattle.listing.specs.Lists.{listRoom, listFit, listBytes, listSlots}
 use Rattle.pairs.proofs.PlaceLaws.{pairsIn-length}
-use Rattle.pairs.proofs.WriteWays.{source-key}
+use Rattle.listing.proofs.WriteWays.{source-key}
 use Rattle.path.specs.declared.Refusal.{Refusal}
 use Rattle.path.specs.declared.Refusal.the-variants.{TooMany, NoRoom}
 use Rattle.asking.specs.Asking.{lentList}

@@ -7,7 +7,8 @@ use lib.ListN.{length}
 use Rattle.text.specs.Text.{Text, written}
 use Rattle.layer_offset.specs.declared.LayerOffset.{LayerOffset}
 use Rattle.pairs.specs.Pair.{Pair}
-use Rattle.pairs.specs.Places.{listText, listPlaces, listRoom}
+use Rattle.pairs.specs.Places.{listText, listPlaces}
+use Rattle.listing.specs.Lists.{listRoom}
 use Rattle.path.specs.declared.Refusal.{Refusal}
 use Rattle.path.specs.declared.Refusal.the-variants.{TooMany, NoRoom}
 use Rattle.asking.specs.Asking.{Lent}

@@ -160,7 +160,7 @@ fn fill_keys(store: &[u8], places: &[usize], n: usize, keys: &mut [usize]) -> us
 fn is_implied(store: &[u8], kept: &[usize], n: usize, mark: bool, s: &[u8], t: &[u8]) -> bool
     ensures { λ r. ⌜ r ≡ implied (lentMap (now (store .entry)) (now (kept .entry)) n mark) (record { source = now (s .entry); target = now (t .entry) }) ⌝ }
 {
-    let f = pairs::best_prefix(store, kept, n, false, s);
+    let f = serving::best_prefix(store, kept, n, false, s);
     if f.found {
         let old = pairs::key_at(store, kept, f.at, false);
         let new = pairs::key_at(store, kept, f.at, true);
@@ -201,7 +201,7 @@ fn keep_pair(
     if is_implied(store, kept, w, mark, s, t) {
         return w;
     }
-    pairs::copy_pair(places, i, w, kept);
+    listing::copy_pair(places, i, w, kept);
     w + 1
 }
 
@@ -298,13 +298,13 @@ pub fn from_parts(
     if slots.len() / 4 < n {
         return MapReply::Refused(path::Refusal::NoRoom);
     }
-    if !pairs::has_room(store, places, n, out.len()) {
+    if !listing::has_room(store, places, n, out.len()) {
         return MapReply::Refused(path::Refusal::NoRoom);
     }
     let marked = either(mark, any_roots(store, places, n));
     let mut kept = [0usize; 256];
     let w = canonicalize(store, places, n, marked, &mut kept);
-    pairs::write_list(store, &kept, w, out, slots);
+    listing::write_list(store, &kept, w, out, slots);
     MapReply::Made(MapFunction {
         count: w,
         has_root_identity: marked,
@@ -332,7 +332,7 @@ pub fn as_it_is(
     if places.len() / 4 < n {
         return MapReply::Refused(path::Refusal::TooMany);
     }
-    let fit = pairs::write_list(store, places, n, out, slots);
+    let fit = listing::write_list(store, places, n, out, slots);
     let text::Fit::Written(w) = fit else {
         return MapReply::Refused(path::Refusal::NoRoom);
     };

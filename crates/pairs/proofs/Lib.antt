@@ -1,9 +1,4 @@
-mod PlaceWays
-mod BestWays
-mod RivalWays
-pub mod RoomWays
-pub mod WriteWays
+pub mod PlaceWays
 pub mod BestLaws
 pub mod PlaceLaws
 pub mod ListLaws
-pub mod CopyLaws

@@ -22,7 +22,7 @@ use Rattle.prefix.proofs.JoinWays.{joined-length, separator-short, body-short}
 use Rattle.pairs.specs.Pair.{Pair, pair, sourceAt, targetAt, everyEnd, allShort}
 use Rattle.pairs.specs.Places.{keyAt, pairIn, pairsIn, fourOf}
 use Rattle.pairs.proofs.PlaceLaws.{pairsIn-source, pairsIn-target}
-use Rattle.pairs.proofs.WriteWays.{over-over, source-key, target-key}
+use Rattle.listing.proofs.WriteWays.{over-over, source-key, target-key}
 use Rattle.maps.specs.Derive.{rebased, anyTarget}
 use Rattle.composing.specs.Scratch.{Holds}
 use Rattle.composing.proofs.ScratchLaws.{holds-none, holds-more}

@@ -12,7 +12,8 @@ use Rattle.text.proofs.BoolLaws.{and-no, and-yes, told-true, told-false}
 use Rattle.grammar.specs.Legal.{legal}
 use Rattle.layer_offset.specs.declared.LayerOffset.{LayerOffset}
 use Rattle.pairs.specs.Pair.{Pair, pair, everyEnd, allShort}
-use Rattle.pairs.specs.Places.{pairIn, pairsIn, placesAll, fourOf, endBytes, listRoom}
+use Rattle.pairs.specs.Places.{pairIn, pairsIn, placesAll, fourOf, endBytes}
+use Rattle.listing.specs.Lists.{listRoom}
 use Rattle.pairs.proofs.PlaceLaws.{pairsIn-length}
 use Rattle.path.specs.declared.Refusal.{Refusal}
 use Rattle.path.specs.declared.Refusal.the-variants.{TooMany, NoRoom, MadeTooLong, MadeIllegal}

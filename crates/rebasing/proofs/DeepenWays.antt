@@ -27,7 +27,7 @@ use Rattle.pairs.specs.Places.{keyAt, pairIn, pairsIn, fourOf}
 use Rattle.pairs.specs.Best.{bestBy}
 use Rattle.pairs.proofs.BestLaws.{Best}
 use Rattle.pairs.proofs.PlaceLaws.{pairsIn-length, pairsIn-source, pairsIn-target, chosen-best, best-same}
-use Rattle.pairs.proofs.WriteWays.{source-key, target-key}
+use Rattle.listing.proofs.WriteWays.{source-key, target-key}
 use Rattle.path.specs.declared.Refusal.{Refusal}
 use Rattle.path.specs.declared.Refusal.the-variants.{TooLong}
 use Rattle.path.specs.declared.Asked.{Asked}

@@ -30,7 +30,7 @@ fn put_pair(s: &[u8], t: &[u8], n: usize, at: usize, bytes: &mut [u8], slots: &m
     let m = at + s.len();
     text::write_at(s, at, bytes);
     text::write_at(t, m, bytes);
-    pairs::write_four(n, at, s.len(), m, t.len(), slots);
+    listing::write_four(n, at, s.len(), m, t.len(), slots);
     m + t.len()
 }
 
@@ -140,7 +140,7 @@ fn from_ends(
     if slots.len() / 4 < n {
         return map_function::MapReply::Refused(path::Refusal::NoRoom);
     }
-    if !pairs::has_room(store, places, n, out.len()) {
+    if !listing::has_room(store, places, n, out.len()) {
         return map_function::MapReply::Refused(path::Refusal::NoRoom);
     }
     if !composing::are_short(store, places, n) {

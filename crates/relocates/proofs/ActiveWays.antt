@@ -11,9 +11,10 @@ use lib.ListN.{length, getD}
 use borrow.Author.Tests.{eq-eqb, ne-eqb}
 use Rattle.text.specs.Text.{Text, written}
 use Rattle.pairs.specs.Pair.{Pair, pairAt}
-use Rattle.pairs.specs.Places.{pairsIn, copied}
+use Rattle.pairs.specs.Places.{pairsIn}
+use Rattle.listing.specs.Lists.{copied}
 use Rattle.pairs.proofs.PlaceLaws.{pairsIn-at}
-use Rattle.pairs.proofs.CopyLaws.{pushed, copied-over}
+use Rattle.listing.proofs.CopyLaws.{pushed, copied-over}
 use Rattle.relocates.specs.Status.{statusByte, occurrence, statuses, active}
 use Rattle.relocates.proofs.MarkWays.{bytes-at}
 

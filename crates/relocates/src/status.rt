@@ -7,7 +7,8 @@ ghost use lib.Dec.{eqb};
 ghost use lib.ListN.{length};
 ghost use Rattle.text.specs.Text.{isNil, equal, written};
 ghost use Rattle.prefix.specs.Prefix.{hasPrefix};
-ghost use Rattle.pairs.specs.Places.{pairIn, pairsIn, copied};
+ghost use Rattle.pairs.specs.Places.{pairIn, pairsIn};
+ghost use Rattle.listing.specs.Lists.{copied};
 ghost use Rattle.pairs.specs.Pair.{pair};
 ghost use Rattle.asking.specs.Asking.{lentList};
 ghost use Rattle.asking.specs.Made.{madeOf};
@@ -213,7 +214,7 @@ fn keep_active(places: &[usize], i: usize, status: u8, kept: &mut [usize], w: us
     if status != 0 {
         return w;
     }
-    pairs::copy_pair(places, i, w, kept);
+    listing::copy_pair(places, i, w, kept);
     w + 1
 }
 

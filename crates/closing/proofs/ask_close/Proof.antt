@@ -1,4 +1,4 @@
-use Rattle.pairs.proofs.RoomWays.{left-fits}
+use Rattle.listing.proofs.RoomWays.{left-fits}
 use native.Mathlib.Omega.{arith}
 use Rattle.closing.proofs.CloseWays.{leg-few, ask-many, ask-start, ask-over, ask-short, ask-done}
 use borrow.Author.Needs.{needs}

@@ -1,6 +1,6 @@
 use native.Mathlib.Omega.{arith}
 use lib.ListN.{length-set}
-use Rattle.pairs.proofs.WriteWays.{four-stored}
+use Rattle.listing.proofs.WriteWays.{four-stored}
 use borrow.Author.Needs.{needs}
 use Rattle.composing.proofs.write_places.Statement.{statement}
 use Rattle.composing.proofs.write_places.Tie as tie

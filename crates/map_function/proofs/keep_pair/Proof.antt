@@ -6,7 +6,7 @@ use Rattle.map_function.proofs.keep_pair.Reads as reads
 use Rattle.map_function.proofs.keep_pair.Lts as lts
 use Rattle.map_function.proofs.is_implied.Reads as is-implied-reads
 use Rattle.map_function.proofs.is_roots.Reads as is-roots-reads
-use Rattle.pairs.proofs.copy_pair.Reads as copy-pair-reads
+use Rattle.listing.proofs.copy_pair.Reads as copy-pair-reads
 use Rattle.pairs.proofs.key_at.Reads as key-at-reads
 
 -- src/lib.rt:193:9

@@ -9,7 +9,7 @@ use Rattle.composing.proofs.implied.exchange_all.Statement.{statement}
 use Rattle.composing.proofs.implied.exchange_all.Tie as tie
 use Rattle.composing.proofs.implied.exchange_all.Reads as reads
 use Rattle.composing.proofs.implied.exchange_all.Lts as lts
-use Rattle.pairs.proofs.write_four.Reads as write-four-reads
+use Rattle.listing.proofs.write_four.Reads as write-four-reads
 
 abbrev Inv-loop : tie.InvT-loop
 Inv-loop places n slots₀ i₀ slots i = (i ≤ n) × Exchanged places slots i × (length slots ≡ length slots₀)

@@ -6,7 +6,7 @@ use Rattle.composing.proofs.implied.has_place.Statement.{statement}
 use Rattle.composing.proofs.implied.has_place.Tie as tie
 use Rattle.composing.proofs.implied.has_place.Reads as reads
 use Rattle.composing.proofs.implied.has_place.Lts as lts
-use Rattle.pairs.proofs.has_room.Reads as has-room-reads
+use Rattle.listing.proofs.has_room.Reads as has-room-reads
 
 -- src/implied.rt:191:25
 add-if1 : tie.Need-add-if1

@@ -2,7 +2,7 @@ use Rattle.relocates.proofs.ActiveWays.{active-left, active-kept}
 use borrow.Author.Needs.{needs}
 use Rattle.relocates.proofs.status.keep_active.Statement.{statement}
 use Rattle.relocates.proofs.status.keep_active.Tie as tie
-use Rattle.pairs.proofs.copy_pair.Reads as copy-pair-reads
+use Rattle.listing.proofs.copy_pair.Reads as copy-pair-reads
 
 returns : tie.Need-returns
 returns c = active-left _ _ _ _ _ (c .if1 .taken)

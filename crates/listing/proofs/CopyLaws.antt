@@ -1,0 +1,75 @@
+-- Copying the places of a pair. Assumes nothing.
+use mathlib.Core.Path.{_≡_, refl, sym, ap, _∙_}
+use mathlib.Core.Bool.{Bool, true, false, cond}
+use mathlib.Core.List.{List, [], _∷_, _++_}
+use Prim.Native.Nat.{ℕ, zero, suc, _+_, _*_, _/_, _≤_, _<_}
+use native.Mathlib.Omega.{arith}
+use lib.Dec.{leb}
+use borrow.Author.Tests.{le-leb, lt-leb}
+use lib.ListN.{length, getD, take, drop, List·getD-append}
+use lib.Seq.{getD-append-add, getD-take, length-take-le}
+use Rattle.text.specs.Text.{Text, over, placed}
+use Rattle.pairs.specs.Pair.{Pair}
+use Rattle.pairs.specs.Places.{inside, textAt, pairIn, pairsIn}
+use Rattle.listing.specs.Lists.{four, copied}
+
+-- a text depends on its own two numbers only
+pub text-same : (store : Text) (a b : List ℕ) (i j : ℕ) → getD a (2 * i) 0 ≡ getD b (2 * j) 0 → getD a (2 * i + 1) 0 ≡ getD b (2 * j + 1) 0
+    → textAt store a i ≡ textAt store b j
+unfolding textAt inside
+text-same store a b i j s n = rw (s, n) refl
+
+-- a pair on its four
+pub pair-same : (store : Text) (a b : List ℕ) (i j : ℕ) → ((k : ℕ) → k < 4 → getD a (4 * i + k) 0 ≡ getD b (4 * j + k) 0) → pairIn store a i ≡ pairIn store b j
+unfolding pairIn
+pair-same store a b i j h =
+    let e : 4 * i + 0 ≡ 2 * (2 * i) = omega arith in
+    let e′ : 4 * j + 0 ≡ 2 * (2 * j) = omega arith in
+    let f : 4 * i + 1 ≡ 2 * (2 * i) + 1 = omega arith in
+    let f′ : 4 * j + 1 ≡ 2 * (2 * j) + 1 = omega arith in
+    let g : 4 * i + 2 ≡ 2 * (2 * i + 1) = omega arith in
+    let g′ : 4 * j + 2 ≡ 2 * (2 * j + 1) = omega arith in
+    let k : 4 * i + 3 ≡ 2 * (2 * i + 1) + 1 = omega arith in
+    let k′ : 4 * j + 3 ≡ 2 * (2 * j + 1) + 1 = omega arith in
+    rw (
+      text-same store a b (2 * i) (2 * j) (rw (e, e′) at (h 0 (omega arith))) (rw (f, f′) at (h 1 (omega arith))),
+      text-same store a b (2 * i + 1) (2 * j + 1) (rw (g, g′) at (h 2 (omega arith))) (rw (k, k′) at (h 3 (omega arith))),
+    ) refl
+
+-- and a list on the numbers of its pairs
+pub list-same : (store : Text) (a b : List ℕ) (n : ℕ) → ((k : ℕ) → k < 4 * n → getD a k 0 ≡ getD b k 0) → pairsIn store a n ≡ pairsIn store b n
+unfolding pairsIn
+list-same store a b zero h = refl
+list-same store a b (suc n) h =
+    rw (list-same store a b n (λ k l. h k (omega arith)), pair-same store a b n n (λ k l. h (4 * n + k) (omega arith))) refl
+
+pub over-below : (at : ℕ) (v l : List ℕ) (k : ℕ) → at ≤ length l → k < at → getD (over at v l) k 0 ≡ getD l k 0
+over-below at v l k h m =
+    List·getD-append (take at l) (v ++ drop (at + length v) l) 0 k (rw (length-take-le at l h) m) ∙ getD-take at l k 0 m
+
+pub over-inside : (at : ℕ) (v l : List ℕ) (k : ℕ) → at ≤ length l → k < length v → getD (over at v l) (at + k) 0 ≡ getD v k 0
+over-inside at v l k h m =
+    (rw (length-take-le at l h) at (getD-append-add (take at l) (v ++ drop (at + length v) l) k 0)) ∙ List·getD-append v (drop (at + length v) l) 0 k m
+
+four-at : (places : List ℕ) (i k : ℕ) → k < 4 → getD (four places i) k 0 ≡ getD places (4 * i + k) 0
+four-at places i zero h = let z : 4 * i + 0 ≡ 4 * i = omega arith in rw z refl
+four-at places i (suc zero) h = refl
+four-at places i (suc (suc zero)) h = refl
+four-at places i (suc (suc (suc zero))) h = refl
+four-at places i (suc (suc (suc (suc k)))) h = absurd (omega arith)
+
+pub pushed : (store : Text) (places : List ℕ) (i : ℕ) (kept : List ℕ) (w : ℕ) → 4 * w + 4 ≤ length kept
+    → pairsIn store (over (4 * w) (four places i) kept) (suc w) ≡ pairsIn store kept w ++ pairIn store places i ∷ []
+unfolding pairsIn
+pushed store places i kept w h =
+    rw (
+      list-same store (over (4 * w) (four places i) kept) kept w (λ k l. over-below (4 * w) (four places i) kept k (omega arith) l),
+      pair-same store (over (4 * w) (four places i) kept) places w i (λ k l. over-inside (4 * w) (four places i) kept k (omega arith) l ∙ four-at places i k l),
+    ) refl
+
+-- where both are there, copying writes the four numbers
+pub copied-over : (places : List ℕ) (i w : ℕ) (slots : List ℕ) → 4 * i + 4 ≤ length places → 4 * w + 4 ≤ length slots
+    → copied places i w slots ≡ over (4 * w) (four places i) slots
+unfolding copied placed
+copied-over places i w slots h k =
+    rw (lt-leb (length places / 4) i (omega arith), le-leb (4 * w + 4) (length slots) k) refl

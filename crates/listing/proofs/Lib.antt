@@ -1,0 +1,3 @@
+pub mod RoomWays
+pub mod WriteWays
+pub mod CopyLaws

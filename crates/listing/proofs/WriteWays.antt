@@ -1,0 +1,214 @@
+-- What each way through `write_pair`, `append_list` and `write_list` gives. Assumes nothing.
+use mathlib.Core.Path.{_≡_, refl, sym, ap, _∙_}
+use mathlib.Core.Bool.{Bool, true, false, not, cond, _&&_}
+use mathlib.Core.List.{List, [], _∷_, _++_, append-assoc, append-nil}
+use Prim.Native.Nat.{ℕ, zero, suc, _+_, _*_, _-_, _/_, _≤_, _<_}
+use native.Mathlib.Nat.{zero-add}
+use native.Mathlib.Omega.{arith}
+use native.Mathlib.Numerals.{add-one}
+use lib.Dec.{leb}
+use lib.ListN.{length, take, drop, set, length-append, length-take, length-drop, take-append-drop}
+use lib.Seq.{sets, sets-eq, take-append-seam, take-append-add, drop-append-add, drop-drop, take-take, length-take-le}
+use borrow.Author.Tests.{le-leb, lt-leb, leb-true, leb-false}
+use Rattle.text.specs.Text.{Text, written, over, placed}
+use Rattle.text.proofs.BoolLaws.{and-no, told-false, told-true}
+use Rattle.text.specs.declared.Fit.{Fit}
+use Rattle.text.specs.declared.Fit.the-variants.{Written, Over}
+use Rattle.pairs.specs.Pair.{Pair}
+use Rattle.pairs.specs.Places.{textAt, keyAt, pairIn, pairsIn, fourOf, listText, listPlaces, endBytes}
+use Rattle.listing.specs.Lists.{four, copied, appendRoom, appendFit, appendBytes, appendSlots, listRoom, listFit, listBytes, listSlots}
+use Rattle.pairs.proofs.PlaceLaws.{pairsIn-length}
+use Rattle.pairs.proofs.ListLaws.{list-length, places-length}
+use Rattle.listing.proofs.RoomWays.{end-next, end-grows}
+
+-- four numbers stored one after the other
+pub four-stored : (l : List ℕ) (j a b c d : ℕ) → j + 4 ≤ length l
+    → set (set (set (set l j a) (j + 1) b) (j + 2) c) (j + 3) d ≡ over j (a ∷ b ∷ c ∷ d ∷ []) l
+four-stored l j a b c d h =
+    let v : List ℕ = a ∷ b ∷ c ∷ d ∷ [] in
+    let e : j + 1 ≡ suc j = omega arith in
+    let f : j + 2 ≡ suc (suc j) = omega arith in
+    let g : j + 3 ≡ suc (suc (suc j)) = omega arith in
+    rw (e, f, g) (sets-eq v l j h ∙ append-assoc (take j l) v (drop (j + 4) l))
+
+-- `write_four` and `copy_pair`
+module _ (w a b c d : ℕ) (slots : List ℕ) where
+  pub four-over : length slots / 4 ≤ w → slots ≡ placed (4 * w) (a ∷ b ∷ c ∷ d ∷ []) slots
+  unfolding placed
+  four-over h = rw (lt-leb (4 * w + 4) (length slots) (omega arith)) refl
+
+  pub four-fits : w < length slots / 4 → set (set (set (set slots (4 * w) a) (4 * w + 1) b) (4 * w + 2) c) (4 * w + 3) d ≡ placed (4 * w) (a ∷ b ∷ c ∷ d ∷ []) slots
+  unfolding placed
+  four-fits h = rw (le-leb (4 * w + 4) (length slots) (omega arith)) (four-stored slots (4 * w) a b c d (omega arith))
+
+module _ (places : List ℕ) (i w : ℕ) (slots : List ℕ) where
+  pub copy-none : length places / 4 ≤ i → slots ≡ copied places i w slots
+  unfolding copied
+  copy-none h = rw (le-leb (length places / 4) i h) refl
+
+  pub copy-some : i < length places / 4 → (slots′ : List ℕ) → slots′ ≡ placed (4 * w) (four places i) slots → slots′ ≡ copied places i w slots
+  unfolding copied
+  copy-some h slots′ e = rw (lt-leb (length places / 4) i h) e
+
+-- one text behind another, over memory
+module _ (at : ℕ) (s t out : Text) (h : at + (length s + length t) ≤ length out) where
+  first-length : length (take at out) ≡ at
+  first-length = length-take-le at out (omega arith)
+
+  once-length : length (over at s out) ≡ length out
+  once-length = simp (length-append, length-take, length-drop) (omega arith)
+
+  up-to-second : take (at + length s) (over at s out) ≡ take at out ++ s
+  up-to-second =
+      let e : take (length (take at out) + length s) (take at out ++ (s ++ drop (at + length s) out)) ≡ take at out ++ take (length s) (s ++ drop (at + length s) out)
+      = take-append-add (take at out) (s ++ drop (at + length s) out) (length s) in
+      (rw first-length at e) ∙ ap (λ (x : Text). take at out ++ x) (take-append-seam s (drop (at + length s) out))
+
+  behind-second : drop (at + length s + length t) (over at s out) ≡ drop (at + length s + length t) out
+  behind-second =
+      let e : drop (length (take at out) + (length s + length t)) (take at out ++ (s ++ drop (at + length s) out)) ≡ drop (length s + length t) (s ++ drop (at + length s) out)
+      = drop-append-add (take at out) (s ++ drop (at + length s) out) (length s + length t) in
+      let f : at + (length s + length t) ≡ at + length s + length t = omega arith in
+      (rw (first-length, f) at e) ∙ drop-append-add s (drop (at + length s) out) (length t) ∙ drop-drop (length t) (at + length s) out
+
+  over-next : over (at + length s) t (over at s out) ≡ over at (s ++ t) out
+  over-next =
+      let n : at + length (s ++ t) ≡ at + length s + length t = rw (length-append s t) (omega arith) in
+      rw (up-to-second, behind-second, n) (simp append-assoc)
+
+  pub over-over : placed (at + length s) t (placed at s out) ≡ over at (s ++ t) out
+  unfolding placed
+  over-over =
+      rw (le-leb (at + length s) (length out) (omega arith), once-length, le-leb (at + length s + length t) (length out) (omega arith)) over-next
+
+-- `write_pair`: s and t are the keys that were read
+module _ (at : ℕ) (s t ks kt : Text) (e : s ≡ ks) (f : t ≡ kt) where
+  pub pair-end : at + length s + length t ≡ at + (length ks + length kt)
+  pair-end = omega (arith, ap length e, ap length f)
+
+  pub pair-text : (out once twice : Text) → at + (length ks + length kt) ≤ length out → once ≡ placed at s out → twice ≡ placed (at + length s) t once
+      → twice ≡ over at (ks ++ kt) out
+  pair-text out once twice h o w =
+      w ∙ ap (λ (x : Text). placed (at + length s) t x) o ∙ over-over at s t out (omega (arith, ap length e, ap length f)) ∙ rw (e, f) refl
+
+  pub pair-slots : (l l′ : List ℕ) (i : ℕ) → 4 * i + 4 ≤ length l → l′ ≡ placed (4 * i) (at ∷ length s ∷ (at + length s) ∷ length t ∷ []) l → l′ ≡ over (4 * i) (fourOf at ks kt) l
+  unfolding placed
+  pair-slots l l′ i h w = w ∙ rw (le-leb (4 * i + 4) (length l) h, e, f) refl
+
+-- a list and one pair more
+pub list-snoc : (l : List Pair) (x : Pair) → listText (l ++ x ∷ []) ≡ listText l ++ (x .source ++ x .target)
+unfolding listText
+list-snoc [] x = simp append-nil
+list-snoc (y ∷ l) x = rw (list-snoc l x) (simp append-assoc)
+
+pub places-snoc : (at : ℕ) (l : List Pair) (x : Pair) → listPlaces at (l ++ x ∷ []) ≡ listPlaces at l ++ fourOf (at + endBytes l) (x .source) (x .target)
+unfolding listPlaces endBytes
+places-snoc at [] x = let z : at + 0 ≡ at = omega arith in rw z refl
+places-snoc at (y ∷ l) x =
+    let n : ℕ = at + length (y .source) + length (y .target) in
+    let z : n + endBytes l ≡ at + (length (y .source) + length (y .target) + endBytes l) = omega arith in
+    rw (places-snoc n l x, z) refl
+
+over-written : (t s out : Text) → over (length t) s (written t out) ≡ written (t ++ s) out
+over-written t s out = simp (take-append-seam, drop-append-add, drop-drop, length-append, append-assoc)
+
+-- `append_list`: behind `start` bytes of the memory o
+module _ (store : Text) (places : List ℕ) where
+  pub source-key : (i : ℕ) → (pairIn store places i) .source ≡ keyAt store places false i
+  unfolding pairIn
+  source-key i = let z : 2 * i ≡ 2 * i + 0 = omega arith in ap (λ (j : ℕ). textAt store places j) z
+
+  pub target-key : (i : ℕ) → (pairIn store places i) .target ≡ keyAt store places true i
+  unfolding pairIn
+  target-key i = refl
+
+  abbrev first : ℕ → List Pair
+  first i = pairsIn store places i
+
+  abbrev ends : ℕ → ℕ
+  ends i = length (keyAt store places false i) + length (keyAt store places true i)
+
+  text-next : (i : ℕ) → listText (first (i + 1)) ≡ listText (first i) ++ (keyAt store places false i ++ keyAt store places true i)
+  unfolding pairsIn
+  text-next i = rw (add-one i) (list-snoc (first i) (pairIn store places i) ∙ rw (source-key i, target-key i) refl)
+
+  slots-next : (start i : ℕ) → listPlaces start (first (i + 1)) ≡ listPlaces start (first i) ++ fourOf (start + endBytes (first i)) (keyAt store places false i) (keyAt store places true i)
+  unfolding pairsIn
+  slots-next start i = rw (add-one i) (places-snoc start (first i) (pairIn store places i) ∙ rw (source-key i, target-key i) refl)
+
+  -- before the first pair
+  pub at-begin : (start : ℕ) → start ≡ start + endBytes (first 0)
+  unfolding pairsIn endBytes
+  at-begin start = omega arith
+
+  pub text-begin : (start : ℕ) (o : Text) → o ≡ over start (listText (first 0)) o
+  unfolding pairsIn listText
+  text-begin start o = let z : start + 0 ≡ start = omega arith in rw z (sym (take-append-drop start o))
+
+  pub slots-begin : (start : ℕ) (o : List ℕ) → o ≡ written (listPlaces start (first 0)) o
+  unfolding pairsIn listPlaces
+  slots-begin start o = refl
+
+  pub list-fits : (n start room : ℕ) → start ≤ room → (b : Bool) → b ≡ leb (endBytes (first n)) (room - start) → not b ≡ false → start + endBytes (first n) ≤ room
+  list-fits n start room g b h k = omega (arith, g, leb-true (endBytes (first n)) (room - start) (told-true h k))
+
+  module _ (start i at : ℕ) (e : at ≡ start + endBytes (first i)) where
+    pub list-at : (end : ℕ) → end ≡ at + ends i → end ≡ start + endBytes (first (i + 1))
+    list-at end f = rw (add-one i) (omega (arith, end-next store places i, e, f))
+
+    pub list-slots : (o slots slots′ : List ℕ) → slots ≡ written (listPlaces start (first i)) o
+        → slots′ ≡ over (4 * i) (fourOf at (keyAt store places false i) (keyAt store places true i)) slots → slots′ ≡ written (listPlaces start (first (i + 1))) o
+    list-slots o slots slots′ w f =
+        let m : 4 * i ≡ length (listPlaces start (first i)) = sym (places-length start (first i) ∙ ap (λ (k : ℕ). 4 * k) (pairsIn-length store places i)) in
+        f ∙ rw (w, e, m, slots-next start i) (over-written (listPlaces start (first i)) (fourOf (start + endBytes (first i)) (keyAt store places false i) (keyAt store places true i)) o)
+
+    module _ (n : ℕ) (l : i < n) where
+      pub list-room : (room k : ℕ) → start + endBytes (first n) ≤ room → k ≡ room → at + ends i ≤ k
+      list-room room k f z = omega (arith, f, z, e, end-next store places i, end-grows store places n (suc i) l)
+
+      pub list-text : (o out out′ : Text) → start + endBytes (first n) ≤ length o → out ≡ over start (listText (first i)) o
+          → out′ ≡ over at (keyAt store places false i ++ keyAt store places true i) out → out′ ≡ over start (listText (first (i + 1))) o
+      list-text o out out′ g w f =
+          let both : Text = keyAt store places false i ++ keyAt store places true i in
+          let k : length both ≡ ends i = length-append (keyAt store places false i) (keyAt store places true i) in
+          let z : at ≡ start + length (listText (first i)) = e ∙ ap (λ (m : ℕ). start + m) (sym (list-length (first i))) in
+          f ∙ rw (w, z, text-next i) (over-next start (listText (first i)) both o (omega (arith, z, k, list-room (length o) (length o) g refl)))
+
+  module _ (n start : ℕ) (o : Text) (p : List ℕ) where
+    abbrev list : List Pair
+    list = first n
+
+    abbrev Leaves : Fit → Text → List ℕ → Type 0
+    Leaves r out slots = (r ≡ appendFit start list o p) × ((out ≡ appendBytes start list o p) × (slots ≡ appendSlots start list o p))
+
+    short : appendRoom start list o p ≡ false → Leaves Over o p
+    unfolding appendFit appendBytes appendSlots
+    short h = rw h (refl, (refl, refl))
+
+    pub list-few : length p / 4 < n → Leaves Over o p
+    unfolding appendRoom
+    list-few h = short (rw (pairsIn-length store places n, lt-leb n (length p / 4) h) (and-no (leb (start + endBytes list) (length o))))
+
+    full : length o < start + endBytes list → Leaves Over o p
+    unfolding appendRoom
+    full h = short (rw (lt-leb (start + endBytes list) (length o) h))
+
+    pub list-outside : length o < start → Leaves Over o p
+    list-outside h = full (omega (arith, h))
+
+    pub list-full : start ≤ length o → (b : Bool) → b ≡ leb (endBytes list) (length o - start) → not b ≡ true → Leaves Over o p
+    list-full g b h k = full (omega (arith, g, leb-false (endBytes list) (length o - start) (told-false h k)))
+
+    pub list-done : n ≤ length p / 4 → start + endBytes list ≤ length o → (i : ℕ) (out : Text) (slots : List ℕ) → n ≤ i → i ≤ n → out ≡ over start (listText (first i)) o
+        → slots ≡ written (listPlaces start (first i)) p → Leaves (Written n) out slots
+    unfolding appendRoom appendFit appendBytes appendSlots
+    list-done few fits i out slots l m w v =
+        let z : i ≡ n = omega arith in
+        rw (pairsIn-length store places n, le-leb (start + endBytes list) (length o) fits, le-leb n (length p / 4) few) (refl, (w ∙ rw z refl, v ∙ rw z refl))
+
+-- `write_list`: from the beginning on
+module _ (l : List Pair) (o : Text) (p : List ℕ) where
+  pub list-first : (r : Fit) (out : Text) (slots : List ℕ) → (r ≡ appendFit 0 l o p) × ((out ≡ appendBytes 0 l o p) × (slots ≡ appendSlots 0 l o p))
+      → (r ≡ listFit l o p) × ((out ≡ listBytes l o p) × (slots ≡ listSlots l o p))
+  unfolding appendRoom appendFit appendBytes appendSlots listRoom listFit listBytes listSlots
+  list-first r out slots h = rw (zero-add (endBytes l), zero-add (length (listText l))) at h

@@ -1,0 +1,152 @@
+// Lists of pairs written to lent memory, one behind the other. Every public function is defined for any bytes
+// and any numbers.
+ghost use mathlib.Core.Path.{_≡_};
+ghost use mathlib.Core.Bool.{true, false};
+ghost use mathlib.Core.List.{[], _∷_, _++_};
+ghost use lib.ListN.{length};
+ghost use Prim.Native.Nat.{_+_, _*_, _≤_};
+ghost use Rattle.text.specs.Text.{over, placed};
+ghost use lib.Dec.{leb};
+ghost use Rattle.pairs.specs.Places.{pairsIn, endBytes, fourOf, keyAt};
+ghost use Rattle.listing.specs.Lists.{copied, roomLeft, appendFit, appendBytes, appendSlots, listFit, listBytes, listSlots};
+
+// What is left of a room for bytes.
+pub enum Room {
+    Left(usize),
+    Over,
+}
+
+// What is left of the room behind the first n pairs, one behind the other.
+pub fn room_left(store: &[u8], places: &[usize], n: usize, room: usize) -> Room
+    ensures { λ r. ⌜ r ≡ roomLeft (pairsIn (now (store .entry)) (now (places .entry)) n) room ⌝ }
+{
+    let mut left = room;
+    let mut i = 0;
+    while i < n {
+        let s = pairs::key_at(store, places, i, false).len();
+        if left < s {
+            return Room::Over;
+        }
+        left -= s;
+        let t = pairs::key_at(store, places, i, true).len();
+        if left < t {
+            return Room::Over;
+        }
+        left -= t;
+        i += 1;
+    }
+    Room::Left(left)
+}
+
+// Is the lent memory enough for the first n pairs, one behind the other?
+pub fn has_room(store: &[u8], places: &[usize], n: usize, room: usize) -> bool
+    ensures { λ r. ⌜ r ≡ leb (endBytes (pairsIn (now (store .entry)) (now (places .entry)) n)) room ⌝ }
+{
+    match room_left(store, places, n, room) {
+        Room::Left(_) => true,
+        Room::Over => false,
+    }
+}
+
+// Writes the four numbers of pair w, where the slice has room for them.
+pub fn write_four(w: usize, a: usize, b: usize, c: usize, d: usize, slots: &mut [usize])
+    ensures { λ _. ⌜ now (slots .exit) ≡ placed (4 * w) (a ∷ b ∷ c ∷ d ∷ []) (now (slots .entry)) ⌝ }
+{
+    if slots.len() / 4 <= w {
+        return;
+    }
+    let j = 4 * w;
+    slots[j] = a;
+    slots[j + 1] = b;
+    slots[j + 2] = c;
+    slots[j + 3] = d;
+}
+
+// Copies the numbers of pair i over those of pair w in another slice.
+pub fn copy_pair(places: &[usize], i: usize, w: usize, slots: &mut [usize])
+    ensures { λ _. ⌜ now (slots .exit) ≡ copied (now (places .entry)) i w (now (slots .entry)) ⌝ }
+{
+    if places.len() / 4 <= i {
+        return;
+    }
+    let j = 4 * i;
+    write_four(
+        w,
+        places[j],
+        places[j + 1],
+        places[j + 2],
+        places[j + 3],
+        slots,
+    );
+}
+
+// Writes pair i behind `at` bytes, and its four numbers; the place behind it.
+fn write_pair(
+    store: &[u8],
+    places: &[usize],
+    i: usize,
+    at: usize,
+    out: &mut [u8],
+    slots: &mut [usize],
+) -> usize
+    requires { ⌜ at + (length (keyAt (now store) (now places) false i) + length (keyAt (now store) (now places) true i)) ≤ length (now out) ⌝ }
+    requires { ⌜ 4 * i + 4 ≤ length (now slots) ⌝ }
+    ensures { λ r. ⌜ r ≡ at + (length (keyAt (now (store .entry)) (now (places .entry)) false i) + length (keyAt (now (store .entry)) (now (places .entry)) true i)) ⌝ }
+    ensures { λ r. ⌜ now (out .exit) ≡ over at (keyAt (now (store .entry)) (now (places .entry)) false i ++ keyAt (now (store .entry)) (now (places .entry)) true i) (now (out .entry)) ⌝ }
+    ensures { λ r. ⌜ now (slots .exit) ≡ over (4 * i) (fourOf at (keyAt (now (store .entry)) (now (places .entry)) false i) (keyAt (now (store .entry)) (now (places .entry)) true i)) (now (slots .entry)) ⌝ }
+{
+    let s = pairs::key_at(store, places, i, false);
+    let t = pairs::key_at(store, places, i, true);
+    let m = at + s.len();
+    write_four(i, at, s.len(), m, t.len(), slots);
+    text::write_at(s, at, out);
+    text::write_at(t, m, out);
+    m + t.len()
+}
+
+// Writes the first n pairs behind the first `at` bytes, one behind the other, and their places; nothing
+// where the memory is too short.
+pub fn append_list(
+    store: &[u8],
+    places: &[usize],
+    n: usize,
+    at: usize,
+    out: &mut [u8],
+    slots: &mut [usize],
+) -> text::Fit
+    ensures { λ r. ⌜ r ≡ appendFit at (pairsIn (now (store .entry)) (now (places .entry)) n) (now (out .entry)) (now (slots .entry)) ⌝ }
+    ensures { λ r. ⌜ now (out .exit) ≡ appendBytes at (pairsIn (now (store .entry)) (now (places .entry)) n) (now (out .entry)) (now (slots .entry)) ⌝ }
+    ensures { λ r. ⌜ now (slots .exit) ≡ appendSlots at (pairsIn (now (store .entry)) (now (places .entry)) n) (now (out .entry)) (now (slots .entry)) ⌝ }
+{
+    if slots.len() / 4 < n {
+        return text::Fit::Over;
+    }
+    if out.len() < at {
+        return text::Fit::Over;
+    }
+    if !has_room(store, places, n, out.len() - at) {
+        return text::Fit::Over;
+    }
+    let mut end = at;
+    let mut i = 0;
+    while i < n {
+        end = write_pair(store, places, i, end, out, slots);
+        i += 1;
+    }
+    text::Fit::Written(n)
+}
+
+// The same from the beginning on.
+pub fn write_list(
+    store: &[u8],
+    places: &[usize],
+    n: usize,
+    out: &mut [u8],
+    slots: &mut [usize],
+) -> text::Fit
+    ensures { λ r. ⌜ r ≡ listFit (pairsIn (now (store .entry)) (now (places .entry)) n) (now (out .entry)) (now (slots .entry)) ⌝ }
+    ensures { λ r. ⌜ now (out .exit) ≡ listBytes (pairsIn (now (store .entry)) (now (places .entry)) n) (now (out .entry)) (now (slots .entry)) ⌝ }
+    ensures { λ r. ⌜ now (slots .exit) ≡ listSlots (pairsIn (now (store .entry)) (now (places .entry)) n) (now (out .entry)) (now (slots .entry)) ⌝ }
+{
+    append_list(store, places, n, 0, out, slots)
+}

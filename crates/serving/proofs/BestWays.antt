@@ -1,0 +1,315 @@
+-- What each way through `does_serve`, `choose`, `consider` and `best_prefix` gives. Assumes nothing.
+use mathlib.Core.Path.{_≡_, refl, sym, ap, _∙_}
+use mathlib.Core.Logic.{_≢_}
+use mathlib.Core.Bool.{Bool, true, false, not, cond, _||_, false≢true}
+use mathlib.Core.List.{List, [], _∷_, _++_}
+use mathlib.Core.Option.{Option, none, some}
+use Prim.Native.Nat.{ℕ, zero, suc, _+_, _*_, _-_, _/_, _≤_, _<_}
+use native.Mathlib.Numerals.{add-one}
+use native.Mathlib.Omega.{arith}
+use native.Mathlib.Decide.{ℕ-discrete}
+use lib.Dec.{eqb, leb}
+use lib.ListN.{length, getD, take, drop, length-drop, take-append-drop}
+use lib.Seq.{length-take-le, take-append-seam, take-append-le, getD-take, getD-drop}
+use borrow.Author.Tests.{ne-eqb, le-leb, lt-leb, leb-true, leb-false}
+use Rattle.text.specs.Text.{Text, isNil}
+use Rattle.text.proofs.BoolLaws.{and-r, told-false, told-true}
+use Rattle.text.proofs.TextLaws.{starts-at}
+use Rattle.prefix.specs.Prefix.{hasPrefix}
+use Rattle.prefix.specs.Elements.{elements}
+use Rattle.prefix.proofs.CountLaws.{count-more}
+use Rattle.prefix.proofs.PrefixLaws.{prefix-rest, prefix-starts, prefix-long}
+use Rattle.serving.specs.declared.Kept.{Kept}
+use Rattle.serving.specs.Search.{cut, keysHeld, least, chosenIn, outdoes, considered}
+use Rattle.pairs.specs.Places.{textAt, keyAt}
+use Rattle.pairs.specs.Best.{serves, best}
+use Rattle.pairs.proofs.PlaceWays.{text-missing}
+
+pub serves-empty : (p k : Text) → length k ≡ 0 → false ≡ serves p k
+unfolding serves
+serves-empty p [] l = refl
+serves-empty p (a ∷ k) l = absurd (omega arith)
+
+pub serves-prefix : (p k : Text) (r : Bool) → length k ≢ 0 → r ≡ hasPrefix p k → r ≡ serves p k
+unfolding serves
+serves-prefix p [] r l h = absurd (l refl)
+serves-prefix p (a ∷ k) r l h = h
+
+-- of two prefixes of one path the longer begins with the other ..
+prefix-of : (p s k : Text) → hasPrefix p s ≡ true → hasPrefix p k ≡ true → length s ≤ length k → k ≡ s ++ drop (length s) k
+prefix-of p s k h g l =
+    let e : take (length s) p ≡ s = rw (prefix-rest p s h .0) (take-append-seam s (drop (length s) p)) in
+    let d : take (length s) p ≡ take (length s) k = rw (prefix-rest p k g .0) (take-append-le (length s) k (drop (length k) p) l) in
+    sym (take-append-drop (length s) k) ∙ ap (λ (x : Text). x ++ drop (length s) k) (sym d ∙ e)
+
+-- .. and so has no fewer elements
+no-fewer : (p s k : Text) → hasPrefix p s ≡ true → hasPrefix p k ≡ true → length s ≤ length k → elements s ≤ elements k
+no-fewer p s k h g l = rw (prefix-of p s k h g l) (count-more true s (drop (length s) k))
+
+served : (p k : Text) → serves p k ≡ true → hasPrefix p k ≡ true
+unfolding serves
+served p k h = and-r (not (isNil k)) (hasPrefix p k) h
+
+-- `outdoes` decides as the elements do
+decides : (p s k : Text) → hasPrefix p s ≡ true → hasPrefix p k ≡ true → outdoes p (length s) k ≡ leb (elements s) (elements k)
+unfolding outdoes
+decides p s k h g = go (leb (length s) (length k)) refl
+  where
+    go : (b : Bool) → leb (length s) (length k) ≡ b → (b || leb (elements (take (length s) p)) (elements k)) ≡ leb (elements s) (elements k)
+    go true e = sym (le-leb (elements s) (elements k) (no-fewer p s k h g (leb-true (length s) (length k) e)))
+    go false e = rw (prefix-rest p s h .0, take-append-seam s (drop (length s) p))
+
+-- `choose`
+module _ (f : Kept) (p k : Text) (i : ℕ) where
+  other : serves p k ≡ false → f ≡ considered f p k i
+  unfolding considered
+  other h = rw h
+
+  pub choose-other : (b : Bool) → b ≡ serves p k → not b ≡ true → f ≡ considered f p k i
+  choose-other b h l = other (told-false h l)
+
+  module _ (b : Bool) (h : b ≡ serves p k) (l : not b ≡ false) where
+    pub choose-longer : f .bytes ≤ length k → record { at = i; bytes = length k } ≡ considered f p k i
+    unfolding considered outdoes
+    choose-longer m = rw (told-true h l, le-leb (f .bytes) (length k) m)
+
+    module _ (m : length k < f .bytes) (x y : ℕ) (e : x ≡ elements k) (d : y ≡ elements (take (f .bytes) p)) where
+      pub choose-fewer : x < y → f ≡ considered f p k i
+      unfolding considered outdoes
+      choose-fewer n = rw (told-true h l, lt-leb (f .bytes) (length k) m, ← e, ← d, lt-leb y x n)
+
+      pub choose-more : y ≤ x → record { at = i; bytes = length k } ≡ considered f p k i
+      unfolding considered outdoes
+      choose-more n = rw (told-true h l, lt-leb (f .bytes) (length k) m, ← e, ← d, le-leb y x n)
+
+-- `lesser`
+pub least-first : (a b : ℕ) → a ≤ b → a ≡ least a b
+least-first a b h = rw (le-leb a b h)
+
+pub least-second : (a b : ℕ) → b < a → b ≡ least a b
+least-second a b h = rw (lt-leb a b h)
+
+pub least-left : (m a b : ℕ) → m ≡ least a b → m ≤ a
+least-left m a b h = rw h (go (leb a b) refl)
+  where
+    go : (c : Bool) → leb a b ≡ c → cond c a b ≤ a
+    go true e = omega arith
+    go false e = omega (arith, leb-false a b e)
+
+pub least-right : (m a b : ℕ) → m ≡ least a b → m ≤ b
+least-right m a b h = rw h (go (leb a b) refl)
+  where
+    go : (c : Bool) → leb a b ≡ c → cond c a b ≤ b
+    go true e = leb-true a b e
+    go false e = omega arith
+
+below-one : (a b n : ℕ) → least a b < n → n ≤ a → b < n
+below-one a b n l m = go (leb a b) refl
+  where
+    go : (c : Bool) → leb a b ≡ c → b < n
+    go true e = absurd (omega (arith, rw e at l))
+    go false e = rw e at l
+
+-- `consider`
+refused : (p k : Text) → (serves p k ≡ true → ⊥) → serves p k ≡ false
+refused p k h = go (serves p k) refl
+  where
+    go : (b : Bool) → serves p k ≡ b → b ≡ false
+    go true e = absurd (h e)
+    go false e = refl
+
+-- a text that is cut from the store, refused by its place, its length or its last byte
+module _ (p store : Text) (start n : ℕ) where
+  outside : length store < start + n → serves p (cut store start n) ≡ false
+  unfolding cut
+  outside h = rw (lt-leb (start + n) (length store) h) (sym (serves-empty p [] refl))
+
+  pub cut-none : n ≡ 0 → serves p (cut store start n) ≡ false
+  unfolding cut
+  cut-none h = rw h (go (leb (start + 0) (length store)))
+    where
+      go : (b : Bool) → serves p (cond b (take 0 (drop start store)) []) ≡ false
+      go true = sym (serves-empty p [] refl)
+      go false = sym (serves-empty p [] refl)
+
+  module _ (h : start + n ≤ length store) where
+    part : cut store start n ≡ take n (drop start store)
+    unfolding cut
+    part = rw (le-leb (start + n) (length store) h)
+
+    part-length : length (take n (drop start store)) ≡ n
+    part-length = length-take-le n (drop start store) (rw (length-drop start store) (omega arith))
+
+    inside-long : length p < n → serves p (cut store start n) ≡ false
+    inside-long l =
+        rw part
+        (refused p (take n (drop start store)) (λ s. omega (arith, part-length, prefix-long p (take n (drop start store)) (served p (take n (drop start store)) s))))
+
+  pub cut-long : (limit : ℕ) → limit ≡ least (length store) (length p) → limit < n → serves p (cut store start n) ≡ false
+  cut-long limit e l = go (leb (start + n) (length store)) refl
+    where
+      go : (b : Bool) → leb (start + n) (length store) ≡ b → serves p (cut store start n) ≡ false
+      go true h =
+          let k : start + n ≤ length store = leb-true (start + n) (length store) h in
+          inside-long k (below-one (length store) (length p) n (rw e at l) (omega arith))
+      go false h = outside (leb-false (start + n) (length store) h)
+
+  pub cut-outside : (limit : ℕ) → limit ≤ length store → n ≤ limit → length store - n < start → serves p (cut store start n) ≡ false
+  cut-outside limit k l h = outside (omega arith)
+
+  module _ (limit : ℕ) (k : limit ≤ length store) (z : n ≢ 0) (l : n ≤ limit) (h : start ≤ length store - n) where
+    within : start + n ≤ length store
+    within = omega arith
+
+    pub cut-differs : getD store (start + n - 1) 0 ≢ getD p (n - 1) 0 → serves p (cut store start n) ≡ false
+    cut-differs d = rw (part within) (refused p key (λ s. d (same s)))
+      where
+        key : Text
+        key = take n (drop start store)
+
+        same : serves p key ≡ true → getD store (start + n - 1) 0 ≡ getD p (n - 1) 0
+        same s =
+            let m : start + n - 1 ≡ start + (n - 1) = omega (arith, z) in
+            let g : getD p (n - 1) 0 ≡ getD key (n - 1) 0
+            = starts-at key p (n - 1) (rw (part-length within) (omega (arith, z))) (prefix-starts p key (served p key s)) in
+            rw (m, g, getD-take n (drop start store) (n - 1) 0 (omega (arith, z)), getD-drop start store (n - 1) 0)
+
+    pub cut-is : take (start + n - start) (drop start store) ≡ cut store start n
+    cut-is = let m : start + n - start ≡ n = omega arith in rw (part within, m)
+
+module _ (f : Kept) (p store : Text) (start n i : ℕ) where
+  pub consider-none : n ≡ 0 → f ≡ considered f p (cut store start n) i
+  consider-none h = other f p (cut store start n) i (cut-none p store start n h)
+
+  pub consider-long : (limit : ℕ) → limit ≡ least (length store) (length p) → limit < n → f ≡ considered f p (cut store start n) i
+  consider-long limit e l = other f p (cut store start n) i (cut-long p store start n limit e l)
+
+  pub consider-outside : (limit : ℕ) → limit ≤ length store → n ≤ limit → length store - n < start → f ≡ considered f p (cut store start n) i
+  consider-outside limit k l h = other f p (cut store start n) i (cut-outside p store start n limit k l h)
+
+  module _ (limit : ℕ) (k : limit ≤ length store) (z : n ≢ 0) (l : n ≤ limit) (h : start ≤ length store - n) where
+    pub consider-differs : getD store (start + n - 1) 0 ≢ getD p (n - 1) 0 → f ≡ considered f p (cut store start n) i
+    consider-differs d = other f p (cut store start n) i (cut-differs p store start n limit k z l h d)
+
+    pub consider-chosen : (r : Kept) → r ≡ considered f p (take (start + n - start) (drop start store)) i → r ≡ considered f p (cut store start n) i
+    consider-chosen r e = rw (cut-is p store start n limit k z l h) at e
+
+-- `keys_held`
+pub held-targets : (places : List ℕ) (n m : ℕ) (invert : Bool) → invert ≡ true → m ≡ least n (length places / 2 / 2) → m ≡ least n (keysHeld places invert)
+unfolding keysHeld
+held-targets places n m invert h e = let z : length places / 2 + 0 ≡ length places / 2 = omega arith in rw (h, z) e
+
+pub held-sources : (places : List ℕ) (n m : ℕ) (invert : Bool) → invert ≡ false → m ≡ least n ((length places / 2 + 1) / 2) → m ≡ least n (keysHeld places invert)
+unfolding keysHeld
+held-sources places n m invert h e = rw h e
+
+pub offset-target : (invert : Bool) → invert ≡ true → 2 ≡ 2 * cond invert 1 0
+offset-target invert h = rw h
+
+pub offset-source : (invert : Bool) → invert ≡ false → 0 ≡ 2 * cond invert 1 0
+offset-source invert h = rw h
+
+-- what the loop keeps: what was found is what `best` chooses of the first i keys
+abbrev keptIn : Kept → Option ℕ
+keptIn f = cond (eqb (f .bytes) 0) none (some (f .at))
+
+pub record Holds (p : Text) (key : ℕ → Text) (i : ℕ) (f : Kept) : Type 0 where
+  pub chosen : keptIn f ≡ best p key i
+  pub kept : f .bytes ≢ 0 → (f .bytes ≡ length (key (f .at))) × (serves p (key (f .at)) ≡ true)
+  pub short : f .bytes ≤ length p
+
+pub holds-none : (p : Text) (key : ℕ → Text) → Holds p key 0 (record { at = 0; bytes = 0 })
+unfolding best
+holds-none p key = record { chosen = refl; kept = λ h. absurd (h refl); short = omega arith }
+
+-- a key that serves is not empty
+served-long : (p k : Text) → serves p k ≡ true → length k ≢ 0
+served-long p k s e = false≢true (serves-empty p k e ∙ s)
+
+module _ (p : Text) (key : ℕ → Text) (i : ℕ) where
+  now-best : serves p (key i) ≡ true → some i ≡ best p key (suc i) → Holds p key (suc i) (record { at = i; bytes = length (key i) })
+  now-best s e = record {
+    chosen = rw (ne-eqb (length (key i)) 0 (served-long p (key i) s)) e;
+    kept = λ z. (refl, s);
+    short = prefix-long p (key i) (served p (key i) s);
+  }
+
+  compared : (at e : ℕ) (c : Bool) → e ≢ 0 → Holds p key i (record { at = at; bytes = e }) → serves p (key i) ≡ true → outdoes p e (key i) ≡ c
+      → Holds p key (suc i) (cond c (record { at = i; bytes = length (key i) }) (record { at = at; bytes = e }))
+  unfolding best
+  compared at e c z h s t =
+      let k : (e ≡ length (key at)) × (serves p (key at) ≡ true) = h .kept z in
+      go c (sym (decides p (key at) (key i) (served p (key at) (k .1)) (served p (key i) s)) ∙ rw (← (k .0)) t)
+    where
+      found : some at ≡ best p key i
+      found = rw (ne-eqb e 0 z) at (h .chosen)
+
+      go : (c : Bool) → leb (elements (key at)) (elements (key i)) ≡ c
+          → Holds p key (suc i) (cond c (record { at = i; bytes = length (key i) }) (record { at = at; bytes = e }))
+      go true d = now-best s (rw (s, ← found, d))
+      go false d = record { chosen = rw (ne-eqb e 0 z, s, ← found, d); kept = h .kept; short = h .short }
+
+  cases : (at e : ℕ) (b : Bool) → Holds p key i (record { at = at; bytes = e }) → serves p (key i) ≡ b
+      → Holds p key (suc i) (considered (record { at = at; bytes = e }) p (key i) i)
+  unfolding best considered outdoes
+  cases at e true h s = elim (ℕ-discrete e 0) [
+    | yes z ↦ rw (s, z, le-leb 0 (length (key i)) (omega arith)) (now-best s (rw (s, ← (rw z at (h .chosen)))))
+    | no z ↦ rw s (compared at e (outdoes p e (key i)) z h s refl)
+  ]
+  cases at e false h s = rw s (record { chosen = rw s (h .chosen); kept = h .kept; short = h .short })
+
+-- the numbers of the keys that are held stand in the slice
+pub held-there : (places : List ℕ) (n held offset : ℕ) (invert : Bool) → held ≡ least n (keysHeld places invert) → offset ≡ 2 * cond invert 1 0
+    → 4 * held + offset ≤ length places + 2
+unfolding keysHeld
+held-there places n held offset true e o = omega (arith, least-right held n (keysHeld places true) e)
+held-there places n held offset false e o = omega (arith, least-right held n (keysHeld places false) e)
+
+module _ (store : Text) (places : List ℕ) (invert : Bool) (offset i : ℕ) (o : offset ≡ 2 * cond invert 1 0) where
+  pub key-is : cut store (getD places (4 * i + offset) 0) (getD places (4 * i + offset + 1) 0) ≡ keyAt store places invert i
+  unfolding cut textAt
+  key-is = let z : 2 * (2 * i + cond invert 1 0) ≡ 4 * i + offset = omega arith in rw z
+
+  pub holds-on : (p : Text) (f f′ : Kept) → Holds p (keyAt store places invert) i f
+      → f′ ≡ considered f p (cut store (getD places (4 * i + offset) 0) (getD places (4 * i + offset + 1) 0)) i → Holds p (keyAt store places invert) (i + 1) f′
+  holds-on p f f′ h c =
+      rw (c, key-is, add-one i) (cases p (keyAt store places invert) i (f .at) (f .bytes) (serves p (keyAt store places invert i)) h refl)
+
+-- behind the keys that the slice holds there are none
+best-rest : (p : Text) (key : ℕ → Text) (m n : ℕ) → m ≤ n → ((k : ℕ) → m ≤ k → key k ≡ []) → best p key m ≡ best p key n
+unfolding best
+best-rest p key m zero l f = let e : m ≡ 0 = omega arith in rw e
+best-rest p key m (suc n) l f = elim (ℕ-discrete m (suc n)) [
+  | yes e ↦ rw e
+  | no d ↦ rw (f n (omega arith)) (best-rest p key m n (omega arith) f)
+]
+
+pub key-behind : (store : Text) (places : List ℕ) (invert : Bool) (k : ℕ) → keysHeld places invert ≤ k → keyAt store places invert k ≡ []
+unfolding keysHeld
+key-behind store places true k h = sym (text-missing store places (2 * k + 1) (omega arith))
+key-behind store places false k h = sym (text-missing store places (2 * k + 0) (omega arith))
+
+found-kept : (f : Kept) → chosenIn (record { found = not (eqb (f .bytes) 0); at = f .at }) ≡ keptIn f
+found-kept f = go (eqb (f .bytes) 0)
+  where
+    go : (b : Bool) → cond (not b) (some (f .at)) none ≡ cond b none (some (f .at))
+    go true = refl
+    go false = refl
+
+pub holds-end : (p store : Text) (places : List ℕ) (n : ℕ) (invert : Bool) (held i : ℕ) (f : Kept) → held ≡ least n (keysHeld places invert)
+    → Holds p (keyAt store places invert) i f → held ≤ i → i ≤ held
+    → chosenIn (record { found = not (eqb (f .bytes) 0); at = f .at }) ≡ best p (keyAt store places invert) n
+holds-end p store places n invert held i f m h l r =
+    let e : i ≡ least n (keysHeld places invert) = omega arith in
+    found-kept f ∙ (rw e at (h .chosen)) ∙ go (leb n (keysHeld places invert)) refl
+  where
+    key : ℕ → Text
+    key = keyAt store places invert
+
+    go : (b : Bool) → leb n (keysHeld places invert) ≡ b → best p key (cond b n (keysHeld places invert)) ≡ best p key n
+    go true t = refl
+    go false t =
+        let q : keysHeld places invert < n = leb-false n (keysHeld places invert) t in
+        best-rest p key (keysHeld places invert) n (omega arith) (key-behind store places invert)
+
+pub ruleset searching = (serves-empty, serves-prefix, choose-other, choose-longer, choose-fewer, choose-more, least-first, least-second, consider-none, consider-long, consider-outside, consider-differs, consider-chosen, held-targets, held-sources, offset-target, offset-source, least-left, least-right, holds-end)

@@ -1,0 +1,2 @@
+mod BestWays
+mod RivalWays

@@ -1,0 +1,13 @@
+use Rattle.serving.proofs.BestWays.{searching}
+use borrow.Author.Needs.{needs}
+use Rattle.serving.proofs.lesser.Statement.{statement}
+use Rattle.serving.proofs.lesser.Tie as tie
+
+returns : tie.Need-returns
+returns c = search (needs, searching)
+
+returns-2 : tie.Need-returns-2
+returns-2 c = search (needs, searching)
+
+pub lesser-spec : {M : Type 1} → statement M
+lesser-spec = tie.close (tie.spec returns returns-2)
