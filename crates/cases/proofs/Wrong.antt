@@ -11,7 +11,7 @@ use Rattle.text.proofs.BoolLaws.{eqb-self}
 use Rattle.grammar.specs.Legal.{legal, fits}
 use Rattle.path.specs.Refusal.{number}
 use Rattle.path.specs.Outcome.{Outcome, path, refused, memory}
-use Rattle.path.specs.Calls.{replacePrefixCall}
+use Rattle.deriving.specs.Calls.{replacePrefixCall}
 use Rattle.pairs.specs.Pair.{noEmptySource}
 use Rattle.maps.specs.Map.{plainOut, plainHome}
 use Rattle.maps.specs.Leg.{translate, home, PlainPath, ThereAndBack}

@@ -9,7 +9,7 @@ use lib.ListN.{length}
 use Rattle.text.specs.Text.{bytes}
 use Rattle.path.specs.declared.Refusal.the-variants.{NoPath}
 use Rattle.path.specs.Outcome.{Outcome, path, refused, given}
-use Rattle.path.specs.Calls.{replacePrefixCall, stripCall}
+use Rattle.deriving.specs.Calls.{replacePrefixCall, stripCall}
 use Rattle.pairs.specs.Pair.{Pair}
 use Rattle.maps.specs.Map.{Map, plainOut}
 use Rattle.maps.specs.New.{new}

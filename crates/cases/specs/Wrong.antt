@@ -11,7 +11,7 @@ use lib.ListN.{replicate}
 use Rattle.text.specs.Text.{Text, bytes}
 use Rattle.path.specs.declared.Refusal.the-variants.{NoRoom, NoPath}
 use Rattle.path.specs.Outcome.{Outcome, path, refused, memory}
-use Rattle.path.specs.Calls.{replacePrefixCall}
+use Rattle.deriving.specs.Calls.{replacePrefixCall}
 use Rattle.pairs.specs.Pair.{Pair, noEmptySource}
 use Rattle.maps.specs.Map.{Map}
 use Rattle.maps.specs.Leg.{translate, home, PlainPath, ThereAndBack}

@@ -5,7 +5,8 @@ ghost use mathlib.Core.Path.{_≡_};
 ghost use lib.ListN.{length};
 ghost use Rattle.parts.specs.Parent.{ancestorLens};
 ghost use Rattle.path.specs.Outcome.{reply, memory};
-ghost use Rattle.path.specs.Calls.{newCall, isEndCall, hasVariantSelectionCall, elementCountCall, primElementCountCall, hasPrefixCall, replacePrefixCall, parentCall, primPathCall, splitPropertyCall, stripCall, ancestorsReply, listed};
+ghost use Rattle.path.specs.Calls.{newCall, isEndCall, hasVariantSelectionCall, elementCountCall, primElementCountCall, hasPrefixCall, listed};
+ghost use Rattle.deriving.specs.Calls.{replacePrefixCall, parentCall, primPathCall, splitPropertyCall, stripCall, ancestorsReply};
 ghost use Rattle.mapping.specs.Calls.{mapSourceToTargetCall, mapTargetToSourceCall, translateToTargetCall};
 ghost use Rattle.batch.specs.Batch.{carriedAt, enough, allAsked, allBytes, allReplies};
 ghost use Rattle.exports.specs.Map.{timeless, wayOf};
@@ -76,7 +77,7 @@ pub extern "C" fn mudvizsor_path_replace_prefix(
     ensures { λ r. ⌜ r ≡ replyCode (reply (replacePrefixCall (now (path .entry)) (now (old .entry)) (now (new .entry)) (length (now (out .entry))))) ⌝ }
     ensures { λ r. ⌜ now (out .exit) ≡ memory (replacePrefixCall (now (path .entry)) (now (old .entry)) (now (new .entry)) (length (now (out .entry)))) (now (out .entry)) ⌝ }
 {
-    codes::reply_code(path::replace_prefix(path, old, new, out))
+    codes::reply_code(deriving::replace_prefix(path, old, new, out))
 }
 
 // The path without its last element or its property, written to out.
@@ -85,7 +86,7 @@ pub extern "C" fn mudvizsor_path_parent(path: &[u8], out: &mut [u8]) -> usize
     ensures { λ r. ⌜ r ≡ replyCode (reply (parentCall (now (path .entry)) (length (now (out .entry))))) ⌝ }
     ensures { λ r. ⌜ now (out .exit) ≡ memory (parentCall (now (path .entry)) (length (now (out .entry)))) (now (out .entry)) ⌝ }
 {
-    codes::reply_code(path::parent(path, out))
+    codes::reply_code(deriving::parent(path, out))
 }
 
 // The path without its property, or without the last selection where it ends in one, written to out.
@@ -94,7 +95,7 @@ pub extern "C" fn mudvizsor_path_prim_path(path: &[u8], out: &mut [u8]) -> usize
     ensures { λ r. ⌜ r ≡ replyCode (reply (primPathCall (now (path .entry)) (length (now (out .entry))))) ⌝ }
     ensures { λ r. ⌜ now (out .exit) ≡ memory (primPathCall (now (path .entry)) (length (now (out .entry)))) (now (out .entry)) ⌝ }
 {
-    codes::reply_code(path::prim_path(path, out))
+    codes::reply_code(deriving::prim_path(path, out))
 }
 
 // The prim path of a property, written to out; the name is the text behind the dot that follows it.
@@ -103,7 +104,7 @@ pub extern "C" fn mudvizsor_path_split_property(path: &[u8], out: &mut [u8]) -> 
     ensures { λ r. ⌜ r ≡ replyCode (reply (splitPropertyCall (now (path .entry)) (length (now (out .entry))))) ⌝ }
     ensures { λ r. ⌜ now (out .exit) ≡ memory (splitPropertyCall (now (path .entry)) (length (now (out .entry)))) (now (out .entry)) ⌝ }
 {
-    codes::reply_code(path::split_property(path, out))
+    codes::reply_code(deriving::split_property(path, out))
 }
 
 // The path without its selections, written to out.
@@ -112,7 +113,7 @@ pub extern "C" fn mudvizsor_path_strip_variant_selections(path: &[u8], out: &mut
     ensures { λ r. ⌜ r ≡ replyCode (reply (stripCall (now (path .entry)) (length (now (out .entry))))) ⌝ }
     ensures { λ r. ⌜ now (out .exit) ≡ memory (stripCall (now (path .entry)) (length (now (out .entry)))) (now (out .entry)) ⌝ }
 {
-    codes::reply_code(path::strip_variant_selections(path, out))
+    codes::reply_code(deriving::strip_variant_selections(path, out))
 }
 
 // The lengths of the path and its ancestors, written to lengths.
@@ -121,7 +122,7 @@ pub extern "C" fn mudvizsor_path_ancestors(path: &[u8], lengths: &mut [usize]) -
     ensures { λ r. ⌜ r ≡ replyCode (ancestorsReply (now (path .entry)) (length (now (lengths .entry)))) ⌝ }
     ensures { λ r. ⌜ now (lengths .exit) ≡ listed (ancestorsReply (now (path .entry)) (length (now (lengths .entry)))) (ancestorLens (now (path .entry))) (now (lengths .entry)) ⌝ }
 {
-    codes::reply_code(path::ancestors(path, lengths))
+    codes::reply_code(deriving::ancestors(path, lengths))
 }
 
 // The map of a list, with no time offset.

@@ -1,5 +1,3 @@
 mod Opened
 mod AskWays
 pub mod CallWays
-mod MakeWays
-mod PartWays

@@ -1,10 +1,9 @@
 -- What a call that writes a path comes to: its reply and what lent memory holds afterwards are read off one outcome.
 use Prim.Native.Nat.{ℕ}
-use mathlib.Core.Bool.{Bool, cond}
-use mathlib.Core.List.{List, _++_}
+use mathlib.Core.Bool.{cond}
 use mathlib.Core.Option.{Option, none, some}
 use lib.Dec.{leb}
-use lib.ListN.{length, drop}
+use lib.ListN.{length}
 use Rattle.text.specs.Text.{Text, written}
 use Rattle.grammar.specs.Legal.{legal, fits}
 use Rattle.path.specs.declared.Refusal.{Refusal}

@@ -126,7 +126,7 @@ fn put_lengths(lengths: &[usize], at: usize, line: &mut [u8]) -> usize {
 fn put_ancestors(path: &[u8], at: usize, line: &mut [u8]) -> usize {
     let start = put(b" ", at, line);
     let mut lengths = [0usize; 128];
-    match path::ancestors(path, &mut lengths) {
+    match deriving::ancestors(path, &mut lengths) {
         path::Reply::Written(n) => {
             if 128 < n {
                 return start;
@@ -149,33 +149,33 @@ fn put_tests(path: &[u8], old: &[u8], line: &mut [u8]) -> usize {
 
 fn put_replaced(path: &[u8], old: &[u8], new: &[u8], at: usize, line: &mut [u8]) -> usize {
     let mut memory = [0u8; 255];
-    let r = path::replace_prefix(path, old, new, &mut memory);
+    let r = deriving::replace_prefix(path, old, new, &mut memory);
     put_path(r, &memory, at, line)
 }
 
 fn put_parent(path: &[u8], at: usize, line: &mut [u8]) -> usize {
     let mut memory = [0u8; 255];
-    let r = path::parent(path, &mut memory);
+    let r = deriving::parent(path, &mut memory);
     put_path(r, &memory, at, line)
 }
 
 fn put_prim_path(path: &[u8], at: usize, line: &mut [u8]) -> usize {
     let mut memory = [0u8; 255];
-    let r = path::prim_path(path, &mut memory);
+    let r = deriving::prim_path(path, &mut memory);
     put_path(r, &memory, at, line)
 }
 
 // The prim path of a property, and its name.
 fn put_split(path: &[u8], at: usize, line: &mut [u8]) -> usize {
     let mut memory = [0u8; 255];
-    let r = path::split_property(path, &mut memory);
+    let r = deriving::split_property(path, &mut memory);
     let behind = put_path(r, &memory, at, line);
     put_name(r, path, behind, line)
 }
 
 fn put_stripped(path: &[u8], at: usize, line: &mut [u8]) -> usize {
     let mut memory = [0u8; 255];
-    let r = path::strip_variant_selections(path, &mut memory);
+    let r = deriving::strip_variant_selections(path, &mut memory);
     put_path(r, &memory, at, line)
 }
 

@@ -1,9 +1,9 @@
 use mathlib.Core.Path.{refl}
 use Rattle.text.proofs.WriteLaws.{fit-part, fit-inside}
-use Rattle.path.proofs.MakeWays.{made-over, made-illegal, made-written}
+use Rattle.deriving.proofs.MakeWays.{made-over, made-illegal, made-written}
 use borrow.Author.Needs.{needs}
-use Rattle.path.proofs.write_joined.Statement.{statement}
-use Rattle.path.proofs.write_joined.Tie as tie
+use Rattle.deriving.proofs.write_joined.Statement.{statement}
+use Rattle.deriving.proofs.write_joined.Tie as tie
 
 slice-aggregate-join : tie.Need-slice-aggregate-join
 slice-aggregate-join c = search needs

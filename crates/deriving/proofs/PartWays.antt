@@ -21,13 +21,13 @@ use Rattle.parts.specs.Parent.{parentLen, parent, primLen, primPath, splitPrope
 use Rattle.parts.specs.Strip.{strip, stripFit, stripMemory}
 use Rattle.parts.proofs.ParentLaws.{prim-len-le, prim-legal}
 use Rattle.parts.proofs.StripLaws.{strip-shorter, strip-legal, strip-length, strip-memory}
 use Rattle.path.specs.declared.Refusal.the-variants.{TooLong, Illegal, NoRoom}
 use Rattle.path.specs.declared.Asked.{Asked}
 use Rattle.path.specs.declared.Asked.the-variants.{Passed, Refused as RefusedAsked}
 use Rattle.path.specs.declared.Reply.the-variants.{Written, Refused}
 use Rattle.path.specs.Refusal.{asked, allFit, allLegal}
 use Rattle.path.specs.Outcome.{reply, memory, made}
-use Rattle.path.proofs.MakeWays.{made-legal}
+use Rattle.deriving.proofs.MakeWays.{made-legal}
 
 -- a text that passed is short and legal
 refused-not-passed : {x : Asked} → x ≡ Passed → (a b : Bool) → cond a (cond b Passed (RefusedAsked Illegal)) (RefusedAsked TooLong) ≡ x → (a ≡ true) × (b ≡ true)

@@ -1,12 +1,12 @@
 use mathlib.Core.Path.{ap, _∙_}
 use Rattle.parts.proofs.ParentLaws.{parent-len-le, parent-take}
 use Rattle.path.specs.Outcome.{given}
-use Rattle.path.proofs.Opened.{parent-opened}
+use Rattle.deriving.proofs.OpenedCalls.{parent-opened}
 use Rattle.path.proofs.CallWays.{answered-refused, answered-short, answered-passed, refusing, answering}
-use Rattle.path.proofs.PartWays.{passed-short, passed-legal, cut-written, cut-length, parent-empty, parent-root, parent-cut}
+use Rattle.deriving.proofs.PartWays.{passed-short, passed-legal, cut-written, cut-length, parent-empty, parent-root, parent-cut}
 use borrow.Author.Needs.{needs}
-use Rattle.path.proofs.parent.Statement.{statement}
-use Rattle.path.proofs.parent.Tie as tie
+use Rattle.deriving.proofs.parent.Statement.{statement}
+use Rattle.deriving.proofs.parent.Tie as tie
 
 slice-aggregate-ask : tie.Need-slice-aggregate-ask
 slice-aggregate-ask c = search needs

@@ -1,11 +1,11 @@
 use mathlib.Core.Path.{_∙_}
 use Rattle.parts.proofs.ParentLaws.{prim-len-le}
-use Rattle.path.proofs.Opened.{prim-opened}
+use Rattle.deriving.proofs.OpenedCalls.{prim-opened}
 use Rattle.path.proofs.CallWays.{answered-refused, answered-short, answered-passed, refusing, answering}
-use Rattle.path.proofs.PartWays.{passed-short, passed-legal, prim-written, cut-length}
+use Rattle.deriving.proofs.PartWays.{passed-short, passed-legal, prim-written, cut-length}
 use borrow.Author.Needs.{needs}
-use Rattle.path.proofs.prim_path.Statement.{statement}
-use Rattle.path.proofs.prim_path.Tie as tie
+use Rattle.deriving.proofs.prim_path.Statement.{statement}
+use Rattle.deriving.proofs.prim_path.Tie as tie
 
 slice-aggregate-ask : tie.Need-slice-aggregate-ask
 slice-aggregate-ask c = search needs

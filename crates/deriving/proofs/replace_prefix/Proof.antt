@@ -3,12 +3,12 @@ use lib.ListN.{length}
 use Rattle.text.proofs.BoolLaws.{told-false, told-true}
 use Rattle.text.proofs.WriteLaws.{rest-whole}
 use Rattle.prefix.proofs.PrefixLaws.{prefix-long, replace-prefix, replace-other}
 use Rattle.path.specs.Outcome.{given}
-use Rattle.path.proofs.Opened.{replace-opened}
+use Rattle.deriving.proofs.OpenedCalls.{replace-opened}
 use Rattle.path.proofs.CallWays.{answered-refused, answered-short, answered-passed, refusing, answering}
 use borrow.Author.Needs.{needs}
-use Rattle.path.proofs.replace_prefix.Statement.{statement}
-use Rattle.path.proofs.replace_prefix.Tie as tie
+use Rattle.deriving.proofs.replace_prefix.Statement.{statement}
+use Rattle.deriving.proofs.replace_prefix.Tie as tie
 
 ask-requires : tie.Need-ask-requires
 ask-requires c κs = search needs

@@ -1,12 +1,12 @@
 use mathlib.Core.Path.{ap, _∙_}
 use Rattle.parts.proofs.ParentLaws.{prim-len-le}
 use Rattle.path.specs.Outcome.{given}
-use Rattle.path.proofs.Opened.{split-opened}
+use Rattle.deriving.proofs.OpenedCalls.{split-opened}
 use Rattle.path.proofs.CallWays.{answered-refused, answered-short, answered-passed, refusing, answering}
-use Rattle.path.proofs.PartWays.{passed-short, passed-legal, prim-written, cut-length, split-none, split-some}
+use Rattle.deriving.proofs.PartWays.{passed-short, passed-legal, prim-written, cut-length, split-none, split-some}
 use borrow.Author.Needs.{needs}
-use Rattle.path.proofs.split_property.Statement.{statement}
-use Rattle.path.proofs.split_property.Tie as tie
+use Rattle.deriving.proofs.split_property.Statement.{statement}
+use Rattle.deriving.proofs.split_property.Tie as tie
 
 slice-aggregate-ask : tie.Need-slice-aggregate-ask
 slice-aggregate-ask c = search needs

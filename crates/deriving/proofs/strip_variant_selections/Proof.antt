@@ -1,12 +1,12 @@
 use mathlib.Core.Path.{_∙_}
 use native.Mathlib.Omega.{arith}
 use Rattle.parts.proofs.StripLaws.{strip-never}
-use Rattle.path.proofs.Opened.{strip-opened}
+use Rattle.deriving.proofs.OpenedCalls.{strip-opened}
 use Rattle.path.proofs.CallWays.{answered-refused, answered-short, answered-passed, refusing, answering}
-use Rattle.path.proofs.PartWays.{passed-short, passed-legal, strip-written}
+use Rattle.deriving.proofs.PartWays.{passed-short, passed-legal, strip-written}
 use borrow.Author.Needs.{needs}
-use Rattle.path.proofs.strip_variant_selections.Statement.{statement}
-use Rattle.path.proofs.strip_variant_selections.Tie as tie
+use Rattle.deriving.proofs.strip_variant_selections.Statement.{statement}
+use Rattle.deriving.proofs.strip_variant_selections.Tie as tie
 
 slice-aggregate-ask : tie.Need-slice-aggregate-ask
 slice-aggregate-ask c = search needs

@@ -1,11 +1,11 @@
 use mathlib.Core.Path.{refl, sym, _∙_}
 use Rattle.path.specs.declared.Reply.the-variants.{Refused}
-use Rattle.path.proofs.Opened.{ancestors-opened}
+use Rattle.deriving.proofs.OpenedCalls.{ancestors-opened}
 use Rattle.path.proofs.CallWays.{unless-refused, unless-passed}
-use Rattle.path.proofs.PartWays.{listed-written, listed-over, listed-memory, listed-kept}
+use Rattle.deriving.proofs.PartWays.{listed-written, listed-over, listed-memory, listed-kept}
 use borrow.Author.Needs.{needs}
-use Rattle.path.proofs.ancestors.Statement.{statement}
-use Rattle.path.proofs.ancestors.Tie as tie
+use Rattle.deriving.proofs.ancestors.Statement.{statement}
+use Rattle.deriving.proofs.ancestors.Tie as tie
 
 slice-aggregate-ask : tie.Need-slice-aggregate-ask
 slice-aggregate-ask c = search needs

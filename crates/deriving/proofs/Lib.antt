@@ -1,0 +1,3 @@
+mod OpenedCalls
+mod MakeWays
+mod PartWays
