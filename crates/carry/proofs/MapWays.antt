@@ -1,15 +1,16 @@
 -- What each way through `carry`, `keep` and `map_text` gives. Assumes nothing.
 use mathlib.Core.Path.{_≡_, refl, sym, ap, _∙_}
 use mathlib.Core.Logic.{_≢_}
-use mathlib.Core.Bool.{Bool, true, false, not, cond, _&&_}
-use mathlib.Core.List.{List, [], _∷_}
+use mathlib.Core.Bool.{Bool, true, false, not, cond}
+use mathlib.Core.List.{List}
 use mathlib.Core.Option.{Option, none, some}
 use Prim.Native.Nat.{ℕ, _-_, _≤_, _<_}
 use native.Mathlib.Nat.{zero-add}
 use native.Mathlib.Omega.{arith}
 use lib.ListN.{length, take, drop}
 use borrow.Author.Tests.{le-leb, lt-leb}
-use Rattle.text.specs.Text.{Text, isNil, written, placed, fitted}
+use Rattle.text.proofs.TextLaws.{nil-length, nil-not}
+use Rattle.text.specs.Text.{Text, placed, fitted}
 use Rattle.text.specs.declared.Fit.{Fit}
 use Rattle.text.specs.declared.Fit.the-variants.{Written as WrittenFit, Over}
 use Rattle.text.proofs.BoolLaws.{not-true, not-false, told}
@@ -25,19 +26,11 @@ use Rattle.path.specs.declared.Refusal.the-variants.{NoPath, MadeTooLong, MadeI
 use Rattle.path.specs.declared.Reply.{Reply}
 use Rattle.path.specs.declared.Reply.the-variants.{Written, Refused}
 use Rattle.path.specs.Outcome.{Outcome, path, refused, reply, memory}
-use Rattle.maps.specs.Map.{Map, lentMap, source, target, chosenOut, chosenHome}
+use Rattle.maps.specs.Map.{Map, lentMap, source, target}
 use Rattle.maps.proofs.LentLaws.{served-long, out-keys, home-keys, ends-by}
 use Rattle.carry.specs.Quick.{joining, keeping, quickBy, quick}
 
 -- a text's length and whether it is empty
-pub nil-length : (k : Text) → length k ≡ 0 → isNil k ≡ true
-nil-length [] l = refl
-nil-length (a ∷ k) l = absurd (omega arith)
-
-pub not-nil-length : (k : Text) → length k ≢ 0 → isNil k ≡ false
-not-nil-length [] l = absurd (l refl)
-not-nil-length (a ∷ k) l = refl
-
 -- what a text that fits 255 bytes leaves, and one that does not
 module _ (q out : Text) (f : Fit) (h : f ≡ fitted q out) (l : length out ≡ 255) where
   pub path-written : (n : ℕ) (out′ : Text) → f ≡ WrittenFit n → out′ ≡ placed 0 q out
@@ -139,7 +132,7 @@ module _ (store : Text) (places : List ℕ) (n : ℕ) (mark : Bool) (p : Text) w
           → quick invert lent p ≡ joining s t (drop (length s) p)
       unfolding quickBy
       map-carry b s t e l es et =
-          rw (es, et) (quick-by invert ∙ ap (quickBy mark (key invert) (key (not invert)) (key true) p) chosen ∙ ap blocked (not-nil-length (key true (f .at)) (rw e at l)))
+          rw (es, et) (quick-by invert ∙ ap (quickBy mark (key invert) (key (not invert)) (key true) p) chosen ∙ ap blocked (nil-not (key true (f .at)) (rw e at l)))
         where
           blocked : Bool → Outcome
           blocked c = cond c (refused NoPath) (joining (key invert (f .at)) (key (not invert) (f .at)) (drop (length (key invert (f .at))) p))

@@ -1,10 +1,10 @@
 -- What each way through `finish`, `translate_marked`, `translate_pair` and `translate_text` gives. Assumes nothing.
-use mathlib.Core.Path.{_≡_, refl, sym, ap, _∙_}
+use mathlib.Core.Path.{_≡_, refl, sym, _∙_}
 use mathlib.Core.Logic.{_≢_}
-use mathlib.Core.Bool.{Bool, true, false, not, cond, _&&_}
+use mathlib.Core.Bool.{Bool, true, false, not, cond}
 use mathlib.Core.List.{List}
 use mathlib.Core.Option.{Option, none, some}
-use Prim.Native.Nat.{ℕ, _≤_, _<_}
+use Prim.Native.Nat.{ℕ}
 use native.Mathlib.Omega.{arith}
 use lib.ListN.{length, take, drop}
 use borrow.Author.Tests.{le-leb, lt-leb}
@@ -21,11 +21,11 @@ use Rattle.serving.specs.declared.Found.{Found}
 use Rattle.path.specs.declared.Refusal.the-variants.{NoPath, MadeTooLong, MadeIllegal}
 use Rattle.path.specs.declared.Reply.{Reply}
 use Rattle.path.specs.declared.Reply.the-variants.{Refused}
-use Rattle.path.specs.Outcome.{Outcome, refused, reply, memory}
-use Rattle.maps.specs.Map.{lentMap, Map, source, target, chosenOut, chosenHome, same}
-use Rattle.carry.specs.Quick.{finished, joining, keeping, isNone, translateMarked, translatePair, translateBy, quickTranslate}
+use Rattle.path.specs.Outcome.{refused, reply, memory}
+use Rattle.maps.specs.Map.{lentMap, Map, chosenOut, chosenHome, same}
+use Rattle.carry.specs.Quick.{finished, joining, keeping, translateMarked, translatePair, translateBy, quickTranslate}
 use Rattle.maps.proofs.LentLaws.{out-keys, home-keys, ends-by}
-use Rattle.carry.proofs.MapWays.{nil-length, not-nil-length}
+use Rattle.text.proofs.TextLaws.{nil-length, nil-not}
 
 -- `finish`
 module _ (b : Bool) (q out : Text) where
@@ -92,7 +92,7 @@ module _ (store : Text) (places : List ℕ) (n : ℕ) (mark : Bool) (p : Text) w
 
       pub text-pair : (s t : Text) → t ≡ keyAt store places true (f .at) → length t ≢ 0 → s ≡ keyAt store places false (f .at)
           → quickTranslate lent p ≡ translatePair lent (f .at) s t (drop (length s) p)
-      text-pair s t e l es = by-pair ∙ rw (← e, ← es, not-nil-length t l)
+      text-pair s t e l es = by-pair ∙ rw (← e, ← es, nil-not t l)
 
 same-at : (i : ℕ) (o : Option ℕ) → same (some i) o ≡ isAt i o
 same-at i none = refl

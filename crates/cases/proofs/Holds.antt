@@ -3,7 +3,7 @@ use mathlib.Core.Path.{refl}
 use Rattle.maps.specs.New.{new}
 use Rattle.maps.specs.Compose.{compose}
 use Rattle.maps.specs.Derive.{deepenTo}
-use Rattle.relocates.specs.Chain.{chain}
+use Rattle.chaining.specs.Chain.{chain}
 use Rattle.cases.specs.Table.{Table, Readings, replacing, stripping, out, back, translated, statusesOf}
 
 pub holds : Table

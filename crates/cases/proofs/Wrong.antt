@@ -16,7 +16,7 @@ use Rattle.pairs.specs.Pair.{noEmptySource}
 use Rattle.maps.specs.Map.{plainOut, plainHome}
 use Rattle.maps.specs.Leg.{translate, home, PlainPath, ThereAndBack}
 use Rattle.maps.proofs.OutcomeLaws.{no-path}
-use Rattle.relocates.specs.Chain.{chain}
+use Rattle.chaining.specs.Chain.{chain}
 use Rattle.route.specs.Leg.{Leg, by-map, legMap, legEnds, outward}
 use Rattle.route.specs.Route.{along, met}
 use Rattle.cases.specs.Wrong.{WrongTools, FirstHalf, SecondHalf, unmoved, noPath, firstOnly, inventedSteps, aToB}

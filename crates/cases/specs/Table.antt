@@ -17,7 +17,7 @@ use Rattle.maps.specs.Compose.{compose}
 use Rattle.maps.specs.Derive.{deepenTo}
 use Rattle.maps.specs.Leg.{translate, home}
 use Rattle.relocates.specs.Status.{statuses}
-use Rattle.relocates.specs.Chain.{chained, chain}
+use Rattle.chaining.specs.Chain.{chained, chain}
 
 -- the path, its prefix and the new prefix, with 255 bytes of lent memory
 unfoldable pub replacing : String → String → String → Outcome

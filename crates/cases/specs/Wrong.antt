@@ -15,7 +15,7 @@ use Rattle.deriving.specs.Calls.{replacePrefixCall}
 use Rattle.pairs.specs.Pair.{Pair, noEmptySource}
 use Rattle.maps.specs.Map.{Map}
 use Rattle.maps.specs.Leg.{translate, home, PlainPath, ThereAndBack}
-use Rattle.relocates.specs.Chain.{Chained, chained, stopped, chain}
+use Rattle.chaining.specs.Chain.{Chained, chained, stopped, chain}
 use Rattle.route.specs.Leg.{Leg, by-map, legMap, legEnds, outward}
 use Rattle.route.specs.Route.{onward, along, met}
 use Rattle.cases.specs.Table.{pair, unmarked, turning}

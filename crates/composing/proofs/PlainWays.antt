@@ -26,7 +26,7 @@ use Rattle.pairs.proofs.PlaceLaws.{chosen-best}
 use Rattle.serving.specs.declared.Found.{Found}
 use Rattle.maps.specs.Map.{Map, source, target, by, plainOut, plainHome, lentMap}
 use Rattle.maps.proofs.LentLaws.{out-keys, home-keys, ends-by}
-use Rattle.carry.proofs.MapWays.{nil-length, not-nil-length}
+use Rattle.text.proofs.TextLaws.{nil-length, nil-not}
 use Rattle.composing.specs.declared.Image.{Image}
 use Rattle.composing.specs.declared.Image.the-variants.{Nothing, Made}
 use Rattle.composing.specs.Scratch.{plain, marked, image, needed, imaged, carriedTo}
@@ -103,7 +103,7 @@ module _ (store : Text) (places : List ℕ) (n : ℕ) (mark : Bool) (p : Text) w
           → plain invert lent p ≡ some (joined s t (take (length p - length s) (drop (length s) p)))
       map-join b s t e l es et =
           rw (es, et, rest-whole p (length (key invert (f .at))))
-          (plain-some invert (f .at) chosen ∙ rw (not-nil-length (key true (f .at)) (rw e at l)) (replace-prefix p (key invert (f .at)) (key (not invert) (f .at)) has))
+          (plain-some invert (f .at) chosen ∙ rw (nil-not (key true (f .at)) (rw e at l)) (replace-prefix p (key invert (f .at)) (key (not invert) (f .at)) has))
 
 -- what is known of the mapped text, handed on
 module _ (o : Option Text) (v : Option Text) (e : o ≡ v) where
@@ -133,7 +133,7 @@ module _ (m : Map) (t : Text) (at : ℕ) (out : Text) where
 
   to-plain : length t ≢ 0 → carriedTo m t ≡ Option·getD (plain false m t) []
   unfolding plain carriedTo
-  to-plain l = rw (not-nil-length t l)
+  to-plain l = rw (nil-not t l)
 
   module _ (l : length t ≢ 0) (a : Image) (out′ : Text) (h : a ≡ image (plain false m t)) (w : out′ ≡ imaged at (plain false m t) out) where
     pub carried-none : a ≡ Nothing → (0 ≡ length (carriedTo m t)) × (out′ ≡ placed at (carriedTo m t) out)

@@ -9,8 +9,8 @@ use Rattle.path.specs.Refusal.{number}
 use Rattle.map_function.specs.declared.MapFunction.{MapFunction}
 use Rattle.map_function.specs.declared.MapReply.{MapReply}
 use Rattle.map_function.specs.declared.MapReply.the-variants.{Made, Refused}
-use Rattle.relocates.specs.declared.Chain.{Chain}
-use Rattle.relocates.specs.declared.Chain.the-variants.{Chained, Refused as RefusedChain}
+use Rattle.chaining.specs.declared.Chain.{Chain}
+use Rattle.chaining.specs.declared.Chain.the-variants.{Chained, Refused as RefusedChain}
 use Rattle.exports.specs.Time.{floats}
 
 -- a map's own numbers: how many pairs it has, its mark, and the two numbers of its time offset

@@ -3,8 +3,9 @@ ghost use mathlib.Core.Path.{_≡_};
 ghost use lib.ListN.{length};
 ghost use Rattle.path.specs.Outcome.{reply, memory};
 ghost use Rattle.asking.specs.Asking.{lentList};
-ghost use Rattle.relocates.specs.Search.{skipOf};
-ghost use Rattle.relocates.specs.Calls.{analyzeReply, analyzeMemory, shiftCall, chainCall, chainReply, chainMemory};
+ghost use Rattle.chaining.specs.Search.{skipOf};
+ghost use Rattle.relocates.specs.Calls.{analyzeReply, analyzeMemory};
+ghost use Rattle.chaining.specs.Calls.{shiftCall, chainCall, chainReply, chainMemory};
 ghost use Rattle.codes.specs.Code.{replyCode};
 ghost use Rattle.exports.specs.Made.{chainValue, chainCode};
 
@@ -30,12 +31,12 @@ fn chain_value(len: usize, steps: usize) -> usize
 }
 
 // The reply as one number.
-fn chain_code(c: relocates::Chain) -> usize
+fn chain_code(c: chaining::Chain) -> usize
     ensures { λ r. ⌜ r ≡ chainCode c ⌝ }
 {
     match c {
-        relocates::Chain::Chained(len, steps) => chain_value(len, steps),
-        relocates::Chain::Refused(x) => codes::number_of(x),
+        chaining::Chain::Chained(len, steps) => chain_value(len, steps),
+        chaining::Chain::Refused(x) => codes::number_of(x),
     }
 }
 
@@ -54,7 +55,7 @@ pub extern "C" fn mudvizsor_chain_through_relocates(
     ensures { λ r. ⌜ r ≡ chainCode (chainReply (chainCall (lentList (now (store .entry)) (now (places .entry)) count) (skipOf skips (now (skipped .entry))) (now (path .entry)) (length (now (out .entry))))) ⌝ }
     ensures { λ r. ⌜ now (out .exit) ≡ chainMemory (chainCall (lentList (now (store .entry)) (now (places .entry)) count) (skipOf skips (now (skipped .entry))) (now (path .entry)) (length (now (out .entry)))) (now (out .entry)) ⌝ }
 {
-    chain_code(relocates::chain_through_relocates(store, places, count, skips, skipped, path, out))
+    chain_code(chaining::chain_through_relocates(store, places, count, skips, skipped, path, out))
 }
 
 // The endpoint under the nearest rename above it, or itself, written to out.
@@ -69,11 +70,5 @@ pub extern "C" fn mudvizsor_shift_through_nearest_ancestor(
     ensures { λ r. ⌜ r ≡ replyCode (reply (shiftCall (lentList (now (store .entry)) (now (places .entry)) count) (now (endpoint .entry)) (length (now (out .entry))))) ⌝ }
     ensures { λ r. ⌜ now (out .exit) ≡ memory (shiftCall (lentList (now (store .entry)) (now (places .entry)) count) (now (endpoint .entry)) (length (now (out .entry)))) (now (out .entry)) ⌝ }
 {
-    codes::reply_code(relocates::shift_through_nearest_ancestor(
-        store,
-        places,
-        count,
-        endpoint,
-        out,
-    ))
+    codes::reply_code(chaining::shift_through_nearest_ancestor(store, places, count, endpoint, out))
 }

@@ -14,7 +14,7 @@ use lib.Seq.{getD-append-seam}
 use Rattle.text.specs.Text.{Text}
 use Rattle.text.proofs.BoolLaws.{and-l, and-r}
 use Rattle.grammar.specs.Legal.{fits}
-use Rattle.pairs.specs.Pair.{Pair, nothing, pairAt, sourceAt, targetAt, everyEnd}
+use Rattle.pairs.specs.Pair.{Pair, pair, nothing, pairAt, sourceAt, targetAt, everyEnd}
 use Rattle.pairs.specs.Places.{startAt, lengthAt, inside, textAt, pairIn, pairsIn, keyAt, fitsAt, placesFit, placesAll}
 use Rattle.pairs.specs.Best.{better, bestBy}
 use Rattle.pairs.proofs.BestLaws.{Best, Says, says}
@@ -115,3 +115,8 @@ module _ (store : Text) (places : List ℕ) where
   fit-texts zero h = refl
   fit-texts (suc n) h =
       rw (fit-texts n (and-l (placesFit store places n) (fitsAt store places n) h)) (fit-text n (and-r (placesFit store places n) (fitsAt store places n) h))
+
+-- a pair read by its ends
+pub pair-is : (store : Text) (places : List ℕ) (i : ℕ) (s t : Text) → s ≡ keyAt store places false i → t ≡ keyAt store places true i → pair s t ≡ pairIn store places i
+unfolding pairIn
+pair-is store places i s t h k = let z : 2 * i + 0 ≡ 2 * i = omega arith in rw (h, k, z)

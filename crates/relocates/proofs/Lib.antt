@@ -1,8 +1,4 @@
 pub mod StatusWays
 pub mod MarkWays
-mod SearchWays
-mod StepWays
-mod ChainWays
-mod CallWays
 mod AnalyzeWays
 mod ActiveWays

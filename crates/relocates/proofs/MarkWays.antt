@@ -15,12 +15,12 @@ use Rattle.text.specs.Text.{Text, written}
 use Rattle.text.proofs.BoolLaws.{told}
 use Rattle.pairs.specs.Pair.{Pair, pair, pairAt}
 use Rattle.pairs.specs.Places.{pairIn, pairsIn, keyAt}
-use Rattle.pairs.proofs.PlaceLaws.{pairsIn-at, pairsIn-length}
+use Rattle.pairs.proofs.PlaceLaws.{pair-is, pairsIn-at, pairsIn-length}
 use Rattle.relocates.specs.declared.RelocateOccurrence.{RelocateOccurrence}
 use Rattle.relocates.specs.declared.RelocateOccurrence.the-variants.{Active, DroppedStructural, DroppedDuplicateSource, DroppedConflict}
 use Rattle.relocates.specs.Status.{statusByte, someBelow, structural, reserves, duplicate, canConflict, against, conflict, occurrenceOr, occurrence, bytesOf, statuses}
 use Rattle.relocates.specs.Marks.{marks, marked}
-use Rattle.relocates.proofs.StatusWays.{pair-is, some-same, some-hit, some-none, some-on, duplicate-in}
+use Rattle.relocates.proofs.StatusWays.{some-same, some-hit, some-none, some-on, duplicate-in}
 
 -- `first_occurrence`
 module _ (store : Text) (places : List ℕ) (i : ℕ) (s t : Text) (hs : s ≡ keyAt store places false i) (ht : t ≡ keyAt store places true i)

@@ -1,9 +1,9 @@
 -- What each way through the tests of pairs gives. Assumes nothing.
 use mathlib.Core.Path.{_≡_, refl, sym, ap, _∙_}
 use mathlib.Core.Logic.{_≢_}
-use mathlib.Core.Bool.{Bool, true, false, not, cond, _&&_, _||_}
-use mathlib.Core.List.{List, [], _∷_, _++_}
-use Prim.Native.Nat.{ℕ, zero, suc, _+_, _*_, _≤_, _<_}
+use mathlib.Core.Bool.{Bool, true, false, not, _&&_}
+use mathlib.Core.List.{List}
+use Prim.Native.Nat.{ℕ, zero, suc, _+_, _≤_, _<_}
 use native.Mathlib.Omega.{arith}
 use native.Mathlib.Numerals.{add-one}
 use native.Mathlib.Decide.{ℕ-discrete}
@@ -11,21 +11,14 @@ use lib.Dec.{eqb}
 use lib.ListN.{length}
 use borrow.Author.Tests.{eq-eqb, ne-eqb}
 use Rattle.text.specs.Text.{Text, isNil, equal}
-use Rattle.text.proofs.BoolLaws.{told, told-false, told-true, or-right, or-false, and-no, and-yes}
+use Rattle.text.proofs.TextLaws.{nil-length, nil-not}
+use Rattle.text.proofs.BoolLaws.{told, told-false, told-true, or-right, and-no, and-yes}
 use Rattle.prefix.specs.Prefix.{hasPrefix}
 use Rattle.prefix.specs.Elements.{names}
 use Rattle.pairs.specs.Pair.{Pair, pair, pairAt}
-use Rattle.pairs.specs.Places.{textAt, pairIn, pairsIn, keyAt}
-use Rattle.pairs.proofs.PlaceLaws.{pairsIn-at, pairsIn-length}
+use Rattle.pairs.specs.Places.{pairIn, pairsIn, keyAt}
+use Rattle.pairs.proofs.PlaceLaws.{pairsIn-at, pair-is}
 use Rattle.relocates.specs.Status.{someBelow, structural, reserves, duplicate, alike, pairConflicts, against}
-
-pub nil-length : (t : Text) → length t ≡ 0 → isNil t ≡ true
-nil-length [] h = refl
-nil-length (a ∷ t) h = absurd (omega arith)
-
-pub nil-not : (t : Text) → length t ≢ 0 → isNil t ≡ false
-nil-not [] h = absurd (h refl)
-nil-not (a ∷ t) h = refl
 
 -- `is_structural`
 module _ (s t : Text) where
@@ -53,11 +46,6 @@ module _ (s t : Text) where
         structural-below l c hc = rw (nil-not t h, ← k, ne-eqb n 1 e, told ha la, told hb l) hc
 
 pub ruleset structure = (structural-deletes, structural-root, structural-equal, structural-above, structural-below)
-
--- a pair read by its ends
-pub pair-is : (store : Text) (places : List ℕ) (i : ℕ) (s t : Text) → s ≡ keyAt store places false i → t ≡ keyAt store places true i → pair s t ≡ pairIn store places i
-unfolding pairIn
-pair-is store places i s t h k = let z : 2 * i + 0 ≡ 2 * i = omega arith in rw (h, k, z)
 
 -- `does_reserve`
 module _ (store : Text) (places : List ℕ) (k : ℕ) (u s : Text) (h : s ≡ keyAt store places false k) (a : Bool) (ha : a ≡ equal s u) where

@@ -1,5 +1,3 @@
 pub mod Status
 pub mod Marks
-pub mod Chain
-pub mod Search
 pub mod Calls

@@ -11,7 +11,7 @@ use lib.Dec.{eqb}
 use lib.ListN.{length, getD, drop, drop-of-length-le, length-append, List·getD-append}
 use lib.Seq.{drop-cons, drop-append-seam}
 use borrow.Author.Tests.{eqb-true}
-use Rattle.text.specs.Text.{Text, isSome, equal, after, starts, lastIs, lacks}
+use Rattle.text.specs.Text.{Text, isNil, isSome, equal, after, starts, lastIs, lacks}
 use Rattle.text.proofs.BoolLaws.{and-l, and-r, and-yes, and-assoc, eqb-self, not-true}
 
 -- `none` is not `some`
@@ -206,3 +206,12 @@ lacks-join b [] r e f = f
 lacks-join b (a ∷ s) r e f = rw (and-l (not (eqb a b)) (lacks b s) e) (lacks-join b s r (and-r (not (eqb a b)) (lacks b s) e) f)
 
 pub ruleset texts = (starts-shorter, starts-none, starts-differ, starts-on, starts-end, equal-lengths, equal-starts, last-none, last-some, lacks-on, lacks-end)
+
+-- an empty text, by its length
+pub nil-length : (t : Text) → length t ≡ 0 → isNil t ≡ true
+nil-length [] h = refl
+nil-length (a ∷ t) h = absurd (omega arith)
+
+pub nil-not : (t : Text) → length t ≢ 0 → isNil t ≡ false
+nil-not [] h = absurd (h refl)
+nil-not (a ∷ t) h = refl

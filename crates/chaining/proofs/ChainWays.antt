@@ -1,0 +1,166 @@
+-- What each way through a chain gives. Assumes nothing.
+use mathlib.Core.Path.{_≡_, refl, sym, ap, _∙_}
+use mathlib.Core.Bool.{Bool, true, false}
+use mathlib.Core.List.{List}
+use mathlib.Core.Option.{Option, none, some, Option·getD}
+use Prim.Native.Nat.{ℕ, suc, _+_, _-_, _≤_, _<_}
+use native.Mathlib.Omega.{arith}
+use native.Mathlib.Numerals.{add-one}
+use lib.ListN.{length, take, length-take}
+use borrow.Author.Tests.{leb-true}
+use Rattle.text.specs.Text.{Text, placed}
+use Rattle.text.proofs.WriteLaws.{placed-first, read-back}
+use Rattle.grammar.specs.Legal.{legal, fits}
+use Rattle.pairs.specs.Pair.{Pair}
+use Rattle.pairs.specs.Places.{pairsIn}
+use Rattle.pairs.proofs.PlaceLaws.{pairsIn-length}
+use Rattle.path.specs.declared.Refusal.{Refusal}
+use Rattle.path.specs.declared.Refusal.the-variants.{MadeTooLong}
+use Rattle.path.specs.Outcome.{Outcome, path, refused, made}
+use Rattle.chaining.specs.declared.steps.Step.{Step}
+use Rattle.chaining.specs.declared.steps.Step.the-variants.{Still, Made, Refused}
+use Rattle.chaining.specs.Chain.{nearest, tried, next, Chained, chained, stopped, goingOn, chainFor, chain}
+use Rattle.chaining.specs.Search.{stepOf, stepMemory}
+
+-- a text at the beginning of memory is read back
+pub first-back : (t out : Text) → length t ≤ length out → take (length t) (placed 0 t out) ≡ t
+first-back t out h = rw (placed-first t out h) (read-back t out)
+
+pub made-passed : (q : Text) → fits q ≡ true → legal q ≡ true → made q ≡ path q
+unfolding made
+made-passed q a b = rw (a, b)
+
+fits-short : (q : Text) → fits q ≡ true → length q ≤ 255
+unfolding fits
+fits-short q a = leb-true (length q) 255 a
+
+pub made-short : (q : Text) → made q ≡ path q → length q ≤ 255
+unfolding made
+made-short q e = go (fits q) refl
+  where
+    go : (b : Bool) → fits q ≡ b → length q ≤ 255
+    go true h = fits-short q h
+    go false h = absurd (let z : _≡_ {A = Outcome} (refused MadeTooLong) (path q) = rw h at e in let y : _≡_ {A = ℕ} 0 1 = cc in omega arith)
+
+-- what the answer to a replacement says of it
+pub record Went (o : Option Text) (m : ℕ) : Type 0 where
+  pub text : Text
+  pub made-it : o ≡ some text
+  pub passed : made text ≡ path text
+  pub long : m ≡ length text
+  pub short : m ≤ 255
+
+abbrev kind : Step → ℕ
+kind Still = 0
+kind (Made n) = 1
+kind (Refused x) = 2
+
+pub went : (o : Option Text) (m : ℕ) → stepOf o ≡ Made m → Went o m
+unfolding stepOf
+went none m e = absurd (let z : _≡_ {A = ℕ} 0 1 = ap kind e in omega arith)
+went (some q) m e = go (fits q) (legal q) refl refl
+  where
+    go : (a b : Bool) → fits q ≡ a → legal q ≡ b → Went (some q) m
+    go true true ha hb =
+        let z : Made (length q) ≡ Made m = rw (ha, hb) at e in
+        let y : m ≡ length q = cc in
+        record { text = q; made-it = refl; passed = made-passed q ha hb; long = y; short = omega (arith, fits-short q ha) }
+    go true false ha hb = absurd (let z : _≡_ {A = ℕ} 2 1 = ap kind (rw (ha, hb) at e) in omega arith)
+    go false b ha hb = absurd (let z : _≡_ {A = ℕ} 2 1 = ap kind (rw ha at e) in omega arith)
+
+pub still : (o : Option Text) → stepOf o ≡ Still → o ≡ none
+unfolding stepOf
+still none e = refl
+still (some q) e = go (made q) refl
+  where
+    go : (r : Outcome) → made q ≡ r → some q ≡ none
+    go (path t) h = absurd (let z : _≡_ {A = ℕ} 1 0 = ap kind (rw h at e) in omega arith)
+    go (refused x) h = absurd (let z : _≡_ {A = ℕ} 2 0 = ap kind (rw h at e) in omega arith)
+
+ended : (on : Text → ℕ → Chained) (p : Text) (k : ℕ) (o : Option Text) (x : Refusal) → stepOf o ≡ Refused x → goingOn on p k o ≡ stopped x
+unfolding stepOf goingOn
+ended on p k none x e = absurd (let z : _≡_ {A = ℕ} 0 2 = ap kind e in omega arith)
+ended on p k (some q) x e = go (made q) refl
+  where
+    go : (r : Outcome) → made q ≡ r → goingOn on p k (some q) ≡ stopped x
+    go (path t) h = absurd (let z : _≡_ {A = ℕ} 1 2 = ap kind (rw h at e) in omega arith)
+    go (refused y) h = let z : Refused y ≡ Refused x = rw h at e in let w : y ≡ x = cc in rw (h, w)
+
+pub blocked : (o : Option Text) (p : Text) (x : Refusal) → stepOf o ≡ Refused x → made (Option·getD o p) ≡ refused x
+unfolding stepOf
+blocked none p x e = absurd (let z : _≡_ {A = ℕ} 0 2 = ap kind e in omega arith)
+blocked (some q) p x e = go (made q) refl
+  where
+    go : (r : Outcome) → made q ≡ r → made q ≡ refused x
+    go (path t) h = absurd (let z : _≡_ {A = ℕ} 1 2 = ap kind (rw h at e) in omega arith)
+    go (refused y) h = let z : Refused y ≡ Refused x = rw h at e in let w : y ≡ x = cc in rw (h, w)
+
+went-on : (on : Text → ℕ → Chained) (p : Text) (k : ℕ) (o : Option Text) (m : ℕ) (w : Went o m) → goingOn on p k o ≡ on (w .text) (suc k)
+unfolding goingOn
+went-on on p k o m w = rw (w .made-it, w .passed)
+
+-- what was made is read back
+pub back : (q : Text) (m : ℕ) (o : Option Text) (mem mem₀ : Text) → o ≡ some q → m ≡ length q → m ≤ 255 → length mem₀ ≡ 255 → mem ≡ stepMemory o mem₀ → take m mem ≡ q
+unfolding stepMemory
+back q m o mem mem₀ e l h r a = rw (a, e, l) (first-back q mem₀ (omega arith))
+
+module _ (o : Option Text) (m : ℕ) (w : Went o m) (mem mem₀ : Text) (r : length mem₀ ≡ 255) (a : mem ≡ stepMemory o mem₀) where
+  pub back-text : take m mem ≡ w .text
+  back-text = back (w .text) m o mem mem₀ (w .made-it) (w .long) (w .short) r a
+
+  pub back-part : m ≡ length (take m mem)
+  back-part = w .long ∙ ap length (sym back-text)
+
+  pub back-inside : m ≤ length mem
+  back-inside = omega (arith, back-part, length-take m mem)
+
+back-again : (q : Text) (m : ℕ) (part cur cur′ : Text) → part ≡ q → m ≡ length q → m ≤ 255 → length cur ≡ 255 → cur′ ≡ placed 0 part cur → take m cur′ ≡ q
+back-again q m part cur cur′ e l h r b = rw (b, e, l) (first-back q cur (omega arith))
+
+-- a turn of the loop
+module _ (sk : Option Text) (l : List Pair) (p : Text) (n k len : ℕ) (cur : Text) (inv : chain sk l p ≡ chainFor sk l (n - k) (take len cur) k) where
+  pub chain-end : n ≤ k → chained (take len cur) k ≡ chain sk l p
+  unfolding chainFor
+  chain-end h = let z : n - k ≡ 0 = omega arith in sym (inv ∙ ap (λ (m : ℕ). chainFor sk l m (take len cur) k) z)
+
+  module _ (h : k < n) (s : Step) (e : s ≡ stepOf (nearest (tried true sk (take len cur)) l)) where
+    turn : chain sk l p ≡ goingOn (chainFor sk l (n - (k + 1))) (take len cur) k (nearest (tried true sk (take len cur)) l)
+    unfolding chainFor next
+    turn = let z : n - k ≡ suc (n - (k + 1)) = omega arith in inv ∙ ap (λ (m : ℕ). chainFor sk l m (take len cur) k) z
+
+    pub chain-still : s ≡ Still → chained (take len cur) k ≡ chain sk l p
+    unfolding goingOn
+    chain-still g = sym (turn ∙ rw (still (nearest (tried true sk (take len cur)) l) (sym e ∙ g)))
+
+    pub chain-stopped : (x : Refusal) → s ≡ Refused x → stopped x ≡ chain sk l p
+    chain-stopped x g =
+        sym (turn ∙ ended (chainFor sk l (n - (k + 1))) (take len cur) k (nearest (tried true sk (take len cur)) l) x (sym e ∙ g))
+
+    module _ (m : ℕ) (g : s ≡ Made m) where
+      w : Went (nearest (tried true sk (take len cur)) l) m
+      w = went (nearest (tried true sk (take len cur)) l) m (sym e ∙ g)
+
+      pub chain-short : m ≤ 255
+      chain-short = w .short
+
+      module _ (mem mem₀ : Text) (a : mem ≡ stepMemory (nearest (tried true sk (take len cur)) l) mem₀) (r : length mem₀ ≡ 255) where
+        pub chain-part : m ≡ length (take m mem)
+        chain-part = back-part (nearest (tried true sk (take len cur)) l) m w mem mem₀ r a
+
+        pub chain-inside : m ≤ length mem
+        chain-inside = back-inside (nearest (tried true sk (take len cur)) l) m w mem mem₀ r a
+
+        pub chain-on : (cur′ : Text) → cur′ ≡ placed 0 (take m mem) cur → length cur ≡ 255 → chain sk l p ≡ chainFor sk l (n - (k + 1)) (take m cur′) (k + 1)
+        chain-on cur′ b f =
+            let t : take m cur′ ≡ w .text = back-again (w .text) m (take m mem) cur cur′ (back-text (nearest (tried true sk (take len cur)) l) m w mem mem₀ r a) (w .long) (w .short) f b in
+            turn
+            ∙ went-on (chainFor sk l (n - (k + 1))) (take len cur) k (nearest (tried true sk (take len cur)) l) m w
+            ∙ sym (ap (λ (q : Text). chainFor sk l (n - (k + 1)) q (suc k)) t)
+            ∙ sym (ap (λ (i : ℕ). chainFor sk l (n - (k + 1)) (take m cur′) i) (add-one k))
+
+pub chain-begin : (sk : Option Text) (store : Text) (places : List ℕ) (n : ℕ) (p cur cur₀ : Text) → cur ≡ placed 0 p cur₀ → length p ≤ 255 → length cur₀ ≡ 255
+    → chain sk (pairsIn store places n) p ≡ chainFor sk (pairsIn store places n) (n - 0) (take (length p) cur) 0
+unfolding chain
+chain-begin sk store places n p cur cur₀ e h l =
+    let z : n - 0 ≡ n = omega arith in
+    rw (z, e, first-back p cur₀ (omega arith)) (ap (λ (m : ℕ). chainFor sk (pairsIn store places n) m p 0) (pairsIn-length store places n))

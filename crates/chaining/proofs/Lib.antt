@@ -1,0 +1,4 @@
+mod SearchWays
+mod StepWays
+mod ChainWays
+mod CallWays

@@ -1,0 +1,135 @@
+-- What each way through one replacement gives. Assumes nothing.
+use mathlib.Core.Path.{_≡_, refl, sym, ap, _∙_}
+use mathlib.Core.Bool.{Bool, true, false, not, cond, _&&_, false≢true}
+use mathlib.Core.List.{List}
+use mathlib.Core.Option.{Option, none, some}
+use Prim.Native.Nat.{ℕ, zero, suc, _-_, _≤_, _<_}
+use native.Mathlib.Omega.{arith}
+use lib.ListN.{length, take, drop}
+use borrow.Author.Tests.{le-leb, lt-leb}
+use Rattle.text.specs.Text.{Text, isNil, isSome, equal, placed, fitted}
+use Rattle.text.specs.declared.Fit.{Fit}
+use Rattle.text.specs.declared.Fit.the-variants.{Written, Over}
+use Rattle.text.proofs.BoolLaws.{told-false, told-true, not-true, not-false, and-l}
+use Rattle.text.proofs.WriteLaws.{rest-whole, fit-room, fit-over, fit-is, fit-back}
+use Rattle.grammar.specs.Legal.{legal, fits}
+use Rattle.prefix.specs.Prefix.{hasPrefix}
+use Rattle.prefix.specs.Join.{joined, replacePrefix}
+use Rattle.prefix.proofs.PrefixLaws.{prefix-long, replace-prefix, replace-other}
+use Rattle.pairs.specs.Pair.{Pair, pair, pairAt}
+use Rattle.pairs.specs.Places.{pairsIn, keyAt}
+use Rattle.pairs.proofs.PlaceLaws.{pairsIn-at, pairsIn-length}
+use Rattle.path.specs.declared.Refusal.the-variants.{MadeTooLong, MadeIllegal}
+use Rattle.path.specs.Outcome.{made}
+use Rattle.chaining.specs.declared.steps.Longest.{Longest}
+use Rattle.chaining.specs.declared.steps.Step.the-variants.{Still, Made, Refused}
+use Rattle.chaining.specs.Chain.{longer, longest, triedAt, nearest, isSkipped, altered, tried}
+use Rattle.chaining.specs.Search.{chosenOf, stepOf, stepMemory}
+use Rattle.pairs.proofs.PlaceLaws.{pair-is}
+
+-- the pair that was chosen is one of the list, and gives a path
+chosen-is : (n i : ℕ) → some n ≡ some i → n ≡ i
+chosen-is n i e = cc
+
+no-number : {i : ℕ} → none ≡ some i → ⊥
+no-number {i} e = let z : _≡_ {A = ℕ} 0 1 = cc in omega arith
+
+longest-says : (t : Pair → Option Text) (l : List Pair) (n i : ℕ) → longest t l n ≡ some i → (i < n) × (isSome (t (pairAt l i)) ≡ true)
+unfolding longest
+longest-says t l zero i e = absurd (no-number e)
+longest-says t l (suc n) i e = go (isSome (t (pairAt l n)) && longer l (longest t l n) n) refl (longest-says t l n i)
+  where
+    go : (b : Bool) → (isSome (t (pairAt l n)) && longer l (longest t l n) n) ≡ b → (longest t l n ≡ some i → (i < n) × (isSome (t (pairAt l i)) ≡ true))
+        → (i < suc n) × (isSome (t (pairAt l i)) ≡ true)
+    go true h ih =
+        let z : n ≡ i = chosen-is n i (rw h at e) in
+        (omega arith, rw z at (and-l (isSome (t (pairAt l n))) (longer l (longest t l n) n) h))
+    go false h ih = let r = ih (rw h at e) in let a = r .0 in (omega arith, r .1)
+
+-- a pair that gives a path replaces a prefix
+all-none : (a b c : Bool) → isSome (cond a none (cond b none (cond c none none))) ≡ true → ⊥
+all-none true b c h = false≢true h
+all-none false true c h = false≢true h
+all-none false false true h = false≢true h
+all-none false false false h = false≢true h
+
+all-some : (a b c d : Bool) (j : Text) → isSome (cond a none (cond b none (cond c (cond d none (some j)) (some j)))) ≡ true
+    → cond a none (cond b none (cond c (cond d none (some j)) (some j))) ≡ some j
+all-some true b c d j h = absurd (false≢true h)
+all-some false true c d j h = absurd (false≢true h)
+all-some false false true true j h = absurd (false≢true h)
+all-some false false true false j h = refl
+all-some false false false d j h = refl
+
+module _ (alters : Bool) (skip : Option Text) (p s t : Text) (h : isSome (tried alters skip p (pair s t)) ≡ true) where
+  tried-prefix : hasPrefix p s ≡ true
+  unfolding tried altered
+  tried-prefix = go (hasPrefix p s) refl
+    where
+      go : (b : Bool) → hasPrefix p s ≡ b → b ≡ true
+      go true e = refl
+      go false e = absurd (all-none (isNil t) (isSkipped skip s) alters (rw (replace-other p s t e) at h))
+
+  tried-is : tried alters skip p (pair s t) ≡ some (joined s t (take (length p - length s) (drop (length s) p)))
+  unfolding tried altered
+  tried-is =
+      let j : Text = joined s t (take (length p - length s) (drop (length s) p)) in
+      let e : replacePrefix p s t ≡ some j = rw (rest-whole p (length s)) (replace-prefix p s t tried-prefix) in
+      rw e (all-some (isNil t) (isSkipped skip s) alters (equal j p) j (rw e at h))
+
+-- `replace_once`
+module _ (alters : Bool) (skip : Option Text) (p store : Text) (places : List ℕ) (n : ℕ) (f : Longest)
+    (h : chosenOf f ≡ longest (tried alters skip p) (pairsIn store places n) n) where
+  nearest-is : nearest (tried alters skip p) (pairsIn store places n) ≡ triedAt (tried alters skip p) (pairsIn store places n) (chosenOf f)
+  unfolding nearest
+  nearest-is =
+      let l : List Pair = pairsIn store places n in
+      ap (λ (k : ℕ). triedAt (tried alters skip p) l (longest (tried alters skip p) l k)) (pairsIn-length store places n)
+      ∙ ap (λ (o : Option ℕ). triedAt (tried alters skip p) l o) (sym h)
+
+  pub once-still : not (f .found) ≡ true → (mem : Text)
+      → (Still ≡ stepOf (nearest (tried alters skip p) (pairsIn store places n))) × (mem ≡ stepMemory (nearest (tried alters skip p) (pairsIn store places n)) mem)
+  unfolding stepOf stepMemory
+  once-still g mem = rw (nearest-is, not-true (f .found) g) (refl, refl)
+
+  module _ (g : not (f .found) ≡ false) (s t : Text) (hs : s ≡ keyAt store places false (f .at)) (ht : t ≡ keyAt store places true (f .at)) where
+    says : ((f .at) < n) × (isSome (tried alters skip p (pairAt (pairsIn store places n) (f .at))) ≡ true)
+    says = longest-says (tried alters skip p) (pairsIn store places n) n (f .at) (sym h ∙ rw (not-false (f .found) g))
+
+    pair-here : pairAt (pairsIn store places n) (f .at) ≡ pair s t
+    pair-here = pairsIn-at store places n (f .at) (says .0) ∙ sym (pair-is store places (f .at) s t hs ht)
+
+    gives : isSome (tried alters skip p (pair s t)) ≡ true
+    gives = rw pair-here at (says .1)
+
+    pub once-long : length s ≤ length p
+    once-long = prefix-long p s (tried-prefix alters skip p s t gives)
+
+    pub once-text : nearest (tried alters skip p) (pairsIn store places n) ≡ some (joined s t (take (length p - length s) (drop (length s) p)))
+    once-text = nearest-is ∙ rw (not-false (f .found) g, pair-here) (tried-is alters skip p s t gives)
+
+-- questions 7 and 8 of the text j that was made in memory of 255 bytes
+module _ (o : Option Text) (j : Text) (e : o ≡ some j) (buf : Text) (l : length buf ≡ 255) (f : Fit) (h : f ≡ fitted j buf) (mem : Text) (m : mem ≡ placed 0 j buf) where
+  kept : mem ≡ stepMemory o buf
+  unfolding stepMemory
+  kept = rw e m
+
+  pub once-over : f ≡ Over → (Refused MadeTooLong ≡ stepOf o) × (mem ≡ stepMemory o buf)
+  unfolding stepOf made fits
+  once-over k = (rw (e, lt-leb (length j) 255 (omega (arith, fit-over j buf (sym h ∙ k)))) refl, kept)
+
+  module _ (n : ℕ) (w : f ≡ Written n) where
+    short : length j ≤ 255
+    short = omega (arith, fit-room j buf n (sym h ∙ w))
+
+    pub once-illegal : (x : Bool) → x ≡ legal (take n mem) → not x ≡ true → (Refused MadeIllegal ≡ stepOf o) × (mem ≡ stepMemory o buf)
+    unfolding stepOf made fits
+    once-illegal x g k =
+        let b : legal j ≡ false = rw (fit-back j buf f h n w mem m) at (told-false g k) in
+        (rw (e, le-leb (length j) 255 short, b) refl, kept)
+
+    pub once-made : (x : Bool) → x ≡ legal (take n mem) → not x ≡ false → (Made n ≡ stepOf o) × (mem ≡ stepMemory o buf)
+    unfolding stepOf made fits
+    once-made x g k =
+        let b : legal j ≡ true = rw (fit-back j buf f h n w mem m) at (told-true g k) in
+        (rw (e, le-leb (length j) 255 short, b, fit-is j buf f h n w) refl, kept)

@@ -1,0 +1,131 @@
+// Carrying a path through a relocate list: chaining and shifting. Document 01's calls put the questions in
+// their order; a refused call writes nothing.
+pub mod steps;
+
+ghost use mathlib.Core.Path.{_≡_};
+ghost use mathlib.Core.Bool.{cond};
+ghost use mathlib.Core.List.{[]};
+ghost use Prim.Native.Nat.{_≤_};
+ghost use lib.ListN.{length};
+ghost use Rattle.pairs.specs.Places.{pairsIn};
+ghost use Rattle.path.specs.Outcome.{path, reply, memory, made};
+ghost use Rattle.asking.specs.Asking.{lentList};
+ghost use Rattle.chaining.specs.Chain.{chain, shifted};
+ghost use Rattle.chaining.specs.Search.{skipOf};
+ghost use Rattle.chaining.specs.Calls.{shiftCall, chainCall, chainReply, chainMemory};
+
+// The answer of a call that chains a path.
+pub enum Chain {
+    // how many bytes were written, and how many replacements were made
+    Chained(usize, usize),
+    Refused(path::Refusal),
+}
+
+// The endpoint under the nearest rename above it, into lent memory.
+fn shift_out(
+    store: &[u8],
+    places: &[usize],
+    n: usize,
+    endpoint: &[u8],
+    out: &mut [u8],
+) -> path::Reply
+    requires { ⌜ (made (now endpoint) ≡ path (now endpoint)) × (255 ≤ length (now out)) ⌝ }
+    ensures { λ r. ⌜ r ≡ reply (made (shifted (pairsIn (now (store .entry)) (now (places .entry)) n) (now (endpoint .entry)))) ⌝ }
+    ensures { λ r. ⌜ now (out .exit) ≡ memory (made (shifted (pairsIn (now (store .entry)) (now (places .entry)) n) (now (endpoint .entry)))) (now (out .entry)) ⌝ }
+{
+    let mut made = [0u8; 255];
+    let s = steps::replace_once(store, places, n, false, true, endpoint, endpoint, &mut made);
+    match s {
+        steps::Step::Still => {
+            text::write_at(endpoint, 0, out);
+            path::Reply::Written(endpoint.len())
+        }
+        steps::Step::Refused(x) => path::Reply::Refused(x),
+        steps::Step::Made(len) => {
+            text::write_at(&made[..len], 0, out);
+            path::Reply::Written(len)
+        }
+    }
+}
+
+// The endpoint under the nearest rename above it, or the endpoint itself.
+pub fn shift_through_nearest_ancestor(
+    store: &[u8],
+    places: &[usize],
+    count: usize,
+    endpoint: &[u8],
+    out: &mut [u8],
+) -> path::Reply
+    ensures { λ r. ⌜ r ≡ reply (shiftCall (lentList (now (store .entry)) (now (places .entry)) count) (now (endpoint .entry)) (length (now (out .entry)))) ⌝ }
+    ensures { λ r. ⌜ now (out .exit) ≡ memory (shiftCall (lentList (now (store .entry)) (now (places .entry)) count) (now (endpoint .entry)) (length (now (out .entry)))) (now (out .entry)) ⌝ }
+{
+    let q = asking::ask_path(store, places, count, endpoint);
+    if let path::Asked::Refused(x) = q {
+        return path::Reply::Refused(x);
+    }
+    if out.len() < 255 {
+        return path::Reply::Refused(path::Refusal::NoRoom);
+    }
+    shift_out(store, places, count, endpoint, out)
+}
+
+// The skipped source where there is one; otherwise an empty text, which passes every question.
+fn skipped_text<'a>(skips: bool, skipped: &'a [u8]) -> &'a [u8]
+    ensures { λ r. ⌜ now r ≡ cond skips (now (skipped .entry)) [] ⌝ }
+{
+    if skips {
+        return &skipped[..];
+    }
+    &skipped[..0]
+}
+
+// The end of the chain, into lent memory.
+fn chain_out(
+    store: &[u8],
+    places: &[usize],
+    n: usize,
+    skips: bool,
+    skipped: &[u8],
+    path: &[u8],
+    out: &mut [u8],
+) -> Chain
+    requires { ⌜ (length (now path) ≤ 255) × (255 ≤ length (now out)) ⌝ }
+    ensures { λ r. ⌜ r ≡ chainReply (chain (skipOf skips (now (skipped .entry))) (pairsIn (now (store .entry)) (now (places .entry)) n) (now (path .entry))) ⌝ }
+    ensures { λ r. ⌜ now (out .exit) ≡ chainMemory (chain (skipOf skips (now (skipped .entry))) (pairsIn (now (store .entry)) (now (places .entry)) n) (now (path .entry))) (now (out .entry)) ⌝ }
+{
+    let mut current = [0u8; 255];
+    let c = steps::chain_into(store, places, n, skips, skipped, path, &mut current);
+    match c {
+        Chain::Chained(len, steps) => {
+            text::write_at(&current[..len], 0, out);
+            Chain::Chained(len, steps)
+        }
+        Chain::Refused(x) => Chain::Refused(x),
+    }
+}
+
+// The path at the end of its chain of replacements, and how many there were.
+pub fn chain_through_relocates(
+    store: &[u8],
+    places: &[usize],
+    count: usize,
+    skips: bool,
+    skipped: &[u8],
+    path: &[u8],
+    out: &mut [u8],
+) -> Chain
+    ensures { λ r. ⌜ r ≡ chainReply (chainCall (lentList (now (store .entry)) (now (places .entry)) count) (skipOf skips (now (skipped .entry))) (now (path .entry)) (length (now (out .entry)))) ⌝ }
+    ensures { λ r. ⌜ now (out .exit) ≡ chainMemory (chainCall (lentList (now (store .entry)) (now (places .entry)) count) (skipOf skips (now (skipped .entry))) (now (path .entry)) (length (now (out .entry)))) (now (out .entry)) ⌝ }
+{
+    let e = &path[..0];
+    let k = skipped_text(skips, skipped);
+    let q = asking::ask_list(store, places, count, path, k, e, e);
+    if let path::Asked::Refused(x) = q {
+        return Chain::Refused(x);
+    }
+    let room = out.len();
+    if room < 255 {
+        return Chain::Refused(path::Refusal::NoRoom);
+    }
+    chain_out(store, places, count, skips, skipped, path, out)
+}

@@ -1,0 +1,189 @@
+// One replacement after the other. Maps measure a key in elements, chaining measures it in bytes.
+ghost use mathlib.Core.Path.{_≡_};
+ghost use mathlib.Core.Bool.{cond};
+ghost use mathlib.Core.Option.{some};
+ghost use Prim.Native.Nat.{_≤_};
+ghost use lib.ListN.{length};
+ghost use Rattle.text.specs.Text.{isSome};
+ghost use Rattle.prefix.specs.Join.{replacePrefix};
+ghost use Rattle.pairs.specs.Places.{pairsIn};
+ghost use Rattle.chaining.specs.Chain.{isSkipped, altered, tried, longest, nearest, chain};
+ghost use Rattle.chaining.specs.Search.{skipOf, chosenOf, considered, stepOf, stepMemory, chainedIn, within};
+ghost use Rattle.pairs.specs.Pair.{pair};
+
+// A number of bytes: how chaining measures a key.
+pub struct Bytes(pub usize);
+
+// What a search has found so far.
+pub struct Longest {
+    pub found: bool,
+    pub at: usize,
+    pub bytes: Bytes,
+}
+
+// What one replacement comes to.
+pub enum Step {
+    // no pair gives a path
+    Still,
+    // how many bytes were made
+    Made(usize),
+    Refused(path::Refusal),
+}
+
+// Are the pairs with this source left aside?
+fn is_skipped(skips: bool, skipped: &[u8], source: &[u8]) -> bool
+    ensures { λ r. ⌜ r ≡ isSkipped (skipOf skips (now (skipped .entry))) (now (source .entry)) ⌝ }
+{
+    if !skips {
+        return false;
+    }
+    text::is_equal(source, skipped)
+}
+
+// Does the path have the old prefix and, where that counts, become another one by the new one?
+fn does_replace(alters: bool, path: &[u8], old: &[u8], new: &[u8]) -> bool
+    ensures { λ r. ⌜ r ≡ isSome (cond alters (altered (now (path .entry)) (replacePrefix (now (path .entry)) (now (old .entry)) (now (new .entry)))) (replacePrefix (now (path .entry)) (now (old .entry)) (now (new .entry)))) ⌝ }
+{
+    if !prefix::has_prefix(path, old) {
+        return false;
+    }
+    if !alters {
+        return true;
+    }
+    let k = old.len();
+    !prefix::is_join(old, new, &path[k..], path)
+}
+
+// Does the pair of the old and the new prefix give a path?
+fn does_try(alters: bool, skips: bool, skipped: &[u8], path: &[u8], old: &[u8], new: &[u8]) -> bool
+    ensures { λ r. ⌜ r ≡ isSome (tried alters (skipOf skips (now (skipped .entry))) (now (path .entry)) (pair (now (old .entry)) (now (new .entry)))) ⌝ }
+{
+    if new.len() == 0 {
+        return false;
+    }
+    if is_skipped(skips, skipped, old) {
+        return false;
+    }
+    does_replace(alters, path, old, new)
+}
+
+// The longer of what was found and the key at i, where that gives a path.
+fn consider(f: Longest, tries: bool, key: &[u8], i: usize) -> Longest
+    ensures { λ r. ⌜ r ≡ considered f tries (now (key .entry)) i ⌝ }
+{
+    if !tries {
+        return f;
+    }
+    let n = Bytes(key.len());
+    if f.found {
+        if n.0 < f.bytes.0 {
+            return f;
+        }
+    }
+    Longest {
+        found: true,
+        at: i,
+        bytes: n,
+    }
+}
+
+// The pair that gives a path and whose source is longest in bytes, the last on a tie.
+pub fn longest_source(
+    store: &[u8],
+    places: &[usize],
+    n: usize,
+    alters: bool,
+    skips: bool,
+    skipped: &[u8],
+    path: &[u8],
+) -> Longest
+    ensures { λ r. ⌜ chosenOf r ≡ longest (tried alters (skipOf skips (now (skipped .entry))) (now (path .entry))) (pairsIn (now (store .entry)) (now (places .entry)) n) n ⌝ }
+{
+    let mut f = Longest {
+        found: false,
+        at: 0,
+        bytes: Bytes(0),
+    };
+    let mut i = 0;
+    while i < n {
+        let old = pairs::key_at(store, places, i, false);
+        let new = pairs::key_at(store, places, i, true);
+        f = consider(f, does_try(alters, skips, skipped, path, old, new), old, i);
+        i += 1;
+    }
+    f
+}
+
+// One replacement by that pair, made in memory of the caller's own, with questions 7 and 8.
+pub(crate) fn replace_once(
+    store: &[u8],
+    places: &[usize],
+    n: usize,
+    alters: bool,
+    skips: bool,
+    skipped: &[u8],
+    path: &[u8],
+    made: &mut [u8],
+) -> Step
+    requires { ⌜ length (now made) ≡ 255 ⌝ }
+    ensures { λ r. ⌜ r ≡ stepOf (nearest (tried alters (skipOf skips (now (skipped .entry))) (now (path .entry))) (pairsIn (now (store .entry)) (now (places .entry)) n)) ⌝ }
+    ensures { λ r. ⌜ now (made .exit) ≡ stepMemory (nearest (tried alters (skipOf skips (now (skipped .entry))) (now (path .entry))) (pairsIn (now (store .entry)) (now (places .entry)) n)) (now (made .entry)) ⌝ }
+{
+    let f = longest_source(store, places, n, alters, skips, skipped, path);
+    if !f.found {
+        return Step::Still;
+    }
+    let old = pairs::key_at(store, places, f.at, false);
+    let new = pairs::key_at(store, places, f.at, true);
+    let k = old.len();
+    let fit = prefix::join(old, new, &path[k..], made);
+    let text::Fit::Written(len) = fit else {
+        return Step::Refused(path::Refusal::MadeTooLong);
+    };
+    if !grammar::is_legal(&made[..len]) {
+        return Step::Refused(path::Refusal::MadeIllegal);
+    }
+    Step::Made(len)
+}
+
+// The path at the end of the chain, at the beginning of memory of the caller's own.
+pub(crate) fn chain_into(
+    store: &[u8],
+    places: &[usize],
+    n: usize,
+    skips: bool,
+    skipped: &[u8],
+    path: &[u8],
+    current: &mut [u8],
+) -> crate::Chain
+    requires { ⌜ (length (now path) ≤ 255) × (length (now current) ≡ 255) ⌝ }
+    ensures { λ r. ⌜ chainedIn r (now (current .exit)) ≡ chain (skipOf skips (now (skipped .entry))) (pairsIn (now (store .entry)) (now (places .entry)) n) (now (path .entry)) ⌝ }
+    ensures { λ r. ⌜ within r 255 ⌝ }
+{
+    let mut made = [0u8; 255];
+    let mut len = path.len();
+    text::write_at(path, 0, current);
+    let mut k = 0;
+    while k < n {
+        let s = replace_once(
+            store,
+            places,
+            n,
+            true,
+            skips,
+            skipped,
+            &current[..len],
+            &mut made,
+        );
+        match s {
+            Step::Still => return crate::Chain::Chained(len, k),
+            Step::Refused(x) => return crate::Chain::Refused(x),
+            Step::Made(m) => {
+                text::write_at(&made[..m], 0, current);
+                len = m;
+            }
+        }
+        k += 1;
+    }
+    crate::Chain::Chained(len, k)
+}
