@@ -9,7 +9,7 @@ ghost use Rattle.path.specs.Calls.{newCall, isEndCall, hasVariantSelectionCall,
 ghost use Rattle.deriving.specs.Calls.{replacePrefixCall, parentCall, primPathCall, splitPropertyCall, stripCall, ancestorsReply};
 ghost use Rattle.mapping.specs.Calls.{mapSourceToTargetCall, mapTargetToSourceCall, translateToTargetCall};
 ghost use Rattle.batch.specs.Batch.{carriedAt, enough, allAsked, allBytes, allReplies};
-ghost use Rattle.exports.specs.Map.{timeless, wayOf};
+ghost use Rattle.crossing.specs.Map.{timeless, wayOf};
 ghost use Rattle.codes.specs.Code.{askedCode, testCode, countCode, replyCode};
 
 mod frames;
@@ -126,18 +126,6 @@ pub extern "C" fn mudvizsor_path_ancestors(path: &[u8], lengths: &mut [usize]) -
     codes::reply_code(deriving::ancestors(path, lengths))
 }
 
-// The map of a list, with no time offset.
-fn map_of(count: usize, mark: bool) -> map_function::MapFunction
-    ensures { λ r. ⌜ r ≡ timeless count mark ⌝ }
-{
-    let time = layer_offset::LayerOffset::IDENTITY;
-    map_function::MapFunction {
-        count,
-        has_root_identity: mark,
-        time_offset: time,
-    }
-}
-
 // Where the map takes the path, written to out.
 #[no_mangle]
 pub extern "C" fn mudvizsor_map_source_to_target(
@@ -151,7 +139,7 @@ pub extern "C" fn mudvizsor_map_source_to_target(
     ensures { λ r. ⌜ r ≡ replyCode (reply (mapSourceToTargetCall (now (store .entry)) (now (places .entry)) (timeless count mark) (now (path .entry)) (length (now (out .entry))))) ⌝ }
     ensures { λ r. ⌜ now (out .exit) ≡ memory (mapSourceToTargetCall (now (store .entry)) (now (places .entry)) (timeless count mark) (now (path .entry)) (length (now (out .entry)))) (now (out .entry)) ⌝ }
 {
-    let map = map_of(count, mark);
+    let map = crossing::map_of(count, mark);
     codes::reply_code(mapping::map_source_to_target(store, places, map, path, out))
 }
 
@@ -168,7 +156,7 @@ pub extern "C" fn mudvizsor_map_target_to_source(
     ensures { λ r. ⌜ r ≡ replyCode (reply (mapTargetToSourceCall (now (store .entry)) (now (places .entry)) (timeless count mark) (now (path .entry)) (length (now (out .entry))))) ⌝ }
     ensures { λ r. ⌜ now (out .exit) ≡ memory (mapTargetToSourceCall (now (store .entry)) (now (places .entry)) (timeless count mark) (now (path .entry)) (length (now (out .entry)))) (now (out .entry)) ⌝ }
 {
-    let map = map_of(count, mark);
+    let map = crossing::map_of(count, mark);
     codes::reply_code(mapping::map_target_to_source(store, places, map, path, out))
 }
 
@@ -185,21 +173,8 @@ pub extern "C" fn mudvizsor_translate_to_target(
     ensures { λ r. ⌜ r ≡ replyCode (reply (translateToTargetCall (now (store .entry)) (now (places .entry)) (timeless count mark) (now (path .entry)) (length (now (out .entry))))) ⌝ }
     ensures { λ r. ⌜ now (out .exit) ≡ memory (translateToTargetCall (now (store .entry)) (now (places .entry)) (timeless count mark) (now (path .entry)) (length (now (out .entry)))) (now (out .entry)) ⌝ }
 {
-    let map = map_of(count, mark);
+    let map = crossing::map_of(count, mark);
     codes::reply_code(mapping::translate_to_target(store, places, map, path, out))
-}
-
-// The way that a number stands for.
-fn way_of(way: usize) -> mapping::Way
-    ensures { λ r. ⌜ r ≡ wayOf way ⌝ }
-{
-    if way == 0 {
-        return mapping::Way::Out;
-    }
-    if way == 1 {
-        return mapping::Way::Home;
-    }
-    mapping::Way::Translated
 }
 
 // Where the map takes each of n paths, the list checked once. Path i is the text at spot i, its reply
@@ -221,7 +196,7 @@ pub extern "C" fn mudvizsor_map_all(
     ensures { λ r. ⌜ now (out .exit) ≡ allBytes (enough n (length (now (spots .entry))) (length (now (out .entry))) (length (now (replies .entry)))) (carriedAt (wayOf way) (now (store .entry)) (now (places .entry)) (timeless count mark) (now (texts .entry)) (now (spots .entry))) n (now (out .entry)) ⌝ }
     ensures { λ r. ⌜ now (replies .exit) ≡ allReplies (enough n (length (now (spots .entry))) (length (now (out .entry))) (length (now (replies .entry)))) (carriedAt (wayOf way) (now (store .entry)) (now (places .entry)) (timeless count mark) (now (texts .entry)) (now (spots .entry))) n (now (replies .entry)) ⌝ }
 {
-    let map = map_of(count, mark);
-    let way = way_of(way);
+    let map = crossing::map_of(count, mark);
+    let way = crossing::way_of(way);
     codes::asked_code(batch::carry_all(store, places, map, way, texts, spots, n, out, replies))
 }

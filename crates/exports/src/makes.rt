@@ -9,47 +9,7 @@ ghost use Rattle.composing.specs.Calls.{composeCall};
 ghost use Rattle.composing.specs.Implied.{impliedClassCall};
 ghost use Rattle.rebasing.specs.Calls.{rebaseTargetCall, deepenToCall};
 ghost use Rattle.codes.specs.Code.{testCode};
-ghost use Rattle.exports.specs.Made.{numbers, madeValue, madeCode, madeTime};
-
-// The map with these numbers.
-pub(crate) fn map_with(
-    count: usize,
-    mark: bool,
-    offset: f64,
-    scale: f64,
-) -> map_function::MapFunction
-    ensures { λ r. ⌜ r ≡ numbers count mark offset scale ⌝ }
-{
-    map_function::MapFunction {
-        count,
-        has_root_identity: mark,
-        time_offset: layer_offset::LayerOffset { offset, scale },
-    }
-}
-
-// The number of pairs and the mark in one number.
-fn made_value(count: usize, mark: bool) -> usize
-    ensures { λ r. ⌜ r ≡ madeValue count mark ⌝ }
-{
-    if mark {
-        return 512 * (count % 36028797018963968) + 256;
-    }
-    512 * (count % 36028797018963968)
-}
-
-// The reply as one number, and the time offset of a map that was made.
-pub(crate) fn made_code(made: map_function::MapReply, time: &mut [f64; 2]) -> usize
-    ensures { λ r. ⌜ r ≡ madeCode made ⌝ }
-    ensures { λ r. ⌜ now (time .exit) ≡ madeTime made (now (time .entry)) ⌝ }
-{
-    match made {
-        map_function::MapReply::Made(f) => {
-            crate::time::put(f.time_offset, time);
-            made_value(f.count, f.has_root_identity)
-        }
-        map_function::MapReply::Refused(x) => codes::number_of(x),
-    }
-}
+ghost use Rattle.crossing.specs.Made.{numbers, madeCode, madeTime};
 
 // The map of the pairs.
 #[no_mangle]
@@ -66,7 +26,7 @@ pub extern "C" fn mudvizsor_map_new(
     ensures { λ r. ⌜ now (slots .exit) ≡ mapSlots (newCall (now (store .entry)) (now (places .entry)) count (now (out .entry)) (now (slots .entry))) (now (slots .entry)) ⌝ }
     ensures { λ r. ⌜ now (time .exit) ≡ madeTime (mapReply (newCall (now (store .entry)) (now (places .entry)) count (now (out .entry)) (now (slots .entry)))) (now (time .entry)) ⌝ }
 {
-    made_code(making::new(store, places, count, out, slots), time)
+    crossing::made_code(making::new(store, places, count, out, slots), time)
 }
 
 // The map with the mark put to it.
@@ -87,8 +47,8 @@ pub extern "C" fn mudvizsor_map_with_root_identity(
     ensures { λ r. ⌜ now (slots .exit) ≡ mapSlots (withRootIdentityCall (now (store .entry)) (now (places .entry)) (numbers count mark offset scale) (now (out .entry)) (now (slots .entry))) (now (slots .entry)) ⌝ }
     ensures { λ r. ⌜ now (time .exit) ≡ madeTime (mapReply (withRootIdentityCall (now (store .entry)) (now (places .entry)) (numbers count mark offset scale) (now (out .entry)) (now (slots .entry)))) (now (time .entry)) ⌝ }
 {
-    let map = map_with(count, mark, offset, scale);
-    made_code(
+    let map = crossing::map_with(count, mark, offset, scale);
+    crossing::made_code(
         making::with_root_identity(store, places, map, out, slots),
         time,
     )
@@ -118,9 +78,9 @@ pub extern "C" fn mudvizsor_map_compose(
     ensures { λ r. ⌜ now (slots .exit) ≡ mapSlots (composeCall (now (store .entry)) (now (places .entry)) (numbers count mark offset scale) (now (istore .entry)) (now (iplaces .entry)) (numbers icount imark ioffset iscale) (now (out .entry)) (now (slots .entry))) (now (slots .entry)) ⌝ }
     ensures { λ r. ⌜ now (time .exit) ≡ madeTime (mapReply (composeCall (now (store .entry)) (now (places .entry)) (numbers count mark offset scale) (now (istore .entry)) (now (iplaces .entry)) (numbers icount imark ioffset iscale) (now (out .entry)) (now (slots .entry)))) (now (time .entry)) ⌝ }
 {
-    let map = map_with(count, mark, offset, scale);
-    let inner = map_with(icount, imark, ioffset, iscale);
-    made_code(
+    let map = crossing::map_with(count, mark, offset, scale);
+    let inner = crossing::map_with(icount, imark, ioffset, iscale);
+    crossing::made_code(
         composing::compose(store, places, map, istore, iplaces, inner, out, slots),
         time,
     )
@@ -140,7 +100,7 @@ pub extern "C" fn mudvizsor_map_from_pair(
     ensures { λ r. ⌜ now (slots .exit) ≡ mapSlots (fromPairCall (now (source .entry)) (now (target .entry)) (now (out .entry)) (now (slots .entry))) (now (slots .entry)) ⌝ }
     ensures { λ r. ⌜ now (time .exit) ≡ madeTime (mapReply (fromPairCall (now (source .entry)) (now (target .entry)) (now (out .entry)) (now (slots .entry)))) (now (time .entry)) ⌝ }
 {
-    made_code(making::from_pair(source, target, out, slots), time)
+    crossing::made_code(making::from_pair(source, target, out, slots), time)
 }
 
 // The map of one pair, with the mark.
@@ -157,7 +117,7 @@ pub extern "C" fn mudvizsor_map_from_pair_identity(
     ensures { λ r. ⌜ now (slots .exit) ≡ mapSlots (fromPairIdentityCall (now (source .entry)) (now (target .entry)) (now (out .entry)) (now (slots .entry))) (now (slots .entry)) ⌝ }
     ensures { λ r. ⌜ now (time .exit) ≡ madeTime (mapReply (fromPairIdentityCall (now (source .entry)) (now (target .entry)) (now (out .entry)) (now (slots .entry)))) (now (time .entry)) ⌝ }
 {
-    made_code(making::from_pair_identity(source, target, out, slots), time)
+    crossing::made_code(making::from_pair_identity(source, target, out, slots), time)
 }
 
 // The map whose pairs are exchanged.
@@ -178,8 +138,8 @@ pub extern "C" fn mudvizsor_map_inverse(
     ensures { λ r. ⌜ now (slots .exit) ≡ mapSlots (inverseCall (now (store .entry)) (now (places .entry)) (numbers count mark offset scale) (now (out .entry)) (now (slots .entry))) (now (slots .entry)) ⌝ }
     ensures { λ r. ⌜ now (time .exit) ≡ madeTime (mapReply (inverseCall (now (store .entry)) (now (places .entry)) (numbers count mark offset scale) (now (out .entry)) (now (slots .entry)))) (now (time .entry)) ⌝ }
 {
-    let map = map_with(count, mark, offset, scale);
-    made_code(making::inverse(store, places, map, out, slots), time)
+    let map = crossing::map_with(count, mark, offset, scale);
+    crossing::made_code(making::inverse(store, places, map, out, slots), time)
 }
 
 // The map without the pairs that have this source.
@@ -201,8 +161,8 @@ pub extern "C" fn mudvizsor_map_dropping_source(
     ensures { λ r. ⌜ now (slots .exit) ≡ mapSlots (droppingSourceCall (now (store .entry)) (now (places .entry)) (numbers count mark offset scale) (now (source .entry)) (now (out .entry)) (now (slots .entry))) (now (slots .entry)) ⌝ }
     ensures { λ r. ⌜ now (time .exit) ≡ madeTime (mapReply (droppingSourceCall (now (store .entry)) (now (places .entry)) (numbers count mark offset scale) (now (source .entry)) (now (out .entry)) (now (slots .entry)))) (now (time .entry)) ⌝ }
 {
-    let map = map_with(count, mark, offset, scale);
-    made_code(
+    let map = crossing::map_with(count, mark, offset, scale);
+    crossing::made_code(
         making::dropping_source(store, places, map, source, out, slots),
         time,
     )
@@ -228,8 +188,8 @@ pub extern "C" fn mudvizsor_map_rebase_target(
     ensures { λ r. ⌜ now (slots .exit) ≡ mapSlots (rebaseTargetCall (now (store .entry)) (now (places .entry)) (numbers count mark offset scale) (now (from .entry)) (now (to .entry)) (now (out .entry)) (now (slots .entry))) (now (slots .entry)) ⌝ }
     ensures { λ r. ⌜ now (time .exit) ≡ madeTime (mapReply (rebaseTargetCall (now (store .entry)) (now (places .entry)) (numbers count mark offset scale) (now (from .entry)) (now (to .entry)) (now (out .entry)) (now (slots .entry)))) (now (time .entry)) ⌝ }
 {
-    let map = map_with(count, mark, offset, scale);
-    made_code(
+    let map = crossing::map_with(count, mark, offset, scale);
+    crossing::made_code(
         rebasing::rebase_target(store, places, map, from, to, out, slots),
         time,
     )
@@ -254,8 +214,8 @@ pub extern "C" fn mudvizsor_map_deepen_to(
     ensures { λ r. ⌜ now (slots .exit) ≡ mapSlots (deepenToCall (now (store .entry)) (now (places .entry)) (numbers count mark offset scale) (now (path .entry)) (now (out .entry)) (now (slots .entry))) (now (slots .entry)) ⌝ }
     ensures { λ r. ⌜ now (time .exit) ≡ madeTime (mapReply (deepenToCall (now (store .entry)) (now (places .entry)) (numbers count mark offset scale) (now (path .entry)) (now (out .entry)) (now (slots .entry)))) (now (time .entry)) ⌝ }
 {
-    let map = map_with(count, mark, offset, scale);
-    made_code(
+    let map = crossing::map_with(count, mark, offset, scale);
+    crossing::made_code(
         rebasing::deepen_to(store, places, map, path, out, slots),
         time,
     )
@@ -285,9 +245,9 @@ pub extern "C" fn mudvizsor_map_implied_class(
     ensures { λ r. ⌜ now (slots .exit) ≡ mapSlots (impliedClassCall (now (store .entry)) (now (places .entry)) (numbers count mark offset scale) (now (istore .entry)) (now (iplaces .entry)) (numbers icount imark ioffset iscale) (now (out .entry)) (now (slots .entry))) (now (slots .entry)) ⌝ }
     ensures { λ r. ⌜ now (time .exit) ≡ madeTime (mapReply (impliedClassCall (now (store .entry)) (now (places .entry)) (numbers count mark offset scale) (now (istore .entry)) (now (iplaces .entry)) (numbers icount imark ioffset iscale) (now (out .entry)) (now (slots .entry)))) (now (time .entry)) ⌝ }
 {
-    let map = map_with(count, mark, offset, scale);
-    let inner = map_with(icount, imark, ioffset, iscale);
-    made_code(
+    let map = crossing::map_with(count, mark, offset, scale);
+    let inner = crossing::map_with(icount, imark, ioffset, iscale);
+    crossing::made_code(
         composing::implied::implied_class(store, places, map, istore, iplaces, inner, out, slots),
         time,
     )
@@ -305,6 +265,6 @@ pub extern "C" fn mudvizsor_map_is_noop(
 ) -> usize
     ensures { λ r. ⌜ r ≡ testCode (isNoopCall (now (store .entry)) (now (places .entry)) (numbers count mark offset scale)) ⌝ }
 {
-    let map = map_with(count, mark, offset, scale);
+    let map = crossing::map_with(count, mark, offset, scale);
     codes::test_code(making::is_noop(store, places, map))
 }

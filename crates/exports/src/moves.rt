@@ -7,7 +7,7 @@ ghost use Rattle.chaining.specs.Search.{skipOf};
 ghost use Rattle.relocates.specs.Calls.{analyzeReply, analyzeMemory};
 ghost use Rattle.chaining.specs.Calls.{shiftCall, chainCall, chainReply, chainMemory};
 ghost use Rattle.codes.specs.Code.{replyCode};
-ghost use Rattle.exports.specs.Made.{chainValue, chainCode};
+ghost use Rattle.crossing.specs.Made.{chainCode};
 
 // The status of each pair, a byte each, written to out.
 #[no_mangle]
@@ -21,23 +21,6 @@ pub extern "C" fn mudvizsor_analyze_relocate_occurrences(
     ensures { λ r. ⌜ now (out .exit) ≡ analyzeMemory (analyzeReply (lentList (now (store .entry)) (now (places .entry)) count) (length (now (out .entry)))) (lentList (now (store .entry)) (now (places .entry)) count) (now (out .entry)) ⌝ }
 {
     codes::reply_code(relocates::analyze_relocate_occurrences(store, places, count, out))
-}
-
-// The length and the steps in one number.
-fn chain_value(len: usize, steps: usize) -> usize
-    ensures { λ r. ⌜ r ≡ chainValue len steps ⌝ }
-{
-    65536 * (steps % 281474976710656) + 256 * (len % 256)
-}
-
-// The reply as one number.
-fn chain_code(c: chaining::Chain) -> usize
-    ensures { λ r. ⌜ r ≡ chainCode c ⌝ }
-{
-    match c {
-        chaining::Chain::Chained(len, steps) => chain_value(len, steps),
-        chaining::Chain::Refused(x) => codes::number_of(x),
-    }
 }
 
 // The end of the path's chain of replacements, written to out. Pairs with the skipped source are left
@@ -55,7 +38,15 @@ pub extern "C" fn mudvizsor_chain_through_relocates(
     ensures { λ r. ⌜ r ≡ chainCode (chainReply (chainCall (lentList (now (store .entry)) (now (places .entry)) count) (skipOf skips (now (skipped .entry))) (now (path .entry)) (length (now (out .entry))))) ⌝ }
     ensures { λ r. ⌜ now (out .exit) ≡ chainMemory (chainCall (lentList (now (store .entry)) (now (places .entry)) count) (skipOf skips (now (skipped .entry))) (now (path .entry)) (length (now (out .entry)))) (now (out .entry)) ⌝ }
 {
-    chain_code(chaining::chain_through_relocates(store, places, count, skips, skipped, path, out))
+    crossing::chain_code(chaining::chain_through_relocates(
+        store,
+        places,
+        count,
+        skips,
+        skipped,
+        path,
+        out,
+    ))
 }
 
 // The endpoint under the nearest rename above it, or itself, written to out.

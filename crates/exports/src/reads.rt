@@ -6,8 +6,8 @@ ghost use Rattle.maps.specs.New.{identity, null};
 ghost use Rattle.map_function.specs.Made.{numbersOf};
 ghost use Rattle.map_function.specs.Read.{isNull, isPathIdentity, isIdentityMap};
 ghost use Rattle.map_function.specs.declared.MapReply.the-variants.{Made};
-ghost use Rattle.exports.specs.Time.{floats};
-ghost use Rattle.exports.specs.Made.{numbers, madeCode, madeTime, withTimeOffsetCall};
+ghost use Rattle.crossing.specs.Time.{floats};
+ghost use Rattle.crossing.specs.Made.{numbers, madeCode, madeTime, withTimeOffsetCall};
 
 // The map that leaves every path as it is.
 #[no_mangle]
@@ -16,7 +16,7 @@ pub extern "C" fn mudvizsor_map_identity(time: &mut [f64; 2]) -> usize
     ensures { λ r. ⌜ now (time .exit) ≡ madeTime (Made (numbersOf identity noOffset)) (now (time .entry)) ⌝ }
 {
     let map = map_function::MapFunction::identity();
-    crate::makes::made_code(map_function::MapReply::Made(map), time)
+    crossing::made_code(map_function::MapReply::Made(map), time)
 }
 
 // The map that maps nothing.
@@ -26,7 +26,7 @@ pub extern "C" fn mudvizsor_map_null(time: &mut [f64; 2]) -> usize
     ensures { λ r. ⌜ now (time .exit) ≡ madeTime (Made (numbersOf null noOffset)) (now (time .entry)) ⌝ }
 {
     let map = map_function::MapFunction::null();
-    crate::makes::made_code(map_function::MapReply::Made(map), time)
+    crossing::made_code(map_function::MapReply::Made(map), time)
 }
 
 // Does the map map nothing?
@@ -34,7 +34,7 @@ pub extern "C" fn mudvizsor_map_null(time: &mut [f64; 2]) -> usize
 pub extern "C" fn mudvizsor_map_is_null(count: usize, mark: bool, offset: f64, scale: f64) -> bool
     ensures { λ r. ⌜ r ≡ isNull (numbers count mark offset scale) ⌝ }
 {
-    crate::makes::map_with(count, mark, offset, scale).is_null()
+    crossing::map_with(count, mark, offset, scale).is_null()
 }
 
 // Does it leave every path as it is?
@@ -47,7 +47,7 @@ pub extern "C" fn mudvizsor_map_path_is_identity(
 ) -> bool
     ensures { λ r. ⌜ r ≡ isPathIdentity (numbers count mark offset scale) ⌝ }
 {
-    crate::makes::map_with(count, mark, offset, scale).path_is_identity()
+    crossing::map_with(count, mark, offset, scale).path_is_identity()
 }
 
 // Does it leave every path and every time as it is?
@@ -60,7 +60,7 @@ pub extern "C" fn mudvizsor_map_is_identity(
 ) -> bool
     ensures { λ r. ⌜ r ≡ isIdentityMap (numbers count mark offset scale) ⌝ }
 {
-    crate::makes::map_with(count, mark, offset, scale).is_identity()
+    crossing::map_with(count, mark, offset, scale).is_identity()
 }
 
 // Its mark.
@@ -73,7 +73,7 @@ pub extern "C" fn mudvizsor_map_has_root_identity(
 ) -> bool
     ensures { λ r. ⌜ r ≡ numbers count mark offset scale .«has_root_identity» ⌝ }
 {
-    crate::makes::map_with(count, mark, offset, scale).has_root_identity()
+    crossing::map_with(count, mark, offset, scale).has_root_identity()
 }
 
 // Its time offset.
@@ -87,22 +87,8 @@ pub extern "C" fn mudvizsor_map_time_offset(
 )
     ensures { λ r. ⌜ now (time .exit) ≡ floats (numbers count mark offset scale .«time_offset») ⌝ }
 {
-    let map = crate::makes::map_with(count, mark, offset, scale);
-    crate::time::put(map.time_offset(), time)
-}
-
-// The map with its time offset replaced; its pairs stay where they are. Question 4 is put to their
-// number.
-fn with_time_offset(
-    map: map_function::MapFunction,
-    offset: layer_offset::LayerOffset,
-) -> map_function::MapReply
-    ensures { λ r. ⌜ r ≡ withTimeOffsetCall map offset ⌝ }
-{
-    if 64 < map.count {
-        return map_function::MapReply::Refused(path::Refusal::TooMany);
-    }
-    map_function::MapReply::Made(map.with_time_offset(offset))
+    let map = crossing::map_with(count, mark, offset, scale);
+    crossing::put(map.time_offset(), time)
 }
 
 // The map with another time offset.
@@ -119,10 +105,10 @@ pub extern "C" fn mudvizsor_map_with_time_offset(
     ensures { λ r. ⌜ r ≡ madeCode (withTimeOffsetCall (numbers count mark offset scale) (timed «new_offset» «new_scale»)) ⌝ }
     ensures { λ r. ⌜ now (time .exit) ≡ madeTime (withTimeOffsetCall (numbers count mark offset scale) (timed «new_offset» «new_scale»)) (now (time .entry)) ⌝ }
 {
-    let map = crate::makes::map_with(count, mark, offset, scale);
+    let map = crossing::map_with(count, mark, offset, scale);
     let new = layer_offset::LayerOffset {
         offset: new_offset,
         scale: new_scale,
     };
-    crate::makes::made_code(with_time_offset(map, new), time)
+    crossing::made_code(crossing::with_time_offset(map, new), time)
 }

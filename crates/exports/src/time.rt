@@ -3,28 +3,14 @@
 ghost use mathlib.Core.Path.{_≡_};
 ghost use Rattle.layer_offset.specs.Number.{plusZero};
 ghost use Rattle.layer_offset.specs.Offset.{timed, isIdentity, isValid, isValidComposition, sanitized, applied, concatenated, inverted, patterns, isClose};
-ghost use Rattle.exports.specs.Time.{floats, bitPatterns};
-
-// Writes offset and scale.
-pub(crate) fn put(made: layer_offset::LayerOffset, out: &mut [f64; 2])
-    ensures { λ r. ⌜ now (out .exit) ≡ floats made ⌝ }
-{
-    *out = [made.offset, made.scale];
-}
-
-// Writes the bits of offset and scale.
-fn put_bits(bits: layer_offset::OffsetBits, out: &mut [u64; 2])
-    ensures { λ r. ⌜ now (out .exit) ≡ bitPatterns bits ⌝ }
-{
-    *out = [bits.0, bits.1];
-}
+ghost use Rattle.crossing.specs.Time.{floats, bitPatterns};
 
 // The offset with these two numbers.
 #[no_mangle]
 pub extern "C" fn mudvizsor_layer_offset_new(offset: f64, scale: f64, out: &mut [f64; 2])
     ensures { λ r. ⌜ now (out .exit) ≡ floats (timed offset scale) ⌝ }
 {
-    put(layer_offset::LayerOffset::new(offset, scale), out)
+    crossing::put(layer_offset::LayerOffset::new(offset, scale), out)
 }
 
 // A scale with no offset.
@@ -32,7 +18,7 @@ pub extern "C" fn mudvizsor_layer_offset_new(offset: f64, scale: f64, out: &mut 
 pub extern "C" fn mudvizsor_layer_offset_scale_only(scale: f64, out: &mut [f64; 2])
     ensures { λ r. ⌜ now (out .exit) ≡ floats (timed plusZero scale) ⌝ }
 {
-    put(layer_offset::LayerOffset::scale_only(scale), out)
+    crossing::put(layer_offset::LayerOffset::scale_only(scale), out)
 }
 
 // Are both numbers finite?
@@ -77,7 +63,7 @@ pub extern "C" fn mudvizsor_layer_offset_to_bits(offset: f64, scale: f64, out: &
     ensures { λ r. ⌜ now (out .exit) ≡ bitPatterns (patterns (timed offset scale)) ⌝ }
 {
     let given = layer_offset::LayerOffset { offset, scale };
-    put_bits(given.to_bits(), out)
+    crossing::put_bits(given.to_bits(), out)
 }
 
 // The time that `time` becomes.
@@ -95,7 +81,7 @@ pub extern "C" fn mudvizsor_layer_offset_inverse(offset: f64, scale: f64, out: &
     ensures { λ r. ⌜ now (out .exit) ≡ floats (inverted (timed offset scale)) ⌝ }
 {
     let given = layer_offset::LayerOffset { offset, scale };
-    put(given.inverse(), out)
+    crossing::put(given.inverse(), out)
 }
 
 // Can it be composed?
@@ -113,7 +99,7 @@ pub extern "C" fn mudvizsor_layer_offset_sanitized(offset: f64, scale: f64, out:
     ensures { λ r. ⌜ now (out .exit) ≡ floats (sanitized (timed offset scale)) ⌝ }
 {
     let given = layer_offset::LayerOffset { offset, scale };
-    put(given.sanitized(), out)
+    crossing::put(given.sanitized(), out)
 }
 
 // The outer offset after the inner one.
@@ -132,5 +118,5 @@ pub extern "C" fn mudvizsor_layer_offset_concatenate(
         scale: inner_scale,
     };
     let given = layer_offset::LayerOffset { offset, scale };
-    put(given.concatenate(inner), out)
+    crossing::put(given.concatenate(inner), out)
 }

@@ -1,5 +1,5 @@
 use mathlib.Core.Path.{ap, _∙_}
-use Rattle.exports.specs.Made.{chainCode}
+use Rattle.crossing.specs.Made.{chainCode}
 use borrow.Author.Needs.{needs}
 use Rattle.exports.proofs.moves.mudvizsor_chain_through_relocates.Statement.{statement}
 use Rattle.exports.proofs.moves.mudvizsor_chain_through_relocates.Tie as tie

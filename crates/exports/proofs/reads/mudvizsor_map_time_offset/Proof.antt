@@ -1,6 +1,6 @@
 use mathlib.Core.Path.{ap, _∙_}
 use Rattle.map_function.specs.declared.MapFunction.{MapFunction}
-use Rattle.exports.specs.Time.{floats}
+use Rattle.crossing.specs.Time.{floats}
 use borrow.Author.Needs.{needs}
 use Rattle.exports.proofs.reads.mudvizsor_map_time_offset.Statement.{statement}
 use Rattle.exports.proofs.reads.mudvizsor_map_time_offset.Tie as tie

@@ -1,5 +1,5 @@
 use mathlib.Core.Path.{ap, _∙_}
-use Rattle.exports.specs.Time.{bitPatterns}
+use Rattle.crossing.specs.Time.{bitPatterns}
 use borrow.Author.Needs.{needs}
 use Rattle.exports.proofs.time.mudvizsor_layer_offset_to_bits.Statement.{statement}
 use Rattle.exports.proofs.time.mudvizsor_layer_offset_to_bits.Tie as tie

@@ -1,7 +1,7 @@
 use mathlib.Core.Path.{refl}
-use Rattle.exports.specs.Time.{floats}
-use Rattle.exports.proofs.time.put.Statement.{statement}
-use Rattle.exports.proofs.time.put.Tie as tie
+use Rattle.crossing.specs.Time.{floats}
+use Rattle.crossing.proofs.put.Statement.{statement}
+use Rattle.crossing.proofs.put.Tie as tie
 
 returns : tie.Need-returns
 unfolding floats

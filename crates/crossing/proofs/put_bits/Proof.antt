@@ -1,7 +1,7 @@
 use mathlib.Core.Path.{refl}
-use Rattle.exports.specs.Time.{bitPatterns}
-use Rattle.exports.proofs.time.put_bits.Statement.{statement}
-use Rattle.exports.proofs.time.put_bits.Tie as tie
+use Rattle.crossing.specs.Time.{bitPatterns}
+use Rattle.crossing.proofs.put_bits.Statement.{statement}
+use Rattle.crossing.proofs.put_bits.Tie as tie
 
 returns : tie.Need-returns
 unfolding bitPatterns

@@ -1,8 +1,8 @@
 use mathlib.Core.Path.{refl}
-use Rattle.exports.specs.Made.{madeCode, madeTime}
+use Rattle.crossing.specs.Made.{madeCode, madeTime}
 use borrow.Author.Needs.{needs}
-use Rattle.exports.proofs.makes.made_code.Statement.{statement}
-use Rattle.exports.proofs.makes.made_code.Tie as tie
+use Rattle.crossing.proofs.made_code.Statement.{statement}
+use Rattle.crossing.proofs.made_code.Tie as tie
 
 enum-known-made : tie.Need-enum-known-made
 enum-known-made c = search needs

@@ -15,7 +15,7 @@ use Rattle.map_function.specs.declared.MapReply.the-variants.{Made, Refused}
 use Rattle.map_function.specs.Read.{timedMap}
 use Rattle.chaining.specs.declared.Chain.{Chain}
 use Rattle.chaining.specs.declared.Chain.the-variants.{Chained, Refused as RefusedChain}
-use Rattle.exports.specs.Time.{floats}
+use Rattle.crossing.specs.Time.{floats}
 
 -- a map's own numbers: how many pairs it has, its mark, and the two numbers of its time offset
 abbrev pub numbers : ℕ → Bool → Float → Float → MapFunction

@@ -1,7 +1,7 @@
 use mathlib.Core.Path.{refl}
 use lib.Ieee.{ofBits}
-use Rattle.exports.proofs.map_of.Statement.{statement}
-use Rattle.exports.proofs.map_of.Tie as tie
+use Rattle.crossing.proofs.map_of.Statement.{statement}
+use Rattle.crossing.proofs.map_of.Tie as tie
 
 returns : tie.Need-returns
 unfolding ofBits

@@ -1,7 +1,7 @@
-use Rattle.exports.specs.Made.{madeValue}
+use Rattle.crossing.specs.Made.{madeValue}
 use borrow.Author.Needs.{needs}
-use Rattle.exports.proofs.makes.made_value.Statement.{statement}
-use Rattle.exports.proofs.makes.made_value.Tie as tie
+use Rattle.crossing.proofs.made_value.Statement.{statement}
+use Rattle.crossing.proofs.made_value.Tie as tie
 
 mul-result : tie.Need-mul-result
 mul-result c = search needs

@@ -1,7 +1,7 @@
-use Rattle.exports.specs.Made.{chainValue}
+use Rattle.crossing.specs.Made.{chainValue}
 use borrow.Author.Needs.{needs}
-use Rattle.exports.proofs.moves.chain_value.Statement.{statement}
-use Rattle.exports.proofs.moves.chain_value.Tie as tie
+use Rattle.crossing.proofs.chain_value.Statement.{statement}
+use Rattle.crossing.proofs.chain_value.Tie as tie
 
 mul-result : tie.Need-mul-result
 mul-result c = search needs

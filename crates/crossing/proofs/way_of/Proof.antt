@@ -1,7 +1,7 @@
 use borrow.Author.Tests.{eq-eqb, ne-eqb}
-use Rattle.exports.specs.Map.{wayOf}
-use Rattle.exports.proofs.way_of.Statement.{statement}
-use Rattle.exports.proofs.way_of.Tie as tie
+use Rattle.crossing.specs.Map.{wayOf}
+use Rattle.crossing.proofs.way_of.Statement.{statement}
+use Rattle.crossing.proofs.way_of.Tie as tie
 
 returns : tie.Need-returns
 unfolding wayOf

@@ -1,7 +1,7 @@
-use Rattle.exports.specs.Made.{chainCode}
+use Rattle.crossing.specs.Made.{chainCode}
 use borrow.Author.Needs.{needs}
-use Rattle.exports.proofs.moves.chain_code.Statement.{statement}
-use Rattle.exports.proofs.moves.chain_code.Tie as tie
+use Rattle.crossing.proofs.chain_code.Statement.{statement}
+use Rattle.crossing.proofs.chain_code.Tie as tie
 
 enum-known-c : tie.Need-enum-known-c
 enum-known-c c = search needs

@@ -1,10 +1,10 @@
 use mathlib.Core.Path.{refl, ap}
 use borrow.Author.Tests.{le-leb, lt-leb}
 use Rattle.map_function.specs.declared.MapReply.the-variants.{Made}
-use Rattle.exports.specs.Made.{withTimeOffsetCall}
+use Rattle.crossing.specs.Made.{withTimeOffsetCall}
 use borrow.Author.Needs.{needs}
-use Rattle.exports.proofs.reads.with_time_offset.Statement.{statement}
-use Rattle.exports.proofs.reads.with_time_offset.Tie as tie
+use Rattle.crossing.proofs.with_time_offset.Statement.{statement}
+use Rattle.crossing.proofs.with_time_offset.Tie as tie
 
 returns : tie.Need-returns
 unfolding withTimeOffsetCall

@@ -1,0 +1,110 @@
+// Maps, ways, chains and time offsets as the plain numbers that cross to Rust and C.
+ghost use mathlib.Core.Path.{_≡_};
+ghost use Rattle.crossing.specs.Map.{timeless, wayOf};
+ghost use Rattle.crossing.specs.Time.{floats, bitPatterns};
+ghost use Rattle.crossing.specs.Made.{numbers, madeValue, madeCode, madeTime, withTimeOffsetCall, chainValue, chainCode};
+
+// The map of a list, with no time offset.
+pub fn map_of(count: usize, mark: bool) -> map_function::MapFunction
+    ensures { λ r. ⌜ r ≡ timeless count mark ⌝ }
+{
+    let time = layer_offset::LayerOffset::IDENTITY;
+    map_function::MapFunction {
+        count,
+        has_root_identity: mark,
+        time_offset: time,
+    }
+}
+
+// The map with these numbers.
+pub fn map_with(count: usize, mark: bool, offset: f64, scale: f64) -> map_function::MapFunction
+    ensures { λ r. ⌜ r ≡ numbers count mark offset scale ⌝ }
+{
+    map_function::MapFunction {
+        count,
+        has_root_identity: mark,
+        time_offset: layer_offset::LayerOffset { offset, scale },
+    }
+}
+
+// The way that a number stands for.
+pub fn way_of(way: usize) -> mapping::Way
+    ensures { λ r. ⌜ r ≡ wayOf way ⌝ }
+{
+    if way == 0 {
+        return mapping::Way::Out;
+    }
+    if way == 1 {
+        return mapping::Way::Home;
+    }
+    mapping::Way::Translated
+}
+
+// Writes offset and scale.
+pub fn put(made: layer_offset::LayerOffset, out: &mut [f64; 2])
+    ensures { λ r. ⌜ now (out .exit) ≡ floats made ⌝ }
+{
+    *out = [made.offset, made.scale];
+}
+
+// Writes the bits of offset and scale.
+pub fn put_bits(bits: layer_offset::OffsetBits, out: &mut [u64; 2])
+    ensures { λ r. ⌜ now (out .exit) ≡ bitPatterns bits ⌝ }
+{
+    *out = [bits.0, bits.1];
+}
+
+// The number of pairs and the mark in one number.
+fn made_value(count: usize, mark: bool) -> usize
+    ensures { λ r. ⌜ r ≡ madeValue count mark ⌝ }
+{
+    if mark {
+        return 512 * (count % 36028797018963968) + 256;
+    }
+    512 * (count % 36028797018963968)
+}
+
+// The reply as one number, and the time offset of a map that was made.
+pub fn made_code(made: map_function::MapReply, time: &mut [f64; 2]) -> usize
+    ensures { λ r. ⌜ r ≡ madeCode made ⌝ }
+    ensures { λ r. ⌜ now (time .exit) ≡ madeTime made (now (time .entry)) ⌝ }
+{
+    match made {
+        map_function::MapReply::Made(f) => {
+            put(f.time_offset, time);
+            made_value(f.count, f.has_root_identity)
+        }
+        map_function::MapReply::Refused(x) => codes::number_of(x),
+    }
+}
+
+// The map with its time offset replaced; its pairs stay where they are. Question 4 is put to their
+// number.
+pub fn with_time_offset(
+    map: map_function::MapFunction,
+    offset: layer_offset::LayerOffset,
+) -> map_function::MapReply
+    ensures { λ r. ⌜ r ≡ withTimeOffsetCall map offset ⌝ }
+{
+    if 64 < map.count {
+        return map_function::MapReply::Refused(path::Refusal::TooMany);
+    }
+    map_function::MapReply::Made(map.with_time_offset(offset))
+}
+
+// The length and the steps in one number.
+fn chain_value(len: usize, steps: usize) -> usize
+    ensures { λ r. ⌜ r ≡ chainValue len steps ⌝ }
+{
+    65536 * (steps % 281474976710656) + 256 * (len % 256)
+}
+
+// The reply as one number.
+pub fn chain_code(c: chaining::Chain) -> usize
+    ensures { λ r. ⌜ r ≡ chainCode c ⌝ }
+{
+    match c {
+        chaining::Chain::Chained(len, steps) => chain_value(len, steps),
+        chaining::Chain::Refused(x) => codes::number_of(x),
+    }
+}
