@@ -15,7 +15,8 @@ use Rattle.text.proofs.WriteLaws.{rest-whole, fit-room, fit-over, fit-is, fit-b
 use Rattle.grammar.specs.Legal.{legal, fits}
 use Rattle.prefix.specs.Prefix.{hasPrefix}
 use Rattle.prefix.specs.Join.{joined, replacePrefix}
-use Rattle.prefix.proofs.PrefixLaws.{prefix-long, replace-prefix, replace-other}
+use Rattle.prefix.proofs.PrefixLaws.{prefix-long}
+use Rattle.prefix.proofs.ReplaceLaws.{replace-prefix, replace-other}
 use Rattle.pairs.specs.Pair.{Pair, pair, pairAt}
 use Rattle.pairs.specs.Places.{pairsIn, keyAt}
 use Rattle.pairs.proofs.PlaceLaws.{pairsIn-at, pairsIn-length}

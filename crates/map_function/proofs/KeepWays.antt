@@ -16,7 +16,7 @@ use Rattle.text.proofs.WriteLaws.{rest-whole}
 use Rattle.grammar.specs.Legal.{isRoot}
 use Rattle.prefix.specs.Elements.{elements}
 use Rattle.prefix.specs.Join.{joined, replacePrefix}
-use Rattle.prefix.proofs.PrefixLaws.{replace-prefix}
+use Rattle.prefix.proofs.ReplaceLaws.{replace-prefix}
 use Rattle.pairs.specs.Pair.{Pair}
 use Rattle.pairs.specs.Places.{keyAt, pairIn, pairsIn}
 use Rattle.listing.specs.Lists.{copied}

@@ -16,7 +16,8 @@ use Rattle.grammar.proofs.LegalLaws.{no-root-dot, legal-last, end-lacks, end-cl
 use Rattle.prefix.specs.Prefix.{follows, hasPrefix}
 use Rattle.prefix.specs.Join.{slashUnless, joined, replacePrefix}
 use Rattle.prefix.specs.Elements.{count}
-use Rattle.prefix.proofs.PrefixLaws.{prefix-made, prefix-rest, replace-made, replace-prefix, replaced-prefix}
+use Rattle.prefix.proofs.PrefixLaws.{prefix-made, prefix-rest}
+use Rattle.prefix.proofs.ReplaceLaws.{replace-made, replace-prefix, replaced-prefix}
 use Rattle.prefix.proofs.CountLaws.{count-root, count-behind}
 
 -- a prim path, or nothing for `/`: what a slash and a name may follow

@@ -17,7 +17,8 @@ use Rattle.text.proofs.WriteLaws.{placed-first, read-back, rest-whole, fit-is, 
 use Rattle.grammar.specs.Legal.{fits}
 use Rattle.prefix.specs.Prefix.{hasPrefix}
 use Rattle.prefix.specs.Join.{joined, replacePrefix}
-use Rattle.prefix.proofs.PrefixLaws.{prefix-long, replace-prefix, replace-other}
+use Rattle.prefix.proofs.PrefixLaws.{prefix-long}
+use Rattle.prefix.proofs.ReplaceLaws.{replace-prefix, replace-other}
 use Rattle.prefix.proofs.JoinWays.{joined-length, separator-short, body-short}
 use Rattle.pairs.specs.Pair.{Pair, pair, sourceAt, targetAt, everyEnd, allShort}
 use Rattle.pairs.specs.Places.{keyAt, pairIn, pairsIn, fourOf}

@@ -17,7 +17,7 @@ use Rattle.grammar.specs.Legal.{legal, fits, isEnd}
 use Rattle.prefix.specs.Prefix.{hasPrefix}
 use Rattle.prefix.specs.Elements.{elements}
 use Rattle.prefix.specs.Join.{replacePrefix}
-use Rattle.prefix.proofs.PrefixLaws.{replace-prefix}
+use Rattle.prefix.proofs.ReplaceLaws.{replace-prefix}
 use Rattle.parts.specs.Strip.{strip, stripFit, stripMemory}
 use Rattle.parts.proofs.StripLaws.{strip-shorter, strip-length, strip-back}
 use Rattle.layer_offset.specs.declared.LayerOffset.{LayerOffset}
