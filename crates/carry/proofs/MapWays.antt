@@ -16,7 +16,7 @@ use Rattle.text.specs.declared.Fit.the-variants.{Written as WrittenFit, Over}
 use Rattle.text.proofs.BoolLaws.{not-true, not-false, told}
 use Rattle.text.proofs.WriteLaws.{placed-first, rest-whole, fit-length, fit-room, fit-over}
 use Rattle.grammar.specs.Legal.{fits}
-use Rattle.prefix.specs.Join.{joined, spoils}
+use Rattle.joining.specs.Join.{joined, spoils}
 use Rattle.pairs.specs.Places.{keyAt}
 use Rattle.pairs.specs.Best.{best, serves}
 use Rattle.serving.specs.Search.{chosenIn}

@@ -12,11 +12,11 @@ use Rattle.text.specs.Text.{Text, isNil, lastIs}
 use Rattle.text.proofs.BoolLaws.{and-l, and-r, and-no, not-true}
 use Rattle.grammar.specs.Legal.{isIdentifierStart, isIdentifierCont, isRoot, legal, fits, isEnd}
 use Rattle.prefix.specs.Prefix.{hasPrefix, follows}
-use Rattle.prefix.specs.Join.{isChild, bare, slashUnless, separator, body, joined, replacePrefix, hangs, spoils}
+use Rattle.joining.specs.Join.{isChild, bare, slashUnless, separator, body, joined, replacePrefix, hangs, spoils}
 use Rattle.prefix.proofs.PrefixLaws.{prefix-rest}
-use Rattle.prefix.proofs.ReplaceLaws.{replace-prefix}
-use Rattle.prefix.proofs.JoinWays.{joined-length, separator-short, body-short}
-use Rattle.prefix.proofs.JoinLegal.{joined-legal}
+use Rattle.joining.proofs.ReplaceLaws.{replace-prefix}
+use Rattle.joining.proofs.JoinWays.{joined-length, separator-short, body-short}
+use Rattle.joining.proofs.JoinLegal.{joined-legal}
 use Rattle.pairs.specs.Pair.{Pair, sourceAt, targetAt, allShort, allEnds}
 use Rattle.pairs.specs.Best.{best, serves}
 use Rattle.pairs.proofs.PlaceLaws.{chosen-best}

@@ -13,7 +13,7 @@ use Rattle.text.specs.declared.Fit.{Fit}
 use Rattle.text.specs.declared.Fit.the-variants.{Written as WrittenFit, Over}
 use Rattle.text.proofs.BoolLaws.{and-no, not-true, not-false}
 use Rattle.text.proofs.WriteLaws.{fit-room, fit-over, fit-back}
-use Rattle.prefix.specs.Join.{joined, spoils}
+use Rattle.joining.specs.Join.{joined, spoils}
 use Rattle.pairs.specs.Places.{keyAt}
 use Rattle.pairs.specs.Best.{best}
 use Rattle.serving.specs.Search.{chosenIn, isAt}

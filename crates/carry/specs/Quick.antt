@@ -7,7 +7,7 @@ use lib.Dec.{leb}
 use lib.ListN.{length, drop}
 use Rattle.text.specs.Text.{Text, isNil}
 use Rattle.grammar.specs.Legal.{fits}
-use Rattle.prefix.specs.Join.{joined, spoils}
+use Rattle.joining.specs.Join.{joined, spoils}
 use Rattle.path.specs.declared.Refusal.the-variants.{NoPath, MadeTooLong, MadeIllegal}
 use Rattle.path.specs.Outcome.{Outcome, path, refused}
 use Rattle.maps.specs.Map.{Map, source, target, chosenOut, chosenHome, same}

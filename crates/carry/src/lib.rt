@@ -15,10 +15,10 @@ fn carry(old: &[u8], new: &[u8], path: &[u8], out: &mut [u8; 255]) -> path::Repl
     ensures { λ r. ⌜ now (out .exit) ≡ memory (joining (now (old .entry)) (now (new .entry)) (drop (length (now (old .entry))) (now (path .entry)))) (now (out .entry)) ⌝ }
 {
     let k = old.len();
-    if prefix::is_spoilt(new, &path[k..]) {
+    if joining::is_spoilt(new, &path[k..]) {
         return path::Reply::Refused(path::Refusal::MadeIllegal);
     }
-    let fit = prefix::join(old, new, &path[k..], out);
+    let fit = joining::join(old, new, &path[k..], out);
     match fit {
         text::Fit::Written(n) => path::Reply::Written(n),
         text::Fit::Over => path::Reply::Refused(path::Refusal::MadeTooLong),
@@ -116,14 +116,14 @@ fn translate_pair(
     ensures { λ r. ⌜ now (out .exit) ≡ memory (translatePair (lentMap (now (store .entry)) (now (places .entry)) n mark) i (now (old .entry)) (now (new .entry)) (now (rest .entry))) (now (out .entry)) ⌝ }
 {
     let mut made = [0u8; 512];
-    let fit = prefix::join(old, new, rest, &mut made);
+    let fit = joining::join(old, new, rest, &mut made);
     let text::Fit::Written(len) = fit else {
         return path::Reply::Refused(path::Refusal::MadeTooLong);
     };
     if !serving::is_best(store, places, n, true, &made[..len], i) {
         return path::Reply::Refused(path::Refusal::NoPath);
     }
-    let spoilt = prefix::is_spoilt(new, rest);
+    let spoilt = joining::is_spoilt(new, rest);
     finish(spoilt, &made[..len], out)
 }
 

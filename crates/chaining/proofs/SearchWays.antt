@@ -14,17 +14,16 @@ use Rattle.text.specs.Text.{Text, isSome, equal}
 use Rattle.text.proofs.BoolLaws.{told, told-false, told-true, not-true, not-false}
 use Rattle.text.proofs.WriteLaws.{rest-whole}
 use Rattle.prefix.specs.Prefix.{hasPrefix}
-use Rattle.prefix.specs.Join.{joined, replacePrefix}
+use Rattle.joining.specs.Join.{joined, replacePrefix}
 use Rattle.prefix.proofs.PrefixLaws.{prefix-long}
-use Rattle.prefix.proofs.ReplaceLaws.{replace-prefix, replace-other}
+use Rattle.joining.proofs.ReplaceLaws.{replace-prefix, replace-other}
 use Rattle.pairs.specs.Pair.{Pair, pair, pairAt}
 use Rattle.pairs.specs.Places.{pairsIn, keyAt}
-use Rattle.pairs.proofs.PlaceLaws.{pairsIn-at}
+use Rattle.pairs.proofs.PlaceLaws.{pairsIn-at, pair-is}
 use Rattle.chaining.specs.declared.steps.Longest.{Longest}
 use Rattle.chaining.specs.Chain.{longer, longest, isSkipped, altered, tried}
 use Rattle.chaining.specs.Search.{skipOf, chosenOf, considered}
 use Rattle.text.proofs.TextLaws.{nil-length, nil-not}
-use Rattle.pairs.proofs.PlaceLaws.{pair-is}
 
 -- `is_skipped`
 module _ (skips : Bool) (k s : Text) where

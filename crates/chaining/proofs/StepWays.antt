@@ -14,19 +14,18 @@ use Rattle.text.proofs.BoolLaws.{told-false, told-true, not-true, not-false, an
 use Rattle.text.proofs.WriteLaws.{rest-whole, fit-room, fit-over, fit-is, fit-back}
 use Rattle.grammar.specs.Legal.{legal, fits}
 use Rattle.prefix.specs.Prefix.{hasPrefix}
-use Rattle.prefix.specs.Join.{joined, replacePrefix}
+use Rattle.joining.specs.Join.{joined, replacePrefix}
 use Rattle.prefix.proofs.PrefixLaws.{prefix-long}
-use Rattle.prefix.proofs.ReplaceLaws.{replace-prefix, replace-other}
+use Rattle.joining.proofs.ReplaceLaws.{replace-prefix, replace-other}
 use Rattle.pairs.specs.Pair.{Pair, pair, pairAt}
 use Rattle.pairs.specs.Places.{pairsIn, keyAt}
-use Rattle.pairs.proofs.PlaceLaws.{pairsIn-at, pairsIn-length}
+use Rattle.pairs.proofs.PlaceLaws.{pairsIn-at, pairsIn-length, pair-is}
 use Rattle.path.specs.declared.Refusal.the-variants.{MadeTooLong, MadeIllegal}
 use Rattle.path.specs.Outcome.{made}
 use Rattle.chaining.specs.declared.steps.Longest.{Longest}
 use Rattle.chaining.specs.declared.steps.Step.the-variants.{Still, Made, Refused}
 use Rattle.chaining.specs.Chain.{longer, longest, triedAt, nearest, isSkipped, altered, tried}
 use Rattle.chaining.specs.Search.{chosenOf, stepOf, stepMemory}
-use Rattle.pairs.proofs.PlaceLaws.{pair-is}
 
 -- the pair that was chosen is one of the list, and gives a path
 chosen-is : (n i : ℕ) → some n ≡ some i → n ≡ i

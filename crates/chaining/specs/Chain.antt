@@ -6,7 +6,7 @@ use mathlib.Core.Option.{Option, none, some, Option·getD}
 use lib.Dec.{leb}
 use lib.ListN.{length}
 use Rattle.text.specs.Text.{Text, isNil, isSome, equal}
-use Rattle.prefix.specs.Join.{replacePrefix}
+use Rattle.joining.specs.Join.{replacePrefix}
 use Rattle.pairs.specs.Pair.{Pair, pairAt}
 use Rattle.path.specs.declared.Refusal.{Refusal}
 use Rattle.path.specs.Outcome.{Outcome, path, refused, made}

@@ -5,7 +5,7 @@ ghost use mathlib.Core.Option.{some};
 ghost use Prim.Native.Nat.{_≤_};
 ghost use lib.ListN.{length};
 ghost use Rattle.text.specs.Text.{isSome};
-ghost use Rattle.prefix.specs.Join.{replacePrefix};
+ghost use Rattle.joining.specs.Join.{replacePrefix};
 ghost use Rattle.pairs.specs.Places.{pairsIn};
 ghost use Rattle.chaining.specs.Chain.{isSkipped, altered, tried, longest, nearest, chain};
 ghost use Rattle.chaining.specs.Search.{skipOf, chosenOf, considered, stepOf, stepMemory, chainedIn, within};
@@ -51,7 +51,7 @@ fn does_replace(alters: bool, path: &[u8], old: &[u8], new: &[u8]) -> bool
         return true;
     }
     let k = old.len();
-    !prefix::is_join(old, new, &path[k..], path)
+    !joining::is_join(old, new, &path[k..], path)
 }
 
 // Does the pair of the old and the new prefix give a path?
@@ -136,7 +136,7 @@ pub(crate) fn replace_once(
     let old = pairs::key_at(store, places, f.at, false);
     let new = pairs::key_at(store, places, f.at, true);
     let k = old.len();
-    let fit = prefix::join(old, new, &path[k..], made);
+    let fit = joining::join(old, new, &path[k..], made);
     let text::Fit::Written(len) = fit else {
         return Step::Refused(path::Refusal::MadeTooLong);
     };

@@ -12,10 +12,10 @@ use Rattle.text.proofs.TextLaws.{no-text, lacks-first, lacks-rest, lacks-behind
 use Rattle.grammar.specs.Legal.{isRoot, legal, isEnd}
 use Rattle.grammar.proofs.LegalLaws.{end-legal, end-lacks}
 use Rattle.prefix.specs.Prefix.{hasPrefix, follows}
-use Rattle.prefix.specs.Join.{isChild, bare, slashUnless, separator, body, joined, replacePrefix, hangs, spoils}
+use Rattle.joining.specs.Join.{isChild, bare, slashUnless, separator, body, joined, replacePrefix, hangs, spoils}
 use Rattle.prefix.proofs.PrefixLaws.{prefix-rest}
-use Rattle.prefix.proofs.ReplaceLaws.{replace-prefix}
-use Rattle.prefix.proofs.JoinLegal.{joined-legal}
+use Rattle.joining.proofs.ReplaceLaws.{replace-prefix}
+use Rattle.joining.proofs.JoinLegal.{joined-legal}
 use Rattle.pairs.specs.Pair.{Pair, allEnds}
 use Rattle.pairs.specs.Best.{best, serves}
 use Rattle.pairs.proofs.PlaceLaws.{chosen-best}

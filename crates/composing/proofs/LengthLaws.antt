@@ -13,8 +13,8 @@ use Rattle.text.proofs.BoolLaws.{and-l, and-r}
 use Rattle.text.proofs.TextLaws.{after-up}
 use Rattle.grammar.specs.Legal.{fits}
 use Rattle.prefix.specs.Prefix.{follows}
-use Rattle.prefix.specs.Join.{joined, joinedSome, replacePrefix}
-use Rattle.prefix.proofs.JoinWays.{joined-length, separator-short, body-short}
+use Rattle.joining.specs.Join.{joined, joinedSome, replacePrefix}
+use Rattle.joining.proofs.JoinWays.{joined-length, separator-short, body-short}
 use Rattle.pairs.specs.Pair.{Pair, sourceAt, targetAt, everyEnd, allShort}
 use Rattle.pairs.specs.Places.{keyAt, pairsIn, endBytes}
 use Rattle.pairs.proofs.PlaceLaws.{pairsIn-source, pairsIn-target}

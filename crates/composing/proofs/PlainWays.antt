@@ -17,8 +17,8 @@ use Rattle.text.specs.declared.Fit.the-variants.{Written, Over}
 use Rattle.text.proofs.BoolLaws.{and-l, and-r, not-true, not-false}
 use Rattle.text.proofs.WriteLaws.{placed-first, rest-whole, fit-length, fit-over}
 use Rattle.prefix.specs.Prefix.{hasPrefix}
-use Rattle.prefix.specs.Join.{joined, replacePrefix}
-use Rattle.prefix.proofs.ReplaceLaws.{replace-prefix}
+use Rattle.joining.specs.Join.{joined, replacePrefix}
+use Rattle.joining.proofs.ReplaceLaws.{replace-prefix}
 use Rattle.pairs.specs.Places.{keyAt}
 use Rattle.pairs.specs.Best.{best, serves}
 use Rattle.serving.specs.Search.{chosenIn}

@@ -8,7 +8,7 @@ ghost use mathlib.Core.List.{[], _∷_, _++_, map as mapped};
 ghost use Prim.Native.Nat.{_+_, _*_, _-_, _≤_};
 ghost use lib.ListN.{length, take, drop};
 ghost use Rattle.text.specs.Text.{over, placed};
-ghost use Rattle.prefix.specs.Join.{joined};
+ghost use Rattle.joining.specs.Join.{joined};
 ghost use Rattle.pairs.specs.Pair.{everyEnd, allShort};
 ghost use Rattle.pairs.specs.Places.{pairsIn, fourOf};
 ghost use Rattle.maps.specs.Compose.{carried, hasSource, added, pulled, composedPairs};
@@ -30,7 +30,7 @@ fn join_at(old: &[u8], new: &[u8], rest: &[u8], at: usize, bytes: &mut [u8]) -> 
     ensures { λ r. ⌜ r ≡ length (joined (now (old .entry)) (now (new .entry)) (now (rest .entry))) ⌝ }
     ensures { λ r. ⌜ now (bytes .exit) ≡ placed at (joined (now (old .entry)) (now (new .entry)) (now (rest .entry))) (now (bytes .entry)) ⌝ }
 {
-    let fit = prefix::join(old, new, rest, &mut bytes[at..]);
+    let fit = joining::join(old, new, rest, &mut bytes[at..]);
     match fit {
         text::Fit::Written(n) => n,
         text::Fit::Over => 0,

@@ -3,7 +3,7 @@
 ghost use mathlib.Core.Path.{_≡_};
 ghost use Prim.Native.Nat.{_≤_};
 ghost use lib.ListN.{length};
-ghost use Rattle.prefix.specs.Join.{joined};
+ghost use Rattle.joining.specs.Join.{joined};
 ghost use Rattle.parts.specs.Parent.{ancestorLens};
 ghost use Rattle.path.specs.Outcome.{reply, memory, made};
 ghost use Rattle.deriving.specs.Calls.{replacePrefixCall, parentCall, primPathCall, splitPropertyCall, stripCall, ancestorsReply};
@@ -17,7 +17,7 @@ fn write_joined(old: &[u8], new: &[u8], rest: &[u8], out: &mut [u8]) -> path::Re
     ensures { λ r. ⌜ now (out .exit) ≡ memory (made (joined (now (old .entry)) (now (new .entry)) (now (rest .entry)))) (now (out .entry)) ⌝ }
 {
     let mut made = [0u8; 255];
-    let fit = prefix::join(old, new, rest, &mut made);
+    let fit = joining::join(old, new, rest, &mut made);
     let text::Fit::Written(n) = fit else {
         return path::Reply::Refused(path::Refusal::MadeTooLong);
     };

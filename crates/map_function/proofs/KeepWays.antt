@@ -15,8 +15,8 @@ use Rattle.text.proofs.BoolLaws.{told, told-false, told-true, not-true, not-fal
 use Rattle.text.proofs.WriteLaws.{rest-whole}
 use Rattle.grammar.specs.Legal.{isRoot}
 use Rattle.prefix.specs.Elements.{elements}
-use Rattle.prefix.specs.Join.{joined, replacePrefix}
-use Rattle.prefix.proofs.ReplaceLaws.{replace-prefix}
+use Rattle.joining.specs.Join.{joined, replacePrefix}
+use Rattle.joining.proofs.ReplaceLaws.{replace-prefix}
 use Rattle.pairs.specs.Pair.{Pair}
 use Rattle.pairs.specs.Places.{keyAt, pairIn, pairsIn}
 use Rattle.listing.specs.Lists.{copied}

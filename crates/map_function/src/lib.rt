@@ -165,7 +165,7 @@ fn is_implied(store: &[u8], kept: &[usize], n: usize, mark: bool, s: &[u8], t: &
         let old = pairs::key_at(store, kept, f.at, false);
         let new = pairs::key_at(store, kept, f.at, true);
         let k = old.len();
-        return prefix::is_join(old, new, &s[k..], t);
+        return joining::is_join(old, new, &s[k..], t);
     }
     if !mark {
         return false;

@@ -14,7 +14,7 @@ use Rattle.text.specs.declared.Fit.the-variants.{Written as WrittenFit}
 use Rattle.text.proofs.BoolLaws.{told}
 use Rattle.text.proofs.WriteLaws.{placed-first, read-back}
 use Rattle.grammar.specs.Legal.{fits}
-use Rattle.prefix.specs.Join.{joined, spoils}
+use Rattle.joining.specs.Join.{joined, spoils}
 use Rattle.parts.specs.Strip.{strip, stripFit, stripMemory}
 use Rattle.parts.proofs.StripLaws.{strip-same, strip-back}
 use Rattle.path.specs.declared.Refusal.{Refusal}

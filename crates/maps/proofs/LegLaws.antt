@@ -11,8 +11,8 @@ use Rattle.text.proofs.BoolLaws.{and-l, not-true}
 use Rattle.text.proofs.TextLaws.{no-text}
 use Rattle.grammar.specs.Legal.{legal, fits, isEnd}
 use Rattle.prefix.specs.Prefix.{hasPrefix}
-use Rattle.prefix.specs.Join.{replacePrefix}
-use Rattle.prefix.proofs.JoinLaws.{Rel, swap, back, weigh, replaced, still-lacks}
+use Rattle.joining.specs.Join.{replacePrefix}
+use Rattle.joining.proofs.JoinLaws.{Rel, swap, back, weigh, replaced, still-lacks}
 use Rattle.parts.proofs.StripLaws.{strip-same}
 use Rattle.pairs.specs.Pair.{allEnds, noEmptySource}
 use Rattle.pairs.specs.Best.{serves}

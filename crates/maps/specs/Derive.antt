@@ -6,7 +6,7 @@ use mathlib.Core.Option.{Option, none, some, Option·getD}
 use lib.ListN.{length}
 use Rattle.text.specs.Text.{Text, equal}
 use Rattle.prefix.specs.Prefix.{hasPrefix}
-use Rattle.prefix.specs.Join.{replacePrefix}
+use Rattle.joining.specs.Join.{replacePrefix}
 use Rattle.parts.specs.Strip.{strip}
 use Rattle.pairs.specs.Pair.{Pair}
 use Rattle.pairs.specs.Best.{bestBy}

@@ -7,7 +7,7 @@ use mathlib.Core.Option.{Option, none, some}
 use lib.Dec.{eqb}
 use lib.ListN.{length}
 use Rattle.text.specs.Text.{Text, isNil}
-use Rattle.prefix.specs.Join.{replacePrefix}
+use Rattle.joining.specs.Join.{replacePrefix}
 use Rattle.parts.specs.Strip.{strip}
 use Rattle.pairs.specs.Pair.{Pair, sourceAt, targetAt}
 use Rattle.pairs.specs.Places.{pairsIn}

@@ -7,7 +7,7 @@ use lib.Dec.{leb}
 use Rattle.text.specs.Text.{Text, equal}
 use Rattle.grammar.specs.Legal.{isRoot}
 use Rattle.prefix.specs.Elements.{count, elements}
-use Rattle.prefix.specs.Join.{replacePrefix}
+use Rattle.joining.specs.Join.{replacePrefix}
 use Rattle.pairs.specs.Pair.{Pair}
 use Rattle.maps.specs.Map.{Map, source, target, chosenOut}
 

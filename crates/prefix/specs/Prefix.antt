@@ -1,7 +1,7 @@
 -- Prefixes of paths. OpenUSD: SdfPath::HasPrefix; unlike there, the empty path is a prefix of every path here.
 use Prim.Native.Nat.{ℕ}
 use mathlib.Core.Bool.{Bool, true, false, _||_}
-use mathlib.Core.List.{List, [], _∷_}
+use mathlib.Core.List.{[], _∷_}
 use mathlib.Core.Option.{Option, none, some}
 use lib.Dec.{eqb}
 use Rattle.text.specs.Text.{Text, after, lastIs}

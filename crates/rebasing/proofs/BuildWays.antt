@@ -16,10 +16,10 @@ use Rattle.text.proofs.BoolLaws.{and-l, and-r, or-right, or-false, told, told-t
 use Rattle.text.proofs.WriteLaws.{placed-first, read-back, rest-whole, fit-is, fit-back, fit-over}
 use Rattle.grammar.specs.Legal.{fits}
 use Rattle.prefix.specs.Prefix.{hasPrefix}
-use Rattle.prefix.specs.Join.{joined, replacePrefix}
+use Rattle.joining.specs.Join.{joined, replacePrefix}
 use Rattle.prefix.proofs.PrefixLaws.{prefix-long}
-use Rattle.prefix.proofs.ReplaceLaws.{replace-prefix, replace-other}
-use Rattle.prefix.proofs.JoinWays.{joined-length, separator-short, body-short}
+use Rattle.joining.proofs.ReplaceLaws.{replace-prefix, replace-other}
+use Rattle.joining.proofs.JoinWays.{joined-length, separator-short, body-short}
 use Rattle.pairs.specs.Pair.{Pair, pair, sourceAt, targetAt, everyEnd, allShort}
 use Rattle.pairs.specs.Places.{keyAt, pairIn, pairsIn, fourOf}
 use Rattle.pairs.proofs.PlaceLaws.{pairsIn-source, pairsIn-target}

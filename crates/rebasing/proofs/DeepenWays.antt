@@ -16,8 +16,8 @@ use Rattle.text.proofs.BoolLaws.{told, told-true, told-false, not-true, not-fal
 use Rattle.grammar.specs.Legal.{legal, fits, isEnd}
 use Rattle.prefix.specs.Prefix.{hasPrefix}
 use Rattle.prefix.specs.Elements.{elements}
-use Rattle.prefix.specs.Join.{replacePrefix}
-use Rattle.prefix.proofs.ReplaceLaws.{replace-prefix}
+use Rattle.joining.specs.Join.{replacePrefix}
+use Rattle.joining.proofs.ReplaceLaws.{replace-prefix}
 use Rattle.parts.specs.Strip.{strip, stripFit, stripMemory}
 use Rattle.parts.proofs.StripLaws.{strip-shorter, strip-length, strip-back}
 use Rattle.layer_offset.specs.declared.LayerOffset.{LayerOffset}

@@ -9,7 +9,7 @@ use lib.ListN.{length}
 use Rattle.text.specs.Text.{Text}
 use Rattle.grammar.specs.Legal.{legal}
 use Rattle.prefix.specs.Prefix.{hasPrefix}
-use Rattle.prefix.specs.Join.{replacePrefix}
+use Rattle.joining.specs.Join.{replacePrefix}
 use Rattle.parts.specs.Strip.{strip}
 use Rattle.layer_offset.specs.declared.LayerOffset.{LayerOffset}
 use Rattle.pairs.specs.Pair.{Pair, pair, everyEnd}

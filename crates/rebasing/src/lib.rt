@@ -48,7 +48,7 @@ fn replace_into(path: &[u8], old: &[u8], new: &[u8], out: &mut [u8]) -> usize
         return path.len();
     }
     let k = old.len();
-    let fit = prefix::join(old, new, &path[k..], out);
+    let fit = joining::join(old, new, &path[k..], out);
     match fit {
         text::Fit::Written(n) => n,
         text::Fit::Over => 0,

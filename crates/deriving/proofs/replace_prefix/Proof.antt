@@ -3,7 +3,7 @@ use lib.ListN.{length}
 use Rattle.text.proofs.BoolLaws.{told-false, told-true}
 use Rattle.text.proofs.WriteLaws.{rest-whole}
 use Rattle.prefix.proofs.PrefixLaws.{prefix-long}
-use Rattle.prefix.proofs.ReplaceLaws.{replace-prefix, replace-other}
+use Rattle.joining.proofs.ReplaceLaws.{replace-prefix, replace-other}
 use Rattle.path.specs.Outcome.{given}
 use Rattle.deriving.proofs.OpenedCalls.{replace-opened}
 use Rattle.path.proofs.CallWays.{answered-refused, answered-short, answered-passed, refusing, answering}

@@ -1,8 +1,7 @@
-use Rattle.prefix.proofs.JoinWays.{slashes}
+use Rattle.joining.proofs.JoinWays.{slashes}
 use borrow.Author.Needs.{needs}
-use borrow.Author.Needs.{needs}
-use Rattle.prefix.proofs.write_slash.Statement.{statement}
-use Rattle.prefix.proofs.write_slash.Tie as tie
+use Rattle.joining.proofs.write_slash.Statement.{statement}
+use Rattle.joining.proofs.write_slash.Tie as tie
 
 returns : tie.Need-returns
 returns c = search (needs, slashes)

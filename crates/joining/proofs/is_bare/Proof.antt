@@ -1,7 +1,7 @@
-use Rattle.prefix.proofs.JoinWays.{joins}
+use Rattle.joining.proofs.JoinWays.{joins}
 use borrow.Author.Needs.{needs}
-use Rattle.prefix.proofs.is_bare.Statement.{statement}
-use Rattle.prefix.proofs.is_bare.Tie as tie
+use Rattle.joining.proofs.is_bare.Statement.{statement}
+use Rattle.joining.proofs.is_bare.Tie as tie
 
 is-root-requires : tie.Need-is-root-requires
 is-root-requires c κs = search needs

@@ -1,9 +1,9 @@
 use Rattle.text.proofs.BoolLaws.{told-true}
 use Rattle.text.proofs.TextLaws.{starts-long}
-use Rattle.prefix.proofs.JoinWays.{separator-short, taken-length, join-other, join-unslashed, join-tail, join-same}
+use Rattle.joining.proofs.JoinWays.{separator-short, taken-length, join-other, join-unslashed, join-tail, join-same}
 use borrow.Author.Needs.{needs}
-use Rattle.prefix.proofs.is_join.Statement.{statement}
-use Rattle.prefix.proofs.is_join.Tie as tie
+use Rattle.joining.proofs.is_join.Statement.{statement}
+use Rattle.joining.proofs.is_join.Tie as tie
 
 starts-with-requires : tie.Need-starts-with-requires
 starts-with-requires c κs = search needs

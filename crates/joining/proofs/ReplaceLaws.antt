@@ -6,9 +6,9 @@ use mathlib.Core.Option.{Option, none, some}
 use lib.ListN.{length, drop}
 use Rattle.text.specs.Text.{Text, after}
 use Rattle.text.proofs.TextLaws.{no-text, after-down}
 use Rattle.prefix.specs.Prefix.{follows, followsSome, hasPrefix}
-use Rattle.prefix.specs.Join.{joined, replacePrefix}
+use Rattle.joining.specs.Join.{joined, replacePrefix}
 use Rattle.prefix.proofs.PrefixLaws.{prefix-rest}
 
 -- a prefix is replaced ..
 pub replace-made : (s t r : Text) → follows s r ≡ true → replacePrefix (s ++ r) s t ≡ some (joined s t r)

@@ -11,9 +11,9 @@ use Rattle.text.proofs.TextLaws.{lacks-first, lacks-rest}
 use Rattle.grammar.specs.Legal.{State, Slash, Name, Dead, isIdentifierStart, isIdentifierCont, step, run, accept, isRoot, legal, isEnd}
 use Rattle.grammar.proofs.RunLaws.{run-app, run-dead}
 use Rattle.grammar.proofs.LegalLaws.{end-legal, end-lacks, end-close, root-is}
 use Rattle.prefix.specs.Prefix.{follows}
-use Rattle.prefix.specs.Join.{joined, spoils, JoinedLegal}
-use Rattle.prefix.proofs.JoinLaws.{stem, stem-root, stem-not, joined-none, joined-root, joined-slash, joined-other}
+use Rattle.joining.specs.Join.{joined, spoils, JoinedLegal}
+use Rattle.joining.proofs.JoinLaws.{stem, stem-root, stem-not, joined-none, joined-root, joined-slash, joined-other}
 
 -- without `{` and `.` the reader meets three states only
 data Plain : State → Type 0 where

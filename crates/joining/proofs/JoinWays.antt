@@ -18,7 +18,7 @@ use Rattle.text.proofs.BoolLaws.{and-no, and-yes, or-right, or-false, told, tol
 use Rattle.text.proofs.TextLaws.{equal-append, starts-long}
 use Rattle.text.proofs.WriteLaws.{placed-first, placed-next, rest-whole}
 use Rattle.grammar.specs.Legal.{isRoot, isIdentifierCont}
-use Rattle.prefix.specs.Join.{isChild, bare, slashUnless, separator, body, joined, spoils}
+use Rattle.joining.specs.Join.{isChild, bare, slashUnless, separator, body, joined, spoils}
 
 module _ (s : Text) (a : ℕ) where
   pub child-slash : a ≡ 47 → true ≡ isChild s a

@@ -13,12 +13,12 @@ use Rattle.text.proofs.BoolLaws.{and-no, or-false}
 use Rattle.text.proofs.TextLaws.{last-snoc, lacks-first, lacks-behind, lacks-join}
 use Rattle.grammar.specs.Legal.{isIdentifierCont, isRoot, legal, isEnd}
 use Rattle.grammar.proofs.LegalLaws.{no-root-dot, legal-last, end-lacks, end-close, root-is}
 use Rattle.prefix.specs.Prefix.{follows, hasPrefix}
-use Rattle.prefix.specs.Join.{slashUnless, joined, replacePrefix}
+use Rattle.joining.specs.Join.{slashUnless, joined, replacePrefix}
 use Rattle.prefix.specs.Elements.{count}
 use Rattle.prefix.proofs.PrefixLaws.{prefix-made, prefix-rest}
-use Rattle.prefix.proofs.ReplaceLaws.{replace-made, replace-prefix, replaced-prefix}
+use Rattle.joining.proofs.ReplaceLaws.{replace-made, replace-prefix, replaced-prefix}
 use Rattle.prefix.proofs.CountLaws.{count-root, count-behind}
 
 -- a prim path, or nothing for `/`: what a slash and a name may follow
 pub stem : Text → Text

@@ -1,7 +1,7 @@
-use Rattle.prefix.proofs.JoinWays.{join-over-new, join-over-slash, join-over-body, join-fits}
+use Rattle.joining.proofs.JoinWays.{join-over-new, join-over-slash, join-over-body, join-fits}
 use borrow.Author.Needs.{needs}
-use Rattle.prefix.proofs.join.Statement.{statement}
-use Rattle.prefix.proofs.join.Tie as tie
+use Rattle.joining.proofs.join.Statement.{statement}
+use Rattle.joining.proofs.join.Tie as tie
 
 returns : tie.Need-returns
 returns c = join-over-new _ _ _ _ (c .if1 .taken)

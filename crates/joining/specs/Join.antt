@@ -3,12 +3,12 @@
 use Prim.Native.Nat.{ℕ}
 use mathlib.Core.Path.{_≡_}
 use mathlib.Core.Bool.{Bool, true, false, not, cond, _&&_, _||_}
-use mathlib.Core.List.{List, [], _∷_, _++_}
+use mathlib.Core.List.{[], _∷_, _++_}
 use mathlib.Core.Option.{Option, none, some}
 use lib.Dec.{eqb}
 use Rattle.text.specs.Text.{Text, isNil, after, lastIs}
 use Rattle.grammar.specs.Legal.{isRoot, isIdentifierCont, legal, isEnd}
 use Rattle.prefix.specs.Prefix.{follows}
 
 -- the rest, which begins with a, is a child prim: a slash leads to it, or it stands right behind a selection
 unfoldable pub isChild : Text → ℕ → Bool

@@ -1,0 +1,4 @@
+pub mod JoinWays
+pub mod ReplaceLaws
+pub mod JoinLaws
+pub mod JoinLegal

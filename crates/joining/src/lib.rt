@@ -1,0 +1,156 @@
+// The join that replaces a prefix of a path text. Every function is defined for any bytes and asks nothing of
+// its caller.
+ghost use mathlib.Core.Path.{_≡_};
+ghost use mathlib.Core.Bool.{_||_};
+ghost use lib.Dec.{eqb};
+ghost use Prim.Native.Nat.{_≤_};
+ghost use mathlib.Core.List.{[], _∷_};
+ghost use lib.ListN.{length, take, drop};
+ghost use Rattle.text.specs.Text.{equal, fitted, placed};
+ghost use Rattle.joining.specs.Join.{isChild, bare, separator, body, joined, spoils};
+
+// Is a rest that begins with the byte a, behind the prefix, a child prim?
+fn is_child(prefix: &[u8], a: u8) -> bool
+    ensures { λ r. ⌜ r ≡ isChild (now (prefix .entry)) a ⌝ }
+{
+    if a == b'/' {
+        return true;
+    }
+    if !text::last_is(prefix, b'}') {
+        return false;
+    }
+    grammar::is_identifier_cont(a)
+}
+
+// Does a child stand behind the prefix with no slash?
+fn is_bare(prefix: &[u8]) -> bool
+    ensures { λ r. ⌜ r ≡ bare (now (prefix .entry)) ⌝ }
+{
+    if grammar::is_root(prefix) {
+        return true;
+    }
+    text::last_is(prefix, b'}')
+}
+
+// The length of the separator, 0 or 1, between the new prefix and the rest behind the old one.
+fn separator_len(old: &[u8], new: &[u8], rest: &[u8]) -> usize
+    ensures { λ r. ⌜ r ≡ length (separator (now (old .entry)) (now (new .entry)) (now (rest .entry))) ⌝ }
+{
+    if rest.len() == 0 {
+        return 0;
+    }
+    if grammar::is_root(old) {
+        if grammar::is_root(new) {
+            return 0;
+        }
+        return 1;
+    }
+    if !is_child(old, rest[0]) {
+        return 0;
+    }
+    if is_bare(new) {
+        return 0;
+    }
+    1
+}
+
+// Where the rest behind the old prefix begins without its own leading slash: 0 or 1.
+fn body_at(old: &[u8], rest: &[u8]) -> usize
+    ensures { λ r. ⌜ drop r (now (rest .entry)) ≡ body (now (old .entry)) (now (rest .entry)) ⌝ }
+    ensures { λ r. ⌜ r ≤ length (now (rest .entry)) ⌝ }
+{
+    if rest.len() == 0 {
+        return 0;
+    }
+    if rest[0] != b'/' {
+        return 0;
+    }
+    if grammar::is_root(old) {
+        return 0;
+    }
+    1
+}
+
+// Writes a slash at a place where k is not 0 and the memory reaches there. A store, where copying one byte
+// would be a call.
+fn write_slash(k: usize, at: usize, out: &mut [u8])
+    ensures { λ _. ⌜ now (out .exit) ≡ placed at (take k (47 ∷ [])) (now (out .entry)) ⌝ }
+{
+    if k == 0 {
+        return;
+    }
+    if out.len() <= at {
+        return;
+    }
+    out[at] = b'/';
+}
+
+// Writes the rest, which stood behind the old prefix, behind the new one, where that fits.
+pub fn join(old: &[u8], new: &[u8], rest: &[u8], out: &mut [u8]) -> text::Fit
+    ensures { λ r. ⌜ r ≡ fitted (joined (now (old .entry)) (now (new .entry)) (now (rest .entry))) (now (out .entry)) ⌝ }
+    ensures { λ r. ⌜ now (out .exit) ≡ placed 0 (joined (now (old .entry)) (now (new .entry)) (now (rest .entry))) (now (out .entry)) ⌝ }
+{
+    let n = new.len();
+    let room = out.len();
+    if room < n {
+        return text::Fit::Over;
+    }
+    let k = separator_len(old, new, rest);
+    if room - n < k {
+        return text::Fit::Over;
+    }
+    let from = body_at(old, rest);
+    let body = &rest[from..];
+    let at = n + k;
+    if room - at < body.len() {
+        return text::Fit::Over;
+    }
+    text::write_at(new, 0, out);
+    write_slash(k, n, out);
+    text::write_at(body, at, out);
+    text::Fit::Written(at + body.len())
+}
+
+// Is the text what the rest, which stood behind the old prefix, gives behind the new one?
+pub fn is_join(old: &[u8], new: &[u8], rest: &[u8], text: &[u8]) -> bool
+    ensures { λ r. ⌜ r ≡ equal (joined (now (old .entry)) (now (new .entry)) (now (rest .entry))) (now (text .entry)) ⌝ }
+{
+    if !text::starts_with(text, new) {
+        return false;
+    }
+    let n = new.len();
+    let tail = &text[n..];
+    let k = separator_len(old, new, rest);
+    let slash = [b'/'; 1];
+    if !text::starts_with(tail, &slash[..k]) {
+        return false;
+    }
+    let from = body_at(old, rest);
+    text::is_equal(&rest[from..], &tail[k..])
+}
+
+// Is the new prefix `/` or empty, behind which a rest that begins with `.` or `{` cannot stand?
+pub fn is_spoilt(new: &[u8], rest: &[u8]) -> bool
+    ensures { λ r. ⌜ r ≡ spoils (now (new .entry)) (now (rest .entry)) ⌝ }
+{
+    if rest.len() == 0 {
+        return false;
+    }
+    if !hangs_at(rest[0]) {
+        return false;
+    }
+    if new.len() == 0 {
+        return true;
+    }
+    grammar::is_root(new)
+}
+
+// Is the byte `.` or `{`?
+fn hangs_at(a: u8) -> bool
+    ensures { λ r. ⌜ r ≡ (eqb a 46 || eqb a 123) ⌝ }
+{
+    if a == b'{' {
+        return true;
+    }
+    a == b'.'
+}
