@@ -1,2 +1,1 @@
 pub mod Parent
-pub mod Strip
