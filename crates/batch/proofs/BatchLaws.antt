@@ -24,7 +24,7 @@ use Rattle.mapping.specs.Way.{wayCall, afterList}
 use Rattle.mapping.proofs.HandWays.{Short, short-refused, short-cond}
 use Rattle.mapping.proofs.WayLaws.{short-after, call-is-after}
 use Rattle.legs.specs.Lent.{LentRoute, lentRoute, routeAsked}
-use Rattle.legs.specs.Laid.{LaidIfPassed}
+use Rattle.laying.specs.Laid.{LaidIfPassed}
 use Rattle.routing.specs.Calls.{routeCall}
 use Rattle.routing.specs.Quick.{needsMaps, afterLegs}
 use Rattle.routing.proofs.ShortLaws.{short-after as short-route}

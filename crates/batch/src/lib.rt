@@ -207,7 +207,7 @@ fn route_laid(
 {
     let mut made = [0usize; 4096];
     let mut table = [0usize; 48];
-    legs::lay_legs(store, places, legs, count, &mut made, &mut table);
+    laying::lay_legs(store, places, legs, count, &mut made, &mut table);
     let by = Carrier::Route(count, home);
     carry_each(
         list,

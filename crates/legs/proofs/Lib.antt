@@ -1,4 +1,2 @@
 pub mod RouteLaws
 pub mod AskWays
-pub mod LaidLaws
-mod LayWays

@@ -17,7 +17,7 @@ use Rattle.asking.specs.Asking.{every}
 use Rattle.maps.specs.Map.{Map}
 use Rattle.maps.specs.New.{null}
 use Rattle.legs.specs.Lent.{LentRoute, lentRoute, kindAt, firstAt, sizeAt, listAt}
-use Rattle.legs.specs.Laid.{mapAt}
+use Rattle.laying.specs.Laid.{mapAt}
 use Rattle.routing.specs.Quick.{mapsIn}
 use Rattle.routing.proofs.QuickLaws.{soundMap}
 use Rattle.closing.specs.Close.{Vault, three}

@@ -28,9 +28,9 @@ use Rattle.path.proofs.CallWays.{answered-refused, answered-short, answered-pas
 use Rattle.asking.specs.Asking.{earlierOf}
 use Rattle.asking.proofs.EarlierLaws.{none-earlier}
 use Rattle.legs.specs.Lent.{LentRoute, legsIn, routeAsked}
-use Rattle.legs.specs.Laid.{hasRelocates, Laid, LaidIfPassed}
+use Rattle.laying.specs.Laid.{hasRelocates, Laid, LaidIfPassed}
 use Rattle.legs.proofs.RouteLaws.{route-one-by-one, route-sound, route-short, route-legal}
-use Rattle.legs.proofs.LaidLaws.{laid-itself}
+use Rattle.laying.proofs.LaidLaws.{laid-itself}
 use Rattle.route.specs.Route.{wayOver}
 use Rattle.routing.specs.Calls.{routeCall}
 use Rattle.routing.specs.Quick.{quickOver, entering, Keeps, Entered, Holds, needsMaps, afterLegs}

@@ -19,7 +19,7 @@ use Rattle.carry.specs.Quick.{quick, quickTranslate}
 use Rattle.mapping.proofs.HandWays.{Short, short-quick, short-translate}
 use Rattle.route.specs.Route.{onward, along}
 use Rattle.legs.specs.Lent.{LentRoute, lentRoute, kindAt, firstAt, sizeAt, listAt}
-use Rattle.legs.specs.Laid.{mapAt}
+use Rattle.laying.specs.Laid.{mapAt}
 use Rattle.routing.specs.Quick.{quickLeg, mapsIn, quickOver, Holds}
 
 -- a reply is no refusal where it is an answer

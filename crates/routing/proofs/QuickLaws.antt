@@ -24,7 +24,7 @@ use Rattle.route.specs.Leg.{Leg, legMap, outward, homeward}
 use Rattle.route.specs.Route.{onward, along, wayOver}
 use Rattle.route.proofs.RelocateLaws.{relocate-ends, relocate-short}
 use Rattle.legs.specs.Lent.{LentRoute, kindAt, listAt, legOf, legAt, legsIn}
-use Rattle.legs.specs.Laid.{Laid}
+use Rattle.laying.specs.Laid.{Laid}
 use Rattle.routing.specs.Quick.{quickLeg, mapsIn, quickOver, entering}
 
 -- a way over legs is the way over their maps

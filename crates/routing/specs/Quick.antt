@@ -18,7 +18,7 @@ use Rattle.carry.specs.Quick.{quick, quickTranslate}
 use Rattle.asking.specs.Asking.{earlierOf}
 use Rattle.route.specs.Route.{along}
 use Rattle.legs.specs.Lent.{LentRoute}
-use Rattle.legs.specs.Laid.{mapAt, hasRelocates}
+use Rattle.laying.specs.Laid.{mapAt, hasRelocates}
 
 -- one leg; on the way out for a path without selections
 unfoldable pub quickLeg : Bool → Map → Text → Outcome

@@ -6,7 +6,7 @@ ghost use Prim.Native.Nat.{_≤_};
 ghost use lib.ListN.{length, take};
 ghost use Rattle.path.specs.Outcome.{reply, memory};
 ghost use Rattle.legs.specs.Lent.{lentRoute};
-ghost use Rattle.legs.specs.Laid.{mapAt};
+ghost use Rattle.laying.specs.Laid.{mapAt};
 ghost use Rattle.routing.specs.Calls.{routeCall};
 ghost use Rattle.routing.specs.Quick.{quickLeg, quickOver, entering, Keeps, Entered, Holds, needsMaps, afterLegs};
 
@@ -208,7 +208,7 @@ pub fn needs_maps(list: path::Asked, legs: &[usize], n: usize) -> bool
     if let path::Asked::Refused(x) = list {
         return false;
     }
-    legs::has_relocates(legs, n)
+    laying::has_relocates(legs, n)
 }
 
 // A path over a route, home or out.
@@ -230,7 +230,7 @@ fn route_call(
     }
     let mut made = [0usize; 4096];
     let mut table = [0usize; 48];
-    legs::lay_legs(store, places, legs, n, &mut made, &mut table);
+    laying::lay_legs(store, places, legs, n, &mut made, &mut table);
     route_after(list, store, &made, &table, n, home, path, out)
 }
 

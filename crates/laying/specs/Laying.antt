@@ -7,8 +7,8 @@ use Rattle.pairs.specs.Places.{pairsIn}
 use Rattle.asking.specs.Made.{madeOf}
 use Rattle.maps.specs.Map.{Map}
 use Rattle.route.specs.Leg.{legMap}
 use Rattle.legs.specs.Lent.{LentRoute, firstAt, sizeAt, listAt, legAt}
-use Rattle.legs.specs.Laid.{mapAt}
+use Rattle.laying.specs.Laid.{mapAt}
 
 -- the first n pairs are the same in whatever store
 unfoldable pub SamePairs : List ℕ → List ℕ → ℕ → Type 0

@@ -2,10 +2,10 @@ use borrow.Author.Needs.{needs}
 use Prim.Native.Nat.{_≤_, _-_}
 use mathlib.Core.Path.{_≡_}
 use mathlib.Core.Bool.{false}
-use Rattle.legs.specs.Laid.{hasRelocates}
-use Rattle.legs.proofs.LaidLaws.{relocates-none, relocates-found, relocates-on, relocates-end}
-use Rattle.legs.proofs.has_relocates.Statement.{statement}
-use Rattle.legs.proofs.has_relocates.Tie as tie
+use Rattle.laying.specs.Laid.{hasRelocates}
+use Rattle.laying.proofs.LaidLaws.{relocates-none, relocates-found, relocates-on, relocates-end}
+use Rattle.laying.proofs.has_relocates.Statement.{statement}
+use Rattle.laying.proofs.has_relocates.Tie as tie
 
 abbrev Inv-loop : tie.InvT-loop
 Inv-loop legs n k₀ k = (k ≤ n) × (hasRelocates legs k ≡ false)

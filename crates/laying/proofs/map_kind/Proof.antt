@@ -1,6 +1,6 @@
-use Rattle.legs.proofs.LayWays.{kind-zero, kind-other}
-use Rattle.legs.proofs.map_kind.Statement.{statement}
-use Rattle.legs.proofs.map_kind.Tie as tie
+use Rattle.laying.proofs.LayWays.{kind-zero, kind-other}
+use Rattle.laying.proofs.map_kind.Statement.{statement}
+use Rattle.laying.proofs.map_kind.Tie as tie
 
 returns : tie.Need-returns
 returns c = kind-zero _ (c .if1 .taken)

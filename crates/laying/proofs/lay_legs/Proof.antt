@@ -1,13 +1,13 @@
-use Rattle.legs.proofs.LayWays.{laid-none, laid-over, laid-short, laid-small, laid-end}
-use Rattle.legs.specs.Laying.{LaidTo}
+use Rattle.laying.proofs.LayWays.{laid-none, laid-over, laid-short, laid-small, laid-end}
+use Rattle.laying.specs.Laying.{LaidTo}
 use Rattle.legs.specs.Lent.{lentRoute}
 use lib.ListN.{length}
 use Prim.Native.Nat.{_≤_, _-_}
 use borrow.Author.Needs.{needs}
 use native.Mathlib.Omega.{arith}
 use mathlib.Core.Path.{_≡_}
-use Rattle.legs.proofs.lay_legs.Statement.{statement}
-use Rattle.legs.proofs.lay_legs.Tie as tie
+use Rattle.laying.proofs.lay_legs.Statement.{statement}
+use Rattle.laying.proofs.lay_legs.Tie as tie
 
 abbrev Inv-loop : tie.InvT-loop
 Inv-loop store places legs n made₀ table₀ k₀ made table k = (k ≤ n) × (length made ≡ 4096) × (length table ≡ 48) × LaidTo (lentRoute store places legs 0) (lentRoute store made table 0) k

@@ -26,11 +26,11 @@ use Rattle.maps.specs.New.{noRoots, canonical, fromParts}
 use Rattle.relocates.specs.Status.{active, relocateMap}
 use Rattle.route.specs.Leg.{legMap}
 use Rattle.route.proofs.RelocateLaws.{active-few, relocate-parts, relocate-few}
 use Rattle.legs.specs.Lent.{LentRoute, lentRoute, kindAt, firstAt, sizeAt, listAt, legOf, legAt}
-use Rattle.legs.specs.Laid.{mapAt, Laid, LaidIfPassed}
-use Rattle.legs.specs.Laying.{SamePairs, laidMap, LaidTo}
+use Rattle.laying.specs.Laid.{mapAt, Laid, LaidIfPassed}
+use Rattle.laying.specs.Laying.{SamePairs, laidMap, LaidTo}
 use Rattle.legs.proofs.RouteLaws.{route-few, route-sound}
-use Rattle.legs.proofs.LaidLaws.{plain-leg}
+use Rattle.laying.proofs.LaidLaws.{plain-leg}
 
 -- `copy_pairs`
 module _ (places : List ℕ) where

@@ -1,7 +1,7 @@
-use Rattle.legs.proofs.LayWays.{relocates-laid}
+use Rattle.laying.proofs.LayWays.{relocates-laid}
 use borrow.Author.Needs.{needs}
-use Rattle.legs.proofs.lay_relocates.Statement.{statement}
-use Rattle.legs.proofs.lay_relocates.Tie as tie
+use Rattle.laying.proofs.lay_relocates.Statement.{statement}
+use Rattle.laying.proofs.lay_relocates.Tie as tie
 
 slice-aggregate-active-pairs : tie.Need-slice-aggregate-active-pairs
 slice-aggregate-active-pairs c = search needs

@@ -10,8 +10,8 @@ use Rattle.pairs.specs.Pair.{Pair}
 use Rattle.asking.specs.Asking.{pairsOf}
 use Rattle.relocates.proofs.StatusWays.{some-hit, some-none, some-on}
 use Rattle.route.specs.Leg.{legMap}
 use Rattle.legs.specs.Lent.{LentRoute, kindAt, listAt, legOf, legAt}
-use Rattle.legs.specs.Laid.{mapAt, hasRelocates, Laid}
+use Rattle.laying.specs.Laid.{mapAt, hasRelocates, Laid}
 
 abbrev relocating : List ℕ → ℕ → Bool
 relocating legs k = leb 2 (kindAt legs k)

@@ -1,9 +1,9 @@
 use native.Mathlib.Omega.{arith}
 use lib.ListN.{length-set}
-use Rattle.legs.proofs.LayWays.{block-room, laid-on}
+use Rattle.laying.proofs.LayWays.{block-room, laid-on}
 use borrow.Author.Needs.{needs}
-use Rattle.legs.proofs.lay_leg.Statement.{statement}
-use Rattle.legs.proofs.lay_leg.Tie as tie
+use Rattle.laying.proofs.lay_leg.Statement.{statement}
+use Rattle.laying.proofs.lay_leg.Tie as tie
 
 kind-at-requires : tie.Need-kind-at-requires
 kind-at-requires c κs = search needs

@@ -1,9 +1,9 @@
 use native.Mathlib.Omega.{arith}
 use Rattle.asking.proofs.MadeLaws.{made-none, made-few, made-held, made-room}
-use Rattle.legs.proofs.LayWays.{leg-relocates, leg-copied}
+use Rattle.laying.proofs.LayWays.{leg-relocates, leg-copied}
 use borrow.Author.Needs.{needs}
-use Rattle.legs.proofs.lay_pairs.Statement.{statement}
-use Rattle.legs.proofs.lay_pairs.Tie as tie
+use Rattle.laying.proofs.lay_pairs.Statement.{statement}
+use Rattle.laying.proofs.lay_pairs.Tie as tie
 
 lay-relocates-requires : tie.Need-lay-relocates-requires
 lay-relocates-requires c κs = search needs

@@ -3,10 +3,10 @@ use borrow.Author.Needs.{needs}
 use Prim.Native.Nat.{_≤_, _-_}
 use mathlib.Core.Path.{_≡_, refl}
 use lib.ListN.{length}
-use Rattle.legs.specs.Laying.{SamePairs}
-use Rattle.legs.proofs.LayWays.{same-none, same-on, same-end}
-use Rattle.legs.proofs.copy_pairs.Statement.{statement}
-use Rattle.legs.proofs.copy_pairs.Tie as tie
+use Rattle.laying.specs.Laying.{SamePairs}
+use Rattle.laying.proofs.LayWays.{same-none, same-on, same-end}
+use Rattle.laying.proofs.copy_pairs.Statement.{statement}
+use Rattle.laying.proofs.copy_pairs.Tie as tie
 
 abbrev Inv-loop : tie.InvT-loop
 Inv-loop places n block₀ i₀ block i = (i ≤ n) × SamePairs block places i × (length block ≡ length block₀)

@@ -1,0 +1,2 @@
+pub mod LaidLaws
+mod LayWays
