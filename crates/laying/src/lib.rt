@@ -91,7 +91,13 @@ fn lay_leg(
     let part = legs::leg_places(places, legs, k);
     let at = 256 * k;
     let end = at + 256;
-    let w = lay_pairs(store, part, kind, legs::size_at(legs, k), &mut made[at..end]);
+    let w = lay_pairs(
+        store,
+        part,
+        kind,
+        legs::size_at(legs, k),
+        &mut made[at..end],
+    );
     let j = 3 * k;
     table[j] = map_kind(kind);
     table[j + 1] = 64 * k;
