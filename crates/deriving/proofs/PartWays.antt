@@ -18,9 +18,9 @@ use Rattle.text.proofs.BoolLaws.{and-l, told}
 use Rattle.text.proofs.WriteLaws.{placed-first, fit-length, fit-room, fit-over}
 use Rattle.grammar.specs.Legal.{legal, isRoot}
 use Rattle.parts.specs.Parent.{parentLen, parent, primLen, primPath, splitProperty}
-use Rattle.stripping.specs.Strip.{strip, stripFit, stripMemory}
+use Rattle.parts.specs.Strip.{strip, stripFit, stripMemory}
 use Rattle.parts.proofs.ParentLaws.{prim-len-le, prim-legal}
-use Rattle.stripping.proofs.StripLaws.{strip-shorter, strip-legal, strip-length, strip-memory}
+use Rattle.parts.proofs.StripLaws.{strip-shorter, strip-legal, strip-length, strip-memory}
 use Rattle.path.specs.declared.Refusal.the-variants.{TooLong, Illegal, NoRoom}
 use Rattle.path.specs.declared.Asked.{Asked}
 use Rattle.path.specs.declared.Asked.the-variants.{Passed, Refused as RefusedAsked}

@@ -119,7 +119,7 @@ pub fn strip_variant_selections(path: &[u8], out: &mut [u8]) -> path::Reply
     if out.len() < 255 {
         return path::Reply::Refused(path::Refusal::NoRoom);
     }
-    match stripping::strip_into(path, out) {
+    match parts::strip_into(path, out) {
         text::Fit::Written(n) => path::Reply::Written(n),
         text::Fit::Over => path::Reply::Refused(path::Refusal::NoRoom),
     }

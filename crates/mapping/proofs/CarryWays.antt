@@ -7,8 +7,8 @@ use native.Mathlib.Omega.{arith}
 use lib.ListN.{length}
 use Rattle.text.specs.Text.{Text}
 use Rattle.grammar.specs.Legal.{legal}
-use Rattle.stripping.specs.Strip.{strip}
-use Rattle.stripping.proofs.StripLaws.{strip-shorter, strip-legal}
+use Rattle.parts.specs.Strip.{strip}
+use Rattle.parts.proofs.StripLaws.{strip-shorter, strip-legal}
 use Rattle.path.specs.declared.Asked.{Asked}
 use Rattle.path.specs.declared.Asked.the-variants.{Passed}
 use Rattle.path.specs.Outcome.{given}

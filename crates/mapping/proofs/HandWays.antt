@@ -15,8 +15,8 @@ use Rattle.text.proofs.BoolLaws.{told}
 use Rattle.text.proofs.WriteLaws.{placed-first, read-back}
 use Rattle.grammar.specs.Legal.{fits}
 use Rattle.joining.specs.Join.{joined, spoils}
-use Rattle.stripping.specs.Strip.{strip, stripFit, stripMemory}
-use Rattle.stripping.proofs.StripLaws.{strip-same, strip-back}
+use Rattle.parts.specs.Strip.{strip, stripFit, stripMemory}
+use Rattle.parts.proofs.StripLaws.{strip-same, strip-back}
 use Rattle.path.specs.declared.Refusal.{Refusal}
 use Rattle.path.specs.declared.Refusal.the-variants.{NoRoom, NoPath, MadeTooLong, MadeIllegal}
 use Rattle.path.specs.declared.Asked.{Asked}

@@ -16,7 +16,7 @@ use Rattle.path.specs.Refusal.{allFit, allLegal, asked as askedTexts}
 use Rattle.path.specs.Outcome.{refused, answered}
 use Rattle.path.specs.Calls.{newCall}
 use Rattle.path.proofs.CallWays.{answered-refused, answered-short, answered-passed}
-use Rattle.stripping.specs.Strip.{strip}
+use Rattle.parts.specs.Strip.{strip}
 use Rattle.asking.specs.Asking.{Lent, lentList, every, asked, earlierOf}
 use Rattle.asking.proofs.EarlierLaws.{never, none-earlier, one-by-one}
 use Rattle.maps.specs.Map.{Map}

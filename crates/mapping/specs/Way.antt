@@ -3,7 +3,7 @@ use Prim.Native.Nat.{ℕ}
 use mathlib.Core.Bool.{true, false}
 use mathlib.Core.List.{List}
 use Rattle.text.specs.Text.{Text}
-use Rattle.stripping.specs.Strip.{strip}
+use Rattle.parts.specs.Strip.{strip}
 use Rattle.path.specs.declared.Asked.{Asked}
 use Rattle.path.specs.Outcome.{Outcome, answered}
 use Rattle.path.specs.Calls.{newCall}

@@ -4,7 +4,7 @@ ghost use mathlib.Core.Path.{_≡_};
 ghost use mathlib.Core.Bool.{Bool};
 ghost use Prim.Native.Nat.{_≤_};
 ghost use lib.ListN.{length};
-ghost use Rattle.stripping.specs.Strip.{strip};
+ghost use Rattle.parts.specs.Strip.{strip};
 ghost use Rattle.path.specs.Outcome.{reply, memory};
 ghost use Rattle.maps.specs.Map.{lentMap};
 ghost use Rattle.carry.specs.Quick.{quick, quickTranslate};
@@ -90,7 +90,7 @@ fn translate_stripped(
         return translate_out(store, places, n, mark, path, out);
     }
     let mut plain = [0u8; 255];
-    let fit = stripping::strip_into(path, &mut plain);
+    let fit = parts::strip_into(path, &mut plain);
     let text::Fit::Written(k) = fit else {
         return path::Reply::Refused(path::Refusal::MadeTooLong);
     };

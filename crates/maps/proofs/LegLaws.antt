@@ -13,7 +13,7 @@ use Rattle.grammar.specs.Legal.{legal, fits, isEnd}
 use Rattle.prefix.specs.Prefix.{hasPrefix}
 use Rattle.joining.specs.Join.{replacePrefix}
 use Rattle.joining.proofs.JoinLaws.{Rel, swap, back, weigh, replaced, still-lacks}
-use Rattle.stripping.proofs.StripLaws.{strip-same}
+use Rattle.parts.proofs.StripLaws.{strip-same}
 use Rattle.pairs.specs.Pair.{allEnds, noEmptySource}
 use Rattle.pairs.specs.Best.{serves}
 use Rattle.pairs.proofs.BestLaws.{Best, Says, best-says}

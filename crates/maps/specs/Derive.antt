@@ -7,7 +7,7 @@ use lib.ListN.{length}
 use Rattle.text.specs.Text.{Text, equal}
 use Rattle.prefix.specs.Prefix.{hasPrefix}
 use Rattle.joining.specs.Join.{replacePrefix}
-use Rattle.stripping.specs.Strip.{strip}
+use Rattle.parts.specs.Strip.{strip}
 use Rattle.pairs.specs.Pair.{Pair}
 use Rattle.pairs.specs.Best.{bestBy}
 use Rattle.maps.specs.Map.{Map, source, target, size}

@@ -8,7 +8,7 @@ use lib.Dec.{eqb}
 use lib.ListN.{length}
 use Rattle.text.specs.Text.{Text, isNil}
 use Rattle.joining.specs.Join.{replacePrefix}
-use Rattle.stripping.specs.Strip.{strip}
+use Rattle.parts.specs.Strip.{strip}
 use Rattle.pairs.specs.Pair.{Pair, sourceAt, targetAt}
 use Rattle.pairs.specs.Places.{pairsIn}
 use Rattle.pairs.specs.Best.{best}

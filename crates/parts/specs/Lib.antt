@@ -1,1 +1,2 @@
 pub mod Parent
+pub mod Strip

@@ -18,8 +18,8 @@ use Rattle.prefix.specs.Prefix.{hasPrefix}
 use Rattle.prefix.specs.Elements.{elements}
 use Rattle.joining.specs.Join.{replacePrefix}
 use Rattle.joining.proofs.ReplaceLaws.{replace-prefix}
-use Rattle.stripping.specs.Strip.{strip, stripFit, stripMemory}
-use Rattle.stripping.proofs.StripLaws.{strip-shorter, strip-length, strip-back}
+use Rattle.parts.specs.Strip.{strip, stripFit, stripMemory}
+use Rattle.parts.proofs.StripLaws.{strip-shorter, strip-length, strip-back}
 use Rattle.layer_offset.specs.declared.LayerOffset.{LayerOffset}
 use Rattle.rebasing.specs.declared.Counted.{Counted}
 use Rattle.pairs.specs.Pair.{Pair, pair, allShort}

@@ -10,7 +10,7 @@ use Rattle.text.specs.Text.{Text}
 use Rattle.grammar.specs.Legal.{legal}
 use Rattle.prefix.specs.Prefix.{hasPrefix}
 use Rattle.joining.specs.Join.{replacePrefix}
-use Rattle.stripping.specs.Strip.{strip}
+use Rattle.parts.specs.Strip.{strip}
 use Rattle.layer_offset.specs.declared.LayerOffset.{LayerOffset}
 use Rattle.pairs.specs.Pair.{Pair, pair, everyEnd}
 use Rattle.pairs.specs.Best.{bestBy}

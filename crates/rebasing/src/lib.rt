@@ -7,7 +7,7 @@ ghost use Prim.Native.Nat.{_+_, _*_, _≤_, _<_};
 ghost use lib.ListN.{length, take};
 ghost use Rattle.text.specs.Text.{over};
 ghost use Rattle.prefix.specs.Prefix.{hasPrefix};
-ghost use Rattle.stripping.specs.Strip.{strip};
+ghost use Rattle.parts.specs.Strip.{strip};
 ghost use Rattle.grammar.specs.Legal.{legal};
 ghost use Rattle.pairs.specs.Pair.{pair, everyEnd, allShort};
 ghost use Rattle.pairs.specs.Places.{keyAt, pairsIn, fourOf};
@@ -564,7 +564,7 @@ fn strip_node(path: &[u8], out: &mut [u8]) -> usize
     ensures { λ r. ⌜ take r (now (out .exit)) ≡ strip (now (path .entry)) ⌝ }
     ensures { λ r. ⌜ r ≤ length (now (out .entry)) ⌝ }
 {
-    let fit = stripping::strip_into(path, out);
+    let fit = parts::strip_into(path, out);
     match fit {
         text::Fit::Written(n) => n,
         text::Fit::Over => 0,

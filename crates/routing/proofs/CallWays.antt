@@ -14,8 +14,8 @@ use Rattle.text.specs.declared.Fit.the-variants.{Written as WrittenFit}
 use Rattle.text.proofs.BoolLaws.{not-true}
 use Rattle.text.proofs.WriteLaws.{placed-first, read-back}
 use Rattle.grammar.specs.Legal.{fits}
-use Rattle.stripping.specs.Strip.{strip, stripFit, stripMemory}
-use Rattle.stripping.proofs.StripLaws.{strip-same, strip-back, strip-inside}
+use Rattle.parts.specs.Strip.{strip, stripFit, stripMemory}
+use Rattle.parts.proofs.StripLaws.{strip-same, strip-back, strip-inside}
 use Rattle.path.specs.declared.Refusal.{Refusal}
 use Rattle.path.specs.declared.Refusal.the-variants.{NoRoom}
 use Rattle.path.specs.declared.Asked.{Asked}

@@ -9,8 +9,8 @@ use borrow.Author.Tests.{le-leb, leb-true}
 use Rattle.text.specs.Text.{Text}
 use Rattle.text.proofs.BoolLaws.{and-l, and-r}
 use Rattle.grammar.specs.Legal.{legal, fits}
-use Rattle.stripping.specs.Strip.{strip}
-use Rattle.stripping.proofs.StripLaws.{strip-shorter, strip-lacks, strip-same, strip-legal}
+use Rattle.parts.specs.Strip.{strip}
+use Rattle.parts.proofs.StripLaws.{strip-shorter, strip-lacks, strip-same, strip-legal}
 use Rattle.pairs.specs.Pair.{Pair, allEnds, allShort}
 use Rattle.path.specs.Outcome.{Outcome, path, refused}
 use Rattle.asking.specs.Asking.{pairsOf, every}

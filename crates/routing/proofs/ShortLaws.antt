@@ -8,7 +8,7 @@ use lib.ListN.{length}
 use borrow.Author.Tests.{leb-true}
 use Rattle.text.specs.Text.{Text}
 use Rattle.grammar.specs.Legal.{fits}
-use Rattle.stripping.proofs.StripLaws.{strip-shorter}
+use Rattle.parts.proofs.StripLaws.{strip-shorter}
 use Rattle.path.specs.declared.Asked.{Asked}
 use Rattle.path.specs.Outcome.{Outcome, path, refused}
 use Rattle.path.specs.Calls.{newCall}

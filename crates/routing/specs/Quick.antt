@@ -6,7 +6,7 @@ use mathlib.Core.Bool.{Bool, true, false, cond}
 use mathlib.Core.List.{List, [], _∷_, _++_, reverse}
 use lib.ListN.{length, take}
 use Rattle.text.specs.Text.{Text}
-use Rattle.stripping.specs.Strip.{strip}
+use Rattle.parts.specs.Strip.{strip}
 use Rattle.path.specs.declared.Asked.{Asked}
 use Rattle.path.specs.declared.Asked.the-variants.{Passed, Refused as RefusedAsked}
 use Rattle.path.specs.declared.Reply.{Reply}

@@ -145,7 +145,7 @@ fn enter(home: bool, n: usize, path: &[u8], here: &mut [u8]) -> usize
         text::write_at(path, 0, here);
         return path.len();
     }
-    let fit = stripping::strip_into(path, here);
+    let fit = parts::strip_into(path, here);
     let text::Fit::Written(k) = fit else {
         return 0;
     };

@@ -1,6 +1,6 @@
 use mathlib.Core.Path.{_∙_}
 use native.Mathlib.Omega.{arith}
-use Rattle.stripping.proofs.StripLaws.{strip-never}
+use Rattle.parts.proofs.StripLaws.{strip-never}
 use Rattle.deriving.proofs.OpenedCalls.{strip-opened}
 use Rattle.path.proofs.CallWays.{answered-refused, answered-short, answered-passed, refusing, answering}
 use Rattle.deriving.proofs.PartWays.{passed-short, passed-legal, strip-written}

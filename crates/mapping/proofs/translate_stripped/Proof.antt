@@ -1,4 +1,4 @@
-use Rattle.stripping.proofs.StripLaws.{strip-never, strip-part, strip-inside}
+use Rattle.parts.proofs.StripLaws.{strip-never, strip-part, strip-inside}
 use Rattle.path.proofs.CallWays.{answering}
 use Rattle.mapping.proofs.HandWays.{translate-plain, translate-back}
 use borrow.Author.Needs.{needs}

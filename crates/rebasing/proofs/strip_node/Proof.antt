@@ -1,4 +1,4 @@
-use Rattle.stripping.proofs.StripLaws.{strip-never}
+use Rattle.parts.proofs.StripLaws.{strip-never}
 use Rattle.rebasing.proofs.DeepenWays.{node-done}
 use borrow.Author.Needs.{needs}
 use Rattle.rebasing.proofs.strip_node.Statement.{statement}

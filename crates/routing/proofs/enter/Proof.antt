@@ -1,5 +1,5 @@
 use Rattle.routing.proofs.CallWays.{enter-kept, enter-stripped}
-use Rattle.stripping.proofs.StripLaws.{strip-never}
+use Rattle.parts.proofs.StripLaws.{strip-never}
 use native.Mathlib.Omega.{arith}
 use borrow.Author.Needs.{needs}
 use Rattle.routing.proofs.enter.Statement.{statement}

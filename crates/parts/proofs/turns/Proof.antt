@@ -1,7 +1,7 @@
-use Rattle.stripping.proofs.EmitLaws.{emits}
+use Rattle.parts.proofs.EmitLaws.{emits}
 use borrow.Author.Needs.{needs}
-use Rattle.stripping.proofs.turns.Statement.{statement}
-use Rattle.stripping.proofs.turns.Tie as tie
+use Rattle.parts.proofs.turns.Statement.{statement}
+use Rattle.parts.proofs.turns.Tie as tie
 
 returns : tie.Need-returns
 returns c = search (needs, emits)

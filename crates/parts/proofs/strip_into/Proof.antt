@@ -1,10 +1,10 @@
-use Rattle.stripping.proofs.EmitLaws.{Sofar, strips}
+use Rattle.parts.proofs.EmitLaws.{Sofar, strips}
 use borrow.Author.Needs.{needs}
 use mathlib.Core.Path.{_≡_}
 use Prim.Native.Nat.{_-_, _≤_}
 use lib.ListN.{length}
-use Rattle.stripping.proofs.strip_into.Statement.{statement}
-use Rattle.stripping.proofs.strip_into.Tie as tie
+use Rattle.parts.proofs.strip_into.Statement.{statement}
+use Rattle.parts.proofs.strip_into.Tie as tie
 
 -- at the byte i, j bytes are written; what the rest of the path gives is still to come
 abbrev Inv-loop : tie.InvT-loop

@@ -14,9 +14,9 @@ use borrow.Author.Tests.{le-leb, lt-leb, ne-eqb}
 use Rattle.text.specs.Text.{Text, written, over}
 use Rattle.text.specs.declared.Fit.the-variants.{Written, Over}
 use Rattle.text.proofs.BoolLaws.{told}
 use Rattle.parts.specs.Parent.{beginsBehind}
-use Rattle.stripping.specs.Strip.{piece, turned, stripFrom, strip, stripFit, stripMemory}
-use Rattle.stripping.proofs.StripLaws.{piece-short}
+use Rattle.parts.specs.Strip.{piece, turned, stripFrom, strip, stripFit, stripMemory}
+use Rattle.parts.proofs.StripLaws.{piece-short}
 
 -- `turns`
 pub turned-inside : (m : Bool) (a : ℕ) → m ≡ true → not (eqb a 125) ≡ turned m a

@@ -1,7 +1,7 @@
-use Rattle.stripping.proofs.EmitLaws.{emits}
+use Rattle.parts.proofs.EmitLaws.{emits}
 use borrow.Author.Needs.{needs}
-use Rattle.stripping.proofs.emit.Statement.{statement}
-use Rattle.stripping.proofs.emit.Tie as tie
+use Rattle.parts.proofs.emit.Statement.{statement}
+use Rattle.parts.proofs.emit.Tie as tie
 
 begins-behind-requires : tie.Need-begins-behind-requires
 begins-behind-requires c κs = search needs

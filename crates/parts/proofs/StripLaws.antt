@@ -16,9 +16,9 @@ use Rattle.text.proofs.TextLaws.{lacks-first, lacks-rest, lacks-join}
 use Rattle.text.proofs.WriteLaws.{read-back}
 use Rattle.grammar.specs.Legal.{State, Slash, Name, Opened, Set, Equals, Sel, Closed, Dot, Prop, Dead, isIdentifierStart, isIdentifierCont, startsName, step, run, accept, legal}
 use Rattle.grammar.proofs.RunLaws.{run-app}
 use Rattle.parts.specs.Parent.{beginsBehind}
-use Rattle.stripping.specs.Strip.{piece, turned, stripFrom, strip, stripFit, stripMemory}
+use Rattle.parts.specs.Strip.{piece, turned, stripFrom, strip, stripFit, stripMemory}
 use Rattle.parts.proofs.ReadLaws.{Shape, empty, root, below, shape, choose, dies, start-cont, not-name}
 
 -- a byte gives at most one byte
 either-short : (t : Bool) (x y : Text) → length x ≤ 1 → length y ≤ 1 → length (cond t x y) ≤ 1

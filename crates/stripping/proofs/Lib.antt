@@ -1,2 +1,0 @@
-pub mod StripLaws
-mod EmitLaws
