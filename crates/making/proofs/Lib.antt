@@ -1,2 +1,4 @@
 pub mod ListWays
 pub mod MakeWays
+pub mod PairWays
+pub mod AlterWays

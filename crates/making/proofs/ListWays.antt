@@ -6,43 +6,20 @@ use mathlib.Core.List.{List, [], _∷_, _++_, append-nil, map as mapped}
 use Prim.Native.Nat.{ℕ, zero, suc, _+_, _*_, _≤_, _<_}
 use native.Mathlib.Omega.{arith}
 use native.Mathlib.Numerals.{add-one}
-use native.Mathlib.Nat.{zero-add}
 use native.Mathlib.Decide.{ℕ-discrete}
-use lib.ListN.{length, getD, take, drop, length-append}
+use lib.ListN.{length, getD}
 use borrow.Author.Tests.{le-leb}
-use Rattle.text.specs.Text.{Text, written, over, placed, equal}
+use Rattle.text.specs.Text.{Text, over, placed, equal}
 use Rattle.text.proofs.BoolLaws.{told, told-false, told-true, and-yes, and-no}
-use Rattle.pairs.specs.Pair.{Pair, pair}
-use Rattle.pairs.specs.Places.{textAt, keyAt, pairIn, pairsIn, listText, listPlaces, fourOf}
+use Rattle.pairs.specs.Pair.{Pair}
+use Rattle.pairs.specs.Places.{keyAt, pairIn, pairsIn}
 use Rattle.listing.specs.Lists.{copied}
 use Rattle.pairs.proofs.PlaceLaws.{pairsIn-length}
-use Rattle.pairs.proofs.ListLaws.{read-back}
-use Rattle.listing.proofs.WriteWays.{over-over, source-key, target-key}
+use Rattle.listing.proofs.WriteWays.{source-key, target-key}
 use Rattle.listing.proofs.CopyLaws.{text-same, list-same, over-below, over-inside, copied-over, pushed}
 use Rattle.maps.specs.Compose.{hasSource}
 use Rattle.maps.specs.Derive.{withoutSource, exchanged}
 use Rattle.making.specs.Calls.{allSame}
-
--- `store_pair`
-module _ (s t store : Text) (places : List ℕ) (h : length s + length t ≤ length store) (k : 4 ≤ length places) where
-  abbrev one : List Pair
-  one = pair s t ∷ []
-
-  text-written : over 0 (s ++ t) store ≡ written (listText one) store
-  unfolding listText
-  text-written = rw (append-nil t, zero-add (length (s ++ t))) refl
-
-  places-written : placed 0 (fourOf 0 s t) places ≡ written (listPlaces 0 one) places
-  unfolding placed listPlaces
-  places-written = rw (le-leb 4 (length places) k) refl
-
-  pub pair-stored : (once twice : Text) (places′ : List ℕ) → once ≡ placed 0 s store → twice ≡ placed (length s) t once
-      → places′ ≡ placed (4 * 0) (0 ∷ length s ∷ length s ∷ length t ∷ []) places → pairsIn twice places′ 1 ≡ one
-  pair-stored once twice places′ a b c =
-      let z : 0 + length s ≡ length s = zero-add (length s) in
-      let y : placed (length s) t (placed 0 s store) ≡ over 0 (s ++ t) store = rw z at (over-over 0 s t store (omega arith)) in
-      let x : placed 0 (0 ∷ length s ∷ length s ∷ length t ∷ []) places ≡ written (listPlaces 0 one) places = rw z at places-written in
-      rw (c ∙ x, b ∙ ap (λ (w : Text). placed (length s) t w) a ∙ y ∙ text-written) (read-back one store places)
 
 -- `exchange`
 module _ (store : Text) (places : List ℕ) where

@@ -1,7 +1,7 @@
 use mathlib.Core.Path.{sym, ap, _∙_}
 use Rattle.path.specs.declared.Test.the-variants.{Holds, Refused as RefusedTest}
 use Rattle.path.proofs.CallWays.{unless-refused, unless-passed}
-use Rattle.making.proofs.MakeWays.{noop-null, noop-pairs, noop-time, noop-opened}
+use Rattle.making.proofs.AlterWays.{noop-null, noop-pairs, noop-time, noop-opened}
 use borrow.Author.Needs.{needs}
 use Rattle.making.proofs.is_noop.Statement.{statement}
 use Rattle.making.proofs.is_noop.Tie as tie

@@ -30,7 +30,7 @@ same-length-2 c = search needs
 
 returns-2 : tie.Need-returns-2
 unfolding ofBits
-returns-2 c = making-map _ _ (new-opened _ _ _ _ _ ∙ made-passed _ _ _ _ _ _ _ (c .before .before .before .before .before .before .before .before .before .ask-pairs .ensures) (c .before .before .before .before .before .before .before .enum-told .given .1) ∙ new-parts _ false _ _ _ ∙ sym (held-passed _ _ _ (sym (c .before .before .before .before .before .before .before .before .before .ask-pairs .ensures) ∙ c .before .before .before .before .before .before .before .enum-told .given .1) _)) _ _ _ _ _ (c .before .before .before .before .from-parts .ensures)
+returns-2 c = making-map _ _ (new-opened _ _ _ _ _ ∙ made-passed _ _ _ _ _ _ _ (c .before .before .before .before .before .before .before .before .before .ask-pairs .ensures) (c .before .before .before .before .before .before .before .enum-told .given .1) ∙ new-parts _ _ _ _ ∙ sym (held-passed _ _ _ (sym (c .before .before .before .before .before .before .before .before .before .ask-pairs .ensures) ∙ c .before .before .before .before .before .before .before .enum-told .given .1) _)) _ _ _ _ _ (c .before .before .before .before .from-parts .ensures)
 
 pub new-spec : {M : Type 1} → statement M
 new-spec =

@@ -1,4 +1,4 @@
-use Rattle.making.proofs.ListWays.{pair-stored}
+use Rattle.making.proofs.PairWays.{pair-stored}
 use borrow.Author.Needs.{needs}
 use Rattle.making.proofs.store_pair.Statement.{statement}
 use Rattle.making.proofs.store_pair.Tie as tie

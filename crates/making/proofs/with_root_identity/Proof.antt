@@ -1,6 +1,7 @@
 use mathlib.Core.Path.{sym, _∙_}
 use Rattle.map_function.proofs.NewWays.{refusing-map}
-use Rattle.making.proofs.MakeWays.{made-refused, made-passed, making-map, held-passed, marked-copy, marked-opened}
+use Rattle.making.proofs.MakeWays.{made-refused, made-passed, making-map, held-passed}
+use Rattle.making.proofs.AlterWays.{marked-copy, marked-opened}
 use borrow.Author.Needs.{needs}
 use Rattle.making.proofs.with_root_identity.Statement.{statement}
 use Rattle.making.proofs.with_root_identity.Tie as tie
