@@ -4,7 +4,8 @@
 // its pairs, and one more with the mark.
 ghost use mathlib.Core.Path.{_≡_};
 ghost use Rattle.map_function.specs.Made.{mapReply, mapBytes, mapSlots};
-ghost use Rattle.making.specs.Calls.{newCall, fromPairCall, fromPairIdentityCall, inverseCall, withRootIdentityCall, droppingSourceCall, isNoopCall};
+ghost use Rattle.making.specs.Calls.{newCall, fromPairCall, fromPairIdentityCall};
+ghost use Rattle.altering.specs.Calls.{inverseCall, withRootIdentityCall, droppingSourceCall, isNoopCall};
 ghost use Rattle.composing.specs.Calls.{composeCall};
 ghost use Rattle.composing.specs.Implied.{impliedClassCall};
 ghost use Rattle.rebasing.specs.Calls.{rebaseTargetCall, deepenToCall};
@@ -49,7 +50,7 @@ pub extern "C" fn mudvizsor_map_with_root_identity(
 {
     let map = crossing::map_with(count, mark, offset, scale);
     crossing::made_code(
-        making::with_root_identity(store, places, map, out, slots),
+        altering::with_root_identity(store, places, map, out, slots),
         time,
     )
 }
@@ -139,7 +140,7 @@ pub extern "C" fn mudvizsor_map_inverse(
     ensures { λ r. ⌜ now (time .exit) ≡ madeTime (mapReply (inverseCall (now (store .entry)) (now (places .entry)) (numbers count mark offset scale) (now (out .entry)) (now (slots .entry)))) (now (time .entry)) ⌝ }
 {
     let map = crossing::map_with(count, mark, offset, scale);
-    crossing::made_code(making::inverse(store, places, map, out, slots), time)
+    crossing::made_code(altering::inverse(store, places, map, out, slots), time)
 }
 
 // The map without the pairs that have this source.
@@ -163,7 +164,7 @@ pub extern "C" fn mudvizsor_map_dropping_source(
 {
     let map = crossing::map_with(count, mark, offset, scale);
     crossing::made_code(
-        making::dropping_source(store, places, map, source, out, slots),
+        altering::dropping_source(store, places, map, source, out, slots),
         time,
     )
 }
@@ -266,5 +267,5 @@ pub extern "C" fn mudvizsor_map_is_noop(
     ensures { λ r. ⌜ r ≡ testCode (isNoopCall (now (store .entry)) (now (places .entry)) (numbers count mark offset scale)) ⌝ }
 {
     let map = crossing::map_with(count, mark, offset, scale);
-    codes::test_code(making::is_noop(store, places, map))
+    codes::test_code(altering::is_noop(store, places, map))
 }

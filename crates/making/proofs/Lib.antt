@@ -1,4 +1,2 @@
-pub mod ListWays
 pub mod MakeWays
 pub mod PairWays
-pub mod AlterWays

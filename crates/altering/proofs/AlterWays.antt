@@ -19,8 +19,9 @@ use Rattle.path.specs.Refusal.{unless}
 use Rattle.map_function.specs.Made.{MapOutcome, weighed, asItIs}
 use Rattle.layer_offset.specs.Offset.{isIdentity, identity as noOffset}
 use Rattle.map_function.specs.declared.MapFunction.{MapFunction}
-use Rattle.making.specs.Calls.{making, allSame, inverseCall, withRootIdentityCall, droppingSourceCall, isNoopCall}
-use Rattle.making.proofs.ListWays.{whole-without, without-all}
+use Rattle.making.specs.Calls.{making}
+use Rattle.altering.specs.Calls.{allSame, inverseCall, withRootIdentityCall, droppingSourceCall, isNoopCall}
+use Rattle.altering.proofs.ListWays.{whole-without, without-all}
 
 -- the map with the mark put to it, as the code makes it
 module _ (l : List Pair) (mark : Bool) (time : LayerOffset) (out : Text) (slots : List ℕ) where

@@ -1,10 +1,10 @@
 use mathlib.Core.Path.{sym, ap, _∙_}
 use Rattle.path.specs.declared.Test.the-variants.{Holds, Refused as RefusedTest}
 use Rattle.path.proofs.CallWays.{unless-refused, unless-passed}
-use Rattle.making.proofs.AlterWays.{noop-null, noop-pairs, noop-time, noop-opened}
+use Rattle.altering.proofs.AlterWays.{noop-null, noop-pairs, noop-time, noop-opened}
 use borrow.Author.Needs.{needs}
-use Rattle.making.proofs.is_noop.Statement.{statement}
-use Rattle.making.proofs.is_noop.Tie as tie
+use Rattle.altering.proofs.is_noop.Statement.{statement}
+use Rattle.altering.proofs.is_noop.Tie as tie
 
 ask-pairs-requires : tie.Need-ask-pairs-requires
 ask-pairs-requires c κs = search needs

@@ -1,7 +1,7 @@
-use Rattle.making.proofs.ListWays.{other-same, other-kept}
+use Rattle.altering.proofs.ListWays.{other-same, other-kept}
 use borrow.Author.Needs.{needs}
-use Rattle.making.proofs.keep_other.Statement.{statement}
-use Rattle.making.proofs.keep_other.Tie as tie
+use Rattle.altering.proofs.keep_other.Statement.{statement}
+use Rattle.altering.proofs.keep_other.Tie as tie
 
 key-at-requires : tie.Need-key-at-requires
 key-at-requires c κs = search needs

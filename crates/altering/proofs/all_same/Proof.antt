@@ -2,11 +2,11 @@ use mathlib.Core.Path.{_≡_}
 use mathlib.Core.Bool.{true}
 use Prim.Native.Nat.{_≤_, _-_}
 use Rattle.pairs.specs.Places.{pairsIn}
-use Rattle.making.specs.Calls.{allSame}
-use Rattle.making.proofs.ListWays.{same-none, same-not, same-on, same-end}
+use Rattle.altering.specs.Calls.{allSame}
+use Rattle.altering.proofs.ListWays.{same-none, same-not, same-on, same-end}
 use borrow.Author.Needs.{needs}
-use Rattle.making.proofs.all_same.Statement.{statement}
-use Rattle.making.proofs.all_same.Tie as tie
+use Rattle.altering.proofs.all_same.Statement.{statement}
+use Rattle.altering.proofs.all_same.Tie as tie
 
 abbrev Inv-loop : tie.InvT-loop
 Inv-loop store places n i₀ i = (i ≤ n) × (true ≡ allSame (pairsIn store places i))

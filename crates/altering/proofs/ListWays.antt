@@ -19,7 +19,7 @@ use Rattle.listing.proofs.WriteWays.{source-key, target-key}
 use Rattle.listing.proofs.CopyLaws.{text-same, list-same, over-below, over-inside, copied-over, pushed}
 use Rattle.maps.specs.Compose.{hasSource}
 use Rattle.maps.specs.Derive.{withoutSource, exchanged}
-use Rattle.making.specs.Calls.{allSame}
+use Rattle.altering.specs.Calls.{allSame}
 
 -- `exchange`
 module _ (store : Text) (places : List ℕ) where

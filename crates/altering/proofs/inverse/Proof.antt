@@ -3,11 +3,11 @@ use native.Mathlib.Omega.{arith}
 use lib.Ieee.{ofBits}
 use Rattle.asking.proofs.PassLaws.{first-sound}
 use Rattle.map_function.proofs.NewWays.{refusing-map}
 use Rattle.making.proofs.MakeWays.{made-refused, made-passed, making-map, own-parts}
-use Rattle.making.proofs.AlterWays.{inverse-opened}
+use Rattle.altering.proofs.AlterWays.{inverse-opened}
 use borrow.Author.Needs.{needs}
-use Rattle.making.proofs.inverse.Statement.{statement}
-use Rattle.making.proofs.inverse.Tie as tie
+use Rattle.altering.proofs.inverse.Statement.{statement}
+use Rattle.altering.proofs.inverse.Tie as tie
 
 ask-pairs-requires : tie.Need-ask-pairs-requires
 ask-pairs-requires c κs = search needs

@@ -6,10 +6,10 @@ use lib.ListN.{length}
 use Rattle.pairs.specs.Places.{pairsIn}
 use Rattle.pairs.specs.Pair.{Pair}
 use Rattle.maps.specs.Derive.{exchanged}
-use Rattle.making.proofs.ListWays.{exchange-none, exchange-on, exchange-end}
+use Rattle.altering.proofs.ListWays.{exchange-none, exchange-on, exchange-end}
 use borrow.Author.Needs.{needs}
-use Rattle.making.proofs.exchange.Statement.{statement}
-use Rattle.making.proofs.exchange.Tie as tie
+use Rattle.altering.proofs.exchange.Statement.{statement}
+use Rattle.altering.proofs.exchange.Tie as tie
 
 abbrev Inv-loop : tie.InvT-loop
 Inv-loop store places n other₀ i₀ other i = (i ≤ n) × (pairsIn store other i ≡ mapped (λ (x : Pair). exchanged x) (pairsIn store places i)) × (length other ≡ length other₀)

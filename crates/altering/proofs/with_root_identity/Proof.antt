@@ -1,10 +1,10 @@
 use mathlib.Core.Path.{sym, _∙_}
 use Rattle.map_function.proofs.NewWays.{refusing-map}
 use Rattle.making.proofs.MakeWays.{made-refused, made-passed, making-map, held-passed}
-use Rattle.making.proofs.AlterWays.{marked-copy, marked-opened}
+use Rattle.altering.proofs.AlterWays.{marked-copy, marked-opened}
 use borrow.Author.Needs.{needs}
-use Rattle.making.proofs.with_root_identity.Statement.{statement}
-use Rattle.making.proofs.with_root_identity.Tie as tie
+use Rattle.altering.proofs.with_root_identity.Statement.{statement}
+use Rattle.altering.proofs.with_root_identity.Tie as tie
 
 ask-pairs-requires : tie.Need-ask-pairs-requires
 ask-pairs-requires c κs = search needs

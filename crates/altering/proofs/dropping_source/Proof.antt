@@ -2,12 +2,12 @@ use mathlib.Core.Path.{refl, sym, _∙_}
 use native.Mathlib.Omega.{arith}
 use Rattle.asking.proofs.PassLaws.{first-sound}
 use Rattle.map_function.proofs.NewWays.{refusing-map}
-use Rattle.making.proofs.ListWays.{left-all, left-some, left-few}
+use Rattle.altering.proofs.ListWays.{left-all, left-some, left-few}
 use Rattle.making.proofs.MakeWays.{made-refused, made-passed, making-map, held-passed, own-parts}
-use Rattle.making.proofs.AlterWays.{dropped-none, dropped-some, end-asked, dropping-opened}
+use Rattle.altering.proofs.AlterWays.{dropped-none, dropped-some, end-asked, dropping-opened}
 use borrow.Author.Needs.{needs}
-use Rattle.making.proofs.dropping_source.Statement.{statement}
-use Rattle.making.proofs.dropping_source.Tie as tie
+use Rattle.altering.proofs.dropping_source.Statement.{statement}
+use Rattle.altering.proofs.dropping_source.Tie as tie
 
 slice-aggregate-e : tie.Need-slice-aggregate-e
 slice-aggregate-e c = search needs

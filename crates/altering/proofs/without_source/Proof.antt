@@ -4,10 +4,10 @@ use Prim.Native.Nat.{_≤_, _-_}
 use lib.ListN.{length}
 use Rattle.pairs.specs.Places.{pairsIn}
 use Rattle.maps.specs.Derive.{withoutSource}
-use Rattle.making.proofs.ListWays.{without-none, without-on, without-room, without-end}
+use Rattle.altering.proofs.ListWays.{without-none, without-on, without-room, without-end}
 use borrow.Author.Needs.{needs}
-use Rattle.making.proofs.without_source.Statement.{statement}
-use Rattle.making.proofs.without_source.Tie as tie
+use Rattle.altering.proofs.without_source.Statement.{statement}
+use Rattle.altering.proofs.without_source.Tie as tie
 
 abbrev Inv-loop : tie.InvT-loop
 Inv-loop store places n source kept₀ w₀ i₀ kept w i = (i ≤ n) × (pairsIn store kept w ≡ withoutSource source (pairsIn store places i)) × (length kept ≡ length kept₀)
