@@ -29,6 +29,7 @@ use Rattle.asking.proofs.MadeLaws.{made-all, made-few}
 use Rattle.maps.specs.Map.{Map}
 use Rattle.maps.specs.New.{anyRoots, noRoots, canonical, fromParts}
 use Rattle.maps.proofs.EndLaws.{fromParts-length}
+use Rattle.map_function.proofs.KeepWays.{pairs-made}
 use Rattle.map_function.proofs.NewWays.{fromParts-bytes}
 use Rattle.relocates.specs.Status.{active}
 use Rattle.route.proofs.RelocateLaws.{active-few}
@@ -110,10 +111,6 @@ module _ (l : List Pair) (g : Legs) (store : Text) (slots table : List ℕ) (b :
             let z : 32768 - left ≡ g .bytes + endBytes l = omega (arith, m, total) in
             rw (told-true e h, z, le-leb (g .bytes + endBytes l) 32768 (omega (arith, m, total)), le-leb (g .bytes + endBytes l) (length store) (omega (arith, m, total, o))) refl
 
--- `is_marked`
-pub marked-so : (mark any r : Bool) → mark ≡ false → r ≡ any → r ≡ (mark || any)
-marked-so mark any r h e = rw h e
-
 -- `write_three`
 pub three-stored : (l : List ℕ) (j m a b : ℕ) (mark : Bool) → m ≡ cond mark 1 0 → j + 3 ≤ length l → set (set (set l j m) (j + 1) a) (j + 2) b ≡ over j (cond mark 1 0 ∷ a ∷ b ∷ []) l
 three-stored l j m a b mark e h =
@@ -189,9 +186,7 @@ module _ (mark : Bool) (l : List Pair) (g : Legs) (store : Text) (slots table : 
       m = fromParts l mark
 
       pairs-are : pairsIn bytes kept w ≡ m .pairs
-      unfolding madeOf canMake listCounts fromParts
-      pairs-are =
-          c ∙ rw (le-leb n 64 few, le-leb n (length places / 4) (omega (arith, held)), le-leb 256 room (omega (arith, enough))) (ap (λ (b : Bool). canonical b (noRoots l)) f)
+      pairs-are = pairs-made bytes places n l mark few (omega (arith, held)) marked f room enough kept w c
 
       count-is : w ≡ length (m .pairs)
       count-is = sym (pairsIn-length bytes kept w) ∙ ap length pairs-are

@@ -72,16 +72,6 @@ fn ask_close(
     })
 }
 
-// Has the map of the first n pairs the mark?
-fn is_marked(mark: bool, bytes: &[u8], places: &[usize], n: usize) -> bool
-    ensures { λ r. ⌜ r ≡ (mark || anyRoots (pairsIn (now (bytes .entry)) (now (places .entry)) n)) ⌝ }
-{
-    if mark {
-        return true;
-    }
-    map_function::any_roots(bytes, places, n)
-}
-
 // The number that stands for the mark.
 fn mark_number(mark: bool) -> usize
     ensures { λ r. ⌜ r ≡ cond mark 1 0 ⌝ }
@@ -124,7 +114,7 @@ fn close_list(
     if let Closed::Refused(x) = r {
         return Closed::Refused(x);
     }
-    let marked = is_marked(mark, bytes, places, n);
+    let marked = map_function::is_marked(mark, bytes, places, n);
     let mut kept = [0usize; 256];
     let w = map_function::canonical_places(bytes, places, n, marked, &mut kept);
     let at = 256 * v.count;

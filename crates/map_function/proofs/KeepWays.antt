@@ -4,11 +4,12 @@ use mathlib.Core.Logic.{_≢_}
 use mathlib.Core.Bool.{Bool, true, false, not, cond, _&&_, _||_}
 use mathlib.Core.List.{List, [], _∷_, _++_}
 use mathlib.Core.Option.{Option, none, some}
-use Prim.Native.Nat.{ℕ, zero, suc, _+_, _*_, _-_, _≤_, _<_}
+use Prim.Native.Nat.{ℕ, zero, suc, _+_, _*_, _-_, _/_, _≤_, _<_}
 use native.Mathlib.Omega.{arith}
 use native.Mathlib.Numerals.{add-one}
 use native.Mathlib.Decide.{ℕ-discrete}
 use lib.ListN.{length, getD, take, drop, set}
+use borrow.Author.Tests.{le-leb}
 use lib.Seq.{getD-set-same, getD-set-other}
 use Rattle.text.specs.Text.{Text, equal}
 use Rattle.text.proofs.BoolLaws.{told, told-false, told-true, not-true, not-false, or-right, or-false}
@@ -26,8 +27,10 @@ use Rattle.serving.specs.declared.Found.{Found}
 use Rattle.pairs.proofs.PlaceLaws.{chosen-best}
 use Rattle.listing.proofs.WriteWays.{source-key, target-key}
 use Rattle.listing.proofs.CopyLaws.{copied-over, pushed}
+use Rattle.asking.specs.Asking.{lentList, listCounts}
+use Rattle.asking.specs.Made.{canMake, madeOf}
 use Rattle.maps.specs.Map.{Map, lentMap, source, target, chosenOut}
-use Rattle.maps.specs.New.{isRoots, anyRoots, viaPair, via, isText, implied, keep}
+use Rattle.maps.specs.New.{isRoots, anyRoots, noRoots, viaPair, via, isText, implied, keep, canonical, fromParts}
 use Rattle.maps.proofs.LentLaws.{serves-prefix, served-long, out-keys, ends-by}
 use Rattle.map_function.specs.Level.{layer, Keyed, Topped}
 use Rattle.map_function.proofs.LevelLaws.{layer-other, layer-roots, layer-here}
@@ -213,3 +216,15 @@ module _ (store : Text) (places : List ℕ) (i key e : ℕ) (mark : Bool) (kept 
         pair-kept n o q kept′ p =
             let r = pair-room q in
             rw (add-one w, p, copied-over places i w kept o r) (pushed store places i kept w r ∙ sym (one-kept ∙ rw n refl))
+
+-- `is_marked`
+pub marked-so : (mark any r : Bool) → mark ≡ false → r ≡ any → r ≡ (mark || any)
+marked-so mark any r h e = rw h e
+
+-- what `canonical_places` leaves, of at most 64 pairs in the slice, are the pairs of the map
+pub pairs-made : (store : Text) (places : List ℕ) (n : ℕ) (l : List Pair) (mark : Bool) → n ≤ 64 → n ≤ length places / 4 → (marked : Bool) → marked ≡ (mark || anyRoots l)
+    → (room : ℕ) → room ≡ 256 → (kept : List ℕ) (w : ℕ) → pairsIn store kept w ≡ madeOf (lentList store places n) room (canonical marked (noRoots l))
+    → pairsIn store kept w ≡ (fromParts l mark) .pairs
+unfolding madeOf canMake listCounts fromParts
+pairs-made store places n l mark few held marked f room enough kept w c =
+    c ∙ rw (le-leb n 64 few, le-leb n (length places / 4) held, le-leb 256 room (omega (arith, enough))) (ap (λ (b : Bool). canonical b (noRoots l)) f)

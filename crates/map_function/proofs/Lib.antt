@@ -2,3 +2,4 @@ pub mod LevelLaws
 pub mod KeepWays
 pub mod NewWays
 pub mod ReadWays
+pub mod LevelWays

@@ -119,7 +119,7 @@ fn is_roots(store: &[u8], places: &[usize], i: usize) -> bool
 }
 
 // Is one of the first n pairs `/`→`/`?
-pub fn any_roots(store: &[u8], places: &[usize], n: usize) -> bool
+fn any_roots(store: &[u8], places: &[usize], n: usize) -> bool
     ensures { λ r. ⌜ r ≡ anyRoots (pairsIn (now (store .entry)) (now (places .entry)) n) ⌝ }
 {
     let mut i = 0;
@@ -130,6 +130,16 @@ pub fn any_roots(store: &[u8], places: &[usize], n: usize) -> bool
         i += 1;
     }
     false
+}
+
+// Has the map of the first n pairs the mark?
+pub fn is_marked(mark: bool, store: &[u8], places: &[usize], n: usize) -> bool
+    ensures { λ r. ⌜ r ≡ (mark || anyRoots (pairsIn (now (store .entry)) (now (places .entry)) n)) ⌝ }
+{
+    if mark {
+        return true;
+    }
+    any_roots(store, places, n)
 }
 
 // The larger of two numbers.
@@ -264,16 +274,6 @@ pub fn canonical_places(
     canonicalize(store, places, n, mark, kept)
 }
 
-// Is one of the two set?
-fn either(a: bool, b: bool) -> bool
-    ensures { λ r. ⌜ r ≡ (a || b) ⌝ }
-{
-    if a {
-        return true;
-    }
-    b
-}
-
 // The map of the first n pairs, written to out and slots. Questions 4 and 5 are put to the list
 // before anything is dropped. Rust: from_parts.
 pub fn from_parts(
@@ -301,9 +301,9 @@ pub fn from_parts(
     if !listing::has_room(store, places, n, out.len()) {
         return MapReply::Refused(path::Refusal::NoRoom);
     }
-    let marked = either(mark, any_roots(store, places, n));
+    let marked = is_marked(mark, store, places, n);
     let mut kept = [0usize; 256];
-    let w = canonicalize(store, places, n, marked, &mut kept);
+    let w = canonical_places(store, places, n, marked, &mut kept);
     listing::write_list(store, &kept, w, out, slots);
     MapReply::Made(MapFunction {
         count: w,

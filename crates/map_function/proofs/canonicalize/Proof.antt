@@ -6,7 +6,7 @@ use lib.ListN.{length}
 use Rattle.pairs.specs.Places.{pairsIn}
 use Rattle.maps.specs.New.{keep, noRoots}
 use Rattle.map_function.specs.Level.{levels, Keyed, Topped}
-use Rattle.map_function.proofs.NewWays.{levels-none, levels-on, levels-room, levels-end, top-room}
+use Rattle.map_function.proofs.LevelWays.{levels-none, levels-on, levels-room, levels-end, top-room}
 use borrow.Author.Needs.{needs}
 use Rattle.map_function.proofs.canonicalize.Statement.{statement}
 use Rattle.map_function.proofs.canonicalize.Tie as tie

@@ -18,17 +18,14 @@ has-room-requires c κs = search needs
 returns-4 : tie.Need-returns-4
 returns-4 c = refusing-map _ _ (parts-bytes _ _ _ _ _ _ _ (c .before .before .before .before .if1 .left) (c .before .before .before .if2 .left) (c .before .before .if3 .left) _ (c .before .has-room .ensures) (c .if4 .taken)) _ _
 
-any-roots-requires : tie.Need-any-roots-requires
-any-roots-requires c κs = search needs
+is-marked-requires : tie.Need-is-marked-requires
+is-marked-requires c κs = search needs
 
-either-requires : tie.Need-either-requires
-either-requires c κs = search needs
+slice-aggregate-canonical-places : tie.Need-slice-aggregate-canonical-places
+slice-aggregate-canonical-places c = search needs
 
-slice-aggregate-canonicalize : tie.Need-slice-aggregate-canonicalize
-slice-aggregate-canonicalize c = search needs
-
-canonicalize-requires : tie.Need-canonicalize-requires
-canonicalize-requires c κs = search needs
+canonical-places-requires : tie.Need-canonical-places-requires
+canonical-places-requires c κs = search needs
 
 slice-aggregate-write-list : tie.Need-slice-aggregate-write-list
 slice-aggregate-write-list c = search needs
@@ -43,7 +40,7 @@ same-length-2 : tie.Need-same-length-2
 same-length-2 c = search needs
 
 returns-5 : tie.Need-returns-5
-returns-5 c = parts-made _ _ _ _ _ _ _ (c .before .before .before .before .before .before .before .before .before .before .before .before .before .before .before .before .before .if1 .left) (c .before .before .before .before .before .before .before .before .before .before .before .before .before .before .before .before .if2 .left) (c .before .before .before .before .before .before .before .before .before .before .before .before .before .before .before .if3 .left) _ (c .before .before .before .before .before .before .before .before .before .before .before .before .before .before .has-room .ensures) (c .before .before .before .before .before .before .before .before .before .before .before .before .before .if4 .left) _ _ (c .before .before .before .before .before .before .before .before .before .before .before .before .any-roots .ensures) (c .before .before .before .before .before .before .before .before .before .before .before .either .ensures) _ _ (c .before .before .before .before .before .before .before .before .before .canonicalize .ensures) _ _ (c .before .before .before .before .write-list .ensures .1 .0) (c .before .before .before .before .write-list .ensures .1 .1)
+returns-5 c = parts-made _ _ _ _ _ _ _ (c .before .before .before .before .before .before .before .before .before .before .before .before .before .before .before .before .if1 .left) (c .before .before .before .before .before .before .before .before .before .before .before .before .before .before .before .if2 .left) (c .before .before .before .before .before .before .before .before .before .before .before .before .before .before .if3 .left) _ (c .before .before .before .before .before .before .before .before .before .before .before .before .before .has-room .ensures) (c .before .before .before .before .before .before .before .before .before .before .before .before .if4 .left) _ (c .before .before .before .before .before .before .before .before .before .before .before .is-marked .ensures) _ (search needs) _ _ (c .before .before .before .before .before .before .before .before .before .canonical-places .ensures) _ _ (c .before .before .before .before .write-list .ensures .1 .0) (c .before .before .before .before .write-list .ensures .1 .1)
 
 pub from-parts-spec : {M : Type 1} → statement M
 from-parts-spec =
@@ -54,10 +51,9 @@ from-parts-spec =
     returns-3
     has-room-requires
     returns-4
-    any-roots-requires
-    either-requires
-    slice-aggregate-canonicalize
-    canonicalize-requires
+    is-marked-requires
+    slice-aggregate-canonical-places
+    canonical-places-requires
     slice-aggregate-write-list
     write-list-requires
     same-length

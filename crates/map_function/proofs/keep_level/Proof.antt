@@ -6,7 +6,7 @@ use Rattle.pairs.specs.Places.{pairsIn}
 use Rattle.maps.specs.New.{keep}
 use Rattle.map_function.specs.Level.{layer}
 use Rattle.map_function.proofs.KeepWays.{keyed-at}
-use Rattle.map_function.proofs.NewWays.{level-none, level-on, level-room, level-end}
+use Rattle.map_function.proofs.LevelWays.{level-none, level-on, level-room, level-end}
 use borrow.Author.Needs.{needs}
 use Rattle.map_function.proofs.keep_level.Statement.{statement}
 use Rattle.map_function.proofs.keep_level.Tie as tie

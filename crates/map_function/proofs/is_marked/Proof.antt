@@ -1,7 +1,7 @@
-use Rattle.closing.proofs.CloseWays.{marked-so}
+use Rattle.map_function.proofs.KeepWays.{marked-so}
 use borrow.Author.Needs.{needs}
-use Rattle.closing.proofs.is_marked.Statement.{statement}
-use Rattle.closing.proofs.is_marked.Tie as tie
+use Rattle.map_function.proofs.is_marked.Statement.{statement}
+use Rattle.map_function.proofs.is_marked.Tie as tie
 
 returns : tie.Need-returns
 returns c = search needs
