@@ -29,7 +29,7 @@ use Rattle.asking.proofs.MadeLaws.{made-all, made-few}
 use Rattle.maps.specs.Map.{Map}
 use Rattle.maps.specs.New.{anyRoots, noRoots, canonical, fromParts}
 use Rattle.maps.proofs.EndLaws.{fromParts-length}
-use Rattle.map_function.proofs.KeepWays.{pairs-made}
+use Rattle.canonical.proofs.KeepWays.{pairs-made}
 use Rattle.map_function.proofs.NewWays.{fromParts-bytes}
 use Rattle.relocates.specs.Status.{active}
 use Rattle.route.proofs.RelocateLaws.{active-few}

@@ -114,9 +114,9 @@ fn close_list(
     if let Closed::Refused(x) = r {
         return Closed::Refused(x);
     }
-    let marked = map_function::is_marked(mark, bytes, places, n);
+    let marked = canonical::is_marked(mark, bytes, places, n);
     let mut kept = [0usize; 256];
-    let w = map_function::canonical_places(bytes, places, n, marked, &mut kept);
+    let w = canonical::canonical_places(bytes, places, n, marked, &mut kept);
     let at = 256 * v.count;
     let end = at + 256;
     listing::append_list(bytes, &kept, w, v.bytes, store, &mut slots[at..end]);

@@ -46,7 +46,7 @@ fn lay_relocates(store: &[u8], places: &[usize], n: usize, block: &mut [usize]) 
 {
     let mut active = [0usize; 256];
     let w = relocates::status::active_pairs(store, places, n, &mut active);
-    map_function::canonical_places(store, &active, w, true, block)
+    canonical::canonical_places(store, &active, w, true, block)
 }
 
 // The pairs of a leg's map.

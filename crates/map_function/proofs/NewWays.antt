@@ -25,7 +25,7 @@ use Rattle.maps.proofs.EndLaws.{fromParts-length}
 use Rattle.asking.specs.Made.{madeOf}
 use Rattle.map_function.specs.declared.MapReply.the-variants.{Made, Refused}
 use Rattle.map_function.specs.Made.{MapOutcome, map, refused, mapReply, mapBytes, mapSlots, roomFor, weighed, held, asItIs, fromPartsOutcome}
-use Rattle.map_function.proofs.KeepWays.{pairs-made}
+use Rattle.canonical.proofs.KeepWays.{pairs-made}
 
 -- what a call that makes a map answers and leaves, once its outcome is known
 pub refusing-map : (o : MapOutcome) (x : Refusal) → o ≡ refused x → (out : Text) (slots : List ℕ)

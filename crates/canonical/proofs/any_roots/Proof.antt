@@ -3,10 +3,10 @@ use mathlib.Core.Bool.{false}
 use Prim.Native.Nat.{_≤_, _-_}
 use Rattle.pairs.specs.Places.{pairsIn}
 use Rattle.maps.specs.New.{anyRoots}
-use Rattle.map_function.proofs.KeepWays.{rooting}
+use Rattle.canonical.proofs.KeepWays.{rooting}
 use borrow.Author.Needs.{needs}
-use Rattle.map_function.proofs.any_roots.Statement.{statement}
-use Rattle.map_function.proofs.any_roots.Tie as tie
+use Rattle.canonical.proofs.any_roots.Statement.{statement}
+use Rattle.canonical.proofs.any_roots.Tie as tie
 
 abbrev Inv-loop : tie.InvT-loop
 Inv-loop store places n i₀ i = (i ≤ n) × (false ≡ anyRoots (pairsIn store places i))

@@ -1,7 +1,7 @@
-use Rattle.map_function.proofs.KeepWays.{marked-so}
+use Rattle.canonical.proofs.KeepWays.{marked-so}
 use borrow.Author.Needs.{needs}
-use Rattle.map_function.proofs.is_marked.Statement.{statement}
-use Rattle.map_function.proofs.is_marked.Tie as tie
+use Rattle.canonical.proofs.is_marked.Statement.{statement}
+use Rattle.canonical.proofs.is_marked.Tie as tie
 
 returns : tie.Need-returns
 returns c = search needs

@@ -1,7 +1,7 @@
-use Rattle.map_function.proofs.KeepWays.{roots-not, roots-both}
+use Rattle.canonical.proofs.KeepWays.{roots-not, roots-both}
 use borrow.Author.Needs.{needs}
-use Rattle.map_function.proofs.is_roots.Statement.{statement}
-use Rattle.map_function.proofs.is_roots.Tie as tie
+use Rattle.canonical.proofs.is_roots.Statement.{statement}
+use Rattle.canonical.proofs.is_roots.Tie as tie
 
 key-at-requires : tie.Need-key-at-requires
 key-at-requires c κs = search needs

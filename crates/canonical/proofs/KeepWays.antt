@@ -32,8 +32,8 @@ use Rattle.asking.specs.Made.{canMake, madeOf}
 use Rattle.maps.specs.Map.{Map, lentMap, source, target, chosenOut}
 use Rattle.maps.specs.New.{isRoots, anyRoots, noRoots, viaPair, via, isText, implied, keep, canonical, fromParts}
 use Rattle.maps.proofs.LentLaws.{serves-prefix, served-long, out-keys, ends-by}
-use Rattle.map_function.specs.Level.{layer, Keyed, Topped}
-use Rattle.map_function.proofs.LevelLaws.{layer-other, layer-roots, layer-here}
+use Rattle.canonical.specs.Level.{layer, Keyed, Topped}
+use Rattle.canonical.proofs.LevelLaws.{layer-other, layer-roots, layer-here}
 
 -- `is_roots`
 module _ (store : Text) (places : List ℕ) (i : ℕ) (k : Text) (e : k ≡ keyAt store places false i) (b : Bool) (h : b ≡ isRoot k) where

@@ -5,11 +5,11 @@ use Prim.Native.Nat.{_≤_, _-_}
 use lib.ListN.{length}
 use Rattle.pairs.specs.Places.{pairsIn}
 use Rattle.maps.specs.New.{keep, noRoots}
-use Rattle.map_function.specs.Level.{levels, Keyed, Topped}
-use Rattle.map_function.proofs.LevelWays.{levels-none, levels-on, levels-room, levels-end, top-room}
+use Rattle.canonical.specs.Level.{levels, Keyed, Topped}
+use Rattle.canonical.proofs.LevelWays.{levels-none, levels-on, levels-room, levels-end, top-room}
 use borrow.Author.Needs.{needs}
-use Rattle.map_function.proofs.canonicalize.Statement.{statement}
-use Rattle.map_function.proofs.canonicalize.Tie as tie
+use Rattle.canonical.proofs.canonicalize.Statement.{statement}
+use Rattle.canonical.proofs.canonicalize.Tie as tie
 
 abbrev Inv-loop : tie.InvT-loop
 Inv-loop store places n mark kept₀ keys top w₀ e₀ kept w e = (e ≤ top) × (pairsIn store kept w ≡ keep mark [] (levels e (noRoots (pairsIn store places n)))) × Keyed store places n keys × Topped store places n top × (256 ≤ length kept) × (length kept ≡ length kept₀)

@@ -1,11 +1,11 @@
-use Rattle.map_function.proofs.KeepWays.{pair-other, pair-roots, pair-implied, pair-kept}
+use Rattle.canonical.proofs.KeepWays.{pair-other, pair-roots, pair-implied, pair-kept}
 use borrow.Author.Needs.{needs}
-use Rattle.map_function.proofs.keep_pair.Statement.{statement}
-use Rattle.map_function.proofs.keep_pair.Tie as tie
-use Rattle.map_function.proofs.keep_pair.Reads as reads
-use Rattle.map_function.proofs.keep_pair.Lts as lts
-use Rattle.map_function.proofs.is_implied.Reads as is-implied-reads
-use Rattle.map_function.proofs.is_roots.Reads as is-roots-reads
+use Rattle.canonical.proofs.keep_pair.Statement.{statement}
+use Rattle.canonical.proofs.keep_pair.Tie as tie
+use Rattle.canonical.proofs.keep_pair.Reads as reads
+use Rattle.canonical.proofs.keep_pair.Lts as lts
+use Rattle.canonical.proofs.is_implied.Reads as is-implied-reads
+use Rattle.canonical.proofs.is_roots.Reads as is-roots-reads
 use Rattle.listing.proofs.copy_pair.Reads as copy-pair-reads
 use Rattle.pairs.proofs.key_at.Reads as key-at-reads
 

@@ -2,11 +2,11 @@ use mathlib.Core.Path.{_≡_, refl}
 use native.Mathlib.Omega.{arith}
 use Prim.Native.Nat.{_≤_, _-_}
 use lib.ListN.{length, length-set}
-use Rattle.map_function.specs.Level.{Keyed, Topped}
-use Rattle.map_function.proofs.KeepWays.{keyed-none, topped-none, keyed-on, topped-on, keyed-end, topped-end}
+use Rattle.canonical.specs.Level.{Keyed, Topped}
+use Rattle.canonical.proofs.KeepWays.{keyed-none, topped-none, keyed-on, topped-on, keyed-end, topped-end}
 use borrow.Author.Needs.{needs}
-use Rattle.map_function.proofs.fill_keys.Statement.{statement}
-use Rattle.map_function.proofs.fill_keys.Tie as tie
+use Rattle.canonical.proofs.fill_keys.Statement.{statement}
+use Rattle.canonical.proofs.fill_keys.Tie as tie
 
 abbrev Inv-loop : tie.InvT-loop
 Inv-loop store places n keys₀ top₀ i₀ keys top i = (i ≤ n) × (n ≤ length keys) × Keyed store places i keys × Topped store places i top × (length keys ≡ length keys₀)

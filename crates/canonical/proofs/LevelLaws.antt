@@ -13,7 +13,7 @@ use Rattle.prefix.specs.Elements.{elements}
 use Rattle.pairs.specs.Pair.{Pair}
 use Rattle.maps.specs.Map.{Map, chosenOut}
 use Rattle.maps.specs.New.{insert, sorted, via, isText, implied, keep, canonical, isRoots, noRoots}
-use Rattle.map_function.specs.Level.{level, levels, layer}
+use Rattle.canonical.specs.Level.{level, levels, layer}
 
 abbrev key : Pair → ℕ
 key x = elements (x .source)

@@ -1,7 +1,7 @@
-use Rattle.map_function.proofs.KeepWays.{implied-inside, implied-join, implied-none, implied-mark}
+use Rattle.canonical.proofs.KeepWays.{implied-inside, implied-join, implied-none, implied-mark}
 use borrow.Author.Needs.{needs}
-use Rattle.map_function.proofs.is_implied.Statement.{statement}
-use Rattle.map_function.proofs.is_implied.Tie as tie
+use Rattle.canonical.proofs.is_implied.Statement.{statement}
+use Rattle.canonical.proofs.is_implied.Tie as tie
 
 best-prefix-requires : tie.Need-best-prefix-requires
 best-prefix-requires c κs = search needs

@@ -4,12 +4,12 @@ use Prim.Native.Nat.{_≤_, _-_}
 use lib.ListN.{length}
 use Rattle.pairs.specs.Places.{pairsIn}
 use Rattle.maps.specs.New.{keep}
-use Rattle.map_function.specs.Level.{layer}
-use Rattle.map_function.proofs.KeepWays.{keyed-at}
-use Rattle.map_function.proofs.LevelWays.{level-none, level-on, level-room, level-end}
+use Rattle.canonical.specs.Level.{layer}
+use Rattle.canonical.proofs.KeepWays.{keyed-at}
+use Rattle.canonical.proofs.LevelWays.{level-none, level-on, level-room, level-end}
 use borrow.Author.Needs.{needs}
-use Rattle.map_function.proofs.keep_level.Statement.{statement}
-use Rattle.map_function.proofs.keep_level.Tie as tie
+use Rattle.canonical.proofs.keep_level.Statement.{statement}
+use Rattle.canonical.proofs.keep_level.Tie as tie
 
 abbrev Inv-loop : tie.InvT-loop
 Inv-loop store places n keys e mark kept₀ w k₀ i₀ kept k i = (i ≤ n) × (pairsIn store kept k ≡ keep mark (pairsIn store kept₀ w) (layer e (pairsIn store places i))) × (length kept ≡ length kept₀)

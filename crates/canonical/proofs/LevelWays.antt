@@ -14,8 +14,8 @@ use Rattle.pairs.specs.Places.{pairIn, pairsIn}
 use Rattle.pairs.proofs.PlaceLaws.{pairsIn-length}
 use Rattle.listing.proofs.WriteWays.{source-key}
 use Rattle.maps.specs.New.{isRoots, noRoots, keep, canonical}
-use Rattle.map_function.specs.Level.{level, levels, layer, Topped}
-use Rattle.map_function.proofs.LevelLaws.{Below, sorted-levels, levels-few, layer-append, keep-append, keep-few, canonical-keeps}
+use Rattle.canonical.specs.Level.{level, levels, layer, Topped}
+use Rattle.canonical.proofs.LevelLaws.{Below, sorted-levels, levels-few, layer-append, keep-append, keep-few, canonical-keeps}
 
 -- `keep_level`
 module _ (store : Text) (places : List ℕ) (e : ℕ) where

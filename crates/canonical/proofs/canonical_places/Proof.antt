@@ -1,10 +1,10 @@
 use Rattle.asking.proofs.MadeLaws.{made-none, made-all, made-few, made-held, made-room}
 use mathlib.Core.Path.{sym, _∙_}
 use borrow.Author.Needs.{needs}
-use Rattle.map_function.proofs.canonical_places.Statement.{statement}
-use Rattle.map_function.proofs.canonical_places.Tie as tie
+use Rattle.canonical.proofs.canonical_places.Statement.{statement}
+use Rattle.canonical.proofs.canonical_places.Tie as tie
 use Rattle.asking.proofs.can_make.Reads as can-make-reads
-use Rattle.map_function.proofs.canonicalize.Reads as canonicalize-reads
+use Rattle.canonical.proofs.canonicalize.Reads as canonicalize-reads
 
 can-make-requires : tie.Need-can-make-requires
 can-make-requires c κs = search needs
