@@ -32,7 +32,7 @@ use Rattle.frame.specs.declared.Read.{Read}
 use Rattle.frame.specs.declared.Read.the-variants.{Pair, Statuses, CloseMap, CloseRelocates, Out, Home, Count, Bad}
 use Rattle.frame.specs.Read.{meant}
 use Rattle.memory.specs.Memory.{Memory, turnIn}
-use Rattle.answering.specs.Acting.{replyOf, payloadOf, Took, Acted, kindIn}
+use Rattle.acting.specs.Acting.{replyOf, payloadOf, Took, Acted, kindIn}
 use Rattle.answering.specs.Answer.{lineText, replyLine, Fitting, Wrote, Heard, AnswersFrame, memoryAfter, endAfter, outAfter}
 
 -- `hear`

@@ -1,4 +1,3 @@
 pub mod LineWays
-pub mod ActWays
 pub mod TurnWays
 pub mod FrameWays

@@ -31,9 +31,9 @@ use Rattle.frame.specs.declared.Read.the-variants.{Pair, Statuses, CloseMap, Cl
 use Rattle.frame.specs.Read.{meant}
 use Rattle.memory.specs.declared.Kept.{Kept}
 use Rattle.memory.specs.Memory.{Memory, memory, statusesIn, goesIn, turnIn}
-use Rattle.answering.specs.declared.Effect.{Effect}
-use Rattle.answering.specs.Acting.{replyOf, payloadOf, Gave, Went, Acted, OpenActed, CloseActed, countsReply}
-use Rattle.answering.proofs.ActWays.{no-frame, same-frame, countedEffect}
+use Rattle.acting.specs.declared.Effect.{Effect}
+use Rattle.acting.specs.Acting.{replyOf, payloadOf, Gave, Went, Acted, OpenActed, CloseActed, countsReply}
+use Rattle.acting.proofs.ActWays.{no-frame, same-frame, countedEffect}
 
 -- `act_statuses`: a list that passes its questions has at most 64 pairs
 module _ (k : Kept) (bytes : Text) (places : List ℕ) (payload payload′ : Text) (e : length payload ≡ 255) where

@@ -1,27 +1,18 @@
-// The answer to one line of the program `frames`. Nothing is assumed of the memory that is lent: specs/
-// of crate memory says what each frame makes of it, whatever it holds.
+// The answer to one line of the program `frames`. Nothing is assumed of the memory that is lent: specs/ of
+// crate memory says what each frame makes of it, whatever it holds.
 ghost use mathlib.Core.Path.{_≡_};
 ghost use mathlib.Core.List.{[], _∷_};
 ghost use Prim.Native.Nat.{_+_, _*_, _≤_};
 ghost use lib.Dec.{leb};
 ghost use lib.ListN.{length, drop};
 ghost use Rattle.text.specs.Text.{written};
-ghost use Rattle.frame.specs.declared.Read.the-variants.{Pair};
 ghost use Rattle.path.specs.Refusal.{number};
-ghost use Rattle.protocol.specs.State.{fourBytes, counts};
+ghost use Rattle.protocol.specs.State.{fourBytes};
 ghost use Rattle.lines.specs.Taking.{lineAt};
 ghost use Rattle.protocol.specs.Frame.{frameOf};
 ghost use Rattle.memory.specs.Memory.{memory, statusesIn, goesIn};
-ghost use Rattle.answering.specs.declared.Effect.{Effect};
-ghost use Rattle.answering.specs.Acting.{countsReply, kindIn, Gave, Went, Acted, OpenActed, CloseActed};
+ghost use Rattle.acting.specs.Acting.{kindIn, Gave, Went, Acted};
 ghost use Rattle.answering.specs.Answer.{lineText, replyLine, Fitting, Wrote, Heard, AnswersFrame, memoryAfter, outAfter, endAfter};
-
-// What a frame came to: the numbers that are kept, and the reply; its bytes, where there are any, stand at
-// the beginning of the payload.
-struct Effect {
-    kept: memory::Kept,
-    reply: path::Reply,
-}
 
 // What a line came to: the numbers that are kept, and where its answer ends.
 pub struct Answered {
@@ -52,37 +43,13 @@ fn write_line(head: u8, answer: u8, payload: &[u8], at: usize, out: &mut [u8]) -
     end + 1
 }
 
-// What stands behind the kind of a frame.
-fn behind_kind<'a>(frame: &'a [u8]) -> &'a [u8]
-    ensures { λ r. ⌜ now r ≡ drop 1 (now (frame .entry)) ⌝ }
-{
-    if frame.len() == 0 {
-        return &frame[..0];
-    }
-    &frame[1..]
-}
-
-// Do a pair's frame and its two lengths lie within so many bytes?
-fn spans(len: usize, n: usize, m: usize) -> bool
-    ensures { λ r. ⌜ r ≡ leb (5 + n + m) len ⌝ }
-{
-    if len < 5 {
-        return false;
-    }
-    let left = len - 5;
-    if left < n {
-        return false;
-    }
-    m <= left - n
-}
-
 // The kind of a frame that was read in so many bytes, 0 where it is none.
 fn kind_of(r: frame::Read, len: usize) -> u8
     ensures { λ k. ⌜ k ≡ kindIn len r ⌝ }
 {
     match r {
         frame::Read::Pair(n, m) => {
-            if !spans(len, n, m) {
+            if !acting::spans(len, n, m) {
                 return 0;
             }
             1
@@ -97,67 +64,6 @@ fn kind_of(r: frame::Read, len: usize) -> u8
     }
 }
 
-// 01: adds a pair, whose source has n bytes and whose target m, to the open list.
-fn act_pair(
-    frame: &[u8],
-    n: usize,
-    m: usize,
-    k: memory::Kept,
-    bytes: &mut [u8],
-    places: &mut [usize],
-) -> Effect
-    ensures { λ r. ⌜ OpenActed (now (frame .entry)) (Pair n m) k (now (bytes .entry)) (now (places .entry)) (r .kept) (r .reply) (now (bytes .exit)) (now (places .exit)) ⌝ }
-{
-    if !spans(frame.len(), n, m) {
-        return Effect {
-            kept: k,
-            reply: path::Reply::Refused(path::Refusal::NoRoom),
-        };
-    }
-    let end = 3 + n;
-    let start = 5 + n;
-    let last = start + m;
-    let opened = k.opened;
-    let legs = k.legs;
-    let a = holding::add_pair(opened, &frame[3..end], &frame[start..last], bytes, places);
-    match a {
-        holding::Added::Done(o) => Effect {
-            kept: memory::Kept {
-                opened: o,
-                legs,
-                answered: k.answered,
-            },
-            reply: path::Reply::Written(0),
-        },
-        holding::Added::Refused(x) => Effect {
-            kept: k,
-            reply: path::Reply::Refused(x),
-        },
-    }
-}
-
-// 05: counts the frame where it was answered 00.
-fn count_out(k: memory::Kept, r: path::Reply) -> Effect
-    ensures { λ a. ⌜ a ≡ record { kept = record { opened = k .opened; legs = k .legs; answered = countsReply r (k .answered) }; reply = r } ⌝ }
-{
-    if let path::Reply::Refused(x) = r {
-        return Effect { kept: k, reply: r };
-    }
-    if 4294967295 <= k.answered {
-        return Effect { kept: k, reply: r };
-    }
-    let opened = k.opened;
-    let legs = k.legs;
-    Effect {
-        kept: memory::Kept {
-            opened,
-            legs,
-            answered: k.answered + 1,
-        },
-        reply: r,
-    }
-}
-
 // Writes a number over the first four bytes, the high one first.
 fn write_count(n: usize, payload: &mut [u8])
     requires { ⌜ 4 ≤ length (now payload) ⌝ }
@@ -169,46 +75,6 @@ fn write_count(n: usize, payload: &mut [u8])
     four[2] = (n / 256 % 256) as u8;
     four[3] = (n % 256) as u8;
     text::write_at(&four, 0, payload);
-}
-
-// 03 and 04: closes the open list as a leg.
-fn act_close(
-    relocates: bool,
-    k: memory::Kept,
-    bytes: &[u8],
-    places: &[usize],
-    store: &mut [u8],
-    slots: &mut [usize],
-    table: &mut [usize],
-) -> Effect
-    ensures { λ r. ⌜ CloseActed relocates (memory k (now (bytes .entry)) (now (places .entry)) (now (store .entry)) (now (slots .entry)) (now (table .entry))) (memory (r .kept) (now (bytes .entry)) (now (places .entry)) (now (store .exit)) (now (slots .exit)) (now (table .exit))) (r .reply) ⌝ }
-{
-    let opened = k.opened;
-    let legs = k.legs;
-    let c = closing::close(
-        relocates,
-        bytes,
-        places,
-        opened.pairs,
-        legs,
-        store,
-        slots,
-        table,
-    );
-    match c {
-        closing::Closed::Done(g) => Effect {
-            kept: memory::Kept {
-                opened: holding::Opened { pairs: 0, bytes: 0 },
-                legs: g,
-                answered: k.answered,
-            },
-            reply: path::Reply::Written(0),
-        },
-        closing::Closed::Refused(x) => Effect {
-            kept: k,
-            reply: path::Reply::Refused(x),
-        },
-    }
 }
 
 // 02: the statuses of the open list.
@@ -234,7 +100,7 @@ fn act_way(
     ensures { λ r. ⌜ Went (goesIn back (memory k [] [] (now (store .entry)) (now (slots .entry)) (now (table .entry))) (drop 1 (now (frame .entry)))) r (now (payload .entry)) (now (payload .exit)) ⌝ }
 {
     let legs = k.legs;
-    let path = behind_kind(frame);
+    let path = acting::behind_kind(frame);
     routing::route_after(
         path::Asked::Passed,
         store,
@@ -258,34 +124,42 @@ fn act(
     slots: &mut [usize],
     table: &mut [usize],
     payload: &mut [u8],
-) -> Effect
+) -> acting::Effect
     requires { ⌜ length (now payload) ≡ 255 ⌝ }
     ensures { λ a. ⌜ Acted (now (frame .entry)) r (memory k (now (bytes .entry)) (now (places .entry)) (now (store .entry)) (now (slots .entry)) (now (table .entry))) (memory (a .kept) (now (bytes .exit)) (now (places .exit)) (now (store .exit)) (now (slots .exit)) (now (table .exit))) (a .reply) (now (payload .entry)) (now (payload .exit)) ⌝ }
 {
     match r {
-        frame::Read::Pair(n, m) => act_pair(frame, n, m, k, bytes, places),
-        frame::Read::Statuses => Effect {
+        frame::Read::Pair(n, m) => acting::act_pair(frame, n, m, k, bytes, places),
+        frame::Read::Statuses => acting::Effect {
             kept: k,
             reply: act_statuses(k, bytes, places, payload),
         },
-        frame::Read::CloseMap => act_close(false, k, bytes, places, store, slots, table),
-        frame::Read::CloseRelocates => act_close(true, k, bytes, places, store, slots, table),
+        frame::Read::CloseMap => acting::act_close(false, k, bytes, places, store, slots, table),
+        frame::Read::CloseRelocates => acting::act_close(
+            true,
+            k,
+            bytes,
+            places,
+            store,
+            slots,
+            table,
+        ),
         frame::Read::Out => {
             let w = act_way(false, frame, k, store, slots, table, payload);
-            count_out(k, w)
+            acting::count_out(k, w)
         }
-        frame::Read::Home => Effect {
+        frame::Read::Home => acting::Effect {
             kept: k,
             reply: act_way(true, frame, k, store, slots, table, payload),
         },
         frame::Read::Count => {
             write_count(k.answered, payload);
-            Effect {
+            acting::Effect {
                 kept: k,
                 reply: path::Reply::Written(4),
             }
         }
-        frame::Read::Bad => Effect {
+        frame::Read::Bad => acting::Effect {
             kept: k,
             reply: path::Reply::Refused(path::Refusal::NoPath),
         },

@@ -1,4 +1,4 @@
-use Rattle.answering.proofs.ActWays.{count-written}
+use Rattle.acting.proofs.ActWays.{count-written}
 use borrow.Author.Needs.{needs}
 use Rattle.answering.proofs.write_count.Statement.{statement}
 use Rattle.answering.proofs.write_count.Tie as tie

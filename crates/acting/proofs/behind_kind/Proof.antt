@@ -1,7 +1,7 @@
-use Rattle.answering.proofs.ActWays.{kind-none, kind-some}
+use Rattle.acting.proofs.ActWays.{kind-none, kind-some}
 use borrow.Author.Needs.{needs}
-use Rattle.answering.proofs.behind_kind.Statement.{statement}
-use Rattle.answering.proofs.behind_kind.Tie as tie
+use Rattle.acting.proofs.behind_kind.Statement.{statement}
+use Rattle.acting.proofs.behind_kind.Tie as tie
 
 slice-aggregate-result : tie.Need-slice-aggregate-result
 slice-aggregate-result c = search needs

@@ -34,8 +34,8 @@ use Rattle.closing.specs.declared.Closed.the-variants.{Done as DoneClose, Refus
 use Rattle.closing.specs.Close.{counted, closedMap, legMore, closedReply, closedVault, askedOf, closeReply, closeVault}
 use Rattle.memory.specs.declared.Kept.{Kept}
 use Rattle.memory.specs.Memory.{Memory, memory, openList, vaultOf, nothing, addAfter, addIn, closeAfter, closeIn, turnIn}
-use Rattle.answering.specs.declared.Effect.{Effect}
-use Rattle.answering.specs.Acting.{Took, Acted, OpenActed, CloseActed, countsReply}
+use Rattle.acting.specs.declared.Effect.{Effect}
+use Rattle.acting.specs.Acting.{Took, Acted, OpenActed, CloseActed, countsReply}
 
 -- `behind_kind`
 module _ (b : Text) where

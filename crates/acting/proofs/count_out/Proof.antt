@@ -1,7 +1,7 @@
-use Rattle.answering.proofs.ActWays.{count-refused, count-held, count-more}
+use Rattle.acting.proofs.ActWays.{count-refused, count-held, count-more}
 use borrow.Author.Needs.{needs}
-use Rattle.answering.proofs.count_out.Statement.{statement}
-use Rattle.answering.proofs.count_out.Tie as tie
+use Rattle.acting.proofs.count_out.Statement.{statement}
+use Rattle.acting.proofs.count_out.Tie as tie
 
 enum-known-r : tie.Need-enum-known-r
 enum-known-r c = search needs

@@ -1,8 +1,8 @@
 use Rattle.memory.specs.Memory.{memory}
-use Rattle.answering.proofs.ActWays.{close-done, close-refused}
+use Rattle.acting.proofs.ActWays.{close-done, close-refused}
 use borrow.Author.Needs.{needs}
-use Rattle.answering.proofs.act_close.Statement.{statement}
-use Rattle.answering.proofs.act_close.Tie as tie
+use Rattle.acting.proofs.act_close.Statement.{statement}
+use Rattle.acting.proofs.act_close.Tie as tie
 
 close-requires : tie.Need-close-requires
 close-requires c κs = search needs

@@ -1,9 +1,9 @@
 use Prim.Native.Nat.{_+_}
-use Rattle.answering.proofs.ActWays.{pair-outside, pair-inside, cut-at, pair-done, pair-refused}
+use Rattle.acting.proofs.ActWays.{pair-outside, pair-inside, cut-at, pair-done, pair-refused}
 use native.Mathlib.Omega.{arith}
 use borrow.Author.Needs.{needs}
-use Rattle.answering.proofs.act_pair.Statement.{statement}
-use Rattle.answering.proofs.act_pair.Tie as tie
+use Rattle.acting.proofs.act_pair.Statement.{statement}
+use Rattle.acting.proofs.act_pair.Tie as tie
 
 spans-requires : tie.Need-spans-requires
 spans-requires c κs = search needs

@@ -1,6 +1,6 @@
-use Rattle.answering.proofs.ActWays.{spans-head, spans-source, spans-all}
-use Rattle.answering.proofs.spans.Statement.{statement}
-use Rattle.answering.proofs.spans.Tie as tie
+use Rattle.acting.proofs.ActWays.{spans-head, spans-source, spans-all}
+use Rattle.acting.proofs.spans.Statement.{statement}
+use Rattle.acting.proofs.spans.Tie as tie
 
 returns : tie.Need-returns
 returns c = spans-head _ _ _ (c .if1 .taken)

@@ -1,0 +1,141 @@
+// What a frame of the program `frames` does to the open list, to the legs and to the count, whatever memory is
+// lent: specs/ of crate memory says what each frame makes of it.
+ghost use mathlib.Core.Path.{_≡_};
+ghost use Prim.Native.Nat.{_+_};
+ghost use lib.Dec.{leb};
+ghost use lib.ListN.{drop};
+ghost use Rattle.frame.specs.declared.Read.the-variants.{Pair};
+ghost use Rattle.memory.specs.Memory.{memory};
+ghost use Rattle.acting.specs.Acting.{countsReply, OpenActed, CloseActed};
+
+// What a frame came to: the numbers that are kept, and the reply; its bytes, where there are any, stand at
+// the beginning of the payload.
+pub struct Effect {
+    pub kept: memory::Kept,
+    pub reply: path::Reply,
+}
+
+// What stands behind the kind of a frame.
+pub fn behind_kind<'a>(frame: &'a [u8]) -> &'a [u8]
+    ensures { λ r. ⌜ now r ≡ drop 1 (now (frame .entry)) ⌝ }
+{
+    if frame.len() == 0 {
+        return &frame[..0];
+    }
+    &frame[1..]
+}
+
+// Do a pair's frame and its two lengths lie within so many bytes?
+pub fn spans(len: usize, n: usize, m: usize) -> bool
+    ensures { λ r. ⌜ r ≡ leb (5 + n + m) len ⌝ }
+{
+    if len < 5 {
+        return false;
+    }
+    let left = len - 5;
+    if left < n {
+        return false;
+    }
+    m <= left - n
+}
+
+// 01: adds a pair, whose source has n bytes and whose target m, to the open list.
+pub fn act_pair(
+    frame: &[u8],
+    n: usize,
+    m: usize,
+    k: memory::Kept,
+    bytes: &mut [u8],
+    places: &mut [usize],
+) -> Effect
+    ensures { λ r. ⌜ OpenActed (now (frame .entry)) (Pair n m) k (now (bytes .entry)) (now (places .entry)) (r .kept) (r .reply) (now (bytes .exit)) (now (places .exit)) ⌝ }
+{
+    if !spans(frame.len(), n, m) {
+        return Effect {
+            kept: k,
+            reply: path::Reply::Refused(path::Refusal::NoRoom),
+        };
+    }
+    let end = 3 + n;
+    let start = 5 + n;
+    let last = start + m;
+    let opened = k.opened;
+    let legs = k.legs;
+    let a = holding::add_pair(opened, &frame[3..end], &frame[start..last], bytes, places);
+    match a {
+        holding::Added::Done(o) => Effect {
+            kept: memory::Kept {
+                opened: o,
+                legs,
+                answered: k.answered,
+            },
+            reply: path::Reply::Written(0),
+        },
+        holding::Added::Refused(x) => Effect {
+            kept: k,
+            reply: path::Reply::Refused(x),
+        },
+    }
+}
+
+// 05: counts the frame where it was answered 00.
+pub fn count_out(k: memory::Kept, r: path::Reply) -> Effect
+    ensures { λ a. ⌜ a ≡ record { kept = record { opened = k .opened; legs = k .legs; answered = countsReply r (k .answered) }; reply = r } ⌝ }
+{
+    if let path::Reply::Refused(x) = r {
+        return Effect { kept: k, reply: r };
+    }
+    if 4294967295 <= k.answered {
+        return Effect { kept: k, reply: r };
+    }
+    let opened = k.opened;
+    let legs = k.legs;
+    Effect {
+        kept: memory::Kept {
+            opened,
+            legs,
+            answered: k.answered + 1,
+        },
+        reply: r,
+    }
+}
+
+// 03 and 04: closes the open list as a leg.
+pub fn act_close(
+    relocates: bool,
+    k: memory::Kept,
+    bytes: &[u8],
+    places: &[usize],
+    store: &mut [u8],
+    slots: &mut [usize],
+    table: &mut [usize],
+) -> Effect
+    ensures { λ r. ⌜ CloseActed relocates (memory k (now (bytes .entry)) (now (places .entry)) (now (store .entry)) (now (slots .entry)) (now (table .entry))) (memory (r .kept) (now (bytes .entry)) (now (places .entry)) (now (store .exit)) (now (slots .exit)) (now (table .exit))) (r .reply) ⌝ }
+{
+    let opened = k.opened;
+    let legs = k.legs;
+    let c = closing::close(
+        relocates,
+        bytes,
+        places,
+        opened.pairs,
+        legs,
+        store,
+        slots,
+        table,
+    );
+    match c {
+        closing::Closed::Done(g) => Effect {
+            kept: memory::Kept {
+                opened: holding::Opened { pairs: 0, bytes: 0 },
+                legs: g,
+                answered: k.answered,
+            },
+            reply: path::Reply::Written(0),
+        },
+        closing::Closed::Refused(x) => Effect {
+            kept: k,
+            reply: path::Reply::Refused(x),
+        },
+    }
+}
