@@ -6,8 +6,9 @@ ghost use mathlib.Core.Path.{_≡_};
 ghost use Rattle.map_function.specs.Made.{mapReply, mapBytes, mapSlots};
 ghost use Rattle.making.specs.Calls.{newCall, fromPairCall, fromPairIdentityCall, inverseCall, withRootIdentityCall, droppingSourceCall, isNoopCall};
 ghost use Rattle.composing.specs.Calls.{composeCall};
-ghost use Rattle.composing.specs.Implied.{impliedClassCall};
-ghost use Rattle.rebasing.specs.Calls.{rebaseTargetCall, deepenToCall};
+ghost use Rattle.implying.specs.Implied.{impliedClassCall};
+ghost use Rattle.rebasing.specs.Calls.{rebaseTargetCall};
+ghost use Rattle.deepening.specs.Calls.{deepenToCall};
 ghost use Rattle.codes.specs.Code.{testCode};
 ghost use Rattle.exports.specs.Made.{numbers, madeValue, madeCode, madeTime};
 
@@ -251,7 +252,7 @@ pub extern "C" fn mudvizsor_map_deepen_to(
 {
     let map = map_with(count, mark, offset, scale);
     made_code(
-        rebasing::deepen_to(store, places, map, path, out, slots),
+        deepening::deepen_to(store, places, map, path, out, slots),
         time,
     )
 }
@@ -283,7 +284,7 @@ pub extern "C" fn mudvizsor_map_implied_class(
     let map = map_with(count, mark, offset, scale);
     let inner = map_with(icount, imark, ioffset, iscale);
     made_code(
-        composing::implied::implied_class(store, places, map, istore, iplaces, inner, out, slots),
+        implying::implied_class(store, places, map, istore, iplaces, inner, out, slots),
         time,
     )
 }
