@@ -23,7 +23,7 @@ use Rattle.maps.specs.Map.{Map, source, target, size, by, chosenOut, chosenHome
 use Rattle.maps.specs.Compose.{carried, hasSource, added, pulled, composedPairs}
 use Rattle.maps.proofs.EndLaws.{ends-source, ends-target}
 use Rattle.composing.specs.Calls.{ComposedEnds}
-use Rattle.composing.proofs.EveryLaws.{composed-every}
+use Rattle.building.proofs.EveryLaws.{composed-every}
 
 -- a byte that is no slash and stands in neither text does not stand in their join
 slash-lacks : (b : ℕ) → eqb 47 b ≡ false → (c : Bool) → lacks b (slashUnless c) ≡ true

@@ -1,10 +1,2 @@
-pub mod PlainWays
-pub mod ScratchLaws
-pub mod SourceLaws
-pub mod PullWays
-pub mod EveryLaws
-pub mod LengthLaws
-pub mod BuildWays
-pub mod CallWays
-pub mod ComposedEnds
-pub mod ImpliedWays
+mod CallWays
+mod ComposedEnds

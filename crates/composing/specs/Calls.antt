@@ -8,9 +8,9 @@ use lib.ListN.{length}
 use Rattle.text.specs.Text.{Text}
 use Rattle.layer_offset.specs.declared.LayerOffset.{LayerOffset}
 use Rattle.layer_offset.specs.Offset.{identity, isIdentity, concatenated}
-use Rattle.pairs.specs.Pair.{Pair, allShort, allEnds}
+use Rattle.pairs.specs.Pair.{Pair, allEnds}
 use Rattle.path.specs.Refusal.{unless}
-use Rattle.path.specs.declared.Refusal.the-variants.{TooMany, MadeTooLong}
+use Rattle.path.specs.declared.Refusal.the-variants.{TooMany}
 use Rattle.asking.specs.Asking.{asked}
 use Rattle.maps.specs.Map.{Map}
 use Rattle.maps.specs.New.{fromParts}
@@ -18,6 +18,7 @@ use Rattle.maps.specs.Compose.{isPathIdentity, composedPairs, compose}
 use Rattle.map_function.specs.declared.MapFunction.{MapFunction}
 use Rattle.map_function.specs.Read.{listOf, mapOf}
 use Rattle.map_function.specs.Made.{MapOutcome, map, refused, roomFor, asItIs}
+use Rattle.scratch.specs.Ends.{madeShort}
 
 -- "Two identity offsets compose to exactly (0, 1)."
 unfoldable pub composedTime : LayerOffset → LayerOffset → LayerOffset
@@ -27,12 +28,8 @@ composedTime outer inner = cond (isIdentity outer && isIdentity inner) identity 
 abbrev pub timeOf : MapFunction → MapFunction → LayerOffset
 timeOf outer inner = composedTime (outer .«time_offset») (inner .«time_offset»)
 
--- question 7: "Is every path made at most 255 bytes?" The ends of the list are made from ends, and legal, so 8 never comes.
-unfoldable pub madeShort : List Pair → MapOutcome → MapOutcome
-unfolding allShort
-madeShort l o = cond (allShort l) o (refused MadeTooLong)
-
--- the map made of a list that was made itself: questions 4 and 5 put to "the list that the dropping in `new` starts from", then 7
+-- the map made of a list that was made itself: questions 4 and 5 put to "the list that the dropping in `new` starts from", then 7; its ends are
+-- made from ends, and legal, so 8 never comes
 unfoldable pub fromMade : List Pair → Bool → LayerOffset → Text → List ℕ → MapOutcome
 unfolding roomFor madeShort fromParts
 fromMade l mark time out slots = cond (leb (length l) 64) (roomFor l out slots (madeShort l (map (fromParts l mark) time))) (refused TooMany)

@@ -7,8 +7,9 @@ ghost use Rattle.map_function.specs.Made.{mapReply, mapBytes, mapSlots};
 ghost use Rattle.making.specs.Calls.{newCall, fromPairCall, fromPairIdentityCall};
 ghost use Rattle.altering.specs.Calls.{inverseCall, withRootIdentityCall, droppingSourceCall, isNoopCall};
 ghost use Rattle.composing.specs.Calls.{composeCall};
-ghost use Rattle.composing.specs.Implied.{impliedClassCall};
-ghost use Rattle.rebasing.specs.Calls.{rebaseTargetCall, deepenToCall};
+ghost use Rattle.implying.specs.Implied.{impliedClassCall};
+ghost use Rattle.rebasing.specs.Calls.{rebaseTargetCall};
+ghost use Rattle.deepening.specs.Calls.{deepenToCall};
 ghost use Rattle.codes.specs.Code.{testCode};
 ghost use Rattle.crossing.specs.Made.{numbers, madeCode, madeTime};
 
@@ -217,7 +218,7 @@ pub extern "C" fn mudvizsor_map_deepen_to(
 {
     let map = crossing::map_with(count, mark, offset, scale);
     crossing::made_code(
-        rebasing::deepen_to(store, places, map, path, out, slots),
+        deepening::deepen_to(store, places, map, path, out, slots),
         time,
     )
 }
@@ -249,7 +250,7 @@ pub extern "C" fn mudvizsor_map_implied_class(
     let map = crossing::map_with(count, mark, offset, scale);
     let inner = crossing::map_with(icount, imark, ioffset, iscale);
     crossing::made_code(
-        composing::implied::implied_class(store, places, map, istore, iplaces, inner, out, slots),
+        implying::implied_class(store, places, map, istore, iplaces, inner, out, slots),
         time,
     )
 }

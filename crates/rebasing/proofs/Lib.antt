@@ -1,3 +1,2 @@
-pub mod BuildWays
-pub mod CallWays
-pub mod DeepenWays
+mod BuildWays
+mod CallWays

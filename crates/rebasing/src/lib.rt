@@ -1,59 +1,18 @@
-// Maps with their targets put elsewhere. The list is built in memory of the call's own: source then
-// target, pair after pair.
+// A map with its targets put elsewhere.
 ghost use mathlib.Core.Path.{_≡_};
-ghost use mathlib.Core.Bool.{Bool, true, false};
+ghost use mathlib.Core.Bool.{true};
 ghost use mathlib.Core.List.{[], _∷_, _++_};
-ghost use Prim.Native.Nat.{_+_, _*_, _≤_, _<_};
-ghost use lib.ListN.{length, take};
+ghost use Prim.Native.Nat.{_+_, _*_, _≤_};
+ghost use lib.ListN.{length};
 ghost use Rattle.text.specs.Text.{over};
-ghost use Rattle.prefix.specs.Prefix.{hasPrefix};
-ghost use Rattle.parts.specs.Strip.{strip};
-ghost use Rattle.grammar.specs.Legal.{legal};
-ghost use Rattle.pairs.specs.Pair.{pair, everyEnd, allShort};
-ghost use Rattle.pairs.specs.Places.{keyAt, pairsIn, fourOf};
-ghost use Rattle.pairs.specs.Best.{bestBy};
+ghost use Rattle.pairs.specs.Pair.{pair, allShort};
+ghost use Rattle.pairs.specs.Places.{pairsIn, fourOf};
 ghost use Rattle.maps.specs.New.{fromPairIdentity};
-ghost use Rattle.maps.specs.Derive.{anyTarget, deepened};
+ghost use Rattle.maps.specs.Derive.{anyTarget};
 ghost use Rattle.map_function.specs.Made.{mapReply, mapBytes, mapSlots, weighed};
-ghost use Rattle.composing.specs.Scratch.{Holds};
-ghost use Rattle.rebasing.specs.Class.{consideredAbove, chosenAbove};
-ghost use Rattle.rebasing.specs.Calls.{replaced, fromEnds, rebasedPairs, rebaseTargetCall, deepenedPairs, deepenToCall};
-
-// One pair more behind the first n; the place behind it.
-fn put_pair(s: &[u8], t: &[u8], n: usize, at: usize, bytes: &mut [u8], slots: &mut [usize]) -> usize
-    requires { ⌜ at + (length (now s) + length (now t)) ≤ length (now bytes) ⌝ }
-    requires { ⌜ 4 * n + 4 ≤ length (now slots) ⌝ }
-    ensures { λ r. ⌜ r ≡ at + (length (now (s .entry)) + length (now (t .entry))) ⌝ }
-    ensures { λ r. ⌜ now (bytes .exit) ≡ over at (now (s .entry) ++ now (t .entry)) (now (bytes .entry)) ⌝ }
-    ensures { λ r. ⌜ now (slots .exit) ≡ over (4 * n) (fourOf at (now (s .entry)) (now (t .entry))) (now (slots .entry)) ⌝ }
-{
-    let m = at + s.len();
-    text::write_at(s, at, bytes);
-    text::write_at(t, m, bytes);
-    listing::write_four(n, at, s.len(), m, t.len(), slots);
-    m + t.len()
-}
-
-// The path with its prefix replaced, or the path itself; its length.
-fn replace_into(path: &[u8], old: &[u8], new: &[u8], out: &mut [u8]) -> usize
-    requires { ⌜ length (now path) ≤ 255 ⌝ }
-    requires { ⌜ length (now new) ≤ 255 ⌝ }
-    requires { ⌜ 511 ≤ length (now out) ⌝ }
-    ensures { λ r. ⌜ r ≡ length (replaced (now (path .entry)) (now (old .entry)) (now (new .entry))) ⌝ }
-    ensures { λ r. ⌜ take r (now (out .exit)) ≡ replaced (now (path .entry)) (now (old .entry)) (now (new .entry)) ⌝ }
-    ensures { λ r. ⌜ r ≤ 511 ⌝ }
-{
-    if !prefix::has_prefix(path, old) {
-        text::write_at(path, 0, out);
-        return path.len();
-    }
-    let k = old.len();
-    let fit = joining::join(old, new, &path[k..], out);
-    match fit {
-        text::Fit::Written(n) => n,
-        text::Fit::Over => 0,
-    }
-}
+ghost use Rattle.scratch.specs.Scratch.{Holds};
+ghost use Rattle.scratch.specs.Ends.{replaced, fromEnds};
+ghost use Rattle.rebasing.specs.Calls.{rebasedPairs, rebaseTargetCall};
 
 // One pair more: the source as it is, the target put elsewhere.
 fn rebase_pair(
@@ -76,8 +35,8 @@ fn rebase_pair(
     ensures { λ r. ⌜ now (slots .exit) ≡ over (4 * n) (fourOf at (now (s .entry)) (replaced (now (t .entry)) (now (from .entry)) (now (to .entry)))) (now (slots .entry)) ⌝ }
 {
     let mut made = [0u8; 511];
-    let k = replace_into(t, from, to, &mut made);
-    put_pair(s, &made[..k], n, at, bytes, slots)
+    let k = scratch::replace_into(t, from, to, &mut made);
+    scratch::put_pair(s, &made[..k], n, at, bytes, slots)
 }
 
 // Has one of the first n pairs a target below `from`?
@@ -121,37 +80,6 @@ fn rebase_all(
     at
 }
 
-// The map of the first n pairs, whose ends were made: questions 5, 7 and 8, then dropping.
-fn from_ends(
-    store: &[u8],
-    places: &[usize],
-    n: usize,
-    mark: bool,
-    time: layer_offset::LayerOffset,
-    out: &mut [u8],
-    slots: &mut [usize],
-) -> map_function::MapReply
-    requires { ⌜ n ≤ 64 ⌝ }
-    requires { ⌜ 4 * n ≤ length (now places) ⌝ }
-    ensures { λ r. ⌜ r ≡ mapReply (fromEnds (pairsIn (now (store .entry)) (now (places .entry)) n) mark time (now (out .entry)) (now (slots .entry))) ⌝ }
-    ensures { λ r. ⌜ now (out .exit) ≡ mapBytes (fromEnds (pairsIn (now (store .entry)) (now (places .entry)) n) mark time (now (out .entry)) (now (slots .entry))) (now (out .entry)) ⌝ }
-    ensures { λ r. ⌜ now (slots .exit) ≡ mapSlots (fromEnds (pairsIn (now (store .entry)) (now (places .entry)) n) mark time (now (out .entry)) (now (slots .entry))) (now (slots .entry)) ⌝ }
-{
-    if slots.len() / 4 < n {
-        return map_function::MapReply::Refused(path::Refusal::NoRoom);
-    }
-    if !listing::has_room(store, places, n, out.len()) {
-        return map_function::MapReply::Refused(path::Refusal::NoRoom);
-    }
-    if !composing::are_short(store, places, n) {
-        return map_function::MapReply::Refused(path::Refusal::MadeTooLong);
-    }
-    if !pairs::all_legal(store, places, 2 * n) {
-        return map_function::MapReply::Refused(path::Refusal::MadeIllegal);
-    }
-    map_function::from_parts(store, places, n, mark, time, out, slots)
-}
-
 // Rebases a map that passed the questions, with memory to build in.
 fn rebase_in(
     store: &[u8],
@@ -177,7 +105,7 @@ fn rebase_in(
     let mark = map.has_root_identity;
     let time = map.time_offset;
     rebase_all(store, places, n, from, to, bytes, own);
-    from_ends(bytes, own, n, mark, time, out, slots)
+    scratch::from_ends(bytes, own, n, mark, time, out, slots)
 }
 
 // The same for at most four pairs: a small piece of memory is quickly cleared.
@@ -260,7 +188,7 @@ fn from_pair_identity(
 {
     let mut bytes = [0u8; 510];
     let mut own = [0usize; 4];
-    put_pair(s, t, 0, 0, &mut bytes, &mut own);
+    scratch::put_pair(s, t, 0, 0, &mut bytes, &mut own);
     map_function::from_parts(&bytes, &own, 1, true, time, out, slots)
 }
 
@@ -294,300 +222,4 @@ pub fn rebase_target(
         return rebase_few(store, places, map, from, to, out, slots);
     }
     rebase_many(store, places, map, from, to, out, slots)
-}
-
-// One pair more: the pair itself, or where it is the class, the node and where the class puts it.
-fn deepen_pair(
-    s: &[u8],
-    t: &[u8],
-    node: &[u8],
-    above: &[u8],
-    below: &[u8],
-    n: usize,
-    at: usize,
-    bytes: &mut [u8],
-    slots: &mut [usize],
-) -> usize
-    requires { ⌜ length (now s) ≤ 255 ⌝ }
-    requires { ⌜ length (now t) ≤ 255 ⌝ }
-    requires { ⌜ length (now node) ≤ 255 ⌝ }
-    requires { ⌜ length (now below) ≤ 511 ⌝ }
-    requires { ⌜ at + 766 ≤ length (now bytes) ⌝ }
-    requires { ⌜ 4 * n + 4 ≤ length (now slots) ⌝ }
-    ensures { λ r. ⌜ (r ≡ at + (length ((deepened (now (node .entry)) (now (above .entry)) (now (below .entry)) (pair (now (s .entry)) (now (t .entry)))) .source) + length ((deepened (now (node .entry)) (now (above .entry)) (now (below .entry)) (pair (now (s .entry)) (now (t .entry)))) .target))) × (r ≤ at + 766) ⌝ }
-    ensures { λ r. ⌜ now (bytes .exit) ≡ over at ((deepened (now (node .entry)) (now (above .entry)) (now (below .entry)) (pair (now (s .entry)) (now (t .entry)))) .source ++ (deepened (now (node .entry)) (now (above .entry)) (now (below .entry)) (pair (now (s .entry)) (now (t .entry)))) .target) (now (bytes .entry)) ⌝ }
-    ensures { λ r. ⌜ now (slots .exit) ≡ over (4 * n) (fourOf at ((deepened (now (node .entry)) (now (above .entry)) (now (below .entry)) (pair (now (s .entry)) (now (t .entry)))) .source) ((deepened (now (node .entry)) (now (above .entry)) (now (below .entry)) (pair (now (s .entry)) (now (t .entry)))) .target)) (now (slots .entry)) ⌝ }
-{
-    if text::is_equal(s, above) {
-        return put_pair(node, below, n, at, bytes, slots);
-    }
-    put_pair(s, t, n, at, bytes, slots)
-}
-
-// The first n pairs, the class put at the node; the place behind them.
-fn deepen_all(
-    store: &[u8],
-    places: &[usize],
-    n: usize,
-    node: &[u8],
-    above: &[u8],
-    below: &[u8],
-    bytes: &mut [u8],
-    slots: &mut [usize],
-) -> usize
-    requires { ⌜ allShort (pairsIn (now store) (now places) n) ≡ true ⌝ }
-    requires { ⌜ length (now node) ≤ 255 ⌝ }
-    requires { ⌜ length (now below) ≤ 511 ⌝ }
-    requires { ⌜ 766 * n ≤ length (now bytes) ⌝ }
-    requires { ⌜ 4 * n ≤ length (now slots) ⌝ }
-    ensures { λ r. ⌜ Holds (deepenedPairs (now (node .entry)) (now (above .entry)) (now (below .entry)) (pairsIn (now (store .entry)) (now (places .entry)) n)) n r (now (bytes .exit)) (now (slots .exit)) ⌝ }
-{
-    let mut at = 0;
-    let mut i = 0;
-    while i < n {
-        let s = pairs::key_at(store, places, i, false);
-        let t = pairs::key_at(store, places, i, true);
-        at = deepen_pair(s, t, node, above, below, i, at, bytes, slots);
-        i += 1;
-    }
-    at
-}
-
-// Deepens a map that passed the questions, with memory to build in.
-fn deepen_in(
-    store: &[u8],
-    places: &[usize],
-    map: map_function::MapFunction,
-    node: &[u8],
-    above: &[u8],
-    below: &[u8],
-    bytes: &mut [u8],
-    own: &mut [usize],
-    out: &mut [u8],
-    slots: &mut [usize],
-) -> map_function::MapReply
-    requires { ⌜ allShort (pairsIn (now store) (now places) (map .count)) ≡ true ⌝ }
-    requires { ⌜ length (now node) ≤ 255 ⌝ }
-    requires { ⌜ length (now below) ≤ 511 ⌝ }
-    requires { ⌜ map .count ≤ 64 ⌝ }
-    requires { ⌜ 766 * map .count ≤ length (now bytes) ⌝ }
-    requires { ⌜ 4 * map .count ≤ length (now own) ⌝ }
-    ensures { λ r. ⌜ r ≡ mapReply (fromEnds (deepenedPairs (now (node .entry)) (now (above .entry)) (now (below .entry)) (pairsIn (now (store .entry)) (now (places .entry)) (map .count))) (map .«has_root_identity») (map .«time_offset») (now (out .entry)) (now (slots .entry))) ⌝ }
-    ensures { λ r. ⌜ now (out .exit) ≡ mapBytes (fromEnds (deepenedPairs (now (node .entry)) (now (above .entry)) (now (below .entry)) (pairsIn (now (store .entry)) (now (places .entry)) (map .count))) (map .«has_root_identity») (map .«time_offset») (now (out .entry)) (now (slots .entry))) (now (out .entry)) ⌝ }
-    ensures { λ r. ⌜ now (slots .exit) ≡ mapSlots (fromEnds (deepenedPairs (now (node .entry)) (now (above .entry)) (now (below .entry)) (pairsIn (now (store .entry)) (now (places .entry)) (map .count))) (map .«has_root_identity») (map .«time_offset») (now (out .entry)) (now (slots .entry))) (now (slots .entry)) ⌝ }
-{
-    let n = map.count;
-    let mark = map.has_root_identity;
-    let time = map.time_offset;
-    deepen_all(store, places, n, node, above, below, bytes, own);
-    from_ends(bytes, own, n, mark, time, out, slots)
-}
-
-// The same for at most four pairs.
-fn deepen_few(
-    store: &[u8],
-    places: &[usize],
-    map: map_function::MapFunction,
-    node: &[u8],
-    above: &[u8],
-    below: &[u8],
-    out: &mut [u8],
-    slots: &mut [usize],
-) -> map_function::MapReply
-    requires { ⌜ allShort (pairsIn (now store) (now places) (map .count)) ≡ true ⌝ }
-    requires { ⌜ length (now node) ≤ 255 ⌝ }
-    requires { ⌜ length (now below) ≤ 511 ⌝ }
-    requires { ⌜ map .count ≤ 4 ⌝ }
-    ensures { λ r. ⌜ r ≡ mapReply (fromEnds (deepenedPairs (now (node .entry)) (now (above .entry)) (now (below .entry)) (pairsIn (now (store .entry)) (now (places .entry)) (map .count))) (map .«has_root_identity») (map .«time_offset») (now (out .entry)) (now (slots .entry))) ⌝ }
-    ensures { λ r. ⌜ now (out .exit) ≡ mapBytes (fromEnds (deepenedPairs (now (node .entry)) (now (above .entry)) (now (below .entry)) (pairsIn (now (store .entry)) (now (places .entry)) (map .count))) (map .«has_root_identity») (map .«time_offset») (now (out .entry)) (now (slots .entry))) (now (out .entry)) ⌝ }
-    ensures { λ r. ⌜ now (slots .exit) ≡ mapSlots (fromEnds (deepenedPairs (now (node .entry)) (now (above .entry)) (now (below .entry)) (pairsIn (now (store .entry)) (now (places .entry)) (map .count))) (map .«has_root_identity») (map .«time_offset») (now (out .entry)) (now (slots .entry))) (now (slots .entry)) ⌝ }
-{
-    let mut bytes = [0u8; 3064];
-    let mut own = [0usize; 16];
-    deepen_in(
-        store,
-        places,
-        map,
-        node,
-        above,
-        below,
-        &mut bytes,
-        &mut own,
-        out,
-        slots,
-    )
-}
-
-// The same for as many pairs as a list has.
-fn deepen_many(
-    store: &[u8],
-    places: &[usize],
-    map: map_function::MapFunction,
-    node: &[u8],
-    above: &[u8],
-    below: &[u8],
-    out: &mut [u8],
-    slots: &mut [usize],
-) -> map_function::MapReply
-    requires { ⌜ allShort (pairsIn (now store) (now places) (map .count)) ≡ true ⌝ }
-    requires { ⌜ length (now node) ≤ 255 ⌝ }
-    requires { ⌜ length (now below) ≤ 511 ⌝ }
-    requires { ⌜ map .count ≤ 64 ⌝ }
-    ensures { λ r. ⌜ r ≡ mapReply (fromEnds (deepenedPairs (now (node .entry)) (now (above .entry)) (now (below .entry)) (pairsIn (now (store .entry)) (now (places .entry)) (map .count))) (map .«has_root_identity») (map .«time_offset») (now (out .entry)) (now (slots .entry))) ⌝ }
-    ensures { λ r. ⌜ now (out .exit) ≡ mapBytes (fromEnds (deepenedPairs (now (node .entry)) (now (above .entry)) (now (below .entry)) (pairsIn (now (store .entry)) (now (places .entry)) (map .count))) (map .«has_root_identity») (map .«time_offset») (now (out .entry)) (now (slots .entry))) (now (out .entry)) ⌝ }
-    ensures { λ r. ⌜ now (slots .exit) ≡ mapSlots (fromEnds (deepenedPairs (now (node .entry)) (now (above .entry)) (now (below .entry)) (pairsIn (now (store .entry)) (now (places .entry)) (map .count))) (map .«has_root_identity») (map .«time_offset») (now (out .entry)) (now (slots .entry))) (now (slots .entry)) ⌝ }
-{
-    let mut bytes = [0u8; 49024];
-    let mut own = [0usize; 256];
-    deepen_in(
-        store,
-        places,
-        map,
-        node,
-        above,
-        below,
-        &mut bytes,
-        &mut own,
-        out,
-        slots,
-    )
-}
-
-// Deepens by the class at i.
-fn deepen_by(
-    store: &[u8],
-    places: &[usize],
-    map: map_function::MapFunction,
-    node: &[u8],
-    i: usize,
-    out: &mut [u8],
-    slots: &mut [usize],
-) -> map_function::MapReply
-    requires { ⌜ allShort (pairsIn (now store) (now places) (map .count)) ≡ true ⌝ }
-    requires { ⌜ length (now node) ≤ 255 ⌝ }
-    requires { ⌜ map .count ≤ 64 ⌝ }
-    requires { ⌜ i < map .count ⌝ }
-    ensures { λ r. ⌜ r ≡ mapReply (fromEnds (deepenedPairs (now (node .entry)) (keyAt (now (store .entry)) (now (places .entry)) false i) (replaced (now (node .entry)) (keyAt (now (store .entry)) (now (places .entry)) false i) (keyAt (now (store .entry)) (now (places .entry)) true i)) (pairsIn (now (store .entry)) (now (places .entry)) (map .count))) (map .«has_root_identity») (map .«time_offset») (now (out .entry)) (now (slots .entry))) ⌝ }
-    ensures { λ r. ⌜ now (out .exit) ≡ mapBytes (fromEnds (deepenedPairs (now (node .entry)) (keyAt (now (store .entry)) (now (places .entry)) false i) (replaced (now (node .entry)) (keyAt (now (store .entry)) (now (places .entry)) false i) (keyAt (now (store .entry)) (now (places .entry)) true i)) (pairsIn (now (store .entry)) (now (places .entry)) (map .count))) (map .«has_root_identity») (map .«time_offset») (now (out .entry)) (now (slots .entry))) (now (out .entry)) ⌝ }
-    ensures { λ r. ⌜ now (slots .exit) ≡ mapSlots (fromEnds (deepenedPairs (now (node .entry)) (keyAt (now (store .entry)) (now (places .entry)) false i) (replaced (now (node .entry)) (keyAt (now (store .entry)) (now (places .entry)) false i) (keyAt (now (store .entry)) (now (places .entry)) true i)) (pairsIn (now (store .entry)) (now (places .entry)) (map .count))) (map .«has_root_identity») (map .«time_offset») (now (out .entry)) (now (slots .entry))) (now (slots .entry)) ⌝ }
-{
-    let above = pairs::key_at(store, places, i, false);
-    let new = pairs::key_at(store, places, i, true);
-    let mut made = [0u8; 511];
-    let k = replace_into(node, above, new, &mut made);
-    if map.count <= 4 {
-        return deepen_few(store, places, map, node, above, &made[..k], out, slots);
-    }
-    deepen_many(store, places, map, node, above, &made[..k], out, slots)
-}
-
-// What the search for a class has found so far: the pair, and how many elements its source has.
-struct Counted {
-    found: bool,
-    at: usize,
-    elements: usize,
-}
-
-// The better class of what was found and the source at i. An empty source counts.
-fn consider_above(f: Counted, node: &[u8], source: &[u8], i: usize) -> Counted
-    ensures { λ r. ⌜ r ≡ consideredAbove f (now (node .entry)) (now (source .entry)) i ⌝ }
-{
-    if !prefix::has_prefix(node, source) {
-        return f;
-    }
-    let n = prefix::element_count(source).0;
-    if f.found {
-        if n < f.elements {
-            return f;
-        }
-    }
-    Counted {
-        found: true,
-        at: i,
-        elements: n,
-    }
-}
-
-// The class: the pair above the node whose source has most elements, the later on a tie.
-fn best_above(store: &[u8], places: &[usize], n: usize, node: &[u8]) -> Counted
-    ensures { λ r. ⌜ chosenAbove r ≡ bestBy (hasPrefix (now (node .entry))) (keyAt (now (store .entry)) (now (places .entry)) false) n ⌝ }
-{
-    let mut f = Counted {
-        found: false,
-        at: 0,
-        elements: 0,
-    };
-    let mut i = 0;
-    while i < n {
-        f = consider_above(f, node, pairs::key_at(store, places, i, false), i);
-        i += 1;
-    }
-    f
-}
-
-// Deepens to the node, which is the path without its selections.
-fn deepen_node(
-    store: &[u8],
-    places: &[usize],
-    map: map_function::MapFunction,
-    path: &[u8],
-    node: &[u8],
-    out: &mut [u8],
-    slots: &mut [usize],
-) -> map_function::MapReply
-    requires { ⌜ now node ≡ strip (now path) ⌝ }
-    ensures { λ r. ⌜ r ≡ mapReply (deepenToCall (now (store .entry)) (now (places .entry)) map (now (path .entry)) (now (out .entry)) (now (slots .entry))) ⌝ }
-    ensures { λ r. ⌜ now (out .exit) ≡ mapBytes (deepenToCall (now (store .entry)) (now (places .entry)) map (now (path .entry)) (now (out .entry)) (now (slots .entry))) (now (out .entry)) ⌝ }
-    ensures { λ r. ⌜ now (slots .exit) ≡ mapSlots (deepenToCall (now (store .entry)) (now (places .entry)) map (now (path .entry)) (now (out .entry)) (now (slots .entry))) (now (slots .entry)) ⌝ }
-{
-    let n = map.count;
-    let mark = map.has_root_identity;
-    let none = &path[..0];
-    let q = asking::ask_list(store, places, n, path, none, node, none);
-    if let path::Asked::Refused(x) = q {
-        return map_function::MapReply::Refused(x);
-    }
-    if composing::has_source(store, places, n, node) {
-        return map_function::as_it_is(store, places, n, mark, map.time_offset, out, slots);
-    }
-    let f = best_above(store, places, n, node);
-    if !f.found {
-        return map_function::as_it_is(store, places, n, mark, map.time_offset, out, slots);
-    }
-    deepen_by(store, places, map, node, f.at, out, slots)
-}
-
-// The path without its selections; its length.
-fn strip_node(path: &[u8], out: &mut [u8]) -> usize
-    requires { ⌜ length (now path) ≤ length (now out) ⌝ }
-    ensures { λ r. ⌜ r ≡ length (strip (now (path .entry))) ⌝ }
-    ensures { λ r. ⌜ take r (now (out .exit)) ≡ strip (now (path .entry)) ⌝ }
-    ensures { λ r. ⌜ r ≤ length (now (out .entry)) ⌝ }
-{
-    let fit = parts::strip_into(path, out);
-    match fit {
-        text::Fit::Written(n) => n,
-        text::Fit::Over => 0,
-    }
-}
-
-// The map with the class deepened to the path without its selections.
-pub fn deepen_to(
-    store: &[u8],
-    places: &[usize],
-    map: map_function::MapFunction,
-    path: &[u8],
-    out: &mut [u8],
-    slots: &mut [usize],
-) -> map_function::MapReply
-    ensures { λ r. ⌜ r ≡ mapReply (deepenToCall (now (store .entry)) (now (places .entry)) map (now (path .entry)) (now (out .entry)) (now (slots .entry))) ⌝ }
-    ensures { λ r. ⌜ now (out .exit) ≡ mapBytes (deepenToCall (now (store .entry)) (now (places .entry)) map (now (path .entry)) (now (out .entry)) (now (slots .entry))) (now (out .entry)) ⌝ }
-    ensures { λ r. ⌜ now (slots .exit) ≡ mapSlots (deepenToCall (now (store .entry)) (now (places .entry)) map (now (path .entry)) (now (out .entry)) (now (slots .entry))) (now (slots .entry)) ⌝ }
-{
-    if 255 < path.len() {
-        return map_function::MapReply::Refused(path::Refusal::TooLong);
-    }
-    let mut plain = [0u8; 255];
-    let k = strip_node(path, &mut plain);
-    deepen_node(store, places, map, path, &plain[..k], out, slots)
 }

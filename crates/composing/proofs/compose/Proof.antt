@@ -1,6 +1,7 @@
 use native.Mathlib.Omega.{arith}
 use Rattle.map_function.proofs.NewWays.{refusing-map}
-use Rattle.composing.proofs.CallWays.{answering-map, call-refused, call-modest, call-modest-inner, call-few, call-inner, call-outer, call-composed}
+use Rattle.scratch.proofs.MapLaws.{answering-map}
+use Rattle.composing.proofs.CallWays.{call-refused, call-modest, call-modest-inner, call-few, call-inner, call-outer, call-composed}
 use borrow.Author.Needs.{needs}
 use Rattle.composing.proofs.compose.Statement.{statement}
 use Rattle.composing.proofs.compose.Tie as tie

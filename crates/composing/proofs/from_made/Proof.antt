@@ -1,5 +1,6 @@
 use Rattle.map_function.proofs.NewWays.{refusing-map}
-use Rattle.composing.proofs.CallWays.{answering-map, made-parts, made-many, made-slots, made-bytes, made-long}
+use Rattle.scratch.proofs.MapLaws.{answering-map}
+use Rattle.composing.proofs.CallWays.{made-parts, made-many, made-slots, made-bytes, made-long}
 use borrow.Author.Needs.{needs}
 use Rattle.composing.proofs.from_made.Statement.{statement}
 use Rattle.composing.proofs.from_made.Tie as tie

@@ -1,5 +1,5 @@
-use Rattle.rebasing.specs.Calls.{rebasedPairs, replaced}
-use Rattle.composing.specs.Scratch.{Holds}
+use Rattle.rebasing.specs.Calls.{rebasedPairs}
+use Rattle.scratch.specs.Scratch.{Holds}
 use Rattle.maps.specs.Derive.{rebased}
 use Rattle.pairs.specs.Places.{pairsIn}
 use Rattle.pairs.specs.Pair.{Pair}
@@ -8,7 +8,9 @@ use Prim.Native.Nat.{_*_, _≤_, _-_}
 use lib.ListN.{length}
 use mathlib.Core.Path.{_≡_, refl}
 use borrow.Author.Needs.{needs}
-use Rattle.rebasing.proofs.BuildWays.{short-source, short-target, build-begin, build-next, build-end, rebased-pair}
+use Rattle.scratch.proofs.LengthLaws.{short-source, short-target}
+use Rattle.scratch.proofs.ScratchLaws.{build-begin, build-next, build-end}
+use Rattle.rebasing.proofs.BuildWays.{rebased-pair}
 use Rattle.rebasing.proofs.rebase_all.Statement.{statement}
 use Rattle.rebasing.proofs.rebase_all.Tie as tie
 

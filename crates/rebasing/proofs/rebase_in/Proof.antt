@@ -1,5 +1,4 @@
-use Rattle.composing.proofs.CallWays.{answering-map}
-use Rattle.rebasing.proofs.CallWays.{built-ends}
+use Rattle.scratch.proofs.MapLaws.{answering-map, built-ends}
 use borrow.Author.Needs.{needs}
 use Rattle.rebasing.proofs.rebase_in.Statement.{statement}
 use Rattle.rebasing.proofs.rebase_in.Tie as tie

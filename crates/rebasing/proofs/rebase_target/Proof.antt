@@ -1,4 +1,4 @@
-use Rattle.composing.proofs.CallWays.{answering-map}
+use Rattle.scratch.proofs.MapLaws.{answering-map}
 use Rattle.map_function.proofs.NewWays.{refusing-map}
 use Rattle.rebasing.proofs.CallWays.{rebase-refused, rebase-short, rebase-count, rebase-from, rebase-to, rebase-identity, rebase-same, rebase-made}
 use borrow.Author.Needs.{needs}

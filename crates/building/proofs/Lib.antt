@@ -1,0 +1,6 @@
+mod PlainWays
+mod PullWays
+pub mod EveryLaws
+pub mod LengthLaws
+pub mod EnoughWays
+mod BuildWays

@@ -1,0 +1,158 @@
+-- What each way through `join_at`, `keep_at`, `map_at` and `carried_at` gives. Assumes nothing.
+use mathlib.Core.Path.{_≡_, refl, sym, ap, _∙_}
+use mathlib.Core.Logic.{_≢_}
+use mathlib.Core.Bool.{Bool, true, false, not, cond, _&&_}
+use mathlib.Core.List.{List, [], _∷_, _++_, append-nil}
+use mathlib.Core.Option.{Option, none, some, Option·getD}
+use Prim.Native.Nat.{ℕ, _+_, _-_, _≤_, _<_}
+use native.Mathlib.Omega.{arith}
+use lib.Dec.{leb}
+use lib.ListN.{length, take, drop, length-drop, drop-of-length-le, take-append-drop}
+use lib.Seq.{drop-drop}
+use borrow.Author.Tests.{le-leb}
+use borrow.Rule.Slice.PartMut.{putMid}
+use Rattle.text.specs.Text.{Text, isNil, written, placed, fitted}
+use Rattle.text.specs.declared.Fit.{Fit}
+use Rattle.text.specs.declared.Fit.the-variants.{Written, Over}
+use Rattle.text.proofs.BoolLaws.{and-l, and-r, not-true, not-false}
+use Rattle.text.proofs.WriteLaws.{placed-first, rest-whole, fit-length, fit-over}
+use Rattle.prefix.specs.Prefix.{hasPrefix}
+use Rattle.joining.specs.Join.{joined, replacePrefix}
+use Rattle.joining.proofs.ReplaceLaws.{replace-prefix}
+use Rattle.pairs.specs.Places.{keyAt}
+use Rattle.pairs.specs.Best.{best, serves}
+use Rattle.serving.specs.Search.{chosenIn}
+use Rattle.pairs.proofs.PlaceLaws.{chosen-best}
+use Rattle.serving.specs.declared.Found.{Found}
+use Rattle.maps.specs.Map.{Map, source, target, by, plainOut, plainHome, lentMap}
+use Rattle.maps.proofs.LentLaws.{out-keys, home-keys, ends-by}
+use Rattle.text.proofs.TextLaws.{nil-length, nil-not}
+use Rattle.building.specs.declared.Image.{Image}
+use Rattle.building.specs.declared.Image.the-variants.{Nothing, Made}
+use Rattle.building.specs.Build.{plain, marked, image, needed, imaged, carriedTo}
+
+-- `join_at`: a text written over the beginning of what lies behind a place
+module _ (q out : Text) (at : ℕ) (h : at + length q ≤ length out) (f : Fit) (e : f ≡ fitted q (take (length out - at) (drop at out))) where
+  part : take (length out - at) (drop at out) ≡ drop at out
+  part = rest-whole out at
+
+  room : length q ≤ length (drop at out)
+  room = simp length-drop (omega arith)
+
+  pub part-length : (n : ℕ) → f ≡ Written n → n ≡ length q
+  part-length n k = fit-length q (take (length out - at) (drop at out)) n (sym e ∙ k)
+
+  pub part-over : f ≡ Over → ⊥
+  part-over k =
+      let l : length (take (length out - at) (drop at out)) < length q = fit-over q (take (length out - at) (drop at out)) (sym e ∙ k) in
+      omega (arith, room, rw part at l)
+
+  pub part-put : (y : Text) → y ≡ placed 0 q (take (length out - at) (drop at out)) → putMid at (length out - at) out y ≡ placed at q out
+  unfolding placed
+  part-put y k =
+      let a : drop (length out - at) (drop at out) ≡ [] = drop-of-length-le (drop at out) {i = length out - at} (simp length-drop (omega arith)) in
+      let b : y ≡ q ++ drop (at + length q) out = k ∙ rw part (placed-first q (drop at out) room ∙ ap (λ (z : Text). q ++ z) (drop-drop (length q) at out)) in
+      rw (a, b, append-nil (q ++ drop (at + length q) out), le-leb (at + length q) (length out) h)
+
+-- `keep_at`
+module _ (mark : Bool) (p : Text) (at : ℕ) (out : Text) where
+  pub keep-none : not mark ≡ true → (Nothing ≡ image (marked mark p)) × (out ≡ imaged at (marked mark p) out)
+  keep-none k = rw (not-true mark k) (refl, refl)
+
+  pub keep-some : not mark ≡ false → (out′ : Text) → out′ ≡ placed at p out → (Made (length p) ≡ image (marked mark p)) × (out′ ≡ imaged at (marked mark p) out)
+  keep-some k out′ e = rw (not-false mark k) (refl, e)
+
+-- `map_at`: the keys that the code reads are the ends of the map in lent memory
+module _ (store : Text) (places : List ℕ) (n : ℕ) (mark : Bool) (p : Text) where
+  abbrev key : Bool → ℕ → Text
+  key b = keyAt store places b
+
+  abbrev lent : Map
+  lent = lentMap store places n mark
+
+  plain-none : (invert : Bool) → best p (key invert) n ≡ none → plain invert lent p ≡ marked mark p
+  unfolding plain plainOut plainHome
+  plain-none false e = rw (out-keys store places n mark p, e)
+  plain-none true e = rw (home-keys store places n mark p, e)
+
+  plain-some : (invert : Bool) (i : ℕ) → best p (key invert) n ≡ some i
+      → plain invert lent p ≡ cond (isNil (key true i)) none (replacePrefix p (key invert i) (key (not invert) i))
+  unfolding plain plainOut plainHome
+  plain-some false i e = let z = ends-by store places n mark p false i e in rw (out-keys store places n mark p, e, z .0, z .1)
+  plain-some true i e = let z = ends-by store places n mark p true i e in rw (home-keys store places n mark p, e, z .0, z .1)
+
+  module _ (invert : Bool) (f : Found) (h : chosenIn f ≡ best p (key invert) n) where
+    pub map-none : not (f .found) ≡ true → plain invert lent p ≡ marked mark p
+    map-none k = plain-none invert (sym h ∙ none-in)
+      where
+        none-in : chosenIn f ≡ none
+        none-in = rw (not-true (f .found) k)
+
+    module _ (k : not (f .found) ≡ false) where
+      chosen : best p (key invert) n ≡ some (f .at)
+      chosen = sym h ∙ rw (not-false (f .found) k)
+
+      pub map-block : (b : Text) → b ≡ key true (f .at) → length b ≡ 0 → plain invert lent p ≡ none
+      map-block b e l = plain-some invert (f .at) chosen ∙ rw (nil-length (key true (f .at)) (rw e at l))
+
+      has : hasPrefix p (key invert (f .at)) ≡ true
+      unfolding best serves
+      has = and-r (not (isNil (key invert (f .at)))) (hasPrefix p (key invert (f .at))) ((chosen-best (serves p) (key invert) n (f .at) chosen) .does-pass)
+
+      pub map-join : (b s t : Text) → b ≡ key true (f .at) → length b ≢ 0 → s ≡ key invert (f .at) → t ≡ key (not invert) (f .at)
+          → plain invert lent p ≡ some (joined s t (take (length p - length s) (drop (length s) p)))
+      map-join b s t e l es et =
+          rw (es, et, rest-whole p (length (key invert (f .at))))
+          (plain-some invert (f .at) chosen ∙ rw (nil-not (key true (f .at)) (rw e at l)) (replace-prefix p (key invert (f .at)) (key (not invert) (f .at)) has))
+
+-- what is known of the mapped text, handed on
+module _ (o : Option Text) (v : Option Text) (e : o ≡ v) where
+  pub room-of : (at : ℕ) (out : Text) → at + needed o ≤ length out → at + needed v ≤ length out
+  room-of at out h = rw e at h
+
+  pub answer-of : (r : Image) (at : ℕ) (out out′ : Text) → (r ≡ image v) × (out′ ≡ imaged at v out) → (r ≡ image o) × (out′ ≡ imaged at o out)
+  answer-of r at out out′ w = rw e w
+
+-- no text leaves the memory as it is
+pub placed-none : (at : ℕ) (out : Text) → out ≡ placed at [] out
+unfolding placed
+placed-none at out = go (leb (at + 0) (length out))
+  where
+    whole : take at out ++ drop (at + 0) out ≡ out
+    whole = let z : at + 0 ≡ at = omega arith in rw z (take-append-drop at out)
+
+    go : (b : Bool) → out ≡ cond b (take at out ++ drop (at + 0) out) out
+    go true = sym whole
+    go false = refl
+
+-- `carried_at`
+module _ (m : Map) (t : Text) (at : ℕ) (out : Text) where
+  pub carried-empty : length t ≡ 0 → (0 ≡ length (carriedTo m t)) × (out ≡ placed at (carriedTo m t) out)
+  unfolding carriedTo
+  carried-empty l = rw (nil-length t l) (refl, placed-none at out)
+
+  to-plain : length t ≢ 0 → carriedTo m t ≡ Option·getD (plain false m t) []
+  unfolding plain carriedTo
+  to-plain l = rw (nil-not t l)
+
+  module _ (l : length t ≢ 0) (a : Image) (out′ : Text) (h : a ≡ image (plain false m t)) (w : out′ ≡ imaged at (plain false m t) out) where
+    pub carried-none : a ≡ Nothing → (0 ≡ length (carriedTo m t)) × (out′ ≡ placed at (carriedTo m t) out)
+    carried-none e = rw (to-plain l) (go (plain false m t) refl)
+      where
+        go : (o : Option Text) → plain false m t ≡ o → (0 ≡ length (Option·getD o [])) × (out′ ≡ placed at (Option·getD o []) out)
+        go none k = (refl, w ∙ rw k (placed-none at out))
+        go (some q) k = absurd (let z : _≡_ {A = Image} Nothing (Made (length q)) = sym e ∙ h ∙ ap image k in let y : _≡_ {A = ℕ} 0 1 = cc in omega arith)
+
+    pub carried-made : (n : ℕ) → a ≡ Made n → (n ≡ length (carriedTo m t)) × (out′ ≡ placed at (carriedTo m t) out)
+    carried-made n e = rw (to-plain l) (go (plain false m t) refl)
+      where
+        go : (o : Option Text) → plain false m t ≡ o → (n ≡ length (Option·getD o [])) × (out′ ≡ placed at (Option·getD o []) out)
+        go none k = absurd (let z : _≡_ {A = Image} (Made n) Nothing = sym e ∙ h ∙ ap image k in let y : _≡_ {A = ℕ} 0 1 = cc in omega arith)
+        go (some q) k = (let z : _≡_ {A = Image} (Made n) (Made (length q)) = sym e ∙ h ∙ ap image k in cc, w ∙ rw k refl)
+
+  pub carried-room : length t ≢ 0 → at + length (carriedTo m t) ≤ length out → at + needed (plain false m t) ≤ length out
+  carried-room l r = go (plain false m t) refl
+    where
+      go : (o : Option Text) → plain false m t ≡ o → at + needed o ≤ length out
+      go none k = omega arith
+      go (some q) k = omega (arith, ap length (to-plain l), ap (λ (z : Option Text). length (Option·getD z [])) k)

@@ -1,0 +1,256 @@
+-- What each way through the functions of `deepen_to` gives. Assumes nothing.
+use mathlib.Core.Path.{_≡_, refl, sym, ap, _∙_}
+use mathlib.Core.Bool.{Bool, true, false, not, cond, false≢true}
+use mathlib.Core.List.{List, [], _∷_, _++_}
+use mathlib.Core.Option.{Option, none, some, Option·getD}
+use Prim.Native.Nat.{ℕ, suc, _+_, _*_, _≤_, _<_}
+use native.Mathlib.Omega.{arith}
+use native.Mathlib.Numerals.{add-one}
+use lib.Dec.{leb}
+use lib.ListN.{length, take}
+use borrow.Author.Tests.{le-leb, lt-leb}
+use Rattle.text.specs.Text.{Text, equal, over}
+use Rattle.text.specs.declared.Fit.{Fit}
+use Rattle.text.specs.declared.Fit.the-variants.{Written}
+use Rattle.text.proofs.BoolLaws.{told, told-true, told-false, not-true, not-false}
+use Rattle.grammar.specs.Legal.{legal, fits, isEnd}
+use Rattle.prefix.specs.Prefix.{hasPrefix}
+use Rattle.prefix.specs.Elements.{elements}
+use Rattle.joining.specs.Join.{replacePrefix}
+use Rattle.joining.proofs.ReplaceLaws.{replace-prefix}
+use Rattle.parts.specs.Strip.{strip, stripFit, stripMemory}
+use Rattle.parts.proofs.StripLaws.{strip-shorter, strip-length, strip-back}
+use Rattle.layer_offset.specs.declared.LayerOffset.{LayerOffset}
+use Rattle.deepening.specs.declared.Counted.{Counted}
+use Rattle.pairs.specs.Pair.{Pair, pair, allShort}
+use Rattle.pairs.specs.Places.{keyAt, pairIn, pairsIn, fourOf}
+use Rattle.pairs.specs.Best.{bestBy}
+use Rattle.pairs.proofs.BestLaws.{Best}
+use Rattle.pairs.proofs.PlaceLaws.{pairsIn-length, pairsIn-source, pairsIn-target, chosen-best, best-same}
+use Rattle.listing.proofs.WriteWays.{source-key, target-key}
+use Rattle.path.specs.declared.Refusal.{Refusal}
+use Rattle.path.specs.declared.Refusal.the-variants.{TooLong}
+use Rattle.path.specs.declared.Asked.{Asked}
+use Rattle.path.specs.declared.Asked.the-variants.{Passed, Refused as RefusedAsked}
+use Rattle.asking.specs.Asking.{Lent, every, firstNo, asked}
+use Rattle.asking.proofs.PassLaws.{Sound, first-sound, text-short}
+use Rattle.maps.specs.Map.{Map, source, target, size}
+use Rattle.maps.specs.New.{fromParts}
+use Rattle.maps.specs.Compose.{hasSource}
+use Rattle.maps.specs.Derive.{deepened, deepenBy, deepenTo}
+use Rattle.map_function.specs.declared.MapFunction.{MapFunction}
+use Rattle.map_function.specs.Read.{listOf, mapOf}
+use Rattle.map_function.specs.Made.{MapOutcome, map, refused, weighed, asItIs, held}
+use Rattle.scratch.specs.Ends.{replaced, fromEnds}
+use Rattle.scratch.proofs.MapLaws.{held-all, weighed-map, fromEnds-map}
+use Rattle.deepening.specs.Class.{consideredAbove, chosenAbove}
+use Rattle.deepening.specs.Calls.{deepenedPairs, deepeningBy, deepening, DeepensTo, deepenToCall}
+
+-- `deepen_pair`
+module _ (s t node above below : Text) (b : Bool) (h : b ≡ equal s above) where
+  deepened-class : b ≡ true → deepened node above below (pair s t) ≡ pair node below
+  unfolding equal
+  deepened-class k = ap (λ (c : Bool). cond c (pair node below) (pair s t)) (told h k)
+
+  deepened-other : b ≡ false → deepened node above below (pair s t) ≡ pair s t
+  unfolding equal
+  deepened-other k = ap (λ (c : Bool). cond c (pair node below) (pair s t)) (told h k)
+
+  module _ (at n r : ℕ) (out out′ : Text) (slots slots′ : List ℕ) where
+    abbrev Done : Pair → Type 0
+    Done x = ((r ≡ at + (length (x .source) + length (x .target))) × (r ≤ at + 766))
+        × ((out′ ≡ over at (x .source ++ x .target) out) × (slots′ ≡ over (4 * n) (fourOf at (x .source) (x .target)) slots))
+
+    pub deepen-class : b ≡ true → length node ≤ 255 → length below ≤ 511 → r ≡ at + (length node + length below) → out′ ≡ over at (node ++ below) out
+        → slots′ ≡ over (4 * n) (fourOf at node below) slots → Done (deepened node above below (pair s t))
+    deepen-class k l m e o w = rw (deepened-class k) ((e, omega arith), (o, w))
+
+    pub deepen-other : b ≡ false → length s ≤ 255 → length t ≤ 255 → r ≡ at + (length s + length t) → out′ ≡ over at (s ++ t) out
+        → slots′ ≡ over (4 * n) (fourOf at s t) slots → Done (deepened node above below (pair s t))
+    deepen-other k l m e o w = rw (deepened-other k) ((e, omega arith), (o, w))
+
+-- `deepen_all`
+pub deepened-pair : (store : Text) (places : List ℕ) (i : ℕ) (node above below s t : Text) → s ≡ keyAt store places false i → t ≡ keyAt store places true i
+    → deepened node above below (pairIn store places i)
+    ≡ pair ((deepened node above below (pair s t)) .source) ((deepened node above below (pair s t)) .target)
+deepened-pair store places i node above below s t e f = rw (e, f, ← (source-key store places i), ← (target-key store places i)) refl
+
+-- `deepen_by`: where the class puts the node
+module _ (q : Text) (k : ℕ) (made : Text) (e : k ≡ length q) (f : take k made ≡ q) where
+  pub below-short : length q ≤ 511 → length (take k made) ≤ 511
+  below-short l = omega (arith, ap length f)
+
+  pub deepen-same : (node above new a b : Text) → above ≡ a → new ≡ b → q ≡ replaced node above new
+      → (l : List Pair) (mark : Bool) (time : LayerOffset) (out : Text) (slots : List ℕ)
+      → fromEnds (deepenedPairs node a (replaced node a b) l) mark time out slots ≡ fromEnds (deepenedPairs node above (take k made) l) mark time out slots
+  deepen-same node above new a b g h i l mark time out slots = rw (f, i, g, h) refl
+
+-- `consider_above`
+module _ (f : Counted) (p k : Text) (i : ℕ) (b : Bool) (h : b ≡ hasPrefix p k) where
+  pub above-other : not b ≡ true → f ≡ consideredAbove f p k i
+  unfolding consideredAbove
+  above-other l = rw (told-false h l)
+
+  module _ (l : not b ≡ false) (n : ℕ) (e : n ≡ elements k) where
+    pub above-worse : f .found ≡ true → n < f .elements → f ≡ consideredAbove f p k i
+    unfolding consideredAbove
+    above-worse g m = rw (told-true h l, g, ← e, lt-leb (f .elements) n m)
+
+    pub above-better : f .found ≡ true → f .elements ≤ n → record { found = true; at = i; elements = n } ≡ consideredAbove f p k i
+    unfolding consideredAbove
+    above-better g m = rw (told-true h l, g, ← e, le-leb (f .elements) n m)
+
+    pub above-first : f .found ≡ false → record { found = true; at = i; elements = n } ≡ consideredAbove f p k i
+    unfolding consideredAbove
+    above-first g = rw (told-true h l, g, ← e)
+
+-- what the loop keeps: what was found is what `bestBy` chooses of the first i sources
+pub record Above (p : Text) (key : ℕ → Text) (i : ℕ) (f : Counted) : Type 0 where
+  pub chosen : chosenAbove f ≡ bestBy (hasPrefix p) key i
+  pub counted : f .found ≡ true → f .elements ≡ elements (key (f .at))
+
+pub above-none : (p : Text) (key : ℕ → Text) → Above p key 0 (record { found = false; at = 0; elements = 0 })
+unfolding bestBy
+above-none p key = record { chosen = refl; counted = λ h. absurd (false≢true h) }
+
+module _ (p : Text) (key : ℕ → Text) (i : ℕ) where
+  compared : (at e : ℕ) (c : Bool) → some at ≡ bestBy (hasPrefix p) key i → e ≡ elements (key at) → hasPrefix p (key i) ≡ true → leb e (elements (key i)) ≡ c
+      → Above p key (suc i) (cond c (record { found = true; at = i; elements = elements (key i) }) (record { found = true; at = at; elements = e }))
+  unfolding bestBy
+  compared at e true h k s t = record { chosen = rw (s, ← h, ← k, t); counted = λ z. refl }
+  compared at e false h k s t = record { chosen = rw (s, ← h, ← k, t); counted = λ z. k }
+
+  cases : (found : Bool) (at e : ℕ) (b : Bool) → Above p key i (record { found = found; at = at; elements = e }) → hasPrefix p (key i) ≡ b
+      → Above p key (suc i) (consideredAbove (record { found = found; at = at; elements = e }) p (key i) i)
+  unfolding bestBy consideredAbove
+  cases true at e true h s = rw s (compared at e (leb e (elements (key i))) (h .chosen) (h .counted refl) s refl)
+  cases false at e true h s = rw s (record { chosen = rw (s, ← (h .chosen)); counted = λ z. refl })
+  cases found at e false h s = rw s (record { chosen = rw s (h .chosen); counted = h .counted })
+
+  pub above-on : (f f′ : Counted) (k : Text) → Above p key i f → k ≡ key i → f′ ≡ consideredAbove f p k i → Above p key (i + 1) f′
+  above-on f f′ k h e c = rw (c, e, add-one i) (cases (f .found) (f .at) (f .elements) (hasPrefix p (key i)) h refl)
+
+pub above-end : (p : Text) (key : ℕ → Text) (i n : ℕ) (f : Counted) → Above p key i f → n ≤ i → i ≤ n → chosenAbove f ≡ bestBy (hasPrefix p) key n
+above-end p key i n f h l m = let e : n ≡ i = omega arith in rw e (h .chosen)
+
+pub ruleset classes = (above-other, above-worse, above-better, above-first, above-none, above-on, above-end)
+
+-- `strip_node`
+pub node-done : (p out : Text) (f : Fit) → length p ≤ length out → f ≡ stripFit p out → (n : ℕ) → f ≡ Written n → (out′ : Text) → out′ ≡ stripMemory p out
+    → (n ≡ length (strip p)) × ((take n out′ ≡ strip p) × (n ≤ length out))
+node-done p out f h e n k out′ w =
+    let z : n ≡ length (strip p) = strip-length p out f h e n k in
+    (z, (strip-back p out f h e n k out′ w, omega (arith, strip-shorter p)))
+
+-- the second text and the second end of the question are empty
+ask-node : (l : Lent) (p e : Text) → asked (l ∷ []) (p ∷ [] ∷ []) (e ∷ [] ∷ []) ≡ asked (l ∷ []) (p ∷ []) (e ∷ [])
+unfolding asked every fits legal isEnd
+ask-node l p e = refl
+
+-- `deepen_node`
+module _ (store : Text) (places : List ℕ) (f : MapFunction) (p node : Text) (out : Text) (slots : List ℕ) (is : node ≡ strip p)
+    (q : Asked) (h : q ≡ asked (listOf store places f ∷ []) (p ∷ [] ∷ []) (node ∷ [] ∷ [])) where
+  abbrev m : Map
+  m = mapOf store places f
+
+  asked-is : q ≡ asked (listOf store places f ∷ []) (p ∷ []) (strip p ∷ [])
+  asked-is = h ∙ ask-node (listOf store places f) p node ∙ rw is refl
+
+  pub deepen-refused : (x : Refusal) → q ≡ RefusedAsked x → deepenToCall store places f p out slots ≡ refused x
+  unfolding deepenToCall
+  deepen-refused x k = rw (← asked-is, k)
+
+  module _ (k : q ≡ Passed) where
+    sound : Sound (listOf store places f)
+    sound = first-sound (listOf store places f) [] (p ∷ []) (strip p ∷ []) (sym asked-is ∙ k)
+
+    passed : deepenToCall store places f p out slots ≡ deepening m node (f .«time_offset») out slots
+    unfolding deepenToCall
+    passed = rw (← asked-is, k, is)
+
+    pub deepen-short : allShort (m .pairs) ≡ true
+    deepen-short = sound .shorts
+
+    pub deepen-count : f .count ≤ 64
+    deepen-count = sound .few
+
+    pub deepen-node-short : length node ≤ 255
+    deepen-node-short =
+        omega (arith, ap length is, strip-shorter p, text-short (listOf store places f ∷ []) p [] (strip p ∷ []) (sym asked-is ∙ k))
+
+    abbrev asItStands : MapOutcome
+    asItStands = held (listOf store places f) (asItIs (pairsIn store places (f .count)) (f .«has_root_identity») (f .«time_offset») out slots)
+
+    stands : asItIs (pairsIn store places (f .count)) (f .«has_root_identity») (f .«time_offset») out slots ≡ asItStands
+    stands = sym (held-all store places (f .count) (asItIs (pairsIn store places (f .count)) (f .«has_root_identity») (f .«time_offset») out slots) (sound .held))
+
+    module _ (b : Bool) (g : b ≡ hasSource (pairsIn store places (f .count)) node) where
+      pub deepen-there : b ≡ true → deepenToCall store places f p out slots ≡ asItStands
+      unfolding deepening
+      deepen-there l = passed ∙ rw (told g l) stands
+
+      module _ (l : b ≡ false) (c : Counted) (i : chosenAbove c ≡ bestBy (hasPrefix node) (keyAt store places false) (f .count)) where
+        class-is : bestBy (hasPrefix node) (source m) (size m) ≡ chosenAbove c
+        class-is =
+            rw (pairsIn-length store places (f .count))
+            (best-same (hasPrefix node) (source m) (keyAt store places false) (f .count) (λ j n. pairsIn-source store places (f .count) j n) ∙ sym i)
+
+        opened : deepenToCall store places f p out slots ≡ deepeningBy m node (chosenAbove c) (f .«time_offset») out slots
+        unfolding deepening
+        opened = passed ∙ rw (told g l) (ap (λ (o : Option ℕ). deepeningBy m node o (f .«time_offset») out slots) class-is)
+
+        pub deepen-none : not (c .found) ≡ true → deepenToCall store places f p out slots ≡ asItStands
+        unfolding deepeningBy
+        deepen-none n = opened ∙ ap (λ (x : Bool). deepeningBy m node (cond x (some (c .at)) none) (f .«time_offset») out slots) (not-true (c .found) n) ∙ stands
+
+        module _ (n : not (c .found) ≡ false) where
+          chosen-is : bestBy (hasPrefix node) (keyAt store places false) (f .count) ≡ some (c .at)
+          chosen-is = sym i ∙ ap (λ (x : Bool). cond x (some (c .at)) none) (not-false (c .found) n)
+
+          best : Best (hasPrefix node) (keyAt store places false) (f .count) (c .at)
+          best = chosen-best (hasPrefix node) (keyAt store places false) (f .count) (c .at) chosen-is
+
+          pub deepen-inside : c .at < f .count
+          deepen-inside = best .in-range
+
+          abbrev above : Text
+          above = keyAt store places false (c .at)
+
+          below-is : Option·getD (replacePrefix node (source m (c .at)) (target m (c .at))) [] ≡ replaced node above (keyAt store places true (c .at))
+          below-is =
+              rw (
+                pairsIn-source store places (f .count) (c .at) deepen-inside,
+                pairsIn-target store places (f .count) (c .at) deepen-inside,
+                replace-prefix node above (keyAt store places true (c .at)) (best .does-pass),
+              ) refl
+
+          pub deepen-made : deepenToCall store places f p out slots
+              ≡ fromEnds (deepenedPairs node above (replaced node above (keyAt store places true (c .at))) (pairsIn store places (f .count)))
+              (f .«has_root_identity») (f .«time_offset») out slots
+          unfolding deepeningBy
+          deepen-made =
+              opened
+              ∙ ap (λ (x : Bool). deepeningBy m node (cond x (some (c .at)) none) (f .«time_offset») out slots) (not-false (c .found) n)
+              ∙ ap (λ (y : Text). fromEnds (deepenedPairs node (source m (c .at)) y (pairsIn store places (f .count))) (f .«has_root_identity») (f .«time_offset») out slots) below-is
+              ∙ ap (λ (y : Text). fromEnds (deepenedPairs node y (replaced node above (keyAt store places true (c .at))) (pairsIn store places (f .count)))
+              (f .«has_root_identity») (f .«time_offset») out slots) (pairsIn-source store places (f .count) (c .at) deepen-inside)
+
+-- `deepen_to`: "1" comes first
+pub deepen-long : (store : Text) (places : List ℕ) (f : MapFunction) (p : Text) (out : Text) (slots : List ℕ) → 255 < length p → deepenToCall store places f p out slots ≡ refused TooLong
+unfolding deepenToCall asked every fits firstNo
+deepen-long store places f p out slots h = rw (lt-leb (length p) 255 h) refl
+
+-- a map that comes out is the one that the definition gives
+by-class : (m n : Map) (node : Text) (o : Option ℕ) (time t : LayerOffset) (out : Text) (slots : List ℕ) → deepeningBy m node o time out slots ≡ map n t → n ≡ deepenBy m node o
+unfolding deepeningBy asItIs equal replacePrefix fromParts
+by-class m n node none time t out slots e = weighed-map n t (m .pairs) m time out slots e
+by-class m n node (some i) time t out slots e =
+    fromEnds-map n t (deepenedPairs node (source m i) (Option·getD (replacePrefix node (source m i) (target m i)) []) (m .pairs)) (m .mark) time out slots e
+
+pub deepens-to : DeepensTo
+unfolding deepening deepenTo asItIs
+deepens-to m n path time t out slots e = go (hasSource (m .pairs) (strip path)) e
+  where
+    go : (b : Bool) → cond b (weighed (m .pairs) m time out slots) (deepeningBy m (strip path) (bestBy (hasPrefix (strip path)) (source m) (size m)) time out slots) ≡ map n t → n ≡ cond b m (deepenBy m (strip path) (bestBy (hasPrefix (strip path)) (source m) (size m)))
+    go true e = weighed-map n t (m .pairs) m time out slots e
+    go false e = by-class m n (strip path) (bestBy (hasPrefix (strip path)) (source m) (size m)) time t out slots e

@@ -1,0 +1,57 @@
+-- How the code comes to an implied class.
+use mathlib.Core.Path.{_≡_}
+use mathlib.Core.Bool.{Bool, cond, _&&_, _||_}
+use mathlib.Core.List.{List}
+use Prim.Native.Nat.{ℕ, _+_, _/_}
+use lib.Dec.{leb}
+use lib.ListN.{length}
+use Rattle.text.specs.Text.{Text}
+use Rattle.layer_offset.specs.declared.LayerOffset.{LayerOffset}
+use Rattle.layer_offset.specs.Offset.{identity}
+use Rattle.pairs.specs.Pair.{Pair, allShort}
+use Rattle.pairs.specs.Places.{pairsIn, endBytes}
+use Rattle.path.specs.declared.Refusal.the-variants.{TooMany, NoRoom, MadeTooLong}
+use Rattle.maps.specs.Map.{Map}
+use Rattle.maps.specs.New.{fromParts, null}
+use Rattle.maps.specs.Compose.{compose}
+use Rattle.maps.specs.Derive.{withRootIdentity}
+use Rattle.map_function.specs.declared.MapFunction.{MapFunction}
+use Rattle.map_function.specs.declared.MapReply.{MapReply}
+use Rattle.map_function.specs.declared.MapReply.the-variants.{Made, Refused}
+use Rattle.map_function.specs.Read.{isPathIdentity as leavesPaths}
+use Rattle.map_function.specs.Made.{MapOutcome, map, refused, numbersOf}
+use Rattle.implying.specs.Implied.{exchangedPairs, composedFrom}
+
+-- a list as a map, as it stands or by dropping
+unfoldable pub settled : Bool → List Pair → Bool → Map
+unfolding fromParts
+settled whole l mark = cond whole (record { pairs = l; mark = mark }) (fromParts l mark)
+
+-- the composed map, from the list that composing starts from and the numbers of both sides
+unfoldable pub composedOf : MapFunction → MapFunction → List Pair → Map
+unfolding settled leavesPaths
+composedOf outer inner l = settled (leavesPaths outer || leavesPaths inner) l (outer .«has_root_identity» && inner .«has_root_identity»)
+
+-- the map of a reply that refuses nothing
+abbrev pub madeOf : MapReply → MapFunction
+madeOf (Made f) = f
+madeOf (Refused x) = numbersOf null identity
+
+-- the places of n pairs with their ends exchanged
+unfoldable pub Exchanged : List ℕ → List ℕ → ℕ → Type 0
+Exchanged places slots n = (store : Text) → pairsIn store slots n ≡ exchangedPairs (pairsIn store places n)
+
+-- the room for k pairs of b bytes beside the transfer's
+unfoldable pub roomBeside : List Pair → ℕ → ℕ → ℕ → ℕ → Bool
+unfolding endBytes
+roomBeside l k b room slots = leb (endBytes l + b) room && leb (length l + k) (slots / 4)
+
+-- the questions that are left once the class after the inverse is there: its list had n pairs and `at` bytes, short or not
+unfoldable pub finished : Map → Map → ℕ → ℕ → Bool → LayerOffset → Text → List ℕ → MapOutcome
+unfolding composedFrom compose withRootIdentity roomBeside allShort
+finished transfer middle n at short time out slots =
+    cond (leb (length (composedFrom transfer middle)) 64)
+    (cond (roomBeside (transfer .pairs) (n + length (composedFrom transfer middle)) (at + endBytes (composedFrom transfer middle)) (length out) (length slots))
+    (cond (short && allShort (composedFrom transfer middle)) (map (withRootIdentity (compose transfer middle)) time) (refused MadeTooLong))
+    (refused NoRoom))
+    (refused TooMany)

@@ -1,0 +1,7 @@
+pub mod ScratchLaws
+mod SourceLaws
+mod EveryLaws
+mod ShortWays
+pub mod LengthLaws
+pub mod MapLaws
+mod EndWays

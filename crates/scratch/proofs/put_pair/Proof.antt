@@ -1,0 +1,63 @@
+use mathlib.Core.Path.{refl}
+use native.Mathlib.Omega.{arith}
+use Rattle.scratch.proofs.ScratchLaws.{pair-done}
+use borrow.Author.Needs.{needs}
+use Rattle.scratch.proofs.put_pair.Statement.{statement}
+use Rattle.scratch.proofs.put_pair.Tie as tie
+
+returns : tie.Need-returns
+returns c = λ h g. absurd (omega (arith, h))
+
+sub-room : tie.Need-sub-room
+sub-room c = search needs
+
+returns-2 : tie.Need-returns-2
+returns-2 c = λ h g. absurd (omega (arith, h))
+
+sub-if3 : tie.Need-sub-if3
+sub-if3 c = search needs
+
+returns-3 : tie.Need-returns-3
+returns-3 c = λ h g. absurd (omega (arith, h))
+
+add-m : tie.Need-add-m
+add-m c = search needs
+
+write-at-requires : tie.Need-write-at-requires
+write-at-requires c κs = search needs
+
+write-at-requires-2 : tie.Need-write-at-requires-2
+write-at-requires-2 c κs = search needs
+
+write-four-requires : tie.Need-write-four-requires
+write-four-requires c κs = search needs
+
+add-result : tie.Need-add-result
+add-result c = search needs
+
+same-length : tie.Need-same-length
+same-length c = search needs
+
+same-length-2 : tie.Need-same-length-2
+same-length-2 c = search needs
+
+returns-4 : tie.Need-returns-4
+returns-4 c = λ h g. pair-done (c .before .before .before .before .before .before .before .before .before .before .before .before .before .before .before .before .before .before .before .args .s .now) (c .before .before .before .before .before .before .before .before .before .before .before .before .before .before .before .before .before .before .before .args .t .now) (c .before .before .before .before .before .before .before .before .before .before .before .before .before .before .before .before .before .before .before .args .at) (c .before .before .before .before .before .before .before .before .before .before .before .before .before .before .before .before .before .before .before .args .n) _ (c .before .before .before .before .before .before .before .before .before .before .before .before .before .before .before .before .before .before .before .args .bytes .now) _ _ (c .before .before .before .before .before .before .before .before .before .before .before .before .before .before .before .before .before .before .before .args .slots .now) _ h g refl (c .before .before .before .before .before .before .before .before .before .before .write-at .ensures) (c .before .before .before .before .before .before .write-at2 .ensures) (c .before .before .write-four .ensures)
+
+pub put-pair-spec : {M : Type 1} → statement M
+put-pair-spec =
+    tie.close
+    (tie.spec
+    returns
+    sub-room
+    returns-2
+    sub-if3
+    returns-3
+    add-m
+    write-at-requires
+    write-at-requires-2
+    write-four-requires
+    add-result
+    same-length
+    same-length-2
+    returns-4)

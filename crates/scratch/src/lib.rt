@@ -1,0 +1,130 @@
+// Lists of pairs that a call builds in memory of its own, source then target, pair after pair, and how
+// such a list becomes a map.
+ghost use mathlib.Core.Path.{_≡_};
+ghost use mathlib.Core.List.{_++_};
+ghost use Prim.Native.Nat.{_+_, _*_, _≤_};
+ghost use lib.ListN.{length, take};
+ghost use Rattle.text.specs.Text.{over};
+ghost use Rattle.pairs.specs.Pair.{everyEnd, allShort};
+ghost use Rattle.pairs.specs.Places.{pairsIn, fourOf};
+ghost use Rattle.asking.specs.Asking.{lentList};
+ghost use Rattle.maps.specs.Compose.{hasSource};
+ghost use Rattle.map_function.specs.Made.{mapReply, mapBytes, mapSlots, held};
+ghost use Rattle.scratch.specs.Ends.{within, replaced, fromEnds};
+
+// One pair more behind the first n, where there is room for it; the place behind it.
+pub fn put_pair(
+    s: &[u8],
+    t: &[u8],
+    n: usize,
+    at: usize,
+    bytes: &mut [u8],
+    slots: &mut [usize],
+) -> usize
+    ensures { λ r. ⌜ (at + (length (now (s .entry)) + length (now (t .entry))) ≤ length (now (bytes .entry)) → 4 * n + 4 ≤ length (now (slots .entry)) → (r ≡ at + (length (now (s .entry)) + length (now (t .entry)))) × ((now (bytes .exit) ≡ over at (now (s .entry) ++ now (t .entry)) (now (bytes .entry))) × (now (slots .exit) ≡ over (4 * n) (fourOf at (now (s .entry)) (now (t .entry))) (now (slots .entry))))) ⌝ }
+{
+    if bytes.len() < at {
+        return at;
+    }
+    let room = bytes.len() - at;
+    if room < s.len() {
+        return at;
+    }
+    if room - s.len() < t.len() {
+        return at;
+    }
+    let m = at + s.len();
+    text::write_at(s, at, bytes);
+    text::write_at(t, m, bytes);
+    listing::write_four(n, at, s.len(), m, t.len(), slots);
+    m + t.len()
+}
+
+// The path with its prefix replaced, or the path itself, where there is room for it; its length.
+pub fn replace_into(path: &[u8], old: &[u8], new: &[u8], out: &mut [u8]) -> usize
+    ensures { λ r. ⌜ (length (replaced (now (path .entry)) (now (old .entry)) (now (new .entry))) ≤ length (now (out .entry)) → (r ≡ length (replaced (now (path .entry)) (now (old .entry)) (now (new .entry)))) × (take r (now (out .exit)) ≡ replaced (now (path .entry)) (now (old .entry)) (now (new .entry)))) ⌝ }
+{
+    if !prefix::has_prefix(path, old) {
+        text::write_at(path, 0, out);
+        return path.len();
+    }
+    let k = old.len();
+    let fit = joining::join(old, new, &path[k..], out);
+    match fit {
+        text::Fit::Written(n) => n,
+        text::Fit::Over => 0,
+    }
+}
+
+// Has one of the first n pairs this source?
+pub fn has_source(store: &[u8], places: &[usize], n: usize, source: &[u8]) -> bool
+    ensures { λ r. ⌜ r ≡ hasSource (pairsIn (now (store .entry)) (now (places .entry)) n) (now (source .entry)) ⌝ }
+{
+    let mut i = 0;
+    while i < n {
+        if text::is_equal(pairs::key_at(store, places, i, false), source) {
+            return true;
+        }
+        i += 1;
+    }
+    false
+}
+
+// Has no end of the first n pairs more than `most` bytes?
+pub fn are_within(store: &[u8], places: &[usize], n: usize, most: usize) -> bool
+    ensures { λ r. ⌜ r ≡ everyEnd (within most) (pairsIn (now (store .entry)) (now (places .entry)) n) ⌝ }
+{
+    let mut i = 0;
+    while i < n {
+        if most < pairs::key_at(store, places, i, false).len() {
+            return false;
+        }
+        if most < pairs::key_at(store, places, i, true).len() {
+            return false;
+        }
+        i += 1;
+    }
+    true
+}
+
+// Question 7 of the first n pairs.
+pub fn are_short(store: &[u8], places: &[usize], n: usize) -> bool
+    ensures { λ r. ⌜ r ≡ allShort (pairsIn (now (store .entry)) (now (places .entry)) n) ⌝ }
+{
+    are_within(store, places, n, 255)
+}
+
+// The map of the first n pairs, whose ends were made: questions 4, 5, 7 and 8, then dropping.
+pub fn from_ends(
+    store: &[u8],
+    places: &[usize],
+    n: usize,
+    mark: bool,
+    time: layer_offset::LayerOffset,
+    out: &mut [u8],
+    slots: &mut [usize],
+) -> map_function::MapReply
+    ensures { λ r. ⌜ r ≡ mapReply (held (lentList (now (store .entry)) (now (places .entry)) n) (fromEnds (pairsIn (now (store .entry)) (now (places .entry)) n) mark time (now (out .entry)) (now (slots .entry)))) ⌝ }
+    ensures { λ r. ⌜ now (out .exit) ≡ mapBytes (held (lentList (now (store .entry)) (now (places .entry)) n) (fromEnds (pairsIn (now (store .entry)) (now (places .entry)) n) mark time (now (out .entry)) (now (slots .entry)))) (now (out .entry)) ⌝ }
+    ensures { λ r. ⌜ now (slots .exit) ≡ mapSlots (held (lentList (now (store .entry)) (now (places .entry)) n) (fromEnds (pairsIn (now (store .entry)) (now (places .entry)) n) mark time (now (out .entry)) (now (slots .entry)))) (now (slots .entry)) ⌝ }
+{
+    if 64 < n {
+        return map_function::MapReply::Refused(path::Refusal::TooMany);
+    }
+    if places.len() / 4 < n {
+        return map_function::MapReply::Refused(path::Refusal::TooMany);
+    }
+    if slots.len() / 4 < n {
+        return map_function::MapReply::Refused(path::Refusal::NoRoom);
+    }
+    if !listing::has_room(store, places, n, out.len()) {
+        return map_function::MapReply::Refused(path::Refusal::NoRoom);
+    }
+    if !are_short(store, places, n) {
+        return map_function::MapReply::Refused(path::Refusal::MadeTooLong);
+    }
+    if !pairs::all_legal(store, places, 2 * n) {
+        return map_function::MapReply::Refused(path::Refusal::MadeIllegal);
+    }
+    map_function::from_parts(store, places, n, mark, time, out, slots)
+}
