@@ -1,5 +1,6 @@
 //! Texts to be timed, the same in every run.
 
+use frames_original::load::signal;
 use texts::random::Random;
 
 const LOWER: &[u8] = b"abcdefghijklmnopqrstuvwxyz";
@@ -80,21 +81,13 @@ pub fn carried(pairs: usize, length: usize, count: usize) -> Carried {
 /// bytes under the sources of the first.
 pub fn routed(legs: usize, pairs: usize, count: usize) -> Routed {
     let random = &mut Random::new(pairs as u64);
-    let leg = |leg| (0..pairs).map(|pair| [key(leg, pair), key(leg + 1, pair)]).collect();
+    let leg = |leg| (0..pairs).map(|pair| [signal(leg, pair), signal(leg + 1, pair)]).collect();
     let path = |_| {
         let (pair, rest) =
             (random.below(pairs), random.pick(&["/Head/Lens.color", "/Mast/Lamp_2", "/Head_1.state"]));
-        format!("{}{rest}", key(0, pair))
+        format!("{}{rest}", signal(0, pair))
     };
     Routed { legs: (0..legs).map(leg).collect(), paths: (0..count).map(path).collect() }
-}
-
-/// The key of a pair before a leg, such as `/World/Line_12/Signal_034`. No two are equal, and none is above another.
-fn key(leg: usize, pair: usize) -> String {
-    const STAGES: [&str; 4] = ["World", "Region", "Site", "Depot"];
-    const LINES: [&str; 3] = ["Line", "Track", "Yard"];
-    let (stage, line) = (STAGES[leg % STAGES.len()], LINES[leg % LINES.len()]);
-    format!("/{stage}/{line}_{:02}/Signal_{:03}", pair / 8 + leg, pair * 7 + leg)
 }
 
 /// So many pairs of prim paths of two or three names.

@@ -3,7 +3,6 @@
 pub mod check;
 pub mod cuts;
 pub mod generate;
-pub mod load;
 pub mod options;
 pub mod pipe;
 pub mod program;

@@ -1,12 +1,12 @@
 //! Compares the program `frames` with the protocol over the original's functions, byte by byte.
 
 use compare_frames::check::{check, report, same};
-use compare_frames::load::Load;
 use compare_frames::options::Options;
 use compare_frames::program::Program;
 use compare_frames::script::Script;
 use compare_frames::tally::Tally;
 use compare_frames::{cuts, generate, pipe};
+use frames_original::load::Load;
 use std::process::ExitCode;
 use std::time::Duration;
 use texts::random::Random;

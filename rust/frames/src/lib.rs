@@ -5,6 +5,7 @@
 
 pub mod digits;
 pub mod frame;
+pub mod load;
 pub mod run;
 pub mod state;
 

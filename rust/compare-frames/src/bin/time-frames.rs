@@ -1,7 +1,7 @@
 //! Times the program `frames` beside the Rust program of the same protocol, on the same inputs.
 
-use compare_frames::load::Load;
 use compare_frames::options::Options;
+use frames_original::load::Load;
 use std::fs::{self, File};
 use std::io;
 use std::path::PathBuf;
