@@ -1,7 +1,11 @@
 //! Texts to be timed, the same in every run.
 
 use frames_original::load::signal;
+use original::sdf::Path;
 use texts::random::Random;
+
+/// Texts timed together.
+pub const COUNT: usize = 2_000;
 
 const LOWER: &[u8] = b"abcdefghijklmnopqrstuvwxyz";
 /// The first 53 may begin a name.
@@ -100,6 +104,25 @@ pub fn list(pairs: usize, seed: usize) -> Vec<[String; 2]> {
 pub fn list_after(pairs: &[[String; 2]]) -> Vec<[String; 2]> {
     let random = &mut Random::new(pairs.len() as u64);
     pairs.iter().map(|[_, target]| [target.clone(), prim_path(random, Names::Mixed, 24)]).collect()
+}
+
+/// Texts as the library has them: their bytes one after the other, and the start and length of each.
+pub fn packed<'a>(texts: impl IntoIterator<Item = &'a String>) -> (Vec<u8>, Vec<usize>) {
+    let (mut bytes, mut places) = (Vec::new(), Vec::new());
+    for text in texts {
+        places.extend([bytes.len(), text.len()]);
+        bytes.extend(text.as_bytes());
+    }
+    (bytes, places)
+}
+
+/// A text as the original has it.
+pub fn parsed(text: &str) -> Path {
+    Path::new(text).expect("a legal text")
+}
+
+pub fn parsed_pairs(pairs: &[[String; 2]]) -> Vec<(Path, Path)> {
+    pairs.iter().map(|[source, target]| (parsed(source), parsed(target))).collect()
 }
 
 fn path_of_one(random: &mut Random, pairs: &[[String; 2]], length: usize) -> String {

@@ -6,6 +6,7 @@
 pub mod digits;
 pub mod frame;
 pub mod load;
+pub mod program;
 pub mod run;
 pub mod state;
 
