@@ -1,10 +1,11 @@
-//! Compares the library with the original, call by call and byte by byte.
+//! Compares the library and the program `frames` with the original, call by call, line by line and byte by byte.
 
 mod calls;
 mod cases;
 mod comparison;
 mod exhaustive;
 mod facts;
+mod frames;
 mod lent;
 mod makes;
 mod many;

@@ -1,14 +1,17 @@
-//! The parts of the comparison: all inputs of small sets, then random cases.
+//! The parts of the comparison.
 
 use crate::comparison::Comparison;
 use crate::options::Options;
 use crate::phase::random_phase;
-use crate::{cases, exhaustive, makes, maps, relocates, routes, times};
+use crate::{cases, exhaustive, frames, makes, maps, relocates, routes, times};
 
 pub struct Part {
     pub name: &'static str,
     pub run: fn(&mut Comparison, &Options),
 }
+
+/// The part that runs the program `frames`.
+pub const FRAMES: &str = "frames";
 
 pub const PARTS: &[Part] = &[
     Part { name: "paths", run: paths },
@@ -17,6 +20,7 @@ pub const PARTS: &[Part] = &[
     Part { name: "relocates", run: relocates },
     Part { name: "routes", run: routes },
     Part { name: "times", run: times },
+    Part { name: FRAMES, run: frames },
 ];
 
 /// The names of all parts.
@@ -54,4 +58,8 @@ fn routes(comparison: &mut Comparison, options: &Options) {
 fn times(comparison: &mut Comparison, options: &Options) {
     times::run(comparison);
     random_phase(comparison, "offsets", options.seed, &options.limit, times::cases::case);
+}
+
+fn frames(comparison: &mut Comparison, options: &Options) {
+    frames::run(comparison, &options.program, options.seed, &options.limit);
 }

@@ -1,5 +1,6 @@
 //! An input of the program as lines, and the smallest one that still fails.
 
+use crate::tally::Given;
 use std::fmt::{self, Display};
 
 #[derive(Clone, Debug, Default, PartialEq, Eq)]
@@ -48,13 +49,22 @@ impl Script {
     }
 }
 
-/// The lines as they stand, other bytes than visible ones escaped.
+impl Given for Script {
+    fn size(&self) -> usize {
+        self.lines.len()
+    }
+}
+
+/// The lines as they stand, each on a line of its own, other bytes than visible ones escaped.
 impl Display for Script {
     fn fmt(&self, f: &mut fmt::Formatter<'_>) -> fmt::Result {
         for line in &self.lines {
-            writeln!(f, "    {}", line.escape_ascii())?;
+            write!(f, "\n    {}", line.escape_ascii())?;
         }
-        if self.open_end { writeln!(f, "    (the last line lacks its newline)") } else { Ok(()) }
+        if self.open_end {
+            f.write_str("\n    (the last line lacks its newline)")?;
+        }
+        f.write_str("\n   ")
     }
 }
 
