@@ -1,9 +1,11 @@
-//! The program `frames` beside the protocol over the original's functions: random scripts, each in a process of its own,
-//! one long input, inputs in two pieces, and lines sent one by one.
+//! The program `frames`, and the library's entry for a line of it, beside the protocol over the original's functions: random
+//! scripts, each in a process of its own and through the entry, then, of the program, one long input, inputs in two pieces,
+//! and lines sent one by one.
 
 mod answers;
 mod cuts;
 mod difference;
+mod entry;
 mod generate;
 mod program;
 mod script;
@@ -36,7 +38,9 @@ pub fn run(comparison: &mut Comparison, program: &Path, seed: u64, limit: &Limit
     let program = &Program { path: program.to_path_buf(), patience: PATIENCE };
     let mut answers = Answers::default();
     random_phase_while(comparison, "scripts", seed, limit, |comparison, random| {
-        scripts::compare(comparison, program, generate::script(random), &mut answers)
+        let script = generate::script(random);
+        comparison.lines(&script);
+        scripts::compare(comparison, program, script, &mut answers)
     });
     println!("{answers}");
     phase(comparison, &format!("one input of {LONG} frames"), |comparison| long_input(comparison, program));
