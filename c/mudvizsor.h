@@ -30,7 +30,7 @@
    A MAP passes as a list and
        mark            the root-identity mark
        offset, scale   its time offset; (0, 1) changes no time
-   Only the calls that make a map take a time offset, for where a path goes does not depend on it.
+   Only the calls that make a map or tell what it is take a time offset, for where a path goes does not depend on it.
 
    A MAP THAT IS MADE is written as such a list, so that it can be lent to the next call:
        out     the bytes of its ends, source, target, pair after pair
@@ -261,6 +261,36 @@ size_t mudvizsor_map_implied_class(
 size_t mudvizsor_map_is_noop(
     const char *store, size_t store_length, const size_t *places, size_t places_length, size_t count, bool mark,
     double offset, double scale);
+
+/* ---- A map's own numbers ----
+
+   These calls take how many pairs a map has, its mark and its time offset, and no list. Of a map that is made the reply has
+   the first two and `time` the third; its list is the caller's, or empty. */
+
+/* The map that leaves every path and every time as it is: no pairs, the mark, the time offset (0, 1). Nothing is refused. */
+size_t mudvizsor_map_identity(double time[2]);
+
+/* The map that maps nothing: no pairs, no mark, the time offset (0, 1). Nothing is refused. */
+size_t mudvizsor_map_null(double time[2]);
+
+/* Has it neither pair nor mark? */
+bool mudvizsor_map_is_null(size_t count, bool mark, double offset, double scale);
+
+/* Does it leave every path as it is: has it no pairs, but the mark? */
+bool mudvizsor_map_path_is_identity(size_t count, bool mark, double offset, double scale);
+
+/* Does it leave every path and every time as it is: is its time offset (0, 1) too? Minus zero counts as 0. */
+bool mudvizsor_map_is_identity(size_t count, bool mark, double offset, double scale);
+
+/* Has it the mark? */
+bool mudvizsor_map_has_root_identity(size_t count, bool mark, double offset, double scale);
+
+/* Writes its time offset. */
+void mudvizsor_map_time_offset(size_t count, bool mark, double offset, double scale, double time[2]);
+
+/* The map with the new time offset. Refusals: 4 for more than 64 pairs. */
+size_t mudvizsor_map_with_time_offset(
+    size_t count, bool mark, double offset, double scale, double new_offset, double new_scale, double time[2]);
 
 /* ---- Relocate lists ---- */
 

@@ -552,7 +552,7 @@ static void call_twice(struct entry *entry) {
     give_all_back(entry);
 }
 
-/* ---- Time offsets ---- */
+/* ---- Time offsets, and a map's own numbers ---- */
 
 static bool same_float(double a, double b) { return (isnan(a) && isnan(b)) || memcmp(&a, &b, sizeof a) == 0; }
 
@@ -599,6 +599,24 @@ static void check_time_tests(double o, double s, double io, double is) {
     call_count += 5;
 }
 
+/* A map's own numbers. A refused call leaves the time that the one before it wrote. */
+static void check_own_numbers(size_t pairs, bool marked, double o, double s, double io, double is) {
+    double *out = (double *)(void *)lent[TIME].at;
+    bool same = pairs == 0 && marked, few = pairs <= 64;
+    entry_name = "map_is_..";
+    check(mudvizsor_map_is_null(pairs, marked, o, s) == (pairs == 0 && !marked), "is_null");
+    check(mudvizsor_map_path_is_identity(pairs, marked, o, s) == same, "path_is_identity");
+    check(mudvizsor_map_is_identity(pairs, marked, o, s) == (same && o == 0 && s == 1), "is_identity");
+    check(mudvizsor_map_has_root_identity(pairs, marked, o, s) == marked, "has_root_identity");
+    check(mudvizsor_map_identity(out) == 256, "identity"), check_time("map_identity", 0, 1);
+    check(mudvizsor_map_null(out) == 0, "null"), check_time("map_null", 0, 1);
+    mudvizsor_map_time_offset(pairs, marked, o, s, out), check_time("map_time_offset", o, s);
+    size_t reply = mudvizsor_map_with_time_offset(pairs, marked, o, s, io, is, out);
+    check_time("map_with_time_offset", few ? io : o, few ? is : s);
+    check(reply == (few ? 512 * pairs + 256 * marked : MUDVIZSOR_TOO_MANY), "the reply");
+    call_count += 8;
+}
+
 static void call_times(void) {
     double o = some_float(), s = some_float(), io = some_float(), is = some_float();
     if (percent(20)) io = o, is = s;
@@ -606,6 +624,7 @@ static void call_times(void) {
     lend(TIME);
     check_made_times(o, s, io, is);
     check_time_tests(o, s, io, is);
+    check_own_numbers(percent(90) ? some_count() : huge_number(), percent(50), o, s, io, is);
     give_back(TIME);
 }
 
@@ -767,7 +786,7 @@ int main(int argc, char **argv) {
     }
     check_met();
     if (table) print_table();
-    printf("%zu calls of %d entries, seed %llu, %.1f s, %zu wrong\n", call_count, ENTRY_COUNT + 12,
+    printf("%zu calls of %d entries, seed %llu, %.1f s, %zu wrong\n", call_count, ENTRY_COUNT + 20,
            (unsigned long long)seed, seconds_now() - begun, wrong_count);
     return wrong_count == 0 ? 0 : 1;
 }

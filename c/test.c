@@ -845,12 +845,76 @@ static void test_bits(void) {
     timed("mudvizsor_layer_offset_to_bits", four[0] == 1 && four[3] == 4, "around");
 }
 
+/* ---- A map's own numbers ---- */
+
+#define OWN(n) (n).count, (n).mark, (n).offset, (n).scale
+
+struct own {
+    size_t count;
+    bool mark;
+    double offset, scale;
+};
+
+static const struct {
+    struct own own;
+    bool null, same_paths, same;
+} tellings[] = {
+    {{0, false, 0, 1}, true, false, false},
+    {{0, false, NAN, 7}, true, false, false},
+    {{0, true, 0, 1}, false, true, true},
+    {{0, true, -0.0, 1}, false, true, true},
+    {{0, true, 0, 2}, false, true, false},
+    {{0, true, NAN, 1}, false, true, false},
+    {{1, false, 0, 1}, false, false, false},
+    {{64, true, 0, 1}, false, false, false},
+    {{SIZE_MAX, true, 0, 1}, false, false, false},
+};
+
+static void told(const char *entry, bool good) {
+    met(entry)->accepted = true;
+    check(good, entry, "a map's own numbers", "yes or no");
+}
+
+static void test_tellings(void) {
+    for (size_t i = 0; i < LENGTH(tellings); i++) {
+        struct own own = tellings[i].own;
+        told("mudvizsor_map_is_null", mudvizsor_map_is_null(OWN(own)) == tellings[i].null);
+        told("mudvizsor_map_path_is_identity", mudvizsor_map_path_is_identity(OWN(own)) == tellings[i].same_paths);
+        told("mudvizsor_map_is_identity", mudvizsor_map_is_identity(OWN(own)) == tellings[i].same);
+        told("mudvizsor_map_has_root_identity", mudvizsor_map_has_root_identity(OWN(own)) == own.mark);
+    }
+}
+
+static void test_plain_maps(void) {
+    double four[4] = {91, 92, 93, 94};
+    replied("mudvizsor_map_identity", "", mudvizsor_map_identity(four + 1), 0, 1);
+    check(time_left(four, 0, 1), "mudvizsor_map_identity", "", "time");
+    four[1] = 92, four[2] = 93;
+    replied("mudvizsor_map_null", "", mudvizsor_map_null(four + 1), 0, 0);
+    check(time_left(four, 0, 1), "mudvizsor_map_null", "", "time");
+}
+
+static void test_times_of_maps(void) {
+    const char *entry = "mudvizsor_map_with_time_offset";
+    const size_t counts[] = {0, 1, 64, 65, (size_t)1 << 55, SIZE_MAX};
+    for (size_t i = 0; i < 2 * LENGTH(counts); i++) {
+        struct own own = {counts[i / 2], i % 2 == 1, 5, -0.0};
+        bool good = own.count <= 64;
+        double four[4] = {91, 92, 93, 94};
+        size_t reply = mudvizsor_map_with_time_offset(OWN(own), -0.0, 3, four + 1);
+        replied(entry, "another time", reply, good ? 0 : MUDVIZSOR_TOO_MANY, 2 * own.count + own.mark);
+        check(good ? time_left(four, -0.0, 3) : time_left(four, 92, 93), entry, "another time", "time");
+        TIME(map_time_offset, 5, -0.0, OWN(own));
+    }
+}
+
 int main(void) {
     void (*const tests[])(void) = {
         test_questions, test_has_prefix, test_replace_prefix, test_parts, test_ancestors, test_carries,
         test_damaged_lists, test_map_all, test_new, test_made_map_is_lent, test_pair_makes, test_map_makes,
         test_path_makes, test_rebases, test_two_makes, test_is_noop, test_analyses, test_chains, test_shifts, test_ways,
-        test_many_legs, test_route_all, test_frames, test_tests_of_times, test_made_times, test_bits,
+        test_many_legs, test_route_all, test_frames, test_tests_of_times, test_made_times, test_bits, test_tellings,
+        test_plain_maps, test_times_of_maps,
     };
     for (size_t i = 0; i < LENGTH(tests); i++) tests[i]();
     for (size_t i = 0; i < met_count; i++)

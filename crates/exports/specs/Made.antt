@@ -3,12 +3,16 @@
 use Prim.Native.Nat.{ℕ, _+_, _*_, _%_}
 use mathlib.Core.Bool.{Bool, cond}
 use mathlib.Core.List.{List}
+use lib.Dec.{leb}
 use lib.Ieee.{Float}
+use Rattle.layer_offset.specs.declared.LayerOffset.{LayerOffset}
 use Rattle.layer_offset.specs.Offset.{timed}
+use Rattle.path.specs.declared.Refusal.the-variants.{TooMany}
 use Rattle.path.specs.Refusal.{number}
 use Rattle.map_function.specs.declared.MapFunction.{MapFunction}
 use Rattle.map_function.specs.declared.MapReply.{MapReply}
 use Rattle.map_function.specs.declared.MapReply.the-variants.{Made, Refused}
+use Rattle.map_function.specs.Read.{timedMap}
 use Rattle.relocates.specs.declared.Chain.{Chain}
 use Rattle.relocates.specs.declared.Chain.the-variants.{Chained, Refused as RefusedChain}
 use Rattle.exports.specs.Time.{floats}
@@ -31,6 +35,10 @@ unfoldable pub madeTime : MapReply → List Float → List Float
 unfolding floats
 madeTime (Made f) time = floats (f .«time_offset»)
 madeTime (Refused x) time = time
+
+-- the map with its time offset replaced; its list is not lent, so that only question 4 has something to ask
+unfoldable pub withTimeOffsetCall : MapFunction → LayerOffset → MapReply
+withTimeOffsetCall f time = cond (leb (f .count) 64) (Made (timedMap f time)) (Refused TooMany)
 
 -- the value is 256 times the steps, and the length; a path has at most 255 bytes and there are at most 64 steps, so the remainders keep
 -- both

@@ -14,6 +14,7 @@ ghost use Rattle.codes.specs.Code.{askedCode, testCode, countCode, replyCode};
 mod frames;
 mod makes;
 mod moves;
+mod reads;
 mod routes;
 mod time;
 

@@ -12,7 +12,12 @@ ghost use Rattle.codes.specs.Code.{testCode};
 ghost use Rattle.exports.specs.Made.{numbers, madeValue, madeCode, madeTime};
 
 // The map with these numbers.
-fn map_with(count: usize, mark: bool, offset: f64, scale: f64) -> map_function::MapFunction
+pub(crate) fn map_with(
+    count: usize,
+    mark: bool,
+    offset: f64,
+    scale: f64,
+) -> map_function::MapFunction
     ensures { λ r. ⌜ r ≡ numbers count mark offset scale ⌝ }
 {
     map_function::MapFunction {
@@ -33,7 +38,7 @@ fn made_value(count: usize, mark: bool) -> usize
 }
 
 // The reply as one number, and the time offset of a map that was made.
-fn made_code(made: map_function::MapReply, time: &mut [f64; 2]) -> usize
+pub(crate) fn made_code(made: map_function::MapReply, time: &mut [f64; 2]) -> usize
     ensures { λ r. ⌜ r ≡ madeCode made ⌝ }
     ensures { λ r. ⌜ now (time .exit) ≡ madeTime made (now (time .entry)) ⌝ }
 {

@@ -3,6 +3,7 @@
 mod before;
 mod calls;
 pub mod cases;
+mod numbers;
 mod small;
 mod table;
 
@@ -15,4 +16,5 @@ pub fn run(comparison: &mut Comparison) {
     phase(comparison, "maps made of three pairs", small::three_pairs);
     phase(comparison, "two small maps composed", small::composed);
     phase(comparison, "small maps rebased and deepened", small::moved);
+    phase(comparison, "the maps' own numbers", numbers::run);
 }

@@ -41,8 +41,8 @@ impl LayerOffset {
     /// # use mudvizsor::LayerOffset;
     /// assert_eq!(LayerOffset::new(0.0, 1.0), LayerOffset::IDENTITY);
     /// ```
-    pub const fn new(offset: f64, scale: f64) -> Self {
-        LayerOffset { offset, scale }
+    pub fn new(offset: f64, scale: f64) -> Self {
+        made(|out| times::new(offset, scale, out))
     }
 
     /// A scale with the offset 0.
@@ -51,8 +51,8 @@ impl LayerOffset {
     /// # use mudvizsor::LayerOffset;
     /// assert_eq!(LayerOffset::scale_only(2.0).apply(3.0), 6.0);
     /// ```
-    pub const fn scale_only(scale: f64) -> Self {
-        LayerOffset { offset: 0.0, scale }
+    pub fn scale_only(scale: f64) -> Self {
+        made(|out| times::scale_only(scale, out))
     }
 
     /// Whether both numbers are finite.
@@ -153,7 +153,7 @@ impl LayerOffset {
 }
 
 /// The offset that a call writes.
-fn made(call: impl FnOnce(&mut [f64; 2])) -> LayerOffset {
+pub(crate) fn made(call: impl FnOnce(&mut [f64; 2])) -> LayerOffset {
     let mut out = [0.0; 2];
     call(&mut out);
     LayerOffset::from(out)
@@ -188,12 +188,11 @@ mod tests {
     }
 
     #[test]
-    fn entries_that_only_copy_agree_with_plain_fields() {
+    fn calls_that_only_copy_give_plain_fields() {
         for (offset, scale) in [(0.0, 1.0), (-0.0, 3.5), (f64::INFINITY, -1e300)] {
-            let new = made(|out| times::new(offset, scale, out));
-            assert_eq!(new.to_bits(), LayerOffset::new(offset, scale).to_bits());
-            let only = made(|out| times::scale_only(scale, out));
-            assert_eq!(only.to_bits(), LayerOffset::scale_only(scale).to_bits());
+            let plain = |offset| LayerOffset { offset, scale }.to_bits();
+            assert_eq!(LayerOffset::new(offset, scale).to_bits(), plain(offset));
+            assert_eq!(LayerOffset::scale_only(scale).to_bits(), plain(0.0));
         }
     }
 

@@ -1,12 +1,9 @@
 //! Scene paths, maps, relocates and routes over a proved library.
 //!
 //! The calls are those of the Rust repository [mxpv/openusd](https://github.com/mxpv/openusd) that document 01 names,
-//! with its limits and refusals. Where a path goes is decided by the static library `libexports.a`, written in Rattle
-//! and proved; this crate lends it memory and gives its answers Rust's types. What the crate does of its own is to
-//! pack texts, to read answers back, and the calls on a map that only read or set its own numbers
-//! ([`MapFunction::identity`], [`null`](MapFunction::null), [`is_null`](MapFunction::is_null),
-//! [`path_is_identity`](MapFunction::path_is_identity), [`time_offset`](MapFunction::time_offset) and their like).
-//! These are tested, not proved.
+//! with its limits and refusals. Each of them is answered by the static library `libexports.a`, written in Rattle and
+//! proved; this crate lends it memory and gives its answers Rust's types. What the crate does of its own, to pack texts
+//! and to read answers back, is tested, not proved.
 //!
 //! A signal that a modeller sent goes out to the stage, and comes home:
 //!

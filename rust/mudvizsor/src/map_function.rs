@@ -3,6 +3,8 @@
 use crate::ffi::Reply;
 use crate::ffi::makes::{self, Map, Room};
 use crate::ffi::maps::{self, List, Way};
+use crate::ffi::reads;
+use crate::layer_offset;
 use crate::many::carried;
 use crate::pair_list::{Packed, PairList, Pairs};
 use crate::path::made;
@@ -98,7 +100,7 @@ impl MapFunction {
     /// # Ok::<(), mudvizsor::Refusal>(())
     /// ```
     pub fn identity() -> Self {
-        MapFunction { mark: true, ..MapFunction::null() }
+        settled(make(0, 0, |room| reads::identity(room.time)))
     }
 
     /// The map that maps nothing.
@@ -108,7 +110,7 @@ impl MapFunction {
     /// assert_eq!(MapFunction::null().map_source_to_target(&Path::root()), Err(Refusal::NoPath));
     /// ```
     pub fn null() -> Self {
-        MapFunction { list: PairList::default(), mark: false, time: LayerOffset::IDENTITY }
+        settled(make(0, 0, |room| reads::null(room.time)))
     }
 }
 
@@ -134,7 +136,7 @@ impl MapFunction {
     /// assert!(MapFunction::identity().has_root_identity());
     /// ```
     pub fn has_root_identity(&self) -> bool {
-        self.mark
+        self.tells(reads::has_root_identity)
     }
 
     /// Its time offset.
@@ -144,7 +146,8 @@ impl MapFunction {
     /// assert_eq!(MapFunction::identity().time_offset(), LayerOffset::IDENTITY);
     /// ```
     pub fn time_offset(&self) -> LayerOffset {
-        self.time
+        let LayerOffset { offset, scale } = self.time;
+        layer_offset::made(|out| reads::time_offset(self.pairs().len(), self.mark, offset, scale, out))
     }
 
     /// Whether it maps nothing: no pairs, no mark.
@@ -154,7 +157,7 @@ impl MapFunction {
     /// assert!(MapFunction::null().is_null() && !MapFunction::identity().is_null());
     /// ```
     pub fn is_null(&self) -> bool {
-        self.list.pairs.is_empty() && !self.mark
+        self.tells(reads::is_null)
     }
 
     /// Whether it leaves every path as it is: no pairs, but the mark.
@@ -165,7 +168,7 @@ impl MapFunction {
     /// assert!(late.path_is_identity() && !late.is_identity());
     /// ```
     pub fn path_is_identity(&self) -> bool {
-        self.list.pairs.is_empty() && self.mark
+        self.tells(reads::path_is_identity)
     }
 
     /// Whether it leaves every path and every time as it is: no pairs, but the mark, and the offset (0, 1).
@@ -175,7 +178,7 @@ impl MapFunction {
     /// assert!(MapFunction::identity().is_identity());
     /// ```
     pub fn is_identity(&self) -> bool {
-        self.path_is_identity() && self.time.is_identity()
+        self.tells(reads::is_identity)
     }
 
     /// Whether it maps and changes nothing: it is not null, every pair has equal ends, and the offset is (0, 1).
@@ -188,6 +191,11 @@ impl MapFunction {
     /// ```
     pub fn is_noop(&self) -> bool {
         sure(makes::is_noop(self.lent())) != 0
+    }
+
+    /// What an entry tells of its own numbers.
+    fn tells(&self, entry: extern "C" fn(usize, bool, f64, f64) -> bool) -> bool {
+        entry(self.pairs().len(), self.mark, self.time.offset, self.time.scale)
     }
 }
 
@@ -261,7 +269,11 @@ impl MapFunction {
     /// # Ok::<(), mudvizsor::Refusal>(())
     /// ```
     pub fn with_time_offset(self, time: LayerOffset) -> Self {
-        MapFunction { time, ..self }
+        let LayerOffset { offset, scale } = self.time;
+        let (count, mut made) = (self.pairs().len(), [0.0; 2]);
+        let reply =
+            reads::with_time_offset(count, self.mark, offset, scale, time.offset, time.scale, &mut made);
+        MapFunction { list: self.list, mark: sure(reply) % 2 == 1, time: made.into() }
     }
 
     /// The map with the mark put to it. Nothing is dropped.

@@ -14,6 +14,11 @@ impl MapFunction {
         self.rebase_target(from, to)
     }
 
+    /// `path_is_identity` under a public name.
+    pub fn leaves_every_path(&self) -> bool {
+        self.path_is_identity()
+    }
+
     /// `deepen_to` under a public name.
     pub fn deepened_to(&self, node_path: &Path) -> Self {
         self.deepen_to(node_path)

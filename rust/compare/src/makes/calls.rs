@@ -192,6 +192,9 @@ impl Comparison {
         let expected = map.original().map(|map| usize::from(map.is_noop()));
         let call = Call { name: "is_noop", given, room: None };
         self.tally.compare(call, expected, makes::is_noop(map.for_library()), None);
+        if let Ok(map) = map.original() {
+            self.own_numbers(&map);
+        }
     }
 
     pub fn dropping_source(&mut self, map: &Map, source: &Text) {
@@ -270,30 +273,45 @@ impl Comparison {
         let expected = expected.as_ref().map_err(|number| *number);
         let expected = expected.and_then(|making| making.within(bytes, slots));
         let (mut out, mut numbers) = (Lent::bytes(bytes), Lent::numbers(slots));
-        let mut floats = TIME_BEFORE;
-        let [before, time @ .., after] = &mut floats;
-        let found = entry(Room { out: out.lend(bytes), slots: numbers.lend(slots), time });
-        let time = *time;
-        let beside = [*before, *after] == [TIME_BEFORE[0], TIME_BEFORE[3]];
+        let (found, time) =
+            left(|time| entry(Room { out: out.lend(bytes), slots: numbers.lend(slots), time }));
         let (text, places) = expected.map_or_else(|_| Default::default(), written);
         let wrong = out.first_wrong(&text).or(numbers.first_wrong(&places));
         let call = Call { name, given, room: Some(bytes) };
         self.tally.compare(call, expected.map(value), found, wrong);
+        self.time(call, expected, time);
+    }
+
+    /// The time offset of a map that is made, or, where the call is refused, what was lent for it.
+    pub fn time(&mut self, call: Call, expected: Answer<&MapFunction>, found: [f64; 2]) {
         let expected = expected.map_or([TIME_BEFORE[1], TIME_BEFORE[2]], time_of);
-        let agree = beside && is_same(expected[0], time[0]) && is_same(expected[1], time[1]);
-        self.tally.values(call, agree, expected, time);
+        let agree = is_same(expected[0], found[0]) && is_same(expected[1], found[1]);
+        self.tally.values(call, agree, expected, found);
     }
 }
 
 /// The two floats lent for the time offset, between two that are not.
 const TIME_BEFORE: [f64; 4] = [12345.678, -2.5e-300, 7.25e300, 87654.321];
 
+/// What a call gives, and what it leaves in the two lent floats. Those on either side of them stay as they were.
+pub fn left<T>(call: impl FnOnce(&mut [f64; 2]) -> T) -> (T, [f64; 2]) {
+    let mut floats = TIME_BEFORE;
+    let [before, time @ .., after] = &mut floats;
+    let given = call(time);
+    assert_eq!(
+        [*before, *after],
+        [TIME_BEFORE[0], TIME_BEFORE[3]],
+        "memory beside the lent floats was written"
+    );
+    (given, *time)
+}
+
 /// Twice the number of pairs, and one more with the mark.
-fn value(map: &MapFunction) -> usize {
+pub fn value(map: &MapFunction) -> usize {
     2 * map.path_pairs().len() + usize::from(map.has_root_identity())
 }
 
-fn time_of(map: &MapFunction) -> [f64; 2] {
+pub fn time_of(map: &MapFunction) -> [f64; 2] {
     let LayerOffset { offset, scale } = map.time_offset();
     [offset, scale]
 }

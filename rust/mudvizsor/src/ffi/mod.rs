@@ -27,6 +27,7 @@ pub mod frames;
 pub mod makes;
 pub mod maps;
 pub mod paths;
+pub mod reads;
 pub mod relocates;
 pub mod routes;
 pub mod times;
@@ -35,6 +36,7 @@ use entry::entry;
 
 /// What an entry replies: 256 times a value, plus document 01's number (0 for an answer).
 #[derive(Debug, Clone, Copy, PartialEq, Eq)]
+#[repr(transparent)]
 pub struct Reply(pub usize);
 
 impl Reply {

@@ -73,6 +73,7 @@ fn at_most_64_pairs() {
     assert_eq!(most.pairs().len(), MOST_PAIRS);
     assert_eq!(MapFunction::new(pairs(MOST_PAIRS + 1)), Err(Refusal::TooMany));
     assert_eq!(most.inverse().inverse(), most);
+    assert_eq!(most.clone().with_time_offset(LayerOffset::IDENTITY), most);
     let one_more = MapFunction::from_pair_identity("/Q", "/R").unwrap();
     assert_eq!(most.compose(&one_more), Err(Refusal::TooMany));
 }
@@ -98,6 +99,7 @@ fn time_offsets() {
     assert_eq!(composed.time_offset(), LayerOffset::new(12.0, 6.0));
     assert_eq!(inner.inverse().time_offset(), LayerOffset::IDENTITY);
     assert_eq!(inner.with_root_identity().time_offset(), three);
+    assert!(inner.with_root_identity().with_time_offset(ten).has_root_identity());
     assert_eq!(inner.dropping_source(&path("/A")).unwrap().time_offset(), three);
     let minus_zero = MapFunction::identity().with_time_offset(LayerOffset::new(-0.0, 1.0));
     let time = minus_zero.compose(&outer).unwrap().time_offset();

@@ -1,0 +1,106 @@
+//! The calls on a map's own numbers: the library's entry beside the original's function.
+
+use crate::comparison::Comparison;
+use crate::makes::calls::{left, time_of, value};
+use crate::maps::list::{MOST_PAIRS, TOO_MANY_PAIRS};
+use crate::tally::{Call, Given};
+use crate::text::Answer;
+use crate::times::special::FLOATS;
+use mudvizsor::ffi::{Reply, reads};
+use original::pcp::MapFunction;
+use original::sdf::{LayerOffset, Path};
+use std::fmt::{self, Display};
+
+/// How many pairs a map has: none, some, the most, and one more.
+const COUNTS: [usize; 5] = [0, 1, 2, MOST_PAIRS, MOST_PAIRS + 1];
+
+/// A question to a map's own numbers.
+struct Question {
+    name: &'static str,
+    entry: extern "C" fn(usize, bool, f64, f64) -> bool,
+    original: fn(&MapFunction) -> bool,
+}
+
+const QUESTIONS: [Question; 4] = [
+    Question { name: "is_null", entry: reads::is_null, original: MapFunction::is_null },
+    Question {
+        name: "path_is_identity",
+        entry: reads::path_is_identity,
+        original: MapFunction::leaves_every_path,
+    },
+    Question { name: "is_identity", entry: reads::is_identity, original: MapFunction::is_identity },
+    Question {
+        name: "has_root_identity",
+        entry: reads::has_root_identity,
+        original: MapFunction::has_root_identity,
+    },
+];
+
+/// Every number of pairs with either mark and every offset of special floats.
+pub fn run(comparison: &mut Comparison) {
+    let (identity, null) = (MapFunction::identity(), MapFunction::null());
+    comparison.numbers_made("identity", &Own(&identity), Ok(&identity), |time| reads::identity(time));
+    comparison.numbers_made("null", &Own(&null), Ok(&null), |time| reads::null(time));
+    let pair = ["/A", "/B"].map(|end| Path::new(end).expect("a path"));
+    for count in COUNTS {
+        for mark in [false, true] {
+            let map = MapFunction::with_exactly(vec![pair.clone().into(); count], mark);
+            for &offset in FLOATS {
+                for &scale in FLOATS {
+                    let time = LayerOffset::new(offset, scale);
+                    comparison.own_numbers(&map.clone().with_time_offset(time));
+                }
+            }
+        }
+    }
+}
+
+impl Comparison {
+    /// Every call that takes a map's own numbers. The new time offset is the old one with its numbers exchanged.
+    pub fn own_numbers(&mut self, map: &MapFunction) {
+        let given = &Own(map);
+        let (count, mark, [offset, scale]) = (map.path_pairs().len(), map.has_root_identity(), time_of(map));
+        for question in &QUESTIONS {
+            let (expected, found) = ((question.original)(map), (question.entry)(count, mark, offset, scale));
+            let call = Call { name: question.name, given, room: None };
+            self.tally.values(call, expected == found, expected, found);
+        }
+        let ((), time) = left(|time| reads::time_offset(count, mark, offset, scale, time));
+        self.time(Call { name: "time_offset", given, room: None }, Ok(map), time);
+        let made = map.clone().with_time_offset(LayerOffset::new(scale, offset));
+        let expected = if count > MOST_PAIRS { Err(TOO_MANY_PAIRS) } else { Ok(&made) };
+        self.numbers_made("with_time_offset", given, expected, |time| {
+            reads::with_time_offset(count, mark, offset, scale, scale, offset, time)
+        });
+    }
+
+    /// A call that makes a map and writes no list.
+    fn numbers_made(
+        &mut self,
+        name: &'static str,
+        given: &dyn Given,
+        expected: Answer<&MapFunction>,
+        entry: impl FnOnce(&mut [f64; 2]) -> Reply,
+    ) {
+        let (found, time) = left(entry);
+        let call = Call { name, given, room: None };
+        self.tally.compare(call, expected.map(value), found, None);
+        self.time(call, expected, time);
+    }
+}
+
+/// A map of which only its own numbers are given.
+struct Own<'a>(&'a MapFunction);
+
+impl Given for Own<'_> {
+    fn size(&self) -> usize {
+        self.0.path_pairs().len()
+    }
+}
+
+impl Display for Own<'_> {
+    fn fmt(&self, f: &mut fmt::Formatter<'_>) -> fmt::Result {
+        let mark = if self.0.has_root_identity() { "mark" } else { "no mark" };
+        write!(f, " {} pairs, {mark}, time {:?}:", self.0.path_pairs().len(), time_of(self.0))
+    }
+}
