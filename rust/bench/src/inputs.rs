@@ -1,6 +1,11 @@
 //! Texts to be timed, the same in every run.
 
+use frames_original::load::signal;
+use original::sdf::Path;
 use texts::random::Random;
+
+/// Texts timed together.
+pub const COUNT: usize = 2_000;
 
 const LOWER: &[u8] = b"abcdefghijklmnopqrstuvwxyz";
 /// The first 53 may begin a name.
@@ -80,21 +85,13 @@ pub fn carried(pairs: usize, length: usize, count: usize) -> Carried {
 /// bytes under the sources of the first.
 pub fn routed(legs: usize, pairs: usize, count: usize) -> Routed {
     let random = &mut Random::new(pairs as u64);
-    let leg = |leg| (0..pairs).map(|pair| [key(leg, pair), key(leg + 1, pair)]).collect();
+    let leg = |leg| (0..pairs).map(|pair| [signal(leg, pair), signal(leg + 1, pair)]).collect();
     let path = |_| {
         let (pair, rest) =
             (random.below(pairs), random.pick(&["/Head/Lens.color", "/Mast/Lamp_2", "/Head_1.state"]));
-        format!("{}{rest}", key(0, pair))
+        format!("{}{rest}", signal(0, pair))
     };
     Routed { legs: (0..legs).map(leg).collect(), paths: (0..count).map(path).collect() }
-}
-
-/// The key of a pair before a leg, such as `/World/Line_12/Signal_034`. No two are equal, and none is above another.
-fn key(leg: usize, pair: usize) -> String {
-    const STAGES: [&str; 4] = ["World", "Region", "Site", "Depot"];
-    const LINES: [&str; 3] = ["Line", "Track", "Yard"];
-    let (stage, line) = (STAGES[leg % STAGES.len()], LINES[leg % LINES.len()]);
-    format!("/{stage}/{line}_{:02}/Signal_{:03}", pair / 8 + leg, pair * 7 + leg)
 }
 
 /// So many pairs of prim paths of two or three names.
@@ -107,6 +104,25 @@ pub fn list(pairs: usize, seed: usize) -> Vec<[String; 2]> {
 pub fn list_after(pairs: &[[String; 2]]) -> Vec<[String; 2]> {
     let random = &mut Random::new(pairs.len() as u64);
     pairs.iter().map(|[_, target]| [target.clone(), prim_path(random, Names::Mixed, 24)]).collect()
+}
+
+/// Texts as the library has them: their bytes one after the other, and the start and length of each.
+pub fn packed<'a>(texts: impl IntoIterator<Item = &'a String>) -> (Vec<u8>, Vec<usize>) {
+    let (mut bytes, mut places) = (Vec::new(), Vec::new());
+    for text in texts {
+        places.extend([bytes.len(), text.len()]);
+        bytes.extend(text.as_bytes());
+    }
+    (bytes, places)
+}
+
+/// A text as the original has it.
+pub fn parsed(text: &str) -> Path {
+    Path::new(text).expect("a legal text")
+}
+
+pub fn parsed_pairs(pairs: &[[String; 2]]) -> Vec<(Path, Path)> {
+    pairs.iter().map(|[source, target]| (parsed(source), parsed(target))).collect()
 }
 
 fn path_of_one(random: &mut Random, pairs: &[[String; 2]], length: usize) -> String {

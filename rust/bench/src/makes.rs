@@ -1,8 +1,9 @@
 //! Maps made of lists, two maps composed, and statuses of relocate lists. The library reads and checks its lists at
 //! each call; the original's paths are parsed before the clock starts, or within.
 
-use crate::inputs;
-use crate::{COUNT, best_times, print_row};
+use crate::clock::{Times, best_times};
+use crate::inputs::{self, COUNT, packed, parsed_pairs};
+use crate::table::{head, ratio, row};
 use mudvizsor::ffi::makes::{Map, Room};
 use mudvizsor::ffi::maps::List;
 use mudvizsor::ffi::{makes, relocates};
@@ -26,12 +27,8 @@ struct Sides {
 
 impl Sides {
     fn new(texts: Vec<[String; 2]>) -> Self {
-        let (mut store, mut places) = (Vec::new(), Vec::new());
-        for end in texts.iter().flatten() {
-            places.extend([store.len(), end.len()]);
-            store.extend(end.as_bytes());
-        }
-        let paths = parsed(&texts);
+        let (store, places) = packed(texts.iter().flatten());
+        let paths = parsed_pairs(&texts);
         let map = MapFunction::with_exactly(paths.clone(), false);
         Sides { texts, paths, map, store, places }
     }
@@ -75,9 +72,28 @@ impl Memory {
     }
 }
 
-/// Calls that make a map, on lists of so many pairs.
-pub fn time_new(pairs: usize) {
-    let lists: Vec<Sides> = (0..LISTS).map(|seed| Sides::new(inputs::list(pairs, seed))).collect();
+/// A row for each call and number of pairs.
+pub fn print() {
+    head(&["call", "pairs", "text to text", "parsed or made before"]);
+    for pairs in [1, 8, 64] {
+        print_row("`MapFunction::new`", &pairs.to_string(), time_new(pairs));
+    }
+    for pairs in [1, 8] {
+        print_row("`compose`", &format!("{pairs} and {pairs}"), time_compose(pairs));
+    }
+    for pairs in [8, 64] {
+        print_row("`analyze_relocate_occurrences`", &pairs.to_string(), time_statuses(pairs));
+    }
+}
+
+fn print_row(call: &str, pairs: &str, times: [Times; 2]) {
+    let [from_texts, made_before] = times.map(|times| ratio(times.ratio()));
+    row(&[call, pairs, &from_texts, &made_before]);
+}
+
+/// Maps made of lists of so many pairs, from text to text and with the paths parsed before.
+fn time_new(pairs: usize) -> [Times; 2] {
+    let lists = lists(pairs);
     let (mut memory, mut other) = (Memory::new(), Memory::new());
     for each in &lists {
         let expected = memory.copy(&MapFunction::new(each.paths.clone()));
@@ -86,17 +102,16 @@ pub fn time_new(pairs: usize) {
     }
     let mut library = || for_all(pairs, &lists, |each| makes::new(black_box(each.list()), other.room()));
     let parsed_before = || for_all(pairs, &lists, |each| MapFunction::new(black_box(&each.paths).clone()));
-    let times = best(pairs, parsed_before, &mut library);
-    print_row("`MapFunction::new`", &format!("pairs: {pairs}, paths parsed before"), mean(&lists), times);
-    let from_texts =
-        || for_all(pairs, &lists, |each| memory.copy(&MapFunction::new(parsed(black_box(&each.texts)))));
-    let times = best(pairs, from_texts, library);
-    print_row("`MapFunction::new`", &format!("pairs: {pairs}, text to text"), mean(&lists), times);
+    let from_texts = || {
+        for_all(pairs, &lists, |each| memory.copy(&MapFunction::new(parsed_pairs(black_box(&each.texts)))))
+    };
+    [best(pairs, from_texts, &mut library), best(pairs, parsed_before, library)]
 }
 
-/// Two maps of so many pairs, the outer's sources being the inner's targets.
-pub fn time_compose(pairs: usize) {
-    let inner: Vec<Sides> = (0..LISTS).map(|seed| Sides::new(inputs::list(pairs, seed))).collect();
+/// Two maps of so many pairs, the outer's sources being the inner's targets, from text to text and with the maps made
+/// before.
+fn time_compose(pairs: usize) -> [Times; 2] {
+    let inner = lists(pairs);
     let outer: Vec<Sides> = inner.iter().map(|inner| Sides::new(inputs::list_after(&inner.texts))).collect();
     let both: Vec<(&Sides, &Sides)> = outer.iter().zip(&inner).collect();
     let (mut memory, mut other) = (Memory::new(), Memory::new());
@@ -112,21 +127,19 @@ pub fn time_compose(pairs: usize) {
     };
     let made_before =
         || for_all(pairs, &both, |(outer, inner)| black_box(&outer.map).compose(black_box(&inner.map)));
-    let times = best(pairs, made_before, &mut library);
-    print_row("`compose`", &format!("pairs: {pairs} and {pairs}, maps made before"), mean(&inner), times);
     let from_texts = || {
         for_all(pairs, &both, |(outer, inner)| {
-            let [outer, inner] =
-                [outer, inner].map(|each| MapFunction::with_exactly(parsed(black_box(&each.texts)), false));
+            let [outer, inner] = [outer, inner]
+                .map(|each| MapFunction::with_exactly(parsed_pairs(black_box(&each.texts)), false));
             memory.copy(&outer.compose(&inner))
         });
     };
-    let times = best(pairs, from_texts, library);
-    print_row("`compose`", &format!("pairs: {pairs} and {pairs}, text to text"), mean(&inner), times);
+    [best(pairs, from_texts, &mut library), best(pairs, made_before, library)]
 }
 
-pub fn time_statuses(pairs: usize) {
-    let lists: Vec<Sides> = (0..LISTS).map(|seed| Sides::new(inputs::list(pairs, seed))).collect();
+/// Statuses of lists of so many pairs, from text to text and with the paths parsed before.
+fn time_statuses(pairs: usize) -> [Times; 2] {
+    let lists = lists(pairs);
     let mut out = vec![0; pairs];
     for each in &lists {
         assert_eq!(relocates::analyze_relocate_occurrences(each.list(), &mut out).0, 256 * pairs);
@@ -139,13 +152,16 @@ pub fn time_statuses(pairs: usize) {
     };
     let parsed_before =
         || for_all(pairs, &lists, |each| original::pcp::relocates::statuses(black_box(&each.paths)));
-    let name = "`analyze_relocate_occurrences`";
-    let times = best(pairs, parsed_before, &mut library);
-    print_row(name, &format!("pairs: {pairs}, paths parsed before"), mean(&lists), times);
-    let from_texts =
-        || for_all(pairs, &lists, |each| original::pcp::relocates::statuses(&parsed(black_box(&each.texts))));
-    let times = best(pairs, from_texts, library);
-    print_row(name, &format!("pairs: {pairs}, text to text"), mean(&lists), times);
+    let from_texts = || {
+        for_all(pairs, &lists, |each| {
+            original::pcp::relocates::statuses(&parsed_pairs(black_box(&each.texts)))
+        })
+    };
+    [best(pairs, from_texts, &mut library), best(pairs, parsed_before, library)]
+}
+
+fn lists(pairs: usize) -> Vec<Sides> {
+    (0..LISTS).map(|seed| Sides::new(inputs::list(pairs, seed))).collect()
 }
 
 /// So many calls are timed together, for lists of so many pairs.
@@ -159,19 +175,6 @@ fn for_all<T, U>(pairs: usize, items: &[T], mut call: impl FnMut(&T) -> U) {
     }
 }
 
-/// As `best_times`, for so many calls.
-fn best(pairs: usize, original: impl FnMut(), library: impl FnMut()) -> [f64; 2] {
-    best_times(original, library).map(|time| time * COUNT as f64 / calls(pairs) as f64)
-}
-
-fn parsed(texts: &[[String; 2]]) -> Vec<(Path, Path)> {
-    let path = |text: &String| Path::new(text).expect("a legal text");
-    texts.iter().map(|[source, target]| (path(source), path(target))).collect()
-}
-
-/// The mean length of an end.
-fn mean(lists: &[Sides]) -> f64 {
-    let bytes: usize = lists.iter().map(|list| list.store.len()).sum();
-    let ends: usize = lists.iter().map(|list| 2 * list.texts.len()).sum();
-    bytes as f64 / ends as f64
+fn best(pairs: usize, original: impl FnMut(), library: impl FnMut()) -> Times {
+    best_times(calls(pairs), original, library)
 }

@@ -1,8 +1,9 @@
 //! Paths through a map, whose list the library checks at each call or once for all paths. The original's map is
 //! made once, before.
 
-use crate::inputs::{self, Carried};
-use crate::{COUNT, best_times, mean, print_row};
+use crate::clock::{Times, best_times};
+use crate::inputs::{self, COUNT, Carried, packed, parsed, parsed_pairs};
+use crate::table::{head, nanoseconds, ratio, row};
 use mudvizsor::ffi::maps::{List, Paths, Way, carry, carry_all};
 use original::pcp::MapFunction;
 use original::sdf::Path;
@@ -42,9 +43,8 @@ impl Setting {
     fn new(carried: Carried) -> Self {
         let (store, places) = packed(carried.pairs.iter().flatten());
         let (together, spots) = packed(&carried.paths);
-        let pairs = carried.pairs.iter().map(|[source, target]| (parsed(source), parsed(target))).collect();
         Setting {
-            map: MapFunction::with_exactly(pairs, false),
+            map: MapFunction::with_exactly(parsed_pairs(&carried.pairs), false),
             store,
             places,
             count: carried.pairs.len(),
@@ -64,65 +64,62 @@ impl Setting {
     }
 }
 
-/// The bytes of the texts, one after the other, and the start and length of each.
-pub fn packed<'a>(texts: impl IntoIterator<Item = &'a String>) -> (Vec<u8>, Vec<usize>) {
-    let (mut bytes, mut places) = (Vec::new(), Vec::new());
-    for text in texts {
-        places.extend([bytes.len(), text.len()]);
-        bytes.extend(text.as_bytes());
-    }
-    (bytes, places)
-}
-
-/// Times each call on a map of so many pairs and paths of about `length` bytes: against the original with its
-/// paths parsed before, then from text to text; the list checked at each call, then once for all paths.
-pub fn time(pairs: usize, length: usize) {
-    let setting = &Setting::new(inputs::carried(pairs, length, COUNT));
+/// A row for each call and number of pairs, on paths of about 40 bytes. "Each" is the call on one path, "once" that on
+/// many, which checks the list once.
+pub fn print() {
+    head(&[
+        "call",
+        "pairs",
+        "text to text, each",
+        "text to text, once",
+        "parsed before, each",
+        "parsed before, once",
+        "library, once, ns",
+    ]);
     for call in &CALLS {
-        assert!(setting.texts.iter().all(|text| sides_agree(call, setting, text)));
-        assert!(all_agree(call, setting));
-        time_from_paths(call, setting);
-        time_from_texts(call, setting);
+        for pairs in [1, 8, 64] {
+            print_row(call, &Setting::new(inputs::carried(pairs, 40, COUNT)));
+        }
     }
 }
 
-fn time_from_paths(call: &MapCall, setting: &Setting) {
-    let original = || {
-        for path in &setting.paths {
-            black_box((call.original)(&setting.map, black_box(path)));
-        }
-    };
-    time_against(call, setting, "path parsed before", original);
-}
-
-fn time_from_texts(call: &MapCall, setting: &Setting) {
+fn print_row(call: &MapCall, setting: &Setting) {
+    assert!(setting.texts.iter().all(|text| sides_agree(call, setting, text)));
+    assert!(all_agree(call, setting));
     let mut out = [0; LONGEST];
-    let original = || {
+    let from_texts = || {
         for text in &setting.texts {
             black_box(original_carry(call, setting, black_box(text), &mut out));
         }
     };
-    time_against(call, setting, "text to text", original);
+    let [text_each, text_once] = each_and_once(call, setting, from_texts);
+    let from_paths = || {
+        for path in &setting.paths {
+            black_box((call.original)(&setting.map, black_box(path)));
+        }
+    };
+    let [parsed_each, parsed_once] = each_and_once(call, setting, from_paths);
+    let ratios = [text_each, text_once, parsed_each, parsed_once].map(|times| ratio(times.ratio()));
+    let [a, b, c, d] = ratios.each_ref().map(String::as_str);
+    let once = nanoseconds(text_once.library.min(parsed_once.library));
+    row(&[call.name, &setting.count.to_string(), a, b, c, d, &once]);
 }
 
-fn time_against(call: &MapCall, setting: &Setting, kind: &str, mut original: impl FnMut()) {
+/// The original beside the library's call on one path, then beside that on many.
+fn each_and_once(call: &MapCall, setting: &Setting, mut original: impl FnMut()) -> [Times; 2] {
     let mut out = [0; LONGEST];
     let each = || {
         for text in &setting.texts {
             black_box(library_carry(call, setting, black_box(text), &mut out));
         }
     };
-    let times = best_times(&mut original, each);
-    let texts = format!("pairs: {}, {kind}", setting.count);
-    let mean = mean(setting.texts.iter().map(String::len));
-    print_row(call.name, &texts, mean, times);
+    let each = best_times(COUNT, &mut original, each);
     let (mut out, mut replies) = room_for_all();
-    let all = || {
+    let once = || {
         black_box(library_carry_all(call, setting, &mut out, &mut replies));
         black_box((&out, &replies));
     };
-    let times = best_times(original, all);
-    print_row(call.name, &format!("{texts}, list checked once"), mean, times);
+    [each, best_times(COUNT, original, once)]
 }
 
 /// The path is read, mapped, and the bytes of the result are copied.
@@ -161,8 +158,4 @@ fn sides_agree(call: &MapCall, setting: &Setting, text: &str) -> bool {
     let (mut expected, mut found) = ([0; LONGEST], [0; LONGEST]);
     let length = original_carry(call, setting, text, &mut expected);
     library_carry(call, setting, text, &mut found) == 256 * length && expected == found
-}
-
-pub fn parsed(text: &str) -> Path {
-    Path::new(text).expect("a legal text")
 }

@@ -1,9 +1,9 @@
 //! Paths over a route, all in one call, whose legs the library checks, and makes of relocate lists, once for all paths.
 //! The original's legs are made once, before; it takes its paths from text to text.
 
-use crate::inputs::{self, Routed};
-use crate::maps::{packed, parsed};
-use crate::{COUNT, best_times, print_row};
+use crate::clock::best_times;
+use crate::inputs::{self, Routed, packed, parsed, parsed_pairs};
+use crate::table::{head, ratio, row};
 use mudvizsor::ffi::maps::Paths;
 use mudvizsor::ffi::routes::{Route, route_all};
 use original::pcp::MapFunction;
@@ -16,19 +16,12 @@ const PATHS: usize = 1_000;
 
 /// What the legs are.
 #[derive(Clone, Copy)]
-pub enum Kind {
+enum Kind {
     Maps,
     Relocates,
 }
 
 impl Kind {
-    fn title(self) -> &'static str {
-        match self {
-            Kind::Maps => "maps",
-            Kind::Relocates => "relocate lists",
-        }
-    }
-
     /// The number that stands for it in a route.
     fn number(self) -> usize {
         match self {
@@ -61,16 +54,13 @@ struct Sides {
 impl Sides {
     fn new(kind: Kind, legs: &[Vec<[String; 2]>]) -> Self {
         let (store, places) = packed(legs.iter().flatten().flatten());
-        let paths = |list: &Vec<[String; 2]>| {
-            list.iter().map(|[source, target]| (parsed(source), parsed(target))).collect()
-        };
         let mut first = 0;
         let mut numbers = Vec::new();
         for list in legs {
             numbers.extend([kind.number(), first, list.len()]);
             first += list.len();
         }
-        let maps = legs.iter().map(|list| kind.map(paths(list))).collect();
+        let maps = legs.iter().map(|list| kind.map(parsed_pairs(list))).collect();
         Sides { maps, store, places, legs: numbers }
     }
 
@@ -103,15 +93,25 @@ impl Sides {
     }
 }
 
-/// Times the ways out and home over so many legs of so many pairs, on paths that get over all of them.
-pub fn time(kind: Kind, legs: usize, pairs: usize) {
-    let Routed { legs, paths } = inputs::routed(legs, pairs, PATHS);
-    let sides = &Sides::new(kind, &legs);
-    time_way(kind, sides, false, &paths, pairs);
-    time_way(kind, sides, true, &sides.come_out(&paths), pairs);
+/// A row for each number of legs and of pairs of a leg, with the ratio and the library's nanoseconds a path.
+pub fn print() {
+    head(&["legs", "pairs a leg", "maps, out", "maps, home", "relocate lists, out", "relocate lists, home"]);
+    for legs in [1, 4, 16] {
+        for pairs in [1, 8, 64] {
+            let [maps, relocates] = [Kind::Maps, Kind::Relocates].map(|kind| time(kind, legs, pairs));
+            row(&[[legs.to_string(), pairs.to_string()], maps, relocates].concat());
+        }
+    }
 }
 
-fn time_way(kind: Kind, sides: &Sides, home: bool, texts: &[String], pairs: usize) {
+/// The ways out and home over so many legs of so many pairs, on paths that get over all of them.
+fn time(kind: Kind, legs: usize, pairs: usize) -> [String; 2] {
+    let Routed { legs, paths } = inputs::routed(legs, pairs, PATHS);
+    let sides = &Sides::new(kind, &legs);
+    [time_way(sides, false, &paths), time_way(sides, true, &sides.come_out(&paths))]
+}
+
+fn time_way(sides: &Sides, home: bool, texts: &[String]) -> String {
     let (together, spots) = packed(texts);
     let paths = Paths { texts: &together, spots: &spots, count: PATHS };
     let (mut out, mut replies) = (vec![0; LONGEST * PATHS], vec![0; PATHS]);
@@ -130,8 +130,6 @@ fn time_way(kind: Kind, sides: &Sides, home: bool, texts: &[String], pairs: usiz
         black_box(route_all(sides.route(), home, black_box(paths), &mut out, &mut replies));
         black_box((&out, &replies));
     };
-    let times = best_times(original, library).map(|time| time * COUNT as f64 / PATHS as f64);
-    let name = if home { "route home" } else { "route out" };
-    let title = format!("legs: {}, {}, pairs: {pairs}, text to text", sides.maps.len(), kind.title());
-    print_row(name, &title, together.len() as f64 / PATHS as f64, times);
+    let times = best_times(PATHS, original, library);
+    format!("{}, {:.0}", ratio(times.ratio()), times.library)
 }

@@ -33,12 +33,27 @@ pub fn random_phase(
     limit: &Limit,
     case: impl Fn(&mut Comparison, &mut Random),
 ) {
+    random_phase_while(comparison, name, seed, limit, |comparison, random| {
+        case(comparison, random);
+        true
+    });
+}
+
+/// Makes random cases until the limit is reached, or one says that it is the last.
+pub fn random_phase_while(
+    comparison: &mut Comparison,
+    name: &str,
+    seed: u64,
+    limit: &Limit,
+    mut case: impl FnMut(&mut Comparison, &mut Random) -> bool,
+) {
     let random = &mut Random::new(seed);
     let start = Instant::now();
     let before = comparison.tally.comparisons();
     let mut cases = 0;
-    while !limit.is_reached(cases, start) {
-        case(comparison, random);
+    let mut goes_on = true;
+    while goes_on && !limit.is_reached(cases, start) {
+        goes_on = case(comparison, random);
         cases += 1;
     }
     let made = comparison.tally.comparisons() - before;

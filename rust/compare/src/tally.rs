@@ -61,6 +61,16 @@ impl Tally {
         self.differences
     }
 
+    /// Whether a difference in this call was seen.
+    pub fn knows(&self, name: &str) -> bool {
+        self.smallest.keys().any(|kind| kind.call == name)
+    }
+
+    /// So many comparisons in which nothing differs.
+    pub fn agree(&mut self, comparisons: usize) {
+        self.comparisons += comparisons as u64;
+    }
+
     /// Compares a reply with the answer expected; `wrong` is a place of the lent memory that is not as it
     /// should be.
     pub fn compare(&mut self, call: Call, expected: Answer<usize>, found: Reply, wrong: Option<isize>) {

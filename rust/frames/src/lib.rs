@@ -5,6 +5,8 @@
 
 pub mod digits;
 pub mod frame;
+pub mod load;
+pub mod program;
 pub mod run;
 pub mod state;
 

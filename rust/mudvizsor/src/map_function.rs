@@ -9,14 +9,17 @@ use crate::many::carried;
 use crate::pair_list::{Packed, PairList, Pairs};
 use crate::path::made;
 use crate::refusal::{Result, read, settled, sure};
-use crate::{LayerOffset, MOST_PAIRS, Path};
+use crate::{LONGEST, LayerOffset, MOST_PAIRS, Path};
 
-/// The most bytes of an end that composing makes, which is counted before it is refused for its length: a path of 255
-/// bytes whose prefix is replaced twice.
-const LONGEST_MADE: usize = 3 * 256;
+/// The most bytes of a pair that is composed, rebased or deepened; they are counted before an end is refused for its
+/// length. One end was given, and has at most 255. The other is a path of at most 255 bytes with its prefix replaced by at
+/// most 255: an empty prefix or `/` goes without the path getting shorter, as a slash stands behind the new prefix.
+const PAIR_MADE: usize = LONGEST + 2 * LONGEST;
 
-/// The most lists that a call makes on the way to its map.
-const LISTS: usize = 3;
+/// The most bytes of a pair in each of the three lists of `implied_class`. The ends of the inverse were given. The class
+/// after it is composed. In the transfer after that a composed pair's target gets another prefix of at most 255 bytes, or
+/// its source, of at most 510, becomes the prefix of a source given, beside a target given.
+const PAIRS_IMPLIED: [usize; 3] = [2 * LONGEST, PAIR_MADE, PAIR_MADE + LONGEST];
 
 /// A map of paths: pairs of a source and a target, each a prim path, `/` or empty; the root-identity mark, with which a
 /// path that no pair takes stays where it is; and a time offset.
@@ -322,7 +325,7 @@ impl MapFunction {
     /// # Ok::<(), mudvizsor::Refusal>(())
     /// ```
     pub fn compose(&self, inner: &MapFunction) -> Result<Self> {
-        make_longer(|room| makes::compose(self.lent(), inner.lent(), room))
+        make_longer(&[PAIR_MADE], |room| makes::compose(self.lent(), inner.lent(), room))
     }
 
     /// The map with every target below `from` put below `to`; the identity becomes the pair of the two. Refused with 3
@@ -336,7 +339,9 @@ impl MapFunction {
     /// # Ok::<(), mudvizsor::Refusal>(())
     /// ```
     pub fn rebase_target(&self, from: &Path, to: &Path) -> Result<Self> {
-        make_longer(|room| makes::rebase_target(self.lent(), from.as_bytes(), to.as_bytes(), room))
+        make_longer(&[PAIR_MADE], |room| {
+            makes::rebase_target(self.lent(), from.as_bytes(), to.as_bytes(), room)
+        })
     }
 
     /// The map with the pair nearest above `node`, its selections left out, put at `node`. Refused with 3 where that is no
@@ -349,7 +354,7 @@ impl MapFunction {
     /// # Ok::<(), mudvizsor::Refusal>(())
     /// ```
     pub fn deepen_to(&self, node: &Path) -> Result<Self> {
-        make_longer(|room| makes::deepen_to(self.lent(), node.as_bytes(), room))
+        make_longer(&[PAIR_MADE], |room| makes::deepen_to(self.lent(), node.as_bytes(), room))
     }
 
     /// The map of the class across this transfer: the transfer after the class after the transfer's inverse, with the
@@ -365,7 +370,7 @@ impl MapFunction {
     /// # Ok::<(), mudvizsor::Refusal>(())
     /// ```
     pub fn implied_class(&self, class: &MapFunction) -> Result<Self> {
-        make_longer(|room| makes::implied_class(self.lent(), class.lent(), room))
+        make_longer(&PAIRS_IMPLIED, |room| makes::implied_class(self.lent(), class.lent(), room))
     }
 
     /// A map whose ends are all among this map's.
@@ -395,10 +400,10 @@ fn make(bytes: usize, pairs: usize, call: impl FnOnce(Room) -> Reply) -> Result<
     Ok(MapFunction { list: PairList::read(room, value / 2), mark: value % 2 == 1, time: time.into() })
 }
 
-/// The map that a call makes which may lengthen ends, with all memory lent that such a call can need.
-fn make_longer(call: impl FnOnce(Room) -> Reply) -> Result<MapFunction> {
-    let pairs = LISTS * MOST_PAIRS;
-    make(2 * LONGEST_MADE * pairs, pairs, call)
+/// The map that a call makes which may lengthen ends. Memory is lent for 64 pairs of each of its lists, with so many
+/// bytes for a pair of each: more pairs are refused with 4 before 5 is asked.
+fn make_longer(lists: &[usize], call: impl FnOnce(Room) -> Reply) -> Result<MapFunction> {
+    make(MOST_PAIRS * lists.iter().sum::<usize>(), MOST_PAIRS * lists.len(), call)
 }
 
 #[cfg(test)]

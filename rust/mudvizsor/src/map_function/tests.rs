@@ -1,3 +1,5 @@
+mod longest;
+
 use super::*;
 use crate::Refusal;
 
@@ -125,20 +127,6 @@ fn implied_classes() {
     assert_eq!(implied.map_source_to_target(&path("/W/P/C/x")), Path::new("/W/P/I/x"));
     assert!(implied.has_root_identity());
     assert_eq!(MapFunction::identity().implied_class(&map(&[("/A", "/B")])).unwrap(), map(&[("/A", "/B")]));
-}
-
-/// The memory that the crate lends is enough for the longest ends: the answer is 7, as it is asked after 5.
-#[test]
-fn the_longest_ends() {
-    let deep = |i: usize| format!("{}/c{i}", named('S', 250));
-    let longest = |c: char, i: usize| format!("{}{i:02}", named(c, 253));
-    let class = MapFunction::new((0..30).map(|i| (deep(i), longest('C', i)))).unwrap();
-    let transfer = MapFunction::new([(named('S', 250), longest('T', 0))]).unwrap();
-    assert_eq!(transfer.implied_class(&class), Err(Refusal::MadeTooLong));
-    let outer = MapFunction::new([(named('B', 2), longest('T', 0))]).unwrap();
-    let inner = MapFunction::new((0..63).map(|i| (longest('S', i), format!("/B/{}{i:02}", "n".repeat(250)))))
-        .unwrap();
-    assert_eq!(outer.compose(&inner), Err(Refusal::MadeTooLong));
 }
 
 #[test]

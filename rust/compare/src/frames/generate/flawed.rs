@@ -1,6 +1,6 @@
 //! Well-formed frames whose texts are too long, not legal, or no ends.
 
-use crate::generate::writer::Writer;
+use crate::frames::generate::writer::Writer;
 use frames_original::Frame;
 use texts::LONGEST;
 use texts::damage::damaged;

@@ -1,7 +1,7 @@
 //! Lines that are no frame, in every way.
 
-use crate::generate::journeys::any_frame;
-use crate::generate::writer::Writer;
+use crate::frames::generate::journeys::any_frame;
+use crate::frames::generate::writer::Writer;
 use frames_original::Frame;
 use frames_original::run::LONGEST_LINE;
 use texts::random::Random;

@@ -6,7 +6,7 @@ mod limits;
 mod malformed;
 mod writer;
 
-use crate::script::Script;
+use crate::frames::script::Script;
 use texts::random::Random;
 use writer::Writer;
 
@@ -26,7 +26,7 @@ pub fn script(random: &mut Random) -> Script {
 #[cfg(test)]
 mod tests {
     use super::script;
-    use crate::tally::Tally;
+    use crate::frames::answers::Answers;
     use texts::random::Random;
 
     #[test]
@@ -40,11 +40,11 @@ mod tests {
 
     #[test]
     fn every_answer_comes() {
-        let (random, tally) = (&mut Random::new(1), &mut Tally::default());
+        let (random, answers) = (&mut Random::new(1), &mut Answers::default());
         for _ in 0..500 {
-            tally.count(&frames_original::answers(&script(random).input()));
+            answers.count(&frames_original::answers(&script(random).input()));
         }
-        let found: Vec<String> = tally.answers().map(|answer| answer.escape_ascii().to_string()).collect();
+        let found: Vec<String> = answers.numbers().map(|answer| answer.escape_ascii().to_string()).collect();
         let expected = "8100 8101 8102 8103 8104 8200 8300 8304 8305 8400 8404 8405 8500 8501 8502 8506 8507 8508 \
                         8600 8601 8602 8606 8607 8608 8700 FF09";
         assert_eq!(found.join(" "), expected);

@@ -1,8 +1,8 @@
 //! Scripts at each limit: what just passes, and what is just too much.
 
-use crate::generate::flawed;
-use crate::generate::journeys::any_frame;
-use crate::generate::writer::Writer;
+use crate::frames::generate::flawed;
+use crate::frames::generate::journeys::any_frame;
+use crate::frames::generate::writer::Writer;
 use frames_original::Frame;
 use frames_original::run::LONGEST_LINE;
 use frames_original::state::{MOST_BYTES, MOST_LEGS, MOST_PAIRS};

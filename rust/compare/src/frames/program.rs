@@ -14,47 +14,63 @@ pub struct Program {
     pub patience: Duration,
 }
 
-/// What went wrong with a run, whatever was answered.
+/// What a run wrote, and what was wrong with it beside that.
+pub struct Output {
+    pub answers: Vec<u8>,
+    pub failure: Option<Failure>,
+}
+
 #[derive(Debug)]
 pub enum Failure {
-    NotStarted(io::Error),
-    /// No answer came in time. These bytes came before.
-    Silent(Vec<u8>),
-    /// The output ended too early. These bytes came before.
-    Ended(Vec<u8>),
+    /// The system did not start the program, or lost it.
+    System(io::Error),
+    /// No answer came in time.
+    Silent,
+    /// The output ended before the input.
+    Ended,
     Status(ExitStatus),
 }
 
 impl Display for Failure {
     fn fmt(&self, f: &mut fmt::Formatter<'_>) -> fmt::Result {
         match self {
-            Failure::NotStarted(error) => write!(f, "the program did not start: {error}"),
-            Failure::Silent(got) => write!(f, "no answer in time; before: {}", got.escape_ascii()),
-            Failure::Ended(got) => write!(f, "the output ended too early; before: {}", got.escape_ascii()),
+            Failure::System(error) => write!(f, "the program cannot be run: {error}"),
+            Failure::Silent => f.write_str("no answer in time"),
+            Failure::Ended => f.write_str("the output ended too early"),
             Failure::Status(status) => write!(f, "the program ended with {status}"),
         }
     }
 }
 
 impl Program {
-    /// What the program answers to a whole input.
-    pub fn answers(&self, input: &[u8]) -> Result<Vec<u8>, Failure> {
-        let client = self.start()?;
-        client.send(input);
-        client.finish()
+    /// A run of the program with what it is sent, up to its end.
+    pub fn run(&self, send: impl FnOnce(&mut Client)) -> Output {
+        match self.start() {
+            Ok(mut client) => {
+                send(&mut client);
+                client.finish()
+            }
+            Err(error) => Output { answers: Vec::new(), failure: Some(Failure::System(error)) },
+        }
     }
 
-    pub fn start(&self) -> Result<Client, Failure> {
-        let command = &mut Command::new(&self.path);
-        let mut child =
-            command.stdin(Stdio::piped()).stdout(Stdio::piped()).spawn().map_err(Failure::NotStarted)?;
+    fn start(&self) -> io::Result<Client> {
+        let mut child = Command::new(&self.path).stdin(Stdio::piped()).stdout(Stdio::piped()).spawn()?;
         let (stdin, stdout) = (child.stdin.take(), child.stdout.take());
         let (input, pieces) = mpsc::channel();
         let (blocks, output) = mpsc::channel();
         thread::spawn(move || write_pieces(stdin.expect("a pipe"), &pieces));
         thread::spawn(move || read_blocks(stdout.expect("a pipe"), &blocks));
         let patience = self.patience;
-        Ok(Client { child, input: Some(input), output, received: Vec::new(), patience })
+        Ok(Client {
+            child,
+            input: Some(input),
+            output,
+            received: Vec::new(),
+            lines: 0,
+            failure: None,
+            patience,
+        })
     }
 }
 
@@ -82,48 +98,60 @@ pub struct Client {
     input: Option<Sender<Vec<u8>>>,
     output: Receiver<Vec<u8>>,
     received: Vec<u8>,
+    /// The lines that have been received.
+    lines: usize,
+    failure: Option<Failure>,
     patience: Duration,
 }
 
 impl Client {
-    pub fn send(&self, piece: &[u8]) {
+    pub fn send(&mut self, piece: &[u8]) {
         if let Some(input) = &self.input {
             // The writer is gone where the program no longer reads; its answers will tell.
             let _ = input.send(piece.to_vec());
         }
     }
 
-    /// All that was received, once it is at least so many bytes.
-    pub fn wait_for(&mut self, length: usize) -> Result<&[u8], Failure> {
+    /// Waits until so many lines have been received in all, and gives whether they have.
+    pub fn wait_for(&mut self, lines: usize) -> bool {
         let deadline = Instant::now() + self.patience;
-        while self.received.len() < length {
-            match self.receive(deadline) {
-                Ok(()) => {}
-                Err(RecvTimeoutError::Timeout) => return Err(Failure::Silent(self.received.clone())),
-                Err(RecvTimeoutError::Disconnected) => return Err(Failure::Ended(self.received.clone())),
-            }
+        while self.failure.is_none() && self.lines < lines {
+            self.failure = match self.receive(deadline) {
+                Ok(()) => None,
+                Err(RecvTimeoutError::Timeout) => Some(Failure::Silent),
+                Err(RecvTimeoutError::Disconnected) => Some(Failure::Ended),
+            };
         }
-        Ok(&self.received)
+        self.failure.is_none()
     }
 
     /// Ends the input and gives all that was received.
-    pub fn finish(mut self) -> Result<Vec<u8>, Failure> {
+    fn finish(mut self) -> Output {
         self.input = None;
+        if self.failure.is_none() {
+            self.failure = self.receive_rest().err();
+        }
+        Output { answers: std::mem::take(&mut self.received), failure: self.failure.take() }
+    }
+
+    fn receive_rest(&mut self) -> Result<(), Failure> {
         let deadline = Instant::now() + self.patience;
         loop {
             match self.receive(deadline) {
                 Ok(()) => {}
-                Err(RecvTimeoutError::Timeout) => return Err(Failure::Silent(self.received.clone())),
+                Err(RecvTimeoutError::Timeout) => return Err(Failure::Silent),
                 Err(RecvTimeoutError::Disconnected) => break,
             }
         }
-        let status = self.child.wait().map_err(Failure::NotStarted)?;
-        if status.success() { Ok(std::mem::take(&mut self.received)) } else { Err(Failure::Status(status)) }
+        let status = self.child.wait().map_err(Failure::System)?;
+        if status.success() { Ok(()) } else { Err(Failure::Status(status)) }
     }
 
     fn receive(&mut self, deadline: Instant) -> Result<(), RecvTimeoutError> {
         let left = deadline.saturating_duration_since(Instant::now());
-        self.received.extend(self.output.recv_timeout(left)?);
+        let block = self.output.recv_timeout(left)?;
+        self.lines += block.iter().filter(|byte| **byte == b'\n').count();
+        self.received.extend(block);
         Ok(())
     }
 }

@@ -1,7 +1,7 @@
 //! Well-formed scripts: legs that go on where the leg before came to, and paths asked out over them and home.
 
-use crate::generate::flawed;
-use crate::generate::writer::{Pair, Writer};
+use crate::frames::generate::flawed;
+use crate::frames::generate::writer::{Pair, Writer};
 use frames_original::{Frame, State};
 use texts::ends::path_under;
 use texts::generate::{beginnings, continued};

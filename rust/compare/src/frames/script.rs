@@ -1,5 +1,6 @@
 //! An input of the program as lines, and the smallest one that still fails.
 
+use crate::tally::Given;
 use std::fmt::{self, Display};
 
 #[derive(Clone, Debug, Default, PartialEq, Eq)]
@@ -48,14 +49,40 @@ impl Script {
     }
 }
 
-/// The lines as they stand, other bytes than visible ones escaped.
+impl Given for Script {
+    fn size(&self) -> usize {
+        self.lines.len()
+    }
+}
+
 impl Display for Script {
     fn fmt(&self, f: &mut fmt::Formatter<'_>) -> fmt::Result {
-        for line in &self.lines {
-            writeln!(f, "    {}", line.escape_ascii())?;
-        }
-        if self.open_end { writeln!(f, "    (the last line lacks its newline)") } else { Ok(()) }
+        let note: &[_] = if self.open_end { &[b"(the last line lacks its newline)".to_vec()] } else { &[] };
+        write_lines(f, self.lines.iter().chain(note))
     }
+}
+
+/// The lines of a script up to one of them.
+pub struct Beginning<'a>(pub &'a [Vec<u8>]);
+
+impl Given for Beginning<'_> {
+    fn size(&self) -> usize {
+        self.0.len()
+    }
+}
+
+impl Display for Beginning<'_> {
+    fn fmt(&self, f: &mut fmt::Formatter<'_>) -> fmt::Result {
+        write_lines(f, self.0)
+    }
+}
+
+/// Each line on a line of its own, other bytes than visible ones escaped.
+fn write_lines<'a>(f: &mut fmt::Formatter<'_>, lines: impl IntoIterator<Item = &'a Vec<u8>>) -> fmt::Result {
+    for line in lines {
+        write!(f, "\n    {}", line.escape_ascii())?;
+    }
+    f.write_str("\n   ")
 }
 
 #[cfg(test)]

@@ -1,26 +1,27 @@
-//! How many answers of each kind and number there were.
+//! How many answers of each kind and number are expected, which shows that the scripts get all that there are.
 
 use std::collections::BTreeMap;
 use std::fmt::{self, Display};
 
 #[derive(Default)]
-pub struct Tally {
-    pub scripts: usize,
-    pub lines: usize,
+pub struct Answers {
+    scripts: usize,
+    lines: usize,
     /// By the first four digits of an answer line.
-    answers: BTreeMap<[u8; 4], usize>,
+    by_number: BTreeMap<[u8; 4], usize>,
     /// Paths that came out, by the legs that they went over.
     out: BTreeMap<usize, usize>,
 }
 
-impl Tally {
+impl Answers {
+    /// Counts the answers to one script.
     pub fn count(&mut self, answers: &[u8]) {
         self.scripts += 1;
         let mut legs = 0;
         for line in answers.split_inclusive(|byte| *byte == b'\n') {
             self.lines += 1;
             let answer = *line.first_chunk().expect("kind and number");
-            *self.answers.entry(answer).or_default() += 1;
+            *self.by_number.entry(answer).or_default() += 1;
             match &answer {
                 b"8300" | b"8400" => legs += 1,
                 b"8500" => *self.out.entry(legs).or_default() += 1,
@@ -30,16 +31,17 @@ impl Tally {
     }
 
     /// The kind and the number of each answer that came, in digits.
-    pub fn answers(&self) -> impl Iterator<Item = [u8; 4]> {
-        self.answers.keys().copied()
+    #[cfg(test)]
+    pub fn numbers(&self) -> impl Iterator<Item = &[u8; 4]> {
+        self.by_number.keys()
     }
 }
 
 /// A line for each kind, then how far paths came, then the numbers of scripts and lines.
-impl Display for Tally {
+impl Display for Answers {
     fn fmt(&self, f: &mut fmt::Formatter<'_>) -> fmt::Result {
         let mut before = [0; 2];
-        for (answer @ [a, b, ..], count) in &self.answers {
+        for (answer @ [a, b, ..], count) in &self.by_number {
             let [kind, number] = [&answer[..2], &answer[2..]].map(<[u8]>::escape_ascii);
             if before == [*a, *b] {
                 write!(f, ", {number}: {count}")?;

@@ -1,6 +1,6 @@
 //! Writes a script line by line, and knows the answers so far.
 
-use crate::script::Script;
+use crate::frames::script::Script;
 use frames_original::{Frame, Run, digits};
 use texts::ends::family;
 use texts::random::Random;

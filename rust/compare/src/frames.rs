@@ -1,0 +1,85 @@
+//! The program `frames`, and the library's entry for a line of it, beside the protocol over the original's functions: random
+//! scripts, each in a process of its own and through the entry, then, of the program, one long input, inputs in two pieces,
+//! and lines sent one by one.
+
+mod answers;
+mod cuts;
+mod difference;
+mod entry;
+mod generate;
+mod program;
+mod script;
+mod scripts;
+mod sending;
+
+use crate::comparison::Comparison;
+use crate::phase::{Limit, phase, random_phase_while};
+use crate::tally::Given;
+use answers::Answers;
+use frames_original::load::Load;
+use program::Program;
+use sending::Sending;
+use std::fmt::{self, Display};
+use std::path::Path;
+use std::time::Duration;
+use texts::random::Random;
+
+/// So long an answer is waited for.
+const PATIENCE: Duration = Duration::from_secs(20);
+
+/// Frames of the one long input, which the program reads in many blocks. More than 65,535 of them come out.
+const LONG: usize = 150_000;
+
+/// Lines that are sent one by one, at least.
+const SENT_ALONE: usize = 5_000;
+
+/// Every phase goes on after a wrong answer, and ends where the program does not answer or ends as it should not.
+pub fn run(comparison: &mut Comparison, program: &Path, seed: u64, limit: &Limit) {
+    let program = &Program { path: program.to_path_buf(), patience: PATIENCE };
+    let mut answers = Answers::default();
+    random_phase_while(comparison, "scripts", seed, limit, |comparison, random| {
+        let script = generate::script(random);
+        comparison.lines(&script);
+        scripts::compare(comparison, program, script, &mut answers)
+    });
+    println!("{answers}");
+    phase(comparison, &format!("one input of {LONG} frames"), |comparison| long_input(comparison, program));
+    cuts::run(comparison, program);
+    phase(comparison, "lines sent one by one", |comparison| lines_alone(comparison, program, seed));
+}
+
+fn long_input(comparison: &mut Comparison, program: &Program) {
+    let input = Load { legs: 4, pairs: 8, frames: LONG }.input();
+    let given = &Described { text: format!("the input of {LONG} frames"), lines: LONG };
+    comparison.sent(program, given, &input, Sending::Whole);
+}
+
+/// Lines of many scripts in one process, each sent when the one before has been answered.
+fn lines_alone(comparison: &mut Comparison, program: &Program, seed: u64) {
+    let random = &mut Random::new(seed);
+    let mut lines: Vec<Vec<u8>> = Vec::new();
+    while lines.len() < SENT_ALONE {
+        lines.extend(generate::script(random).lines);
+    }
+    let input = [lines.join(&b'\n'), b"\n".to_vec()].concat();
+    let given = &Described { text: format!("{} lines sent one by one", lines.len()), lines: lines.len() };
+    comparison.sent(program, given, &input, Sending::LineByLine);
+}
+
+/// An input that is too long to be shown.
+struct Described {
+    text: String,
+    lines: usize,
+}
+
+impl Given for Described {
+    fn size(&self) -> usize {
+        self.lines
+    }
+}
+
+impl Display for Described {
+    fn fmt(&self, f: &mut fmt::Formatter<'_>) -> fmt::Result {
+        write!(f, " {},", self.text)
+    }
+}

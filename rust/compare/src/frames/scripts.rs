@@ -1,0 +1,51 @@
+//! Scripts, each in a process of its own, and the smallest one found with a difference.
+
+use crate::comparison::Comparison;
+use crate::frames::answers::Answers;
+use crate::frames::difference::Difference;
+use crate::frames::program::Program;
+use crate::frames::script::Script;
+use crate::frames::sending::Sending;
+use std::time::{Duration, Instant};
+
+/// So long a smaller script is looked for.
+const SHRINKING: Duration = Duration::from_secs(30);
+
+/// So long an answer is waited for meanwhile.
+const SHRINKING_PATIENCE: Duration = Duration::from_secs(1);
+
+/// Compares a script; one with a difference of a kind that was not seen yet is made as small as can be. Gives whether the
+/// program can be asked on.
+pub fn compare(
+    comparison: &mut Comparison,
+    program: &Program,
+    script: Script,
+    answers: &mut Answers,
+) -> bool {
+    let run = Sending::Whole.run(program, &script.input());
+    answers.count(&run.expected);
+    match run.difference() {
+        Some(difference) if !comparison.tally.knows(difference.name) => {
+            let (smaller, difference) = smallest(program, script, difference);
+            comparison.answered(&run, &smaller, Some(difference));
+        }
+        difference => comparison.answered(&run, &script, difference),
+    }
+    run.is_whole()
+}
+
+/// The script without the lines that can be left out so that a difference of this kind remains, and that difference.
+fn smallest(program: &Program, script: Script, mut difference: Difference) -> (Script, Difference) {
+    let program = &Program { path: program.path.clone(), patience: SHRINKING_PATIENCE };
+    let deadline = Instant::now() + SHRINKING;
+    let script = script.shrunk(&mut |script| {
+        let run = || Sending::Whole.run(program, &script.input());
+        let found = if Instant::now() < deadline { run().difference() } else { None };
+        match found.filter(|found| found.name == difference.name) {
+            Some(found) => difference = found,
+            None => return false,
+        }
+        true
+    });
+    (script, difference)
+}

@@ -1,0 +1,27 @@
+//! The part `frames` of the program, where the program to be compared is missing or answers wrongly.
+
+use std::process::{Command, Output};
+
+fn compare(program: &str) -> Output {
+    let arguments = ["--only", "frames", "--cases", "2", "--program", program];
+    Command::new(env!("CARGO_BIN_EXE_compare")).args(arguments).output().expect("a run")
+}
+
+#[test]
+fn a_program_that_is_missing_is_an_error() {
+    let Output { status, stdout, stderr } = compare("no/such/program");
+    assert_eq!(status.code(), Some(2));
+    assert!(stdout.is_empty() && stderr.starts_with(b"there is no program no/such/program"));
+}
+
+/// A program that sends back what it gets.
+#[test]
+fn wrong_answers_are_counted_and_shown() {
+    let Output { status, stdout, .. } = compare("/bin/cat");
+    assert_eq!(status.code(), Some(1));
+    let report = String::from_utf8(stdout).expect("text");
+    let last = report.lines().last().expect("a summary");
+    // Two scripts, the long input, the others at each of 279 cuts, and the lines one by one differ in their first answer.
+    assert!(last.starts_with("compare: ") && last.ends_with(" comparisons, 283 differences"), "{last}");
+    assert!(report.contains("\n    answer 1: expected 8100\\n, found 01"), "{report}");
+}

@@ -1,0 +1,34 @@
+//! Where the program `frames` is.
+
+use std::env;
+use std::path::{Path, PathBuf};
+
+/// The program of this repository, where `rt check frames` leaves it.
+const BUILT: &str = concat!(env!("CARGO_MANIFEST_DIR"), "/../../target/bin/frames");
+
+/// The program that the variable FRAMES names, else the one of this repository.
+pub fn usual() -> PathBuf {
+    env::var_os("FRAMES").map_or_else(|| BUILT.into(), PathBuf::from)
+}
+
+/// An error where there is no such program.
+pub fn check(program: &Path) -> Result<(), String> {
+    if program.is_file() {
+        return Ok(());
+    }
+    let path = program.display();
+    Err(format!("there is no program {path}: `rt check frames` builds it, --program or FRAMES names another"))
+}
+
+#[cfg(test)]
+mod tests {
+    use super::check;
+    use std::path::Path;
+
+    #[test]
+    fn a_program_must_be_there() {
+        assert_eq!(check(Path::new(concat!(env!("CARGO_MANIFEST_DIR"), "/src/main.rs"))), Ok(()));
+        let missing = check(Path::new("no/such/program"));
+        assert!(missing.is_err_and(|message| message.starts_with("there is no program no/such/program:")));
+    }
+}
