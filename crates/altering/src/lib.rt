@@ -29,12 +29,16 @@ pub fn with_root_identity(
     map_function::as_it_is(store, places, n, true, map.time_offset, out, slots)
 }
 
-// The numbers of the first n pairs with source and target exchanged.
-fn exchange(store: &[u8], places: &[usize], n: usize, other: &mut [usize])
-    requires { ⌜ 4 * n ≤ length (now places) ⌝ }
-    requires { ⌜ 4 * n ≤ length (now other) ⌝ }
-    ensures { λ _. ⌜ pairsIn (now (store .entry)) (now (other .exit)) n ≡ mapped (λ (x : Pair). exchanged x) (pairsIn (now (store .entry)) (now (places .entry)) n) ⌝ }
+// The numbers of the first n pairs with source and target exchanged, where both slices have them.
+pub fn exchange(store: &[u8], places: &[usize], n: usize, other: &mut [usize])
+    ensures { λ _. ⌜ (4 * n ≤ length (now (places .entry)) → 4 * n ≤ length (now (other .entry)) → pairsIn (now (store .entry)) (now (other .exit)) n ≡ mapped (λ (x : Pair). exchanged x) (pairsIn (now (store .entry)) (now (places .entry)) n)) ⌝ }
 {
+    if places.len() / 4 < n {
+        return;
+    }
+    if other.len() / 4 < n {
+        return;
+    }
     let mut i = 0;
     while i < n {
         let j = 4 * i;

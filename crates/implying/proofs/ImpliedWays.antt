@@ -1,24 +1,22 @@
 -- What each way through `implied_class` gives. Assumes nothing.
 use mathlib.Core.Path.{_≡_, refl, sym, ap, _∙_}
-use mathlib.Core.Bool.{Bool, true, false, not, cond, _&&_, _||_}
+use mathlib.Core.Bool.{Bool, true, false, not, cond, _&&_, _||_, false≢true}
 use mathlib.Core.List.{List, [], _∷_, _++_, map as mapped}
 use Prim.Native.Nat.{ℕ, suc, _+_, _*_, _-_, _/_, _≤_, _<_}
 use native.Mathlib.Omega.{arith}
-use native.Mathlib.Numerals.{add-one}
 use lib.Dec.{eqb, leb}
-use lib.ListN.{length, getD, length-append}
+use lib.ListN.{length, length-append}
 use borrow.Author.Tests.{le-leb, lt-leb, leb-true, leb-false}
-use Rattle.text.specs.Text.{Text, over, placed}
+use Rattle.text.specs.Text.{Text}
 use Rattle.text.proofs.BoolLaws.{and-l, and-r, and-no, and-yes, told-true, told-false}
 use Rattle.grammar.specs.Legal.{fits}
 use Rattle.layer_offset.specs.declared.LayerOffset.{LayerOffset}
 use Rattle.layer_offset.specs.Offset.{identity}
 use Rattle.pairs.specs.Pair.{Pair, everyEnd, allShort}
-use Rattle.pairs.specs.Places.{pairIn, pairsIn, endBytes}
+use Rattle.pairs.specs.Places.{pairsIn, endBytes}
 use Rattle.listing.specs.Lists.{listRoom}
 use Rattle.pairs.proofs.PlaceLaws.{pairsIn-length}
 use Rattle.pairs.proofs.ListLaws.{read-back}
-use Rattle.listing.proofs.CopyLaws.{text-same, list-same, over-below, over-inside}
 use Rattle.path.specs.declared.Refusal.{Refusal}
 use Rattle.path.specs.declared.Refusal.the-variants.{TooMany, NoRoom, MadeTooLong}
 use Rattle.path.specs.declared.Asked.{Asked}
@@ -27,7 +25,7 @@ use Rattle.asking.specs.Asking.{lentList, asked}
 use Rattle.asking.proofs.PassLaws.{Sound, first-sound, second-sound}
 use Rattle.maps.specs.Map.{Map, lentMap, size, plainOut, chosenOut}
 use Rattle.maps.specs.New.{fromParts}
-use Rattle.maps.specs.Compose.{carried, pulled, isPathIdentity, composedPairs, compose}
+use Rattle.maps.specs.Compose.{carried, pulled, isEmpty, isPathIdentity, composedPairs, compose}
 use Rattle.maps.specs.Derive.{exchanged, inverse, withRootIdentity, impliedClass}
 use Rattle.maps.proofs.EndLaws.{fromParts-length, fromParts-every}
 use Rattle.map_function.specs.declared.MapFunction.{MapFunction}
@@ -37,57 +35,13 @@ use Rattle.map_function.specs.Read.{isIdentityMap, isPathIdentity as leavesPath
 use Rattle.map_function.specs.Made.{MapOutcome, map, refused, numbersOf, mapReply, mapBytes, mapSlots, roomFor, weighed, asItIs, fromPartsOutcome, held}
 use Rattle.scratch.specs.Scratch.{Holds}
 use Rattle.scratch.specs.Ends.{madeShort}
-use Rattle.scratch.proofs.ScratchLaws.{holds-list, map-snoc}
+use Rattle.scratch.proofs.ScratchLaws.{holds-list}
 use Rattle.scratch.proofs.MapLaws.{identity-lent, held-all, no-map}
 use Rattle.building.specs.Build.{modest}
 use Rattle.building.proofs.LengthLaws.{short-modest, composed-modest, modest-bytes}
 use Rattle.composing.specs.Calls.{composedTime}
 use Rattle.implying.specs.Implied.{exchangedPairs, composedFrom, inverseList, classList, impliedList, allFew, implying, ImpliesTo, impliedTime, impliedClassCall}
-use Rattle.implying.specs.Settle.{settled, composedOf, madeOf, Exchanged, roomBeside, finished}
-
--- `exchange_all`
-abbrev swapped : List ℕ → ℕ → List ℕ
-swapped places i = getD places (4 * i + 2) 0 ∷ getD places (4 * i + 3) 0 ∷ getD places (4 * i) 0 ∷ getD places (4 * i + 1) 0 ∷ []
-
-module _ (places slots : List ℕ) (i : ℕ) (h : 4 * i + 4 ≤ length slots) where
-  abbrev after : List ℕ
-  after = over (4 * i) (swapped places i) slots
-
-  number : (j k : ℕ) → j ≡ 4 * i + k → k < 4 → getD after j 0 ≡ getD (swapped places i) k 0
-  number j k e l = rw e (over-inside (4 * i) (swapped places i) slots k (omega arith) l)
-
-  named : (j k : ℕ) → k ≡ j → getD places k 0 ≡ getD places j 0
-  named j k e = rw e refl
-
-  exchanged-pair : (store : Text) → pairIn store after i ≡ exchanged (pairIn store places i)
-  unfolding pairIn
-  exchanged-pair store =
-      rw (
-        text-same store after places (2 * i) (2 * i + 1) (number (2 * (2 * i)) 0 (omega arith) (omega arith) ∙ named (2 * (2 * i + 1)) (4 * i + 2) (omega arith))
-            (number (2 * (2 * i) + 1) 1 (omega arith) (omega arith) ∙ named (2 * (2 * i + 1) + 1) (4 * i + 3) (omega arith)),
-        text-same store after places (2 * i + 1) (2 * i) (number (2 * (2 * i + 1)) 2 (omega arith) (omega arith) ∙ named (2 * (2 * i)) (4 * i) (omega arith))
-            (number (2 * (2 * i + 1) + 1) 3 (omega arith) (omega arith) ∙ named (2 * (2 * i) + 1) (4 * i + 1) (omega arith)),
-      ) refl
-
-  exchanged-next : Exchanged places slots i → Exchanged places after (suc i)
-  unfolding Exchanged pairsIn
-  exchanged-next e store =
-      rw (list-same store after slots i (λ k l. over-below (4 * i) (swapped places i) slots k (omega arith) l), exchanged-pair store, e store)
-      (sym (map-snoc (λ (x : Pair). exchanged x) (pairsIn store places i) (pairIn store places i)))
-
-pub exchange-begin : (places slots : List ℕ) → Exchanged places slots 0
-unfolding Exchanged pairsIn
-exchange-begin places slots store = refl
-
-pub exchange-on : (places slots slots′ : List ℕ) (i n : ℕ) → i < n → 4 * n ≤ length slots → slots′ ≡ placed (4 * i) (swapped places i) slots → Exchanged places slots i
-    → Exchanged places slots′ (i + 1)
-unfolding placed
-exchange-on places slots slots′ i n l h e c =
-    let z : slots′ ≡ over (4 * i) (swapped places i) slots = e ∙ rw (le-leb (4 * i + 4) (length slots) (omega arith)) refl in
-    rw (z, add-one i) (exchanged-next places slots i (omega arith) c)
-
-pub exchange-end : (places slots : List ℕ) (i n : ℕ) → n ≤ i → i ≤ n → Exchanged places slots i → Exchanged places slots n
-exchange-end places slots i n h k c = let z : n ≡ i = omega arith in rw z c
+use Rattle.implying.specs.Settle.{settled, composedOf, madeOf, roomBeside, finished}
 
 -- the exchanged list has the lengths of the other
 exchanged-bytes : (l : List Pair) → endBytes (exchangedPairs l) ≡ endBytes l
@@ -137,14 +91,14 @@ unfolding mapBytes mapSlots
 lent-back m r out out′ slots slots′ e f g = rw (e, f, g, read-back (m .pairs) out slots) refl
 
 -- `invert`
-module _ (store : Text) (places own : List ℕ) (n : ℕ) (c : Exchanged places own n) where
+module _ (store : Text) (places own : List ℕ) (n : ℕ) (c : pairsIn store own n ≡ exchangedPairs (pairsIn store places n)) where
   pub invert-room : (out : Text) (slots : List ℕ) → n ≤ 64 → allShort (pairsIn store places n) ≡ true → 65408 ≤ length out → 256 ≤ length slots
       → listRoom (pairsIn store own n) out slots ≡ true
-  unfolding Exchanged listRoom
+  unfolding listRoom
   invert-room out slots few e h k =
       let b : endBytes (pairsIn store places n) ≤ 1022 * n = rw (pairsIn-length store places n) at (modest-bytes (pairsIn store places n) (short-modest (pairsIn store places n) e)) in
       rw (
-        c store,
+        c,
         exchanged-bytes (pairsIn store places n),
         exchanged-number (pairsIn store places n),
         pairsIn-length store places n,
@@ -156,57 +110,73 @@ module _ (store : Text) (places own : List ℕ) (n : ℕ) (c : Exchanged places 
       → (r ≡ numbersOf (settled false (pairsIn store own n) mark) identity)
       × ((out′ ≡ mapBytes (map (settled false (pairsIn store own n) mark) identity) out) × (slots′ ≡ mapSlots (map (settled false (pairsIn store own n) mark) identity) slots))
       → mapOf out′ slots′ r ≡ inverse (lentMap store places n mark)
-  unfolding Exchanged settled inverse
+  unfolding settled inverse
   inverted mark r out out′ slots slots′ w =
-      lent-back (fromParts (pairsIn store own n) mark) r out out′ slots slots′ (w .0) (w .1 .0) (w .1 .1) ∙ ap (λ (l : List Pair). fromParts l mark) (c store)
-
--- `copy_all`: the identity carries every pair to itself
-copied-pair : (store : Text) (places : List ℕ) (s t : Text) → carried (lentMap store places 0 true) (record { source = s; target = t }) ≡ record { source = s; target = t }
-unfolding carried plainOut chosenOut pairsIn
-copied-pair store places s [] = refl
-copied-pair store places s (a ∷ t) = refl
-
-copied-list : (store : Text) (places : List ℕ) (l : List Pair) → mapped (carried (lentMap store places 0 true)) l ≡ l
-copied-list store places [] = refl
-copied-list store places (x ∷ l) = rw (copied-pair store places (x .source) (x .target), copied-list store places l) refl
-
-copied-pairs : (store : Text) (places : List ℕ) (inner : Map) → composedPairs (lentMap store places 0 true) inner ≡ inner .pairs
-unfolding composedPairs pairsIn pulled
-copied-pairs store places inner = copied-list store places (inner .pairs)
-
-pub copied-holds : (store : Text) (places : List ℕ) (inner : Map) (n at : ℕ) (bytes : Text) (own : List ℕ)
-    → Holds (composedPairs (lentMap store places 0 true) inner) n at bytes own → Holds (inner .pairs) n at bytes own
-copied-holds store places inner n at bytes own c = rw (copied-pairs store places inner) at c
-
-pub none-modest : (store : Text) (places : List ℕ) → everyEnd modest (pairsIn store places 0) ≡ true
-unfolding pairsIn everyEnd
-none-modest store places = refl
+      lent-back (fromParts (pairsIn store own n) mark) r out out′ slots slots′ (w .0) (w .1 .0) (w .1 .1) ∙ ap (λ (l : List Pair). fromParts l mark) c
 
 -- `build`
 pub leaves-lent : (store : Text) (places : List ℕ) (f : MapFunction) → isPathIdentity (mapOf store places f) ≡ leavesPaths f
 unfolding leavesPaths
 leaves-lent store places f = identity-lent store places (f .count) (f .«has_root_identity»)
 
+-- one that leaves every path as it is carries every pair to itself
+abbrev mark-alone : Map
+mark-alone = record { pairs = []; mark = true }
+
+copied-pair : (s t : Text) → carried mark-alone (record { source = s; target = t }) ≡ record { source = s; target = t }
+unfolding carried plainOut chosenOut
+copied-pair s [] = refl
+copied-pair s (a ∷ t) = refl
+
+copied-list : (l : List Pair) → mapped (carried mark-alone) l ≡ l
+copied-list [] = refl
+copied-list (x ∷ l) = rw (copied-pair (x .source) (x .target), copied-list l) refl
+
+copied-pairs : (l : List Pair) (mark : Bool) (inner : Map) → isPathIdentity (record { pairs = l; mark = mark }) ≡ true
+    → composedPairs (record { pairs = l; mark = mark }) inner ≡ inner .pairs
+unfolding composedPairs pulled
+copied-pairs [] true inner e = copied-list (inner .pairs)
+copied-pairs [] false inner e = absurd (false≢true e)
+copied-pairs (x ∷ l) mark inner e = absurd (false≢true e)
+
+no-pairs : (l : List Pair) (mark : Bool) → (isEmpty l && mark) ≡ true → l ≡ []
+no-pairs [] mark e = refl
+no-pairs (x ∷ l) mark e = absurd (false≢true e)
+
 module _ (store : Text) (places : List ℕ) (outer : MapFunction) (istore : Text) (iplaces : List ℕ) (inner : MapFunction) (n at : ℕ) (bytes : Text) (own : List ℕ)
-    (b : Bool) (h : b ≡ leavesPaths outer) where
+    (b : Bool) (h : b ≡ leavesPaths inner) where
   abbrev o : Map
   o = mapOf store places outer
 
   abbrev i : Map
   i = mapOf istore iplaces inner
 
-  pub build-inner : b ≡ true → Holds (i .pairs) n at bytes own → Holds (composedFrom o i) n at bytes own
+  is-identity : isPathIdentity i ≡ b
+  is-identity = leaves-lent istore iplaces inner ∙ sym h
+
+  from-other : b ≡ true → composedFrom o i ≡ composedPairs i o
   unfolding composedFrom
-  build-inner k c = rw (leaves-lent store places outer, ← h, k) c
+  from-other k =
+      let e : isPathIdentity i ≡ true = is-identity ∙ k in
+      rw (e, copied-pairs (i .pairs) (i .mark) o e) (go (isPathIdentity o) refl e)
+    where
+      go : (c : Bool) → isPathIdentity o ≡ c → isPathIdentity i ≡ true → cond c (i .pairs) (o .pairs) ≡ o .pairs
+      go true f e = no-pairs (i .pairs) (i .mark) e ∙ sym (no-pairs (o .pairs) (o .mark) f)
+      go false f e = refl
 
-  module _ (k : b ≡ false) (d : Bool) (g : d ≡ leavesPaths inner) where
-    pub build-outer : d ≡ true → Holds (o .pairs) n at bytes own → Holds (composedFrom o i) n at bytes own
-    unfolding composedFrom
-    build-outer l c = rw (leaves-lent store places outer, ← h, k, leaves-lent istore iplaces inner, ← g, l) c
+  from-both : b ≡ false → composedFrom o i ≡ composedPairs o i
+  unfolding composedFrom
+  from-both k = rw (is-identity, k) (go (isPathIdentity o) refl)
+    where
+      go : (c : Bool) → isPathIdentity o ≡ c → cond c (i .pairs) (composedPairs o i) ≡ composedPairs o i
+      go true f = sym (copied-pairs (o .pairs) (o .mark) i f)
+      go false f = refl
 
-    pub build-both : d ≡ false → Holds (composedPairs o i) n at bytes own → Holds (composedFrom o i) n at bytes own
-    unfolding composedFrom
-    build-both l c = rw (leaves-lent store places outer, ← h, k, leaves-lent istore iplaces inner, ← g, l) c
+  pub build-other : b ≡ true → Holds (composedPairs i o) n at bytes own → Holds (composedFrom o i) n at bytes own
+  build-other k c = rw (from-other k) c
+
+  pub build-both : b ≡ false → Holds (composedPairs o i) n at bytes own → Holds (composedFrom o i) n at bytes own
+  build-both k c = rw (from-both k) c
 
 -- `either_leaves`
 pub leaves-first : (b a c : Bool) → b ≡ a → b ≡ true → true ≡ (a || c)

@@ -9,7 +9,7 @@ use Rattle.text.specs.Text.{Text}
 use Rattle.layer_offset.specs.declared.LayerOffset.{LayerOffset}
 use Rattle.layer_offset.specs.Offset.{identity}
 use Rattle.pairs.specs.Pair.{Pair, allShort}
-use Rattle.pairs.specs.Places.{pairsIn, endBytes}
+use Rattle.pairs.specs.Places.{endBytes}
 use Rattle.path.specs.declared.Refusal.the-variants.{TooMany, NoRoom, MadeTooLong}
 use Rattle.maps.specs.Map.{Map}
 use Rattle.maps.specs.New.{fromParts, null}
@@ -20,7 +20,7 @@ use Rattle.map_function.specs.declared.MapReply.{MapReply}
 use Rattle.map_function.specs.declared.MapReply.the-variants.{Made, Refused}
 use Rattle.map_function.specs.Read.{isPathIdentity as leavesPaths}
 use Rattle.map_function.specs.Made.{MapOutcome, map, refused, numbersOf}
-use Rattle.implying.specs.Implied.{exchangedPairs, composedFrom}
+use Rattle.implying.specs.Implied.{composedFrom}
 
 -- a list as a map, as it stands or by dropping
 unfoldable pub settled : Bool → List Pair → Bool → Map
@@ -36,10 +36,6 @@ composedOf outer inner l = settled (leavesPaths outer || leavesPaths inner) l (o
 abbrev pub madeOf : MapReply → MapFunction
 madeOf (Made f) = f
 madeOf (Refused x) = numbersOf null identity
-
--- the places of n pairs with their ends exchanged
-unfoldable pub Exchanged : List ℕ → List ℕ → ℕ → Type 0
-Exchanged places slots n = (store : Text) → pairsIn store slots n ≡ exchangedPairs (pairsIn store places n)
 
 -- the room for k pairs of b bytes beside the transfer's
 unfoldable pub roomBeside : List Pair → ℕ → ℕ → ℕ → ℕ → Bool

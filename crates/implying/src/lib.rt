@@ -15,28 +15,7 @@ ghost use Rattle.map_function.specs.Made.{map, mapReply, mapBytes, mapSlots, nu
 ghost use Rattle.scratch.specs.Scratch.{Holds};
 ghost use Rattle.building.specs.Build.{modest};
 ghost use Rattle.implying.specs.Implied.{composedFrom, implying, impliedTime, impliedClassCall};
-ghost use Rattle.implying.specs.Settle.{Exchanged, madeOf, settled, composedOf, roomBeside, finished};
-
-// Writes the places of the first n pairs with their ends exchanged.
-fn exchange_all(places: &[usize], n: usize, slots: &mut [usize])
-    requires { ⌜ 4 * n ≤ length (now places) ⌝ }
-    requires { ⌜ 4 * n ≤ length (now slots) ⌝ }
-    ensures { λ _. ⌜ Exchanged (now (places .entry)) (now (slots .exit)) n ⌝ }
-{
-    let mut i = 0;
-    while i < n {
-        let j = 4 * i;
-        listing::write_four(
-            i,
-            places[j + 2],
-            places[j + 3],
-            places[j],
-            places[j + 1],
-            slots,
-        );
-        i += 1;
-    }
-}
+ghost use Rattle.implying.specs.Settle.{madeOf, settled, composedOf, roomBeside, finished};
 
 // The map of a reply that refuses nothing.
 fn made_of(reply: map_function::MapReply) -> map_function::MapFunction
@@ -87,28 +66,12 @@ fn invert(
     ensures { λ r. ⌜ mapOf (now (out .exit)) (now (slots .exit)) r ≡ inverse (lentMap (now (store .entry)) (now (places .entry)) n mark) ⌝ }
 {
     let mut own = [0usize; 256];
-    exchange_all(places, n, &mut own);
+    altering::exchange(store, places, n, &mut own);
     settle(store, &own, n, false, mark, out, slots)
 }
 
-// The first n pairs as they stand, for a list that composing answers: the identity carries them to
-// themselves.
-fn copy_all(
-    store: &[u8],
-    places: &[usize],
-    n: usize,
-    bytes: &mut [u8],
-    own: &mut [usize],
-) -> building::Built
-    requires { ⌜ everyEnd modest (pairsIn (now store) (now places) n) ≡ true ⌝ }
-    requires { ⌜ 1534 * n ≤ length (now bytes) ⌝ }
-    requires { ⌜ 4 * n ≤ length (now own) ⌝ }
-    ensures { λ r. ⌜ Holds (pairsIn (now (store .entry)) (now (places .entry)) n) (r .n) (r .at) (now (bytes .exit)) (now (own .exit)) ⌝ }
-{
-    building::compose_into(store, places, 0, true, store, places, n, true, bytes, own)
-}
-
-// The list that composing two maps starts from.
+// The list that composing two maps starts from. Of a map and one that leaves every path as it is that is
+// the map's own list, as composing with the other first gives it.
 fn build(
     store: &[u8],
     places: &[usize],
@@ -125,21 +88,33 @@ fn build(
     requires { ⌜ 4 * (inner .count + outer .count) ≤ length (now own) ⌝ }
     ensures { λ r. ⌜ Holds (composedFrom (mapOf (now (store .entry)) (now (places .entry)) outer) (mapOf (now (istore .entry)) (now (iplaces .entry)) inner)) (r .n) (r .at) (now (bytes .exit)) (now (own .exit)) ⌝ }
 {
-    if outer.path_is_identity() {
-        return copy_all(istore, iplaces, inner.count, bytes, own);
-    }
+    let n = outer.count;
+    let mark = outer.has_root_identity;
+    let k = inner.count;
+    let imark = inner.has_root_identity;
     if inner.path_is_identity() {
-        return copy_all(store, places, outer.count, bytes, own);
+        return building::compose_into(
+            istore,
+            iplaces,
+            k,
+            imark,
+            store,
+            places,
+            n,
+            mark,
+            bytes,
+            own,
+        );
     }
     building::compose_into(
         store,
         places,
-        outer.count,
-        outer.has_root_identity,
+        n,
+        mark,
         istore,
         iplaces,
-        inner.count,
-        inner.has_root_identity,
+        k,
+        imark,
         bytes,
         own,
     )

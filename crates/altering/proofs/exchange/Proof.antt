@@ -17,6 +17,12 @@ Inv-loop store places n other₀ i₀ other i = (i ≤ n) × (pairsIn store othe
 abbrev μ-loop : tie.MeasureT-loop
 μ-loop store places n other₀ i₀ other i = n - i
 
+returns : tie.Need-returns Inv-loop μ-loop
+returns c = λ h g. absurd (omega (arith, h))
+
+returns-2 : tie.Need-returns-2 Inv-loop μ-loop
+returns-2 c = λ h g. absurd (omega (arith, g))
+
 loop-holds : tie.Need-loop-holds Inv-loop μ-loop
 loop-holds c = (search needs, exchange-none _ _ _, refl)
 
@@ -30,7 +36,7 @@ mul-write-four : tie.Need-mul-write-four Inv-loop μ-loop
 mul-write-four c = search needs
 
 shared-slice-read-write-four : tie.Need-shared-slice-read-write-four Inv-loop μ-loop
-shared-slice-read-write-four c = omega (arith, c .before .loop-test .taken, c .before .before .before .before .before .before .pre .0)
+shared-slice-read-write-four c = search needs
 
 add-write-four-2 : tie.Need-add-write-four-2 Inv-loop μ-loop
 add-write-four-2 c = search needs
@@ -39,13 +45,13 @@ mul-write-four-2 : tie.Need-mul-write-four-2 Inv-loop μ-loop
 mul-write-four-2 c = search needs
 
 shared-slice-read-write-four-2 : tie.Need-shared-slice-read-write-four-2 Inv-loop μ-loop
-shared-slice-read-write-four-2 c = omega (arith, c .before .before .loop-test .taken, c .before .before .before .before .before .before .before .pre .0)
+shared-slice-read-write-four-2 c = search needs
 
 mul-write-four-3 : tie.Need-mul-write-four-3 Inv-loop μ-loop
 mul-write-four-3 c = search needs
 
 shared-slice-read-write-four-3 : tie.Need-shared-slice-read-write-four-3 Inv-loop μ-loop
-shared-slice-read-write-four-3 c = omega (arith, c .before .before .before .loop-test .taken, c .before .before .before .before .before .before .before .before .pre .0)
+shared-slice-read-write-four-3 c = search needs
 
 add-write-four-3 : tie.Need-add-write-four-3 Inv-loop μ-loop
 add-write-four-3 c = search needs
@@ -54,7 +60,7 @@ mul-write-four-4 : tie.Need-mul-write-four-4 Inv-loop μ-loop
 mul-write-four-4 c = search needs
 
 shared-slice-read-write-four-4 : tie.Need-shared-slice-read-write-four-4 Inv-loop μ-loop
-shared-slice-read-write-four-4 c = omega (arith, c .before .before .before .before .loop-test .taken, c .before .before .before .before .before .before .before .before .before .pre .0)
+shared-slice-read-write-four-4 c = search needs
 
 write-four-requires : tie.Need-write-four-requires Inv-loop μ-loop
 write-four-requires c κs = search needs
@@ -66,13 +72,13 @@ loop-less : tie.Need-loop-less Inv-loop μ-loop
 loop-less c = search needs
 
 loop-again : tie.Need-loop-again Inv-loop μ-loop
-loop-again c = (search needs, exchange-on _ _ _ _ _ (omega (arith, c .before .before .before .before .before .before .before .before .loop-test .taken, c .before .before .before .before .before .before .before .before .before .before .before .before .before .pre .1, c .before .before .before .before .before .before .before .before .before .loop .inv .2)) (c .before .before .write-four .ensures) (c .before .before .before .before .before .before .before .before .before .loop .inv .1), search needs)
+loop-again c = (search needs, exchange-on _ _ _ _ _ (omega (arith, c .before .before .before .before .before .before .before .before .loop-test .taken, c .before .before .before .before .before .before .before .before .before .before .if2 .left, c .before .before .before .before .before .before .before .before .before .loop .inv .2)) (c .before .before .write-four .ensures) (c .before .before .before .before .before .before .before .before .before .loop .inv .1), search needs)
 
 same-length : tie.Need-same-length Inv-loop μ-loop
 same-length c = search needs
 
-returns : tie.Need-returns Inv-loop μ-loop
-returns c = exchange-end _ _ _ _ _ (c .loop-test .left) (c .before .loop .inv .0) (c .before .loop .inv .1)
+returns-3 : tie.Need-returns-3 Inv-loop μ-loop
+returns-3 c = λ h g. exchange-end _ _ _ _ _ (c .loop-test .left) (c .before .loop .inv .0) (c .before .loop .inv .1)
 
 pub exchange-spec : {M : Type 1} → statement M
 exchange-spec =
@@ -80,6 +86,8 @@ exchange-spec =
     (tie.spec
     Inv-loop
     μ-loop
+    returns
+    returns-2
     loop-holds
     mul-j
     add-write-four
@@ -98,4 +106,4 @@ exchange-spec =
     loop-less
     loop-again
     same-length
-    returns)
+    returns-3)

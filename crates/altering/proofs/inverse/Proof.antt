@@ -25,7 +25,7 @@ slice-aggregate-exchange : tie.Need-slice-aggregate-exchange
 slice-aggregate-exchange c = search needs
 
 exchange-requires : tie.Need-exchange-requires
-exchange-requires c κs = (omega (arith, (first-sound _ _ _ _ (sym (c .before .before .before .ask-pairs .ensures) ∙ c .before .enum-told .given .1)) .held), omega (arith, (first-sound _ _ _ _ (sym (c .before .before .before .ask-pairs .ensures) ∙ c .before .enum-told .given .1)) .few))
+exchange-requires c κs = search needs
 
 slice-aggregate-from-parts : tie.Need-slice-aggregate-from-parts
 slice-aggregate-from-parts c = search needs
@@ -41,7 +41,7 @@ same-length-2 c = search needs
 
 returns-2 : tie.Need-returns-2
 unfolding ofBits
-returns-2 c = making-map _ _ (inverse-opened _ _ _ _ _ ∙ made-passed _ _ _ _ _ _ _ (c .before .before .before .before .before .before .before .before .before .before .before .before .before .ask-pairs .ensures) (c .before .before .before .before .before .before .before .before .before .before .before .enum-told .given .1) ∙ own-parts _ _ _ _ _ _ _ _ (c .before .before .before .before .before .before .before .before .before .exchange .ensures) (omega (arith, (first-sound _ _ _ _ (sym (c .before .before .before .before .before .before .before .before .before .before .before .before .before .ask-pairs .ensures) ∙ c .before .before .before .before .before .before .before .before .before .before .before .enum-told .given .1)) .few))) _ _ _ _ _ (c .before .before .before .before .from-parts .ensures)
+returns-2 c = making-map _ _ (inverse-opened _ _ _ _ _ ∙ made-passed _ _ _ _ _ _ _ (c .before .before .before .before .before .before .before .before .before .before .before .before .before .ask-pairs .ensures) (c .before .before .before .before .before .before .before .before .before .before .before .enum-told .given .1) ∙ own-parts _ _ _ _ _ _ _ _ (c .before .before .before .before .before .before .before .before .before .exchange .ensures (omega (arith, (first-sound _ _ _ _ (sym (c .before .before .before .before .before .before .before .before .before .before .before .before .before .ask-pairs .ensures) ∙ c .before .before .before .before .before .before .before .before .before .before .before .enum-told .given .1)) .held)) (omega (arith, (first-sound _ _ _ _ (sym (c .before .before .before .before .before .before .before .before .before .before .before .before .before .ask-pairs .ensures) ∙ c .before .before .before .before .before .before .before .before .before .before .before .enum-told .given .1)) .few))) (omega (arith, (first-sound _ _ _ _ (sym (c .before .before .before .before .before .before .before .before .before .before .before .before .before .ask-pairs .ensures) ∙ c .before .before .before .before .before .before .before .before .before .before .before .enum-told .given .1)) .few))) _ _ _ _ _ (c .before .before .before .before .from-parts .ensures)
 
 pub inverse-spec : {M : Type 1} → statement M
 inverse-spec =

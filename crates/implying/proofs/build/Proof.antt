@@ -1,5 +1,6 @@
+use native.Mathlib.Omega.{arith}
 use Rattle.building.proofs.EnoughWays.{enough-yes}
-use Rattle.implying.proofs.ImpliedWays.{build-inner, build-outer, build-both}
+use Rattle.implying.proofs.ImpliedWays.{build-other, build-both}
 use borrow.Author.Needs.{needs}
 use Rattle.implying.proofs.build.Statement.{statement}
 use Rattle.implying.proofs.build.Tie as tie
@@ -7,8 +8,8 @@ use Rattle.implying.proofs.build.Tie as tie
 path-is-identity-requires : tie.Need-path-is-identity-requires
 path-is-identity-requires c κs = search needs
 
-copy-all-requires : tie.Need-copy-all-requires
-copy-all-requires c κs = search needs
+compose-into-requires : tie.Need-compose-into-requires
+compose-into-requires c κs = search needs
 
 same-length : tie.Need-same-length
 same-length c = search needs
@@ -17,13 +18,10 @@ same-length-2 : tie.Need-same-length-2
 same-length-2 c = search needs
 
 returns : tie.Need-returns
-returns c = search (needs, build-inner, build-outer, build-both)
+returns c = build-other (c .before .before .before .before .before .before .before .before .before .before .before .before .before .before .before .args .store .now) (c .before .before .before .before .before .before .before .before .before .before .before .before .before .before .before .args .places .now) (c .before .before .before .before .before .before .before .before .before .before .before .before .before .before .before .args .outer) (c .before .before .before .before .before .before .before .before .before .before .before .before .before .before .before .args .istore .now) (c .before .before .before .before .before .before .before .before .before .before .before .before .before .before .before .args .iplaces .now) (c .before .before .before .before .before .before .before .before .before .before .before .before .before .before .before .args .inner) _ _ _ _ _ (c .before .before .before .before .before .before .before .before .path-is-identity .ensures) (c .before .before .before .before .before .before .before .if1 .taken) (c .before .before .before .before .compose-into .ensures (enough-yes (c .before .before .before .before .before .before .before .before .before .before .before .before .before .before .before .args .istore .now) (c .before .before .before .before .before .before .before .before .before .before .before .before .before .before .before .args .iplaces .now) (c .before .before .before .before .before .before .before .before .before .before .before .before .before .before .before .args .inner .count) (c .before .before .before .before .before .before .before .before .before .before .before .before .before .before .before .args .store .now) (c .before .before .before .before .before .before .before .before .before .before .before .before .before .before .before .args .places .now) (c .before .before .before .before .before .before .before .before .before .before .before .before .before .before .before .args .outer .count) _ _ (c .before .before .before .before .before .before .before .before .before .before .before .before .before .before .before .pre .1 .0) (c .before .before .before .before .before .before .before .before .before .before .before .before .before .before .before .pre .0) (omega (arith, c .before .before .before .before .before .before .before .before .before .before .before .before .before .before .before .pre .1 .1 .0)) (omega (arith, c .before .before .before .before .before .before .before .before .before .before .before .before .before .before .before .pre .1 .1 .1))))
 
-path-is-identity-requires-2 : tie.Need-path-is-identity-requires-2
-path-is-identity-requires-2 c κs = search needs
-
-copy-all-requires-2 : tie.Need-copy-all-requires-2
-copy-all-requires-2 c κs = search needs
+compose-into-requires-2 : tie.Need-compose-into-requires-2
+compose-into-requires-2 c κs = search needs
 
 same-length-3 : tie.Need-same-length-3
 same-length-3 c = search needs
@@ -32,35 +30,18 @@ same-length-4 : tie.Need-same-length-4
 same-length-4 c = search needs
 
 returns-2 : tie.Need-returns-2
-returns-2 c = search (needs, build-inner, build-outer, build-both)
-
-compose-into-requires : tie.Need-compose-into-requires
-compose-into-requires c κs = search needs
-
-same-length-5 : tie.Need-same-length-5
-same-length-5 c = search needs
-
-same-length-6 : tie.Need-same-length-6
-same-length-6 c = search needs
-
-returns-3 : tie.Need-returns-3
-returns-3 c = build-both (c .before .before .before .before .before .before .before .before .before .before .before .before .before .before .before .before .before .args .store .now) (c .before .before .before .before .before .before .before .before .before .before .before .before .before .before .before .before .before .args .places .now) (c .before .before .before .before .before .before .before .before .before .before .before .before .before .before .before .before .before .args .outer) (c .before .before .before .before .before .before .before .before .before .before .before .before .before .before .before .before .before .args .istore .now) (c .before .before .before .before .before .before .before .before .before .before .before .before .before .before .before .before .before .args .iplaces .now) (c .before .before .before .before .before .before .before .before .before .before .before .before .before .before .before .before .before .args .inner) _ _ _ _ _ (c .before .before .before .before .before .before .before .before .before .before .path-is-identity .ensures) (c .before .before .before .before .before .before .before .before .before .if1 .left) _ (c .before .before .before .before .before .before .before .before .path-is-identity2 .ensures) (c .before .before .before .before .before .before .before .if2 .left) (c .before .before .before .before .compose-into .ensures (enough-yes (c .before .before .before .before .before .before .before .before .before .before .before .before .before .before .before .before .before .args .store .now) (c .before .before .before .before .before .before .before .before .before .before .before .before .before .before .before .before .before .args .places .now) (c .before .before .before .before .before .before .before .before .before .before .before .before .before .before .before .before .before .args .outer .count) (c .before .before .before .before .before .before .before .before .before .before .before .before .before .before .before .before .before .args .istore .now) (c .before .before .before .before .before .before .before .before .before .before .before .before .before .before .before .before .before .args .iplaces .now) (c .before .before .before .before .before .before .before .before .before .before .before .before .before .before .before .before .before .args .inner .count) _ _ (c .before .before .before .before .before .before .before .before .before .before .before .before .before .before .before .before .before .pre .0) (c .before .before .before .before .before .before .before .before .before .before .before .before .before .before .before .before .before .pre .1 .0) (c .before .before .before .before .before .before .before .before .before .before .before .before .before .before .before .before .before .pre .1 .1 .0) (c .before .before .before .before .before .before .before .before .before .before .before .before .before .before .before .before .before .pre .1 .1 .1)))
+returns-2 c = build-both (c .before .before .before .before .before .before .before .before .before .before .before .before .before .before .before .args .store .now) (c .before .before .before .before .before .before .before .before .before .before .before .before .before .before .before .args .places .now) (c .before .before .before .before .before .before .before .before .before .before .before .before .before .before .before .args .outer) (c .before .before .before .before .before .before .before .before .before .before .before .before .before .before .before .args .istore .now) (c .before .before .before .before .before .before .before .before .before .before .before .before .before .before .before .args .iplaces .now) (c .before .before .before .before .before .before .before .before .before .before .before .before .before .before .before .args .inner) _ _ _ _ _ (c .before .before .before .before .before .before .before .before .path-is-identity .ensures) (c .before .before .before .before .before .before .before .if1 .left) (c .before .before .before .before .compose-into2 .ensures (enough-yes (c .before .before .before .before .before .before .before .before .before .before .before .before .before .before .before .args .store .now) (c .before .before .before .before .before .before .before .before .before .before .before .before .before .before .before .args .places .now) (c .before .before .before .before .before .before .before .before .before .before .before .before .before .before .before .args .outer .count) (c .before .before .before .before .before .before .before .before .before .before .before .before .before .before .before .args .istore .now) (c .before .before .before .before .before .before .before .before .before .before .before .before .before .before .before .args .iplaces .now) (c .before .before .before .before .before .before .before .before .before .before .before .before .before .before .before .args .inner .count) _ _ (c .before .before .before .before .before .before .before .before .before .before .before .before .before .before .before .pre .0) (c .before .before .before .before .before .before .before .before .before .before .before .before .before .before .before .pre .1 .0) (c .before .before .before .before .before .before .before .before .before .before .before .before .before .before .before .pre .1 .1 .0) (c .before .before .before .before .before .before .before .before .before .before .before .before .before .before .before .pre .1 .1 .1)))
 
 pub build-spec : {M : Type 1} → statement M
 build-spec =
     tie.close
     (tie.spec
     path-is-identity-requires
-    copy-all-requires
+    compose-into-requires
     same-length
     same-length-2
     returns
-    path-is-identity-requires-2
-    copy-all-requires-2
+    compose-into-requires-2
     same-length-3
     same-length-4
-    returns-2
-    compose-into-requires
-    same-length-5
-    same-length-6
-    returns-3)
+    returns-2)
