@@ -78,13 +78,6 @@ pub shift-asked : (l : Lent) (p : Text) (room : ℕ) → shiftCall l p room ≡ 
 unfolding shiftCall
 shift-asked l p room = refl
 
--- `skipped_text`
-pub skip-all : (skips : Bool) (k : Text) → skips ≡ true → k ≡ cond skips k []
-skip-all skips k h = rw h
-
-pub skip-none : (skips : Bool) (k : Text) → skips ≡ false → [] ≡ cond skips k []
-skip-none skips k h = rw h
-
 -- `chain_out`
 module _ (d : Chained) (r : Chain) (mem : Text) (e : chainedIn r mem ≡ d) (v : within r 255) (h : length mem ≡ 255) where
   pub out-stopped : (x : Refusal) → r ≡ RefusedChain x → (out : Text) → (RefusedChain x ≡ chainReply d) × (out ≡ chainMemory d out)
