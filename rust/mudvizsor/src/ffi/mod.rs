@@ -6,8 +6,8 @@
 //! trusts nothing that it is lent: a place outside its bytes, an illegal text or a count beyond its slice is refused. A
 //! refused call writes nothing.
 //!
-//! Nothing checks the declarations against the library's source; the comparison with the original calls every one of
-//! them but that of [`frames`], which the tests of the crate call.
+//! A test of the crate holds the declarations against the library's source, and the comparison with the original calls
+//! every one of them.
 //!
 //! ```
 //! use mudvizsor::ffi::{Reply, paths};
