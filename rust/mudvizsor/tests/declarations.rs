@@ -22,7 +22,8 @@ fn the_binding_declares_every_entry_as_the_source_has_it() {
 /// The texts of the files of a folder with this ending, but for the macro's own, one behind the other, without comments.
 fn sources(folder: &Path, ending: &str) -> String {
     let files = fs::read_dir(folder).expect("a folder of sources").map(|file| file.expect("a file").path());
-    let mut files: Vec<_> = files.filter(|file| file.extension().is_some_and(|found| found == ending)).collect();
+    let mut files: Vec<_> =
+        files.filter(|file| file.extension().is_some_and(|found| found == ending)).collect();
     files.retain(|file| !file.ends_with("entry.rs"));
     files.sort();
     let texts = files.iter().map(|file| fs::read_to_string(file).expect("a source"));
@@ -38,7 +39,9 @@ fn in_source(text: &str) -> Declarations {
 /// The entries that the binding declares under a name of its own.
 fn by_name(text: &str) -> Declarations {
     let entries = text.split("#[link_name = \"").skip(1);
-    entries.map(|rest| declaration(rest.split('"').next().expect("a name"), after(rest, "pub safe fn "))).collect()
+    entries
+        .map(|rest| declaration(rest.split('"').next().expect("a name"), after(rest, "pub safe fn ")))
+        .collect()
 }
 
 /// The entries that the binding declares by its macro.

@@ -1,0 +1,106 @@
+//! What the original does at the places of docs/DIFFERENCES.md, each at the smallest input that the page names.
+
+use original::pcp::MapFunction;
+use original::pcp::relocates::statuses;
+use original::sdf::{LayerOffset, Path};
+
+/// The path of a text; the empty one is made without asking.
+fn path(text: &str) -> Path {
+    if text.is_empty() { Path::default() } else { Path::new(text).expect("a path") }
+}
+
+fn pairs<const N: usize>(pairs: [(&str, &str); N]) -> Vec<(Path, Path)> {
+    pairs.into_iter().map(|(source, target)| (path(source), path(target))).collect()
+}
+
+fn text(found: Option<Path>) -> Option<String> {
+    found.map(|found| found.as_str().to_owned())
+}
+
+fn some(text: &str) -> Option<String> {
+    Some(text.to_owned())
+}
+
+#[test]
+fn paths() {
+    assert!(path("/").has_prefix(&path("")));
+    assert_eq!(text(path("/A").replace_prefix(&path("/B"), &path("/C"))), None);
+    assert_eq!((text(path("/").parent()), text(path("").parent())), (None, None));
+    assert_eq!(path("/A{v=p}.b").prim_path().as_str(), "/A{v=p}");
+    assert_eq!(path("/A.b").element_count(), 1);
+    assert!(Path::new("").is_err());
+    assert!(Path::new("/é").is_ok());
+    assert_eq!(path("/A{v=p}B").strip_variant_selections().as_str(), "/A/B");
+}
+
+#[test]
+fn texts_beyond_the_grammar() {
+    for legal_there in ["/A{v=}", "/A.b.c", "A"] {
+        assert!(Path::new(legal_there).is_ok(), "{legal_there}");
+    }
+}
+
+#[test]
+fn illegal_results_are_handed_out() {
+    assert_eq!(text(path("/A.b").replace_prefix(&path("/A"), &path("/"))), some("/.b"));
+    let below = path("/B").replace_prefix(&path("/"), &path("/C{v=p}"));
+    assert!(text(below).is_some());
+    let rebased = MapFunction::from_pair(path("/A"), path("/")).rebased_target(&path(""), &path("/X"));
+    assert_eq!(rebased.path_pairs()[0].1.as_str(), "/X/");
+}
+
+#[test]
+fn maps() {
+    let marked = MapFunction::with_exactly(pairs([("/A", "/X")]), true);
+    assert_eq!(text(marked.map_source_to_target(&path("/X/y"))), some("/X/y"));
+    assert_eq!(text(marked.translate_to_target(&path("/X/y"))), None);
+    let one = MapFunction::from_pair(path("/A"), path("/X"));
+    assert_eq!(text(one.map_source_to_target(&path("/B"))), None);
+    let twice = MapFunction::new(pairs([("/A", "/X"), ("/A", "/Y")]));
+    assert_eq!(text(twice.map_source_to_target(&path("/A/c"))), some("/Y/c"));
+}
+
+#[test]
+fn a_pair_is_dropped_by_its_text() {
+    let map = MapFunction::new(pairs([("/A", ""), ("/A/B", "/B")]));
+    assert_eq!(map.path_pairs().len(), 1);
+    assert_eq!(text(map.map_source_to_target(&path("/A/B"))), None);
+}
+
+#[test]
+fn composing_is_not_one_after_the_other() {
+    let inner = MapFunction::new(pairs([("/A", "/X"), ("/A/B", "/Y")]));
+    let outer = MapFunction::new(pairs([("/X/B/C", "/Z"), ("/Y", "/W")]));
+    assert_eq!(text(outer.compose(&inner).map_source_to_target(&path("/A/B/C"))), some("/Z"));
+    let there = inner.map_source_to_target(&path("/A/B/C")).expect("a path");
+    assert_eq!(text(outer.map_source_to_target(&there)), some("/W/C"));
+}
+
+#[test]
+fn an_inverse_has_no_time_offset() {
+    let map = MapFunction::from_pair(path("/A"), path("/X")).with_time_offset(LayerOffset::new(1.0, 1.0));
+    let time = map.inverse().time_offset();
+    assert_eq!((time.offset, time.scale), (0.0, 1.0));
+}
+
+#[test]
+fn offsets() {
+    let inverse = |offset, scale| {
+        let inverse = LayerOffset::new(offset, scale).inverse();
+        (inverse.offset.to_bits(), inverse.scale.to_bits())
+    };
+    let bits = |offset: f64, scale: f64| (offset.to_bits(), scale.to_bits());
+    assert_eq!(inverse(0.0, 0.0), bits(0.0, 1.0));
+    assert_eq!(inverse(5.0, 3.0), bits(-1.6666666666666667, 1.0 / 3.0));
+    assert_ne!(-5.0 * (1.0 / 3.0), -1.6666666666666667);
+    assert_eq!(inverse(0.0, 1.0), bits(-0.0, 1.0));
+    assert!(!LayerOffset::new(1e-7, 1.0).is_identity());
+}
+
+#[test]
+fn relocates() {
+    assert_eq!(statuses(&pairs([("/R", "")])), [0]);
+    assert_eq!(statuses(&pairs([("/R", "/S")])), [1]);
+    assert_eq!(statuses(&pairs([("/", "")])), [0]);
+    assert_eq!(statuses(&pairs([("/", ""), ("/R/a", "/R/b")])), [0, 3]);
+}
