@@ -1,6 +1,6 @@
 -- What each way through the functions that ask gives. Assumes nothing.
 use mathlib.Core.Path.{_≡_, refl, sym, _∙_}
-use mathlib.Core.Bool.{Bool, true, false, not, cond, _&&_, _||_}
+use mathlib.Core.Bool.{Bool, true, false, not, _&&_, _||_}
 use mathlib.Core.List.{List, [], _∷_}
 use Prim.Native.Nat.{ℕ, zero, suc, _*_, _/_, _≤_, _<_}
 use native.Mathlib.Omega.{arith}
@@ -8,7 +8,7 @@ use lib.Dec.{leb}
 use lib.ListN.{length}
 use borrow.Author.Tests.{le-leb, lt-leb}
 use Rattle.text.specs.Text.{Text}
-use Rattle.text.proofs.BoolLaws.{and-l, and-r, and-no, and-yes, told-false, told-true, not-true, not-false}
+use Rattle.text.proofs.BoolLaws.{and-l, and-r, and-yes, told-false, told-true, not-true, not-false}
 use Rattle.grammar.specs.Legal.{legal, fits, isEnd}
 use Rattle.grammar.proofs.LegalLaws.{end-legal}
 use Rattle.pairs.specs.Places.{textAt, placesFit, placesAll}

@@ -1,7 +1,7 @@
 // Document 01's questions 1 to 4. Each is put to the whole call; the first "no" counts. An empty text
 // passes them all, so it stands for a text that a call does not have.
 ghost use mathlib.Core.Path.{_≡_};
-ghost use mathlib.Core.Bool.{Bool, true, not, _&&_, _||_};
+ghost use mathlib.Core.Bool.{true, not, _&&_, _||_};
 ghost use mathlib.Core.List.{[], _∷_};
 ghost use Rattle.grammar.specs.Legal.{legal, fits, isEnd};
 ghost use Rattle.asking.specs.Asking.{lentList, present, listFits, listAll, listCounts, every, firstNo, asked, earlierOf};

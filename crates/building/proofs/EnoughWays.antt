@@ -5,10 +5,9 @@ use mathlib.Core.List.{List}
 use Prim.Native.Nat.{ℕ, _+_, _*_, _-_, _/_, _≤_, _<_}
 use native.Mathlib.Omega.{arith}
 use lib.Dec.{leb}
-use lib.ListN.{length}
 use borrow.Author.Tests.{le-leb, lt-leb, leb-true, leb-false}
 use Rattle.text.specs.Text.{Text}
-use Rattle.text.proofs.BoolLaws.{and-l, and-r, and-no, told-true, told-false}
+use Rattle.text.proofs.BoolLaws.{and-l, and-r, told-true, told-false}
 use Rattle.pairs.specs.Pair.{Pair, everyEnd}
 use Rattle.pairs.specs.Places.{pairsIn}
 use Rattle.pairs.proofs.PlaceLaws.{pairsIn-length}

@@ -1,19 +1,18 @@
 -- How long a composed end can be: two ends and a slash. Assumes nothing.
-use mathlib.Core.Path.{_≡_, refl, sym, ap, _∙_}
+use mathlib.Core.Path.{_≡_, refl}
 use mathlib.Core.Bool.{Bool, true, false, cond, _&&_}
 use mathlib.Core.List.{List, [], _∷_, _++_}
 use mathlib.Core.Option.{Option, none, some, Option·getD}
-use Prim.Native.Nat.{ℕ, zero, suc, _+_, _*_, _≤_, _<_}
-use lib.Dec.{leb}
+use Prim.Native.Nat.{ℕ, _+_, _*_, _≤_, _<_}
 use native.Mathlib.Omega.{arith}
-use lib.ListN.{length, length-append}
+use lib.ListN.{length}
 use borrow.Author.Tests.{leb-true, le-leb}
 use Rattle.text.specs.Text.{Text, isNil, after}
 use Rattle.text.proofs.BoolLaws.{and-l, and-r}
 use Rattle.text.proofs.TextLaws.{after-up}
 use Rattle.grammar.specs.Legal.{fits}
 use Rattle.prefix.specs.Prefix.{follows}
-use Rattle.joining.specs.Join.{joined, joinedSome, replacePrefix}
+use Rattle.joining.specs.Join.{joined, replacePrefix}
 use Rattle.pairs.specs.Pair.{Pair, everyEnd, allShort}
 use Rattle.pairs.specs.Places.{keyAt, pairsIn, endBytes}
 use Rattle.maps.specs.Compose.{composedPairs}

@@ -1,8 +1,8 @@
 -- What each way through `join_at`, `keep_at`, `map_at` and `carried_at` gives. Assumes nothing.
 use mathlib.Core.Path.{_≡_, refl, sym, ap, _∙_}
 use mathlib.Core.Logic.{_≢_}
-use mathlib.Core.Bool.{Bool, true, false, not, cond, _&&_}
-use mathlib.Core.List.{List, [], _∷_, _++_, append-nil}
+use mathlib.Core.Bool.{Bool, true, false, not, cond}
+use mathlib.Core.List.{List, [], _++_, append-nil}
 use mathlib.Core.Option.{Option, none, some, Option·getD}
 use Prim.Native.Nat.{ℕ, _+_, _-_, _≤_, _<_}
 use native.Mathlib.Omega.{arith}
@@ -11,10 +11,10 @@ use lib.ListN.{length, take, drop, length-drop, drop-of-length-le, take-append-d
 use lib.Seq.{drop-drop}
 use borrow.Author.Tests.{le-leb}
 use borrow.Rule.Slice.PartMut.{putMid}
-use Rattle.text.specs.Text.{Text, isNil, written, placed, fitted}
+use Rattle.text.specs.Text.{Text, isNil, placed, fitted}
 use Rattle.text.specs.declared.Fit.{Fit}
 use Rattle.text.specs.declared.Fit.the-variants.{Written, Over}
-use Rattle.text.proofs.BoolLaws.{and-l, and-r, not-true, not-false}
+use Rattle.text.proofs.BoolLaws.{and-r, not-true, not-false}
 use Rattle.text.proofs.WriteLaws.{placed-first, rest-whole, fit-length, fit-over}
 use Rattle.prefix.specs.Prefix.{hasPrefix}
 use Rattle.joining.specs.Join.{joined, replacePrefix}
@@ -24,7 +24,7 @@ use Rattle.pairs.specs.Best.{best, serves}
 use Rattle.serving.specs.Search.{chosenIn}
 use Rattle.pairs.proofs.PlaceLaws.{chosen-best}
 use Rattle.serving.specs.declared.Found.{Found}
-use Rattle.maps.specs.Map.{Map, source, target, by, plainOut, plainHome, lentMap}
+use Rattle.maps.specs.Map.{Map, plainOut, plainHome, lentMap}
 use Rattle.maps.proofs.LentLaws.{out-keys, home-keys, ends-by}
 use Rattle.text.proofs.TextLaws.{nil-length, nil-not}
 use Rattle.building.specs.declared.Image.{Image}

@@ -1,17 +1,17 @@
 -- What each way through `pull_pair` gives. Assumes nothing.
 use mathlib.Core.Path.{_≡_, refl, sym, ap, _∙_}
-use mathlib.Core.Bool.{Bool, true, false, cond}
+use mathlib.Core.Bool.{Bool, true, false}
 use mathlib.Core.List.{List, [], _∷_, _++_}
 use mathlib.Core.Option.{Option, none, some}
 use Prim.Native.Nat.{ℕ, _+_, _*_, _-_, _≤_}
 use native.Mathlib.Omega.{arith}
 use lib.ListN.{length, take, drop, length-append, length-drop, length-take}
-use lib.Seq.{take-append-seam, drop-append-add, drop-append-seam, drop-at, take-at}
+use lib.Seq.{take-append-seam, drop-append-add, drop-append-seam}
 use borrow.Author.Tests.{le-leb}
-use Rattle.text.specs.Text.{Text, over, placed}
+use Rattle.text.specs.Text.{Text, placed}
 use Rattle.text.proofs.BoolLaws.{told}
 use Rattle.pairs.specs.Pair.{Pair}
-use Rattle.pairs.specs.Places.{pairsIn, fourOf, listText, listPlaces, endBytes}
+use Rattle.pairs.specs.Places.{pairsIn, listText}
 use Rattle.pairs.proofs.ListLaws.{list-length}
 use Rattle.maps.specs.Compose.{hasSource, added}
 use Rattle.building.specs.declared.Image.{Image}

@@ -1,5 +1,4 @@
 -- What is put into memory when the composed list is built there, and how much of it is needed.
-use mathlib.Core.Path.{_≡_}
 use mathlib.Core.Bool.{Bool, true, false, cond, _&&_}
 use mathlib.Core.List.{List, []}
 use mathlib.Core.Option.{Option, none, some}

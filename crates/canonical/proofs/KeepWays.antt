@@ -1,7 +1,7 @@
 -- What each way through the functions that choose which pairs are kept gives. Assumes nothing.
 use mathlib.Core.Path.{_≡_, refl, sym, ap, _∙_}
 use mathlib.Core.Logic.{_≢_}
-use mathlib.Core.Bool.{Bool, true, false, not, cond, _&&_, _||_}
+use mathlib.Core.Bool.{Bool, true, false, not, cond, _||_}
 use mathlib.Core.List.{List, [], _∷_, _++_}
 use mathlib.Core.Option.{Option, none, some}
 use Prim.Native.Nat.{ℕ, zero, suc, _+_, _*_, _-_, _/_, _≤_, _<_}
@@ -29,7 +29,7 @@ use Rattle.listing.proofs.WriteWays.{source-key, target-key}
 use Rattle.listing.proofs.CopyLaws.{copied-over, pushed}
 use Rattle.asking.specs.Asking.{lentList, listCounts}
 use Rattle.asking.specs.Made.{canMake, madeOf}
-use Rattle.maps.specs.Map.{Map, lentMap, source, target, chosenOut}
+use Rattle.maps.specs.Map.{Map, lentMap, source, target}
 use Rattle.maps.specs.New.{isRoots, anyRoots, noRoots, viaPair, via, isText, implied, keep, canonical, fromParts}
 use Rattle.maps.proofs.LentLaws.{serves-prefix, served-long, out-keys, ends-by}
 use Rattle.canonical.specs.Level.{layer, Keyed, Topped}

@@ -1,18 +1,18 @@
 -- Level after level is the stable sort by source elements, and dropping goes on from where it stands. Assumes nothing.
 use mathlib.Core.Path.{_≡_, refl, sym, ap, _∙_}
-use mathlib.Core.Bool.{Bool, true, false, cond, _&&_, _||_}
-use mathlib.Core.List.{List, [], _∷_, _++_, append-assoc, append-nil}
+use mathlib.Core.Bool.{Bool, true, false, cond, _&&_}
+use mathlib.Core.List.{List, [], _∷_, _++_, append-assoc}
 use Prim.Native.Nat.{ℕ, zero, suc, _+_, _≤_, _<_}
 use native.Mathlib.Omega.{arith}
 use native.Mathlib.Decide.{ℕ-discrete}
 use lib.Dec.{eqb, leb}
 use lib.ListN.{length, length-append}
-use borrow.Author.Tests.{eqb-true, eqb-false, eq-eqb, ne-eqb, le-leb, lt-leb}
+use borrow.Author.Tests.{eq-eqb, ne-eqb, le-leb, lt-leb}
 use Rattle.text.specs.Text.{equal}
 use Rattle.prefix.specs.Elements.{elements}
 use Rattle.pairs.specs.Pair.{Pair}
-use Rattle.maps.specs.Map.{Map, chosenOut}
-use Rattle.maps.specs.New.{insert, sorted, via, isText, implied, keep, canonical, isRoots, noRoots}
+use Rattle.maps.specs.Map.{chosenOut}
+use Rattle.maps.specs.New.{insert, sorted, via, implied, keep, canonical, isRoots, noRoots}
 use Rattle.canonical.specs.Level.{level, levels, layer}
 
 abbrev key : Pair → ℕ

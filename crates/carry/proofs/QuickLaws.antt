@@ -3,16 +3,16 @@ use mathlib.Core.Path.{_≡_, refl, sym, ap, _∙_}
 use mathlib.Core.Bool.{Bool, true, false, not, cond, _&&_, _||_, true≢false, false≢true}
 use mathlib.Core.List.{List, [], _∷_, _++_}
 use mathlib.Core.Option.{Option, none, some}
-use Prim.Native.Nat.{ℕ, zero, suc, _+_, _≤_, _<_}
+use Prim.Native.Nat.{ℕ, zero, suc, _+_, _≤_}
 use native.Mathlib.Omega.{arith}
-use lib.Dec.{eqb, leb}
+use lib.Dec.{eqb}
 use lib.ListN.{length, drop, length-append, length-drop}
 use borrow.Author.Tests.{le-leb, leb-true, eqb-true}
 use Rattle.text.specs.Text.{Text, isNil, lastIs}
 use Rattle.text.proofs.BoolLaws.{and-l, and-r, and-no, not-true}
 use Rattle.grammar.specs.Legal.{isIdentifierStart, isIdentifierCont, isRoot, legal, fits, isEnd}
-use Rattle.prefix.specs.Prefix.{hasPrefix, follows}
-use Rattle.joining.specs.Join.{isChild, bare, slashUnless, separator, body, joined, replacePrefix, hangs, spoils}
+use Rattle.prefix.specs.Prefix.{hasPrefix}
+use Rattle.joining.specs.Join.{isChild, slashUnless, separator, body, joined, replacePrefix, hangs, spoils}
 use Rattle.prefix.proofs.PrefixLaws.{prefix-rest}
 use Rattle.joining.proofs.ReplaceLaws.{replace-prefix}
 use Rattle.joining.proofs.JoinWays.{joined-length, separator-short, body-short}
@@ -20,8 +20,8 @@ use Rattle.joining.proofs.JoinLegal.{joined-legal}
 use Rattle.pairs.specs.Pair.{Pair, sourceAt, targetAt, allShort, allEnds}
 use Rattle.pairs.specs.Best.{best, serves}
 use Rattle.pairs.proofs.PlaceLaws.{chosen-best}
-use Rattle.path.specs.declared.Refusal.the-variants.{NoPath, MadeTooLong, MadeIllegal}
-use Rattle.path.specs.Outcome.{Outcome, path, refused, made, given}
+use Rattle.path.specs.declared.Refusal.the-variants.{NoPath}
+use Rattle.path.specs.Outcome.{refused, made, given}
 use Rattle.maps.specs.Map.{Map, source, target, size, chosenOut, chosenHome, by, plainOut, plainHome, same, invertible}
 use Rattle.carry.specs.Quick.{joining, keeping, quickBy, quick, isNone, translateMarked, translatePair, translateBy, quickTranslate}
 use Rattle.maps.proofs.EndLaws.{ends-source, ends-target}

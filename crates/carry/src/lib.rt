@@ -1,7 +1,6 @@
 // Carrying a path through a list of pairs: plain mapping and translation, defined for any bytes and any
 // numbers. A caller that has checked a list once carries many paths through it.
 ghost use mathlib.Core.Path.{_≡_};
-ghost use mathlib.Core.Bool.{Bool, cond};
 ghost use Prim.Native.Nat.{_≤_};
 ghost use lib.ListN.{length, drop};
 ghost use Rattle.path.specs.Outcome.{reply, memory};

@@ -1,12 +1,11 @@
 // Closing the open list as a leg, in lent memory. Nothing is assumed of the memory.
 ghost use mathlib.Core.Path.{_≡_};
-ghost use mathlib.Core.Bool.{cond, _||_};
+ghost use mathlib.Core.Bool.{cond};
 ghost use mathlib.Core.List.{[], _∷_};
 ghost use Prim.Native.Nat.{_+_, _*_, _≤_, _<_};
 ghost use lib.ListN.{length};
 ghost use Rattle.text.specs.Text.{over};
 ghost use Rattle.pairs.specs.Places.{pairsIn};
-ghost use Rattle.maps.specs.New.{anyRoots};
 ghost use Rattle.asking.specs.Asking.{lentList};
 ghost use Rattle.closing.specs.Close.{vault, takesLeg, listReply, listVault, closeReply, closeVault};
 

@@ -1,6 +1,6 @@
 -- A reply as one plain number, for Rust and C: 256 times the value, and document 01's number (0 for an answer) in the low byte.
 use Prim.Native.Nat.{ℕ, _*_, _%_}
-use mathlib.Core.Bool.{Bool, cond}
+use mathlib.Core.Bool.{cond}
 use Rattle.path.specs.declared.Asked.{Asked}
 use Rattle.path.specs.declared.Asked.the-variants.{Passed, Refused as RefusedAsked}
 use Rattle.path.specs.declared.Test.{Test}

@@ -26,7 +26,7 @@ use Rattle.maps.specs.New.{fromParts}
 use Rattle.maps.specs.Compose.{isPathIdentity, composedPairs, compose}
 use Rattle.map_function.specs.declared.MapFunction.{MapFunction}
 use Rattle.map_function.specs.Read.{listOf, mapOf}
-use Rattle.map_function.specs.Made.{MapOutcome, map, refused, roomFor, weighed, asItIs, fromPartsOutcome, held}
+use Rattle.map_function.specs.Made.{map, refused, roomFor, weighed, asItIs, fromPartsOutcome, held}
 use Rattle.scratch.specs.Scratch.{Holds}
 use Rattle.scratch.specs.Ends.{madeShort}
 use Rattle.scratch.proofs.ScratchLaws.{holds-list}

@@ -1,8 +1,8 @@
 -- Composing ends gives ends: nothing that it makes is illegal. Assumes nothing.
 use mathlib.Core.Path.{_≡_, refl, sym, ap, _∙_}
-use mathlib.Core.Bool.{Bool, true, false, not, cond, _&&_, _||_, false≢true}
-use mathlib.Core.List.{List, [], _∷_, _++_, map}
-use mathlib.Core.Option.{Option, none, some, Option·getD}
+use mathlib.Core.Bool.{Bool, true, false, not, cond, _&&_, _||_}
+use mathlib.Core.List.{[], _∷_, _++_}
+use mathlib.Core.Option.{Option, none, some}
 use Prim.Native.Nat.{ℕ}
 use lib.Dec.{eqb}
 use lib.ListN.{length, drop}
@@ -16,11 +16,10 @@ use Rattle.joining.specs.Join.{isChild, bare, slashUnless, separator, body, joi
 use Rattle.prefix.proofs.PrefixLaws.{prefix-rest}
 use Rattle.joining.proofs.ReplaceLaws.{replace-prefix}
 use Rattle.joining.proofs.JoinLegal.{joined-legal}
-use Rattle.pairs.specs.Pair.{Pair, allEnds}
+use Rattle.pairs.specs.Pair.{allEnds}
 use Rattle.pairs.specs.Best.{best, serves}
 use Rattle.pairs.proofs.PlaceLaws.{chosen-best}
 use Rattle.maps.specs.Map.{Map, source, target, size, by, chosenOut, chosenHome, plainOut, plainHome}
-use Rattle.maps.specs.Compose.{carried, hasSource, added, pulled, composedPairs}
 use Rattle.maps.proofs.EndLaws.{ends-source, ends-target}
 use Rattle.composing.specs.Calls.{ComposedEnds}
 use Rattle.building.proofs.EveryLaws.{composed-every}

@@ -1,13 +1,12 @@
 -- What a legal text and an end cannot be. Assumes nothing.
 use mathlib.Core.Path.{_≡_, refl, sym, ap, _∙_}
-use mathlib.Core.Bool.{Bool, true, false, not, cond, _&&_, _||_, true≢false, false≢true}
-use mathlib.Core.List.{List, [], _∷_, _++_}
+use mathlib.Core.Bool.{Bool, true, false, not, cond, _&&_, true≢false, false≢true}
+use mathlib.Core.List.{[], _∷_}
 use Prim.Native.Nat.{ℕ}
 use lib.Dec.{eqb}
 use borrow.Author.Tests.{eqb-true}
-use Rattle.text.specs.Text.{Text, isNil, lastIs, lacks}
-use Rattle.text.proofs.BoolLaws.{and-l, and-r, and-no, not-true}
-use Rattle.text.proofs.TextLaws.{lacks-first, lacks-rest}
+use Rattle.text.specs.Text.{Text, lastIs, lacks}
+use Rattle.text.proofs.BoolLaws.{and-l, and-r, not-true}
 use Rattle.grammar.specs.Legal.{State, Slash, Name, Opened, Set, Equals, Sel, Closed, Dot, Prop, Dead, isIdentifierStart, isIdentifierCont, step, run, accept, isRoot, legal, isEnd}
 use Rattle.grammar.proofs.RunLaws.{run-dead}
 

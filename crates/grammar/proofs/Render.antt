@@ -1,11 +1,11 @@
 -- A path, written, is legal. Assumes nothing.
-use mathlib.Core.Path.{_≡_, refl, sym, ap, _∙_}
-use mathlib.Core.Bool.{Bool, true, false, cond, _&&_, _||_, false≢true}
+use mathlib.Core.Path.{_≡_, refl, ap, _∙_}
+use mathlib.Core.Bool.{true}
 use mathlib.Core.List.{List, [], _∷_, _++_}
 use mathlib.Core.Option.{Option, none, some}
 use Prim.Native.Nat.{ℕ}
 use Rattle.text.specs.Text.{Text, isNil}
-use Rattle.grammar.specs.Legal.{State, Slash, Name, Opened, Set, Equals, Sel, Closed, Dot, Prop, Dead, isIdentifierStart, isIdentifierCont, step, run, accept, legal}
+use Rattle.grammar.specs.Legal.{State, Slash, Name, Opened, Set, Equals, Sel, Closed, Dot, Prop, isIdentifierStart, isIdentifierCont, step, run, accept, legal}
 use Rattle.text.proofs.BoolLaws.{and-l, and-r, or-right}
 use Rattle.grammar.proofs.RunLaws.{run-app}
 use Rattle.grammar.specs.Grammar as g

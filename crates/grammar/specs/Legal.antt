@@ -2,7 +2,7 @@
 -- proves that the two agree. The bytes: . 46, / 47, : 58, = 61, _ 95, { 123, } 125.
 use Prim.Native.Nat.{ℕ}
 use mathlib.Core.Bool.{Bool, true, false, cond, _&&_, _||_}
-use mathlib.Core.List.{List, [], _∷_}
+use mathlib.Core.List.{[], _∷_}
 use lib.Dec.{eqb, leb}
 use lib.ListN.{length}
 use Rattle.text.specs.Text.{Text, isNil, lacks}

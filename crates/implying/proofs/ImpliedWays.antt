@@ -26,7 +26,7 @@ use Rattle.asking.proofs.PassLaws.{Sound, first-sound, second-sound}
 use Rattle.maps.specs.Map.{Map, lentMap, size, plainOut, chosenOut}
 use Rattle.maps.specs.New.{fromParts}
 use Rattle.maps.specs.Compose.{carried, pulled, isEmpty, isPathIdentity, composedPairs, compose}
-use Rattle.maps.specs.Derive.{exchanged, inverse, withRootIdentity, impliedClass}
+use Rattle.maps.specs.Derive.{inverse, withRootIdentity, impliedClass}
 use Rattle.maps.proofs.EndLaws.{fromParts-length, fromParts-every}
 use Rattle.map_function.specs.declared.MapFunction.{MapFunction}
 use Rattle.map_function.specs.declared.MapReply.{MapReply}

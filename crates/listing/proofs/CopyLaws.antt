@@ -1,15 +1,12 @@
 -- Copying the places of a pair. Assumes nothing.
-use mathlib.Core.Path.{_≡_, refl, sym, ap, _∙_}
-use mathlib.Core.Bool.{Bool, true, false, cond}
+use mathlib.Core.Path.{_≡_, refl, _∙_}
 use mathlib.Core.List.{List, [], _∷_, _++_}
 use Prim.Native.Nat.{ℕ, zero, suc, _+_, _*_, _/_, _≤_, _<_}
 use native.Mathlib.Omega.{arith}
-use lib.Dec.{leb}
 use borrow.Author.Tests.{le-leb, lt-leb}
 use lib.ListN.{length, getD, take, drop, List·getD-append}
 use lib.Seq.{getD-append-add, getD-take, length-take-le}
 use Rattle.text.specs.Text.{Text, over, placed}
-use Rattle.pairs.specs.Pair.{Pair}
 use Rattle.pairs.specs.Places.{inside, textAt, pairIn, pairsIn}
 use Rattle.listing.specs.Lists.{four, copied}
 

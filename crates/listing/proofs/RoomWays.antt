@@ -11,7 +11,7 @@ use lib.ListN.{length}
 use borrow.Author.Tests.{le-leb, lt-leb, leb-true, leb-false}
 use Rattle.text.specs.Text.{Text}
 use Rattle.pairs.specs.Pair.{Pair}
-use Rattle.pairs.specs.Places.{textAt, keyAt, pairIn, pairsIn, endBytes}
+use Rattle.pairs.specs.Places.{keyAt, pairIn, pairsIn, endBytes}
 use Rattle.listing.specs.Lists.{roomLeft}
 use Rattle.listing.specs.declared.Room.{Room}
 use Rattle.listing.specs.declared.Room.the-variants.{Left, Over}

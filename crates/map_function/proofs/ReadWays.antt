@@ -1,8 +1,7 @@
 -- What each way through the functions that read a map's own numbers gives. Assumes nothing.
-use mathlib.Core.Path.{_≡_, refl, _∙_}
+use mathlib.Core.Path.{_≡_, refl}
 use mathlib.Core.Logic.{_≢_}
-use mathlib.Core.Bool.{Bool, true, false, not, _&&_}
-use lib.Dec.{eqb}
+use mathlib.Core.Bool.{Bool, true, false, not}
 use borrow.Author.Tests.{eq-eqb, ne-eqb}
 use Rattle.text.proofs.BoolLaws.{told-false, told-true}
 use Rattle.layer_offset.specs.Offset.{isIdentity}

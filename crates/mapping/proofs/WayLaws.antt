@@ -13,7 +13,7 @@ use Rattle.path.specs.declared.Refusal.the-variants.{TooLong, Illegal, NoRoom}
 use Rattle.path.specs.declared.Asked.{Asked}
 use Rattle.path.specs.declared.Asked.the-variants.{Passed, Refused}
 use Rattle.path.specs.Refusal.{allFit, allLegal, asked as askedTexts}
-use Rattle.path.specs.Outcome.{refused, answered}
+use Rattle.path.specs.Outcome.{refused}
 use Rattle.path.specs.Calls.{newCall}
 use Rattle.path.proofs.CallWays.{answered-refused, answered-short, answered-passed}
 use Rattle.parts.specs.Strip.{strip}

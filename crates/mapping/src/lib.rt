@@ -1,7 +1,6 @@
 // Document 01's calls that carry a path through a map in lent memory: the questions in their order,
 // then the answer.
 ghost use mathlib.Core.Path.{_≡_};
-ghost use mathlib.Core.Bool.{Bool};
 ghost use Prim.Native.Nat.{_≤_};
 ghost use lib.ListN.{length};
 ghost use Rattle.parts.specs.Strip.{strip};

@@ -1,13 +1,11 @@
 -- A list that was written is read back as it was. Assumes nothing.
-use mathlib.Core.Path.{_≡_, refl, sym, ap, _∙_}
-use mathlib.Core.Bool.{Bool, true, cond}
+use mathlib.Core.Path.{_≡_, refl, sym, _∙_}
 use mathlib.Core.List.{List, [], _∷_, _++_, append-assoc}
-use Prim.Native.Nat.{ℕ, zero, suc, _+_, _*_, _≤_, _<_}
+use Prim.Native.Nat.{ℕ, zero, suc, _+_, _*_, _<_}
 use native.Mathlib.Nat.{zero-add}
 use native.Mathlib.Omega.{arith}
-use lib.Dec.{leb}
-use lib.ListN.{length, getD, take, drop, length-append}
-use lib.Seq.{ext-getD, getD-append-add, take-append-seam, drop-append-seam, take-at, drop-at}
+use lib.ListN.{length, getD, drop, length-append}
+use lib.Seq.{ext-getD, getD-append-add, take-append-seam, drop-append-seam}
 use borrow.Author.Tests.{le-leb}
 use Rattle.text.specs.Text.{Text, written}
 use Rattle.pairs.specs.Pair.{Pair, nothing, pairAt}

@@ -1,7 +1,7 @@
 -- What each way through `text_at`, `key_at`, `fits_at`, `all_fit`, `all_legal` and `all_ends` gives. Assumes nothing.
-use mathlib.Core.Path.{_≡_, refl, sym, ap, _∙_}
-use mathlib.Core.Bool.{Bool, true, false, not, cond, _&&_}
-use mathlib.Core.List.{List, [], _∷_}
+use mathlib.Core.Path.{_≡_, refl, sym}
+use mathlib.Core.Bool.{Bool, true, false, not, cond}
+use mathlib.Core.List.{List, []}
 use Prim.Native.Nat.{ℕ, zero, suc, _+_, _*_, _-_, _/_, _≤_, _<_}
 use native.Mathlib.Numerals.{add-one}
 use native.Mathlib.Omega.{arith}
@@ -10,7 +10,7 @@ use lib.Dec.{leb}
 use lib.ListN.{length, getD, take, drop, List·getD-eq-default}
 use borrow.Author.Tests.{le-leb, lt-leb}
 use Rattle.text.specs.Text.{Text}
-use Rattle.text.proofs.BoolLaws.{and-no, told, told-false, told-true}
+use Rattle.text.proofs.BoolLaws.{and-no, told-false, told-true}
 use Rattle.pairs.specs.Places.{inside, textAt, keyAt, fitsAt, placesFit, placesAll}
 
 no-length : (places : List ℕ) (j : ℕ) → length places / 2 ≤ j → getD places (2 * j + 1) 0 ≡ 0

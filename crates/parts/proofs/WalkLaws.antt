@@ -14,7 +14,7 @@ use Rattle.text.specs.declared.Fit.the-variants.{Written, Over}
 use Rattle.text.proofs.WriteLaws.{put-begin, put-on, put-length, put-end, put-over}
 use Rattle.text.proofs.BoolLaws.{told-false, told-true}
 use Rattle.grammar.specs.Legal.{isRoot}
-use Rattle.parts.specs.Parent.{parentLen, hasParent, parent, ancestorsIn, ancestors, ancestorLens}
+use Rattle.parts.specs.Parent.{parentLen, hasParent, ancestorsIn, ancestors, ancestorLens}
 use Rattle.parts.proofs.ParentLaws.{parent-len-le}
 use Rattle.parts.proofs.AncestorLaws.{lens-count, ancestors-none, ancestors-least, ancestors-some}
 

@@ -1,8 +1,8 @@
 -- What each way through `all_fit`, `all_legal` and `ask` gives. Assumes nothing.
-use mathlib.Core.Path.{_≡_, refl, sym, ap, _∙_}
-use mathlib.Core.Bool.{Bool, true, false, not, cond, _&&_}
+use mathlib.Core.Path.{_≡_}
+use mathlib.Core.Bool.{Bool, true, false, not}
 use mathlib.Core.List.{List, [], _∷_}
-use Prim.Native.Nat.{ℕ, _≤_, _<_}
+use Prim.Native.Nat.{_≤_, _<_}
 use lib.Dec.{leb}
 use lib.ListN.{length}
 use borrow.Author.Tests.{le-leb, lt-leb}
@@ -10,7 +10,6 @@ use Rattle.text.specs.Text.{Text}
 use Rattle.text.proofs.BoolLaws.{and-yes, told-false, told-true}
 use Rattle.grammar.specs.Legal.{legal, fits}
 use Rattle.path.specs.declared.Refusal.the-variants.{TooLong, Illegal}
-use Rattle.path.specs.declared.Asked.{Asked}
 use Rattle.path.specs.declared.Asked.the-variants.{Passed, Refused}
 use Rattle.path.specs.Refusal.{allFit, allLegal, asked}
 

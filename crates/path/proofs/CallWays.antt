@@ -1,8 +1,6 @@
 -- What each way through the calls gives. Assumes nothing.
-use mathlib.Core.Path.{_≡_, refl, sym, ap, _∙_}
-use mathlib.Core.Bool.{Bool, true, false, not}
+use mathlib.Core.Path.{_≡_, refl, ap}
 use Prim.Native.Nat.{ℕ, _≤_, _<_}
-use lib.ListN.{length}
 use borrow.Author.Tests.{le-leb, lt-leb}
 use Rattle.text.specs.Text.{Text}
 use Rattle.path.specs.declared.Refusal.{Refusal}
@@ -10,7 +8,7 @@ use Rattle.path.specs.declared.Refusal.the-variants.{NoRoom}
 use Rattle.path.specs.declared.Asked.{Asked}
 use Rattle.path.specs.declared.Asked.the-variants.{Passed, Refused as RefusedAsked}
 use Rattle.path.specs.declared.Reply.{Reply}
-use Rattle.path.specs.declared.Reply.the-variants.{Written, Refused}
+use Rattle.path.specs.declared.Reply.the-variants.{Refused}
 use Rattle.path.specs.Refusal.{unless}
 use Rattle.path.specs.Outcome.{Outcome, refused, reply, memory, lent, answered}
 

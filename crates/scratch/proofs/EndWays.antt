@@ -1,9 +1,9 @@
 -- What each way through `replace_into` and `from_ends` gives. Assumes nothing.
 use mathlib.Core.Path.{_≡_, refl, sym, ap, _∙_}
-use mathlib.Core.Bool.{Bool, true, false, not, cond, _&&_}
-use mathlib.Core.List.{List, [], _∷_, _++_}
+use mathlib.Core.Bool.{Bool, true, false, not, cond}
+use mathlib.Core.List.{List}
 use mathlib.Core.Option.{Option, Option·getD}
-use Prim.Native.Nat.{ℕ, zero, suc, _+_, _*_, _-_, _/_, _≤_, _<_}
+use Prim.Native.Nat.{ℕ, _*_, _-_, _/_, _≤_, _<_}
 use native.Mathlib.Omega.{arith}
 use lib.Dec.{leb}
 use lib.ListN.{length, take, drop}
@@ -11,16 +11,16 @@ use borrow.Author.Tests.{le-leb, lt-leb}
 use Rattle.text.specs.Text.{Text, placed, fitted}
 use Rattle.text.specs.declared.Fit.{Fit}
 use Rattle.text.specs.declared.Fit.the-variants.{Written, Over}
-use Rattle.text.proofs.BoolLaws.{and-no, and-yes, told-true, told-false}
+use Rattle.text.proofs.BoolLaws.{and-no, told-true, told-false}
 use Rattle.text.proofs.WriteLaws.{placed-first, read-back, rest-whole, fit-is, fit-back, fit-over}
 use Rattle.grammar.specs.Legal.{legal}
 use Rattle.prefix.specs.Prefix.{hasPrefix}
-use Rattle.joining.specs.Join.{joined, replacePrefix}
+use Rattle.joining.specs.Join.{joined}
 use Rattle.prefix.proofs.PrefixLaws.{prefix-long}
 use Rattle.joining.proofs.ReplaceLaws.{replace-prefix, replace-other}
 use Rattle.layer_offset.specs.declared.LayerOffset.{LayerOffset}
-use Rattle.pairs.specs.Pair.{Pair, everyEnd, allShort}
-use Rattle.pairs.specs.Places.{pairIn, pairsIn, placesAll, endBytes}
+use Rattle.pairs.specs.Pair.{Pair, allShort}
+use Rattle.pairs.specs.Places.{pairsIn, placesAll, endBytes}
 use Rattle.listing.specs.Lists.{listRoom}
 use Rattle.pairs.proofs.PlaceLaws.{pairsIn-length}
 use Rattle.path.specs.declared.Refusal.the-variants.{TooMany, NoRoom, MadeTooLong, MadeIllegal}

@@ -5,14 +5,13 @@ use mathlib.Core.List.{List, [], _∷_, _++_}
 use mathlib.Core.Option.{Option, Option·getD}
 use Prim.Native.Nat.{ℕ, zero, suc, _+_, _≤_, _<_}
 use native.Mathlib.Omega.{arith}
-use lib.Dec.{leb}
 use lib.ListN.{length, take, drop, length-append}
 use borrow.Author.Tests.{leb-true}
 use Rattle.text.specs.Text.{Text}
 use Rattle.text.proofs.BoolLaws.{and-l, and-r}
 use Rattle.grammar.specs.Legal.{fits}
 use Rattle.prefix.specs.Prefix.{hasPrefix}
-use Rattle.joining.specs.Join.{joined, replacePrefix}
+use Rattle.joining.specs.Join.{joined}
 use Rattle.prefix.proofs.PrefixLaws.{prefix-rest}
 use Rattle.joining.proofs.ReplaceLaws.{replace-prefix, replace-other}
 use Rattle.joining.proofs.JoinWays.{joined-length, separator-short, body-short}

@@ -1,5 +1,5 @@
 -- What each way through `has_source` gives. Assumes nothing.
-use mathlib.Core.Path.{_≡_, refl, sym, ap, _∙_}
+use mathlib.Core.Path.{_≡_, refl, sym, _∙_}
 use mathlib.Core.Bool.{Bool, true, false, _||_}
 use mathlib.Core.List.{List, [], _∷_, _++_}
 use Prim.Native.Nat.{ℕ, zero, suc, _+_, _*_, _≤_, _<_}
@@ -9,7 +9,7 @@ use native.Mathlib.Numerals.{add-one}
 use Rattle.text.specs.Text.{Text, equal}
 use Rattle.text.proofs.BoolLaws.{or-right, or-false, told}
 use Rattle.pairs.specs.Pair.{Pair}
-use Rattle.pairs.specs.Places.{textAt, keyAt, pairIn, pairsIn}
+use Rattle.pairs.specs.Places.{keyAt, pairIn, pairsIn}
 use Rattle.maps.specs.Compose.{hasSource}
 
 source-snoc : (l : List Pair) (x : Pair) (s : Text) → hasSource (l ++ x ∷ []) s ≡ (hasSource l s || equal (x .source) s)

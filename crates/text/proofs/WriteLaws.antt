@@ -1,16 +1,16 @@
 -- What copying leaves in lent memory. Assumes nothing.
 use mathlib.Core.Path.{_≡_, refl, sym, ap, _∙_}
 use mathlib.Core.Bool.{Bool, true, false, cond}
-use mathlib.Core.List.{List, [], _∷_, _++_, append-assoc, append-nil}
-use Prim.Native.Nat.{ℕ, zero, suc, _+_, _-_, _≤_, _<_}
+use mathlib.Core.List.{_++_, append-assoc}
+use Prim.Native.Nat.{ℕ, _+_, _-_, _≤_, _<_}
 use native.Mathlib.Nat.{zero-add}
 use native.Mathlib.Numerals.{add-one}
 use native.Mathlib.Omega.{arith}
 use lib.Dec.{leb}
-use lib.ListN.{length, getD, set, take, drop, length-set, length-append, length-drop, length-take, drop-of-length-le}
-use lib.Seq.{paste, paste-zero, paste-suc, take-append-seam, drop-append-add, drop-drop, take-all, take-at, take-length}
+use lib.ListN.{length, getD, set, take, drop, length-set, length-append, length-drop, length-take}
+use lib.Seq.{paste, paste-zero, paste-suc, take-append-seam, drop-append-add, drop-drop, take-all, take-length}
 use borrow.Author.Tests.{le-leb, lt-leb, leb-true, leb-false}
-use Rattle.text.specs.Text.{Text, written, over, placed, fitted}
+use Rattle.text.specs.Text.{Text, written, placed, fitted}
 use Rattle.text.specs.declared.Fit.{Fit}
 use Rattle.text.specs.declared.Fit.the-variants.{Written, Over}
 

@@ -1,6 +1,6 @@
 -- Texts: lists of bytes, each a number below 256. Nothing here knows what a path is.
 use Prim.Native.Nat.{ℕ, _+_}
-use Prim.Native.Char.{Char, code}
+use Prim.Native.Char.{code}
 use Prim.Native.String.{String, [] as []ˢ, _∷_ as _∷ˢ_}
 use mathlib.Core.Bool.{Bool, true, false, not, cond, _&&_}
 use mathlib.Core.List.{List, [], _∷_, _++_}

@@ -1,4 +1,3 @@
-use native.Mathlib.Omega.{arith}
 use Rattle.map_function.proofs.NewWays.{refusing-map}
 use Rattle.scratch.proofs.LengthLaws.{part-is}
 use Rattle.deepening.proofs.DeepenWays.{deepen-long}

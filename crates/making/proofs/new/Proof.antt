@@ -1,5 +1,4 @@
 use mathlib.Core.Path.{sym, _∙_}
-use mathlib.Core.Bool.{false}
 use lib.Ieee.{ofBits}
 use Rattle.map_function.proofs.NewWays.{refusing-map}
 use Rattle.making.proofs.MakeWays.{made-refused, made-passed, making-map, held-passed, new-parts, new-opened}

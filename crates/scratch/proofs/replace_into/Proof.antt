@@ -1,4 +1,3 @@
-use mathlib.Core.Path.{refl}
 use Rattle.scratch.proofs.EndWays.{replace-not, replace-start, replace-made, replace-over}
 use borrow.Author.Needs.{needs}
 use Rattle.scratch.proofs.replace_into.Statement.{statement}
