@@ -1,4 +1,4 @@
--- Document 01's calls on path texts: the questions in their order, then the meaning. `room` is how much memory is lent.
+-- Document 01's calls that test a path or count in it: the questions in their order, then the meaning.
 use Prim.Native.Nat.{ℕ}
 use mathlib.Core.Bool.{Bool, not}
 use mathlib.Core.List.{List, [], _∷_}
