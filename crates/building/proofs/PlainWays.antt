@@ -21,7 +21,8 @@ use Rattle.joining.specs.Join.{joined, replacePrefix}
 use Rattle.joining.proofs.ReplaceLaws.{replace-prefix}
 use Rattle.pairs.specs.Places.{keyAt}
 use Rattle.pairs.specs.Best.{best, serves}
-use Rattle.serving.specs.Search.{chosenIn}
+use Rattle.serving.specs.Search.{foundOf}
+use Rattle.serving.proofs.FoundLaws.{found-none, found-some}
 use Rattle.pairs.proofs.PlaceLaws.{chosen-best}
 use Rattle.serving.specs.declared.Found.{Found}
 use Rattle.maps.specs.Map.{Map, plainOut, plainHome, lentMap}
@@ -81,16 +82,13 @@ module _ (store : Text) (places : List ℕ) (n : ℕ) (mark : Bool) (p : Text) w
   plain-some false i e = let z = ends-by store places n mark p false i e in rw (out-keys store places n mark p, e, z .0, z .1)
   plain-some true i e = let z = ends-by store places n mark p true i e in rw (home-keys store places n mark p, e, z .0, z .1)
 
-  module _ (invert : Bool) (f : Found) (h : chosenIn f ≡ best p (key invert) n) where
+  module _ (invert : Bool) (f : Found) (h : f ≡ foundOf (best p (key invert) n)) where
     pub map-none : not (f .found) ≡ true → plain invert lent p ≡ marked mark p
-    map-none k = plain-none invert (sym h ∙ none-in)
-      where
-        none-in : chosenIn f ≡ none
-        none-in = rw (not-true (f .found) k)
+    map-none k = plain-none invert (found-none f (best p (key invert) n) h (not-true (f .found) k))
 
     module _ (k : not (f .found) ≡ false) where
       chosen : best p (key invert) n ≡ some (f .at)
-      chosen = sym h ∙ rw (not-false (f .found) k)
+      chosen = found-some f (best p (key invert) n) h (not-false (f .found) k)
 
       pub map-block : (b : Text) → b ≡ key true (f .at) → length b ≡ 0 → plain invert lent p ≡ none
       map-block b e l = plain-some invert (f .at) chosen ∙ rw (nil-length (key true (f .at)) (rw e at l))

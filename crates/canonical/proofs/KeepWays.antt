@@ -22,7 +22,8 @@ use Rattle.pairs.specs.Pair.{Pair}
 use Rattle.pairs.specs.Places.{keyAt, pairIn, pairsIn}
 use Rattle.listing.specs.Lists.{copied}
 use Rattle.pairs.specs.Best.{best, serves}
-use Rattle.serving.specs.Search.{chosenIn}
+use Rattle.serving.specs.Search.{foundOf}
+use Rattle.serving.proofs.FoundLaws.{found-none, found-some}
 use Rattle.serving.specs.declared.Found.{Found}
 use Rattle.pairs.proofs.PlaceLaws.{chosen-best}
 use Rattle.listing.proofs.WriteWays.{source-key, target-key}
@@ -123,7 +124,7 @@ module _ (store : Text) (places : List ℕ) where
   topped-end n i top h f j l = f j (omega arith)
 
 -- `is_implied`
-module _ (store : Text) (kept : List ℕ) (n : ℕ) (mark : Bool) (s t : Text) (f : Found) (h : chosenIn f ≡ best s (keyAt store kept false) n) where
+module _ (store : Text) (kept : List ℕ) (n : ℕ) (mark : Bool) (s t : Text) (f : Found) (h : f ≡ foundOf (best s (keyAt store kept false) n)) where
   abbrev lent : Map
   lent = lentMap store kept n mark
 
@@ -136,7 +137,7 @@ module _ (store : Text) (kept : List ℕ) (n : ℕ) (mark : Bool) (s t : Text) (
 
   module _ (k : f .found ≡ true) where
     chosen : best s (keyAt store kept false) n ≡ some (f .at)
-    chosen = sym h ∙ rw k refl
+    chosen = found-some f (best s (keyAt store kept false) n) h k
 
     serving : serves s (keyAt store kept false (f .at)) ≡ true
     unfolding best
@@ -156,7 +157,7 @@ module _ (store : Text) (kept : List ℕ) (n : ℕ) (mark : Bool) (s t : Text) (
 
   module _ (k : f .found ≡ false) where
     left-out : best s (keyAt store kept false) n ≡ none
-    left-out = sym h ∙ rw k refl
+    left-out = found-none f (best s (keyAt store kept false) n) h k
 
     pub implied-none : not mark ≡ true → false ≡ implied lent x
     unfolding isText viaPair

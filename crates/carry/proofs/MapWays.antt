@@ -19,7 +19,8 @@ use Rattle.grammar.specs.Legal.{fits}
 use Rattle.joining.specs.Join.{joined, spoils}
 use Rattle.pairs.specs.Places.{keyAt}
 use Rattle.pairs.specs.Best.{best, serves}
-use Rattle.serving.specs.Search.{chosenIn}
+use Rattle.serving.specs.Search.{foundOf}
+use Rattle.serving.proofs.FoundLaws.{found-none, found-some}
 use Rattle.pairs.proofs.PlaceLaws.{chosen-best}
 use Rattle.serving.specs.declared.Found.{Found}
 use Rattle.path.specs.declared.Refusal.the-variants.{NoPath, MadeTooLong, MadeIllegal}
@@ -108,17 +109,14 @@ module _ (store : Text) (places : List ℕ) (n : ℕ) (mark : Bool) (p : Text) w
       ∙ by-same mark p (target lent) (key true) (source lent) (key false) (target lent) (key true) (best p (key true) n)
       (λ i e. let z = ends-by store places n mark p true i e in (z .1, z .0, z .1))
 
-  module _ (invert : Bool) (f : Found) (h : chosenIn f ≡ best p (key invert) n) where
+  module _ (invert : Bool) (f : Found) (h : f ≡ foundOf (best p (key invert) n)) where
     pub map-none : not (f .found) ≡ true → quick invert lent p ≡ keeping mark p
     unfolding quickBy
-    map-none k = quick-by invert ∙ ap (quickBy mark (key invert) (key (not invert)) (key true) p) (sym h ∙ none-in)
-      where
-        none-in : chosenIn f ≡ none
-        none-in = rw (not-true (f .found) k)
+    map-none k = quick-by invert ∙ ap (quickBy mark (key invert) (key (not invert)) (key true) p) (found-none f (best p (key invert) n) h (not-true (f .found) k))
 
     module _ (k : not (f .found) ≡ false) where
       chosen : best p (key invert) n ≡ some (f .at)
-      chosen = sym h ∙ rw (not-false (f .found) k)
+      chosen = found-some f (best p (key invert) n) h (not-false (f .found) k)
 
       pub map-block : (b : Text) → b ≡ key true (f .at) → length b ≡ 0 → quick invert lent p ≡ refused NoPath
       unfolding quickBy

@@ -16,7 +16,8 @@ use Rattle.text.proofs.WriteLaws.{fit-room, fit-over, fit-back}
 use Rattle.joining.specs.Join.{joined, spoils}
 use Rattle.pairs.specs.Places.{keyAt}
 use Rattle.pairs.specs.Best.{best}
-use Rattle.serving.specs.Search.{chosenIn, isAt}
+use Rattle.serving.specs.Search.{foundOf, isAt}
+use Rattle.serving.proofs.FoundLaws.{found-none, found-some}
 use Rattle.serving.specs.declared.Found.{Found}
 use Rattle.path.specs.declared.Refusal.the-variants.{NoPath, MadeTooLong, MadeIllegal}
 use Rattle.path.specs.declared.Reply.{Reply}
@@ -38,13 +39,6 @@ module _ (b : Bool) (q out : Text) where
   unfolding keeping
   finish-kept h r out′ w = rw h w
 
--- what was found is what is chosen
-found-none : (f : Found) (o : Option ℕ) → chosenIn f ≡ o → f .found ≡ false → o ≡ none
-found-none f o h k = sym h ∙ rw k
-
-found-some : (f : Found) (o : Option ℕ) → chosenIn f ≡ o → f .found ≡ true → o ≡ some (f .at)
-found-some f o h k = sym h ∙ rw k
-
 module _ (store : Text) (places : List ℕ) (n : ℕ) (mark : Bool) (p : Text) where
   abbrev lent : Map
   lent = lentMap store places n mark
@@ -54,9 +48,9 @@ module _ (store : Text) (places : List ℕ) (n : ℕ) (mark : Bool) (p : Text) w
   unfolding translateMarked
   marked-none k = rw (not-true mark k)
 
-  module _ (f : Found) (h : chosenIn f ≡ best p (keyAt store places true) n) where
-    home-is : chosenIn f ≡ chosenHome lent p
-    home-is = h ∙ sym (home-keys store places n mark p)
+  module _ (f : Found) (h : f ≡ foundOf (best p (keyAt store places true) n)) where
+    home-is : f ≡ foundOf (chosenHome lent p)
+    home-is = rw (home-keys store places n mark p) h
 
     pub marked-shadowed : f .found ≡ true → translateMarked lent p ≡ refused NoPath
     unfolding translateMarked
@@ -67,9 +61,9 @@ module _ (store : Text) (places : List ℕ) (n : ℕ) (mark : Bool) (p : Text) w
     marked-kept k l = rw (found-none f (chosenHome lent p) home-is l, not-false mark k)
 
   -- `translate_text`
-  module _ (f : Found) (h : chosenIn f ≡ best p (keyAt store places false) n) where
-    out-is : chosenIn f ≡ chosenOut lent p
-    out-is = h ∙ sym (out-keys store places n mark p)
+  module _ (f : Found) (h : f ≡ foundOf (best p (keyAt store places false) n)) where
+    out-is : f ≡ foundOf (chosenOut lent p)
+    out-is = rw (out-keys store places n mark p) h
 
     pub text-none : not (f .found) ≡ true → quickTranslate lent p ≡ translateMarked lent p
     unfolding quickTranslate translateBy

@@ -1,6 +1,6 @@
 // Carrying a path through a relocate list: chaining and shifting. Document 01's calls put the questions in
 // their order; a refused call writes nothing.
-pub mod steps;
+mod steps;
 
 ghost use mathlib.Core.Path.{_≡_};
 ghost use mathlib.Core.Bool.{cond};

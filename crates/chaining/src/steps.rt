@@ -14,10 +14,10 @@ ghost use Rattle.pairs.specs.Pair.{pair};
 pub struct Bytes(pub usize);
 
 // What a search has found so far.
-pub struct Longest {
-    pub found: bool,
-    pub at: usize,
-    pub bytes: Bytes,
+struct Longest {
+    found: bool,
+    at: usize,
+    bytes: Bytes,
 }
 
 // What one replacement comes to.
@@ -87,7 +87,7 @@ fn consider(f: Longest, tries: bool, key: &[u8], i: usize) -> Longest
 }
 
 // The pair that gives a path and whose source is longest in bytes, the last on a tie.
-pub fn longest_source(
+fn longest_source(
     store: &[u8],
     places: &[usize],
     n: usize,

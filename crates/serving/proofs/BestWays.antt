@@ -11,7 +11,7 @@ use native.Mathlib.Decide.{ℕ-discrete}
 use lib.Dec.{eqb, leb}
 use lib.ListN.{length, getD, take, drop, length-drop, take-append-drop}
 use lib.Seq.{length-take-le, take-append-seam, take-append-le, getD-take, getD-drop}
-use borrow.Author.Tests.{ne-eqb, le-leb, lt-leb, leb-true, leb-false}
+use borrow.Author.Tests.{eqb-true, ne-eqb, le-leb, lt-leb, leb-true, leb-false}
 use Rattle.text.specs.Text.{Text, isNil}
 use Rattle.text.proofs.BoolLaws.{and-r, told-false, told-true}
 use Rattle.text.proofs.TextLaws.{starts-at}
@@ -20,7 +20,7 @@ use Rattle.prefix.specs.Elements.{elements}
 use Rattle.prefix.proofs.CountLaws.{count-more}
 use Rattle.prefix.proofs.PrefixLaws.{prefix-rest, prefix-starts, prefix-long}
 use Rattle.serving.specs.declared.Kept.{Kept}
-use Rattle.serving.specs.Search.{cut, keysHeld, least, chosenIn, outdoes, considered}
+use Rattle.serving.specs.Search.{cut, keysHeld, least, foundOf, outdoes, considered}
 use Rattle.pairs.specs.Places.{textAt, keyAt}
 use Rattle.pairs.specs.Best.{serves, best}
 use Rattle.pairs.proofs.PlaceWays.{text-missing}
@@ -215,12 +215,13 @@ keptIn f = cond (eqb (f .bytes) 0) none (some (f .at))
 
 pub record Holds (p : Text) (key : ℕ → Text) (i : ℕ) (f : Kept) : Type 0 where
   pub chosen : keptIn f ≡ best p key i
+  pub blank : f .bytes ≡ 0 → f .at ≡ 0
   pub kept : f .bytes ≢ 0 → (f .bytes ≡ length (key (f .at))) × (serves p (key (f .at)) ≡ true)
   pub short : f .bytes ≤ length p
 
 pub holds-none : (p : Text) (key : ℕ → Text) → Holds p key 0 (record { at = 0; bytes = 0 })
 unfolding best
-holds-none p key = record { chosen = refl; kept = λ h. absurd (h refl); short = omega arith }
+holds-none p key = record { chosen = refl; blank = λ e. refl; kept = λ h. absurd (h refl); short = omega arith }
 
 -- a key that serves is not empty
 served-long : (p k : Text) → serves p k ≡ true → length k ≢ 0
@@ -230,6 +231,7 @@ module _ (p : Text) (key : ℕ → Text) (i : ℕ) where
   now-best : serves p (key i) ≡ true → some i ≡ best p key (suc i) → Holds p key (suc i) (record { at = i; bytes = length (key i) })
   now-best s e = record {
     chosen = rw (ne-eqb (length (key i)) 0 (served-long p (key i) s)) e;
+    blank = λ e. absurd (served-long p (key i) s e);
     kept = λ z. (refl, s);
     short = prefix-long p (key i) (served p (key i) s);
   }
@@ -247,7 +249,7 @@ module _ (p : Text) (key : ℕ → Text) (i : ℕ) where
       go : (c : Bool) → leb (elements (key at)) (elements (key i)) ≡ c
           → Holds p key (suc i) (cond c (record { at = i; bytes = length (key i) }) (record { at = at; bytes = e }))
       go true d = now-best s (rw (s, ← found, d))
-      go false d = record { chosen = rw (ne-eqb e 0 z, s, ← found, d); kept = h .kept; short = h .short }
+      go false d = record { chosen = rw (ne-eqb e 0 z, s, ← found, d); blank = h .blank; kept = h .kept; short = h .short }
 
   cases : (at e : ℕ) (b : Bool) → Holds p key i (record { at = at; bytes = e }) → serves p (key i) ≡ b
       → Holds p key (suc i) (considered (record { at = at; bytes = e }) p (key i) i)
@@ -256,7 +258,7 @@ module _ (p : Text) (key : ℕ → Text) (i : ℕ) where
     | yes z ↦ rw (s, z, le-leb 0 (length (key i)) (omega arith)) (now-best s (rw (s, ← (rw z at (h .chosen)))))
     | no z ↦ rw s (compared at e (outdoes p e (key i)) z h s refl)
   ]
-  cases at e false h s = rw s (record { chosen = rw s (h .chosen); kept = h .kept; short = h .short })
+  cases at e false h s = rw s (record { chosen = rw s (h .chosen); blank = h .blank; kept = h .kept; short = h .short })
 
 -- the numbers of the keys that are held stand in the slice
 pub held-there : (places : List ℕ) (n held offset : ℕ) (invert : Bool) → held ≡ least n (keysHeld places invert) → offset ≡ 2 * cond invert 1 0
@@ -289,19 +291,19 @@ unfolding keysHeld
 key-behind store places true k h = sym (text-missing store places (2 * k + 1) (omega arith))
 key-behind store places false k h = sym (text-missing store places (2 * k + 0) (omega arith))
 
-found-kept : (f : Kept) → chosenIn (record { found = not (eqb (f .bytes) 0); at = f .at }) ≡ keptIn f
-found-kept f = go (eqb (f .bytes) 0)
+found-kept : (f : Kept) → (f .bytes ≡ 0 → f .at ≡ 0) → record { found = not (eqb (f .bytes) 0); at = f .at } ≡ foundOf (keptIn f)
+found-kept f z = go (eqb (f .bytes) 0) refl
   where
-    go : (b : Bool) → cond (not b) (some (f .at)) none ≡ cond b none (some (f .at))
-    go true = refl
-    go false = refl
+    go : (b : Bool) → eqb (f .bytes) 0 ≡ b → record { found = not b; at = f .at } ≡ foundOf (cond b none (some (f .at)))
+    go true e = ap (λ (i : ℕ). record { found = false; at = i }) (z (eqb-true (f .bytes) 0 e))
+    go false e = refl
 
 pub holds-end : (p store : Text) (places : List ℕ) (n : ℕ) (invert : Bool) (held i : ℕ) (f : Kept) → held ≡ least n (keysHeld places invert)
     → Holds p (keyAt store places invert) i f → held ≤ i → i ≤ held
-    → chosenIn (record { found = not (eqb (f .bytes) 0); at = f .at }) ≡ best p (keyAt store places invert) n
+    → record { found = not (eqb (f .bytes) 0); at = f .at } ≡ foundOf (best p (keyAt store places invert) n)
 holds-end p store places n invert held i f m h l r =
     let e : i ≡ least n (keysHeld places invert) = omega arith in
-    found-kept f ∙ (rw e at (h .chosen)) ∙ go (leb n (keysHeld places invert)) refl
+    found-kept f (h .blank) ∙ ap (λ (o : Option ℕ). foundOf o) ((rw e at (h .chosen)) ∙ go (leb n (keysHeld places invert)) refl)
   where
     key : ℕ → Text
     key = keyAt store places invert

@@ -1,2 +1,3 @@
 mod BestWays
 mod RivalWays
+pub mod FoundLaws

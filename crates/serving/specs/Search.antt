@@ -1,6 +1,6 @@
 -- The search for the pair that serves a path, step by step: what it keeps, and what it passes over.
 use Prim.Native.Nat.{ℕ, _+_, _/_}
-use mathlib.Core.Bool.{Bool, false, not, cond, _&&_, _||_}
+use mathlib.Core.Bool.{Bool, true, false, not, cond, _&&_, _||_}
 use mathlib.Core.List.{List, []}
 use mathlib.Core.Option.{Option, none, some}
 use lib.Dec.{eqb, leb, ltb}
@@ -11,9 +11,10 @@ use Rattle.serving.specs.declared.Found.{Found}
 use Rattle.serving.specs.declared.Kept.{Kept}
 use Rattle.pairs.specs.Best.{serves}
 
--- what a search has found
-abbrev pub chosenIn : Found → Option ℕ
-chosenIn f = cond (f .found) (some (f .at)) none
+-- a choice as the reply to a search; the place is 0 where there is none
+abbrev pub foundOf : Option ℕ → Found
+foundOf none = record { found = false; at = 0 }
+foundOf (some i) = record { found = true; at = i }
 
 -- the key k is at least as good as the one chosen before, the first n bytes of the path. Both are prefixes of one path, so that the longer
 -- has no fewer elements (proved in proofs/BestWays.antt).

@@ -3,7 +3,7 @@ ghost use mathlib.Core.Path.{_≡_};
 ghost use mathlib.Core.Bool.{cond};
 ghost use lib.ListN.{length};
 ghost use Prim.Native.Nat.{_*_, _≤_};
-ghost use Rattle.serving.specs.Search.{cut, keysHeld, least, chosenIn, considered, isAt, beats, rivals};
+ghost use Rattle.serving.specs.Search.{cut, keysHeld, least, foundOf, considered, isAt, beats, rivals};
 ghost use Rattle.pairs.specs.Places.{keyAt};
 ghost use Rattle.pairs.specs.Best.{serves, best};
 
@@ -115,7 +115,7 @@ fn key_offset(invert: bool) -> usize
 
 // The pair whose key serves the path and has most elements, the later on a tie.
 pub fn best_prefix(store: &[u8], places: &[usize], n: usize, invert: bool, path: &[u8]) -> Found
-    ensures { λ r. ⌜ chosenIn r ≡ best (now (path .entry)) (keyAt (now (store .entry)) (now (places .entry)) invert) n ⌝ }
+    ensures { λ r. ⌜ r ≡ foundOf (best (now (path .entry)) (keyAt (now (store .entry)) (now (places .entry)) invert) n) ⌝ }
 {
     let held = keys_held(places, n, invert);
     let offset = key_offset(invert);
