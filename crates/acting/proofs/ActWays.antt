@@ -1,26 +1,21 @@
 -- What each way through the acts of frames gives. Assumes nothing.
 use mathlib.Core.Path.{_≡_, refl, sym, ap, _∙_}
-use mathlib.Core.Bool.{Bool, true, false, not}
+use mathlib.Core.Bool.{Bool}
 use mathlib.Core.List.{List, [], _∷_}
 use mathlib.Core.Option.{none, some}
 use Prim.Native.Nat.{ℕ, suc, _+_, _-_, _≤_, _<_}
 use native.Mathlib.Omega.{arith}
-use lib.Dec.{leb}
 use lib.ListN.{length, take, drop}
-use borrow.Author.Tests.{le-leb, lt-leb, leb-true, leb-false}
+use borrow.Author.Tests.{le-leb, lt-leb}
 use Rattle.text.specs.Text.{Text, written, placed}
-use Rattle.text.proofs.BoolLaws.{told-false, told-true}
 use Rattle.text.proofs.WriteLaws.{rest-whole, placed-first}
 use Rattle.path.specs.declared.Refusal.{Refusal}
-use Rattle.path.specs.declared.Refusal.the-variants.{NoRoom}
 use Rattle.path.specs.declared.Asked.{Asked}
 use Rattle.path.specs.declared.Asked.the-variants.{Passed, Refused as RefusedAsked}
 use Rattle.path.specs.declared.Reply.{Reply}
 use Rattle.path.specs.declared.Reply.the-variants.{Written, Refused}
-use Rattle.protocol.specs.Frame.{Frame, pair}
+use Rattle.protocol.specs.Frame.{Frame}
 use Rattle.protocol.specs.State.{fourBytes}
-use Rattle.frame.specs.declared.Read.the-variants.{Pair}
-use Rattle.frame.specs.Read.{meant}
 use Rattle.holding.specs.declared.Opened.{Opened}
 use Rattle.holding.specs.declared.Added.{Added}
 use Rattle.holding.specs.declared.Added.the-variants.{Done, Refused as RefusedAdd}
@@ -33,9 +28,9 @@ use Rattle.closing.specs.declared.Closed.{Closed}
 use Rattle.closing.specs.declared.Closed.the-variants.{Done as DoneClose, Refused as RefusedClose}
 use Rattle.closing.specs.Close.{counted, closedMap, legMore, closedReply, closedVault, askedOf, closeReply, closeVault}
 use Rattle.memory.specs.declared.Kept.{Kept}
-use Rattle.memory.specs.Memory.{Memory, memory, openList, vaultOf, nothing, addAfter, addIn, closeAfter, closeIn, turnIn}
+use Rattle.memory.specs.Memory.{Memory, memory, openList, vaultOf, nothing, addAfter, addIn, closeAfter, closeIn}
 use Rattle.acting.specs.declared.Effect.{Effect}
-use Rattle.acting.specs.Acting.{Took, Acted, OpenActed, CloseActed, countsReply}
+use Rattle.acting.specs.Acting.{Took, PairActed, CloseActed, countsReply}
 
 -- `behind_kind`
 module _ (b : Text) where
@@ -48,21 +43,6 @@ module _ (b : Text) where
 
   pub kind-some : take (length b - 1) (drop 1 b) ≡ drop 1 b
   kind-some = rest-whole b 1
-
--- `spans`
-module _ (len n m : ℕ) where
-  pub spans-head : len < 5 → false ≡ leb (5 + n + m) len
-  spans-head h = sym (lt-leb (5 + n + m) len (omega (arith, h)))
-
-  pub spans-source : 5 ≤ len → len - 5 < n → false ≡ leb (5 + n + m) len
-  spans-source h i = sym (lt-leb (5 + n + m) len (omega (arith, h, i)))
-
-  pub spans-all : 5 ≤ len → n ≤ len - 5 → leb m (len - 5 - n) ≡ leb (5 + n + m) len
-  spans-all h i = go (leb m (len - 5 - n)) refl
-    where
-      go : (b : Bool) → leb m (len - 5 - n) ≡ b → b ≡ leb (5 + n + m) len
-      go true e = sym (le-leb (5 + n + m) len (omega (arith, leb-true m (len - 5 - n) e, h, i)))
-      go false e = sym (lt-leb (5 + n + m) len (omega (arith, leb-false m (len - 5 - n) e, h, i)))
 
 -- no frame was read
 pub no-frame : (f : Frame) → none ≡ some f → ⊥
@@ -81,48 +61,30 @@ done-refused o x e = let z : _≡_ {A = ℕ} 0 1 = cc in omega arith
 refused-is : (x y : Refusal) → RefusedAdd x ≡ RefusedAdd y → Refused x ≡ Refused y
 refused-is x y e = let z : x ≡ y = cc in ap Refused z
 
--- the two texts of a pair's frame lie within it
-pub pair-inside : (b : Text) (n m : ℕ) (inside : Bool) → inside ≡ leb (5 + n + m) (length b) → not inside ≡ false → 5 + n + m ≤ length b
-pair-inside b n m inside e h = leb-true (5 + n + m) (length b) (told-true e h)
-
-pub cut-at : (at n : ℕ) (b : Text) → take (at + n - at) (drop at b) ≡ take n (drop at b)
-cut-at at n b = let z : at + n - at ≡ n = omega arith in rw z refl
-
 -- `act_pair`
-module _ (b : Text) (n m : ℕ) (k : Kept) (bytes : Text) (places : List ℕ) (inside : Bool) (e : inside ≡ leb (5 + n + m) (length b)) where
-  pub pair-outside : not inside ≡ true → OpenActed b (Pair n m) k bytes places k (Refused NoRoom) bytes places
-  unfolding OpenActed Acted meant
-  pair-outside h store slots table payload f w = absurd (no-frame f (rw (told-false e h) at w))
+module _ (s t : Text) (k : Kept) (bytes : Text) (places : List ℕ)
+    (a : Added) (ea : a ≡ addReply (addAsked (k .opened) s t (length bytes) (length places)) (k .opened) s t)
+    (bytes′ : Text) (eb : bytes′ ≡ addBytes (addAsked (k .opened) s t (length bytes) (length places)) (k .opened) s t bytes)
+    (places′ : List ℕ) (ep : places′ ≡ addPlaces (addAsked (k .opened) s t (length bytes) (length places)) (k .opened) s t places) where
+  pub pair-done : (o : Opened) → a ≡ Done o
+      → PairActed s t k bytes places (record { opened = o; legs = k .legs; answered = k .answered }) (Written 0) bytes′ places′
+  unfolding PairActed addIn addReply addBytes addPlaces
+  pair-done o d store slots table payload = go (addAsked (k .opened) s t (length bytes) (length places)) (sym d ∙ ea) eb ep
+    where
+      go : (q : Asked) → Done o ≡ addReply q (k .opened) s t → bytes′ ≡ addBytes q (k .opened) s t bytes → places′ ≡ addPlaces q (k .opened) s t places
+          → Took (addAfter q (memory k bytes places store slots table) s t)
+          (memory (record { opened = o; legs = k .legs; answered = k .answered }) bytes′ places′ store slots table) (Written 0) payload payload
+      go Passed x y z = record { state = rw (done-is o (oneMore (k .opened) s t) x, y, z) refl; reply = refl; payload = refl }
+      go (RefusedAsked r) x y z = absurd (done-refused o r x)
 
-  module _ (h : not inside ≡ false) (s t : Text) (hs : s ≡ take n (drop 3 b)) (ht : t ≡ take m (drop (5 + n) b)) where
-    the-pair : (f : Frame) → meant b (Pair n m) ≡ some f → pair s t ≡ f
-    unfolding meant
-    the-pair f w = rw (hs, ht) (same-frame (pair (take n (drop 3 b)) (take m (drop (5 + n) b))) f (rw (told-true e h) at w))
-
-    module _ (a : Added) (ea : a ≡ addReply (addAsked (k .opened) s t (length bytes) (length places)) (k .opened) s t)
-        (bytes′ : Text) (eb : bytes′ ≡ addBytes (addAsked (k .opened) s t (length bytes) (length places)) (k .opened) s t bytes)
-        (places′ : List ℕ) (ep : places′ ≡ addPlaces (addAsked (k .opened) s t (length bytes) (length places)) (k .opened) s t places) where
-      pub pair-done : (o : Opened) → a ≡ Done o
-          → OpenActed b (Pair n m) k bytes places (record { opened = o; legs = k .legs; answered = k .answered }) (Written 0) bytes′ places′
-      unfolding OpenActed Acted turnIn addIn addReply addBytes addPlaces
-      pair-done o d store slots table payload f w =
-          rw (← (the-pair f w)) (go (addAsked (k .opened) s t (length bytes) (length places)) (sym d ∙ ea) eb ep)
-        where
-          go : (q : Asked) → Done o ≡ addReply q (k .opened) s t → bytes′ ≡ addBytes q (k .opened) s t bytes → places′ ≡ addPlaces q (k .opened) s t places
-              → Took (addAfter q (memory k bytes places store slots table) s t)
-              (memory (record { opened = o; legs = k .legs; answered = k .answered }) bytes′ places′ store slots table) (Written 0) payload payload
-          go Passed x y z = record { state = rw (done-is o (oneMore (k .opened) s t) x, y, z) refl; reply = refl; payload = refl }
-          go (RefusedAsked r) x y z = absurd (done-refused o r x)
-
-      pub pair-refused : (x : Refusal) → a ≡ RefusedAdd x → OpenActed b (Pair n m) k bytes places k (Refused x) bytes′ places′
-      unfolding OpenActed Acted turnIn addIn addReply addBytes addPlaces
-      pair-refused x d store slots table payload f w =
-          rw (← (the-pair f w)) (go (addAsked (k .opened) s t (length bytes) (length places)) (sym d ∙ ea) eb ep)
-        where
-          go : (q : Asked) → RefusedAdd x ≡ addReply q (k .opened) s t → bytes′ ≡ addBytes q (k .opened) s t bytes → places′ ≡ addPlaces q (k .opened) s t places
-              → Took (addAfter q (memory k bytes places store slots table) s t) (memory k bytes′ places′ store slots table) (Refused x) payload payload
-          go Passed y u v = absurd (done-refused (oneMore (k .opened) s t) x (sym y))
-          go (RefusedAsked r) y u v = record { state = rw (u, v) refl; reply = refused-is x r y; payload = refl }
+  pub pair-refused : (x : Refusal) → a ≡ RefusedAdd x → PairActed s t k bytes places k (Refused x) bytes′ places′
+  unfolding PairActed addIn addReply addBytes addPlaces
+  pair-refused x d store slots table payload = go (addAsked (k .opened) s t (length bytes) (length places)) (sym d ∙ ea) eb ep
+    where
+      go : (q : Asked) → RefusedAdd x ≡ addReply q (k .opened) s t → bytes′ ≡ addBytes q (k .opened) s t bytes → places′ ≡ addPlaces q (k .opened) s t places
+          → Took (addAfter q (memory k bytes places store slots table) s t) (memory k bytes′ places′ store slots table) (Refused x) payload payload
+      go Passed y u v = absurd (done-refused (oneMore (k .opened) s t) x (sym y))
+      go (RefusedAsked r) y u v = record { state = rw (u, v) refl; reply = refused-is x r y; payload = refl }
 
 -- `act_close`
 gone-is : (g h : Legs) → DoneClose g ≡ DoneClose h → g ≡ h

@@ -1,10 +1,9 @@
 -- What the code knows of a frame on which it has acted.
 use mathlib.Core.Path.{_≡_}
-use Prim.Native.Nat.{ℕ, _+_}
-use mathlib.Core.Bool.{Bool, cond}
+use Prim.Native.Nat.{ℕ}
+use mathlib.Core.Bool.{Bool}
 use mathlib.Core.List.{List}
 use mathlib.Core.Option.{some}
-use lib.Dec.{leb}
 use lib.ListN.{length}
 use Rattle.text.specs.Text.{Text, written}
 use Rattle.path.specs.declared.Reply.{Reply}
@@ -16,7 +15,7 @@ use Rattle.frame.specs.declared.Read.{Read}
 use Rattle.frame.specs.declared.Read.the-variants.{Pair, Statuses, CloseMap, CloseRelocates, Out, Home, Count, Bad}
 use Rattle.frame.specs.Read.{meant}
 use Rattle.memory.specs.declared.Kept.{Kept}
-use Rattle.memory.specs.Memory.{Memory, memory, closeIn, turnIn}
+use Rattle.memory.specs.Memory.{Memory, memory, addIn, closeIn, turnIn}
 
 -- an answer as a reply, and its payload at the beginning of memory
 abbrev pub replyOf : Answer → Reply
@@ -45,28 +44,28 @@ unfoldable pub Acted : Text → Read → Memory → Memory → Reply → Text �
 unfolding meant turnIn
 Acted b r m m′ reply before behind = (f : Frame) → meant b r ≡ some f → Took (turnIn m f) m′ reply before behind
 
--- the kind of a frame that was read in so many bytes; none has 0
-abbrev pub kindIn : ℕ → Read → ℕ
-kindIn len (Pair n m) = cond (leb (5 + n + m) len) 1 0
-kindIn len Statuses = 2
-kindIn len CloseMap = 3
-kindIn len CloseRelocates = 4
-kindIn len Out = 5
-kindIn len Home = 6
-kindIn len Count = 7
-kindIn len Bad = 0
+-- the kind of a frame that was read; none has 0
+abbrev pub kindOf : Read → ℕ
+kindOf (Pair n m) = 1
+kindOf Statuses = 2
+kindOf CloseMap = 3
+kindOf CloseRelocates = 4
+kindOf Out = 5
+kindOf Home = 6
+kindOf Count = 7
+kindOf Bad = 0
 
 -- the count of 05 frames answered 00, by the reply
 abbrev pub countsReply : Reply → ℕ → ℕ
 countsReply (Written n) k = more k
 countsReply (Refused x) k = k
 
--- a frame that touches the open list alone: whatever the rest of the memory is
-unfoldable pub OpenActed : Text → Read → Kept → Text → List ℕ → Kept → Reply → Text → List ℕ → Type 0
-unfolding Acted
-OpenActed b r k bytes places k′ reply bytes′ places′ =
+-- a pair was added to the open list, whatever the rest of the memory is
+unfoldable pub PairActed : Text → Text → Kept → Text → List ℕ → Kept → Reply → Text → List ℕ → Type 0
+unfolding addIn
+PairActed s t k bytes places k′ reply bytes′ places′ =
     (store : Text) (slots table : List ℕ) (payload : Text)
-    → Acted b r (memory k bytes places store slots table) (memory k′ bytes′ places′ store slots table) reply payload payload
+    → Took (addIn (memory k bytes places store slots table) s t) (memory k′ bytes′ places′ store slots table) reply payload payload
 
 -- the open list was closed
 unfoldable pub CloseActed : Bool → Memory → Memory → Reply → Type 0

@@ -1,12 +1,9 @@
 // What a frame of the program `frames` does to the open list, to the legs and to the count, whatever memory is
 // lent: specs/ of crate memory says what each frame makes of it.
 ghost use mathlib.Core.Path.{_≡_};
-ghost use Prim.Native.Nat.{_+_};
-ghost use lib.Dec.{leb};
 ghost use lib.ListN.{drop};
-ghost use Rattle.frame.specs.declared.Read.the-variants.{Pair};
 ghost use Rattle.memory.specs.Memory.{memory};
-ghost use Rattle.acting.specs.Acting.{countsReply, OpenActed, CloseActed};
+ghost use Rattle.acting.specs.Acting.{countsReply, PairActed, CloseActed};
 
 // What a frame came to: the numbers that are kept, and the reply; its bytes, where there are any, stand at
 // the beginning of the payload.
@@ -25,43 +22,19 @@ pub fn behind_kind<'a>(frame: &'a [u8]) -> &'a [u8]
     &frame[1..]
 }
 
-// Do a pair's frame and its two lengths lie within so many bytes?
-pub fn spans(len: usize, n: usize, m: usize) -> bool
-    ensures { λ r. ⌜ r ≡ leb (5 + n + m) len ⌝ }
-{
-    if len < 5 {
-        return false;
-    }
-    let left = len - 5;
-    if left < n {
-        return false;
-    }
-    m <= left - n
-}
-
-// 01: adds a pair, whose source has n bytes and whose target m, to the open list.
+// 01: adds a pair to the open list.
 pub fn act_pair(
-    frame: &[u8],
-    n: usize,
-    m: usize,
+    source: &[u8],
+    target: &[u8],
     k: memory::Kept,
     bytes: &mut [u8],
     places: &mut [usize],
 ) -> Effect
-    ensures { λ r. ⌜ OpenActed (now (frame .entry)) (Pair n m) k (now (bytes .entry)) (now (places .entry)) (r .kept) (r .reply) (now (bytes .exit)) (now (places .exit)) ⌝ }
+    ensures { λ r. ⌜ PairActed (now (source .entry)) (now (target .entry)) k (now (bytes .entry)) (now (places .entry)) (r .kept) (r .reply) (now (bytes .exit)) (now (places .exit)) ⌝ }
 {
-    if !spans(frame.len(), n, m) {
-        return Effect {
-            kept: k,
-            reply: path::Reply::Refused(path::Refusal::NoRoom),
-        };
-    }
-    let end = 3 + n;
-    let start = 5 + n;
-    let last = start + m;
     let opened = k.opened;
     let legs = k.legs;
-    let a = holding::add_pair(opened, &frame[3..end], &frame[start..last], bytes, places);
+    let a = holding::add_pair(opened, source, target, bytes, places);
     match a {
         holding::Added::Done(o) => Effect {
             kept: memory::Kept {

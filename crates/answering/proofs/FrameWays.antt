@@ -30,9 +30,10 @@ use Rattle.protocol.specs.Run.{next, answer}
 use Rattle.protocol.specs.Input.{ofBytes, heard, answerLine}
 use Rattle.frame.specs.declared.Read.{Read}
 use Rattle.frame.specs.declared.Read.the-variants.{Pair, Statuses, CloseMap, CloseRelocates, Out, Home, Count, Bad}
-use Rattle.frame.specs.Read.{meant}
+use Rattle.frame.specs.Read.{readOf, meant}
+use Rattle.frame.proofs.MeantLaws.{read-means}
 use Rattle.memory.specs.Memory.{Memory, turnIn}
-use Rattle.acting.specs.Acting.{replyOf, payloadOf, Took, Acted, kindIn}
+use Rattle.acting.specs.Acting.{replyOf, payloadOf, Took, Acted, kindOf}
 use Rattle.answering.specs.Answer.{lineText, replyLine, Fitting, Wrote, Heard, AnswersFrame, memoryAfter, endAfter, outAfter}
 
 -- `hear`
@@ -115,26 +116,15 @@ module _ (line : Text) (len : ℕ) where
             let u : Over ≡ Bytes (length t) = y ∙ rw (le-leb (length t) 2048 (fits-half t x)) refl in
             let v : _≡_ {A = ℕ} 0 1 = cc in omega arith
 
--- `kind_of`
-pub kind-outside : (len n m : ℕ) (b : Bool) → b ≡ leb (5 + n + m) len → not b ≡ true → (r : Read) → r ≡ Pair n m → 0 ≡ kindIn len r
-kind-outside len n m b e h r w = rw (w, told-false e h)
-
-pub kind-inside : (len n m : ℕ) (b : Bool) → b ≡ leb (5 + n + m) len → not b ≡ false → (r : Read) → r ≡ Pair n m → 1 ≡ kindIn len r
-kind-inside len n m b e h r w = rw (w, told-true e h)
-
 -- a frame that was read
 record Says (b : Text) (r : Read) : Type 0 where
   frame : Frame
   read : meant b r ≡ some frame
-  kinds : kindIn (length b) r ≡ kind frame
+  kinds : kindOf r ≡ kind frame
 
-says : (b : Text) (r : Read) → kindIn (length b) r ≢ 0 → Says b r
+says : (b : Text) (r : Read) → kindOf r ≢ 0 → Says b r
 unfolding meant
-says b (Pair n m) h = go (leb (5 + n + m) (length b)) refl h
-  where
-    go : (t : Bool) → leb (5 + n + m) (length b) ≡ t → _≢_ {A = ℕ} (cond t 1 0) 0 → Says b (Pair n m)
-    go true e h = record { frame = pair (take n (drop 3 b)) (take m (drop (5 + n) b)); read = rw e refl; kinds = rw e refl }
-    go false e h = absurd (h refl)
+says b (Pair n m) h = record { frame = pair (take n (drop 3 b)) (take m (drop (5 + n) b)); read = refl; kinds = refl }
 says b Statuses h = record { frame = statuses; read = refl; kinds = refl }
 says b CloseMap h = record { frame = close-map; read = refl; kinds = refl }
 says b CloseRelocates h = record { frame = close-relocates; read = refl; kinds = refl }
@@ -143,13 +133,9 @@ says b Home h = record { frame = home (drop 1 b); read = refl; kinds = refl }
 says b Count h = record { frame = count; read = refl; kinds = refl }
 says b Bad h = absurd (h refl)
 
-silent-kind : (b : Text) (r : Read) → kindIn (length b) r ≡ 0 → meant b r ≡ none
+silent-kind : (b : Text) (r : Read) → kindOf r ≡ 0 → meant b r ≡ none
 unfolding meant
-silent-kind b (Pair n m) h = go (leb (5 + n + m) (length b)) h
-  where
-    go : (t : Bool) → _≡_ {A = ℕ} (cond t 1 0) 0 → cond t (some (pair (take n (drop 3 b)) (take m (drop (5 + n) b)))) none ≡ none
-    go true h = absurd (omega arith)
-    go false h = refl
+silent-kind b (Pair n m) h = absurd (omega arith)
 silent-kind b Statuses h = absurd (omega arith)
 silent-kind b CloseMap h = absurd (omega arith)
 silent-kind b CloseRelocates h = absurd (omega arith)
@@ -158,19 +144,15 @@ silent-kind b Home h = absurd (omega arith)
 silent-kind b Count h = absurd (omega arith)
 silent-kind b Bad h = refl
 
-pub kind-few : (len : ℕ) (r : Read) → kindIn len r ≤ 7
-kind-few len (Pair n m) = go (leb (5 + n + m) len)
-  where
-    go : (t : Bool) → cond t 1 0 ≤ 7
-    go true = omega arith
-    go false = omega arith
-kind-few len Statuses = omega arith
-kind-few len CloseMap = omega arith
-kind-few len CloseRelocates = omega arith
-kind-few len Out = omega arith
-kind-few len Home = omega arith
-kind-few len Count = omega arith
-kind-few len Bad = omega arith
+pub kind-few : (r : Read) → kindOf r ≤ 7
+kind-few (Pair n m) = omega arith
+kind-few Statuses = omega arith
+kind-few CloseMap = omega arith
+kind-few CloseRelocates = omega arith
+kind-few Out = omega arith
+kind-few Home = omega arith
+kind-few Count = omega arith
+kind-few Bad = omega arith
 
 -- `write_reply`
 pub reply-written : (head n at end : ℕ) (r : Reply) (payload before behind : Text) → r ≡ Written n → Wrote (lineText (head ∷ 0 ∷ take n payload)) at end before behind
@@ -195,10 +177,13 @@ pub reply-room : (n at : ℕ) (payload before : Text) → n ≤ length payload �
 reply-room n at payload before h e r = omega (arith, part-length n payload h, e, r, h)
 
 -- `answer_frame`
-module _ (b : Text) (r : Read) (e : meant b r ≡ frameOf b) (k : ℕ) (h : k ≡ kindIn (length b) r) (m : Memory) (at end : ℕ) (before behind : Text) where
+module _ (b : Text) (r : Read) (e : r ≡ readOf (frameOf b)) (k : ℕ) (h : k ≡ kindOf r) (m : Memory) (at end : ℕ) (before behind : Text) where
+  means : meant b r ≡ frameOf b
+  means = read-means b r e
+
   pub frame-bad : k ≡ 0 → Wrote (lineText (255 ∷ 9 ∷ [])) at end before behind → AnswersFrame (frameOf b) m m at end before behind
   unfolding AnswersFrame
-  frame-bad z w = rw (← e, silent-kind b r (sym h ∙ z)) (refl, w)
+  frame-bad z w = rw (← means, silent-kind b r (sym h ∙ z)) (refl, w)
 
   -- the payload of an answer is read back
   reply-line : (a : Answer) (head : ℕ) (reply : Reply) (payload payload′ : Text) → reply ≡ replyOf a → payload′ ≡ payloadOf a payload
@@ -216,7 +201,7 @@ module _ (b : Text) (r : Read) (e : meant b r ≡ frameOf b) (k : ℕ) (h : k �
     took = a (said .frame) (said .read)
 
     is-frame : some (said .frame) ≡ frameOf b
-    is-frame = sym (said .read) ∙ e
+    is-frame = sym (said .read) ∙ means
 
     line-same : replyLine (k + 128) reply payload′ ≡ lineText (answer turnIn m (frameOf b))
     line-same =

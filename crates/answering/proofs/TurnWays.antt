@@ -3,10 +3,10 @@ use mathlib.Core.Path.{_≡_, refl, sym, ap, _∙_}
 use mathlib.Core.Bool.{Bool, true, false, cond}
 use mathlib.Core.List.{List, [], _∷_}
 use mathlib.Core.Option.{some}
-use Prim.Native.Nat.{ℕ, _≤_}
+use Prim.Native.Nat.{ℕ, _+_, _-_, _≤_}
 use native.Mathlib.Omega.{arith}
 use lib.Dec.{leb}
-use lib.ListN.{length, drop}
+use lib.ListN.{length, take, drop}
 use borrow.Author.Tests.{le-leb}
 use Rattle.text.specs.Text.{Text, written}
 use Rattle.path.specs.declared.Refusal.the-variants.{NoRoom}
@@ -24,7 +24,7 @@ use Rattle.relocates.specs.Calls.{analyzeReply, analyzeMemory}
 use Rattle.relocates.proofs.MarkWays.{bytes-length}
 use Rattle.legs.specs.Lent.{LentRoute, lentRoute}
 use Rattle.routing.specs.Quick.{afterLegs}
-use Rattle.protocol.specs.Frame.{Frame, statuses, close-map, close-relocates, out, home, count}
+use Rattle.protocol.specs.Frame.{Frame, pair, statuses, close-map, close-relocates, out, home, count}
 use Rattle.protocol.specs.State.{given, refusal, answerOf, counts, fourBytes}
 use Rattle.frame.specs.declared.Read.{Read}
 use Rattle.frame.specs.declared.Read.the-variants.{Pair, Statuses, CloseMap, CloseRelocates, Out, Home, Count, Bad}
@@ -32,7 +32,7 @@ use Rattle.frame.specs.Read.{meant}
 use Rattle.memory.specs.declared.Kept.{Kept}
 use Rattle.memory.specs.Memory.{Memory, memory, statusesIn, goesIn, turnIn}
 use Rattle.acting.specs.declared.Effect.{Effect}
-use Rattle.acting.specs.Acting.{replyOf, payloadOf, Gave, Went, Acted, OpenActed, CloseActed, countsReply}
+use Rattle.acting.specs.Acting.{replyOf, payloadOf, Gave, Went, Acted, PairActed, CloseActed, countsReply}
 use Rattle.acting.proofs.ActWays.{no-frame, same-frame, countedEffect}
 
 -- `act_statuses`: a list that passes its questions has at most 64 pairs
@@ -77,6 +77,15 @@ way-given back b p k store slots table r payload payload′ e h f g =
     (f ∙ ap (λ (n : ℕ). reply (afterLegs Passed back s p n)) e ∙ ap (λ (x : Text). reply (afterLegs Passed back s x 255)) h)
     (g ∙ ap (λ (n : ℕ). lentAfter (afterLegs Passed back s p n) payload) e ∙ ap (λ (x : Text). lentAfter (afterLegs Passed back s x 255) payload) h)
 
+-- `act_pair_in`
+pub pair-cut : (b : Text) (n m : ℕ) (k : Kept) (bytes : Text) (places : List ℕ) (k′ : Kept) (reply : Reply) (bytes′ : Text) (places′ : List ℕ)
+    → PairActed (take (3 + n - 3) (drop 3 b)) (take (5 + n + m - (5 + n)) (drop (5 + n) b)) k bytes places k′ reply bytes′ places′
+    → PairActed (take n (drop 3 b)) (take m (drop (5 + n) b)) k bytes places k′ reply bytes′ places′
+pair-cut b n m k bytes places k′ reply bytes′ places′ a =
+    let i : 3 + n - 3 ≡ n = omega arith in
+    let j : 5 + n + m - (5 + n) ≡ m = omega arith in
+    rw (i, j) at a
+
 -- `act`
 module _ (b : Text) (r : Read) (k : Kept) (bytes : Text) (places : List ℕ) (store : Text) (slots table : List ℕ) (payload payload′ : Text) where
   abbrev now : Memory
@@ -86,10 +95,11 @@ module _ (b : Text) (r : Read) (k : Kept) (bytes : Text) (places : List ℕ) (st
   said : (g f : Frame) → meant b r ≡ some g → meant b r ≡ some f → g ≡ f
   said g f e w = same-frame g f (sym e ∙ w)
 
-  pub as-pair : (n m : ℕ) → r ≡ Pair n m → (k′ : Kept) (reply : Reply) (bytes′ : Text) (places′ : List ℕ) → OpenActed b (Pair n m) k bytes places k′ reply bytes′ places′
+  pub as-pair : (n m : ℕ) → r ≡ Pair n m → (k′ : Kept) (reply : Reply) (bytes′ : Text) (places′ : List ℕ)
+      → PairActed (take n (drop 3 b)) (take m (drop (5 + n) b)) k bytes places k′ reply bytes′ places′
       → Acted b r now (memory k′ bytes′ places′ store slots table) reply payload payload
-  unfolding OpenActed
-  as-pair n m h k′ reply bytes′ places′ a = rw h (a store slots table payload)
+  unfolding Acted meant turnIn PairActed
+  as-pair n m h k′ reply bytes′ places′ a f w = rw (← (said (pair (take n (drop 3 b)) (take m (drop (5 + n) b))) f (rw h refl) w)) (a store slots table payload)
 
   pub as-statuses : r ≡ Statuses → (reply : Reply) → Gave (statusesIn (memory k bytes places [] [] [])) reply payload payload′ → Acted b r now now reply payload payload′
   unfolding Acted meant turnIn statusesIn Gave

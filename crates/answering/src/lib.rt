@@ -4,14 +4,15 @@ ghost use mathlib.Core.Path.{_≡_};
 ghost use mathlib.Core.List.{[], _∷_};
 ghost use Prim.Native.Nat.{_+_, _*_, _≤_};
 ghost use lib.Dec.{leb};
-ghost use lib.ListN.{length, drop};
+ghost use lib.ListN.{length, take, drop};
 ghost use Rattle.text.specs.Text.{written};
 ghost use Rattle.path.specs.Refusal.{number};
 ghost use Rattle.protocol.specs.State.{fourBytes};
 ghost use Rattle.lines.specs.Taking.{lineAt};
 ghost use Rattle.protocol.specs.Frame.{frameOf};
 ghost use Rattle.memory.specs.Memory.{memory, statusesIn, goesIn};
-ghost use Rattle.acting.specs.Acting.{kindIn, Gave, Went, Acted};
+ghost use Rattle.frame.specs.Read.{readOf};
+ghost use Rattle.acting.specs.Acting.{kindOf, Gave, Went, Acted, PairActed};
 ghost use Rattle.answering.specs.Answer.{lineText, replyLine, Fitting, Wrote, Heard, AnswersFrame, memoryAfter, outAfter, endAfter};
 
 // What a line came to: the numbers that are kept, and where its answer ends.
@@ -43,17 +44,12 @@ fn write_line(head: u8, answer: u8, payload: &[u8], at: usize, out: &mut [u8]) -
     end + 1
 }
 
-// The kind of a frame that was read in so many bytes, 0 where it is none.
-fn kind_of(r: frame::Read, len: usize) -> u8
-    ensures { λ k. ⌜ k ≡ kindIn len r ⌝ }
+// The kind of a frame that was read, 0 where it is none.
+fn kind_of(r: frame::Read) -> u8
+    ensures { λ k. ⌜ k ≡ kindOf r ⌝ }
 {
     match r {
-        frame::Read::Pair(n, m) => {
-            if !acting::spans(len, n, m) {
-                return 0;
-            }
-            1
-        }
+        frame::Read::Pair(n, m) => 1,
         frame::Read::Statuses => 2,
         frame::Read::CloseMap => 3,
         frame::Read::CloseRelocates => 4,
@@ -75,6 +71,24 @@ fn write_count(n: usize, payload: &mut [u8])
     four[2] = (n / 256 % 256) as u8;
     four[3] = (n % 256) as u8;
     text::write_at(&four, 0, payload);
+}
+
+// 01: adds the pair of the frame, whose source has n bytes and whose target m, to the open list.
+fn act_pair_in(
+    frame: &[u8],
+    n: usize,
+    m: usize,
+    k: memory::Kept,
+    bytes: &mut [u8],
+    places: &mut [usize],
+) -> acting::Effect
+    requires { ⌜ 5 + n + m ≤ length (now frame) ⌝ }
+    ensures { λ r. ⌜ PairActed (take n (drop 3 (now (frame .entry)))) (take m (drop (5 + n) (now (frame .entry)))) k (now (bytes .entry)) (now (places .entry)) (r .kept) (r .reply) (now (bytes .exit)) (now (places .exit)) ⌝ }
+{
+    let end = 3 + n;
+    let start = 5 + n;
+    let last = start + m;
+    acting::act_pair(&frame[3..end], &frame[start..last], k, bytes, places)
 }
 
 // 02: the statuses of the open list.
@@ -126,10 +140,11 @@ fn act(
     payload: &mut [u8],
 ) -> acting::Effect
     requires { ⌜ length (now payload) ≡ 255 ⌝ }
+    requires { ⌜ r ≡ readOf (frameOf (now frame)) ⌝ }
     ensures { λ a. ⌜ Acted (now (frame .entry)) r (memory k (now (bytes .entry)) (now (places .entry)) (now (store .entry)) (now (slots .entry)) (now (table .entry))) (memory (a .kept) (now (bytes .exit)) (now (places .exit)) (now (store .exit)) (now (slots .exit)) (now (table .exit))) (a .reply) (now (payload .entry)) (now (payload .exit)) ⌝ }
 {
     match r {
-        frame::Read::Pair(n, m) => acting::act_pair(frame, n, m, k, bytes, places),
+        frame::Read::Pair(n, m) => act_pair_in(frame, n, m, k, bytes, places),
         frame::Read::Statuses => acting::Effect {
             kept: k,
             reply: act_statuses(k, bytes, places, payload),
@@ -194,7 +209,7 @@ fn answer_frame(
     ensures { λ r. ⌜ AnswersFrame (frameOf (now (frame .entry))) (memory k (now (bytes .entry)) (now (places .entry)) (now (store .entry)) (now (slots .entry)) (now (table .entry))) (memory (r .kept) (now (bytes .exit)) (now (places .exit)) (now (store .exit)) (now (slots .exit)) (now (table .exit))) at (r .end) (now (out .entry)) (now (out .exit)) ⌝ }
 {
     let r = frame::read_frame(frame);
-    let kind = kind_of(r, frame.len());
+    let kind = kind_of(r);
     if kind == 0 {
         let end = write_line(255, 9, &frame[..0], at, out);
         return Answered { kept: k, end };

@@ -1,1 +1,2 @@
 pub mod ReadWays
+pub mod MeantLaws

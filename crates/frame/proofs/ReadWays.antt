@@ -8,12 +8,13 @@ use Prim.Native.Nat.{ℕ, zero, suc, _+_, _*_, _-_, _≤_, _<_}
 use native.Mathlib.Omega.{arith}
 use lib.Dec.{leb}
 use lib.ListN.{length, getD, take, drop, length-drop}
+use lib.Seq.{length-take-le}
 use borrow.Author.Tests.{ne-eqb, le-leb, leb-true}
 use Rattle.text.specs.Text.{Text, isNil}
 use Rattle.protocol.specs.Frame.{Frame, pair, statuses, close-map, close-relocates, count, field, firstField, endsWith, pairOf, alone, ofKind, frameOf}
 use Rattle.frame.specs.declared.Read.{Read}
 use Rattle.frame.specs.declared.Read.the-variants.{Pair, Statuses, CloseMap, CloseRelocates, Out, Home, Count, Bad}
-use Rattle.frame.specs.Read.{meant, aloneOf}
+use Rattle.frame.specs.Read.{readOf, aloneOf}
 
 -- fewer than two bytes hold no length
 too-few : (x : Text) → length x < 2 → firstField x ≡ none
@@ -77,9 +78,8 @@ numberAt b at = 256 * getD b at 0 + getD b (at + 1) 0
 
 -- `read_pair`
 module _ (b : Text) where
-  pub pair-short : length b < 5 → meant b Bad ≡ pairOf (firstField (drop 1 b))
-  unfolding meant
-  pair-short = go b
+  pub pair-short : length b < 5 → Bad ≡ readOf (pairOf (firstField (drop 1 b)))
+  pair-short h = ap readOf (go b h)
     where
       go : (b : Text) → length b < 5 → none ≡ pairOf (firstField (drop 1 b))
       go [] k = refl
@@ -88,9 +88,8 @@ module _ (b : Text) where
       go (a ∷ h ∷ l ∷ r) k = no-target h l r (omega (arith, k))
 
   module _ (k : 5 ≤ length b) (n : ℕ) (e : n ≡ numberAt b 1) where
-    pub pair-over : length b - 5 < n → meant b Bad ≡ pairOf (firstField (drop 1 b))
-    unfolding meant
-    pair-over = go b k e
+    pub pair-over : length b - 5 < n → Bad ≡ readOf (pairOf (firstField (drop 1 b)))
+    pair-over h = ap readOf (go b k e h)
       where
         go : (b : Text) → 5 ≤ length b → n ≡ numberAt b 1 → length b - 5 < n → none ≡ pairOf (firstField (drop 1 b))
         go [] k e h = absurd (omega arith)
@@ -122,13 +121,17 @@ module _ (b : Text) where
       left : length (drop (5 + n) b) ≡ length b - 5 - n
       left = length-drop (5 + n) b ∙ omega arith
 
-      pub pair-other : length b - 5 - n ≢ m → meant b Bad ≡ pairOf (firstField (drop 1 b))
-      unfolding meant
-      pair-other h = not-filled (take n (drop 3 b)) m (drop (5 + n) b) (λ z. h (sym left ∙ z)) ∙ sym opened
+      pub pair-other : length b - 5 - n ≢ m → Bad ≡ readOf (pairOf (firstField (drop 1 b)))
+      pair-other h = ap readOf (not-filled (take n (drop 3 b)) m (drop (5 + n) b) (λ z. h (sym left ∙ z)) ∙ sym opened)
 
-      pub pair-filled : length b - 5 - n ≡ m → meant b (Pair n m) ≡ pairOf (firstField (drop 1 b))
-      unfolding meant
-      pair-filled h = rw (le-leb (5 + n + m) (length b) (omega (arith, k, l, h))) (filled (take n (drop 3 b)) m (drop (5 + n) b) (left ∙ h) ∙ sym opened)
+      pub pair-filled : length b - 5 - n ≡ m → Pair n m ≡ readOf (pairOf (firstField (drop 1 b)))
+      pair-filled h =
+          let s : length (take n (drop 3 b)) ≡ n = length-take-le n (drop 3 b) (rw (length-drop 3 b) (omega (arith, k, l))) in
+          let t : length (take m (drop (5 + n) b)) ≡ m = length-take-le m (drop (5 + n) b) (rw (left ∙ h) (omega arith)) in
+          ap (λ (i : ℕ). Pair i m) (sym s) ∙ ap (λ (j : ℕ). Pair (length (take n (drop 3 b))) j) (sym t)
+          ∙ ap readOf (filled (take n (drop 3 b)) m (drop (5 + n) b) (left ∙ h) ∙ sym opened)
+
+pub ruleset fills = (pair-short, pair-over, pair-other, pair-filled)
 
 -- `alone`
 module _ (b : Text) (r : Read) where
@@ -149,62 +152,54 @@ module _ (b : Text) (r : Read) where
       go (a ∷ x ∷ b) h = absurd (omega arith)
 
   -- it says its frame where nothing follows
-  alone-says : (f : Frame) → meant b r ≡ some f → (a : Read) → a ≡ aloneOf b r → meant b a ≡ alone f (drop 1 b)
-  unfolding meant
-  alone-says f h a e = rw e (go (isNil (drop 1 b)))
+  alone-says : (f : Frame) → r ≡ readOf (some f) → (a : Read) → a ≡ aloneOf b r → a ≡ readOf (alone f (drop 1 b))
+  alone-says f h a e = e ∙ go (isNil (drop 1 b))
     where
-      go : (t : Bool) → meant b (cond t r Bad) ≡ cond t (some f) none
+      go : (t : Bool) → cond t r Bad ≡ readOf (cond t (some f) none)
       go true = h
       go false = refl
 
 -- `read_kind`
 module _ (b : Text) (k : ℕ) where
-  pub kind-1 : k ≡ 1 → (r : Read) → meant b r ≡ pairOf (firstField (drop 1 b)) → meant b r ≡ ofKind k (drop 1 b)
+  pub kind-1 : k ≡ 1 → (r : Read) → r ≡ readOf (pairOf (firstField (drop 1 b))) → r ≡ readOf (ofKind k (drop 1 b))
   kind-1 h r e = rw h e
 
-  pub kind-2 : k ≡ 2 → (r : Read) → r ≡ aloneOf b Statuses → meant b r ≡ ofKind k (drop 1 b)
-  unfolding meant
+  pub kind-2 : k ≡ 2 → (r : Read) → r ≡ aloneOf b Statuses → r ≡ readOf (ofKind k (drop 1 b))
   kind-2 h r e = rw h (alone-says b Statuses statuses refl r e)
 
-  pub kind-3 : k ≡ 3 → (r : Read) → r ≡ aloneOf b CloseMap → meant b r ≡ ofKind k (drop 1 b)
-  unfolding meant
+  pub kind-3 : k ≡ 3 → (r : Read) → r ≡ aloneOf b CloseMap → r ≡ readOf (ofKind k (drop 1 b))
   kind-3 h r e = rw h (alone-says b CloseMap close-map refl r e)
 
-  pub kind-4 : k ≡ 4 → (r : Read) → r ≡ aloneOf b CloseRelocates → meant b r ≡ ofKind k (drop 1 b)
-  unfolding meant
+  pub kind-4 : k ≡ 4 → (r : Read) → r ≡ aloneOf b CloseRelocates → r ≡ readOf (ofKind k (drop 1 b))
   kind-4 h r e = rw h (alone-says b CloseRelocates close-relocates refl r e)
 
-  pub kind-5 : k ≡ 5 → meant b Out ≡ ofKind k (drop 1 b)
-  unfolding meant
+  pub kind-5 : k ≡ 5 → Out ≡ readOf (ofKind k (drop 1 b))
   kind-5 h = rw h
 
-  pub kind-6 : k ≡ 6 → meant b Home ≡ ofKind k (drop 1 b)
-  unfolding meant
+  pub kind-6 : k ≡ 6 → Home ≡ readOf (ofKind k (drop 1 b))
   kind-6 h = rw h
 
-  pub kind-7 : k ≡ 7 → (r : Read) → r ≡ aloneOf b Count → meant b r ≡ ofKind k (drop 1 b)
-  unfolding meant
+  pub kind-7 : k ≡ 7 → (r : Read) → r ≡ aloneOf b Count → r ≡ readOf (ofKind k (drop 1 b))
   kind-7 h r e = rw h (alone-says b Count count refl r e)
 
-  pub kind-other : k ≢ 1 → k ≢ 2 → k ≢ 3 → k ≢ 4 → k ≢ 5 → k ≢ 6 → k ≢ 7 → meant b Bad ≡ ofKind k (drop 1 b)
-  unfolding meant
+  pub kind-other : k ≢ 1 → k ≢ 2 → k ≢ 3 → k ≢ 4 → k ≢ 5 → k ≢ 6 → k ≢ 7 → Bad ≡ readOf (ofKind k (drop 1 b))
   kind-other a c d e f g h = rw (ne-eqb k 1 a, ne-eqb k 2 c, ne-eqb k 3 d, ne-eqb k 4 e, ne-eqb k 5 f, ne-eqb k 6 g, ne-eqb k 7 h)
 
 pub ruleset kinds = (alone-more, alone-only, kind-1, kind-2, kind-3, kind-4, kind-5, kind-6, kind-7, kind-other)
 
 -- `read_frame`
 module _ (b : Text) where
-  pub frame-empty : length b ≡ 0 → meant b Bad ≡ frameOf b
-  unfolding meant frameOf
-  frame-empty = go b
+  pub frame-empty : length b ≡ 0 → Bad ≡ readOf (frameOf b)
+  unfolding frameOf
+  frame-empty h = ap readOf (go b h)
     where
       go : (b : Text) → length b ≡ 0 → none ≡ frameOf b
       go [] h = refl
       go (a ∷ b) h = absurd (omega arith)
 
-  pub frame-kind : length b ≢ 0 → (r : Read) → meant b r ≡ ofKind (getD b 0 0) (drop 1 b) → meant b r ≡ frameOf b
+  pub frame-kind : length b ≢ 0 → (r : Read) → r ≡ readOf (ofKind (getD b 0 0) (drop 1 b)) → r ≡ readOf (frameOf b)
   unfolding frameOf
-  frame-kind h r e = e ∙ go b h
+  frame-kind h r e = e ∙ ap readOf (go b h)
     where
       go : (b : Text) → length b ≢ 0 → ofKind (getD b 0 0) (drop 1 b) ≡ frameOf b
       go [] h = absurd (h refl)

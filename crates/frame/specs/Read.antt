@@ -2,17 +2,26 @@
 use Prim.Native.Nat.{_+_}
 use mathlib.Core.Bool.{cond}
 use mathlib.Core.Option.{Option, none, some}
-use lib.Dec.{leb}
 use lib.ListN.{length, take, drop}
 use Rattle.text.specs.Text.{Text, isNil}
 use Rattle.protocol.specs.Frame.{Frame, pair, statuses, close-map, close-relocates, out, home, count}
 use Rattle.frame.specs.declared.Read.{Read}
 use Rattle.frame.specs.declared.Read.the-variants.{Pair, Statuses, CloseMap, CloseRelocates, Out, Home, Count, Bad}
 
--- the source stands behind the kind and its length, the target behind that and its own length, within the frame; a path stands behind the
--- kind
+-- what a frame is read as: of a pair how many bytes its ends have
+abbrev pub readOf : Option Frame → Read
+readOf none = Bad
+readOf (some (pair s t)) = Pair (length s) (length t)
+readOf (some statuses) = Statuses
+readOf (some close-map) = CloseMap
+readOf (some close-relocates) = CloseRelocates
+readOf (some (out p)) = Out
+readOf (some (home p)) = Home
+readOf (some count) = Count
+
+-- and back: the source stands behind the kind and its length, the target behind that and its own length; a path stands behind the kind
 unfoldable pub meant : Text → Read → Option Frame
-meant b (Pair n m) = cond (leb (5 + n + m) (length b)) (some (pair (take n (drop 3 b)) (take m (drop (5 + n) b)))) none
+meant b (Pair n m) = some (pair (take n (drop 3 b)) (take m (drop (5 + n) b)))
 meant b Statuses = some statuses
 meant b CloseMap = some close-map
 meant b CloseRelocates = some close-relocates

@@ -3,7 +3,7 @@ ghost use mathlib.Core.Path.{_≡_};
 ghost use Prim.Native.Nat.{_+_, _*_, _≤_};
 ghost use lib.ListN.{length, getD, drop};
 ghost use Rattle.protocol.specs.Frame.{firstField, pairOf, ofKind, frameOf};
-ghost use Rattle.frame.specs.Read.{meant, aloneOf};
+ghost use Rattle.frame.specs.Read.{readOf, aloneOf};
 
 // What a frame says; specs/Read.antt has the frame of each case.
 pub enum Read {
@@ -36,7 +36,7 @@ fn number_at(bytes: &[u8], at: usize) -> usize
 
 // A pair's frame: the kind, and two texts behind their lengths that fill it exactly.
 fn read_pair(bytes: &[u8]) -> Read
-    ensures { λ r. ⌜ meant (now (bytes .entry)) r ≡ pairOf (firstField (drop 1 (now (bytes .entry)))) ⌝ }
+    ensures { λ r. ⌜ r ≡ readOf (pairOf (firstField (drop 1 (now (bytes .entry))))) ⌝ }
 {
     if bytes.len() < 5 {
         return Read::Bad;
@@ -65,7 +65,7 @@ fn alone(bytes: &[u8], r: Read) -> Read
 
 // What the bytes say by their kind.
 fn read_kind(bytes: &[u8], kind: u8) -> Read
-    ensures { λ r. ⌜ meant (now (bytes .entry)) r ≡ ofKind kind (drop 1 (now (bytes .entry))) ⌝ }
+    ensures { λ r. ⌜ r ≡ readOf (ofKind kind (drop 1 (now (bytes .entry)))) ⌝ }
 {
     match kind {
         1 => read_pair(bytes),
@@ -81,7 +81,7 @@ fn read_kind(bytes: &[u8], kind: u8) -> Read
 
 // What the bytes of a frame say.
 pub fn read_frame(bytes: &[u8]) -> Read
-    ensures { λ r. ⌜ meant (now (bytes .entry)) r ≡ frameOf (now (bytes .entry)) ⌝ }
+    ensures { λ r. ⌜ r ≡ readOf (frameOf (now (bytes .entry))) ⌝ }
 {
     if bytes.len() == 0 {
         return Read::Bad;

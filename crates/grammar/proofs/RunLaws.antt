@@ -1,6 +1,6 @@
 -- How the automaton reads: text after text, and from a dead state. Assumes nothing.
 use mathlib.Core.Path.{_≡_, refl}
-use mathlib.Core.Bool.{true, false, false≢true}
+use mathlib.Core.Bool.{true, false≢true}
 use mathlib.Core.List.{[], _∷_, _++_}
 use Rattle.text.specs.Text.{Text}
 use Rattle.grammar.specs.Legal.{State, Dead, step, run, accept}

@@ -1,9 +1,7 @@
 // The open list of the program `frames` in lent memory. Nothing is assumed of the memory: what it means
 // is said in specs/Opened.antt.
 ghost use mathlib.Core.Path.{_≡_};
-ghost use Prim.Native.Nat.{_+_};
 ghost use lib.ListN.{length};
-ghost use Rattle.path.specs.declared.Asked.the-variants.{Passed};
 ghost use Rattle.holding.specs.Add.{addAsked, addReply, addBytes, addPlaces, AddFits};
 
 // The open list's own numbers: its pairs, and the bytes of their ends.

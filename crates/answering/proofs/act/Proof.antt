@@ -1,3 +1,4 @@
+use Rattle.frame.proofs.MeantLaws.{pair-within}
 use Rattle.answering.proofs.TurnWays.{as-pair, as-statuses, as-map, as-relocates, as-out, as-home, as-count, as-bad}
 use borrow.Author.Needs.{needs}
 use Rattle.answering.proofs.act.Statement.{statement}
@@ -6,8 +7,8 @@ use Rattle.answering.proofs.act.Tie as tie
 enum-known-r : tie.Need-enum-known-r
 enum-known-r c = search needs
 
-act-pair-requires : tie.Need-act-pair-requires
-act-pair-requires c κs = search needs
+act-pair-in-requires : tie.Need-act-pair-in-requires
+act-pair-in-requires c κs = pair-within (c .before .before .before .before .before .before .before .before .before .before .before .before .args .frame .now) _ _ _ (c .before .before .before .before .before .before .before .before .before .before .before .before .pre .1) (c .before .before .before .r .given .1)
 
 enum-told : tie.Need-enum-told
 enum-told c = search needs
@@ -58,7 +59,7 @@ same-length-2 : tie.Need-same-length-2
 same-length-2 c = search needs
 
 returns : tie.Need-returns
-returns c = as-pair _ _ _ _ _ _ _ _ _ (c .before .before .before .before .before .before .before .before .before .before .before .before .before .before .before .before .before .args .payload .now) _ _ (c .before .before .before .before .before .before .before .before .r .given .1) _ _ _ _ (c .before .before .before .before .act-pair .ensures)
+returns c = as-pair _ _ _ _ _ _ _ _ _ (c .before .before .before .before .before .before .before .before .before .before .before .before .before .before .before .before .before .args .payload .now) _ _ (c .before .before .before .before .before .before .before .before .r .given .1) _ _ _ _ (c .before .before .before .before .act-pair-in .ensures)
 
 same-length-3 : tie.Need-same-length-3
 same-length-3 c = search needs
@@ -152,7 +153,7 @@ act-spec =
     tie.close
     (tie.spec
     enum-known-r
-    act-pair-requires
+    act-pair-in-requires
     enum-told
     act-statuses-requires
     enum-told-2

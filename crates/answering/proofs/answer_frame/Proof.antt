@@ -1,4 +1,3 @@
-use lib.ListN.{length}
 use mathlib.Core.List.{[]}
 use native.Mathlib.Omega.{arith}
 use Rattle.answering.proofs.FrameWays.{kind-few, frame-bad, frame-acted, frame-fits}
@@ -31,7 +30,7 @@ act-requires : tie.Need-act-requires
 act-requires c κs = search needs
 
 add-write-reply : tie.Need-add-write-reply
-add-write-reply c = omega (arith, kind-few (length (c .before .before .before .before .before .before .before .before .before .before .before .before .before .before .before .before .before .before .before .before .before .before .before .before .before .before .before .before .before .args .frame .now)) (c .before .before .before .before .before .before .before .before .before .before .before .before .before .before .before .before .before .before .before .before .before .read-frame .result), c .before .before .before .before .before .before .before .before .before .before .before .before .before .before .before .before .before .before .before .before .kind-of .ensures)
+add-write-reply c = omega (arith, kind-few (c .before .before .before .before .before .before .before .before .before .before .before .before .before .before .before .before .before .before .before .before .before .read-frame .result), c .before .before .before .before .before .before .before .before .before .before .before .before .before .before .before .before .before .before .before .before .kind-of .ensures)
 
 slice-aggregate-write-reply : tie.Need-slice-aggregate-write-reply
 slice-aggregate-write-reply c = search needs

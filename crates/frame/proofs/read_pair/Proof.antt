@@ -1,10 +1,10 @@
-use Rattle.frame.proofs.ReadWays.{pair-short, pair-over, pair-other, pair-filled}
+use Rattle.frame.proofs.ReadWays.{fills}
 use borrow.Author.Needs.{needs}
 use Rattle.frame.proofs.read_pair.Statement.{statement}
 use Rattle.frame.proofs.read_pair.Tie as tie
 
 returns : tie.Need-returns
-returns c = pair-short _ (c .if1 .taken)
+returns c = search (needs, fills)
 
 sub-left : tie.Need-sub-left
 sub-left c = search needs
@@ -13,7 +13,7 @@ number-at-requires : tie.Need-number-at-requires
 number-at-requires c κs = search needs
 
 returns-2 : tie.Need-returns-2
-returns-2 c = pair-over _ (c .before .before .if1 .left) _ (c .before .number-at .ensures) (c .if2 .taken)
+returns-2 c = search (needs, fills)
 
 add-number-at : tie.Need-add-number-at
 add-number-at c = search needs
@@ -22,10 +22,10 @@ number-at-requires-2 : tie.Need-number-at-requires-2
 number-at-requires-2 c κs = search needs
 
 returns-3 : tie.Need-returns-3
-returns-3 c = pair-other _ (c .before .before .before .before .if1 .left) _ (c .before .before .before .number-at .ensures) (c .before .before .if2 .left) _ (c .before .number-at2 .ensures) (c .if3 .taken)
+returns-3 c = search (needs, fills)
 
 returns-4 : tie.Need-returns-4
-returns-4 c = pair-filled _ (c .before .before .before .before .if1 .left) _ (c .before .before .before .number-at .ensures) (c .before .before .if2 .left) _ (c .before .number-at2 .ensures) (c .if3 .left)
+returns-4 c = search (needs, fills)
 
 pub read-pair-spec : {M : Type 1} → statement M
 read-pair-spec =
