@@ -13,7 +13,10 @@ ghost use Rattle.protocol.specs.Frame.{frameOf};
 ghost use Rattle.memory.specs.Memory.{memory, statusesIn, goesIn};
 ghost use Rattle.frame.specs.Read.{readOf};
 ghost use Rattle.acting.specs.Acting.{kindOf, Gave, Went, Acted, PairActed};
-ghost use Rattle.answering.specs.Answer.{lineText, replyLine, Fitting, Wrote, Heard, AnswersFrame, memoryAfter, outAfter, endAfter};
+ghost use Rattle.answering.specs.Answer.{longest, lineText, replyLine, Fitting, Wrote, Heard, AnswersFrame, memoryAfter, outAfter, endAfter};
+
+// The longest answer line: two bytes and a path of 255, two digits each, and the newline.
+pub const LONGEST: usize = 515;
 
 // What a line came to: the numbers that are kept, and where its answer ends.
 pub struct Answered {
@@ -184,7 +187,7 @@ fn act(
 // Writes the answer line of a reply, whose payload stands at the beginning of memory.
 fn write_reply(head: u8, reply: path::Reply, payload: &[u8], at: usize, out: &mut [u8]) -> usize
     requires { ⌜ Fitting reply (length (now payload)) ⌝ }
-    requires { ⌜ (length (now payload) ≡ 255) × (at + 515 ≤ length (now out)) ⌝ }
+    requires { ⌜ (length (now payload) ≡ 255) × (at + longest ≤ length (now out)) ⌝ }
     ensures { λ r. ⌜ Wrote (replyLine head reply (now (payload .entry))) at r (now (out .entry)) (now (out .exit)) ⌝ }
 {
     match reply {
@@ -205,7 +208,7 @@ fn answer_frame(
     at: usize,
     out: &mut [u8],
 ) -> Answered
-    requires { ⌜ at + 515 ≤ length (now out) ⌝ }
+    requires { ⌜ at + longest ≤ length (now out) ⌝ }
     ensures { λ r. ⌜ AnswersFrame (frameOf (now (frame .entry))) (memory k (now (bytes .entry)) (now (places .entry)) (now (store .entry)) (now (slots .entry)) (now (table .entry))) (memory (r .kept) (now (bytes .exit)) (now (places .exit)) (now (store .exit)) (now (slots .exit)) (now (table .exit))) at (r .end) (now (out .entry)) (now (out .exit)) ⌝ }
 {
     let r = frame::read_frame(frame);
@@ -254,12 +257,12 @@ fn hear(line: &[u8], len: usize, frame: &mut [u8]) -> usize
 
 // Is there room for the longest answer behind `at` bytes?
 fn has_room(at: usize, len: usize) -> bool
-    ensures { λ r. ⌜ r ≡ leb (at + 515) len ⌝ }
+    ensures { λ r. ⌜ r ≡ leb (at + longest) len ⌝ }
 {
-    if len < 515 {
+    if len < LONGEST {
         return false;
     }
-    at <= len - 515
+    at <= len - LONGEST
 }
 
 // Answers the line of `len` bytes behind `at` bytes of out, and does what it says. A line with more bytes

@@ -2,10 +2,8 @@
 ghost use mathlib.Core.Path.{_≡_};
 ghost use Prim.Native.Nat.{_+_, _≤_};
 ghost use lib.ListN.{length};
+ghost use Rattle.answering.specs.Answer.{longest};
 ghost use Rattle.feeding.specs.Feed.{at, begun, turnOf, feedOf};
-
-// The longest answer line.
-const LONGEST: usize = 515;
 
 // What was made of a block.
 pub struct Fed {
@@ -34,7 +32,7 @@ fn turn(
     end: usize,
     out: &mut [u8],
 ) -> Fed
-    requires { ⌜ end + 515 ≤ length (now out) ⌝ }
+    requires { ⌜ end + longest ≤ length (now out) ⌝ }
     ensures { λ r. ⌜ at r (now (line .exit)) (now (bytes .exit)) (now (places .exit)) (now (store .exit)) (now (slots .exit)) (now (table .exit)) (now (out .exit)) ≡ turnOf (now (block .entry)) (at (begun len k end) (now (line .entry)) (now (bytes .entry)) (now (places .entry)) (now (store .entry)) (now (slots .entry)) (now (table .entry)) (now (out .entry))) ⌝ }
 {
     let t = lines::take_line(block, line, len);
@@ -77,7 +75,7 @@ pub fn feed(
     let mut n = len;
     let mut kept = k;
     let mut end = 0;
-    while used < block.len() && LONGEST <= out.len() - end {
+    while used < block.len() && answering::LONGEST <= out.len() - end {
         let t = turn(
             &block[used..],
             line,

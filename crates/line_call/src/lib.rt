@@ -46,7 +46,7 @@ fn ask_room(kept: &[usize], out: &[u8]) -> path::Asked
     if kept.len() < 5 {
         return path::Asked::Refused(path::Refusal::NoRoom);
     }
-    if out.len() < 515 {
+    if out.len() < answering::LONGEST {
         return path::Asked::Refused(path::Refusal::NoRoom);
     }
     path::Asked::Passed
