@@ -5,7 +5,7 @@ ghost use Prim.Native.Nat.{_+_, _≤_};
 ghost use lib.ListN.{length};
 ghost use Rattle.pairs.specs.Pair.{pair};
 ghost use Rattle.pairs.specs.Places.{pairsIn};
-ghost use Rattle.map_function.specs.Made.{mapReply, mapBytes, mapSlots};
+ghost use Rattle.map_function.specs.Made.{GivesMap};
 ghost use Rattle.making.specs.Calls.{newCall, fromPairCall, fromPairIdentityCall};
 
 // The map of the pairs.
@@ -16,9 +16,7 @@ pub fn new(
     out: &mut [u8],
     slots: &mut [usize],
 ) -> map_function::MapReply
-    ensures { λ r. ⌜ r ≡ mapReply (newCall (now (store .entry)) (now (places .entry)) count (now (out .entry)) (now (slots .entry))) ⌝ }
-    ensures { λ r. ⌜ now (out .exit) ≡ mapBytes (newCall (now (store .entry)) (now (places .entry)) count (now (out .entry)) (now (slots .entry))) (now (out .entry)) ⌝ }
-    ensures { λ r. ⌜ now (slots .exit) ≡ mapSlots (newCall (now (store .entry)) (now (places .entry)) count (now (out .entry)) (now (slots .entry))) (now (slots .entry)) ⌝ }
+    ensures { λ r. ⌜ GivesMap (newCall (now (store .entry)) (now (places .entry)) count (now (out .entry)) (now (slots .entry))) r (now (out .entry)) (now (out .exit)) (now (slots .entry)) (now (slots .exit)) ⌝ }
 {
     let q = asking::ask_pairs(store, places, count);
     if let path::Asked::Refused(x) = q {
@@ -47,9 +45,7 @@ pub fn from_pair(
     out: &mut [u8],
     slots: &mut [usize],
 ) -> map_function::MapReply
-    ensures { λ r. ⌜ r ≡ mapReply (fromPairCall (now (source .entry)) (now (target .entry)) (now (out .entry)) (now (slots .entry))) ⌝ }
-    ensures { λ r. ⌜ now (out .exit) ≡ mapBytes (fromPairCall (now (source .entry)) (now (target .entry)) (now (out .entry)) (now (slots .entry))) (now (out .entry)) ⌝ }
-    ensures { λ r. ⌜ now (slots .exit) ≡ mapSlots (fromPairCall (now (source .entry)) (now (target .entry)) (now (out .entry)) (now (slots .entry))) (now (slots .entry)) ⌝ }
+    ensures { λ r. ⌜ GivesMap (fromPairCall (now (source .entry)) (now (target .entry)) (now (out .entry)) (now (slots .entry))) r (now (out .entry)) (now (out .exit)) (now (slots .entry)) (now (slots .exit)) ⌝ }
 {
     let q = asking::ask_ends(source, target);
     if let path::Asked::Refused(x) = q {
@@ -69,9 +65,7 @@ pub fn from_pair_identity(
     out: &mut [u8],
     slots: &mut [usize],
 ) -> map_function::MapReply
-    ensures { λ r. ⌜ r ≡ mapReply (fromPairIdentityCall (now (source .entry)) (now (target .entry)) (now (out .entry)) (now (slots .entry))) ⌝ }
-    ensures { λ r. ⌜ now (out .exit) ≡ mapBytes (fromPairIdentityCall (now (source .entry)) (now (target .entry)) (now (out .entry)) (now (slots .entry))) (now (out .entry)) ⌝ }
-    ensures { λ r. ⌜ now (slots .exit) ≡ mapSlots (fromPairIdentityCall (now (source .entry)) (now (target .entry)) (now (out .entry)) (now (slots .entry))) (now (slots .entry)) ⌝ }
+    ensures { λ r. ⌜ GivesMap (fromPairIdentityCall (now (source .entry)) (now (target .entry)) (now (out .entry)) (now (slots .entry))) r (now (out .entry)) (now (out .exit)) (now (slots .entry)) (now (slots .exit)) ⌝ }
 {
     let q = asking::ask_ends(source, target);
     if let path::Asked::Refused(x) = q {

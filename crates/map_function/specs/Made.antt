@@ -1,4 +1,5 @@
 -- What a call that makes a map comes to: its reply and what lent memory holds afterwards are read off one outcome.
+use mathlib.Core.Path.{_≡_}
 use Prim.Native.Nat.{ℕ, _/_}
 use mathlib.Core.Bool.{Bool, cond}
 use mathlib.Core.List.{List}
@@ -42,6 +43,10 @@ unfoldable pub mapSlots : MapOutcome → List ℕ → List ℕ
 unfolding listPlaces
 mapSlots (map m time) slots = written (listPlaces 0 (m .pairs)) slots
 mapSlots (refused x) slots = slots
+
+-- a call gave what the outcome says: the reply, and both lent memories as they were before and are afterwards
+abbrev pub GivesMap : MapOutcome → MapReply → Text → Text → List ℕ → List ℕ → Type 0
+GivesMap o r out out′ slots slots′ = (r ≡ mapReply o) × ((out′ ≡ mapBytes o out) × (slots′ ≡ mapSlots o slots))
 
 -- question 5 for a list: "the sum of all end lengths before dropping for a list .. and a place for each such end"
 unfoldable pub roomFor : List Pair → Text → List ℕ → MapOutcome → MapOutcome
