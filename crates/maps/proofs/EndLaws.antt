@@ -141,15 +141,6 @@ unfolding noEmptySource all
 full-all [] = refl
 full-all (x ∷ l) = ap (λ (b : Bool). isFull x && b) (full-all l)
 
--- a map made of pairs with no empty source has none ..
-pub fromParts-full : (l : List Pair) (mark : Bool) → noEmptySource l ≡ true → noEmptySource ((fromParts l mark) .pairs) ≡ true
-fromParts-full l mark e = full-all ((fromParts l mark) .pairs) ∙ fromParts-keeps isFull l mark (sym (full-all l) ∙ e)
-
--- .. and so has what `new` makes
-pub new-full : (l : List Pair) → noEmptySource l ≡ true → noEmptySource ((new l) .pairs) ≡ true
-unfolding new
-new-full l = fromParts-full l false
-
 -- a map made of pairs has no more than they are
 pub fromParts-length : (l : List Pair) (mark : Bool) → length ((fromParts l mark) .pairs) ≤ length l
 fromParts-length l mark = omega (arith, fromParts-weight (λ x. 1) l mark, weight-length l, weight-length ((fromParts l mark) .pairs))

@@ -12,7 +12,7 @@ use Rattle.pairs.specs.Pair.{Pair}
 use Rattle.maps.specs.Map.{Map}
 use Rattle.maps.specs.New.{isRoots, anyRoots, noRoots, insert, sorted, implied, keep, canonical, fromParts}
 use Rattle.maps.specs.Compose.{hasSource}
-use Rattle.maps.specs.Derive.{withoutSource, droppingSource, exchanged, inverse}
+use Rattle.maps.specs.Derive.{withoutSource, droppingSource}
 
 -- what the pairs of a list weigh together, by what each weighs
 unfoldable pub weight : (Pair → ℕ) → List Pair → ℕ
@@ -88,7 +88,7 @@ module _ (w : Pair → ℕ) where
       let ih = withoutSource-weight s l in
       either (equal (x .source) s) (withoutSource s l) (x ∷ withoutSource s l) (w x + weight w l) (omega arith) (omega arith)
 
-  -- nor does leaving out the pairs of a source ..
+  -- nor does leaving out the pairs of a source
   pub droppingSource-weight : (m : Map) (s : Text) → weight w ((droppingSource m s) .pairs) ≤ weight w (m .pairs)
   unfolding droppingSource
   droppingSource-weight m s = go (hasSource (m .pairs) s)
@@ -96,9 +96,3 @@ module _ (w : Pair → ℕ) where
       go : (b : Bool) → weight w ((cond b (fromParts (withoutSource s (m .pairs)) (m .mark)) m) .pairs) ≤ weight w (m .pairs)
       go true = omega (arith, fromParts-weight (withoutSource s (m .pairs)) (m .mark), withoutSource-weight s (m .pairs))
       go false = omega arith
-
-  -- .. nor exchanging the ends
-  pub inverse-weight : (m : Map) → weight w ((inverse m) .pairs) ≤ weight (λ x. w (exchanged x)) (m .pairs)
-  unfolding inverse
-  inverse-weight m =
-      omega (arith, fromParts-weight (map (λ (x : Pair). exchanged x) (m .pairs)) (m .mark), weight-map (λ (x : Pair). exchanged x) (m .pairs))

@@ -1,28 +1,19 @@
 -- Parents and prim paths of legal paths. Assumes nothing.
-use mathlib.Core.Path.{_≡_, refl, sym, ap, _∙_}
+use mathlib.Core.Path.{_≡_, refl, ap, _∙_}
 use mathlib.Core.Bool.{Bool, true, false, cond, _||_, false≢true}
 use mathlib.Core.List.{_∷_, _++_}
 use mathlib.Core.Option.{Option, none, some}
 use Prim.Native.Nat.{ℕ, zero, suc, _≤_, _<_}
 use native.Mathlib.Omega.{arith}
-use lib.ListN.{length, take, drop, length-take, take-append-drop}
-use lib.Seq.{take-length, length-take-le}
+use lib.ListN.{length, take, drop, length-take}
+use lib.Seq.{take-length}
 use Rattle.text.specs.Text.{Text, isNil, lastIs, lacks}
 use Rattle.text.proofs.BoolLaws.{not-true, or-right}
 use Rattle.text.proofs.TextLaws.{no-text}
 use Rattle.grammar.specs.Legal.{Slash, run, accept, legal}
 use Rattle.parts.specs.Parent.{lastPart, endAt, parentLen, hasParent, parent, isProperty, primLen, primPath}
 use Rattle.parts.proofs.ReadLaws.{Shape, empty, root, below, shape}
-use Rattle.parts.proofs.LastLaws.{last, last-lt, last-legal, slash-part, before, slash-len, before-lt, Dotted, dotted}
-
--- a legal path but the empty one and `/` has a last part
-pub legal-part : (p : Text) → legal p ≡ true → hasParent p ≡ true → (k : ℕ) × (lastPart p ≡ some k)
-legal-part p e h = go (shape p e) h
-  where
-    go : {q : Text} → Shape q → hasParent q ≡ true → (k : ℕ) × (lastPart q ≡ some k)
-    go empty h = absurd (false≢true h)
-    go root h = absurd (false≢true h)
-    go (below r f) h = (_, slash-part r f)
+use Rattle.parts.proofs.LastLaws.{last, last-lt, last-legal, before, slash-len, before-lt, Dotted, dotted}
 
 -- what `parent_len` and `prim_len` give is no longer than the text, whatever its bytes
 pub parent-len-le : (p : Text) → parentLen p ≤ length p
@@ -84,11 +75,6 @@ parent-legal p q e f = rw (parent-is p q f .1) (parent-take p e)
 pub parent-shorter : (p q : Text) → legal p ≡ true → parent p ≡ some q → length q < length p
 parent-shorter p q e f = rw (parent-is p q f .1) (parent-less p e (parent-is p q f .0))
 
-pub parent-starts : (p q : Text) → parent p ≡ some q → p ≡ q ++ drop (length q) p
-parent-starts p q f =
-    let l : length q ≡ parentLen p = ap length (parent-is p q f .1) ∙ length-take-le (parentLen p) p (parent-len-le p) in
-    rw l (sym (take-append-drop (parentLen p) p) ∙ ap (λ (t : Text). t ++ drop (parentLen p) p) (sym (parent-is p q f .1)))
-
 -- prim paths
 pub prim-legal : (p : Text) → legal p ≡ true → legal (primPath p) ≡ true
 unfolding primPath primLen
@@ -97,10 +83,6 @@ prim-legal p e = go (isProperty p || lastIs 125 p)
     go : (t : Bool) → legal (take (cond t (parentLen p) (length p)) p) ≡ true
     go true = parent-take p e
     go false = rw (take-length p) e
-
-pub prim-short : (p : Text) → length (primPath p) ≤ length p
-unfolding primPath
-prim-short p = omega (arith, length-take (primLen p) p)
 
 -- a property is its prim path, a dot and the property's name
 property-len : (p : Text) → isProperty p ≡ true → primLen p ≡ parentLen p

@@ -1,13 +1,12 @@
 -- Laws of prefixes. Assumes nothing.
 use mathlib.Core.Path.{_≡_, refl, sym, ap, _∙_}
-use mathlib.Core.Bool.{true, false, _||_, true≢false, false≢true}
+use mathlib.Core.Bool.{true, _||_, false≢true}
 use mathlib.Core.List.{[], _∷_, _++_, append-nil}
 use mathlib.Core.Option.{Option, none, some}
 use Prim.Native.Nat.{ℕ, _≤_}
 use lib.Dec.{eqb}
 use lib.ListN.{length, drop}
 use lib.Seq.{drop-append-seam}
-use borrow.Author.Tests.{eqb-true}
 use Rattle.text.specs.Text.{Text, isNil, isSome, after, starts}
 use Rattle.text.proofs.BoolLaws.{and-l, or-false}
 use Rattle.text.proofs.TextLaws.{after-up, after-down, starts-long}
@@ -45,16 +44,6 @@ pub legal-prefix-empty : (p : Text) → legal p ≡ true → hasPrefix p [] ≡ 
 unfolding legal
 legal-prefix-empty [] l = prefix-self []
 legal-prefix-empty (a ∷ r) l = rw (prefix-empty a r, and-l (eqb a 47) (isNil r || accept (run Slash r)) l)
-
--- `/` is a prefix of every legal text but the empty one
-pub legal-prefix-root : (p : Text) → legal p ≡ true → isNil p ≡ false → hasPrefix p (47 ∷ []) ≡ true
-unfolding legal follows
-legal-prefix-root [] l n = absurd (true≢false n)
-legal-prefix-root (a ∷ r) l n = rw (eqb-true a 47 (and-l (eqb a 47) (isNil r || accept (run Slash r)) l)) (prefix-made (47 ∷ []) r ∙ go r)
-  where
-    go : (r : Text) → follows (47 ∷ []) r ≡ true
-    go [] = refl
-    go (b ∷ r) = refl
 
 -- a text begins with its prefix ..
 pub prefix-starts : (p s : Text) → hasPrefix p s ≡ true → starts s p ≡ true
