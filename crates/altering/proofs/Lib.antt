@@ -1,2 +1,3 @@
 pub mod ListWays
 pub mod AlterWays
+pub mod ExchangeLaws

@@ -2,70 +2,23 @@
 use mathlib.Core.Path.{_≡_, refl, sym, ap, _∙_}
 use mathlib.Core.Logic.{_≢_}
 use mathlib.Core.Bool.{Bool, true, false, not, cond, _&&_, _||_, true≢false}
-use mathlib.Core.List.{List, [], _∷_, _++_, append-nil, map as mapped}
+use mathlib.Core.List.{List, [], _∷_, _++_, append-nil}
 use Prim.Native.Nat.{ℕ, zero, suc, _+_, _*_, _≤_, _<_}
 use native.Mathlib.Omega.{arith}
 use native.Mathlib.Numerals.{add-one}
 use native.Mathlib.Decide.{ℕ-discrete}
-use lib.ListN.{length, getD}
-use borrow.Author.Tests.{le-leb}
-use Rattle.text.specs.Text.{Text, over, placed, equal}
+use lib.ListN.{length}
+use Rattle.text.specs.Text.{Text, equal}
 use Rattle.text.proofs.BoolLaws.{told, told-false, told-true, and-yes, and-no}
 use Rattle.pairs.specs.Pair.{Pair}
 use Rattle.pairs.specs.Places.{keyAt, pairIn, pairsIn}
 use Rattle.listing.specs.Lists.{copied}
 use Rattle.pairs.proofs.PlaceLaws.{pairsIn-length}
 use Rattle.listing.proofs.WriteWays.{source-key, target-key}
-use Rattle.listing.proofs.CopyLaws.{text-same, list-same, over-below, over-inside, copied-over, pushed}
+use Rattle.listing.proofs.CopyLaws.{copied-over, pushed}
 use Rattle.maps.specs.Compose.{hasSource}
-use Rattle.maps.specs.Derive.{withoutSource, exchanged}
+use Rattle.maps.specs.Derive.{withoutSource}
 use Rattle.altering.specs.Calls.{allSame}
-
--- `exchange`
-module _ (store : Text) (places : List ℕ) where
-  pub exchange-none : (other : List ℕ) → pairsIn store other 0 ≡ mapped (λ (x : Pair). exchanged x) (pairsIn store places 0)
-  unfolding pairsIn
-  exchange-none other = refl
-
-  map-snoc : (l : List Pair) (x : Pair) → mapped (λ (x : Pair). exchanged x) (l ++ x ∷ []) ≡ mapped (λ (x : Pair). exchanged x) l ++ exchanged x ∷ []
-  map-snoc [] x = refl
-  map-snoc (y ∷ l) x = ap (λ (z : List Pair). exchanged y ∷ z) (map-snoc l x)
-
-  abbrev turned : ℕ → List ℕ
-  turned i = getD places (4 * i + 2) 0 ∷ getD places (4 * i + 3) 0 ∷ getD places (4 * i) 0 ∷ getD places (4 * i + 1) 0 ∷ []
-
-  module _ (i : ℕ) (other other′ : List ℕ) (h : 4 * i + 4 ≤ length other) (e : other′ ≡ placed (4 * i) (turned i) other) where
-    is-over : other′ ≡ over (4 * i) (turned i) other
-    unfolding placed
-    is-over = e ∙ rw (le-leb (4 * i + 4) (length other) h) refl
-
-    number : (k : ℕ) → k < 4 → getD other′ (4 * i + k) 0 ≡ getD (turned i) k 0
-    number k l = rw is-over (over-inside (4 * i) (turned i) other k (omega arith) l)
-
-    at-number : (j k m : ℕ) → k < 4 → j ≡ 4 * i + k → getD (turned i) k 0 ≡ getD places m 0 → getD other′ j 0 ≡ getD places m 0
-    at-number j k m l z f = rw z (number k l ∙ f)
-
-    turned-pair : pairIn store other′ i ≡ exchanged (pairIn store places i)
-    unfolding pairIn
-    turned-pair =
-        let a : 2 * (2 * i + 1) ≡ 4 * i + 2 = omega arith in
-        let b : 2 * (2 * i + 1) + 1 ≡ 4 * i + 3 = omega arith in
-        let c : 2 * (2 * i) ≡ 4 * i = omega arith in
-        rw (
-          text-same store other′ places (2 * i) (2 * i + 1) (rw a (at-number (2 * (2 * i)) 0 (4 * i + 2) (omega arith) (omega arith) refl)) (rw b (at-number (2 * (2 * i) + 1) 1 (4 * i + 3) (omega arith) (omega arith) refl)),
-          text-same store other′ places (2 * i + 1) (2 * i) (rw c (at-number (2 * (2 * i + 1)) 2 (4 * i) (omega arith) (omega arith) refl)) (rw c (at-number (2 * (2 * i + 1) + 1) 3 (4 * i + 1) (omega arith) (omega arith) refl)),
-        ) refl
-
-    pub exchange-on : pairsIn store other i ≡ mapped (λ (x : Pair). exchanged x) (pairsIn store places i)
-        → pairsIn store other′ (i + 1) ≡ mapped (λ (x : Pair). exchanged x) (pairsIn store places (i + 1))
-    unfolding pairsIn
-    exchange-on f =
-        let z : pairsIn store other′ i ≡ pairsIn store other i = list-same store other′ other i (λ k l. rw is-over (over-below (4 * i) (turned i) other k (omega arith) l)) in
-        rw (add-one i, z, turned-pair, f) (sym (map-snoc (pairsIn store places i) (pairIn store places i)))
-
-  pub exchange-end : (n i : ℕ) (other : List ℕ) → n ≤ i → i ≤ n → pairsIn store other i ≡ mapped (λ (x : Pair). exchanged x) (pairsIn store places i)
-      → pairsIn store other n ≡ mapped (λ (x : Pair). exchanged x) (pairsIn store places n)
-  exchange-end n i other h k e = let z : i ≡ n = omega arith in rw z at e
 
 -- `without_source`
 without-append : (s : Text) (a b : List Pair) → withoutSource s (a ++ b) ≡ withoutSource s a ++ withoutSource s b

@@ -1,12 +1,12 @@
 // Document 01's calls that make a map from a map, and the one that asks whether a map changes anything.
 ghost use mathlib.Core.Path.{_≡_};
-ghost use mathlib.Core.List.{[], _∷_, _++_, map as mapped};
+ghost use mathlib.Core.List.{[], _∷_, _++_};
 ghost use Prim.Native.Nat.{_+_, _*_, _≤_};
 ghost use lib.ListN.{length};
-ghost use Rattle.pairs.specs.Pair.{Pair};
 ghost use Rattle.pairs.specs.Places.{pairIn, pairsIn};
-ghost use Rattle.maps.specs.Derive.{withoutSource, exchanged};
+ghost use Rattle.maps.specs.Derive.{withoutSource};
 ghost use Rattle.map_function.specs.Made.{mapReply, mapBytes, mapSlots};
+ghost use Rattle.altering.specs.Exchange.{exchangedPlaces};
 ghost use Rattle.altering.specs.Calls.{inverseCall, withRootIdentityCall, droppingSourceCall, allSame, isNoopCall};
 
 // The map with the mark put to it.
@@ -29,9 +29,10 @@ pub fn with_root_identity(
     map_function::as_it_is(store, places, n, true, map.time_offset, out, slots)
 }
 
-// The numbers of the first n pairs with source and target exchanged, where both slices have them.
-pub fn exchange(store: &[u8], places: &[usize], n: usize, other: &mut [usize])
-    ensures { λ _. ⌜ (4 * n ≤ length (now (places .entry)) → 4 * n ≤ length (now (other .entry)) → pairsIn (now (store .entry)) (now (other .exit)) n ≡ mapped (λ (x : Pair). exchanged x) (pairsIn (now (store .entry)) (now (places .entry)) n)) ⌝ }
+// The numbers of the first n pairs with source and target exchanged; nothing is written where one of the
+// slices is too short.
+pub fn exchange(places: &[usize], n: usize, other: &mut [usize])
+    ensures { λ _. ⌜ now (other .exit) ≡ exchangedPlaces (now (places .entry)) n (now (other .entry)) ⌝ }
 {
     if places.len() / 4 < n {
         return;
@@ -73,7 +74,7 @@ pub fn inverse(
         return map_function::MapReply::Refused(x);
     }
     let mut other = [0usize; 256];
-    exchange(store, places, n, &mut other);
+    exchange(places, n, &mut other);
     let time = layer_offset::LayerOffset::IDENTITY;
     map_function::from_parts(store, &other, n, mark, time, out, slots)
 }

@@ -66,7 +66,7 @@ fn invert(
     ensures { λ r. ⌜ mapOf (now (out .exit)) (now (slots .exit)) r ≡ inverse (lentMap (now (store .entry)) (now (places .entry)) n mark) ⌝ }
 {
     let mut own = [0usize; 256];
-    altering::exchange(store, places, n, &mut own);
+    altering::exchange(places, n, &mut own);
     settle(store, &own, n, false, mark, out, slots)
 }
 

@@ -4,7 +4,7 @@ use mathlib.Core.Bool.{Bool, true, false, not, cond}
 use mathlib.Core.List.{List}
 use mathlib.Core.Option.{Option, Option·getD}
 use Prim.Native.Nat.{ℕ, _*_, _-_, _/_, _≤_, _<_}
-use native.Mathlib.Omega.{arith}
+use native.Mathlib.Nat.{zero-add}
 use lib.Dec.{leb}
 use lib.ListN.{length, take, drop}
 use borrow.Author.Tests.{le-leb, lt-leb}
@@ -12,7 +12,7 @@ use Rattle.text.specs.Text.{Text, placed, fitted}
 use Rattle.text.specs.declared.Fit.{Fit}
 use Rattle.text.specs.declared.Fit.the-variants.{Written, Over}
 use Rattle.text.proofs.BoolLaws.{and-no, told-true, told-false}
-use Rattle.text.proofs.WriteLaws.{placed-first, read-back, rest-whole, fit-is, fit-back, fit-over}
+use Rattle.text.proofs.WriteLaws.{rest-whole}
 use Rattle.grammar.specs.Legal.{legal}
 use Rattle.prefix.specs.Prefix.{hasPrefix}
 use Rattle.joining.specs.Join.{joined}
@@ -27,19 +27,26 @@ use Rattle.path.specs.declared.Refusal.the-variants.{TooMany, NoRoom, MadeTooLo
 use Rattle.asking.specs.Asking.{lentList}
 use Rattle.maps.specs.New.{fromParts}
 use Rattle.map_function.specs.Made.{MapOutcome, map, refused, roomFor, weighed, fromPartsOutcome, held}
-use Rattle.scratch.specs.Ends.{replaced, madeShort, madeLegal, fromEnds}
+use Rattle.scratch.specs.Ends.{replaced, amount, madeShort, madeLegal, fromEnds}
 use Rattle.scratch.proofs.EveryLaws.{every-places}
 use Rattle.scratch.proofs.MapLaws.{held-all}
 
 -- `replace_into`
 module _ (p s t : Text) (b : Bool) (h : b ≡ hasPrefix p s) (out : Text) where
   abbrev Replaced : ℕ → Text → Type 0
-  Replaced n out′ = length (replaced p s t) ≤ length out → (n ≡ length (replaced p s t)) × (take n out′ ≡ replaced p s t)
+  Replaced n out′ = (n ≡ amount (fitted (replaced p s t) out)) × (out′ ≡ placed 0 (replaced p s t) out)
 
-  pub replace-not : not b ≡ true → (out′ : Text) → out′ ≡ placed 0 p out → Replaced (length p) out′
-  replace-not k out′ e l =
-      let z : replaced p s t ≡ p = ap (λ (o : Option Text). Option·getD o p) (replace-other p s t (told-false h k)) in
-      rw z (refl, rw (e, placed-first p out (omega (arith, l, ap length z))) (read-back p out))
+  module _ (k : not b ≡ true) where
+    stays : replaced p s t ≡ p
+    stays = ap (λ (o : Option Text). Option·getD o p) (replace-other p s t (told-false h k))
+
+    pub replace-long : length out < length p → Replaced 0 out
+    unfolding fitted placed
+    replace-long l = rw (stays, zero-add (length p), lt-leb (length p) (length out) l) (refl, refl)
+
+    pub replace-not : length p ≤ length out → (out′ : Text) → out′ ≡ placed 0 p out → Replaced (length p) out′
+    unfolding fitted
+    replace-not l out′ e = rw (stays, le-leb (length p) (length out) l) (refl, e)
 
   module _ (k : not b ≡ false) where
     pub replace-start : length s ≤ length p
@@ -48,17 +55,16 @@ module _ (p s t : Text) (b : Bool) (h : b ≡ hasPrefix p s) (out : Text) where
     replaced-is : replaced p s t ≡ joined s t (drop (length s) p)
     replaced-is = ap (λ (o : Option Text). Option·getD o p) (replace-prefix p s t (told-true h k))
 
-    module _ (f : Fit) (e : f ≡ fitted (joined s t (take (length p - length s) (drop (length s) p))) out) where
-      e′ : f ≡ fitted (joined s t (drop (length s) p)) out
-      e′ = rw (rest-whole p (length s)) at e
+    module _ (f : Fit) (out′ : Text)
+        (w : (f ≡ fitted (joined s t (take (length p - length s) (drop (length s) p))) out) × (out′ ≡ placed 0 (joined s t (take (length p - length s) (drop (length s) p))) out)) where
+      joined-is : Replaced (amount f) out′
+      joined-is = rw (replaced-is, ← rest-whole p (length s)) (ap (λ (x : Fit). amount x) (w .0), w .1)
 
-      pub replace-made : (n : ℕ) → f ≡ Written n → (out′ : Text) → out′ ≡ placed 0 (joined s t (take (length p - length s) (drop (length s) p))) out → Replaced n out′
-      replace-made n g out′ w l =
-          let w′ : out′ ≡ placed 0 (joined s t (drop (length s) p)) out = rw (rest-whole p (length s)) at w in
-          rw replaced-is (fit-is (joined s t (drop (length s) p)) out f e′ n g, fit-back (joined s t (drop (length s) p)) out f e′ n g out′ w′)
+      pub replace-made : (n : ℕ) → f ≡ Written n → Replaced n out′
+      replace-made n g = rw g at joined-is
 
-      pub replace-over : f ≡ Over → length (replaced p s t) ≤ length out → ⊥
-      replace-over g l = omega (arith, fit-over (joined s t (drop (length s) p)) out (sym e′ ∙ g), ap length replaced-is)
+      pub replace-over : f ≡ Over → Replaced 0 out′
+      replace-over g = rw g at joined-is
 
 -- `from_ends`
 module _ (store : Text) (places : List ℕ) (n : ℕ) (mark : Bool) (time : LayerOffset) (out : Text) (slots : List ℕ) where

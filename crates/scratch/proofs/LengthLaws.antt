@@ -6,9 +6,10 @@ use mathlib.Core.Option.{Option, Option·getD}
 use Prim.Native.Nat.{ℕ, zero, suc, _+_, _≤_, _<_}
 use native.Mathlib.Omega.{arith}
 use lib.ListN.{length, take, drop, length-append}
-use borrow.Author.Tests.{leb-true}
-use Rattle.text.specs.Text.{Text}
+use borrow.Author.Tests.{leb-true, le-leb}
+use Rattle.text.specs.Text.{Text, fitted, placed}
 use Rattle.text.proofs.BoolLaws.{and-l, and-r}
+use Rattle.text.proofs.WriteLaws.{placed-first, read-back}
 use Rattle.grammar.specs.Legal.{fits}
 use Rattle.prefix.specs.Prefix.{hasPrefix}
 use Rattle.joining.specs.Join.{joined}
@@ -18,7 +19,7 @@ use Rattle.joining.proofs.JoinWays.{joined-length, separator-short, body-short}
 use Rattle.pairs.specs.Pair.{Pair, sourceAt, targetAt, everyEnd, allShort}
 use Rattle.pairs.specs.Places.{keyAt, pairsIn}
 use Rattle.pairs.proofs.PlaceLaws.{pairsIn-source, pairsIn-target}
-use Rattle.scratch.specs.Ends.{within, replaced}
+use Rattle.scratch.specs.Ends.{within, replaced, amount}
 
 pub within-ends : (k : ℕ) (l : List Pair) → everyEnd (within k) l ≡ true → (i : ℕ) → (length (sourceAt l i) ≤ k) × (length (targetAt l i) ≤ k)
 unfolding everyEnd
@@ -59,6 +60,13 @@ replaced-short p s t lp lt = go (hasPrefix p s) refl
           joined-within p s t (drop (length s) p) (prefix-rest p s h .0),
         )
     go false h = omega (arith, ap (λ (o : Option Text). length (Option·getD o p)) (replace-other p s t h))
+
+-- a text that was written where it fits: how much was written is its length, and it can be read back
+pub placed-back : (q out : Text) (k : ℕ) (out′ : Text) → (k ≡ amount (fitted q out)) × (out′ ≡ placed 0 q out) → length q ≤ length out → (k ≡ length q) × (take k out′ ≡ q)
+unfolding fitted
+placed-back q out k out′ w l =
+    let z : k ≡ length q = rw (le-leb (length q) (length out) l) at (w .0) in
+    (z, rw (z, w .1, placed-first q out l) (read-back q out))
 
 -- the text made is the part of the memory that it lies in
 module _ (q : Text) (k : ℕ) (e : k ≡ length q) where

@@ -1,19 +1,22 @@
 -- The list in the call's own memory, and one pair more. Assumes nothing.
 use mathlib.Core.Path.{_≡_, refl, sym, ap, _∙_}
+use mathlib.Core.Bool.{true, false}
 use mathlib.Core.List.{List, [], _∷_, _++_, append-assoc, map as mapped}
-use Prim.Native.Nat.{ℕ, _+_, _*_, _≤_}
+use Prim.Native.Nat.{ℕ, _+_, _*_, _≤_, _<_}
 use native.Mathlib.Omega.{arith}
 use native.Mathlib.Numerals.{add-one}
+use lib.Dec.{leb}
 use lib.ListN.{length, drop, length-append}
 use lib.Seq.{take-append-seam, drop-append-add, drop-append-seam}
-use borrow.Author.Tests.{le-leb}
+use borrow.Author.Tests.{le-leb, lt-leb}
 use Rattle.text.specs.Text.{Text, over, placed}
+use Rattle.text.proofs.BoolLaws.{and-no}
 use Rattle.pairs.specs.Pair.{Pair, pair}
 use Rattle.pairs.specs.Places.{pairIn, pairsIn, listText, listPlaces, fourOf, endBytes}
 use Rattle.listing.proofs.RoomWays.{end-snoc}
 use Rattle.pairs.proofs.ListLaws.{list-length, places-length, read-back}
 use Rattle.listing.proofs.WriteWays.{over-over, list-snoc, places-snoc}
-use Rattle.scratch.specs.Scratch.{Holds}
+use Rattle.scratch.specs.Scratch.{Holds, pairFits, pairEnd, pairBytes, pairSlots}
 
 -- nothing is held by any memory
 pub holds-none : (bytes : Text) (slots : List ℕ) → Holds [] 0 0 bytes slots
@@ -72,6 +75,39 @@ pair-done s t at n k out once twice slots slots′ h g e o w f = (
     f ∙ rw (le-leb (4 * n + 4) (length slots) g, e) refl,
   ),
 )
+
+-- `put_pair`
+module _ (s t : Text) (n at : ℕ) (bytes : Text) (slots : List ℕ) where
+  abbrev Put : ℕ → Text → List ℕ → Type 0
+  Put r bytes′ slots′ = (r ≡ pairEnd s t n at bytes slots) × ((bytes′ ≡ pairBytes s t n at bytes slots) × (slots′ ≡ pairSlots s t n at bytes slots))
+
+  kept : pairFits s t n at bytes slots ≡ false → Put at bytes slots
+  unfolding pairEnd pairBytes pairSlots
+  kept e = rw e (refl, (refl, refl))
+
+  pub put-long : length bytes < at + (length s + length t) → Put at bytes slots
+  unfolding pairFits
+  put-long h = kept (rw (lt-leb (at + (length s + length t)) (length bytes) h))
+
+  pub put-many : length slots < 4 * n + 4 → Put at bytes slots
+  unfolding pairFits
+  put-many h = kept (rw (lt-leb (4 * n + 4) (length slots) h) (and-no (leb (at + (length s + length t)) (length bytes))))
+
+  fits : at + (length s + length t) ≤ length bytes → 4 * n + 4 ≤ length slots → pairFits s t n at bytes slots ≡ true
+  unfolding pairFits
+  fits h g = rw (le-leb (at + (length s + length t)) (length bytes) h, le-leb (4 * n + 4) (length slots) g)
+
+  pub put-done : (k : ℕ) (once twice : Text) (slots′ : List ℕ) → at + (length s + length t) ≤ length bytes → 4 * n + 4 ≤ length slots
+      → k ≡ length t → once ≡ placed at s bytes → twice ≡ placed (at + length s) t once → slots′ ≡ placed (4 * n) (at ∷ length s ∷ (at + length s) ∷ k ∷ []) slots
+      → Put (at + length s + k) twice slots′
+  unfolding pairEnd pairBytes pairSlots
+  put-done k once twice slots′ h g e o w f = rw (fits h g) (pair-done s t at n k bytes once twice slots slots′ h g e o w f)
+
+  -- where it fits, the pair is there
+  pub put-there : (r : ℕ) (bytes′ : Text) (slots′ : List ℕ) → Put r bytes′ slots′ → at + (length s + length t) ≤ length bytes → 4 * n + 4 ≤ length slots
+      → (r ≡ at + (length s + length t)) × ((bytes′ ≡ over at (s ++ t) bytes) × (slots′ ≡ over (4 * n) (fourOf at s t) slots))
+  unfolding pairEnd pairBytes pairSlots
+  put-there r bytes′ slots′ w h g = rw (fits h g) at w
 
 -- a list built pair after pair
 pub map-snoc : (f : Pair → Pair) (l : List Pair) (x : Pair) → mapped f (l ++ x ∷ []) ≡ mapped f l ++ f x ∷ []

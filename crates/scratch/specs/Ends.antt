@@ -6,6 +6,8 @@ use Prim.Native.Nat.{ℕ}
 use lib.Dec.{leb}
 use lib.ListN.{length}
 use Rattle.text.specs.Text.{Text}
+use Rattle.text.specs.declared.Fit.{Fit}
+use Rattle.text.specs.declared.Fit.the-variants.{Written, Over}
 use Rattle.grammar.specs.Legal.{legal}
 use Rattle.joining.specs.Join.{replacePrefix}
 use Rattle.layer_offset.specs.declared.LayerOffset.{LayerOffset}
@@ -21,6 +23,11 @@ within k t = leb (length t) k
 -- the path p with its prefix s replaced by t; p itself where it has no such prefix
 abbrev pub replaced : Text → Text → Text → Text
 replaced p s t = Option·getD (replacePrefix p s t) p
+
+-- how much was written, as a number: 0 where the memory was too short
+abbrev pub amount : Fit → ℕ
+amount (Written n) = n
+amount Over = 0
 
 -- question 7: "Is every path made at most 255 bytes?"
 unfoldable pub madeShort : List Pair → MapOutcome → MapOutcome

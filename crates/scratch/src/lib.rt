@@ -1,18 +1,16 @@
 // Lists of pairs that a call builds in memory of its own, source then target, pair after pair, and how
 // such a list becomes a map.
 ghost use mathlib.Core.Path.{_≡_};
-ghost use mathlib.Core.List.{_++_};
-ghost use Prim.Native.Nat.{_+_, _*_, _≤_};
-ghost use lib.ListN.{length, take};
-ghost use Rattle.text.specs.Text.{over};
+ghost use Rattle.text.specs.Text.{fitted, placed};
 ghost use Rattle.pairs.specs.Pair.{everyEnd, allShort};
-ghost use Rattle.pairs.specs.Places.{pairsIn, fourOf};
+ghost use Rattle.pairs.specs.Places.{pairsIn};
 ghost use Rattle.asking.specs.Asking.{lentList};
 ghost use Rattle.maps.specs.Compose.{hasSource};
 ghost use Rattle.map_function.specs.Made.{mapReply, mapBytes, mapSlots, held};
-ghost use Rattle.scratch.specs.Ends.{within, replaced, fromEnds};
+ghost use Rattle.scratch.specs.Scratch.{pairEnd, pairBytes, pairSlots};
+ghost use Rattle.scratch.specs.Ends.{within, replaced, amount, fromEnds};
 
-// One pair more behind the first n, where there is room for it; the place behind it.
+// One pair more behind the first n, and the place behind it; nothing is written where there is no room.
 pub fn put_pair(
     s: &[u8],
     t: &[u8],
@@ -21,7 +19,9 @@ pub fn put_pair(
     bytes: &mut [u8],
     slots: &mut [usize],
 ) -> usize
-    ensures { λ r. ⌜ (at + (length (now (s .entry)) + length (now (t .entry))) ≤ length (now (bytes .entry)) → 4 * n + 4 ≤ length (now (slots .entry)) → (r ≡ at + (length (now (s .entry)) + length (now (t .entry)))) × ((now (bytes .exit) ≡ over at (now (s .entry) ++ now (t .entry)) (now (bytes .entry))) × (now (slots .exit) ≡ over (4 * n) (fourOf at (now (s .entry)) (now (t .entry))) (now (slots .entry))))) ⌝ }
+    ensures { λ r. ⌜ r ≡ pairEnd (now (s .entry)) (now (t .entry)) n at (now (bytes .entry)) (now (slots .entry)) ⌝ }
+    ensures { λ r. ⌜ now (bytes .exit) ≡ pairBytes (now (s .entry)) (now (t .entry)) n at (now (bytes .entry)) (now (slots .entry)) ⌝ }
+    ensures { λ r. ⌜ now (slots .exit) ≡ pairSlots (now (s .entry)) (now (t .entry)) n at (now (bytes .entry)) (now (slots .entry)) ⌝ }
 {
     if bytes.len() < at {
         return at;
@@ -33,6 +33,9 @@ pub fn put_pair(
     if room - s.len() < t.len() {
         return at;
     }
+    if slots.len() / 4 <= n {
+        return at;
+    }
     let m = at + s.len();
     text::write_at(s, at, bytes);
     text::write_at(t, m, bytes);
@@ -40,11 +43,16 @@ pub fn put_pair(
     m + t.len()
 }
 
-// The path with its prefix replaced, or the path itself, where there is room for it; its length.
+// The path with its prefix replaced, or the path itself, and its length; where there is no room, nothing
+// and 0.
 pub fn replace_into(path: &[u8], old: &[u8], new: &[u8], out: &mut [u8]) -> usize
-    ensures { λ r. ⌜ (length (replaced (now (path .entry)) (now (old .entry)) (now (new .entry))) ≤ length (now (out .entry)) → (r ≡ length (replaced (now (path .entry)) (now (old .entry)) (now (new .entry)))) × (take r (now (out .exit)) ≡ replaced (now (path .entry)) (now (old .entry)) (now (new .entry)))) ⌝ }
+    ensures { λ r. ⌜ r ≡ amount (fitted (replaced (now (path .entry)) (now (old .entry)) (now (new .entry))) (now (out .entry))) ⌝ }
+    ensures { λ r. ⌜ now (out .exit) ≡ placed 0 (replaced (now (path .entry)) (now (old .entry)) (now (new .entry))) (now (out .entry)) ⌝ }
 {
     if !prefix::has_prefix(path, old) {
+        if out.len() < path.len() {
+            return 0;
+        }
         text::write_at(path, 0, out);
         return path.len();
     }

@@ -1,30 +1,28 @@
-use mathlib.Core.List.{map as mapped}
-use mathlib.Core.Path.{_≡_, refl}
 use native.Mathlib.Omega.{arith}
+use mathlib.Core.Path.{_≡_, refl}
 use Prim.Native.Nat.{_≤_, _-_}
 use lib.ListN.{length}
-use Rattle.pairs.specs.Places.{pairsIn}
-use Rattle.pairs.specs.Pair.{Pair}
-use Rattle.maps.specs.Derive.{exchanged}
-use Rattle.altering.proofs.ListWays.{exchange-none, exchange-on, exchange-end}
+use Rattle.text.specs.Text.{written}
+use Rattle.altering.specs.Exchange.{turnedPlaces}
+use Rattle.altering.proofs.ExchangeLaws.{exchange-beyond, exchange-room, exchange-none, exchange-on, exchange-end}
 use borrow.Author.Needs.{needs}
 use Rattle.altering.proofs.exchange.Statement.{statement}
 use Rattle.altering.proofs.exchange.Tie as tie
 
 abbrev Inv-loop : tie.InvT-loop
-Inv-loop store places n other₀ i₀ other i = (i ≤ n) × (pairsIn store other i ≡ mapped (λ (x : Pair). exchanged x) (pairsIn store places i)) × (length other ≡ length other₀)
+Inv-loop places n other₀ i₀ other i = (i ≤ n) × (other ≡ written (turnedPlaces places i) other₀) × (length other ≡ length other₀)
 
 abbrev μ-loop : tie.MeasureT-loop
-μ-loop store places n other₀ i₀ other i = n - i
+μ-loop places n other₀ i₀ other i = n - i
 
 returns : tie.Need-returns Inv-loop μ-loop
-returns c = λ h g. absurd (omega (arith, h))
+returns c = exchange-beyond _ _ _ (omega arith)
 
 returns-2 : tie.Need-returns-2 Inv-loop μ-loop
-returns-2 c = λ h g. absurd (omega (arith, g))
+returns-2 c = exchange-room (c .before .before .before .before .args .places .now) _ _ (omega arith)
 
 loop-holds : tie.Need-loop-holds Inv-loop μ-loop
-loop-holds c = (search needs, exchange-none _ _ _, refl)
+loop-holds c = (search needs, exchange-none (c .before .before .before .before .args .places .now) _, refl)
 
 mul-j : tie.Need-mul-j Inv-loop μ-loop
 mul-j c = search needs
@@ -72,13 +70,13 @@ loop-less : tie.Need-loop-less Inv-loop μ-loop
 loop-less c = search needs
 
 loop-again : tie.Need-loop-again Inv-loop μ-loop
-loop-again c = (search needs, exchange-on _ _ _ _ _ (omega (arith, c .before .before .before .before .before .before .before .before .loop-test .taken, c .before .before .before .before .before .before .before .before .before .before .if2 .left, c .before .before .before .before .before .before .before .before .before .loop .inv .2)) (c .before .before .write-four .ensures) (c .before .before .before .before .before .before .before .before .before .loop .inv .1), search needs)
+loop-again c = (search needs, exchange-on _ _ _ _ (c .before .before .before .before .before .before .before .before .before .loop .inv .1) (omega arith) _ (c .before .before .write-four .ensures), search needs)
 
 same-length : tie.Need-same-length Inv-loop μ-loop
 same-length c = search needs
 
 returns-3 : tie.Need-returns-3 Inv-loop μ-loop
-returns-3 c = λ h g. exchange-end _ _ _ _ _ (c .loop-test .left) (c .before .loop .inv .0) (c .before .loop .inv .1)
+returns-3 c = exchange-end _ _ _ _ (c .before .loop .inv .1) _ (omega arith) (omega arith) (c .loop-test .left) (c .before .loop .inv .0)
 
 pub exchange-spec : {M : Type 1} → statement M
 exchange-spec =

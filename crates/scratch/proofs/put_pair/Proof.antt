@@ -1,24 +1,35 @@
 use mathlib.Core.Path.{refl}
 use native.Mathlib.Omega.{arith}
-use Rattle.scratch.proofs.ScratchLaws.{pair-done}
+use Rattle.scratch.proofs.ScratchLaws.{put-long, put-many, put-done}
 use borrow.Author.Needs.{needs}
 use Rattle.scratch.proofs.put_pair.Statement.{statement}
 use Rattle.scratch.proofs.put_pair.Tie as tie
 
 returns : tie.Need-returns
-returns c = λ h g. absurd (omega (arith, h))
+returns c =
+    let a = c .before .before .before .before .before .args in
+    put-long (a .s .now) (a .t .now) (a .n) (a .at) (a .bytes .now) (a .slots .now) (omega arith)
 
 sub-room : tie.Need-sub-room
 sub-room c = search needs
 
 returns-2 : tie.Need-returns-2
-returns-2 c = λ h g. absurd (omega (arith, h))
+returns-2 c =
+    let a = c .before .before .before .before .before .before .args in
+    put-long (a .s .now) (a .t .now) (a .n) (a .at) (a .bytes .now) (a .slots .now) (omega arith)
 
 sub-if3 : tie.Need-sub-if3
 sub-if3 c = search needs
 
 returns-3 : tie.Need-returns-3
-returns-3 c = λ h g. absurd (omega (arith, h))
+returns-3 c =
+    let a = c .before .before .before .before .before .before .before .args in
+    put-long (a .s .now) (a .t .now) (a .n) (a .at) (a .bytes .now) (a .slots .now) (omega arith)
+
+returns-4 : tie.Need-returns-4
+returns-4 c =
+    let a = c .before .before .before .before .before .before .before .before .args in
+    put-many (a .s .now) (a .t .now) (a .n) (a .at) (a .bytes .now) (a .slots .now) (omega arith)
 
 add-m : tie.Need-add-m
 add-m c = search needs
@@ -41,8 +52,10 @@ same-length c = search needs
 same-length-2 : tie.Need-same-length-2
 same-length-2 c = search needs
 
-returns-4 : tie.Need-returns-4
-returns-4 c = λ h g. pair-done (c .before .before .before .before .before .before .before .before .before .before .before .before .before .before .before .before .before .before .before .args .s .now) (c .before .before .before .before .before .before .before .before .before .before .before .before .before .before .before .before .before .before .before .args .t .now) (c .before .before .before .before .before .before .before .before .before .before .before .before .before .before .before .before .before .before .before .args .at) (c .before .before .before .before .before .before .before .before .before .before .before .before .before .before .before .before .before .before .before .args .n) _ (c .before .before .before .before .before .before .before .before .before .before .before .before .before .before .before .before .before .before .before .args .bytes .now) _ _ (c .before .before .before .before .before .before .before .before .before .before .before .before .before .before .before .before .before .before .before .args .slots .now) _ h g refl (c .before .before .before .before .before .before .before .before .before .before .write-at .ensures) (c .before .before .before .before .before .before .write-at2 .ensures) (c .before .before .write-four .ensures)
+returns-5 : tie.Need-returns-5
+returns-5 c =
+    let a = c .before .before .before .before .before .before .before .before .before .before .before .before .before .before .before .before .before .before .before .before .args in
+    put-done (a .s .now) (a .t .now) (a .n) (a .at) (a .bytes .now) (a .slots .now) _ _ _ _ (omega arith) (omega arith) refl (c .before .before .before .before .before .before .before .before .before .before .write-at .ensures) (c .before .before .before .before .before .before .write-at2 .ensures) (c .before .before .write-four .ensures)
 
 pub put-pair-spec : {M : Type 1} → statement M
 put-pair-spec =
@@ -53,6 +66,7 @@ put-pair-spec =
     returns-2
     sub-if3
     returns-3
+    returns-4
     add-m
     write-at-requires
     write-at-requires-2
@@ -60,4 +74,4 @@ put-pair-spec =
     add-result
     same-length
     same-length-2
-    returns-4)
+    returns-5)

@@ -1,4 +1,5 @@
-use Rattle.scratch.proofs.EndWays.{replace-not, replace-start, replace-made, replace-over}
+use native.Mathlib.Omega.{arith}
+use Rattle.scratch.proofs.EndWays.{replace-long, replace-not, replace-start, replace-made, replace-over}
 use borrow.Author.Needs.{needs}
 use Rattle.scratch.proofs.replace_into.Statement.{statement}
 use Rattle.scratch.proofs.replace_into.Tie as tie
@@ -6,20 +7,31 @@ use Rattle.scratch.proofs.replace_into.Tie as tie
 has-prefix-requires : tie.Need-has-prefix-requires
 has-prefix-requires c κs = search needs
 
+returns : tie.Need-returns
+returns c =
+    let a = c .before .before .before .before .before .before .before .args in
+    replace-long (a .path .now) (a .old .now) (a .new .now) _ (c .before .before .has-prefix .ensures) (a .out .now) (c .before .if1 .taken) (omega arith)
+
 write-at-requires : tie.Need-write-at-requires
 write-at-requires c κs = search needs
 
 same-length : tie.Need-same-length
 same-length c = search needs
 
-returns : tie.Need-returns
-returns c = replace-not (c .before .before .before .before .before .before .before .before .before .before .args .path .now) (c .before .before .before .before .before .before .before .before .before .before .args .old .now) (c .before .before .before .before .before .before .before .before .before .before .args .new .now) _ (c .before .before .before .before .before .has-prefix .ensures) (c .before .before .before .before .before .before .before .before .before .before .args .out .now) (c .before .before .before .before .if1 .taken) _ (c .before .before .write-at .ensures)
+returns-2 : tie.Need-returns-2
+returns-2 c =
+    let a = c .before .before .before .before .before .before .before .before .before .before .before .args in
+    replace-not (a .path .now) (a .old .now) (a .new .now) _ (c .before .before .before .before .before .before .has-prefix .ensures) (a .out .now) (c .before .before .before .before .before .if1 .taken) (omega arith) _ (c .before .before .write-at .ensures)
 
 sub-join : tie.Need-sub-join
-sub-join c = replace-start (c .before .before .before .before .before .before .args .path .now) (c .before .before .before .before .before .before .args .old .now) (c .before .before .before .before .before .before .args .new .now) _ (c .before .has-prefix .ensures) (c .before .before .before .before .before .before .args .out .now) (c .if1 .left)
+sub-join c =
+    let a = c .before .before .before .before .before .before .args in
+    replace-start (a .path .now) (a .old .now) (a .new .now) _ (c .before .has-prefix .ensures) (a .out .now) (c .if1 .left)
 
 part-join-start : tie.Need-part-join-start
-part-join-start c = replace-start (c .before .before .before .before .before .before .args .path .now) (c .before .before .before .before .before .before .args .old .now) (c .before .before .before .before .before .before .args .new .now) _ (c .before .has-prefix .ensures) (c .before .before .before .before .before .before .args .out .now) (c .if1 .left)
+part-join-start c =
+    let a = c .before .before .before .before .before .before .args in
+    replace-start (a .path .now) (a .old .now) (a .new .now) _ (c .before .has-prefix .ensures) (a .out .now) (c .if1 .left)
 
 part-join-end : tie.Need-part-join-end
 part-join-end c = search needs
@@ -36,23 +48,28 @@ enum-told c = search needs
 same-length-2 : tie.Need-same-length-2
 same-length-2 c = search needs
 
-returns-2 : tie.Need-returns-2
-returns-2 c = replace-made (c .before .before .before .before .before .before .before .before .before .before .before .before .before .before .args .path .now) (c .before .before .before .before .before .before .before .before .before .before .before .before .before .before .args .old .now) (c .before .before .before .before .before .before .before .before .before .before .before .before .before .before .args .new .now) _ (c .before .before .before .before .before .before .before .before .before .has-prefix .ensures) (c .before .before .before .before .before .before .before .before .before .before .before .before .before .before .args .out .now) (c .before .before .before .before .before .before .before .before .if1 .left) _ (c .before .before .before .before .before .join .ensures .0) _ (c .before .fit .given .1) _ (c .before .before .before .before .before .join .ensures .1)
+returns-3 : tie.Need-returns-3
+returns-3 c =
+    let a = c .before .before .before .before .before .before .before .before .before .before .before .before .before .before .args in
+    replace-made (a .path .now) (a .old .now) (a .new .now) _ (c .before .before .before .before .before .before .before .before .before .has-prefix .ensures) (a .out .now) (c .before .before .before .before .before .before .before .before .if1 .left) _ _ (c .before .before .before .before .before .join .ensures) _ (c .before .fit .given .1)
 
 same-length-3 : tie.Need-same-length-3
 same-length-3 c = search needs
 
-returns-3 : tie.Need-returns-3
-returns-3 c = λ l. absurd (replace-over (c .before .before .before .before .before .before .before .before .before .before .before .before .before .args .path .now) (c .before .before .before .before .before .before .before .before .before .before .before .before .before .args .old .now) (c .before .before .before .before .before .before .before .before .before .before .before .before .before .args .new .now) _ (c .before .before .before .before .before .before .before .before .has-prefix .ensures) (c .before .before .before .before .before .before .before .before .before .before .before .before .before .args .out .now) (c .before .before .before .before .before .before .before .if1 .left) _ (c .before .before .before .before .join .ensures .0) (c .enum-told .given .1) l)
+returns-4 : tie.Need-returns-4
+returns-4 c =
+    let a = c .before .before .before .before .before .before .before .before .before .before .before .before .before .args in
+    replace-over (a .path .now) (a .old .now) (a .new .now) _ (c .before .before .before .before .before .before .before .before .has-prefix .ensures) (a .out .now) (c .before .before .before .before .before .before .before .if1 .left) _ _ (c .before .before .before .before .join .ensures) (c .enum-told .given .1)
 
 pub replace-into-spec : {M : Type 1} → statement M
 replace-into-spec =
     tie.close
     (tie.spec
     has-prefix-requires
+    returns
     write-at-requires
     same-length
-    returns
+    returns-2
     sub-join
     part-join-start
     part-join-end
@@ -60,6 +77,6 @@ replace-into-spec =
     enum-known-fit
     enum-told
     same-length-2
-    returns-2
+    returns-3
     same-length-3
-    returns-3)
+    returns-4)
