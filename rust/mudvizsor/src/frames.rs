@@ -1,10 +1,7 @@
 //! The protocol of the program `frames`, line by line.
 
-use crate::ffi::frames::{self, Kept};
+use crate::ffi::frames::{LONGEST_ANSWER, Memory, line};
 use crate::refusal::sure;
-
-/// The bytes of the longest answer line: two bytes and a path of 255, two digits each, and the newline.
-const LONGEST_ANSWER: usize = 515;
 
 /// A run of the protocol: frames of hexadecimal digits, each answered by a line.
 ///
@@ -18,14 +15,9 @@ const LONGEST_ANSWER: usize = 515;
 /// assert_eq!(frames.answer("07"), "870000000001");
 /// assert_eq!(frames.answer("no frame"), "FF09");
 /// ```
-#[derive(Debug, Clone)]
+#[derive(Debug, Clone, Default)]
 pub struct Frames {
-    numbers: [usize; 5],
-    bytes: Vec<u8>,
-    places: Vec<usize>,
-    store: Vec<u8>,
-    slots: Vec<usize>,
-    table: Vec<usize>,
+    memory: Memory,
 }
 
 impl Frames {
@@ -35,14 +27,7 @@ impl Frames {
     /// assert_eq!(mudvizsor::Frames::new().answer("07"), "870000000000");
     /// ```
     pub fn new() -> Self {
-        Frames {
-            numbers: [0; 5],
-            bytes: vec![0; 32_640],
-            places: vec![0; 256],
-            store: vec![0; 32_768],
-            slots: vec![0; 4_096],
-            table: vec![0; 48],
-        }
+        Self::default()
     }
 
     /// Does what a line says and gives the line that answers it, both without their newlines. What is no frame is
@@ -52,24 +37,10 @@ impl Frames {
     /// let mut frames = mudvizsor::Frames::new();
     /// assert_eq!(frames.answer("052f41"), "85002F41");
     /// ```
-    pub fn answer(&mut self, line: &str) -> String {
+    pub fn answer(&mut self, frame: &str) -> String {
         let mut out = [0; LONGEST_ANSWER];
-        let kept = Kept {
-            numbers: &mut self.numbers,
-            bytes: &mut self.bytes,
-            places: &mut self.places,
-            store: &mut self.store,
-            slots: &mut self.slots,
-            table: &mut self.table,
-        };
-        let length = sure(frames::line(line.as_bytes(), kept, &mut out));
+        let length = sure(line(frame.as_bytes(), self.memory.lend(), &mut out));
         String::from_utf8_lossy(&out[..length - 1]).into_owned()
-    }
-}
-
-impl Default for Frames {
-    fn default() -> Self {
-        Self::new()
     }
 }
 

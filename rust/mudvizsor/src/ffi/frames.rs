@@ -2,6 +2,9 @@
 
 use super::{Reply, entry};
 
+/// The bytes of the longest answer line: two bytes and a path of 255, two digits each, and the newline.
+pub const LONGEST_ANSWER: usize = 515;
+
 /// What is kept between two lines, as it is lent. All of it is 0 before the first line, and has the lengths that are
 /// named here; an entry that finds less answers with document 01's numbers 4 and 5.
 pub struct Kept<'a> {
@@ -20,8 +23,45 @@ pub struct Kept<'a> {
     pub table: &'a mut [usize],
 }
 
+/// Memory of one's own for [`Kept`], with the lengths that are named there.
+#[derive(Debug, Clone)]
+pub struct Memory {
+    numbers: [usize; 5],
+    bytes: Vec<u8>,
+    places: Vec<usize>,
+    store: Vec<u8>,
+    slots: Vec<usize>,
+    table: Vec<usize>,
+}
+
+impl Memory {
+    /// The memory before the first line.
+    pub fn new() -> Self {
+        Memory {
+            numbers: [0; 5],
+            bytes: vec![0; 32_640],
+            places: vec![0; 256],
+            store: vec![0; 32_768],
+            slots: vec![0; 4_096],
+            table: vec![0; 48],
+        }
+    }
+
+    /// The memory, lent to a call.
+    pub fn lend(&mut self) -> Kept<'_> {
+        let Memory { numbers, bytes, places, store, slots, table } = self;
+        Kept { numbers, bytes, places, store, slots, table }
+    }
+}
+
+impl Default for Memory {
+    fn default() -> Self {
+        Self::new()
+    }
+}
+
 /// Does what a line says, which is given without its newline, writes the answer line with its newline to `out`, which
-/// has at least 515 bytes, and gives its length.
+/// has at least [`LONGEST_ANSWER`] bytes, and gives its length.
 pub fn line(line: &[u8], kept: Kept, out: &mut [u8]) -> Reply {
     entry!(mudvizsor_frames_line:
         text line, slots kept.numbers, out kept.bytes, slots kept.places, out kept.store, slots kept.slots,
