@@ -5,7 +5,7 @@ ghost use Prim.Native.Nat.{_+_, _*_, _≤_};
 ghost use lib.ListN.{length};
 ghost use Rattle.pairs.specs.Places.{pairIn, pairsIn};
 ghost use Rattle.maps.specs.Derive.{withoutSource};
-ghost use Rattle.map_function.specs.Made.{mapReply, mapBytes, mapSlots};
+ghost use Rattle.map_function.specs.Made.{GivesMap};
 ghost use Rattle.altering.specs.Exchange.{exchangedPlaces};
 ghost use Rattle.altering.specs.Calls.{inverseCall, withRootIdentityCall, droppingSourceCall, allSame, isNoopCall};
 
@@ -17,9 +17,7 @@ pub fn with_root_identity(
     out: &mut [u8],
     slots: &mut [usize],
 ) -> map_function::MapReply
-    ensures { λ r. ⌜ r ≡ mapReply (withRootIdentityCall (now (store .entry)) (now (places .entry)) map (now (out .entry)) (now (slots .entry))) ⌝ }
-    ensures { λ r. ⌜ now (out .exit) ≡ mapBytes (withRootIdentityCall (now (store .entry)) (now (places .entry)) map (now (out .entry)) (now (slots .entry))) (now (out .entry)) ⌝ }
-    ensures { λ r. ⌜ now (slots .exit) ≡ mapSlots (withRootIdentityCall (now (store .entry)) (now (places .entry)) map (now (out .entry)) (now (slots .entry))) (now (slots .entry)) ⌝ }
+    ensures { λ r. ⌜ GivesMap (withRootIdentityCall (now (store .entry)) (now (places .entry)) map (now (out .entry)) (now (slots .entry))) r (now (out .entry)) (now (out .exit)) (now (slots .entry)) (now (slots .exit)) ⌝ }
 {
     let n = map.count;
     let q = asking::ask_pairs(store, places, n);
@@ -63,9 +61,7 @@ pub fn inverse(
     out: &mut [u8],
     slots: &mut [usize],
 ) -> map_function::MapReply
-    ensures { λ r. ⌜ r ≡ mapReply (inverseCall (now (store .entry)) (now (places .entry)) map (now (out .entry)) (now (slots .entry))) ⌝ }
-    ensures { λ r. ⌜ now (out .exit) ≡ mapBytes (inverseCall (now (store .entry)) (now (places .entry)) map (now (out .entry)) (now (slots .entry))) (now (out .entry)) ⌝ }
-    ensures { λ r. ⌜ now (slots .exit) ≡ mapSlots (inverseCall (now (store .entry)) (now (places .entry)) map (now (out .entry)) (now (slots .entry))) (now (slots .entry)) ⌝ }
+    ensures { λ r. ⌜ GivesMap (inverseCall (now (store .entry)) (now (places .entry)) map (now (out .entry)) (now (slots .entry))) r (now (out .entry)) (now (out .exit)) (now (slots .entry)) (now (slots .exit)) ⌝ }
 {
     let n = map.count;
     let mark = map.has_root_identity;
@@ -129,9 +125,7 @@ pub fn dropping_source(
     out: &mut [u8],
     slots: &mut [usize],
 ) -> map_function::MapReply
-    ensures { λ r. ⌜ r ≡ mapReply (droppingSourceCall (now (store .entry)) (now (places .entry)) map (now (source .entry)) (now (out .entry)) (now (slots .entry))) ⌝ }
-    ensures { λ r. ⌜ now (out .exit) ≡ mapBytes (droppingSourceCall (now (store .entry)) (now (places .entry)) map (now (source .entry)) (now (out .entry)) (now (slots .entry))) (now (out .entry)) ⌝ }
-    ensures { λ r. ⌜ now (slots .exit) ≡ mapSlots (droppingSourceCall (now (store .entry)) (now (places .entry)) map (now (source .entry)) (now (out .entry)) (now (slots .entry))) (now (slots .entry)) ⌝ }
+    ensures { λ r. ⌜ GivesMap (droppingSourceCall (now (store .entry)) (now (places .entry)) map (now (source .entry)) (now (out .entry)) (now (slots .entry))) r (now (out .entry)) (now (out .exit)) (now (slots .entry)) (now (slots .exit)) ⌝ }
 {
     let n = map.count;
     let mark = map.has_root_identity;

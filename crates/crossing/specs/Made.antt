@@ -1,10 +1,12 @@
 -- What a call that makes a map or chains a path answers, as plain numbers: 256 times the value, and document 01's number (0 for an answer)
 -- in the low byte.
+use mathlib.Core.Path.{_≡_}
 use Prim.Native.Nat.{ℕ, _+_, _*_, _%_}
 use mathlib.Core.Bool.{Bool, cond}
 use mathlib.Core.List.{List}
 use lib.Dec.{leb}
 use lib.Ieee.{Float}
+use Rattle.text.specs.Text.{Text}
 use Rattle.layer_offset.specs.declared.LayerOffset.{LayerOffset}
 use Rattle.layer_offset.specs.Offset.{timed}
 use Rattle.path.specs.declared.Refusal.the-variants.{TooMany}
@@ -12,6 +14,7 @@ use Rattle.path.specs.Refusal.{number}
 use Rattle.map_function.specs.declared.MapFunction.{MapFunction}
 use Rattle.map_function.specs.declared.MapReply.{MapReply}
 use Rattle.map_function.specs.declared.MapReply.the-variants.{Made, Refused}
+use Rattle.map_function.specs.Made.{MapOutcome, mapReply, mapBytes, mapSlots}
 use Rattle.map_function.specs.Read.{timedMap}
 use Rattle.chaining.specs.declared.Chain.{Chain}
 use Rattle.chaining.specs.declared.Chain.the-variants.{Chained, Refused as RefusedChain}
@@ -35,6 +38,11 @@ unfoldable pub madeTime : MapReply → List Float → List Float
 unfolding floats
 madeTime (Made f) time = floats (f .«time_offset»)
 madeTime (Refused x) time = time
+
+-- a call gave what the outcome says, as plain numbers: the reply, both lent memories and the two lent numbers of the time offset
+abbrev pub GivesCode : MapOutcome → ℕ → Text → Text → List ℕ → List ℕ → List Float → List Float → Type 0
+GivesCode o r out out′ slots slots′ time time′ =
+    (r ≡ madeCode (mapReply o)) × ((out′ ≡ mapBytes o out) × ((slots′ ≡ mapSlots o slots) × (time′ ≡ madeTime (mapReply o) time)))
 
 -- the map with its time offset replaced; its list is not lent, so that only question 4 has something to ask
 unfoldable pub withTimeOffsetCall : MapFunction → LayerOffset → MapReply

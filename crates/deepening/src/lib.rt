@@ -11,7 +11,7 @@ ghost use Rattle.pairs.specs.Pair.{pair, allShort};
 ghost use Rattle.pairs.specs.Places.{keyAt, pairsIn, fourOf};
 ghost use Rattle.pairs.specs.Best.{bestBy};
 ghost use Rattle.maps.specs.Derive.{deepened};
-ghost use Rattle.map_function.specs.Made.{mapReply, mapBytes, mapSlots};
+ghost use Rattle.map_function.specs.Made.{GivesMap};
 ghost use Rattle.scratch.specs.Scratch.{Holds};
 ghost use Rattle.scratch.specs.Ends.{replaced, fromEnds};
 ghost use Rattle.deepening.specs.Class.{consideredAbove, chosenAbove};
@@ -93,9 +93,7 @@ fn deepen_in(
     requires { ⌜ map .count ≤ 64 ⌝ }
     requires { ⌜ 766 * map .count ≤ length (now bytes) ⌝ }
     requires { ⌜ 4 * map .count ≤ length (now own) ⌝ }
-    ensures { λ r. ⌜ r ≡ mapReply (fromEnds (deepenedPairs (now (node .entry)) (now (above .entry)) (now (below .entry)) (pairsIn (now (store .entry)) (now (places .entry)) (map .count))) (map .«has_root_identity») (map .«time_offset») (now (out .entry)) (now (slots .entry))) ⌝ }
-    ensures { λ r. ⌜ now (out .exit) ≡ mapBytes (fromEnds (deepenedPairs (now (node .entry)) (now (above .entry)) (now (below .entry)) (pairsIn (now (store .entry)) (now (places .entry)) (map .count))) (map .«has_root_identity») (map .«time_offset») (now (out .entry)) (now (slots .entry))) (now (out .entry)) ⌝ }
-    ensures { λ r. ⌜ now (slots .exit) ≡ mapSlots (fromEnds (deepenedPairs (now (node .entry)) (now (above .entry)) (now (below .entry)) (pairsIn (now (store .entry)) (now (places .entry)) (map .count))) (map .«has_root_identity») (map .«time_offset») (now (out .entry)) (now (slots .entry))) (now (slots .entry)) ⌝ }
+    ensures { λ r. ⌜ GivesMap (fromEnds (deepenedPairs (now (node .entry)) (now (above .entry)) (now (below .entry)) (pairsIn (now (store .entry)) (now (places .entry)) (map .count))) (map .«has_root_identity») (map .«time_offset») (now (out .entry)) (now (slots .entry))) r (now (out .entry)) (now (out .exit)) (now (slots .entry)) (now (slots .exit)) ⌝ }
 {
     let n = map.count;
     let mark = map.has_root_identity;
@@ -119,9 +117,7 @@ fn deepen_few(
     requires { ⌜ length (now node) ≤ 255 ⌝ }
     requires { ⌜ length (now below) ≤ 511 ⌝ }
     requires { ⌜ map .count ≤ 4 ⌝ }
-    ensures { λ r. ⌜ r ≡ mapReply (fromEnds (deepenedPairs (now (node .entry)) (now (above .entry)) (now (below .entry)) (pairsIn (now (store .entry)) (now (places .entry)) (map .count))) (map .«has_root_identity») (map .«time_offset») (now (out .entry)) (now (slots .entry))) ⌝ }
-    ensures { λ r. ⌜ now (out .exit) ≡ mapBytes (fromEnds (deepenedPairs (now (node .entry)) (now (above .entry)) (now (below .entry)) (pairsIn (now (store .entry)) (now (places .entry)) (map .count))) (map .«has_root_identity») (map .«time_offset») (now (out .entry)) (now (slots .entry))) (now (out .entry)) ⌝ }
-    ensures { λ r. ⌜ now (slots .exit) ≡ mapSlots (fromEnds (deepenedPairs (now (node .entry)) (now (above .entry)) (now (below .entry)) (pairsIn (now (store .entry)) (now (places .entry)) (map .count))) (map .«has_root_identity») (map .«time_offset») (now (out .entry)) (now (slots .entry))) (now (slots .entry)) ⌝ }
+    ensures { λ r. ⌜ GivesMap (fromEnds (deepenedPairs (now (node .entry)) (now (above .entry)) (now (below .entry)) (pairsIn (now (store .entry)) (now (places .entry)) (map .count))) (map .«has_root_identity») (map .«time_offset») (now (out .entry)) (now (slots .entry))) r (now (out .entry)) (now (out .exit)) (now (slots .entry)) (now (slots .exit)) ⌝ }
 {
     let mut bytes = [0u8; 3064];
     let mut own = [0usize; 16];
@@ -154,9 +150,7 @@ fn deepen_many(
     requires { ⌜ length (now node) ≤ 255 ⌝ }
     requires { ⌜ length (now below) ≤ 511 ⌝ }
     requires { ⌜ map .count ≤ 64 ⌝ }
-    ensures { λ r. ⌜ r ≡ mapReply (fromEnds (deepenedPairs (now (node .entry)) (now (above .entry)) (now (below .entry)) (pairsIn (now (store .entry)) (now (places .entry)) (map .count))) (map .«has_root_identity») (map .«time_offset») (now (out .entry)) (now (slots .entry))) ⌝ }
-    ensures { λ r. ⌜ now (out .exit) ≡ mapBytes (fromEnds (deepenedPairs (now (node .entry)) (now (above .entry)) (now (below .entry)) (pairsIn (now (store .entry)) (now (places .entry)) (map .count))) (map .«has_root_identity») (map .«time_offset») (now (out .entry)) (now (slots .entry))) (now (out .entry)) ⌝ }
-    ensures { λ r. ⌜ now (slots .exit) ≡ mapSlots (fromEnds (deepenedPairs (now (node .entry)) (now (above .entry)) (now (below .entry)) (pairsIn (now (store .entry)) (now (places .entry)) (map .count))) (map .«has_root_identity») (map .«time_offset») (now (out .entry)) (now (slots .entry))) (now (slots .entry)) ⌝ }
+    ensures { λ r. ⌜ GivesMap (fromEnds (deepenedPairs (now (node .entry)) (now (above .entry)) (now (below .entry)) (pairsIn (now (store .entry)) (now (places .entry)) (map .count))) (map .«has_root_identity») (map .«time_offset») (now (out .entry)) (now (slots .entry))) r (now (out .entry)) (now (out .exit)) (now (slots .entry)) (now (slots .exit)) ⌝ }
 {
     let mut bytes = [0u8; 49024];
     let mut own = [0usize; 256];
@@ -188,9 +182,7 @@ fn deepen_by(
     requires { ⌜ length (now node) ≤ 255 ⌝ }
     requires { ⌜ map .count ≤ 64 ⌝ }
     requires { ⌜ i < map .count ⌝ }
-    ensures { λ r. ⌜ r ≡ mapReply (fromEnds (deepenedPairs (now (node .entry)) (keyAt (now (store .entry)) (now (places .entry)) false i) (replaced (now (node .entry)) (keyAt (now (store .entry)) (now (places .entry)) false i) (keyAt (now (store .entry)) (now (places .entry)) true i)) (pairsIn (now (store .entry)) (now (places .entry)) (map .count))) (map .«has_root_identity») (map .«time_offset») (now (out .entry)) (now (slots .entry))) ⌝ }
-    ensures { λ r. ⌜ now (out .exit) ≡ mapBytes (fromEnds (deepenedPairs (now (node .entry)) (keyAt (now (store .entry)) (now (places .entry)) false i) (replaced (now (node .entry)) (keyAt (now (store .entry)) (now (places .entry)) false i) (keyAt (now (store .entry)) (now (places .entry)) true i)) (pairsIn (now (store .entry)) (now (places .entry)) (map .count))) (map .«has_root_identity») (map .«time_offset») (now (out .entry)) (now (slots .entry))) (now (out .entry)) ⌝ }
-    ensures { λ r. ⌜ now (slots .exit) ≡ mapSlots (fromEnds (deepenedPairs (now (node .entry)) (keyAt (now (store .entry)) (now (places .entry)) false i) (replaced (now (node .entry)) (keyAt (now (store .entry)) (now (places .entry)) false i) (keyAt (now (store .entry)) (now (places .entry)) true i)) (pairsIn (now (store .entry)) (now (places .entry)) (map .count))) (map .«has_root_identity») (map .«time_offset») (now (out .entry)) (now (slots .entry))) (now (slots .entry)) ⌝ }
+    ensures { λ r. ⌜ GivesMap (fromEnds (deepenedPairs (now (node .entry)) (keyAt (now (store .entry)) (now (places .entry)) false i) (replaced (now (node .entry)) (keyAt (now (store .entry)) (now (places .entry)) false i) (keyAt (now (store .entry)) (now (places .entry)) true i)) (pairsIn (now (store .entry)) (now (places .entry)) (map .count))) (map .«has_root_identity») (map .«time_offset») (now (out .entry)) (now (slots .entry))) r (now (out .entry)) (now (out .exit)) (now (slots .entry)) (now (slots .exit)) ⌝ }
 {
     let above = pairs::key_at(store, places, i, false);
     let new = pairs::key_at(store, places, i, true);
@@ -257,9 +249,7 @@ fn deepen_node(
     slots: &mut [usize],
 ) -> map_function::MapReply
     requires { ⌜ now node ≡ strip (now path) ⌝ }
-    ensures { λ r. ⌜ r ≡ mapReply (deepenToCall (now (store .entry)) (now (places .entry)) map (now (path .entry)) (now (out .entry)) (now (slots .entry))) ⌝ }
-    ensures { λ r. ⌜ now (out .exit) ≡ mapBytes (deepenToCall (now (store .entry)) (now (places .entry)) map (now (path .entry)) (now (out .entry)) (now (slots .entry))) (now (out .entry)) ⌝ }
-    ensures { λ r. ⌜ now (slots .exit) ≡ mapSlots (deepenToCall (now (store .entry)) (now (places .entry)) map (now (path .entry)) (now (out .entry)) (now (slots .entry))) (now (slots .entry)) ⌝ }
+    ensures { λ r. ⌜ GivesMap (deepenToCall (now (store .entry)) (now (places .entry)) map (now (path .entry)) (now (out .entry)) (now (slots .entry))) r (now (out .entry)) (now (out .exit)) (now (slots .entry)) (now (slots .exit)) ⌝ }
 {
     let n = map.count;
     let mark = map.has_root_identity;
@@ -301,9 +291,7 @@ pub fn deepen_to(
     out: &mut [u8],
     slots: &mut [usize],
 ) -> map_function::MapReply
-    ensures { λ r. ⌜ r ≡ mapReply (deepenToCall (now (store .entry)) (now (places .entry)) map (now (path .entry)) (now (out .entry)) (now (slots .entry))) ⌝ }
-    ensures { λ r. ⌜ now (out .exit) ≡ mapBytes (deepenToCall (now (store .entry)) (now (places .entry)) map (now (path .entry)) (now (out .entry)) (now (slots .entry))) (now (out .entry)) ⌝ }
-    ensures { λ r. ⌜ now (slots .exit) ≡ mapSlots (deepenToCall (now (store .entry)) (now (places .entry)) map (now (path .entry)) (now (out .entry)) (now (slots .entry))) (now (slots .entry)) ⌝ }
+    ensures { λ r. ⌜ GivesMap (deepenToCall (now (store .entry)) (now (places .entry)) map (now (path .entry)) (now (out .entry)) (now (slots .entry))) r (now (out .entry)) (now (out .exit)) (now (slots .entry)) (now (slots .exit)) ⌝ }
 {
     if 255 < path.len() {
         return map_function::MapReply::Refused(path::Refusal::TooLong);

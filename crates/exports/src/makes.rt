@@ -3,7 +3,6 @@
 // places to slots and the time offset to two lent floats; the reply's value is twice the number of
 // its pairs, and one more with the mark.
 ghost use mathlib.Core.Path.{_≡_};
-ghost use Rattle.map_function.specs.Made.{mapReply, mapBytes, mapSlots};
 ghost use Rattle.making.specs.Calls.{newCall, fromPairCall, fromPairIdentityCall};
 ghost use Rattle.altering.specs.Calls.{inverseCall, withRootIdentityCall, droppingSourceCall, isNoopCall};
 ghost use Rattle.composing.specs.Calls.{composeCall};
@@ -11,7 +10,7 @@ ghost use Rattle.implying.specs.Implied.{impliedClassCall};
 ghost use Rattle.rebasing.specs.Calls.{rebaseTargetCall};
 ghost use Rattle.deepening.specs.Calls.{deepenToCall};
 ghost use Rattle.codes.specs.Code.{testCode};
-ghost use Rattle.crossing.specs.Made.{numbers, madeCode, madeTime};
+ghost use Rattle.crossing.specs.Made.{numbers, GivesCode};
 
 // The map of the pairs.
 #[no_mangle]
@@ -23,10 +22,7 @@ pub extern "C" fn mudvizsor_map_new(
     slots: &mut [usize],
     time: &mut [f64; 2],
 ) -> usize
-    ensures { λ r. ⌜ r ≡ madeCode (mapReply (newCall (now (store .entry)) (now (places .entry)) count (now (out .entry)) (now (slots .entry)))) ⌝ }
-    ensures { λ r. ⌜ now (out .exit) ≡ mapBytes (newCall (now (store .entry)) (now (places .entry)) count (now (out .entry)) (now (slots .entry))) (now (out .entry)) ⌝ }
-    ensures { λ r. ⌜ now (slots .exit) ≡ mapSlots (newCall (now (store .entry)) (now (places .entry)) count (now (out .entry)) (now (slots .entry))) (now (slots .entry)) ⌝ }
-    ensures { λ r. ⌜ now (time .exit) ≡ madeTime (mapReply (newCall (now (store .entry)) (now (places .entry)) count (now (out .entry)) (now (slots .entry)))) (now (time .entry)) ⌝ }
+    ensures { λ r. ⌜ GivesCode (newCall (now (store .entry)) (now (places .entry)) count (now (out .entry)) (now (slots .entry))) r (now (out .entry)) (now (out .exit)) (now (slots .entry)) (now (slots .exit)) (now (time .entry)) (now (time .exit)) ⌝ }
 {
     crossing::made_code(making::new(store, places, count, out, slots), time)
 }
@@ -44,10 +40,7 @@ pub extern "C" fn mudvizsor_map_with_root_identity(
     slots: &mut [usize],
     time: &mut [f64; 2],
 ) -> usize
-    ensures { λ r. ⌜ r ≡ madeCode (mapReply (withRootIdentityCall (now (store .entry)) (now (places .entry)) (numbers count mark offset scale) (now (out .entry)) (now (slots .entry)))) ⌝ }
-    ensures { λ r. ⌜ now (out .exit) ≡ mapBytes (withRootIdentityCall (now (store .entry)) (now (places .entry)) (numbers count mark offset scale) (now (out .entry)) (now (slots .entry))) (now (out .entry)) ⌝ }
-    ensures { λ r. ⌜ now (slots .exit) ≡ mapSlots (withRootIdentityCall (now (store .entry)) (now (places .entry)) (numbers count mark offset scale) (now (out .entry)) (now (slots .entry))) (now (slots .entry)) ⌝ }
-    ensures { λ r. ⌜ now (time .exit) ≡ madeTime (mapReply (withRootIdentityCall (now (store .entry)) (now (places .entry)) (numbers count mark offset scale) (now (out .entry)) (now (slots .entry)))) (now (time .entry)) ⌝ }
+    ensures { λ r. ⌜ GivesCode (withRootIdentityCall (now (store .entry)) (now (places .entry)) (numbers count mark offset scale) (now (out .entry)) (now (slots .entry))) r (now (out .entry)) (now (out .exit)) (now (slots .entry)) (now (slots .exit)) (now (time .entry)) (now (time .exit)) ⌝ }
 {
     let map = crossing::map_with(count, mark, offset, scale);
     crossing::made_code(
@@ -75,10 +68,7 @@ pub extern "C" fn mudvizsor_map_compose(
     slots: &mut [usize],
     time: &mut [f64; 2],
 ) -> usize
-    ensures { λ r. ⌜ r ≡ madeCode (mapReply (composeCall (now (store .entry)) (now (places .entry)) (numbers count mark offset scale) (now (istore .entry)) (now (iplaces .entry)) (numbers icount imark ioffset iscale) (now (out .entry)) (now (slots .entry)))) ⌝ }
-    ensures { λ r. ⌜ now (out .exit) ≡ mapBytes (composeCall (now (store .entry)) (now (places .entry)) (numbers count mark offset scale) (now (istore .entry)) (now (iplaces .entry)) (numbers icount imark ioffset iscale) (now (out .entry)) (now (slots .entry))) (now (out .entry)) ⌝ }
-    ensures { λ r. ⌜ now (slots .exit) ≡ mapSlots (composeCall (now (store .entry)) (now (places .entry)) (numbers count mark offset scale) (now (istore .entry)) (now (iplaces .entry)) (numbers icount imark ioffset iscale) (now (out .entry)) (now (slots .entry))) (now (slots .entry)) ⌝ }
-    ensures { λ r. ⌜ now (time .exit) ≡ madeTime (mapReply (composeCall (now (store .entry)) (now (places .entry)) (numbers count mark offset scale) (now (istore .entry)) (now (iplaces .entry)) (numbers icount imark ioffset iscale) (now (out .entry)) (now (slots .entry)))) (now (time .entry)) ⌝ }
+    ensures { λ r. ⌜ GivesCode (composeCall (now (store .entry)) (now (places .entry)) (numbers count mark offset scale) (now (istore .entry)) (now (iplaces .entry)) (numbers icount imark ioffset iscale) (now (out .entry)) (now (slots .entry))) r (now (out .entry)) (now (out .exit)) (now (slots .entry)) (now (slots .exit)) (now (time .entry)) (now (time .exit)) ⌝ }
 {
     let map = crossing::map_with(count, mark, offset, scale);
     let inner = crossing::map_with(icount, imark, ioffset, iscale);
@@ -97,10 +87,7 @@ pub extern "C" fn mudvizsor_map_from_pair(
     slots: &mut [usize],
     time: &mut [f64; 2],
 ) -> usize
-    ensures { λ r. ⌜ r ≡ madeCode (mapReply (fromPairCall (now (source .entry)) (now (target .entry)) (now (out .entry)) (now (slots .entry)))) ⌝ }
-    ensures { λ r. ⌜ now (out .exit) ≡ mapBytes (fromPairCall (now (source .entry)) (now (target .entry)) (now (out .entry)) (now (slots .entry))) (now (out .entry)) ⌝ }
-    ensures { λ r. ⌜ now (slots .exit) ≡ mapSlots (fromPairCall (now (source .entry)) (now (target .entry)) (now (out .entry)) (now (slots .entry))) (now (slots .entry)) ⌝ }
-    ensures { λ r. ⌜ now (time .exit) ≡ madeTime (mapReply (fromPairCall (now (source .entry)) (now (target .entry)) (now (out .entry)) (now (slots .entry)))) (now (time .entry)) ⌝ }
+    ensures { λ r. ⌜ GivesCode (fromPairCall (now (source .entry)) (now (target .entry)) (now (out .entry)) (now (slots .entry))) r (now (out .entry)) (now (out .exit)) (now (slots .entry)) (now (slots .exit)) (now (time .entry)) (now (time .exit)) ⌝ }
 {
     crossing::made_code(making::from_pair(source, target, out, slots), time)
 }
@@ -114,10 +101,7 @@ pub extern "C" fn mudvizsor_map_from_pair_identity(
     slots: &mut [usize],
     time: &mut [f64; 2],
 ) -> usize
-    ensures { λ r. ⌜ r ≡ madeCode (mapReply (fromPairIdentityCall (now (source .entry)) (now (target .entry)) (now (out .entry)) (now (slots .entry)))) ⌝ }
-    ensures { λ r. ⌜ now (out .exit) ≡ mapBytes (fromPairIdentityCall (now (source .entry)) (now (target .entry)) (now (out .entry)) (now (slots .entry))) (now (out .entry)) ⌝ }
-    ensures { λ r. ⌜ now (slots .exit) ≡ mapSlots (fromPairIdentityCall (now (source .entry)) (now (target .entry)) (now (out .entry)) (now (slots .entry))) (now (slots .entry)) ⌝ }
-    ensures { λ r. ⌜ now (time .exit) ≡ madeTime (mapReply (fromPairIdentityCall (now (source .entry)) (now (target .entry)) (now (out .entry)) (now (slots .entry)))) (now (time .entry)) ⌝ }
+    ensures { λ r. ⌜ GivesCode (fromPairIdentityCall (now (source .entry)) (now (target .entry)) (now (out .entry)) (now (slots .entry))) r (now (out .entry)) (now (out .exit)) (now (slots .entry)) (now (slots .exit)) (now (time .entry)) (now (time .exit)) ⌝ }
 {
     crossing::made_code(making::from_pair_identity(source, target, out, slots), time)
 }
@@ -135,10 +119,7 @@ pub extern "C" fn mudvizsor_map_inverse(
     slots: &mut [usize],
     time: &mut [f64; 2],
 ) -> usize
-    ensures { λ r. ⌜ r ≡ madeCode (mapReply (inverseCall (now (store .entry)) (now (places .entry)) (numbers count mark offset scale) (now (out .entry)) (now (slots .entry)))) ⌝ }
-    ensures { λ r. ⌜ now (out .exit) ≡ mapBytes (inverseCall (now (store .entry)) (now (places .entry)) (numbers count mark offset scale) (now (out .entry)) (now (slots .entry))) (now (out .entry)) ⌝ }
-    ensures { λ r. ⌜ now (slots .exit) ≡ mapSlots (inverseCall (now (store .entry)) (now (places .entry)) (numbers count mark offset scale) (now (out .entry)) (now (slots .entry))) (now (slots .entry)) ⌝ }
-    ensures { λ r. ⌜ now (time .exit) ≡ madeTime (mapReply (inverseCall (now (store .entry)) (now (places .entry)) (numbers count mark offset scale) (now (out .entry)) (now (slots .entry)))) (now (time .entry)) ⌝ }
+    ensures { λ r. ⌜ GivesCode (inverseCall (now (store .entry)) (now (places .entry)) (numbers count mark offset scale) (now (out .entry)) (now (slots .entry))) r (now (out .entry)) (now (out .exit)) (now (slots .entry)) (now (slots .exit)) (now (time .entry)) (now (time .exit)) ⌝ }
 {
     let map = crossing::map_with(count, mark, offset, scale);
     crossing::made_code(altering::inverse(store, places, map, out, slots), time)
@@ -158,10 +139,7 @@ pub extern "C" fn mudvizsor_map_dropping_source(
     slots: &mut [usize],
     time: &mut [f64; 2],
 ) -> usize
-    ensures { λ r. ⌜ r ≡ madeCode (mapReply (droppingSourceCall (now (store .entry)) (now (places .entry)) (numbers count mark offset scale) (now (source .entry)) (now (out .entry)) (now (slots .entry)))) ⌝ }
-    ensures { λ r. ⌜ now (out .exit) ≡ mapBytes (droppingSourceCall (now (store .entry)) (now (places .entry)) (numbers count mark offset scale) (now (source .entry)) (now (out .entry)) (now (slots .entry))) (now (out .entry)) ⌝ }
-    ensures { λ r. ⌜ now (slots .exit) ≡ mapSlots (droppingSourceCall (now (store .entry)) (now (places .entry)) (numbers count mark offset scale) (now (source .entry)) (now (out .entry)) (now (slots .entry))) (now (slots .entry)) ⌝ }
-    ensures { λ r. ⌜ now (time .exit) ≡ madeTime (mapReply (droppingSourceCall (now (store .entry)) (now (places .entry)) (numbers count mark offset scale) (now (source .entry)) (now (out .entry)) (now (slots .entry)))) (now (time .entry)) ⌝ }
+    ensures { λ r. ⌜ GivesCode (droppingSourceCall (now (store .entry)) (now (places .entry)) (numbers count mark offset scale) (now (source .entry)) (now (out .entry)) (now (slots .entry))) r (now (out .entry)) (now (out .exit)) (now (slots .entry)) (now (slots .exit)) (now (time .entry)) (now (time .exit)) ⌝ }
 {
     let map = crossing::map_with(count, mark, offset, scale);
     crossing::made_code(
@@ -185,10 +163,7 @@ pub extern "C" fn mudvizsor_map_rebase_target(
     slots: &mut [usize],
     time: &mut [f64; 2],
 ) -> usize
-    ensures { λ r. ⌜ r ≡ madeCode (mapReply (rebaseTargetCall (now (store .entry)) (now (places .entry)) (numbers count mark offset scale) (now (from .entry)) (now (to .entry)) (now (out .entry)) (now (slots .entry)))) ⌝ }
-    ensures { λ r. ⌜ now (out .exit) ≡ mapBytes (rebaseTargetCall (now (store .entry)) (now (places .entry)) (numbers count mark offset scale) (now (from .entry)) (now (to .entry)) (now (out .entry)) (now (slots .entry))) (now (out .entry)) ⌝ }
-    ensures { λ r. ⌜ now (slots .exit) ≡ mapSlots (rebaseTargetCall (now (store .entry)) (now (places .entry)) (numbers count mark offset scale) (now (from .entry)) (now (to .entry)) (now (out .entry)) (now (slots .entry))) (now (slots .entry)) ⌝ }
-    ensures { λ r. ⌜ now (time .exit) ≡ madeTime (mapReply (rebaseTargetCall (now (store .entry)) (now (places .entry)) (numbers count mark offset scale) (now (from .entry)) (now (to .entry)) (now (out .entry)) (now (slots .entry)))) (now (time .entry)) ⌝ }
+    ensures { λ r. ⌜ GivesCode (rebaseTargetCall (now (store .entry)) (now (places .entry)) (numbers count mark offset scale) (now (from .entry)) (now (to .entry)) (now (out .entry)) (now (slots .entry))) r (now (out .entry)) (now (out .exit)) (now (slots .entry)) (now (slots .exit)) (now (time .entry)) (now (time .exit)) ⌝ }
 {
     let map = crossing::map_with(count, mark, offset, scale);
     crossing::made_code(
@@ -211,10 +186,7 @@ pub extern "C" fn mudvizsor_map_deepen_to(
     slots: &mut [usize],
     time: &mut [f64; 2],
 ) -> usize
-    ensures { λ r. ⌜ r ≡ madeCode (mapReply (deepenToCall (now (store .entry)) (now (places .entry)) (numbers count mark offset scale) (now (path .entry)) (now (out .entry)) (now (slots .entry)))) ⌝ }
-    ensures { λ r. ⌜ now (out .exit) ≡ mapBytes (deepenToCall (now (store .entry)) (now (places .entry)) (numbers count mark offset scale) (now (path .entry)) (now (out .entry)) (now (slots .entry))) (now (out .entry)) ⌝ }
-    ensures { λ r. ⌜ now (slots .exit) ≡ mapSlots (deepenToCall (now (store .entry)) (now (places .entry)) (numbers count mark offset scale) (now (path .entry)) (now (out .entry)) (now (slots .entry))) (now (slots .entry)) ⌝ }
-    ensures { λ r. ⌜ now (time .exit) ≡ madeTime (mapReply (deepenToCall (now (store .entry)) (now (places .entry)) (numbers count mark offset scale) (now (path .entry)) (now (out .entry)) (now (slots .entry)))) (now (time .entry)) ⌝ }
+    ensures { λ r. ⌜ GivesCode (deepenToCall (now (store .entry)) (now (places .entry)) (numbers count mark offset scale) (now (path .entry)) (now (out .entry)) (now (slots .entry))) r (now (out .entry)) (now (out .exit)) (now (slots .entry)) (now (slots .exit)) (now (time .entry)) (now (time .exit)) ⌝ }
 {
     let map = crossing::map_with(count, mark, offset, scale);
     crossing::made_code(
@@ -242,10 +214,7 @@ pub extern "C" fn mudvizsor_map_implied_class(
     slots: &mut [usize],
     time: &mut [f64; 2],
 ) -> usize
-    ensures { λ r. ⌜ r ≡ madeCode (mapReply (impliedClassCall (now (store .entry)) (now (places .entry)) (numbers count mark offset scale) (now (istore .entry)) (now (iplaces .entry)) (numbers icount imark ioffset iscale) (now (out .entry)) (now (slots .entry)))) ⌝ }
-    ensures { λ r. ⌜ now (out .exit) ≡ mapBytes (impliedClassCall (now (store .entry)) (now (places .entry)) (numbers count mark offset scale) (now (istore .entry)) (now (iplaces .entry)) (numbers icount imark ioffset iscale) (now (out .entry)) (now (slots .entry))) (now (out .entry)) ⌝ }
-    ensures { λ r. ⌜ now (slots .exit) ≡ mapSlots (impliedClassCall (now (store .entry)) (now (places .entry)) (numbers count mark offset scale) (now (istore .entry)) (now (iplaces .entry)) (numbers icount imark ioffset iscale) (now (out .entry)) (now (slots .entry))) (now (slots .entry)) ⌝ }
-    ensures { λ r. ⌜ now (time .exit) ≡ madeTime (mapReply (impliedClassCall (now (store .entry)) (now (places .entry)) (numbers count mark offset scale) (now (istore .entry)) (now (iplaces .entry)) (numbers icount imark ioffset iscale) (now (out .entry)) (now (slots .entry)))) (now (time .entry)) ⌝ }
+    ensures { λ r. ⌜ GivesCode (impliedClassCall (now (store .entry)) (now (places .entry)) (numbers count mark offset scale) (now (istore .entry)) (now (iplaces .entry)) (numbers icount imark ioffset iscale) (now (out .entry)) (now (slots .entry))) r (now (out .entry)) (now (out .exit)) (now (slots .entry)) (now (slots .exit)) (now (time .entry)) (now (time .exit)) ⌝ }
 {
     let map = crossing::map_with(count, mark, offset, scale);
     let inner = crossing::map_with(icount, imark, ioffset, iscale);

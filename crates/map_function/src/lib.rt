@@ -5,7 +5,7 @@ ghost use Rattle.asking.specs.Asking.{lentList};
 ghost use Rattle.maps.specs.New.{identity, null};
 ghost use Rattle.layer_offset.specs.Offset.{identity as noOffset};
 ghost use Rattle.map_function.specs.Read.{isNull, isPathIdentity, isIdentityMap, timedMap};
-ghost use Rattle.map_function.specs.Made.{numbersOf, mapReply, mapBytes, mapSlots, held, asItIs, fromPartsOutcome};
+ghost use Rattle.map_function.specs.Made.{numbersOf, GivesMap, held, asItIs, fromPartsOutcome};
 
 // A map: how many pairs of the lent list are its own, the root-identity mark, and the time offset.
 pub struct MapFunction {
@@ -110,9 +110,7 @@ pub fn from_parts(
     out: &mut [u8],
     slots: &mut [usize],
 ) -> MapReply
-    ensures { λ r. ⌜ r ≡ mapReply (held (lentList (now (store .entry)) (now (places .entry)) n) (fromPartsOutcome (pairsIn (now (store .entry)) (now (places .entry)) n) mark time (now (out .entry)) (now (slots .entry)))) ⌝ }
-    ensures { λ r. ⌜ now (out .exit) ≡ mapBytes (held (lentList (now (store .entry)) (now (places .entry)) n) (fromPartsOutcome (pairsIn (now (store .entry)) (now (places .entry)) n) mark time (now (out .entry)) (now (slots .entry)))) (now (out .entry)) ⌝ }
-    ensures { λ r. ⌜ now (slots .exit) ≡ mapSlots (held (lentList (now (store .entry)) (now (places .entry)) n) (fromPartsOutcome (pairsIn (now (store .entry)) (now (places .entry)) n) mark time (now (out .entry)) (now (slots .entry)))) (now (slots .entry)) ⌝ }
+    ensures { λ r. ⌜ GivesMap (held (lentList (now (store .entry)) (now (places .entry)) n) (fromPartsOutcome (pairsIn (now (store .entry)) (now (places .entry)) n) mark time (now (out .entry)) (now (slots .entry)))) r (now (out .entry)) (now (out .exit)) (now (slots .entry)) (now (slots .exit)) ⌝ }
 {
     if 64 < n {
         return MapReply::Refused(path::Refusal::TooMany);
@@ -147,9 +145,7 @@ pub fn as_it_is(
     out: &mut [u8],
     slots: &mut [usize],
 ) -> MapReply
-    ensures { λ r. ⌜ r ≡ mapReply (held (lentList (now (store .entry)) (now (places .entry)) n) (asItIs (pairsIn (now (store .entry)) (now (places .entry)) n) mark time (now (out .entry)) (now (slots .entry)))) ⌝ }
-    ensures { λ r. ⌜ now (out .exit) ≡ mapBytes (held (lentList (now (store .entry)) (now (places .entry)) n) (asItIs (pairsIn (now (store .entry)) (now (places .entry)) n) mark time (now (out .entry)) (now (slots .entry)))) (now (out .entry)) ⌝ }
-    ensures { λ r. ⌜ now (slots .exit) ≡ mapSlots (held (lentList (now (store .entry)) (now (places .entry)) n) (asItIs (pairsIn (now (store .entry)) (now (places .entry)) n) mark time (now (out .entry)) (now (slots .entry)))) (now (slots .entry)) ⌝ }
+    ensures { λ r. ⌜ GivesMap (held (lentList (now (store .entry)) (now (places .entry)) n) (asItIs (pairsIn (now (store .entry)) (now (places .entry)) n) mark time (now (out .entry)) (now (slots .entry)))) r (now (out .entry)) (now (out .exit)) (now (slots .entry)) (now (slots .exit)) ⌝ }
 {
     if 64 < n {
         return MapReply::Refused(path::Refusal::TooMany);

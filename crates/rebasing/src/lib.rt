@@ -9,7 +9,7 @@ ghost use Rattle.pairs.specs.Pair.{pair, allShort};
 ghost use Rattle.pairs.specs.Places.{pairsIn, fourOf};
 ghost use Rattle.maps.specs.New.{fromPairIdentity};
 ghost use Rattle.maps.specs.Derive.{anyTarget};
-ghost use Rattle.map_function.specs.Made.{mapReply, mapBytes, mapSlots, weighed};
+ghost use Rattle.map_function.specs.Made.{GivesMap, weighed};
 ghost use Rattle.scratch.specs.Scratch.{Holds};
 ghost use Rattle.scratch.specs.Ends.{replaced, fromEnds};
 ghost use Rattle.rebasing.specs.Calls.{rebasedPairs, rebaseTargetCall};
@@ -97,9 +97,7 @@ fn rebase_in(
     requires { ⌜ map .count ≤ 64 ⌝ }
     requires { ⌜ 766 * map .count ≤ length (now bytes) ⌝ }
     requires { ⌜ 4 * map .count ≤ length (now own) ⌝ }
-    ensures { λ r. ⌜ r ≡ mapReply (fromEnds (rebasedPairs (now (from .entry)) (now (to .entry)) (pairsIn (now (store .entry)) (now (places .entry)) (map .count))) (map .«has_root_identity») (map .«time_offset») (now (out .entry)) (now (slots .entry))) ⌝ }
-    ensures { λ r. ⌜ now (out .exit) ≡ mapBytes (fromEnds (rebasedPairs (now (from .entry)) (now (to .entry)) (pairsIn (now (store .entry)) (now (places .entry)) (map .count))) (map .«has_root_identity») (map .«time_offset») (now (out .entry)) (now (slots .entry))) (now (out .entry)) ⌝ }
-    ensures { λ r. ⌜ now (slots .exit) ≡ mapSlots (fromEnds (rebasedPairs (now (from .entry)) (now (to .entry)) (pairsIn (now (store .entry)) (now (places .entry)) (map .count))) (map .«has_root_identity») (map .«time_offset») (now (out .entry)) (now (slots .entry))) (now (slots .entry)) ⌝ }
+    ensures { λ r. ⌜ GivesMap (fromEnds (rebasedPairs (now (from .entry)) (now (to .entry)) (pairsIn (now (store .entry)) (now (places .entry)) (map .count))) (map .«has_root_identity») (map .«time_offset») (now (out .entry)) (now (slots .entry))) r (now (out .entry)) (now (out .exit)) (now (slots .entry)) (now (slots .exit)) ⌝ }
 {
     let n = map.count;
     let mark = map.has_root_identity;
@@ -121,9 +119,7 @@ fn rebase_few(
     requires { ⌜ allShort (pairsIn (now store) (now places) (map .count)) ≡ true ⌝ }
     requires { ⌜ length (now to) ≤ 255 ⌝ }
     requires { ⌜ map .count ≤ 4 ⌝ }
-    ensures { λ r. ⌜ r ≡ mapReply (fromEnds (rebasedPairs (now (from .entry)) (now (to .entry)) (pairsIn (now (store .entry)) (now (places .entry)) (map .count))) (map .«has_root_identity») (map .«time_offset») (now (out .entry)) (now (slots .entry))) ⌝ }
-    ensures { λ r. ⌜ now (out .exit) ≡ mapBytes (fromEnds (rebasedPairs (now (from .entry)) (now (to .entry)) (pairsIn (now (store .entry)) (now (places .entry)) (map .count))) (map .«has_root_identity») (map .«time_offset») (now (out .entry)) (now (slots .entry))) (now (out .entry)) ⌝ }
-    ensures { λ r. ⌜ now (slots .exit) ≡ mapSlots (fromEnds (rebasedPairs (now (from .entry)) (now (to .entry)) (pairsIn (now (store .entry)) (now (places .entry)) (map .count))) (map .«has_root_identity») (map .«time_offset») (now (out .entry)) (now (slots .entry))) (now (slots .entry)) ⌝ }
+    ensures { λ r. ⌜ GivesMap (fromEnds (rebasedPairs (now (from .entry)) (now (to .entry)) (pairsIn (now (store .entry)) (now (places .entry)) (map .count))) (map .«has_root_identity») (map .«time_offset») (now (out .entry)) (now (slots .entry))) r (now (out .entry)) (now (out .exit)) (now (slots .entry)) (now (slots .exit)) ⌝ }
 {
     let mut bytes = [0u8; 3064];
     let mut own = [0usize; 16];
@@ -153,9 +149,7 @@ fn rebase_many(
     requires { ⌜ allShort (pairsIn (now store) (now places) (map .count)) ≡ true ⌝ }
     requires { ⌜ length (now to) ≤ 255 ⌝ }
     requires { ⌜ map .count ≤ 64 ⌝ }
-    ensures { λ r. ⌜ r ≡ mapReply (fromEnds (rebasedPairs (now (from .entry)) (now (to .entry)) (pairsIn (now (store .entry)) (now (places .entry)) (map .count))) (map .«has_root_identity») (map .«time_offset») (now (out .entry)) (now (slots .entry))) ⌝ }
-    ensures { λ r. ⌜ now (out .exit) ≡ mapBytes (fromEnds (rebasedPairs (now (from .entry)) (now (to .entry)) (pairsIn (now (store .entry)) (now (places .entry)) (map .count))) (map .«has_root_identity») (map .«time_offset») (now (out .entry)) (now (slots .entry))) (now (out .entry)) ⌝ }
-    ensures { λ r. ⌜ now (slots .exit) ≡ mapSlots (fromEnds (rebasedPairs (now (from .entry)) (now (to .entry)) (pairsIn (now (store .entry)) (now (places .entry)) (map .count))) (map .«has_root_identity») (map .«time_offset») (now (out .entry)) (now (slots .entry))) (now (slots .entry)) ⌝ }
+    ensures { λ r. ⌜ GivesMap (fromEnds (rebasedPairs (now (from .entry)) (now (to .entry)) (pairsIn (now (store .entry)) (now (places .entry)) (map .count))) (map .«has_root_identity») (map .«time_offset») (now (out .entry)) (now (slots .entry))) r (now (out .entry)) (now (out .exit)) (now (slots .entry)) (now (slots .exit)) ⌝ }
 {
     let mut bytes = [0u8; 49024];
     let mut own = [0usize; 256];
@@ -182,9 +176,7 @@ fn from_pair_identity(
 ) -> map_function::MapReply
     requires { ⌜ length (now s) ≤ 255 ⌝ }
     requires { ⌜ length (now t) ≤ 255 ⌝ }
-    ensures { λ r. ⌜ r ≡ mapReply (weighed (pair (now (s .entry)) (now (t .entry)) ∷ []) (fromPairIdentity (pair (now (s .entry)) (now (t .entry)))) time (now (out .entry)) (now (slots .entry))) ⌝ }
-    ensures { λ r. ⌜ now (out .exit) ≡ mapBytes (weighed (pair (now (s .entry)) (now (t .entry)) ∷ []) (fromPairIdentity (pair (now (s .entry)) (now (t .entry)))) time (now (out .entry)) (now (slots .entry))) (now (out .entry)) ⌝ }
-    ensures { λ r. ⌜ now (slots .exit) ≡ mapSlots (weighed (pair (now (s .entry)) (now (t .entry)) ∷ []) (fromPairIdentity (pair (now (s .entry)) (now (t .entry)))) time (now (out .entry)) (now (slots .entry))) (now (slots .entry)) ⌝ }
+    ensures { λ r. ⌜ GivesMap (weighed (pair (now (s .entry)) (now (t .entry)) ∷ []) (fromPairIdentity (pair (now (s .entry)) (now (t .entry)))) time (now (out .entry)) (now (slots .entry))) r (now (out .entry)) (now (out .exit)) (now (slots .entry)) (now (slots .exit)) ⌝ }
 {
     let mut bytes = [0u8; 510];
     let mut own = [0usize; 4];
@@ -202,9 +194,7 @@ pub fn rebase_target(
     out: &mut [u8],
     slots: &mut [usize],
 ) -> map_function::MapReply
-    ensures { λ r. ⌜ r ≡ mapReply (rebaseTargetCall (now (store .entry)) (now (places .entry)) map (now (from .entry)) (now (to .entry)) (now (out .entry)) (now (slots .entry))) ⌝ }
-    ensures { λ r. ⌜ now (out .exit) ≡ mapBytes (rebaseTargetCall (now (store .entry)) (now (places .entry)) map (now (from .entry)) (now (to .entry)) (now (out .entry)) (now (slots .entry))) (now (out .entry)) ⌝ }
-    ensures { λ r. ⌜ now (slots .exit) ≡ mapSlots (rebaseTargetCall (now (store .entry)) (now (places .entry)) map (now (from .entry)) (now (to .entry)) (now (out .entry)) (now (slots .entry))) (now (slots .entry)) ⌝ }
+    ensures { λ r. ⌜ GivesMap (rebaseTargetCall (now (store .entry)) (now (places .entry)) map (now (from .entry)) (now (to .entry)) (now (out .entry)) (now (slots .entry))) r (now (out .entry)) (now (out .exit)) (now (slots .entry)) (now (slots .exit)) ⌝ }
 {
     let n = map.count;
     let mark = map.has_root_identity;

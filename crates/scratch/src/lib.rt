@@ -6,7 +6,7 @@ ghost use Rattle.pairs.specs.Pair.{everyEnd, allShort};
 ghost use Rattle.pairs.specs.Places.{pairsIn};
 ghost use Rattle.asking.specs.Asking.{lentList};
 ghost use Rattle.maps.specs.Compose.{hasSource};
-ghost use Rattle.map_function.specs.Made.{mapReply, mapBytes, mapSlots, held};
+ghost use Rattle.map_function.specs.Made.{GivesMap, held};
 ghost use Rattle.scratch.specs.Scratch.{pairEnd, pairBytes, pairSlots};
 ghost use Rattle.scratch.specs.Ends.{within, replaced, amount, fromEnds};
 
@@ -112,9 +112,7 @@ pub fn from_ends(
     out: &mut [u8],
     slots: &mut [usize],
 ) -> map_function::MapReply
-    ensures { λ r. ⌜ r ≡ mapReply (held (lentList (now (store .entry)) (now (places .entry)) n) (fromEnds (pairsIn (now (store .entry)) (now (places .entry)) n) mark time (now (out .entry)) (now (slots .entry)))) ⌝ }
-    ensures { λ r. ⌜ now (out .exit) ≡ mapBytes (held (lentList (now (store .entry)) (now (places .entry)) n) (fromEnds (pairsIn (now (store .entry)) (now (places .entry)) n) mark time (now (out .entry)) (now (slots .entry)))) (now (out .entry)) ⌝ }
-    ensures { λ r. ⌜ now (slots .exit) ≡ mapSlots (held (lentList (now (store .entry)) (now (places .entry)) n) (fromEnds (pairsIn (now (store .entry)) (now (places .entry)) n) mark time (now (out .entry)) (now (slots .entry)))) (now (slots .entry)) ⌝ }
+    ensures { λ r. ⌜ GivesMap (held (lentList (now (store .entry)) (now (places .entry)) n) (fromEnds (pairsIn (now (store .entry)) (now (places .entry)) n) mark time (now (out .entry)) (now (slots .entry)))) r (now (out .entry)) (now (out .exit)) (now (slots .entry)) (now (slots .exit)) ⌝ }
 {
     if 64 < n {
         return map_function::MapReply::Refused(path::Refusal::TooMany);
