@@ -4,7 +4,7 @@ use mathlib.Core.Bool.{Bool, true, false, cond}
 use mathlib.Core.List.{List, [], _∷_, _++_, append-assoc, flatMap}
 use Prim.Native.Nat.{ℕ, zero, suc, _+_, _*_, _≤_, _<_}
 use native.Mathlib.Omega.{arith}
-use lib.ListN.{length, getD, drop, length-append}
+use lib.ListN.{length, getD, drop, length-append, length-drop}
 use Rattle.text.specs.Text.{Text}
 use Rattle.pairs.specs.Pair.{Pair}
 use Rattle.pairs.specs.Places.{pairIn, pairsIn}
@@ -61,6 +61,13 @@ module _ (places : List ℕ) where
   pub picked-read : (store : Text) (picks slots : List ℕ) → pairsIn store (picked places picks slots) (length picks) ≡ pairsAt store places picks
   unfolding picked
   picked-read store picks slots = all-read store picks (drop (length (flatMap (four places) picks)) slots)
+
+  -- memory that has room for the picks keeps its length
+  pub picked-length : (picks slots : List ℕ) → 4 * length picks ≤ length slots → length (picked places picks slots) ≡ length slots
+  unfolding picked
+  picked-length picks slots h =
+      let t : List ℕ = flatMap (four places) picks in
+      omega (arith, h, fours-length picks, length-append t (drop (length t) slots), length-drop (length t) slots)
 
   -- before the first pick memory is as it was
   pub picked-none : (slots : List ℕ) → slots ≡ picked places [] slots

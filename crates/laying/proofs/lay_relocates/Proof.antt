@@ -1,5 +1,3 @@
-use Rattle.relocates.proofs.ActiveLaws.{active-read}
-use Rattle.canonical.proofs.KeptLaws.{canonical-read}
 use Rattle.laying.proofs.LayWays.{relocates-laid}
 use borrow.Author.Needs.{needs}
 use Rattle.laying.proofs.lay_relocates.Statement.{statement}
@@ -21,7 +19,7 @@ same-length : tie.Need-same-length
 same-length c = search needs
 
 returns : tie.Need-returns
-returns c = relocates-laid _ _ _ _ _ (search needs) (active-read _ _ _ _ _ _ _ (c .before .before .before .before .before .before .active-pairs .ensures .0) (c .before .before .before .before .before .before .active-pairs .ensures .1)) _ _ _ (canonical-read _ _ _ _ _ _ _ _ (c .before .before .canonical-places .ensures .0) (c .before .before .canonical-places .ensures .1))
+returns c = relocates-laid _ _ _ _ _ (c .before .before .before .before .before .before .active-pairs .ensures .0) (c .before .before .before .before .before .before .active-pairs .ensures .1) _ _ _ _ (c .before .before .canonical-places .ensures)
 
 pub lay-relocates-spec : {M : Type 1} → statement M
 lay-relocates-spec =
