@@ -8,9 +8,8 @@ use lib.Dec.{leb}
 use lib.ListN.{length}
 use borrow.Author.Tests.{le-leb, lt-leb, leb-true}
 use Rattle.text.specs.Text.{Text}
-use Rattle.text.proofs.BoolLaws.{and-l, and-r, and-no, and-yes, told-false, told-true}
+use Rattle.text.proofs.BoolLaws.{and-l, and-r, and-no, and-yes, told-true}
 use Rattle.pairs.specs.Pair.{Pair}
-use Rattle.pairs.specs.Places.{pairsIn}
 use Rattle.asking.specs.Asking.{Lent, lentList, listCounts}
 use Rattle.asking.specs.Made.{canMake, madeOf}
 use Rattle.asking.proofs.PassLaws.{Sound}
@@ -25,33 +24,27 @@ module _ (places : List ℕ) (count room : ℕ) where
   unfolding canMake
   make-counted h r e = rw (le-leb 256 room h) (e ∙ sym (and-yes (listCounts (lentList [] places count))))
 
--- where it says no, nothing is made
-module _ (places : List ℕ) (n room : ℕ) (b : Bool) (e : b ≡ canMake (lentList [] places n) room) where
-  pub made-none : (store : Text) (l : List Pair) (kept : List ℕ) → not b ≡ true → pairsIn store kept 0 ≡ madeOf (lentList store places n) room l
-  unfolding madeOf canMake listCounts pairsIn
-  made-none store l kept h = rw (told-false e h) refl
+-- where it says yes, the pairs are there, at most 64, and so is the room
+module _ (places : List ℕ) (n room : ℕ) (b : Bool) (e : b ≡ canMake (lentList [] places n) room) (h : not b ≡ false) where
+  pub made-all : (store : Text) (l : List Pair) → madeOf (lentList store places n) room l ≡ l
+  unfolding madeOf canMake listCounts
+  made-all store l = rw (told-true e h) refl
 
-  -- where it says yes, the pairs are there, at most 64, and so is the room
-  module _ (h : not b ≡ false) where
-    pub made-all : (store : Text) (l : List Pair) → madeOf (lentList store places n) room l ≡ l
-    unfolding madeOf canMake listCounts
-    made-all store l = rw (told-true e h) refl
+  counted : listCounts (lentList [] places n) ≡ true
+  unfolding canMake
+  counted = and-l (listCounts (lentList [] places n)) (leb 256 room) (told-true e h)
 
-    counted : listCounts (lentList [] places n) ≡ true
-    unfolding canMake
-    counted = and-l (listCounts (lentList [] places n)) (leb 256 room) (told-true e h)
+  pub made-few : n ≤ 64
+  unfolding listCounts
+  made-few = leb-true n 64 (and-l (leb n 64) (leb n (length places / 4)) counted)
 
-    pub made-few : n ≤ 64
-    unfolding listCounts
-    made-few = leb-true n 64 (and-l (leb n 64) (leb n (length places / 4)) counted)
+  pub made-held : 4 * n ≤ length places
+  unfolding listCounts
+  made-held = let z : n ≤ length places / 4 = leb-true n (length places / 4) (and-r (leb n 64) (leb n (length places / 4)) counted) in omega arith
 
-    pub made-held : 4 * n ≤ length places
-    unfolding listCounts
-    made-held = let z : n ≤ length places / 4 = leb-true n (length places / 4) (and-r (leb n 64) (leb n (length places / 4)) counted) in omega arith
-
-    pub made-room : 256 ≤ room
-    unfolding canMake
-    made-room = leb-true 256 room (and-r (listCounts (lentList [] places n)) (leb 256 room) (told-true e h))
+  pub made-room : 256 ≤ room
+  unfolding canMake
+  made-room = leb-true 256 room (and-r (listCounts (lentList [] places n)) (leb 256 room) (told-true e h))
 
 -- a list that passed questions 1 to 4 is one of which pairs can be made
 pub sound-made : (l : Lent) (room : ℕ) (x : List Pair) → Sound l → 256 ≤ room → madeOf l room x ≡ x

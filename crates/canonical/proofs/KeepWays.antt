@@ -4,12 +4,12 @@ use mathlib.Core.Logic.{_≢_}
 use mathlib.Core.Bool.{Bool, true, false, not, cond, _||_}
 use mathlib.Core.List.{List, [], _∷_, _++_}
 use mathlib.Core.Option.{Option, none, some}
-use Prim.Native.Nat.{ℕ, zero, suc, _+_, _*_, _-_, _/_, _≤_, _<_}
+use Prim.Native.Nat.{ℕ, zero, suc, max, _+_, _-_, _/_, _≤_, _<_}
 use native.Mathlib.Omega.{arith}
 use native.Mathlib.Numerals.{add-one}
 use native.Mathlib.Decide.{ℕ-discrete}
 use lib.ListN.{length, getD, take, drop, set}
-use borrow.Author.Tests.{le-leb}
+use borrow.Author.Tests.{le-leb, eq-eqb, ne-eqb}
 use lib.Seq.{getD-set-same, getD-set-other}
 use Rattle.text.specs.Text.{Text, equal}
 use Rattle.text.proofs.BoolLaws.{told, told-false, told-true, not-true, not-false, or-right, or-false}
@@ -25,16 +25,14 @@ use Rattle.pairs.specs.Best.{best, serves}
 use Rattle.serving.specs.Search.{foundOf}
 use Rattle.serving.proofs.FoundLaws.{found-none, found-some}
 use Rattle.serving.specs.declared.Found.{Found}
-use Rattle.pairs.proofs.PlaceLaws.{chosen-best}
+use Rattle.pairs.proofs.PlaceLaws.{chosen-best, pair-is}
 use Rattle.listing.proofs.WriteWays.{source-key, target-key}
-use Rattle.listing.proofs.CopyLaws.{copied-over, pushed}
 use Rattle.asking.specs.Asking.{lentList, listCounts}
 use Rattle.asking.specs.Made.{canMake, madeOf}
 use Rattle.maps.specs.Map.{Map, lentMap, source, target}
-use Rattle.maps.specs.New.{isRoots, anyRoots, noRoots, viaPair, via, isText, implied, keep, canonical, fromParts}
+use Rattle.maps.specs.New.{isRoots, anyRoots, noRoots, viaPair, via, isText, implied, canonical, fromParts}
 use Rattle.maps.proofs.LentLaws.{serves-prefix, served-long, out-keys, ends-by}
-use Rattle.canonical.specs.Level.{layer, Keyed, Topped}
-use Rattle.canonical.proofs.LevelLaws.{layer-other, layer-roots, layer-here}
+use Rattle.canonical.specs.Kept.{elementsAt, mostElements, Keyed, keeps}
 
 -- `is_roots`
 module _ (store : Text) (places : List ℕ) (i : ℕ) (k : Text) (e : k ≡ keyAt store places false i) (b : Bool) (h : b ≡ isRoot k) where
@@ -87,31 +85,32 @@ pub ruleset rooting = (any-found, any-on, any-none, any-end)
 
 -- `fill_keys`
 module _ (store : Text) (places : List ℕ) where
+  key-told : (i e : ℕ) (k : Text) → k ≡ keyAt store places false i → e ≡ elements k → e ≡ elementsAt store places i
+  unfolding elementsAt
+  key-told i e k h m = m ∙ ap elements (h ∙ sym (source-key store places i))
+
   pub keyed-none : (keys : List ℕ) → Keyed store places 0 keys
   unfolding Keyed
   keyed-none keys i h = absurd (omega arith)
 
-  pub topped-none : (top : ℕ) → Topped store places 0 top
-  unfolding Topped
-  topped-none top i h = absurd (omega arith)
+  pub most-none : 0 ≡ mostElements store places 0
+  unfolding mostElements
+  most-none = refl
 
   pub keyed-on : (n : ℕ) (keys : List ℕ) (e : ℕ) (k : Text) → n < length keys → k ≡ keyAt store places false n → e ≡ elements k → Keyed store places n keys
       → Keyed store places (n + 1) (set keys n e)
   unfolding Keyed
   keyed-on n keys e k l h m f i j = elim (ℕ-discrete i n) [
-    | yes z ↦ rw z (getD-set-same keys n e 0 l ∙ m ∙ ap elements h)
+    | yes z ↦ rw z (getD-set-same keys n e 0 l ∙ key-told n e k h m)
     | no z ↦ getD-set-other keys n i e 0 z ∙ f i (omega arith)
   ]
 
-  pub topped-on : (n top top′ e : ℕ) (k : Text) → k ≡ keyAt store places false n → e ≡ elements k → (top ≤ top′) × (e ≤ top′) → Topped store places n top
-      → Topped store places (n + 1) top′
-  unfolding Topped
-  topped-on n top top′ e k h m g f i j = elim (ℕ-discrete i n) [
-    | yes z ↦ rw z (omega (arith, g .1, m, ap elements h))
-    | no z ↦ omega (arith, g .0, f i (omega arith))
-  ]
+  pub most-on : (n top top′ e : ℕ) (k : Text) → k ≡ keyAt store places false n → e ≡ elements k → top′ ≡ max top e → top ≡ mostElements store places n
+      → top′ ≡ mostElements store places (n + 1)
+  unfolding mostElements
+  most-on n top top′ e k h m g f = rw (add-one n, ← f, ← key-told n e k h m) g
 
-  pub keyed-at : (n : ℕ) (keys : List ℕ) (i : ℕ) → i < n → Keyed store places n keys → getD keys i 0 ≡ elements (keyAt store places false i)
+  pub keyed-at : (n : ℕ) (keys : List ℕ) (i : ℕ) → i < n → Keyed store places n keys → getD keys i 0 ≡ elementsAt store places i
   unfolding Keyed
   keyed-at n keys i h f = f i h
 
@@ -119,9 +118,8 @@ module _ (store : Text) (places : List ℕ) where
   unfolding Keyed
   keyed-end n i keys h f j l = f j (omega arith)
 
-  pub topped-end : (n i top : ℕ) → n ≤ i → Topped store places i top → Topped store places n top
-  unfolding Topped
-  topped-end n i top h f j l = f j (omega arith)
+  pub most-end : (n i top : ℕ) → n ≤ i → i ≤ n → top ≡ mostElements store places i → top ≡ mostElements store places n
+  most-end n i top h k e = let z : i ≡ n = omega arith in rw z at e
 
 -- `is_implied`
 module _ (store : Text) (kept : List ℕ) (n : ℕ) (mark : Bool) (s t : Text) (f : Found) (h : f ≡ foundOf (best s (keyAt store kept false) n)) where
@@ -168,55 +166,36 @@ module _ (store : Text) (kept : List ℕ) (n : ℕ) (mark : Bool) (s t : Text) (
     implied-mark l r m = m ∙ sym (implied-by none left-out ∙ rw (not-false mark l) refl)
 
 -- `keep_pair`
-module _ (store : Text) (places : List ℕ) (i key e : ℕ) (mark : Bool) (kept : List ℕ) (w : ℕ) (h : key ≡ elements (keyAt store places false i)) where
+module _ (store : Text) (places : List ℕ) (i key e : ℕ) (mark : Bool) (kept : List ℕ) (w : ℕ) where
   abbrev pair : Pair
   pair = pairIn store places i
 
-  abbrev before : List Pair
-  before = pairsIn store kept w
+  abbrev Leaves : ℕ → List ℕ → Type 0
+  Leaves r kept′ =
+      (r ≡ cond (keeps store places i key e mark kept w) (w + 1) w) × (kept′ ≡ cond (keeps store places i key e mark kept w) (copied places i w kept) kept)
 
-  key-told : elements (pair .source) ≡ key
-  key-told = ap elements (source-key store places i) ∙ sym h
-
-  -- nothing is kept of an empty layer
-  stays : layer e (pair ∷ []) ≡ [] → before ≡ keep mark before (layer e (pair ∷ []))
-  unfolding keep
-  stays z = rw z refl
-
-  pub pair-other : key ≢ e → before ≡ keep mark before (layer e (pair ∷ []))
-  pair-other k = stays (layer-other e pair (λ z. k (sym key-told ∙ z)))
+  pub pair-other : key ≢ e → Leaves w kept
+  unfolding keeps
+  pair-other k = rw (ne-eqb key e k) (refl, refl)
 
   module _ (k : key ≡ e) (b : Bool) (r : b ≡ isRoots pair) where
-    pub pair-roots : b ≡ true → before ≡ keep mark before (layer e (pair ∷ []))
-    pair-roots l = stays (layer-roots e pair (told r l))
+    pub pair-roots : b ≡ true → Leaves w kept
+    unfolding keeps
+    pair-roots l = rw (eq-eqb key e k, told r l) (refl, refl)
 
-    module _ (l : b ≡ false) where
-      here : layer e (pair ∷ []) ≡ pair ∷ []
-      here = layer-here e pair (told r l) (key-told ∙ k)
+    module _ (l : b ≡ false) (s t : Text) (f : s ≡ keyAt store places false i) (g : t ≡ keyAt store places true i) (c : Bool)
+        (m : c ≡ implied (lentMap store kept w mark) (record { source = s; target = t })) where
+      keeps-unless : keeps store places i key e mark kept w ≡ not c
+      unfolding keeps
+      keeps-unless =
+          let z : c ≡ implied (lentMap store kept w mark) pair = m ∙ ap (λ (x : Pair). implied (lentMap store kept w mark) x) (pair-is store places i s t f g) in
+          rw (eq-eqb key e k, told r l, ← z) refl
 
-      pair-room : 4 * (w + length (layer e (pair ∷ []))) ≤ length kept → 4 * w + 4 ≤ length kept
-      pair-room m = omega (arith, m, ap length here)
+      pub pair-implied : c ≡ true → Leaves w kept
+      pair-implied n = rw (keeps-unless, n) (refl, refl)
 
-      module _ (s t : Text) (f : s ≡ keyAt store places false i) (g : t ≡ keyAt store places true i) (c : Bool)
-          (m : c ≡ implied (lentMap store kept w mark) (record { source = s; target = t })) where
-        implied-told : c ≡ implied (lentMap store kept w mark) pair
-        implied-told = m ∙ ap (λ (z : Pair). implied (lentMap store kept w mark) z) whole
-          where
-            whole : record { source = s; target = t } ≡ pair
-            whole = rw (f ∙ sym (source-key store places i), g ∙ sym (target-key store places i)) refl
-
-        one-kept : keep mark before (layer e (pair ∷ [])) ≡ cond c before (before ++ pair ∷ [])
-        unfolding keep
-        one-kept = rw (here, implied-told) refl
-
-        pub pair-implied : c ≡ true → before ≡ keep mark before (layer e (pair ∷ []))
-        pair-implied n = sym (one-kept ∙ rw n refl)
-
-        pub pair-kept : c ≡ false → 4 * i + 4 ≤ length places → 4 * (w + length (layer e (pair ∷ []))) ≤ length kept → (kept′ : List ℕ) → kept′ ≡ copied places i w kept
-            → pairsIn store kept′ (w + 1) ≡ keep mark before (layer e (pair ∷ []))
-        pair-kept n o q kept′ p =
-            let r = pair-room q in
-            rw (add-one w, p, copied-over places i w kept o r) (pushed store places i kept w r ∙ sym (one-kept ∙ rw n refl))
+      pub pair-kept : c ≡ false → (kept′ : List ℕ) → kept′ ≡ copied places i w kept → Leaves (w + 1) kept′
+      pair-kept n kept′ p = rw (keeps-unless, n) (refl, p)
 
 -- `is_marked`
 pub marked-so : (mark any r : Bool) → mark ≡ false → r ≡ any → r ≡ (mark || any)

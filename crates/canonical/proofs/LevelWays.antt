@@ -1,130 +1,177 @@
--- What each way through `keep_level` and `canonicalize` gives. Assumes nothing.
+-- What each way through `keep_level`, `canonicalize` and `canonical_places` gives. Assumes nothing.
 use mathlib.Core.Path.{_≡_, refl, sym, ap, _∙_}
-use mathlib.Core.Bool.{Bool, true, false, cond}
-use mathlib.Core.List.{List, [], _∷_, _++_}
+use mathlib.Core.Bool.{Bool, true, false, not, cond, _&&_}
+use mathlib.Core.List.{List, [], _∷_, _++_, append-nil}
 use Prim.Native.Nat.{ℕ, zero, suc, _+_, _*_, _≤_, _<_}
 use native.Mathlib.Omega.{arith}
 use native.Mathlib.Decide.{ℕ-discrete}
 use native.Mathlib.Numerals.{add-one}
+use lib.Dec.{eqb}
 use lib.ListN.{length, length-append}
 use Rattle.text.specs.Text.{Text}
-use Rattle.prefix.specs.Elements.{elements}
-use Rattle.pairs.specs.Pair.{Pair}
+use Rattle.text.proofs.BoolLaws.{told-false, told-true, not-true, and-l, and-r}
 use Rattle.pairs.specs.Places.{pairIn, pairsIn}
-use Rattle.pairs.proofs.PlaceLaws.{pairsIn-length}
-use Rattle.listing.proofs.WriteWays.{source-key}
-use Rattle.maps.specs.New.{isRoots, noRoots, keep, canonical}
-use Rattle.canonical.specs.Level.{level, levels, layer, Topped}
-use Rattle.canonical.proofs.LevelLaws.{Below, sorted-levels, levels-few, layer-append, keep-append, keep-few, canonical-keeps}
+use Rattle.listing.specs.Lists.{copied}
+use Rattle.listing.specs.Picks.{passing, picked, pairsAt}
+use Rattle.listing.proofs.PickLaws.{picked-none, picked-read, picked-turn}
+use Rattle.asking.specs.Asking.{lentList, listCounts}
+use Rattle.asking.specs.Made.{canMake}
+use Rattle.maps.specs.Map.{lentMap}
+use Rattle.maps.specs.New.{isRoots, implied}
+use Rattle.canonical.specs.Level.{level, levels}
+use Rattle.canonical.specs.Kept.{elementsAt, mostElements, others, layer, keptOf, keptPairs, canonicalPicks, Holds, keeps}
+use Rattle.canonical.proofs.LevelLaws.{level-append, levels-few}
+use Rattle.canonical.proofs.KeptLaws.{others-few, kept-append, kept-few}
 
 -- `keep_level`
 module _ (store : Text) (places : List ℕ) (e : ℕ) where
-  abbrev first : ℕ → List Pair
-  first i = pairsIn store places i
+  abbrev first : ℕ → List ℕ
+  first i = layer store places e i
 
-  layer-next : (i : ℕ) → layer e (first (suc i)) ≡ layer e (first i) ++ layer e (pairIn store places i ∷ [])
-  unfolding pairsIn
-  layer-next i = layer-append e (first i) (pairIn store places i ∷ [])
+  -- the layer of pair i alone
+  abbrev alone : ℕ → List ℕ
+  alone i = cond (isRoots (pairIn store places i)) [] (cond (eqb (elementsAt store places i) e) (i ∷ []) [])
 
-  layer-grows : (n i : ℕ) → i ≤ n → length (layer e (first i)) ≤ length (layer e (first n))
+  layer-next : (i : ℕ) → first (suc i) ≡ first i ++ alone i
+  unfolding layer others passing level
+  layer-next i = go (isRoots (pairIn store places i))
+    where
+      before : List ℕ
+      before = passing (λ (k : ℕ). not (isRoots (pairIn store places k))) i
+
+      go : (t : Bool)
+          → level (elementsAt store places) e (cond (not t) (before ++ i ∷ []) before) ≡ level (elementsAt store places) e before ++ cond t [] (cond (eqb (elementsAt store places i) e) (i ∷ []) [])
+      go true = sym (append-nil (level (elementsAt store places) e before))
+      go false = level-append (elementsAt store places) e before (i ∷ [])
+
+  layer-grows : (n i : ℕ) → i ≤ n → length (first i) ≤ length (first n)
   layer-grows zero i h = let z : i ≡ 0 = omega arith in rw z (omega arith)
   layer-grows (suc n) i h = elim (ℕ-discrete i (suc n)) [
     | yes k ↦ rw k (omega arith)
-    | no k ↦ omega (arith, layer-grows n i (omega arith), ap length (layer-next n), length-append (layer e (first n)) (layer e (pairIn store places n ∷ [])))
+    | no k ↦ omega (arith, layer-grows n i (omega arith), ap length (layer-next n), length-append (first n) (alone n))
   ]
 
-  module _ (mark : Bool) (kept₀ : List ℕ) (w₀ : ℕ) where
-    abbrev given : List Pair
-    given = pairsIn store kept₀ w₀
+  pub level-held : (w₀ n size i w : ℕ) → 4 * (w₀ + length (first n)) ≤ size → i < n → w ≤ w₀ + length (first i) → w ≤ size
+  level-held w₀ n size i w room l f = omega (arith, layer-grows n i (omega arith))
 
-    pub level-none : given ≡ keep mark given (layer e (first 0))
-    unfolding pairsIn layer level noRoots keep
-    level-none = refl
+  module _ (mark : Bool) where
+    -- one pair more is looked at
+    one-more : (picks : List ℕ) (i : ℕ)
+        → keptOf store places mark picks (alone i)
+        ≡ cond (eqb (elementsAt store places i) e && (not (isRoots (pairIn store places i)) && not (implied (record { pairs = pairsAt store places picks; mark = mark }) (pairIn store places i)))) (picks ++ i ∷ []) picks
+    unfolding keptOf
+    one-more picks i =
+        go (isRoots (pairIn store places i)) (eqb (elementsAt store places i) e)
+      where
+        go : (t s : Bool)
+            → keptOf store places mark picks (cond t [] (cond s (i ∷ []) []))
+            ≡ cond (s && (not t && not (implied (record { pairs = pairsAt store places picks; mark = mark }) (pairIn store places i)))) (picks ++ i ∷ []) picks
+        go true true = refl
+        go true false = refl
+        go false true = flip (implied (record { pairs = pairsAt store places picks; mark = mark }) (pairIn store places i))
+          where
+            flip : (u : Bool) → cond u picks (picks ++ i ∷ []) ≡ cond (not u) (picks ++ i ∷ []) picks
+            flip true = refl
+            flip false = refl
+        go false false = refl
 
-    pub level-on : (i : ℕ) (kept kept′ : List ℕ) (w w′ : ℕ) → pairsIn store kept w ≡ keep mark given (layer e (first i))
-        → pairsIn store kept′ w′ ≡ keep mark (pairsIn store kept w) (layer e (pairIn store places i ∷ [])) → pairsIn store kept′ w′ ≡ keep mark given (layer e (first (i + 1)))
-    level-on i kept kept′ w w′ h k =
-        k ∙ rw (h, add-one i, layer-next i) (sym (keep-append mark given (layer e (first i)) (layer e (pairIn store places i ∷ []))))
+    -- the w pairs that are kept are those from before, and at most the layer's
+    module _ (i key : ℕ) (kept : List ℕ) (w : ℕ) (k : key ≡ elementsAt store places i) where
+      abbrev kept-here : Bool
+      kept-here = keeps store places i key e mark kept w
 
-    pub level-room : (n i : ℕ) (kept : List ℕ) (w : ℕ) → i < n → 4 * (w₀ + length (layer e (first n))) ≤ length kept₀ → length kept ≡ length kept₀
-        → pairsIn store kept w ≡ keep mark given (layer e (first i)) → 4 * (w + length (layer e (pairIn store places i ∷ []))) ≤ length kept
-    level-room n i kept w l r s h =
-        let a : w ≤ w₀ + length (layer e (first i)) = omega (arith, pairsIn-length store kept w, ap length h, keep-few mark given (layer e (first i)), pairsIn-length store kept₀ w₀) in
-        let b : length (layer e (first (suc i))) ≡ length (layer e (first i)) + length (layer e (pairIn store places i ∷ [])) = ap length (layer-next i) ∙ length-append (layer e (first i)) (layer e (pairIn store places i ∷ [])) in
-        omega (arith, a, b, layer-grows n (suc i) l)
+      alone-one : kept-here ≡ true → length (first (suc i)) ≡ length (first i) + 1
+      unfolding keeps
+      alone-one h =
+          let r : Bool = not (isRoots (pairIn store places i)) in
+          let u : Bool = not (implied (lentMap store kept w mark) (pairIn store places i)) in
+          let p : isRoots (pairIn store places i) ≡ false = not-true (isRoots (pairIn store places i)) (and-l r u (and-r (eqb key e) (r && u) h)) in
+          ap length (layer-next i) ∙ rw (length-append (first i) (alone i), p, ← k, and-l (eqb key e) (r && u) h) refl
 
-    pub level-end : (n i : ℕ) (kept : List ℕ) (w : ℕ) → n ≤ i → i ≤ n → pairsIn store kept w ≡ keep mark given (layer e (first i)) → pairsIn store kept w ≡ keep mark given (layer e (first n))
-    level-end n i kept w h k f = let z : i ≡ n = omega arith in rw z at f
+      module _ (w₀ : ℕ) (f : w ≤ w₀ + length (first i)) where
+        pub level-room : (n size : ℕ) → i < n → 4 * (w₀ + length (first n)) ≤ size → length kept ≡ size → kept-here ≡ true → 4 * w + 4 ≤ length kept
+        level-room n size l room s h = omega (arith, alone-one h, layer-grows n (suc i) l)
+
+        pub level-count : (w′ : ℕ) → w′ ≡ cond kept-here (w + 1) w → w′ ≤ w₀ + length (first (i + 1))
+        level-count w′ g = rw (add-one i) (go kept-here refl g)
+          where
+            go : (b : Bool) → kept-here ≡ b → w′ ≡ cond b (w + 1) w → w′ ≤ w₀ + length (first (suc i))
+            go true h g = omega (arith, alone-one h)
+            go false h g = omega (arith, layer-grows (suc i) i (omega arith))
+
+    module _ (kept₀ : List ℕ) (w₀ : ℕ) where
+      -- what memory holds after the first i pairs, whatever it held before
+      abbrev pub After : ℕ → List ℕ → ℕ → Type 0
+      After i kept w = (picks old : List ℕ) → Holds places picks old kept₀ w₀ → Holds places (keptOf store places mark picks (first i)) old kept w
+
+      pub level-none : After 0 kept₀ w₀
+      unfolding layer others passing level keptOf
+      level-none picks old h = h
+
+      pub level-on : (i key : ℕ) (kept : List ℕ) (w : ℕ) → key ≡ elementsAt store places i → After i kept w → 4 * i + 4 ≤ length places
+          → (keeps store places i key e mark kept w ≡ true → 4 * w + 4 ≤ length kept) → (kept′ : List ℕ) (w′ : ℕ) → w′ ≡ cond (keeps store places i key e mark kept w) (w + 1) w
+          → kept′ ≡ cond (keeps store places i key e mark kept w) (copied places i w kept) kept → After (i + 1) kept′ w′
+      unfolding Holds keeps
+      level-on i key kept w k a held room kept′ w′ f t picks old h =
+          let now : List ℕ = keptOf store places mark picks (first i) in
+          let g : Holds places now old kept w = a picks old h in
+          let r : pairsIn store kept w ≡ pairsAt store places now = rw (g .0, g .1) (picked-read places store now old) in
+          rw (add-one i, layer-next i, kept-append store places mark picks (first i) (alone i), one-more now i, ← r, ← k)
+          (picked-turn places i now old kept w held (g .0) (g .1) (keeps store places i key e mark kept w) room w′ kept′ f t)
+
+      pub level-end : (n i : ℕ) (kept : List ℕ) (w : ℕ) → n ≤ i → i ≤ n → After i kept w → After n kept w
+      level-end n i kept w h k a = let z : i ≡ n = omega arith in rw z at a
 
 -- `canonicalize`
-noRoots-few : (l : List Pair) → length (noRoots l) ≤ length l
-unfolding noRoots
-noRoots-few [] = omega arith
-noRoots-few (x ∷ l) = go (isRoots x) (noRoots-few l)
-  where
-    go : (b : Bool) → length (noRoots l) ≤ length l → length (cond b (noRoots l) (x ∷ noRoots l)) ≤ suc (length l)
-    go true ih = omega arith
-    go false ih = omega arith
+module _ (store : Text) (places : List ℕ) (n : ℕ) (mark : Bool) (kept₀ : List ℕ) where
+  -- the pairs that are kept of the levels below e
+  abbrev pub below : ℕ → List ℕ
+  below e = keptOf store places mark [] (levels (elementsAt store places) e (others store places n))
 
-below-snoc : (e : ℕ) (l : List Pair) (x : Pair) → Below e l → elements (x .source) < e → Below e (l ++ x ∷ [])
-unfolding Below
-below-snoc e [] x b h = (h, tt)
-below-snoc e (y ∷ l) x b h = (b .0, below-snoc e l x (b .1) h)
+  pub levels-none : Holds places (below 0) kept₀ kept₀ 0
+  unfolding Holds levels keptOf
+  levels-none = (refl, picked-none places kept₀)
 
-below-noRoots : (e : ℕ) (l : List Pair) → Below e l → Below e (noRoots l)
-unfolding Below noRoots
-below-noRoots e [] b = b
-below-noRoots e (x ∷ l) b = go (isRoots x) (below-noRoots e l (b .1))
-  where
-    go : (t : Bool) → Below e (noRoots l) → Below e (cond t (noRoots l) (x ∷ noRoots l))
-    go true ih = ih
-    go false ih = (b .0, ih)
-
-topped-below : (store : Text) (places : List ℕ) (n top : ℕ) → Topped store places n top → Below (suc top) (pairsIn store places n)
-unfolding Topped Below pairsIn
-topped-below store places zero top f = tt
-topped-below store places (suc n) top f =
-    below-snoc (suc top) (pairsIn store places n) (pairIn store places n) (topped-below store places n top (λ i h. f i (omega arith)))
-    (omega (arith, f n (omega arith), ap elements (source-key store places n)))
-
-module _ (store : Text) (places : List ℕ) (n : ℕ) (mark : Bool) where
-  abbrev rest : List Pair
-  rest = noRoots (pairsIn store places n)
-
-  pub levels-none : (kept : List ℕ) → pairsIn store kept 0 ≡ keep mark [] (levels 0 rest)
-  unfolding pairsIn levels keep
-  levels-none kept = refl
-
-  module _ (e : ℕ) (kept : List ℕ) (w : ℕ) (h : pairsIn store kept w ≡ keep mark [] (levels e rest)) where
-    on : (kept′ : List ℕ) (w′ : ℕ) → pairsIn store kept′ w′ ≡ keep mark (pairsIn store kept w) (layer e (pairsIn store places n))
-        → pairsIn store kept′ w′ ≡ keep mark [] (levels (suc e) rest)
+  module _ (e : ℕ) (kept : List ℕ) (w : ℕ) (h : Holds places (below e) kept₀ kept w) where
+    pub levels-on : (kept′ : List ℕ) (w′ : ℕ)
+        → ((picks old : List ℕ) → Holds places picks old kept w → Holds places (keptOf store places mark picks (layer store places e n)) old kept′ w′) → Holds places (below (e + 1)) kept₀ kept′ w′
     unfolding layer levels
-    on kept′ w′ k = k ∙ rw h (sym (keep-append mark [] (levels e rest) (level e rest)))
+    levels-on kept′ w′ f =
+        rw (add-one e, kept-append store places mark [] (levels (elementsAt store places) e (others store places n)) (layer store places e n)) (f (below e) kept₀ h)
 
-    pub levels-on : (kept′ : List ℕ) (w′ : ℕ) → pairsIn store kept′ w′ ≡ keep mark (pairsIn store kept w) (layer e (pairsIn store places n))
-        → pairsIn store kept′ w′ ≡ keep mark [] (levels (e + 1) rest)
-    levels-on kept′ w′ k = rw (add-one e) (on kept′ w′ k)
-
-    pub levels-room : n ≤ 64 → 256 ≤ length kept → 4 * (w + length (layer e (pairsIn store places n))) ≤ length kept
-    unfolding layer levels
+    pub levels-room : n ≤ 64 → 256 ≤ length kept → 4 * (w + length (layer store places e n)) ≤ length kept
+    unfolding Holds layer levels
     levels-room k l =
+        let all : List ℕ = others store places n in
         omega (
           arith,
-          pairsIn-length store kept w,
-          ap length h,
-          keep-few mark [] (levels e rest),
-          length-append (levels e rest) (level e rest),
-          levels-few (suc e) rest,
-          noRoots-few (pairsIn store places n),
-          pairsIn-length store places n,
+          h .0,
+          kept-few store places mark [] (levels (elementsAt store places) e all),
+          length-append (levels (elementsAt store places) e all) (level (elementsAt store places) e all),
+          levels-few (elementsAt store places) (suc e) all,
+          others-few store places n,
         )
 
-    pub levels-end : (top : ℕ) → Topped store places n top → top ≤ e → e ≤ top → (kept′ : List ℕ) (w′ : ℕ)
-        → pairsIn store kept′ w′ ≡ keep mark (pairsIn store kept w) (layer top (pairsIn store places n)) → pairsIn store kept′ w′ ≡ canonical mark rest
-    levels-end top f k l kept′ w′ m =
-        let z : top ≡ e = omega arith in
-        on kept′ w′ (rw z at m) ∙ ap (λ (x : List Pair). keep mark [] x) (sym (sorted-levels (suc e) rest (rw (← z) (below-noRoots (suc top) (pairsIn store places n) (topped-below store places n top f)))))
-        ∙ sym (canonical-keeps mark rest)
+    pub levels-end : (top : ℕ) → top ≡ mostElements store places n → top ≤ e → e ≤ top → (kept′ : List ℕ) (w′ : ℕ)
+        → ((picks old : List ℕ) → Holds places picks old kept w → Holds places (keptOf store places mark picks (layer store places top n)) old kept′ w′)
+        → Holds places (keptPairs store places n mark) kept₀ kept′ w′
+    unfolding keptPairs
+    levels-end top m k l kept′ w′ f =
+        let z : e ≡ top = omega arith in
+        rw (z, m, add-one (mostElements store places n)) at (levels-on kept′ w′ (rw (← z) at f))
 
-    pub top-room : (top : ℕ) → top ≤ e → e ≤ top → n ≤ 64 → 256 ≤ length kept → 4 * (w + length (layer top (pairsIn store places n))) ≤ length kept
+    pub top-room : (top : ℕ) → top ≤ e → e ≤ top → n ≤ 64 → 256 ≤ length kept → 4 * (w + length (layer store places top n)) ≤ length kept
     top-room top k l m o = let z : top ≡ e = omega arith in rw z (levels-room m o)
+
+-- `canonical_places`
+module _ (store : Text) (places : List ℕ) (n : ℕ) (mark : Bool) (kept : List ℕ) (b : Bool) (e : b ≡ canMake (lentList [] places n) (length kept)) where
+  abbrev picks : List ℕ
+  picks = canonicalPicks (lentList store places n) mark (length kept)
+
+  pub places-none : not b ≡ true → (0 ≡ length picks) × (kept ≡ picked places picks kept)
+  unfolding canonicalPicks canMake listCounts
+  places-none h = rw (told-false e h) (refl, picked-none places kept)
+
+  pub places-made : not b ≡ false → (kept′ : List ℕ) (w : ℕ) → Holds places (keptPairs store places n mark) kept kept′ w → (w ≡ length picks) × (kept′ ≡ picked places picks kept)
+  unfolding canonicalPicks canMake listCounts Holds
+  places-made h kept′ w f = rw (told-true e h) (f .0, f .1)

@@ -1,3 +1,4 @@
 pub mod LevelLaws
+pub mod KeptLaws
 pub mod KeepWays
 pub mod LevelWays

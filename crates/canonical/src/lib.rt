@@ -1,16 +1,16 @@
 // How pairs become those of a map: the mark, and the pairs that carry something of their own.
 ghost use mathlib.Core.Path.{_≡_};
-ghost use mathlib.Core.Bool.{false, _||_};
-ghost use mathlib.Core.List.{[], _∷_};
+ghost use mathlib.Core.Bool.{cond, _||_};
+ghost use mathlib.Core.List.{List};
 ghost use lib.ListN.{length};
-ghost use Prim.Native.Nat.{_+_, _*_, _≤_};
-ghost use Rattle.prefix.specs.Elements.{elements};
-ghost use Rattle.pairs.specs.Places.{keyAt, pairIn, pairsIn};
+ghost use Prim.Native.Nat.{ℕ, max as larger, _+_, _*_, _≤_};
+ghost use Rattle.pairs.specs.Places.{pairIn, pairsIn};
+ghost use Rattle.listing.specs.Lists.{copied};
+ghost use Rattle.listing.specs.Picks.{picked};
 ghost use Rattle.asking.specs.Asking.{lentList};
-ghost use Rattle.asking.specs.Made.{madeOf};
 ghost use Rattle.maps.specs.Map.{lentMap};
-ghost use Rattle.maps.specs.New.{isRoots, noRoots, anyRoots, implied, keep, canonical};
-ghost use Rattle.canonical.specs.Level.{layer, Keyed, Topped};
+ghost use Rattle.maps.specs.New.{isRoots, anyRoots, implied};
+ghost use Rattle.canonical.specs.Kept.{mostElements, layer, keptOf, keptPairs, canonicalPicks, Keyed, Holds, keeps};
 
 // Is pair i `/`→`/`?
 fn is_roots(store: &[u8], places: &[usize], i: usize) -> bool
@@ -48,16 +48,16 @@ pub fn is_marked(mark: bool, store: &[u8], places: &[usize], n: usize) -> bool
 
 // The larger of two numbers.
 fn max(a: usize, b: usize) -> usize
-    ensures { λ r. ⌜ (a ≤ r) × (b ≤ r) ⌝ }
+    ensures { λ r. ⌜ r ≡ larger a b ⌝ }
 {
     if a < b { b } else { a }
 }
 
-// How many elements each of the first n sources has, and a number that none of them passes.
+// How many elements each of the first n sources has, and the most of them.
 fn fill_keys(store: &[u8], places: &[usize], n: usize, keys: &mut [usize]) -> usize
     requires { ⌜ n ≤ length (now keys) ⌝ }
     ensures { λ r. ⌜ Keyed (now (store .entry)) (now (places .entry)) n (now (keys .exit)) ⌝ }
-    ensures { λ r. ⌜ Topped (now (store .entry)) (now (places .entry)) n r ⌝ }
+    ensures { λ r. ⌜ r ≡ mostElements (now (store .entry)) (now (places .entry)) n ⌝ }
 {
     let mut top = 0;
     let mut i = 0;
@@ -99,10 +99,9 @@ fn keep_pair(
     kept: &mut [usize],
     w: usize,
 ) -> usize
-    requires { ⌜ 4 * i + 4 ≤ length (now places) ⌝ }
-    requires { ⌜ key ≡ elements (keyAt (now store) (now places) false i) ⌝ }
-    requires { ⌜ 4 * (w + length (layer e (pairIn (now store) (now places) i ∷ []))) ≤ length (now kept) ⌝ }
-    ensures { λ r. ⌜ pairsIn (now (store .entry)) (now (kept .exit)) r ≡ keep mark (pairsIn (now (store .entry)) (now (kept .entry)) w) (layer e (pairIn (now (store .entry)) (now (places .entry)) i ∷ [])) ⌝ }
+    requires { ⌜ w ≤ length (now kept) ⌝ }
+    ensures { λ r. ⌜ r ≡ cond (keeps (now (store .entry)) (now (places .entry)) i key e mark (now (kept .entry)) w) (w + 1) w ⌝ }
+    ensures { λ r. ⌜ now (kept .exit) ≡ cond (keeps (now (store .entry)) (now (places .entry)) i key e mark (now (kept .entry)) w) (copied (now (places .entry)) i w (now (kept .entry))) (now (kept .entry)) ⌝ }
 {
     if key != e {
         return w;
@@ -132,8 +131,8 @@ fn keep_level(
 ) -> usize
     requires { ⌜ (4 * n ≤ length (now places)) × (n ≤ length (now keys)) ⌝ }
     requires { ⌜ Keyed (now store) (now places) n (now keys) ⌝ }
-    requires { ⌜ 4 * (w + length (layer e (pairsIn (now store) (now places) n))) ≤ length (now kept) ⌝ }
-    ensures { λ r. ⌜ pairsIn (now (store .entry)) (now (kept .exit)) r ≡ keep mark (pairsIn (now (store .entry)) (now (kept .entry)) w) (layer e (pairsIn (now (store .entry)) (now (places .entry)) n)) ⌝ }
+    requires { ⌜ 4 * (w + length (layer (now store) (now places) e n)) ≤ length (now kept) ⌝ }
+    ensures { λ r. ⌜ ((picks old : List ℕ) → Holds (now (places .entry)) picks old (now (kept .entry)) w → Holds (now (places .entry)) (keptOf (now (store .entry)) (now (places .entry)) mark picks (layer (now (store .entry)) (now (places .entry)) e n)) old (now (kept .exit)) r) ⌝ }
 {
     let mut k = w;
     let mut i = 0;
@@ -149,7 +148,7 @@ fn keep_level(
 fn canonicalize(store: &[u8], places: &[usize], n: usize, mark: bool, kept: &mut [usize]) -> usize
     requires { ⌜ (n ≤ 64) × (4 * n ≤ length (now places)) ⌝ }
     requires { ⌜ 256 ≤ length (now kept) ⌝ }
-    ensures { λ r. ⌜ pairsIn (now (store .entry)) (now (kept .exit)) r ≡ canonical mark (noRoots (pairsIn (now (store .entry)) (now (places .entry)) n)) ⌝ }
+    ensures { λ r. ⌜ Holds (now (places .entry)) (keptPairs (now (store .entry)) (now (places .entry)) n mark) (now (kept .entry)) (now (kept .exit)) r ⌝ }
 {
     let mut keys = [0usize; 64];
     let top = fill_keys(store, places, n, &mut keys);
@@ -170,7 +169,8 @@ pub fn canonical_places(
     mark: bool,
     kept: &mut [usize],
 ) -> usize
-    ensures { λ r. ⌜ pairsIn (now (store .entry)) (now (kept .exit)) r ≡ madeOf (lentList (now (store .entry)) (now (places .entry)) n) (length (now (kept .entry))) (canonical mark (noRoots (pairsIn (now (store .entry)) (now (places .entry)) n))) ⌝ }
+    ensures { λ r. ⌜ r ≡ length (canonicalPicks (lentList (now (store .entry)) (now (places .entry)) n) mark (length (now (kept .entry)))) ⌝ }
+    ensures { λ r. ⌜ now (kept .exit) ≡ picked (now (places .entry)) (canonicalPicks (lentList (now (store .entry)) (now (places .entry)) n) mark (length (now (kept .entry)))) (now (kept .entry)) ⌝ }
 {
     if !asking::can_make(places, n, kept.len()) {
         return 0;

@@ -6,7 +6,7 @@ use Prim.Native.Nat.{ℕ, suc, _+_, _*_, _-_, _/_, _≤_, _<_}
 use native.Mathlib.Omega.{arith}
 use lib.Dec.{leb}
 use lib.ListN.{length, set, take, drop, length-drop, take-append-drop}
-use lib.Seq.{sets-eq, drop-append-le, drop-drop, length-take-le}
+use lib.Seq.{drop-append-le, drop-drop, length-take-le}
 use borrow.Author.Tests.{le-leb, lt-leb, leb-true}
 use Rattle.text.specs.Text.{Text, written, over}
 use Rattle.text.proofs.BoolLaws.{and-l, and-r, and-yes, told-false, told-true}
@@ -18,6 +18,7 @@ use Rattle.listing.specs.declared.Room.the-variants.{Left, Over}
 use Rattle.pairs.proofs.PlaceLaws.{pairsIn-length}
 use Rattle.pairs.proofs.ListLaws.{places-length}
 use Rattle.listing.proofs.RoomWays.{left-fits, over-full}
+use Rattle.listing.proofs.WriteWays.{three-stored}
 use Rattle.path.specs.declared.Refusal.{Refusal}
 use Rattle.path.specs.declared.Refusal.the-variants.{TooMany, NoRoom}
 use Rattle.path.specs.declared.Asked.{Asked}
@@ -112,12 +113,8 @@ module _ (l : List Pair) (g : Legs) (store : Text) (slots table : List ℕ) (b :
             rw (told-true e h, z, le-leb (g .bytes + endBytes l) 32768 (omega (arith, m, total)), le-leb (g .bytes + endBytes l) (length store) (omega (arith, m, total, o))) refl
 
 -- `write_three`
-pub three-stored : (l : List ℕ) (j m a b : ℕ) (mark : Bool) → m ≡ cond mark 1 0 → j + 3 ≤ length l → set (set (set l j m) (j + 1) a) (j + 2) b ≡ over j (cond mark 1 0 ∷ a ∷ b ∷ []) l
-three-stored l j m a b mark e h =
-    let w : List ℕ = m ∷ a ∷ b ∷ [] in
-    let f : j + 1 ≡ suc j = omega arith in
-    let g : j + 2 ≡ suc (suc j) = omega arith in
-    rw (f, g, ← e) (sets-eq w l j h ∙ append-assoc (take j l) w (drop (j + 3) l))
+pub three-told : (l : List ℕ) (j m a b : ℕ) (mark : Bool) → m ≡ cond mark 1 0 → j + 3 ≤ length l → set (set (set l j m) (j + 1) a) (j + 2) b ≡ over j (cond mark 1 0 ∷ a ∷ b ∷ []) l
+three-told l j m a b mark e h = rw (← e) (three-stored l j m a b h)
 
 -- `close_list`
 reply-passed : (a : Asked) (g h : Legs) (n : ℕ) → closedReply a g n ≡ Done h → a ≡ Passed

@@ -27,7 +27,8 @@ unfoldable pub Laid : LentRoute → LentRoute → ℕ → Type 0
 unfolding mapAt legAt legMap
 Laid r s n = (k : ℕ) → k < n → mapAt s k ≡ legMap (legAt r k)
 
--- they are where the questions passed and the memory for them is of its size: 256 numbers for the pairs of each leg, three for the leg
+-- they are where the questions passed and the memory for them is of its size: 256 numbers for the pairs of each leg, three for the leg (that
+-- `lay_legs` leaves it so is proved in proofs/ReadLaws.antt)
 unfoldable pub LaidIfPassed : LentRoute → LentRoute → ℕ → Type 0
 unfolding Laid routeAsked
 LaidIfPassed r s n = routeAsked r [] ≡ Passed → length (s .places) ≡ 4096 → length (s .legs) ≡ 48 → Laid r s n

@@ -1,18 +1,16 @@
 // The map of each leg of a route, made once for many paths. Every public function is defined for any bytes and
 // any numbers.
 ghost use mathlib.Core.Path.{_≡_};
-ghost use mathlib.Core.Bool.{cond};
-ghost use Prim.Native.Nat.{_+_, _*_, _≤_, _<_};
-ghost use lib.Dec.{eqb};
-ghost use lib.ListN.{length};
-ghost use Rattle.pairs.specs.Places.{pairsIn};
+ghost use mathlib.Core.Bool.{true};
+ghost use Prim.Native.Nat.{ℕ, _*_, _≤_, _<_};
+ghost use lib.ListN.{length, take, drop};
+ghost use Rattle.text.specs.Text.{over};
+ghost use Rattle.listing.specs.Picks.{passing, picked};
 ghost use Rattle.asking.specs.Asking.{lentList};
-ghost use Rattle.asking.specs.Made.{madeOf};
-ghost use Rattle.relocates.specs.Status.{relocateMap};
-ghost use Rattle.route.specs.Leg.{legMap};
-ghost use Rattle.legs.specs.Lent.{lentRoute, legOf};
-ghost use Rattle.laying.specs.Laid.{hasRelocates, LaidIfPassed};
-ghost use Rattle.laying.specs.Laying.{SamePairs, LaidTo};
+ghost use Rattle.canonical.specs.Kept.{canonicalPicks};
+ghost use Rattle.legs.specs.Lent.{lentRoute, kindAt, listAt};
+ghost use Rattle.laying.specs.Laid.{hasRelocates};
+ghost use Rattle.laying.specs.Laying.{activeList, legPicks, legBlock, mapKind, legNumbers, placesAfter, tableAfter};
 
 // Is one of the first n legs a relocate list?
 pub fn has_relocates(legs: &[usize], n: usize) -> bool
@@ -31,7 +29,7 @@ pub fn has_relocates(legs: &[usize], n: usize) -> bool
 // Copies the places of the first n pairs.
 fn copy_pairs(places: &[usize], n: usize, block: &mut [usize])
     requires { ⌜ (4 * n ≤ length (now places)) × (4 * n ≤ length (now block)) ⌝ }
-    ensures { λ _. ⌜ SamePairs (now (block .exit)) (now (places .entry)) n ⌝ }
+    ensures { λ _. ⌜ now (block .exit) ≡ picked (now (places .entry)) (passing (λ (i : ℕ). true) n) (now (block .entry)) ⌝ }
 {
     let mut i = 0;
     while i < n {
@@ -42,7 +40,8 @@ fn copy_pairs(places: &[usize], n: usize, block: &mut [usize])
 
 // The pairs of a relocate list's map.
 fn lay_relocates(store: &[u8], places: &[usize], n: usize, block: &mut [usize]) -> usize
-    ensures { λ r. ⌜ pairsIn (now (store .entry)) (now (block .exit)) r ≡ madeOf (lentList (now (store .entry)) (now (places .entry)) n) (length (now (block .entry))) ((relocateMap (pairsIn (now (store .entry)) (now (places .entry)) n)) .pairs) ⌝ }
+    ensures { λ r. ⌜ r ≡ length (canonicalPicks (activeList (lentList (now (store .entry)) (now (places .entry)) n)) true (length (now (block .entry)))) ⌝ }
+    ensures { λ r. ⌜ now (block .exit) ≡ picked ((activeList (lentList (now (store .entry)) (now (places .entry)) n)) .places) (canonicalPicks (activeList (lentList (now (store .entry)) (now (places .entry)) n)) true (length (now (block .entry)))) (now (block .entry)) ⌝ }
 {
     let mut active = [0usize; 256];
     let w = relocates::status::active_pairs(store, places, n, &mut active);
@@ -51,7 +50,8 @@ fn lay_relocates(store: &[u8], places: &[usize], n: usize, block: &mut [usize]) 
 
 // The pairs of a leg's map.
 fn lay_pairs(store: &[u8], places: &[usize], kind: usize, n: usize, block: &mut [usize]) -> usize
-    ensures { λ r. ⌜ pairsIn (now (store .entry)) (now (block .exit)) r ≡ madeOf (lentList (now (store .entry)) (now (places .entry)) n) (length (now (block .entry))) ((legMap (legOf kind (pairsIn (now (store .entry)) (now (places .entry)) n))) .pairs) ⌝ }
+    ensures { λ r. ⌜ r ≡ length (legPicks kind (lentList (now (store .entry)) (now (places .entry)) n) (length (now (block .entry)))) ⌝ }
+    ensures { λ r. ⌜ now (block .exit) ≡ legBlock kind (lentList (now (store .entry)) (now (places .entry)) n) (now (block .entry)) ⌝ }
 {
     if 2 <= kind {
         return lay_relocates(store, places, n, block);
@@ -65,7 +65,7 @@ fn lay_pairs(store: &[u8], places: &[usize], kind: usize, n: usize, block: &mut 
 
 // The kind of a leg that is the map of a leg of this kind: a relocate list's map has the mark.
 fn map_kind(kind: usize) -> usize
-    ensures { λ r. ⌜ r ≡ cond (eqb kind 0) 0 1 ⌝ }
+    ensures { λ r. ⌜ r ≡ mapKind kind ⌝ }
 {
     if kind == 0 {
         return 0;
@@ -84,8 +84,8 @@ fn lay_leg(
 )
     requires { ⌜ k < 16 ⌝ }
     requires { ⌜ (length (now made) ≡ 4096) × (length (now table) ≡ 48) ⌝ }
-    requires { ⌜ LaidTo (lentRoute (now store) (now places) (now legs) 0) (lentRoute (now store) (now made) (now table) 0) k ⌝ }
-    ensures { λ _. ⌜ LaidTo (lentRoute (now (store .entry)) (now (places .entry)) (now (legs .entry)) 0) (lentRoute (now (store .entry)) (now (made .exit)) (now (table .exit)) 0) (k + 1) ⌝ }
+    ensures { λ _. ⌜ now (made .exit) ≡ over (256 * k) (legBlock (kindAt (now (legs .entry)) k) (listAt (lentRoute (now (store .entry)) (now (places .entry)) (now (legs .entry)) 0) k) (take 256 (drop (256 * k) (now (made .entry))))) (now (made .entry)) ⌝ }
+    ensures { λ _. ⌜ now (table .exit) ≡ over (3 * k) (legNumbers (lentRoute (now (store .entry)) (now (places .entry)) (now (legs .entry)) 0) k) (now (table .entry)) ⌝ }
 {
     let kind = legs::kind_at(legs, k);
     let part = legs::leg_places(places, legs, k);
@@ -114,7 +114,8 @@ pub fn lay_legs(
     made: &mut [usize],
     table: &mut [usize],
 )
-    ensures { λ _. ⌜ LaidIfPassed (lentRoute (now (store .entry)) (now (places .entry)) (now (legs .entry)) n) (lentRoute (now (store .entry)) (now (made .exit)) (now (table .exit)) n) n ⌝ }
+    ensures { λ _. ⌜ now (made .exit) ≡ placesAfter (lentRoute (now (store .entry)) (now (places .entry)) (now (legs .entry)) n) (now (made .entry)) (now (table .entry)) ⌝ }
+    ensures { λ _. ⌜ now (table .exit) ≡ tableAfter (lentRoute (now (store .entry)) (now (places .entry)) (now (legs .entry)) n) (now (made .entry)) (now (table .entry)) ⌝ }
 {
     if 16 < n {
         return;

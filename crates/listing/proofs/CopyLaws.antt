@@ -48,7 +48,7 @@ pub over-inside : (at : ℕ) (v l : List ℕ) (k : ℕ) → at ≤ length l → 
 over-inside at v l k h m =
     (rw (length-take-le at l h) at (getD-append-add (take at l) (v ++ drop (at + length v) l) k 0)) ∙ List·getD-append v (drop (at + length v) l) 0 k m
 
-four-at : (places : List ℕ) (i k : ℕ) → k < 4 → getD (four places i) k 0 ≡ getD places (4 * i + k) 0
+pub four-at : (places : List ℕ) (i k : ℕ) → k < 4 → getD (four places i) k 0 ≡ getD places (4 * i + k) 0
 four-at places i zero h = let z : 4 * i + 0 ≡ 4 * i = omega arith in rw z refl
 four-at places i (suc zero) h = refl
 four-at places i (suc (suc zero)) h = refl

@@ -1,3 +1,4 @@
 pub mod RoomWays
 pub mod WriteWays
 pub mod CopyLaws
+pub mod PickLaws

@@ -21,7 +21,7 @@ use Rattle.pairs.proofs.PlaceLaws.{pairsIn-length}
 use Rattle.pairs.proofs.ListLaws.{list-length, places-length}
 use Rattle.listing.proofs.RoomWays.{end-next, end-grows}
 
--- four numbers stored one after the other
+-- four numbers stored one after the other, and three
 pub four-stored : (l : List ℕ) (j a b c d : ℕ) → j + 4 ≤ length l
     → set (set (set (set l j a) (j + 1) b) (j + 2) c) (j + 3) d ≡ over j (a ∷ b ∷ c ∷ d ∷ []) l
 four-stored l j a b c d h =
@@ -30,6 +30,13 @@ four-stored l j a b c d h =
     let f : j + 2 ≡ suc (suc j) = omega arith in
     let g : j + 3 ≡ suc (suc (suc j)) = omega arith in
     rw (e, f, g) (sets-eq v l j h ∙ append-assoc (take j l) v (drop (j + 4) l))
+
+pub three-stored : (l : List ℕ) (j a b c : ℕ) → j + 3 ≤ length l → set (set (set l j a) (j + 1) b) (j + 2) c ≡ over j (a ∷ b ∷ c ∷ []) l
+three-stored l j a b c h =
+    let v : List ℕ = a ∷ b ∷ c ∷ [] in
+    let e : j + 1 ≡ suc j = omega arith in
+    let f : j + 2 ≡ suc (suc j) = omega arith in
+    rw (e, f) (sets-eq v l j h ∙ append-assoc (take j l) v (drop (j + 3) l))
 
 -- `write_four` and `copy_pair`
 module _ (w a b c d : ℕ) (slots : List ℕ) where
@@ -109,7 +116,7 @@ places-snoc at (y ∷ l) x =
     let z : n + endBytes l ≡ at + (length (y .source) + length (y .target) + endBytes l) = omega arith in
     rw (places-snoc n l x, z) refl
 
-over-written : (t s out : Text) → over (length t) s (written t out) ≡ written (t ++ s) out
+pub over-written : (t s out : Text) → over (length t) s (written t out) ≡ written (t ++ s) out
 over-written t s out = simp (take-append-seam, drop-append-add, drop-drop, length-append, append-assoc)
 
 -- `append_list`: behind `start` bytes of the memory o

@@ -1,4 +1,5 @@
 pub mod StatusWays
 pub mod MarkWays
 mod AnalyzeWays
+pub mod ActiveLaws
 mod ActiveWays

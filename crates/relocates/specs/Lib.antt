@@ -1,3 +1,4 @@
 pub mod Status
 pub mod Marks
 pub mod Calls
+pub mod Picks

@@ -9,12 +9,13 @@ ghost use Rattle.text.specs.Text.{isNil, equal, written};
 ghost use Rattle.prefix.specs.Prefix.{hasPrefix};
 ghost use Rattle.pairs.specs.Places.{pairIn, pairsIn};
 ghost use Rattle.listing.specs.Lists.{copied};
+ghost use Rattle.listing.specs.Picks.{picked};
 ghost use Rattle.pairs.specs.Pair.{pair};
 ghost use Rattle.asking.specs.Asking.{lentList};
-ghost use Rattle.asking.specs.Made.{madeOf};
 ghost use Rattle.relocates.specs.declared.RelocateOccurrence.the-variants.{Active};
-ghost use Rattle.relocates.specs.Status.{structural, reserves, duplicate, alike, pairConflicts, against, occurrenceOr, statusByte, statuses, active};
+ghost use Rattle.relocates.specs.Status.{structural, reserves, duplicate, alike, pairConflicts, against, occurrenceOr, statusByte, statuses};
 ghost use Rattle.relocates.specs.Marks.{marks, marked};
+ghost use Rattle.relocates.specs.Picks.{activePicks};
 
 // Is the pair dropped whatever stands beside it? (Rust: relocate_invalid_reason)
 pub fn is_structural(source: &[u8], target: &[u8]) -> bool
@@ -220,7 +221,8 @@ fn keep_active(places: &[usize], i: usize, status: u8, kept: &mut [usize], w: us
 
 // The places of the Active ones of the first n pairs.
 pub fn active_pairs(store: &[u8], places: &[usize], n: usize, kept: &mut [usize]) -> usize
-    ensures { λ r. ⌜ pairsIn (now (store .entry)) (now (kept .exit)) r ≡ madeOf (lentList (now (store .entry)) (now (places .entry)) n) (length (now (kept .entry))) (active (pairsIn (now (store .entry)) (now (places .entry)) n) n) ⌝ }
+    ensures { λ r. ⌜ r ≡ length (activePicks (lentList (now (store .entry)) (now (places .entry)) n) (length (now (kept .entry)))) ⌝ }
+    ensures { λ r. ⌜ now (kept .exit) ≡ picked (now (places .entry)) (activePicks (lentList (now (store .entry)) (now (places .entry)) n) (length (now (kept .entry)))) (now (kept .entry)) ⌝ }
 {
     if !asking::can_make(places, n, kept.len()) {
         return 0;

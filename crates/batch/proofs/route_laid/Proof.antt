@@ -1,3 +1,4 @@
+use Rattle.laying.proofs.ReadLaws.{laid-read}
 use Rattle.batch.proofs.BatchLaws.{all-same, laid-turn}
 use borrow.Author.Needs.{needs}
 use Rattle.batch.proofs.route_laid.Statement.{statement}
@@ -28,7 +29,7 @@ same-length-2 : tie.Need-same-length-2
 same-length-2 c = search needs
 
 returns : tie.Need-returns
-returns c = all-same _ _ (laid-turn _ _ _ _ _ (c .before .before .before .before .before .before .before .before .before .before .before .before .before .before .before .before .before .before .before .before .before .pre .1) _ _ (search needs) (search needs) (c .before .before .before .before .before .before .before .before .before .before .before .lay-legs .ensures)) _ _ _ _ _ (c .before .before .before .before .carry-each .ensures)
+returns c = all-same _ _ (laid-turn _ _ _ _ _ (c .before .before .before .before .before .before .before .before .before .before .before .before .before .before .before .before .before .before .before .before .before .pre .1) _ _ (search needs) (search needs) (laid-read _ _ _ _ _ (c .before .before .before .before .before .before .before .before .before .before .before .lay-legs .ensures .0) (c .before .before .before .before .before .before .before .before .before .before .before .lay-legs .ensures .1))) _ _ _ _ _ (c .before .before .before .before .carry-each .ensures)
 
 pub route-laid-spec : {M : Type 1} → statement M
 route-laid-spec =

@@ -1,16 +1,14 @@
-use Rattle.asking.proofs.MadeLaws.{made-none, made-all, made-few, made-held, made-room}
-use mathlib.Core.Path.{sym, _∙_}
+use Rattle.asking.proofs.MadeLaws.{made-few, made-held, made-room}
+use Rattle.canonical.proofs.LevelWays.{places-none, places-made}
 use borrow.Author.Needs.{needs}
 use Rattle.canonical.proofs.canonical_places.Statement.{statement}
 use Rattle.canonical.proofs.canonical_places.Tie as tie
-use Rattle.asking.proofs.can_make.Reads as can-make-reads
-use Rattle.canonical.proofs.canonicalize.Reads as canonicalize-reads
 
 can-make-requires : tie.Need-can-make-requires
 can-make-requires c κs = search needs
 
 returns : tie.Need-returns
-returns c = made-none _ _ _ _ (c .before .can-make .ensures) _ _ _ (c .if1 .taken)
+returns c = places-none _ _ _ _ _ _ (c .before .can-make .ensures) (c .if1 .taken)
 
 canonicalize-requires : tie.Need-canonicalize-requires
 canonicalize-requires c κs = ((made-few _ _ _ _ (c .before .before .can-make .ensures) (c .before .if1 .left), made-held _ _ _ _ (c .before .before .can-make .ensures) (c .before .if1 .left)), made-room _ _ _ _ (c .before .before .can-make .ensures) (c .before .if1 .left))
@@ -19,7 +17,7 @@ same-length : tie.Need-same-length
 same-length c = search needs
 
 returns-2 : tie.Need-returns-2
-returns-2 c = c .before .before .canonicalize .ensures ∙ sym (made-all _ _ _ _ (c .before .before .before .before .before .can-make .ensures) (c .before .before .before .before .if1 .left) _ _)
+returns-2 c = places-made _ _ _ _ _ _ (c .before .before .before .before .before .can-make .ensures) (c .before .before .before .before .if1 .left) _ _ (c .before .before .canonicalize .ensures)
 
 pub canonical-places-spec : {M : Type 1} → statement M
 canonical-places-spec =

@@ -2,20 +2,20 @@ use mathlib.Core.Path.{_≡_, refl}
 use native.Mathlib.Omega.{arith}
 use Prim.Native.Nat.{_≤_, _-_}
 use lib.ListN.{length, length-set}
-use Rattle.canonical.specs.Level.{Keyed, Topped}
-use Rattle.canonical.proofs.KeepWays.{keyed-none, topped-none, keyed-on, topped-on, keyed-end, topped-end}
+use Rattle.canonical.specs.Kept.{mostElements, Keyed}
+use Rattle.canonical.proofs.KeepWays.{keyed-none, most-none, keyed-on, most-on, keyed-end, most-end}
 use borrow.Author.Needs.{needs}
 use Rattle.canonical.proofs.fill_keys.Statement.{statement}
 use Rattle.canonical.proofs.fill_keys.Tie as tie
 
 abbrev Inv-loop : tie.InvT-loop
-Inv-loop store places n keys₀ top₀ i₀ keys top i = (i ≤ n) × (n ≤ length keys) × Keyed store places i keys × Topped store places i top × (length keys ≡ length keys₀)
+Inv-loop store places n keys₀ top₀ i₀ keys top i = (i ≤ n) × (n ≤ length keys) × Keyed store places i keys × (top ≡ mostElements store places i) × (length keys ≡ length keys₀)
 
 abbrev μ-loop : tie.MeasureT-loop
 μ-loop store places n keys₀ top₀ i₀ keys top i = n - i
 
 loop-holds : tie.Need-loop-holds Inv-loop μ-loop
-loop-holds c = (search needs, c .before .before .before .pre, keyed-none _ _ _, topped-none _ _ _, refl)
+loop-holds c = (search needs, c .before .before .before .pre, keyed-none _ _ _, most-none _ _, refl)
 
 key-at-requires : tie.Need-key-at-requires Inv-loop μ-loop
 key-at-requires c κs = search needs
@@ -39,13 +39,13 @@ loop-less : tie.Need-loop-less Inv-loop μ-loop
 loop-less c = search needs
 
 loop-again : tie.Need-loop-again Inv-loop μ-loop
-loop-again c = (search needs, simp length-set (omega (arith, c .before .before .before .before .loop .inv .1)), keyed-on _ _ _ _ _ _ (omega (arith, c .before .before .before .loop-test .taken, c .before .before .before .before .loop .inv .1)) (c .before .before .key-at .ensures) (c .before .element-count .ensures) (c .before .before .before .before .loop .inv .2), topped-on _ _ _ _ _ _ _ (c .before .before .key-at .ensures) (c .before .element-count .ensures) (c .max .ensures) (c .before .before .before .before .loop .inv .3), simp length-set (c .before .before .before .before .loop .inv .4))
+loop-again c = (search needs, simp length-set (omega (arith, c .before .before .before .before .loop .inv .1)), keyed-on _ _ _ _ _ _ (omega (arith, c .before .before .before .loop-test .taken, c .before .before .before .before .loop .inv .1)) (c .before .before .key-at .ensures) (c .before .element-count .ensures) (c .before .before .before .before .loop .inv .2), most-on _ _ _ _ _ _ _ (c .before .before .key-at .ensures) (c .before .element-count .ensures) (c .max .ensures) (c .before .before .before .before .loop .inv .3), simp length-set (c .before .before .before .before .loop .inv .4))
 
 same-length : tie.Need-same-length Inv-loop μ-loop
 same-length c = search needs
 
 returns : tie.Need-returns Inv-loop μ-loop
-returns c = (keyed-end _ _ _ _ _ (c .loop-test .left) (c .before .loop .inv .2), topped-end _ _ _ _ _ (c .loop-test .left) (c .before .loop .inv .3))
+returns c = (keyed-end _ _ _ _ _ (c .loop-test .left) (c .before .loop .inv .2), most-end _ _ _ _ _ (c .loop-test .left) (c .before .loop .inv .0) (c .before .loop .inv .3))
 
 pub fill-keys-spec : {M : Type 1} → statement M
 fill-keys-spec =

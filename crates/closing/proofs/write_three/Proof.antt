@@ -1,6 +1,6 @@
 use native.Mathlib.Omega.{arith}
 use lib.ListN.{length-set}
-use Rattle.closing.proofs.CloseWays.{three-stored}
+use Rattle.closing.proofs.CloseWays.{three-told}
 use borrow.Author.Needs.{needs}
 use Rattle.closing.proofs.write_three.Statement.{statement}
 use Rattle.closing.proofs.write_three.Tie as tie
@@ -42,7 +42,7 @@ same-length : tie.Need-same-length
 same-length c = search needs
 
 returns : tie.Need-returns
-returns c = three-stored _ _ _ _ _ (c .before .before .args .mark) (c .mark-number .ensures) (c .before .before .pre .1)
+returns c = three-told _ _ _ _ _ (c .before .before .args .mark) (c .mark-number .ensures) (c .before .before .pre .1)
 
 pub write-three-spec : {M : Type 1} → statement M
 write-three-spec =

@@ -1,21 +1,22 @@
 use native.Mathlib.Omega.{arith}
 use borrow.Author.Needs.{needs}
-use Prim.Native.Nat.{_≤_, _-_}
+use Prim.Native.Nat.{ℕ, _≤_, _-_}
 use mathlib.Core.Path.{_≡_, refl}
 use lib.ListN.{length}
-use Rattle.laying.specs.Laying.{SamePairs}
-use Rattle.laying.proofs.LayWays.{same-none, same-on, same-end}
+use mathlib.Core.Bool.{true}
+use Rattle.listing.specs.Picks.{passing, picked}
+use Rattle.laying.proofs.LayWays.{copy-none, copy-on, copy-end}
 use Rattle.laying.proofs.copy_pairs.Statement.{statement}
 use Rattle.laying.proofs.copy_pairs.Tie as tie
 
 abbrev Inv-loop : tie.InvT-loop
-Inv-loop places n block₀ i₀ block i = (i ≤ n) × SamePairs block places i × (length block ≡ length block₀)
+Inv-loop places n block₀ i₀ block i = (i ≤ n) × (block ≡ picked places (passing (λ (j : ℕ). true) i) block₀) × (length block ≡ length block₀)
 
 abbrev μ-loop : tie.MeasureT-loop
 μ-loop places n block₀ i₀ block i = n - i
 
 loop-holds : tie.Need-loop-holds Inv-loop μ-loop
-loop-holds c = (search needs, same-none _ _, refl)
+loop-holds c = (search needs, copy-none _ _, refl)
 
 copy-pair-requires : tie.Need-copy-pair-requires Inv-loop μ-loop
 copy-pair-requires c κs = search needs
@@ -27,13 +28,13 @@ loop-less : tie.Need-loop-less Inv-loop μ-loop
 loop-less c = search needs
 
 loop-again : tie.Need-loop-again Inv-loop μ-loop
-loop-again c = (search needs, same-on _ _ _ _ (omega (arith, c .before .before .before .before .before .before .before .before .pre .0, c .before .before .before .before .loop-test .taken)) (omega (arith, c .before .before .before .before .before .before .before .before .pre .1, c .before .before .before .before .loop-test .taken, c .before .before .before .before .before .loop .inv .2)) (c .before .before .before .before .before .loop .inv .1) (c .before .before .copy-pair .ensures), search needs)
+loop-again c = (search needs, copy-on _ _ _ _ _ (omega (arith, c .before .before .before .before .before .before .before .before .pre .0, c .before .before .before .before .loop-test .taken)) (omega (arith, c .before .before .before .before .before .before .before .before .pre .1, c .before .before .before .before .loop-test .taken, c .before .before .before .before .before .loop .inv .2)) (c .before .before .before .before .before .loop .inv .1) (c .before .before .copy-pair .ensures), search needs)
 
 same-length : tie.Need-same-length Inv-loop μ-loop
 same-length c = search needs
 
 returns : tie.Need-returns Inv-loop μ-loop
-returns c = same-end _ _ _ _ (c .loop-test .left) (c .before .loop .inv .0) (c .before .loop .inv .1)
+returns c = copy-end _ _ _ _ _ (c .loop-test .left) (c .before .loop .inv .0) (c .before .loop .inv .1)
 
 pub copy-pairs-spec : {M : Type 1} → statement M
 copy-pairs-spec =

@@ -1,6 +1,6 @@
 use native.Mathlib.Omega.{arith}
 use lib.ListN.{length-set}
-use Rattle.laying.proofs.LayWays.{block-room, laid-on}
+use Rattle.laying.proofs.LayWays.{leg-placed, part-room, leg-told}
 use borrow.Author.Needs.{needs}
 use Rattle.laying.proofs.lay_leg.Statement.{statement}
 use Rattle.laying.proofs.lay_leg.Tie as tie
@@ -57,7 +57,7 @@ mul-table-3 : tie.Need-mul-table-3
 mul-table-3 c = search needs
 
 slice-write-table-2 : tie.Need-slice-write-table-2
-slice-write-table-2 c = simp length-set (omega (arith, c .before .before .before .before .before .before .before .before .before .before .before .before .before .pre .0, c .before .before .before .before .before .before .before .before .before .before .before .before .before .pre .1 .0 .1))
+slice-write-table-2 c = simp length-set (omega (arith, c .before .before .before .before .before .before .before .before .before .before .before .before .before .pre .0, c .before .before .before .before .before .before .before .before .before .before .before .before .before .pre .1 .1))
 
 add-table-2 : tie.Need-add-table-2
 add-table-2 c = search needs
@@ -66,7 +66,7 @@ mul-table-4 : tie.Need-mul-table-4
 mul-table-4 c = search needs
 
 slice-write-table-3 : tie.Need-slice-write-table-3
-slice-write-table-3 c = simp length-set (omega (arith, c .before .before .before .before .before .before .before .before .before .before .before .before .before .pre .0, c .before .before .before .before .before .before .before .before .before .before .before .before .before .pre .1 .0 .1))
+slice-write-table-3 c = simp length-set (omega (arith, c .before .before .before .before .before .before .before .before .before .before .before .before .before .pre .0, c .before .before .before .before .before .before .before .before .before .before .before .before .before .pre .1 .1))
 
 same-length : tie.Need-same-length
 same-length c = search needs
@@ -75,7 +75,14 @@ same-length-2 : tie.Need-same-length-2
 same-length-2 c = search needs
 
 returns : tie.Need-returns
-returns c = laid-on _ _ _ _ _ _ (c .before .before .before .before .before .before .before .before .before .before .before .before .before .pre .0) (c .before .before .before .before .before .before .before .before .before .before .before .before .before .pre .1 .0 .0) (c .before .before .before .before .before .before .before .before .before .before .before .before .before .pre .1 .0 .1) _ _ _ (c .before .before .before .before .before .before .before .kind-at .ensures) (c .before .before .before .before .before .size-at .ensures) (c .before .before .before .before .before .before .leg-places .ensures) _ _ (c .map-kind .ensures) _ _ (block-room _ _ (c .before .before .before .before .before .before .before .before .before .before .before .before .before .pre .0) (c .before .before .before .before .before .before .before .before .before .before .before .before .before .pre .1 .0 .0)) (c .before .before .before .lay-pairs .kept .1 .1 .1 .1 .0) (c .before .before .before .lay-pairs .ensures) _ (c .before .before .before .before .before .before .before .before .before .before .before .before .before .pre .1 .1)
+returns c =
+    let k = c .before .before .before .before .before .before .before .kind-at .ensures in
+    let z = c .before .before .before .before .before .size-at .ensures in
+    let f = c .before .before .before .before .before .before .leg-places .ensures in
+    let p = c .before .before .before .before .before .before .before .before .before .before .before .before .before .pre in
+    let a = c .before .before .before .before .before .before .before .before .before .before .before .before .before .args in
+    let t = c .before .before .before .lay-pairs .ensures in
+    (leg-placed _ (a .places .now) (a .legs .now) _ _ _ _ k z f _ (p .0) (p .1 .0) _ (t .1) (c .before .before .before .lay-pairs .kept .1 .1 .1 .1 .0), leg-told _ (a .places .now) (a .legs .now) _ _ _ _ k z f _ (p .0) (p .1 .1) _ (c .map-kind .ensures) _ _ (part-room _ _ (p .0) (p .1 .0)) (t .0))
 
 pub lay-leg-spec : {M : Type 1} → statement M
 lay-leg-spec =

@@ -1,6 +1,6 @@
 use native.Mathlib.Omega.{arith}
-use Rattle.asking.proofs.MadeLaws.{made-none, made-few, made-held, made-room}
-use Rattle.laying.proofs.LayWays.{leg-relocates, leg-copied}
+use Rattle.asking.proofs.MadeLaws.{made-few, made-held, made-room}
+use Rattle.laying.proofs.LayWays.{leg-relocates, leg-none, leg-copied}
 use borrow.Author.Needs.{needs}
 use Rattle.laying.proofs.lay_pairs.Statement.{statement}
 use Rattle.laying.proofs.lay_pairs.Tie as tie
@@ -12,13 +12,13 @@ same-length : tie.Need-same-length
 same-length c = search needs
 
 returns : tie.Need-returns
-returns c = leg-relocates _ _ _ _ _ _ _ (c .before .before .before .before .if1 .taken) (c .before .before .lay-relocates .ensures)
+returns c = leg-relocates _ _ _ _ _ (c .before .before .before .before .if1 .taken) _ _ (c .before .before .lay-relocates .ensures)
 
 can-make-requires : tie.Need-can-make-requires
 can-make-requires c κs = search needs
 
 returns-2 : tie.Need-returns-2
-returns-2 c = made-none _ _ _ _ (c .before .can-make .ensures) _ _ _ (c .if2 .taken)
+returns-2 c = leg-none _ _ _ _ _ (c .before .before .if1 .left) _ (c .before .can-make .ensures) (c .if2 .taken)
 
 copy-pairs-requires : tie.Need-copy-pairs-requires
 copy-pairs-requires c κs = (made-held _ _ _ _ (c .before .before .can-make .ensures) (c .before .if2 .left), omega (arith, made-few _ _ _ _ (c .before .before .can-make .ensures) (c .before .if2 .left), made-room _ _ _ _ (c .before .before .can-make .ensures) (c .before .if2 .left)))
@@ -27,7 +27,7 @@ same-length-2 : tie.Need-same-length-2
 same-length-2 c = search needs
 
 returns-3 : tie.Need-returns-3
-returns-3 c = leg-copied _ _ _ _ _ _ (c .before .before .before .before .before .before .if1 .left) _ (c .before .before .before .before .before .can-make .ensures) (c .before .before .before .before .if2 .left) (c .before .before .copy-pairs .ensures)
+returns-3 c = leg-copied _ _ _ _ _ (c .before .before .before .before .before .before .if1 .left) _ (c .before .before .before .before .before .can-make .ensures) (c .before .before .before .before .if2 .left) _ (c .before .before .copy-pairs .ensures)
 
 pub lay-pairs-spec : {M : Type 1} → statement M
 lay-pairs-spec =

@@ -1,3 +1,4 @@
+use Rattle.laying.proofs.ReadLaws.{laid-read}
 use Rattle.routing.proofs.CallWays.{call-as-it-is, call-laid}
 use Rattle.path.proofs.CallWays.{answering}
 use mathlib.Core.Path.{refl}
@@ -42,7 +43,7 @@ same-length-2 : tie.Need-same-length-2
 same-length-2 c = search needs
 
 returns-2 : tie.Need-returns-2
-returns-2 c = answering _ _ (call-laid _ _ _ _ _ (c .before .before .before .before .before .before .before .before .before .before .before .before .before .ask-legs .ensures) _ refl (search needs) (search needs) (c .before .before .before .before .before .before .before .before .lay-legs .ensures)) _ _ _ (c .before .before .route-after2 .ensures)
+returns-2 c = answering _ _ (call-laid _ _ _ _ _ (c .before .before .before .before .before .before .before .before .before .before .before .before .before .ask-legs .ensures) _ refl (search needs) (search needs) (laid-read _ _ _ _ _ (c .before .before .before .before .before .before .before .before .lay-legs .ensures .0) (c .before .before .before .before .before .before .before .before .lay-legs .ensures .1))) _ _ _ (c .before .before .route-after2 .ensures)
 
 pub route-call-spec : {M : Type 1} → statement M
 route-call-spec =

@@ -1,0 +1,71 @@
+-- Which pairs of a lent list a map keeps, by their numbers in the list. That they are the pairs of the map is proved in proofs/KeptLaws.antt.
+use Prim.Native.Nat.{ℕ, zero, suc, max, _<_}
+use mathlib.Core.Path.{_≡_}
+use mathlib.Core.Bool.{Bool, not, cond, _&&_}
+use mathlib.Core.List.{List, [], _∷_, _++_}
+use lib.Dec.{eqb}
+use lib.ListN.{length, getD}
+use Rattle.text.specs.Text.{Text}
+use Rattle.prefix.specs.Elements.{count, elements}
+use Rattle.pairs.specs.Places.{pairIn}
+use Rattle.listing.specs.Picks.{passing, picked, pairsAt}
+use Rattle.asking.specs.Asking.{Lent}
+use Rattle.asking.specs.Made.{canMake}
+use Rattle.maps.specs.Map.{lentMap}
+use Rattle.maps.specs.New.{isRoots, implied}
+use Rattle.canonical.specs.Level.{level, levels}
+
+-- how many elements the source of pair i has
+unfoldable pub elementsAt : Text → List ℕ → ℕ → ℕ
+unfolding count pairIn
+elementsAt store places i = elements ((pairIn store places i) .source)
+
+-- the most that a source of the first n pairs has
+unfoldable pub mostElements : Text → List ℕ → ℕ → ℕ
+unfolding elementsAt
+mostElements store places zero = 0
+mostElements store places (suc n) = max (mostElements store places n) (elementsAt store places n)
+
+-- those of the first n pairs that are no `/`→`/`
+unfoldable pub others : Text → List ℕ → ℕ → List ℕ
+unfolding passing pairIn
+others store places n = passing (λ (i : ℕ). not (isRoots (pairIn store places i))) n
+
+-- those of them whose source has e elements
+unfoldable pub layer : Text → List ℕ → ℕ → ℕ → List ℕ
+unfolding level elementsAt others
+layer store places e n = level (elementsAt store places) e (others store places n)
+
+-- "a pair is dropped when the kept ones carry its source to its target textually": one after the other, from those that are kept on
+unfoldable pub keptOf : Text → List ℕ → Bool → List ℕ → List ℕ → List ℕ
+unfolding implied pairIn
+keptOf store places mark kept [] = kept
+keptOf store places mark kept (i ∷ rest) =
+    keptOf store places mark (cond (implied (record { pairs = pairsAt store places kept; mark = mark }) (pairIn store places i)) kept (kept ++ i ∷ [])) rest
+
+-- the pairs that a map keeps, in its order: fewer source elements first, and of as many in the list's order
+unfoldable pub keptPairs : Text → List ℕ → ℕ → Bool → List ℕ
+unfolding keptOf levels elementsAt mostElements others
+keptPairs store places n mark =
+    keptOf store places mark [] (levels (elementsAt store places) (suc (mostElements store places n)) (others store places n))
+
+-- those of a lent list; none where memory of this room cannot take them
+unfoldable pub canonicalPicks : Lent → Bool → ℕ → List ℕ
+unfolding canMake keptPairs
+canonicalPicks l mark room = cond (canMake l room) (keptPairs (l .store) (l .places) (l .count) mark) []
+
+-- What the code keeps on its way: the elements of the first n sources ..
+unfoldable pub Keyed : Text → List ℕ → ℕ → List ℕ → Type 0
+unfolding elementsAt
+Keyed store places n keys = (i : ℕ) → i < n → getD keys i 0 ≡ elementsAt store places i
+
+-- .. and memory with the picked pairs, w of them, over what stood there
+unfoldable pub Holds : List ℕ → List ℕ → List ℕ → List ℕ → ℕ → Type 0
+unfolding picked
+Holds places picks old kept w = (w ≡ length picks) × (kept ≡ picked places picks old)
+
+-- a pair whose source has `key` elements is kept behind w others: it is of the level e, no `/`→`/`, and they do not imply it
+unfoldable pub keeps : Text → List ℕ → ℕ → ℕ → ℕ → Bool → List ℕ → ℕ → Bool
+unfolding pairIn implied
+keeps store places i key e mark kept w =
+    eqb key e && (not (isRoots (pairIn store places i)) && not (implied (lentMap store kept w mark) (pairIn store places i)))
