@@ -109,7 +109,7 @@ places-snoc at (y ∷ l) x =
     let z : n + endBytes l ≡ at + (length (y .source) + length (y .target) + endBytes l) = omega arith in
     rw (places-snoc n l x, z) refl
 
-over-written : (t s out : Text) → over (length t) s (written t out) ≡ written (t ++ s) out
+pub over-written : (t s out : Text) → over (length t) s (written t out) ≡ written (t ++ s) out
 over-written t s out = simp (take-append-seam, drop-append-add, drop-drop, length-append, append-assoc)
 
 -- `append_list`: behind `start` bytes of the memory o
