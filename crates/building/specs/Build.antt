@@ -54,7 +54,7 @@ unfolding everyEnd
 enough outer inner room slots =
     leb (length inner + length outer) (room / 1534) && (leb (length inner + length outer) (slots / 4) && (everyEnd modest outer && everyEnd modest inner))
 
--- the list that is built: the composed one where the memory is enough for it, otherwise none
+-- the list that is built: the composed one where the memory is enough for it, otherwise none, which leaves the memory as it is
 unfoldable pub builtPairs : Map → Map → ℕ → ℕ → List Pair
 unfolding enough composedPairs
 builtPairs outer inner room slots = cond (enough (outer .pairs) (inner .pairs) room slots) (composedPairs outer inner) []

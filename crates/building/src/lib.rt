@@ -45,32 +45,30 @@ fn keep_at(mark: bool, path: &[u8], at: usize, bytes: &mut [u8]) -> Image
     Image::Made(path.len())
 }
 
-// Plain mapping of a text, forward or backwards, from a place on.
+// Plain mapping of a text, from a place on.
 fn map_at(
     store: &[u8],
     places: &[usize],
     n: usize,
     mark: bool,
-    invert: bool,
     path: &[u8],
     at: usize,
     bytes: &mut [u8],
 ) -> Image
-    requires { ⌜ at + needed (plain invert (lentMap (now store) (now places) n mark) (now path)) ≤ length (now bytes) ⌝ }
-    ensures { λ r. ⌜ r ≡ image (plain invert (lentMap (now (store .entry)) (now (places .entry)) n mark) (now (path .entry))) ⌝ }
-    ensures { λ r. ⌜ now (bytes .exit) ≡ imaged at (plain invert (lentMap (now (store .entry)) (now (places .entry)) n mark) (now (path .entry))) (now (bytes .entry)) ⌝ }
+    requires { ⌜ at + needed (plain false (lentMap (now store) (now places) n mark) (now path)) ≤ length (now bytes) ⌝ }
+    ensures { λ r. ⌜ r ≡ image (plain false (lentMap (now (store .entry)) (now (places .entry)) n mark) (now (path .entry))) ⌝ }
+    ensures { λ r. ⌜ now (bytes .exit) ≡ imaged at (plain false (lentMap (now (store .entry)) (now (places .entry)) n mark) (now (path .entry))) (now (bytes .entry)) ⌝ }
 {
-    let f = serving::best_prefix(store, places, n, invert, path);
+    let f = serving::best_prefix(store, places, n, false, path);
     if !f.found {
         return keep_at(mark, path, at, bytes);
     }
     let i = f.at;
-    let block = pairs::key_at(store, places, i, true);
-    if block.len() == 0 {
+    let new = pairs::key_at(store, places, i, true);
+    if new.len() == 0 {
         return Image::Nothing;
     }
-    let old = pairs::key_at(store, places, i, invert);
-    let new = pairs::key_at(store, places, i, !invert);
+    let old = pairs::key_at(store, places, i, false);
     let k = old.len();
     Image::Made(join_at(old, new, &path[k..], at, bytes))
 }
@@ -93,7 +91,7 @@ fn carried_at(
     if target.len() == 0 {
         return 0;
     }
-    let a = map_at(store, places, n, mark, false, target, at, bytes);
+    let a = map_at(store, places, n, mark, target, at, bytes);
     match a {
         Image::Nothing => 0,
         Image::Made(k) => k,

@@ -15,7 +15,9 @@ same-length-2 : tie.Need-same-length-2
 same-length-2 c = search needs
 
 returns : tie.Need-returns
-returns c = add-there (pairsIn (c .before .before .before .before .before .before .before .before .before .before .args .bytes .now) (c .before .before .before .before .before .before .before .before .before .before .args .slots .now) (c .before .before .before .before .before .before .before .before .before .before .args .b .n)) (c .before .before .before .before .before .before .before .before .before .before .args .b .n) (c .before .before .before .before .before .before .before .before .before .before .args .b .at) (c .before .before .before .before .before .before .before .before .before .before .args .bytes .now) (c .before .before .before .before .before .before .before .before .before .before .args .slots .now) (c .before .before .before .before .before .before .before .before .before .before .pre .0) (c .before .before .before .before .before .before .before .before .before .before .args .t .now) (joined (c .before .before .before .before .before .before .before .before .before .before .args .old .now) (c .before .before .before .before .before .before .before .before .before .before .args .new .now) (c .before .before .before .before .before .before .before .before .before .before .args .rest .now)) _ (c .before .has-joined .ensures) (c .if1 .taken)
+returns c =
+    let z = c .before .before .before .before .before .before .before .before .before .before in
+    add-there (pairsIn (z .args .bytes .now) (z .args .slots .now) (z .args .b .n)) (z .args .b .n) (z .args .b .at) (z .args .bytes .now) (z .args .slots .now) (z .pre .0) (z .args .t .now) (joined (z .args .old .now) (z .args .new .now) (z .args .rest .now)) _ (c .before .has-joined .ensures) (c .if1 .taken)
 
 join-at-requires : tie.Need-join-at-requires
 join-at-requires c κs = search needs
@@ -42,7 +44,9 @@ same-length-4 : tie.Need-same-length-4
 same-length-4 c = search needs
 
 returns-2 : tie.Need-returns-2
-returns-2 c = add-new (pairsIn (c .before .before .before .before .before .before .before .before .before .before .before .before .before .before .before .before .before .before .before .before .before .before .args .bytes .now) (c .before .before .before .before .before .before .before .before .before .before .before .before .before .before .before .before .before .before .before .before .before .before .args .slots .now) (c .before .before .before .before .before .before .before .before .before .before .before .before .before .before .before .before .before .before .before .before .before .before .args .b .n)) (c .before .before .before .before .before .before .before .before .before .before .before .before .before .before .before .before .before .before .before .before .before .before .args .b .n) (c .before .before .before .before .before .before .before .before .before .before .before .before .before .before .before .before .before .before .before .before .before .before .args .b .at) (c .before .before .before .before .before .before .before .before .before .before .before .before .before .before .before .before .before .before .before .before .before .before .args .bytes .now) (c .before .before .before .before .before .before .before .before .before .before .before .before .before .before .before .before .before .before .before .before .before .before .args .slots .now) (c .before .before .before .before .before .before .before .before .before .before .before .before .before .before .before .before .before .before .before .before .before .before .pre .0) (c .before .before .before .before .before .before .before .before .before .before .before .before .before .before .before .before .before .before .before .before .before .before .args .t .now) (joined (c .before .before .before .before .before .before .before .before .before .before .before .before .before .before .before .before .before .before .before .before .before .before .args .old .now) (c .before .before .before .before .before .before .before .before .before .before .before .before .before .before .before .before .before .before .before .before .before .before .args .new .now) (c .before .before .before .before .before .before .before .before .before .before .before .before .before .before .before .before .before .before .before .before .before .before .args .rest .now)) _ (c .before .before .before .before .before .before .before .before .before .before .before .before .before .has-joined .ensures) (c .before .before .before .before .before .before .before .before .before .before .before .before .if1 .left) (c .before .before .before .before .before .before .before .before .before .before .before .before .before .before .before .before .before .before .before .before .before .before .pre .1 .0) (c .before .before .before .before .before .before .before .before .before .before .before .before .before .before .before .before .before .before .before .before .before .before .pre .1 .1) _ (c .before .before .before .before .before .before .before .before .before .before .join-at .ensures .0) _ _ _ (c .before .before .before .before .before .before .before .before .before .before .join-at .ensures .1) (c .before .before .before .before .before .before .write-at .ensures) (c .before .before .write-four .ensures)
+returns-2 c =
+    let z = c .before .before .before .before .before .before .before .before .before .before .before .before .before .before .before .before .before .before .before .before .before .before in
+    add-new (pairsIn (z .args .bytes .now) (z .args .slots .now) (z .args .b .n)) (z .args .b .n) (z .args .b .at) (z .args .bytes .now) (z .args .slots .now) (z .pre .0) (z .args .t .now) (joined (z .args .old .now) (z .args .new .now) (z .args .rest .now)) _ (c .before .before .before .before .before .before .before .before .before .before .before .before .before .has-joined .ensures) (c .before .before .before .before .before .before .before .before .before .before .before .before .if1 .left) (z .pre .1 .0) (z .pre .1 .1) _ (c .before .before .before .before .before .before .before .before .before .before .join-at .ensures .0) _ _ _ (c .before .before .before .before .before .before .before .before .before .before .join-at .ensures .1) (c .before .before .before .before .before .before .write-at .ensures) (c .before .before .write-four .ensures)
 
 pub add-joined-spec : {M : Type 1} → statement M
 add-joined-spec =

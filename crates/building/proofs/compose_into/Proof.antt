@@ -10,7 +10,9 @@ is-enough-requires : tie.Need-is-enough-requires
 is-enough-requires c κs = search needs
 
 returns : tie.Need-returns
-returns c = into-none (lentMap (c .before .before .before .before .before .before .before .before .args .store .now) (c .before .before .before .before .before .before .before .before .args .places .now) (c .before .before .before .before .before .before .before .before .args .count) (c .before .before .before .before .before .before .before .before .args .mark)) (lentMap (c .before .before .before .before .before .before .before .before .args .istore .now) (c .before .before .before .before .before .before .before .before .args .iplaces .now) (c .before .before .before .before .before .before .before .before .args .inner) (c .before .before .before .before .before .before .before .before .args .imark)) (c .before .before .before .before .before .before .before .before .args .bytes .now) (c .before .before .before .before .before .before .before .before .args .slots .now) (told-false (c .before .is-enough .ensures) (c .if1 .taken))
+returns c =
+    let z = c .before .before .before .before .before .before .before .before in
+    into-none (lentMap (z .args .store .now) (z .args .places .now) (z .args .count) (z .args .mark)) (lentMap (z .args .istore .now) (z .args .iplaces .now) (z .args .inner) (z .args .imark)) (z .args .bytes .now) (z .args .slots .now) (told-false (c .before .is-enough .ensures) (c .if1 .taken))
 
 build-both-requires : tie.Need-build-both-requires
 build-both-requires c κs = enough-back (c .before .before .before .before .before .before .before .before .before .before .args .store .now) (c .before .before .before .before .before .before .before .before .before .before .args .places .now) (c .before .before .before .before .before .before .before .before .before .before .args .count) (c .before .before .before .before .before .before .before .before .before .before .args .istore .now) (c .before .before .before .before .before .before .before .before .before .before .args .iplaces .now) (c .before .before .before .before .before .before .before .before .before .before .args .inner) _ _ (told-true (c .before .before .before .is-enough .ensures) (c .before .before .if1 .left))
@@ -22,7 +24,9 @@ same-length-2 : tie.Need-same-length-2
 same-length-2 c = search needs
 
 returns-2 : tie.Need-returns-2
-returns-2 c = into-packed (lentMap (c .before .before .before .before .before .before .before .before .before .before .before .before .before .before .before .args .store .now) (c .before .before .before .before .before .before .before .before .before .before .before .before .before .before .before .args .places .now) (c .before .before .before .before .before .before .before .before .before .before .before .before .before .before .before .args .count) (c .before .before .before .before .before .before .before .before .before .before .before .before .before .before .before .args .mark)) (lentMap (c .before .before .before .before .before .before .before .before .before .before .before .before .before .before .before .args .istore .now) (c .before .before .before .before .before .before .before .before .before .before .before .before .before .before .before .args .iplaces .now) (c .before .before .before .before .before .before .before .before .before .before .before .before .before .before .before .args .inner) (c .before .before .before .before .before .before .before .before .before .before .before .before .before .before .before .args .imark)) (c .before .before .before .before .before .before .before .before .before .before .before .before .before .before .before .args .bytes .now) (c .before .before .before .before .before .before .before .before .before .before .before .before .before .before .before .args .slots .now) (told-true (c .before .before .before .before .before .before .before .before .is-enough .ensures) (c .before .before .before .before .before .before .before .if1 .left)) _ _ _ (c .before .before .before .before .build-both .ensures)
+returns-2 c =
+    let z = c .before .before .before .before .before .before .before .before .before .before .before .before .before .before .before in
+    into-packed (lentMap (z .args .store .now) (z .args .places .now) (z .args .count) (z .args .mark)) (lentMap (z .args .istore .now) (z .args .iplaces .now) (z .args .inner) (z .args .imark)) (z .args .bytes .now) (z .args .slots .now) (told-true (c .before .before .before .before .before .before .before .before .is-enough .ensures) (c .before .before .before .before .before .before .before .if1 .left)) _ _ _ (c .before .before .before .before .build-both .ensures)
 
 pub compose-into-spec : {M : Type 1} → statement M
 compose-into-spec =

@@ -14,7 +14,9 @@ best-prefix-requires : tie.Need-best-prefix-requires
 best-prefix-requires c κs = search needs
 
 returns : tie.Need-returns
-returns c = pull-none (pairsIn (c .before .before .before .before .before .before .before .before .before .before .args .bytes .now) (c .before .before .before .before .before .before .before .before .before .before .args .slots .now) (c .before .before .before .before .before .before .before .before .before .before .args .b .n)) (c .before .before .before .before .before .before .before .before .before .before .args .t .now) (plain true (lentMap (c .before .before .before .before .before .before .before .before .before .before .args .store .now) (c .before .before .before .before .before .before .before .before .before .before .args .places .now) (c .before .before .before .before .before .before .before .before .before .before .args .count) (c .before .before .before .before .before .before .before .before .before .before .args .mark)) (c .before .before .before .before .before .before .before .before .before .before .args .s .now)) (c .before .before .before .before .before .before .before .before .before .before .args .b .n) (c .before .before .before .before .before .before .before .before .before .before .args .b .at) (c .before .before .before .before .before .before .before .before .before .before .args .bytes .now) (c .before .before .before .before .before .before .before .before .before .before .args .slots .now) (pull-unmarked (c .before .before .before .before .before .before .before .before .before .before .args .s .now) (plain true (lentMap (c .before .before .before .before .before .before .before .before .before .before .args .store .now) (c .before .before .before .before .before .before .before .before .before .before .args .places .now) (c .before .before .before .before .before .before .before .before .before .before .args .count) (c .before .before .before .before .before .before .before .before .before .before .args .mark)) (c .before .before .before .before .before .before .before .before .before .before .args .s .now)) (c .before .before .before .before .before .before .before .before .before .before .args .mark) (map-none (c .before .before .before .before .before .before .before .before .before .before .args .store .now) (c .before .before .before .before .before .before .before .before .before .before .args .places .now) (c .before .before .before .before .before .before .before .before .before .before .args .count) (c .before .before .before .before .before .before .before .before .before .before .args .mark) (c .before .before .before .before .before .before .before .before .before .before .args .s .now) true (c .before .before .before .best-prefix .result) (c .before .before .before .best-prefix .ensures) (c .before .if1 .taken)) (c .if2 .taken)) (c .before .before .before .before .before .before .before .before .before .before .pre .0)
+returns c =
+    let z = c .before .before .before .before .before .before .before .before .before .before in
+    pull-none (pairsIn (z .args .bytes .now) (z .args .slots .now) (z .args .b .n)) (z .args .t .now) (plain true (lentMap (z .args .store .now) (z .args .places .now) (z .args .count) (z .args .mark)) (z .args .s .now)) (z .args .b .n) (z .args .b .at) (z .args .bytes .now) (z .args .slots .now) (pull-unmarked (z .args .s .now) (plain true (lentMap (z .args .store .now) (z .args .places .now) (z .args .count) (z .args .mark)) (z .args .s .now)) (z .args .mark) (map-none (z .args .store .now) (z .args .places .now) (z .args .count) (z .args .mark) (z .args .s .now) true (c .before .before .before .best-prefix .result) (c .before .before .before .best-prefix .ensures) (c .before .if1 .taken)) (c .if2 .taken)) (z .pre .0)
 
 slice-aggregate-add-joined : tie.Need-slice-aggregate-add-joined
 slice-aggregate-add-joined c = search needs
@@ -23,7 +25,9 @@ slice-aggregate-add-joined-2 : tie.Need-slice-aggregate-add-joined-2
 slice-aggregate-add-joined-2 c = search needs
 
 add-joined-requires : tie.Need-add-joined-requires
-add-joined-requires c κs = (c .before .before .before .before .before .before .before .before .before .before .before .before .before .before .pre .0, (pull-fits (pairsIn (c .before .before .before .before .before .before .before .before .before .before .before .before .before .before .args .bytes .now) (c .before .before .before .before .before .before .before .before .before .before .before .before .before .before .args .slots .now) (c .before .before .before .before .before .before .before .before .before .before .before .before .before .before .args .b .n)) (c .before .before .before .before .before .before .before .before .before .before .before .before .before .before .args .t .now) (plain true (lentMap (c .before .before .before .before .before .before .before .before .before .before .before .before .before .before .args .store .now) (c .before .before .before .before .before .before .before .before .before .before .before .before .before .before .args .places .now) (c .before .before .before .before .before .before .before .before .before .before .before .before .before .before .args .count) (c .before .before .before .before .before .before .before .before .before .before .before .before .before .before .args .mark)) (c .before .before .before .before .before .before .before .before .before .before .before .before .before .before .args .s .now)) (c .before .before .before .before .before .before .before .before .before .before .before .before .before .before .args .b .n) (c .before .before .before .before .before .before .before .before .before .before .before .before .before .before .args .b .at) (c .before .before .before .before .before .before .before .before .before .before .before .before .before .before .args .bytes .now) (c .before .before .before .before .before .before .before .before .before .before .before .before .before .before .args .slots .now) _ (pull-marked (c .before .before .before .before .before .before .before .before .before .before .before .before .before .before .args .s .now) (plain true (lentMap (c .before .before .before .before .before .before .before .before .before .before .before .before .before .before .args .store .now) (c .before .before .before .before .before .before .before .before .before .before .before .before .before .before .args .places .now) (c .before .before .before .before .before .before .before .before .before .before .before .before .before .before .args .count) (c .before .before .before .before .before .before .before .before .before .before .before .before .before .before .args .mark)) (c .before .before .before .before .before .before .before .before .before .before .before .before .before .before .args .s .now)) (c .before .before .before .before .before .before .before .before .before .before .before .before .before .before .args .mark) (map-none (c .before .before .before .before .before .before .before .before .before .before .before .before .before .before .args .store .now) (c .before .before .before .before .before .before .before .before .before .before .before .before .before .before .args .places .now) (c .before .before .before .before .before .before .before .before .before .before .before .before .before .before .args .count) (c .before .before .before .before .before .before .before .before .before .before .before .before .before .before .args .mark) (c .before .before .before .before .before .before .before .before .before .before .before .before .before .before .args .s .now) true (c .before .before .before .before .before .before .before .best-prefix .result) (c .before .before .before .before .before .before .before .best-prefix .ensures) (c .before .before .before .before .before .if1 .taken)) (c .before .before .before .before .if2 .left)) (c .before .before .before .before .before .before .before .before .before .before .before .before .before .before .pre .1 .0), c .before .before .before .before .before .before .before .before .before .before .before .before .before .before .pre .1 .1))
+add-joined-requires c κs =
+    let z = c .before .before .before .before .before .before .before .before .before .before .before .before .before .before in
+    (z .pre .0, (pull-fits (pairsIn (z .args .bytes .now) (z .args .slots .now) (z .args .b .n)) (z .args .t .now) (plain true (lentMap (z .args .store .now) (z .args .places .now) (z .args .count) (z .args .mark)) (z .args .s .now)) (z .args .b .n) (z .args .b .at) (z .args .bytes .now) (z .args .slots .now) _ (pull-marked (z .args .s .now) (plain true (lentMap (z .args .store .now) (z .args .places .now) (z .args .count) (z .args .mark)) (z .args .s .now)) (z .args .mark) (map-none (z .args .store .now) (z .args .places .now) (z .args .count) (z .args .mark) (z .args .s .now) true (c .before .before .before .before .before .before .before .best-prefix .result) (c .before .before .before .before .before .before .before .best-prefix .ensures) (c .before .before .before .before .before .if1 .taken)) (c .before .before .before .before .if2 .left)) (z .pre .1 .0), z .pre .1 .1))
 
 same-length : tie.Need-same-length
 same-length c = search needs
@@ -32,7 +36,9 @@ same-length-2 : tie.Need-same-length-2
 same-length-2 c = search needs
 
 returns-2 : tie.Need-returns-2
-returns-2 c = pull-some (pairsIn (c .before .before .before .before .before .before .before .before .before .before .before .before .before .before .before .before .before .before .before .args .bytes .now) (c .before .before .before .before .before .before .before .before .before .before .before .before .before .before .before .before .before .before .before .args .slots .now) (c .before .before .before .before .before .before .before .before .before .before .before .before .before .before .before .before .before .before .before .args .b .n)) (c .before .before .before .before .before .before .before .before .before .before .before .before .before .before .before .before .before .before .before .args .t .now) (plain true (lentMap (c .before .before .before .before .before .before .before .before .before .before .before .before .before .before .before .before .before .before .before .args .store .now) (c .before .before .before .before .before .before .before .before .before .before .before .before .before .before .before .before .before .before .before .args .places .now) (c .before .before .before .before .before .before .before .before .before .before .before .before .before .before .before .before .before .before .before .args .count) (c .before .before .before .before .before .before .before .before .before .before .before .before .before .before .before .before .before .before .before .args .mark)) (c .before .before .before .before .before .before .before .before .before .before .before .before .before .before .before .before .before .before .before .args .s .now)) (c .before .before .before .before .before .before .before .before .before .before .before .before .before .before .before .before .before .before .before .args .b .n) (c .before .before .before .before .before .before .before .before .before .before .before .before .before .before .before .before .before .before .before .args .b .at) (c .before .before .before .before .before .before .before .before .before .before .before .before .before .before .before .before .before .before .before .args .bytes .now) (c .before .before .before .before .before .before .before .before .before .before .before .before .before .before .before .before .before .before .before .args .slots .now) _ (pull-marked (c .before .before .before .before .before .before .before .before .before .before .before .before .before .before .before .before .before .before .before .args .s .now) (plain true (lentMap (c .before .before .before .before .before .before .before .before .before .before .before .before .before .before .before .before .before .before .before .args .store .now) (c .before .before .before .before .before .before .before .before .before .before .before .before .before .before .before .before .before .before .before .args .places .now) (c .before .before .before .before .before .before .before .before .before .before .before .before .before .before .before .before .before .before .before .args .count) (c .before .before .before .before .before .before .before .before .before .before .before .before .before .before .before .before .before .before .before .args .mark)) (c .before .before .before .before .before .before .before .before .before .before .before .before .before .before .before .before .before .before .before .args .s .now)) (c .before .before .before .before .before .before .before .before .before .before .before .before .before .before .before .before .before .before .before .args .mark) (map-none (c .before .before .before .before .before .before .before .before .before .before .before .before .before .before .before .before .before .before .before .args .store .now) (c .before .before .before .before .before .before .before .before .before .before .before .before .before .before .before .before .before .before .before .args .places .now) (c .before .before .before .before .before .before .before .before .before .before .before .before .before .before .before .before .before .before .before .args .count) (c .before .before .before .before .before .before .before .before .before .before .before .before .before .before .before .before .before .before .before .args .mark) (c .before .before .before .before .before .before .before .before .before .before .before .before .before .before .before .before .before .before .before .args .s .now) true (c .before .before .before .before .before .before .before .before .before .before .before .before .best-prefix .result) (c .before .before .before .before .before .before .before .before .before .before .before .before .best-prefix .ensures) (c .before .before .before .before .before .before .before .before .before .before .if1 .taken)) (c .before .before .before .before .before .before .before .before .before .if2 .left)) _ _ _ _ (c .before .before .before .before .add-joined .ensures)
+returns-2 c =
+    let z = c .before .before .before .before .before .before .before .before .before .before .before .before .before .before .before .before .before .before .before in
+    pull-some (pairsIn (z .args .bytes .now) (z .args .slots .now) (z .args .b .n)) (z .args .t .now) (plain true (lentMap (z .args .store .now) (z .args .places .now) (z .args .count) (z .args .mark)) (z .args .s .now)) (z .args .b .n) (z .args .b .at) (z .args .bytes .now) (z .args .slots .now) _ (pull-marked (z .args .s .now) (plain true (lentMap (z .args .store .now) (z .args .places .now) (z .args .count) (z .args .mark)) (z .args .s .now)) (z .args .mark) (map-none (z .args .store .now) (z .args .places .now) (z .args .count) (z .args .mark) (z .args .s .now) true (c .before .before .before .before .before .before .before .before .before .before .before .before .best-prefix .result) (c .before .before .before .before .before .before .before .before .before .before .before .before .best-prefix .ensures) (c .before .before .before .before .before .before .before .before .before .before .if1 .taken)) (c .before .before .before .before .before .before .before .before .before .if2 .left)) _ _ _ _ (c .before .before .before .before .add-joined .ensures)
 
 key-at-requires : tie.Need-key-at-requires
 key-at-requires c κs = search needs
@@ -41,16 +47,22 @@ key-at-requires-2 : tie.Need-key-at-requires-2
 key-at-requires-2 c κs = search needs
 
 sub-add-joined : tie.Need-sub-add-joined
-sub-add-joined c = map-inside (c .before .before .before .before .before .before .before .before .before .before .before .args .store .now) (c .before .before .before .before .before .before .before .before .before .before .before .args .places .now) (c .before .before .before .before .before .before .before .before .before .before .before .args .count) (c .before .before .before .before .before .before .before .before .before .before .before .args .mark) (c .before .before .before .before .before .before .before .before .before .before .before .args .s .now) true (c .before .before .before .before .best-prefix .result) (c .before .before .before .before .best-prefix .ensures) (c .before .before .if1 .left) _ (c .before .key-at .ensures)
+sub-add-joined c =
+    let z = c .before .before .before .before .before .before .before .before .before .before .before in
+    map-inside (z .args .store .now) (z .args .places .now) (z .args .count) (z .args .mark) (z .args .s .now) true (c .before .before .before .before .best-prefix .result) (c .before .before .before .before .best-prefix .ensures) (c .before .before .if1 .left) _ (c .before .key-at .ensures)
 
 part-add-joined-start : tie.Need-part-add-joined-start
-part-add-joined-start c = map-inside (c .before .before .before .before .before .before .before .before .before .before .before .args .store .now) (c .before .before .before .before .before .before .before .before .before .before .before .args .places .now) (c .before .before .before .before .before .before .before .before .before .before .before .args .count) (c .before .before .before .before .before .before .before .before .before .before .before .args .mark) (c .before .before .before .before .before .before .before .before .before .before .before .args .s .now) true (c .before .before .before .before .best-prefix .result) (c .before .before .before .before .best-prefix .ensures) (c .before .before .if1 .left) _ (c .before .key-at .ensures)
+part-add-joined-start c =
+    let z = c .before .before .before .before .before .before .before .before .before .before .before in
+    map-inside (z .args .store .now) (z .args .places .now) (z .args .count) (z .args .mark) (z .args .s .now) true (c .before .before .before .before .best-prefix .result) (c .before .before .before .before .best-prefix .ensures) (c .before .before .if1 .left) _ (c .before .key-at .ensures)
 
 part-add-joined-end : tie.Need-part-add-joined-end
 part-add-joined-end c = search needs
 
 add-joined-requires-2 : tie.Need-add-joined-requires-2
-add-joined-requires-2 c κs = (c .before .before .before .before .before .before .before .before .before .before .before .before .before .before .pre .0, (pull-fits (pairsIn (c .before .before .before .before .before .before .before .before .before .before .before .before .before .before .args .bytes .now) (c .before .before .before .before .before .before .before .before .before .before .before .before .before .before .args .slots .now) (c .before .before .before .before .before .before .before .before .before .before .before .before .before .before .args .b .n)) (c .before .before .before .before .before .before .before .before .before .before .before .before .before .before .args .t .now) (plain true (lentMap (c .before .before .before .before .before .before .before .before .before .before .before .before .before .before .args .store .now) (c .before .before .before .before .before .before .before .before .before .before .before .before .before .before .args .places .now) (c .before .before .before .before .before .before .before .before .before .before .before .before .before .before .args .count) (c .before .before .before .before .before .before .before .before .before .before .before .before .before .before .args .mark)) (c .before .before .before .before .before .before .before .before .before .before .before .before .before .before .args .s .now)) (c .before .before .before .before .before .before .before .before .before .before .before .before .before .before .args .b .n) (c .before .before .before .before .before .before .before .before .before .before .before .before .before .before .args .b .at) (c .before .before .before .before .before .before .before .before .before .before .before .before .before .before .args .bytes .now) (c .before .before .before .before .before .before .before .before .before .before .before .before .before .before .args .slots .now) _ (home-join (c .before .before .before .before .before .before .before .before .before .before .before .before .before .before .args .store .now) (c .before .before .before .before .before .before .before .before .before .before .before .before .before .before .args .places .now) (c .before .before .before .before .before .before .before .before .before .before .before .before .before .before .args .count) (c .before .before .before .before .before .before .before .before .before .before .before .before .before .before .args .mark) (c .before .before .before .before .before .before .before .before .before .before .before .before .before .before .args .s .now) true (c .before .before .before .before .before .before .before .best-prefix .result) (c .before .before .before .before .before .before .before .best-prefix .ensures) (c .before .before .before .before .before .if1 .left) refl _ _ (c .before .before .before .before .key-at .ensures) (c .before .before .before .key-at2 .ensures)) (c .before .before .before .before .before .before .before .before .before .before .before .before .before .before .pre .1 .0), c .before .before .before .before .before .before .before .before .before .before .before .before .before .before .pre .1 .1))
+add-joined-requires-2 c κs =
+    let z = c .before .before .before .before .before .before .before .before .before .before .before .before .before .before in
+    (z .pre .0, (pull-fits (pairsIn (z .args .bytes .now) (z .args .slots .now) (z .args .b .n)) (z .args .t .now) (plain true (lentMap (z .args .store .now) (z .args .places .now) (z .args .count) (z .args .mark)) (z .args .s .now)) (z .args .b .n) (z .args .b .at) (z .args .bytes .now) (z .args .slots .now) _ (home-join (z .args .store .now) (z .args .places .now) (z .args .count) (z .args .mark) (z .args .s .now) true (c .before .before .before .before .before .before .before .best-prefix .result) (c .before .before .before .before .before .before .before .best-prefix .ensures) (c .before .before .before .before .before .if1 .left) refl _ _ (c .before .before .before .before .key-at .ensures) (c .before .before .before .key-at2 .ensures)) (z .pre .1 .0), z .pre .1 .1))
 
 same-length-3 : tie.Need-same-length-3
 same-length-3 c = search needs
@@ -59,7 +71,9 @@ same-length-4 : tie.Need-same-length-4
 same-length-4 c = search needs
 
 returns-3 : tie.Need-returns-3
-returns-3 c = pull-some (pairsIn (c .before .before .before .before .before .before .before .before .before .before .before .before .before .before .before .before .before .before .before .args .bytes .now) (c .before .before .before .before .before .before .before .before .before .before .before .before .before .before .before .before .before .before .before .args .slots .now) (c .before .before .before .before .before .before .before .before .before .before .before .before .before .before .before .before .before .before .before .args .b .n)) (c .before .before .before .before .before .before .before .before .before .before .before .before .before .before .before .before .before .before .before .args .t .now) (plain true (lentMap (c .before .before .before .before .before .before .before .before .before .before .before .before .before .before .before .before .before .before .before .args .store .now) (c .before .before .before .before .before .before .before .before .before .before .before .before .before .before .before .before .before .before .before .args .places .now) (c .before .before .before .before .before .before .before .before .before .before .before .before .before .before .before .before .before .before .before .args .count) (c .before .before .before .before .before .before .before .before .before .before .before .before .before .before .before .before .before .before .before .args .mark)) (c .before .before .before .before .before .before .before .before .before .before .before .before .before .before .before .before .before .before .before .args .s .now)) (c .before .before .before .before .before .before .before .before .before .before .before .before .before .before .before .before .before .before .before .args .b .n) (c .before .before .before .before .before .before .before .before .before .before .before .before .before .before .before .before .before .before .before .args .b .at) (c .before .before .before .before .before .before .before .before .before .before .before .before .before .before .before .before .before .before .before .args .bytes .now) (c .before .before .before .before .before .before .before .before .before .before .before .before .before .before .before .before .before .before .before .args .slots .now) _ (home-join (c .before .before .before .before .before .before .before .before .before .before .before .before .before .before .before .before .before .before .before .args .store .now) (c .before .before .before .before .before .before .before .before .before .before .before .before .before .before .before .before .before .before .before .args .places .now) (c .before .before .before .before .before .before .before .before .before .before .before .before .before .before .before .before .before .before .before .args .count) (c .before .before .before .before .before .before .before .before .before .before .before .before .before .before .before .before .before .before .before .args .mark) (c .before .before .before .before .before .before .before .before .before .before .before .before .before .before .before .before .before .before .before .args .s .now) true (c .before .before .before .before .before .before .before .before .before .before .before .before .best-prefix .result) (c .before .before .before .before .before .before .before .before .before .before .before .before .best-prefix .ensures) (c .before .before .before .before .before .before .before .before .before .before .if1 .left) refl _ _ (c .before .before .before .before .before .before .before .before .before .key-at .ensures) (c .before .before .before .before .before .before .before .before .key-at2 .ensures)) _ _ _ _ (c .before .before .before .before .add-joined2 .ensures)
+returns-3 c =
+    let z = c .before .before .before .before .before .before .before .before .before .before .before .before .before .before .before .before .before .before .before in
+    pull-some (pairsIn (z .args .bytes .now) (z .args .slots .now) (z .args .b .n)) (z .args .t .now) (plain true (lentMap (z .args .store .now) (z .args .places .now) (z .args .count) (z .args .mark)) (z .args .s .now)) (z .args .b .n) (z .args .b .at) (z .args .bytes .now) (z .args .slots .now) _ (home-join (z .args .store .now) (z .args .places .now) (z .args .count) (z .args .mark) (z .args .s .now) true (c .before .before .before .before .before .before .before .before .before .before .before .before .best-prefix .result) (c .before .before .before .before .before .before .before .before .before .before .before .before .best-prefix .ensures) (c .before .before .before .before .before .before .before .before .before .before .if1 .left) refl _ _ (c .before .before .before .before .before .before .before .before .before .key-at .ensures) (c .before .before .before .before .before .before .before .before .key-at2 .ensures)) _ _ _ _ (c .before .before .before .before .add-joined2 .ensures)
 
 pub pull-pair-spec : {M : Type 1} → statement M
 pull-pair-spec =
