@@ -13,10 +13,10 @@ use Rattle.pairs.specs.Places.{keyAt, pairIn, pairsIn, fourOf, endBytes}
 use Rattle.listing.proofs.RoomWays.{end-snoc}
 use Rattle.maps.specs.Map.{Map, plainHome}
 use Rattle.maps.specs.Compose.{carried, hasSource, added, pulled, composedPairs}
-use Rattle.scratch.specs.Scratch.{Holds}
-use Rattle.scratch.proofs.ScratchLaws.{holds-list, build-next, build-end}
-use Rattle.building.specs.Build.{plain, needed, carriedTo, modest}
+use Rattle.scratch.proofs.ScratchLaws.{map-snoc}
+use Rattle.building.specs.Build.{plain, needed, carriedTo, modest, Packed}
 use Rattle.building.proofs.LengthLaws.{modest-keys, plain-length, carried-length}
+use Rattle.building.proofs.PackLaws.{Longer, packed-none, packed-list, packed-on, packed-more}
 
 -- pair i in lent memory, by its keys
 pair-keys : (store : Text) (places : List ℕ) (i : ℕ) → pairIn store places i ≡ record { source = keyAt store places false i; target = keyAt store places true i }
@@ -41,19 +41,24 @@ module _ (m : Map) (em : everyEnd modest (m .pairs) ≡ true) (store : Text) (pl
   unfolding carriedTo
   carried-is = ap (λ (x : Pair). carried m x) (pair-keys store places i) ∙ rw (← es, ← et) refl
 
-  pub carry-next : (bytes bytes′ : Text) (slots slots′ : List ℕ) (end : ℕ) → Holds (map (carried m) (pairsIn store places i)) i at bytes slots
+  pub carry-next : (o : Text) (p : List ℕ) (bytes bytes′ : Text) (slots slots′ : List ℕ) (end : ℕ) → Packed (map (carried m) (pairsIn store places i)) i at o p bytes slots
       → end ≡ at + (length s + length (carriedTo m t)) → bytes′ ≡ over at (s ++ carriedTo m t) bytes → slots′ ≡ over (4 * i) (fourOf at s (carriedTo m t)) slots
-      → Holds (map (carried m) (pairsIn store places (i + 1))) (i + 1) end bytes′ slots′
-  carry-next bytes bytes′ slots slots′ end c e f g = build-next (carried m) store places i at bytes slots c s (carriedTo m t) carried-is end bytes′ slots′ e f g
+      → Packed (map (carried m) (pairsIn store places (i + 1))) (i + 1) end o p bytes′ slots′
+  unfolding pairsIn
+  carry-next o p bytes bytes′ slots slots′ end c e f g =
+      let l : List Pair = map (carried m) (pairsIn store places i) in
+      let z : map (carried m) (pairsIn store places i ++ pairIn store places i ∷ []) ≡ l ++ pair s (carriedTo m t) ∷ []
+      = map-snoc (carried m) (pairsIn store places i) (pairIn store places i) ∙ ap (λ (x : Pair). l ++ x ∷ []) carried-is in
+      rw (add-one i, z) (rw (add-one i) at (packed-more l i at o p bytes slots c s (carriedTo m t) end bytes′ slots′ e f g))
 
-pub carry-end : (m : Map) (store : Text) (places : List ℕ) (n i at : ℕ) (bytes : Text) (slots : List ℕ) → n ≤ i → i ≤ n
-    → Holds (map (carried m) (pairsIn store places i)) i at bytes slots → at ≤ 1534 * i
-    → Holds (map (carried m) (pairsIn store places n)) n at bytes slots × (at ≤ 1534 * n)
-carry-end m store places n i at bytes slots l k c h = (build-end (carried m) store places n i at bytes slots l k c, omega arith)
+pub carry-begin : (m : Map) (store : Text) (places : List ℕ) (bytes : Text) (slots : List ℕ) → Packed (map (carried m) (pairsIn store places 0)) 0 0 bytes slots bytes slots
+unfolding pairsIn
+carry-begin m store places bytes slots = packed-none bytes slots
 
--- the list in the memory, by its own name
-pub holds-own : (l : List Pair) (n at : ℕ) (bytes : Text) (slots : List ℕ) → Holds l n at bytes slots → Holds (pairsIn bytes slots n) n at bytes slots
-holds-own l n at bytes slots c = rw (holds-list l n at bytes slots c) c
+pub carry-end : (m : Map) (store : Text) (places : List ℕ) (n i at : ℕ) (o : Text) (p : List ℕ) (bytes : Text) (slots : List ℕ) → n ≤ i → i ≤ n
+    → Packed (map (carried m) (pairsIn store places i)) i at o p bytes slots → at ≤ 1534 * i
+    → Packed (map (carried m) (pairsIn store places n)) n at o p bytes slots × (at ≤ 1534 * n)
+carry-end m store places n i at o p bytes slots l k c h = let z : n ≡ i = omega arith in (rw z c, omega arith)
 
 -- one outer pair more
 pulled-snoc : (m : Map) (l xs : List Pair) (x : Pair) → pulled m l (xs ++ x ∷ []) ≡ added (pulled m l xs) (x .target) (plainHome m (x .source))
@@ -79,6 +84,23 @@ added-bytes l t (some s) = go (hasSource l s)
     go true = omega arith
     go false = omega (arith, end-snoc l (record { source = s; target = t }))
 
+added-longer : (l : List Pair) (t : Text) (o : Option Text) → Longer l (added l t o)
+unfolding added
+added-longer l t none = (omega arith, omega arith)
+added-longer l t (some s) = go (hasSource l s)
+  where
+    go : (b : Bool) → Longer l (cond b l (l ++ record { source = s; target = t } ∷ []))
+    go true = (omega arith, omega arith)
+    go false = (omega (arith, length-append l (record { source = s; target = t } ∷ [])), omega (arith, end-snoc l (record { source = s; target = t })))
+
+pulled-longer : (m : Map) (l xs : List Pair) → Longer l (pulled m l xs)
+unfolding pulled
+pulled-longer m l [] = (omega arith, omega arith)
+pulled-longer m l (x ∷ xs) =
+    let h = added-longer l (x .target) (plainHome m (x .source)) in
+    let k = pulled-longer m (added l (x .target) (plainHome m (x .source))) xs in
+    (omega (arith, h .0, k .0), omega (arith, h .1, k .1))
+
 -- `pull_all`: m is the inner map, `base` the first half
 module _ (m : Map) (em : everyEnd modest (m .pairs) ≡ true) (base : List Pair) (store : Text) (places : List ℕ) (n : ℕ)
     (el : everyEnd modest (pairsIn store places n) ≡ true) (inner i : ℕ) (h : i < n) (k at : ℕ) (kn : k ≤ inner + i) (ka : at ≤ 1534 * (inner + i))
@@ -94,10 +116,10 @@ module _ (m : Map) (em : everyEnd modest (m .pairs) ≡ true) (base : List Pair)
   pub pull-slot : (room : ℕ) → 4 * (inner + n) ≤ room → 4 * k + 4 ≤ room
   pull-slot room r = omega arith
 
-  module _ (bytes : Text) (slots : List ℕ) (c : Holds (pulled m base (pairsIn store places i)) k at bytes slots) (k′ at′ : ℕ) (bytes′ : Text) (slots′ : List ℕ)
-      (d : Holds (added (pairsIn bytes slots k) t (plain true m s)) k′ at′ bytes′ slots′) where
+  module _ (o : Text) (p : List ℕ) (bytes : Text) (slots : List ℕ) (c : Packed (pulled m base (pairsIn store places i)) k at o p bytes slots) (k′ at′ : ℕ)
+      (bytes′ : Text) (slots′ : List ℕ) (d : Packed (added (pairsIn bytes slots k) t (plain true m s)) k′ at′ bytes slots bytes′ slots′) where
     same : pairsIn bytes slots k ≡ pulled m base (pairsIn store places i)
-    same = holds-list (pulled m base (pairsIn store places i)) k at bytes slots c
+    same = packed-list (pulled m base (pairsIn store places i)) k at o p bytes slots c
 
     added-is : added (pairsIn bytes slots k) t (plain true m s) ≡ pulled m base (pairsIn store places (i + 1))
     unfolding pairsIn plain
@@ -108,8 +130,12 @@ module _ (m : Map) (em : everyEnd modest (m .pairs) ≡ true) (base : List Pair)
         ∙ ap (λ (x : Pair). added (pulled m base (pairsIn store places i)) (x .target) (plainHome m (x .source))) (pair-keys store places i)
         ∙ rw (← es, ← et) refl))
 
-    pub pull-next : Holds (pulled m base (pairsIn store places (i + 1))) k′ at′ bytes′ slots′
-    pull-next = rw added-is at d
+    longer : Longer (pulled m base (pairsIn store places i)) (added (pairsIn bytes slots k) t (plain true m s))
+    longer = rw same (added-longer (pulled m base (pairsIn store places i)) t (plain true m s))
+
+    pub pull-next : Packed (pulled m base (pairsIn store places (i + 1))) k′ at′ o p bytes′ slots′
+    pull-next =
+        rw added-is at (packed-on (pulled m base (pairsIn store places i)) k at o p bytes slots c (added (pairsIn bytes slots k) t (plain true m s)) k′ at′ bytes′ slots′ d longer)
 
     pub pull-number : k′ ≤ inner + (i + 1)
     pull-number = omega (arith, d .number, added-length (pairsIn bytes slots k) t (plain true m s), ap length same, c .number)
@@ -117,18 +143,20 @@ module _ (m : Map) (em : everyEnd modest (m .pairs) ≡ true) (base : List Pair)
     pub pull-bound : at′ ≤ 1534 * (inner + (i + 1))
     pull-bound = omega (arith, d .end, added-bytes (pairsIn bytes slots k) t (plain true m s), ap endBytes same, c .end, pulls)
 
-pub pull-begin : (m : Map) (base : List Pair) (store : Text) (places : List ℕ) (n at : ℕ) (bytes : Text) (slots : List ℕ)
-    → Holds base n at bytes slots → Holds (pulled m base (pairsIn store places 0)) n at bytes slots
-unfolding pairsIn pulled
-pull-begin m base store places n at bytes slots c = c
+module _ (m : Map) (base : List Pair) (store : Text) (places : List ℕ) (n at : ℕ) (o : Text) (p : List ℕ) (bytes : Text) (slots : List ℕ) where
+  pub pull-begin : Packed base n at o p bytes slots → Packed (pulled m base (pairsIn store places 0)) n at o p bytes slots
+  unfolding pairsIn pulled
+  pull-begin c = c
 
-pub pull-end : (m : Map) (base : List Pair) (store : Text) (places : List ℕ) (n i k at : ℕ) (bytes : Text) (slots : List ℕ) → n ≤ i → i ≤ n
-    → Holds (pulled m base (pairsIn store places i)) k at bytes slots → Holds (pulled m base (pairsIn store places n)) k at bytes slots
-pull-end m base store places n i k at bytes slots l u c = let z : n ≡ i = omega arith in rw z c
+  pub pull-end : (j i : ℕ) → j ≤ i → i ≤ j → Packed (pulled m base (pairsIn store places i)) n at o p bytes slots → Packed (pulled m base (pairsIn store places j)) n at o p bytes slots
+  pull-end j i l u c = let z : j ≡ i = omega arith in rw z c
 
 -- both halves
-pub composed : (outer inner : Map) (n at : ℕ) (bytes : Text) (slots : List ℕ) (k end : ℕ) (bytes′ : Text) (slots′ : List ℕ)
-    → Holds (map (carried outer) (inner .pairs)) n at bytes slots → Holds (pulled inner (pairsIn bytes slots n) (outer .pairs)) k end bytes′ slots′
-    → Holds (composedPairs outer inner) k end bytes′ slots′
+pub composed : (outer inner : Map) (n at : ℕ) (o : Text) (p : List ℕ) (bytes : Text) (slots : List ℕ) (k end : ℕ) (bytes′ : Text) (slots′ : List ℕ)
+    → Packed (map (carried outer) (inner .pairs)) n at o p bytes slots → Packed (pulled inner (pairsIn bytes slots n) (outer .pairs)) k end bytes slots bytes′ slots′
+    → Packed (composedPairs outer inner) k end o p bytes′ slots′
 unfolding composedPairs
-composed outer inner n at bytes slots k end bytes′ slots′ c d = rw (holds-list (map (carried outer) (inner .pairs)) n at bytes slots c) at d
+composed outer inner n at o p bytes slots k end bytes′ slots′ c d =
+    let l : List Pair = map (carried outer) (inner .pairs) in
+    let z : pairsIn bytes slots n ≡ l = packed-list l n at o p bytes slots c in
+    packed-on l n at o p bytes slots c (pulled inner l (outer .pairs)) k end bytes′ slots′ (rw z at d) (pulled-longer inner l (outer .pairs))

@@ -1,4 +1,5 @@
 mod PlainWays
+pub mod PackLaws
 mod PullWays
 pub mod EveryLaws
 pub mod LengthLaws

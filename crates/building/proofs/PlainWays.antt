@@ -1,7 +1,7 @@
 -- What each way through `join_at`, `keep_at`, `map_at` and `carried_at` gives. Assumes nothing.
 use mathlib.Core.Path.{_≡_, refl, sym, ap, _∙_}
 use mathlib.Core.Logic.{_≢_}
-use mathlib.Core.Bool.{Bool, true, false, not, cond}
+use mathlib.Core.Bool.{Bool, true, false, not, cond, false≢true}
 use mathlib.Core.List.{List, [], _++_, append-nil}
 use mathlib.Core.Option.{Option, none, some, Option·getD}
 use Prim.Native.Nat.{ℕ, _+_, _-_, _≤_, _<_}
@@ -14,7 +14,7 @@ use borrow.Rule.Slice.PartMut.{putMid}
 use Rattle.text.specs.Text.{Text, isNil, placed, fitted}
 use Rattle.text.specs.declared.Fit.{Fit}
 use Rattle.text.specs.declared.Fit.the-variants.{Written, Over}
-use Rattle.text.proofs.BoolLaws.{and-r, not-true, not-false}
+use Rattle.text.proofs.BoolLaws.{and-l, and-r, not-true, not-false}
 use Rattle.text.proofs.WriteLaws.{placed-first, rest-whole, fit-length, fit-over}
 use Rattle.prefix.specs.Prefix.{hasPrefix}
 use Rattle.joining.specs.Join.{joined, replacePrefix}
@@ -97,11 +97,23 @@ module _ (store : Text) (places : List ℕ) (n : ℕ) (mark : Bool) (p : Text) w
       unfolding best serves
       has = and-r (not (isNil (key invert (f .at)))) (hasPrefix p (key invert (f .at))) ((chosen-best (serves p) (key invert) n (f .at) chosen) .does-pass)
 
+      filled : length (key invert (f .at)) ≢ 0
+      unfolding best serves
+      filled z =
+          false≢true (sym (not-true (isNil (key invert (f .at)))
+          (and-l (not (isNil (key invert (f .at)))) (hasPrefix p (key invert (f .at))) ((chosen-best (serves p) (key invert) n (f .at) chosen) .does-pass)))
+          ∙ nil-length (key invert (f .at)) z)
+
       pub map-join : (b s t : Text) → b ≡ key true (f .at) → length b ≢ 0 → s ≡ key invert (f .at) → t ≡ key (not invert) (f .at)
           → plain invert lent p ≡ some (joined s t (take (length p - length s) (drop (length s) p)))
       map-join b s t e l es et =
           rw (es, et, rest-whole p (length (key invert (f .at))))
           (plain-some invert (f .at) chosen ∙ rw (nil-not (key true (f .at)) (rw e at l)) (replace-prefix p (key invert (f .at)) (key (not invert) (f .at)) has))
+
+      -- backwards the key that serves is the target, so that is not empty
+      pub home-join : invert ≡ true → (s t : Text) → s ≡ key invert (f .at) → t ≡ key (not invert) (f .at)
+          → plain invert lent p ≡ some (joined s t (take (length p - length s) (drop (length s) p)))
+      home-join back s t es et = map-join s s t (es ∙ ap (λ (b : Bool). key b (f .at)) back) (λ z. filled (sym (ap length es) ∙ z)) es et
 
 -- what is known of the mapped text, handed on
 module _ (o : Option Text) (v : Option Text) (e : o ≡ v) where

@@ -1,112 +1,105 @@
--- What each way through `pull_pair` gives. Assumes nothing.
+-- What each way through `has_joined`, `add_joined` and `pull_pair` gives. Assumes nothing.
 use mathlib.Core.Path.{_≡_, refl, sym, ap, _∙_}
-use mathlib.Core.Bool.{Bool, true, false}
-use mathlib.Core.List.{List, [], _∷_, _++_}
+use mathlib.Core.Bool.{Bool, true, false, not, cond, _&&_}
+use mathlib.Core.List.{List, [], _∷_, _++_, append-assoc, append-nil}
 use mathlib.Core.Option.{Option, none, some}
-use Prim.Native.Nat.{ℕ, _+_, _*_, _-_, _≤_}
+use Prim.Native.Nat.{ℕ, _+_, _*_, _-_, _≤_, _<_}
 use native.Mathlib.Omega.{arith}
-use lib.ListN.{length, take, drop, length-append, length-drop, length-take}
-use lib.Seq.{take-append-seam, drop-append-add, drop-append-seam}
-use borrow.Author.Tests.{le-leb}
-use Rattle.text.specs.Text.{Text, placed}
-use Rattle.text.proofs.BoolLaws.{told}
+use lib.Dec.{eqb}
+use lib.ListN.{length, getD}
+use Rattle.text.specs.Text.{Text, equal, lastIs, placed}
+use Rattle.text.proofs.BoolLaws.{eqb-self, not-true, not-false, told, told-false}
+use Rattle.text.proofs.TextLaws.{equal-is, equal-self, last-some, last-behind}
+use Rattle.grammar.specs.Legal.{isRoot}
+use Rattle.joining.specs.Join.{separator, body, joined}
 use Rattle.pairs.specs.Pair.{Pair}
-use Rattle.pairs.specs.Places.{pairsIn, listText}
-use Rattle.pairs.proofs.ListLaws.{list-length}
+use Rattle.pairs.specs.Places.{keyAt, pairsIn}
 use Rattle.maps.specs.Compose.{hasSource, added}
-use Rattle.building.specs.declared.Image.{Image}
-use Rattle.building.specs.declared.Image.the-variants.{Nothing, Made}
-use Rattle.scratch.specs.Scratch.{Holds}
-use Rattle.scratch.proofs.ScratchLaws.{holds-list, holds-more, pair-done}
-use Rattle.building.specs.Build.{image, needed, imaged}
+use Rattle.scratch.proofs.ScratchLaws.{pair-done}
+use Rattle.scratch.proofs.SourceLaws.{source-begin, source-found, source-on, source-end}
+use Rattle.building.specs.Build.{marked, needed, Packed}
+use Rattle.building.proofs.PackLaws.{packed-more}
 
--- a text written behind the list leaves the list as it is
-module _ (l : List Pair) (n at : ℕ) (bytes : Text) (slots : List ℕ) (h : Holds l n at bytes slots) (q : Text) (room : at + length q ≤ length bytes) where
-  behind-list : placed at q bytes ≡ listText l ++ (q ++ drop (length q) (h .behind))
-  unfolding placed
-  behind-list =
-      let z : at ≡ length (listText l) = h .end ∙ sym (list-length l) in
-      rw (le-leb (at + length q) (length bytes) room, h .text, z, take-append-seam (listText l) (h .behind), drop-append-add (listText l) (h .behind) (length q))
+-- `is_joined`
+module _ (s t r : Text) where
+  last-joined : (a : ℕ) → 2 ≤ length r → lastIs a (joined s t r) ≡ lastIs a r
+  unfolding joined body lastIs
+  last-joined a h = go r h
+    where
+      ends : (c : Bool) (w : Text) (x y : ℕ) (z : Text) → lastIs a (t ++ (w ++ cond c (y ∷ z) (x ∷ y ∷ z))) ≡ lastIs a (x ∷ y ∷ z)
+      ends true w x y z = rw (← (append-assoc t w (y ∷ z))) (last-behind a (t ++ w) y z)
+      ends false w x y z = rw (← (append-assoc t w (x ∷ y ∷ z))) (last-behind a (t ++ w) x (y ∷ z))
 
-  still-holds : Holds l n at (placed at q bytes) slots
-  still-holds = record {
-    number = h .number;
-    end = h .end;
-    behind = q ++ drop (length q) (h .behind);
-    text = behind-list;
-    later = h .later;
-    places = h .places;
-  }
+      go : (u : Text) → 2 ≤ length u → lastIs a (joined s t u) ≡ lastIs a u
+      go [] h = absurd (omega arith)
+      go (x ∷ []) h = absurd (omega arith)
+      go (x ∷ y ∷ z) h = ends (not (isRoot s) && eqb x 47) (separator s t (x ∷ y ∷ z)) x y z
 
-  read-behind : (k : ℕ) → k ≡ length q → take (at + k - at) (drop at (placed at q bytes)) ≡ q
-  read-behind k e =
-      let z : at ≡ length (listText l) = h .end ∙ sym (list-length l) in
-      let y : at + k - at ≡ length q = omega arith in
-      rw (y, behind-list, z, drop-append-seam (listText l) (q ++ drop (length q) (h .behind))) (take-append-seam q (drop (length q) (h .behind)))
+  pub joined-not : (u : Text) (b : Bool) → 2 ≤ length r → b ≡ lastIs (getD r (length r - 1) 0) u → not b ≡ true → false ≡ equal (joined s t r) u
+  joined-not u b l e k = go (equal (joined s t r) u) refl
+    where
+      a : ℕ
+      a = getD r (length r - 1) 0
 
-  placed-length : length (placed at q bytes) ≡ length bytes
-  unfolding placed
-  placed-length =
-      rw (le-leb (at + length q) (length bytes) room) (simp (length-append, length-take, length-drop) (omega arith))
+      ends : lastIs a (joined s t r) ≡ true
+      ends = last-joined a l ∙ sym (last-some a r (λ z. omega arith)) ∙ eqb-self a
 
-image-none : (o : Option Text) → Nothing ≡ image o → o ≡ none
-image-none none e = refl
-image-none (some q) e = absurd (let y : _≡_ {A = ℕ} 0 1 = cc in omega arith)
+      go : (c : Bool) → equal (joined s t r) u ≡ c → false ≡ c
+      go true f = sym (told-false e k) ∙ ap (lastIs a) (sym (equal-is (joined s t r) u f)) ∙ ends
+      go false f = refl
 
-image-made : (o : Option Text) (k : ℕ) → Made k ≡ image o → (q : Text) × ((o ≡ some q) × (k ≡ length q))
-image-made none k e = absurd (let y : _≡_ {A = ℕ} 0 1 = cc in omega arith)
-image-made (some q) k e = (q, (refl, cc))
+-- `has_joined`: the join is held against the source
+equal-swap : (a b : Text) → equal a b ≡ equal b a
+equal-swap a b = go (equal a b) (equal b a) refl refl
+  where
+    go : (x y : Bool) → equal a b ≡ x → equal b a ≡ y → x ≡ y
+    go true true e f = refl
+    go true false e f = sym (equal-self a) ∙ ap (λ (z : Text). equal z a) (equal-is a b e) ∙ f
+    go false true e f = sym e ∙ ap (equal a) (equal-is b a f) ∙ equal-self a
+    go false false e f = refl
 
-module _ (l : List Pair) (t : Text) (o : Option Text) (q : Text) (e : o ≡ some q) where
-  added-there : hasSource l q ≡ true → added l t o ≡ l
+module _ (store : Text) (places : List ℕ) (q : Text) (i : ℕ) (k : Text) (e : k ≡ keyAt store places false i) (b : Bool) (h : b ≡ equal q k) where
+  pub joined-found : (n : ℕ) → i < n → b ≡ true → true ≡ hasSource (pairsIn store places n) q
+  joined-found n l t = source-found store places q i k e b (h ∙ equal-swap q k) n l t
+
+  pub joined-on : b ≡ false → hasSource (pairsIn store places i) q ≡ false → hasSource (pairsIn store places (i + 1)) q ≡ false
+  joined-on f g = source-on store places q i k e b (h ∙ equal-swap q k) f g
+
+pub ruleset joins = (source-begin, joined-found, joined-on, source-end)
+
+-- `add_joined`: q is the join
+module _ (l : List Pair) (n at : ℕ) (bytes : Text) (slots : List ℕ) (h : Packed l n at bytes slots bytes slots) (t q : Text) (b : Bool) (g : b ≡ hasSource l q) where
+  pub add-there : b ≡ true → Packed (added l t (some q)) n at bytes slots bytes slots
   unfolding added
-  added-there h = rw (e, h)
+  add-there f = rw (told g f) h
 
-  added-new : hasSource l q ≡ false → added l t o ≡ l ++ record { source = q; target = t } ∷ []
+  pub add-new : b ≡ false → at + (length q + length t) ≤ length bytes → 4 * n + 4 ≤ length slots → (k : ℕ) → k ≡ length q → (once twice : Text) (slots′ : List ℕ)
+      → once ≡ placed at q bytes → twice ≡ placed (at + k) t once → slots′ ≡ placed (4 * n) (at ∷ k ∷ (at + k) ∷ length t ∷ []) slots
+      → Packed (added l t (some q)) (n + 1) (at + k + length t) bytes slots twice slots′
   unfolding added
-  added-new h = rw (e, h)
+  add-new f room more k e once twice slots′ o u v =
+      let d = pair-done q t at n (length t) bytes once twice slots slots′ room more refl o (rw e at u) (rw e at v) in
+      rw (told g f) (packed-more l n at bytes slots bytes slots h q t (at + k + length t) twice slots′ (omega arith) (d .1 .0) (d .1 .1))
 
-module _ (l : List Pair) (n at : ℕ) (bytes : Text) (slots : List ℕ) (h : Holds l n at bytes slots) (t : Text) (o : Option Text)
-    (room : at + (needed o + length t) ≤ length bytes) (a : Image) (once : Text) (e : a ≡ image o) (w : once ≡ imaged at o bytes) where
-  pub pull-none : a ≡ Nothing → Holds (added l t o) n at once slots
+-- `pull_pair`: o is what the inner map makes of the outer source
+module _ (s : Text) (o : Option Text) (mark : Bool) (e : o ≡ marked mark s) where
+  pub pull-unmarked : not mark ≡ true → o ≡ none
+  pull-unmarked k = e ∙ rw (not-true mark k) refl
+
+  -- nothing replaced by the source, with no rest, is the source
+  pub pull-marked : not mark ≡ false → o ≡ some (joined [] s [])
+  unfolding joined separator body
+  pull-marked k = e ∙ rw (not-false mark k, append-nil s) refl
+
+module _ (l : List Pair) (t : Text) (o : Option Text) (n at : ℕ) (bytes : Text) (slots : List ℕ) where
+  pub pull-none : o ≡ none → Packed l n at bytes slots bytes slots → Packed (added l t o) n at bytes slots bytes slots
   unfolding added
-  pull-none k = let z : o ≡ none = image-none o (sym k ∙ e) in rw (w, z) h
+  pull-none e h = rw e h
 
-  module _ (k : ℕ) (m : a ≡ Made k) where
-    made : (q : Text) × ((o ≡ some q) × (k ≡ length q))
-    made = image-made o k (sym m ∙ e)
+  module _ (q : Text) (e : o ≡ some q) where
+    pub pull-fits : at + (needed o + length t) ≤ length bytes → at + (length q + length t) ≤ length bytes
+    pull-fits h = rw e at h
 
-    abbrev q : Text
-    q = made .0
-
-    fits-both : at + (length q + length t) ≤ length bytes
-    fits-both = rw (made .1 .0) at room
-
-    once-is : once ≡ placed at q bytes
-    once-is = w ∙ ap (λ (x : Option Text). imaged at x bytes) (made .1 .0)
-
-    pub pull-sum : at + (k + length t) ≤ length bytes
-    pull-sum = omega (arith, fits-both, made .1 .1)
-
-    pub pull-inside : (at ≤ at + k) × (at + k ≤ length once)
-    pull-inside = (omega arith, omega (arith, fits-both, made .1 .1, ap length once-is, placed-length l n at bytes slots h q (omega (arith, fits-both))))
-
-    module _ (b : Bool) (g : b ≡ hasSource (pairsIn once slots n) (take (at + k - at) (drop at once))) where
-      held : Holds l n at once slots
-      held = rw once-is (still-holds l n at bytes slots h q (omega (arith, fits-both)))
-
-      read : take (at + k - at) (drop at once) ≡ q
-      read = ap (λ (x : Text). take (at + k - at) (drop at x)) once-is ∙ read-behind l n at bytes slots h q (omega (arith, fits-both)) k (made .1 .1)
-
-      asked : b ≡ hasSource l q
-      asked = g ∙ ap (λ (x : List Pair). hasSource x (take (at + k - at) (drop at once))) (holds-list l n at once slots held) ∙ ap (hasSource l) read
-
-      pub pull-there : b ≡ true → Holds (added l t o) n at once slots
-      pull-there f = rw (added-there l t o q (made .1 .0) (told asked f)) held
-
-      pub pull-new : b ≡ false → 4 * n + 4 ≤ length slots → (twice : Text) (slots′ : List ℕ) → twice ≡ placed (at + k) t once
-          → slots′ ≡ placed (4 * n) (at ∷ k ∷ (at + k) ∷ length t ∷ []) slots → Holds (added l t o) (n + 1) (at + k + length t) twice slots′
-      pull-new f more twice slots′ u v =
-          let d = pair-done q t at n (length t) bytes once twice slots slots′ fits-both more refl once-is (rw (made .1 .1) at u) (rw (made .1 .1) at v) in
-          rw (added-new l t o q (made .1 .0) (told asked f))
-          (holds-more l n at bytes slots h q t (at + k + length t) twice slots′ (omega (arith, made .1 .1)) (d .1 .0) (d .1 .1))
+    pub pull-some : (n′ at′ : ℕ) (bytes′ : Text) (slots′ : List ℕ) → Packed (added l t (some q)) n′ at′ bytes slots bytes′ slots′
+        → Packed (added l t o) n′ at′ bytes slots bytes′ slots′
+    pull-some n′ at′ bytes′ slots′ d = rw e d

@@ -2,17 +2,17 @@
 ghost use mathlib.Core.Path.{_≡_};
 ghost use mathlib.Core.Bool.{true, false};
 ghost use mathlib.Core.List.{_++_, map as mapped};
-ghost use Prim.Native.Nat.{_+_, _*_, _-_, _≤_};
+ghost use mathlib.Core.Option.{some};
+ghost use Prim.Native.Nat.{_+_, _*_, _≤_};
 ghost use lib.Dec.{leb};
-ghost use lib.ListN.{length, take, drop};
-ghost use Rattle.text.specs.Text.{over, placed};
+ghost use lib.ListN.{length};
+ghost use Rattle.text.specs.Text.{equal, written, over, placed};
 ghost use Rattle.joining.specs.Join.{joined};
 ghost use Rattle.pairs.specs.Pair.{everyEnd};
-ghost use Rattle.pairs.specs.Places.{pairsIn, fourOf};
+ghost use Rattle.pairs.specs.Places.{pairsIn, fourOf, listText, listPlaces};
 ghost use Rattle.maps.specs.Map.{lentMap};
 ghost use Rattle.maps.specs.Compose.{carried, hasSource, added, pulled, composedPairs};
-ghost use Rattle.scratch.specs.Scratch.{Holds};
-ghost use Rattle.building.specs.Build.{plain, marked, image, needed, imaged, carriedTo, modest, enough};
+ghost use Rattle.building.specs.Build.{plain, marked, image, needed, imaged, carriedTo, modest, enough, builtOf, builtPairs, Packed, Stands};
 
 // What mapping a text answers: no path, or the length of the path made.
 enum Image {
@@ -45,32 +45,30 @@ fn keep_at(mark: bool, path: &[u8], at: usize, bytes: &mut [u8]) -> Image
     Image::Made(path.len())
 }
 
-// Plain mapping of a text, forward or backwards, from a place on.
+// Plain mapping of a text, from a place on.
 fn map_at(
     store: &[u8],
     places: &[usize],
     n: usize,
     mark: bool,
-    invert: bool,
     path: &[u8],
     at: usize,
     bytes: &mut [u8],
 ) -> Image
-    requires { ⌜ at + needed (plain invert (lentMap (now store) (now places) n mark) (now path)) ≤ length (now bytes) ⌝ }
-    ensures { λ r. ⌜ r ≡ image (plain invert (lentMap (now (store .entry)) (now (places .entry)) n mark) (now (path .entry))) ⌝ }
-    ensures { λ r. ⌜ now (bytes .exit) ≡ imaged at (plain invert (lentMap (now (store .entry)) (now (places .entry)) n mark) (now (path .entry))) (now (bytes .entry)) ⌝ }
+    requires { ⌜ at + needed (plain false (lentMap (now store) (now places) n mark) (now path)) ≤ length (now bytes) ⌝ }
+    ensures { λ r. ⌜ r ≡ image (plain false (lentMap (now (store .entry)) (now (places .entry)) n mark) (now (path .entry))) ⌝ }
+    ensures { λ r. ⌜ now (bytes .exit) ≡ imaged at (plain false (lentMap (now (store .entry)) (now (places .entry)) n mark) (now (path .entry))) (now (bytes .entry)) ⌝ }
 {
-    let f = serving::best_prefix(store, places, n, invert, path);
+    let f = serving::best_prefix(store, places, n, false, path);
     if !f.found {
         return keep_at(mark, path, at, bytes);
     }
     let i = f.at;
-    let block = pairs::key_at(store, places, i, true);
-    if block.len() == 0 {
+    let new = pairs::key_at(store, places, i, true);
+    if new.len() == 0 {
         return Image::Nothing;
     }
-    let old = pairs::key_at(store, places, i, invert);
-    let new = pairs::key_at(store, places, i, !invert);
+    let old = pairs::key_at(store, places, i, false);
     let k = old.len();
     Image::Made(join_at(old, new, &path[k..], at, bytes))
 }
@@ -93,7 +91,7 @@ fn carried_at(
     if target.len() == 0 {
         return 0;
     }
-    let a = map_at(store, places, n, mark, false, target, at, bytes);
+    let a = map_at(store, places, n, mark, target, at, bytes);
     match a {
         Image::Nothing => 0,
         Image::Made(k) => k,
@@ -126,18 +124,70 @@ fn carry_pair(
     m + k
 }
 
-// Has one of the first n pairs the text from `at` to `end` as its source?
-fn is_there(bytes: &[u8], slots: &[usize], n: usize, at: usize, end: usize) -> bool
-    requires { ⌜ (at ≤ end) × (end ≤ length (now bytes)) ⌝ }
-    ensures { λ r. ⌜ r ≡ hasSource (pairsIn (now (bytes .entry)) (now (slots .entry)) n) (take (end - at) (drop at (now (bytes .entry)))) ⌝ }
+// Is the text the rest behind the new prefix? Where that ends as the rest does, the last byte is looked at
+// first.
+fn is_joined(old: &[u8], new: &[u8], rest: &[u8], text: &[u8]) -> bool
+    ensures { λ r. ⌜ r ≡ equal (joined (now (old .entry)) (now (new .entry)) (now (rest .entry))) (now (text .entry)) ⌝ }
 {
-    scratch::has_source(bytes, slots, n, &bytes[at..end])
+    let k = rest.len();
+    if k < 2 {
+        return joining::is_join(old, new, rest, text);
+    }
+    if !text::last_is(text, rest[k - 1]) {
+        return false;
+    }
+    joining::is_join(old, new, rest, text)
+}
+
+// Has one of the first n pairs, as its source, the rest behind the new prefix?
+fn has_joined(bytes: &[u8], slots: &[usize], n: usize, old: &[u8], new: &[u8], rest: &[u8]) -> bool
+    ensures { λ r. ⌜ r ≡ hasSource (pairsIn (now (bytes .entry)) (now (slots .entry)) n) (joined (now (old .entry)) (now (new .entry)) (now (rest .entry))) ⌝ }
+{
+    let mut i = 0;
+    while i < n {
+        if is_joined(old, new, rest, pairs::key_at(bytes, slots, i, false)) {
+            return true;
+        }
+        i += 1;
+    }
+    false
 }
 
 // How many pairs the memory holds, and how many bytes.
 pub struct Built {
     pub n: usize,
     pub at: usize,
+}
+
+// One pair more, the rest behind the new prefix and the target, unless a pair has that source already.
+fn add_joined(
+    old: &[u8],
+    new: &[u8],
+    rest: &[u8],
+    t: &[u8],
+    b: Built,
+    bytes: &mut [u8],
+    slots: &mut [usize],
+) -> Built
+    requires { ⌜ Stands (b .n) (b .at) (now bytes) (now slots) ⌝ }
+    requires { ⌜ b .at + (length (joined (now old) (now new) (now rest)) + length (now t)) ≤ length (now bytes) ⌝ }
+    requires { ⌜ 4 * b .n + 4 ≤ length (now slots) ⌝ }
+    ensures { λ r. ⌜ Packed (added (pairsIn (now (bytes .entry)) (now (slots .entry)) (b .n)) (now (t .entry)) (some (joined (now (old .entry)) (now (new .entry)) (now (rest .entry))))) (r .n) (r .at) (now (bytes .entry)) (now (slots .entry)) (now (bytes .exit)) (now (slots .exit)) ⌝ }
+{
+    let at = b.at;
+    let n = b.n;
+    if has_joined(bytes, slots, n, old, new, rest) {
+        return b;
+    }
+    let k = join_at(old, new, rest, at, bytes);
+    let end = at + k;
+    let next = Built {
+        n: n + 1,
+        at: end + t.len(),
+    };
+    text::write_at(t, end, bytes);
+    listing::write_four(n, at, k, end, t.len(), slots);
+    next
 }
 
 // One pair more where there is need: the outer source taken back through the inner map, unless a pair
@@ -153,28 +203,23 @@ fn pull_pair(
     bytes: &mut [u8],
     slots: &mut [usize],
 ) -> Built
-    requires { ⌜ Holds (pairsIn (now bytes) (now slots) (b .n)) (b .n) (b .at) (now bytes) (now slots) ⌝ }
+    requires { ⌜ Stands (b .n) (b .at) (now bytes) (now slots) ⌝ }
     requires { ⌜ b .at + (needed (plain true (lentMap (now store) (now places) count mark) (now s)) + length (now t)) ≤ length (now bytes) ⌝ }
     requires { ⌜ 4 * b .n + 4 ≤ length (now slots) ⌝ }
-    ensures { λ r. ⌜ Holds (added (pairsIn (now (bytes .entry)) (now (slots .entry)) (b .n)) (now (t .entry)) (plain true (lentMap (now (store .entry)) (now (places .entry)) count mark) (now (s .entry)))) (r .n) (r .at) (now (bytes .exit)) (now (slots .exit)) ⌝ }
+    ensures { λ r. ⌜ Packed (added (pairsIn (now (bytes .entry)) (now (slots .entry)) (b .n)) (now (t .entry)) (plain true (lentMap (now (store .entry)) (now (places .entry)) count mark) (now (s .entry)))) (r .n) (r .at) (now (bytes .entry)) (now (slots .entry)) (now (bytes .exit)) (now (slots .exit)) ⌝ }
 {
-    let at = b.at;
-    let n = b.n;
-    let a = map_at(store, places, count, mark, true, s, at, bytes);
-    let Image::Made(k) = a else {
-        return b;
-    };
-    let end = at + k;
-    if is_there(bytes, slots, n, at, end) {
-        return b;
+    let f = serving::best_prefix(store, places, count, true, s);
+    if !f.found {
+        if !mark {
+            return b;
+        }
+        return add_joined(b"", s, b"", t, b, bytes, slots);
     }
-    let next = Built {
-        n: n + 1,
-        at: end + t.len(),
-    };
-    text::write_at(t, end, bytes);
-    listing::write_four(n, at, k, end, t.len(), slots);
-    next
+    let i = f.at;
+    let old = pairs::key_at(store, places, i, true);
+    let new = pairs::key_at(store, places, i, false);
+    let k = old.len();
+    add_joined(old, new, &s[k..], t, b, bytes, slots)
 }
 
 // The first half of the composed list: each inner pair with its target carried through the outer
@@ -194,7 +239,7 @@ fn carry_all(
     requires { ⌜ everyEnd modest (pairsIn (now istore) (now iplaces) inner) ≡ true ⌝ }
     requires { ⌜ 1534 * inner ≤ length (now bytes) ⌝ }
     requires { ⌜ 4 * inner ≤ length (now slots) ⌝ }
-    ensures { λ r. ⌜ Holds (mapped (carried (lentMap (now (store .entry)) (now (places .entry)) count mark)) (pairsIn (now (istore .entry)) (now (iplaces .entry)) inner)) inner r (now (bytes .exit)) (now (slots .exit)) ⌝ }
+    ensures { λ r. ⌜ Packed (mapped (carried (lentMap (now (store .entry)) (now (places .entry)) count mark)) (pairsIn (now (istore .entry)) (now (iplaces .entry)) inner)) inner r (now (bytes .entry)) (now (slots .entry)) (now (bytes .exit)) (now (slots .exit)) ⌝ }
     ensures { λ r. ⌜ r ≤ 1534 * inner ⌝ }
 {
     let mut at = 0;
@@ -226,9 +271,9 @@ fn pull_all(
     requires { ⌜ everyEnd modest (pairsIn (now istore) (now iplaces) inner) ≡ true ⌝ }
     requires { ⌜ 1534 * (inner + count) ≤ length (now bytes) ⌝ }
     requires { ⌜ 4 * (inner + count) ≤ length (now slots) ⌝ }
-    requires { ⌜ Holds (pairsIn (now bytes) (now slots) inner) inner at (now bytes) (now slots) ⌝ }
+    requires { ⌜ Stands inner at (now bytes) (now slots) ⌝ }
     requires { ⌜ at ≤ 1534 * inner ⌝ }
-    ensures { λ r. ⌜ Holds (pulled (lentMap (now (istore .entry)) (now (iplaces .entry)) inner mark) (pairsIn (now (bytes .entry)) (now (slots .entry)) inner) (pairsIn (now (store .entry)) (now (places .entry)) count)) (r .n) (r .at) (now (bytes .exit)) (now (slots .exit)) ⌝ }
+    ensures { λ r. ⌜ Packed (pulled (lentMap (now (istore .entry)) (now (iplaces .entry)) inner mark) (pairsIn (now (bytes .entry)) (now (slots .entry)) inner) (pairsIn (now (store .entry)) (now (places .entry)) count)) (r .n) (r .at) (now (bytes .entry)) (now (slots .entry)) (now (bytes .exit)) (now (slots .exit)) ⌝ }
 {
     let mut b = Built { n: inner, at: at };
     let mut i = 0;
@@ -258,7 +303,7 @@ fn build_both(
     requires { ⌜ everyEnd modest (pairsIn (now istore) (now iplaces) inner) ≡ true ⌝ }
     requires { ⌜ 1534 * (inner + count) ≤ length (now bytes) ⌝ }
     requires { ⌜ 4 * (inner + count) ≤ length (now slots) ⌝ }
-    ensures { λ r. ⌜ Holds (composedPairs (lentMap (now (store .entry)) (now (places .entry)) count mark) (lentMap (now (istore .entry)) (now (iplaces .entry)) inner imark)) (r .n) (r .at) (now (bytes .exit)) (now (slots .exit)) ⌝ }
+    ensures { λ r. ⌜ Packed (composedPairs (lentMap (now (store .entry)) (now (places .entry)) count mark) (lentMap (now (istore .entry)) (now (iplaces .entry)) inner imark)) (r .n) (r .at) (now (bytes .entry)) (now (slots .entry)) (now (bytes .exit)) (now (slots .exit)) ⌝ }
 {
     let at = carry_all(
         store,
@@ -320,7 +365,8 @@ fn is_enough(
     scratch::are_within(istore, iplaces, inner, 511)
 }
 
-// The composed list of an outer and an inner one, where the memory is enough for it.
+// The composed list of an outer and an inner one, where the memory is enough for it; otherwise nothing is
+// written.
 pub fn compose_into(
     store: &[u8],
     places: &[usize],
@@ -333,7 +379,9 @@ pub fn compose_into(
     bytes: &mut [u8],
     slots: &mut [usize],
 ) -> Built
-    ensures { λ r. ⌜ (enough (pairsIn (now (store .entry)) (now (places .entry)) count) (pairsIn (now (istore .entry)) (now (iplaces .entry)) inner) (length (now (bytes .entry))) (length (now (slots .entry))) ≡ true → Holds (composedPairs (lentMap (now (store .entry)) (now (places .entry)) count mark) (lentMap (now (istore .entry)) (now (iplaces .entry)) inner imark)) (r .n) (r .at) (now (bytes .exit)) (now (slots .exit))) ⌝ }
+    ensures { λ r. ⌜ r ≡ builtOf (builtPairs (lentMap (now (store .entry)) (now (places .entry)) count mark) (lentMap (now (istore .entry)) (now (iplaces .entry)) inner imark) (length (now (bytes .entry))) (length (now (slots .entry)))) ⌝ }
+    ensures { λ r. ⌜ now (bytes .exit) ≡ written (listText (builtPairs (lentMap (now (store .entry)) (now (places .entry)) count mark) (lentMap (now (istore .entry)) (now (iplaces .entry)) inner imark) (length (now (bytes .entry))) (length (now (slots .entry))))) (now (bytes .entry)) ⌝ }
+    ensures { λ r. ⌜ now (slots .exit) ≡ written (listPlaces 0 (builtPairs (lentMap (now (store .entry)) (now (places .entry)) count mark) (lentMap (now (istore .entry)) (now (iplaces .entry)) inner imark) (length (now (bytes .entry))) (length (now (slots .entry))))) (now (slots .entry)) ⌝ }
 {
     let room = bytes.len();
     if !is_enough(

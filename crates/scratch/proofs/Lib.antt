@@ -1,5 +1,5 @@
 pub mod ScratchLaws
-mod SourceLaws
+pub mod SourceLaws
 mod EveryLaws
 mod ShortWays
 pub mod LengthLaws

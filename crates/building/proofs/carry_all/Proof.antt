@@ -6,21 +6,20 @@ use lib.ListN.{length}
 use Rattle.pairs.specs.Places.{pairsIn}
 use Rattle.maps.specs.Compose.{carried}
 use Rattle.maps.specs.Map.{lentMap}
-use Rattle.scratch.specs.Scratch.{Holds}
-use Rattle.scratch.proofs.ScratchLaws.{build-begin}
-use Rattle.building.proofs.BuildWays.{carry-room, carry-bound, carry-next, carry-end}
+use Rattle.building.specs.Build.{Packed}
+use Rattle.building.proofs.BuildWays.{carry-begin, carry-room, carry-bound, carry-next, carry-end}
 use borrow.Author.Needs.{needs}
 use Rattle.building.proofs.carry_all.Statement.{statement}
 use Rattle.building.proofs.carry_all.Tie as tie
 
 abbrev Inv-loop : tie.InvT-loop
-Inv-loop store places count mark istore iplaces inner bytes₀ slots₀ at₀ i₀ bytes slots at i = (i ≤ inner) × (at ≤ 1534 * i) × Holds (map (carried (lentMap store places count mark)) (pairsIn istore iplaces i)) i at bytes slots × (length bytes ≡ length bytes₀) × (length slots ≡ length slots₀)
+Inv-loop store places count mark istore iplaces inner bytes₀ slots₀ at₀ i₀ bytes slots at i = (i ≤ inner) × (at ≤ 1534 * i) × Packed (map (carried (lentMap store places count mark)) (pairsIn istore iplaces i)) i at bytes₀ slots₀ bytes slots × (length bytes ≡ length bytes₀) × (length slots ≡ length slots₀)
 
 abbrev μ-loop : tie.MeasureT-loop
 μ-loop store places count mark istore iplaces inner bytes₀ slots₀ at₀ i₀ bytes slots at i = inner - i
 
 loop-holds : tie.Need-loop-holds Inv-loop μ-loop
-loop-holds c = (search needs, search needs, build-begin (carried (lentMap (c .before .before .before .before .before .before .args .store .now) (c .before .before .before .before .before .before .args .places .now) (c .before .before .before .before .before .before .args .count) (c .before .before .before .before .before .before .args .mark))) (c .before .before .before .before .before .before .args .istore .now) (c .before .before .before .before .before .before .args .iplaces .now) _ _, refl, refl)
+loop-holds c = (search needs, search needs, carry-begin (lentMap (c .before .before .before .before .before .before .args .store .now) (c .before .before .before .before .before .before .args .places .now) (c .before .before .before .before .before .before .args .count) (c .before .before .before .before .before .before .args .mark)) (c .before .before .before .before .before .before .args .istore .now) (c .before .before .before .before .before .before .args .iplaces .now) _ _, refl, refl)
 
 key-at-requires : tie.Need-key-at-requires Inv-loop μ-loop
 key-at-requires c κs = search needs
@@ -38,7 +37,7 @@ loop-less : tie.Need-loop-less Inv-loop μ-loop
 loop-less c = search needs
 
 loop-again : tie.Need-loop-again Inv-loop μ-loop
-loop-again c = (search needs, carry-bound (lentMap (c .before .before .before .before .before .before .before .before .before .before .before .before .before .before .before .before .before .args .store .now) (c .before .before .before .before .before .before .before .before .before .before .before .before .before .before .before .before .before .args .places .now) (c .before .before .before .before .before .before .before .before .before .before .before .before .before .before .before .before .before .args .count) (c .before .before .before .before .before .before .before .before .before .before .before .before .before .before .before .before .before .args .mark)) (c .before .before .before .before .before .before .before .before .before .before .before .before .before .before .before .before .before .pre .0) (c .before .before .before .before .before .before .before .before .before .before .before .before .before .before .before .before .before .args .istore .now) (c .before .before .before .before .before .before .before .before .before .before .before .before .before .before .before .before .before .args .iplaces .now) (c .before .before .before .before .before .before .before .before .before .before .before .before .before .before .before .before .before .args .inner) (c .before .before .before .before .before .before .before .before .before .before .before .before .before .before .before .before .before .pre .1 .0) (c .before .before .before .before .before .before .before .before .before .before .loop .i) (c .before .before .before .before .before .before .before .before .before .before .loop .at) (c .before .before .before .before .before .before .before .before .before .loop-test .taken) (c .before .before .before .before .before .before .before .before .before .before .loop .inv .1) _ _ (c .before .before .before .before .before .before .before .before .key-at .ensures) (c .before .before .before .before .before .before .before .key-at2 .ensures) _ (c .before .before .before .before .carry-pair .ensures .0), carry-next (lentMap (c .before .before .before .before .before .before .before .before .before .before .before .before .before .before .before .before .before .args .store .now) (c .before .before .before .before .before .before .before .before .before .before .before .before .before .before .before .before .before .args .places .now) (c .before .before .before .before .before .before .before .before .before .before .before .before .before .before .before .before .before .args .count) (c .before .before .before .before .before .before .before .before .before .before .before .before .before .before .before .before .before .args .mark)) (c .before .before .before .before .before .before .before .before .before .before .before .before .before .before .before .before .before .pre .0) (c .before .before .before .before .before .before .before .before .before .before .before .before .before .before .before .before .before .args .istore .now) (c .before .before .before .before .before .before .before .before .before .before .before .before .before .before .before .before .before .args .iplaces .now) (c .before .before .before .before .before .before .before .before .before .before .before .before .before .before .before .before .before .args .inner) (c .before .before .before .before .before .before .before .before .before .before .before .before .before .before .before .before .before .pre .1 .0) (c .before .before .before .before .before .before .before .before .before .before .loop .i) (c .before .before .before .before .before .before .before .before .before .before .loop .at) (c .before .before .before .before .before .before .before .before .before .loop-test .taken) (c .before .before .before .before .before .before .before .before .before .before .loop .inv .1) _ _ (c .before .before .before .before .before .before .before .before .key-at .ensures) (c .before .before .before .before .before .before .before .key-at2 .ensures) _ _ _ _ _ (c .before .before .before .before .before .before .before .before .before .before .loop .inv .2) (c .before .before .before .before .carry-pair .ensures .0) (c .before .before .before .before .carry-pair .ensures .1 .0) (c .before .before .before .before .carry-pair .ensures .1 .1), search needs, search needs)
+loop-again c = (search needs, carry-bound (lentMap (c .before .before .before .before .before .before .before .before .before .before .before .before .before .before .before .before .before .args .store .now) (c .before .before .before .before .before .before .before .before .before .before .before .before .before .before .before .before .before .args .places .now) (c .before .before .before .before .before .before .before .before .before .before .before .before .before .before .before .before .before .args .count) (c .before .before .before .before .before .before .before .before .before .before .before .before .before .before .before .before .before .args .mark)) (c .before .before .before .before .before .before .before .before .before .before .before .before .before .before .before .before .before .pre .0) (c .before .before .before .before .before .before .before .before .before .before .before .before .before .before .before .before .before .args .istore .now) (c .before .before .before .before .before .before .before .before .before .before .before .before .before .before .before .before .before .args .iplaces .now) (c .before .before .before .before .before .before .before .before .before .before .before .before .before .before .before .before .before .args .inner) (c .before .before .before .before .before .before .before .before .before .before .before .before .before .before .before .before .before .pre .1 .0) (c .before .before .before .before .before .before .before .before .before .before .loop .i) (c .before .before .before .before .before .before .before .before .before .before .loop .at) (c .before .before .before .before .before .before .before .before .before .loop-test .taken) (c .before .before .before .before .before .before .before .before .before .before .loop .inv .1) _ _ (c .before .before .before .before .before .before .before .before .key-at .ensures) (c .before .before .before .before .before .before .before .key-at2 .ensures) _ (c .before .before .before .before .carry-pair .ensures .0), carry-next (lentMap (c .before .before .before .before .before .before .before .before .before .before .before .before .before .before .before .before .before .args .store .now) (c .before .before .before .before .before .before .before .before .before .before .before .before .before .before .before .before .before .args .places .now) (c .before .before .before .before .before .before .before .before .before .before .before .before .before .before .before .before .before .args .count) (c .before .before .before .before .before .before .before .before .before .before .before .before .before .before .before .before .before .args .mark)) (c .before .before .before .before .before .before .before .before .before .before .before .before .before .before .before .before .before .pre .0) (c .before .before .before .before .before .before .before .before .before .before .before .before .before .before .before .before .before .args .istore .now) (c .before .before .before .before .before .before .before .before .before .before .before .before .before .before .before .before .before .args .iplaces .now) (c .before .before .before .before .before .before .before .before .before .before .before .before .before .before .before .before .before .args .inner) (c .before .before .before .before .before .before .before .before .before .before .before .before .before .before .before .before .before .pre .1 .0) (c .before .before .before .before .before .before .before .before .before .before .loop .i) (c .before .before .before .before .before .before .before .before .before .before .loop .at) (c .before .before .before .before .before .before .before .before .before .loop-test .taken) (c .before .before .before .before .before .before .before .before .before .before .loop .inv .1) _ _ (c .before .before .before .before .before .before .before .before .key-at .ensures) (c .before .before .before .before .before .before .before .key-at2 .ensures) _ _ _ _ _ _ _ (c .before .before .before .before .before .before .before .before .before .before .loop .inv .2) (c .before .before .before .before .carry-pair .ensures .0) (c .before .before .before .before .carry-pair .ensures .1 .0) (c .before .before .before .before .carry-pair .ensures .1 .1), search needs, search needs)
 
 same-length : tie.Need-same-length Inv-loop μ-loop
 same-length c = search needs
@@ -47,7 +46,7 @@ same-length-2 : tie.Need-same-length-2 Inv-loop μ-loop
 same-length-2 c = search needs
 
 returns : tie.Need-returns Inv-loop μ-loop
-returns c = carry-end (lentMap (c .before .before .before .before .before .before .before .before .args .store .now) (c .before .before .before .before .before .before .before .before .args .places .now) (c .before .before .before .before .before .before .before .before .args .count) (c .before .before .before .before .before .before .before .before .args .mark)) (c .before .before .before .before .before .before .before .before .args .istore .now) (c .before .before .before .before .before .before .before .before .args .iplaces .now) _ _ _ _ _ (c .loop-test .left) (c .before .loop .inv .0) (c .before .loop .inv .2) (c .before .loop .inv .1)
+returns c = carry-end (lentMap (c .before .before .before .before .before .before .before .before .args .store .now) (c .before .before .before .before .before .before .before .before .args .places .now) (c .before .before .before .before .before .before .before .before .args .count) (c .before .before .before .before .before .before .before .before .args .mark)) (c .before .before .before .before .before .before .before .before .args .istore .now) (c .before .before .before .before .before .before .before .before .args .iplaces .now) _ _ _ _ _ _ _ (c .loop-test .left) (c .before .loop .inv .0) (c .before .loop .inv .2) (c .before .loop .inv .1)
 
 pub carry-all-spec : {M : Type 1} → statement M
 carry-all-spec =

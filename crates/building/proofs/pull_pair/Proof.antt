@@ -1,82 +1,98 @@
+use mathlib.Core.Path.{refl}
 use mathlib.Core.Bool.{true}
-use native.Mathlib.Omega.{arith}
 use Rattle.pairs.specs.Places.{pairsIn}
 use Rattle.maps.specs.Map.{lentMap}
+use Rattle.carry.proofs.MapWays.{map-inside}
 use Rattle.building.specs.Build.{plain}
-use Rattle.building.proofs.PullWays.{pull-none, pull-sum, pull-inside, pull-there, pull-new}
+use Rattle.building.proofs.PlainWays.{map-none, home-join}
+use Rattle.building.proofs.PullWays.{pull-unmarked, pull-marked, pull-none, pull-fits, pull-some}
 use borrow.Author.Needs.{needs}
 use Rattle.building.proofs.pull_pair.Statement.{statement}
 use Rattle.building.proofs.pull_pair.Tie as tie
 
-map-at-requires : tie.Need-map-at-requires
-map-at-requires c κs = search needs
+best-prefix-requires : tie.Need-best-prefix-requires
+best-prefix-requires c κs = search needs
 
-enum-known-a : tie.Need-enum-known-a
-enum-known-a c = search needs
+returns : tie.Need-returns
+returns c =
+    let z = c .before .before .before .before .before .before .before .before .before .before in
+    pull-none (pairsIn (z .args .bytes .now) (z .args .slots .now) (z .args .b .n)) (z .args .t .now) (plain true (lentMap (z .args .store .now) (z .args .places .now) (z .args .count) (z .args .mark)) (z .args .s .now)) (z .args .b .n) (z .args .b .at) (z .args .bytes .now) (z .args .slots .now) (pull-unmarked (z .args .s .now) (plain true (lentMap (z .args .store .now) (z .args .places .now) (z .args .count) (z .args .mark)) (z .args .s .now)) (z .args .mark) (map-none (z .args .store .now) (z .args .places .now) (z .args .count) (z .args .mark) (z .args .s .now) true (c .before .before .before .best-prefix .result) (c .before .before .before .best-prefix .ensures) (c .before .if1 .taken)) (c .if2 .taken)) (z .pre .0)
 
-enum-told : tie.Need-enum-told
-enum-told c = search needs
+slice-aggregate-add-joined : tie.Need-slice-aggregate-add-joined
+slice-aggregate-add-joined c = search needs
+
+slice-aggregate-add-joined-2 : tie.Need-slice-aggregate-add-joined-2
+slice-aggregate-add-joined-2 c = search needs
+
+add-joined-requires : tie.Need-add-joined-requires
+add-joined-requires c κs =
+    let z = c .before .before .before .before .before .before .before .before .before .before .before .before .before .before in
+    (z .pre .0, (pull-fits (pairsIn (z .args .bytes .now) (z .args .slots .now) (z .args .b .n)) (z .args .t .now) (plain true (lentMap (z .args .store .now) (z .args .places .now) (z .args .count) (z .args .mark)) (z .args .s .now)) (z .args .b .n) (z .args .b .at) (z .args .bytes .now) (z .args .slots .now) _ (pull-marked (z .args .s .now) (plain true (lentMap (z .args .store .now) (z .args .places .now) (z .args .count) (z .args .mark)) (z .args .s .now)) (z .args .mark) (map-none (z .args .store .now) (z .args .places .now) (z .args .count) (z .args .mark) (z .args .s .now) true (c .before .before .before .before .before .before .before .best-prefix .result) (c .before .before .before .before .before .before .before .best-prefix .ensures) (c .before .before .before .before .before .if1 .taken)) (c .before .before .before .before .if2 .left)) (z .pre .1 .0), z .pre .1 .1))
 
 same-length : tie.Need-same-length
 same-length c = search needs
 
-returns : tie.Need-returns
-returns c = pull-none (pairsIn (c .before .before .before .before .before .before .before .before .before .before .before .before .args .bytes .now) (c .before .before .before .before .before .before .before .before .before .before .before .before .args .slots .now) (c .before .before .before .before .before .before .before .before .before .before .before .before .args .b .n)) (c .before .before .before .before .before .before .before .before .before .before .before .before .args .b .n) (c .before .before .before .before .before .before .before .before .before .before .before .before .args .b .at) (c .before .before .before .before .before .before .before .before .before .before .before .before .args .bytes .now) (c .before .before .before .before .before .before .before .before .before .before .before .before .args .slots .now) (c .before .before .before .before .before .before .before .before .before .before .before .before .pre .0) (c .before .before .before .before .before .before .before .before .before .before .before .before .args .t .now) (plain true (lentMap (c .before .before .before .before .before .before .before .before .before .before .before .before .args .store .now) (c .before .before .before .before .before .before .before .before .before .before .before .before .args .places .now) (c .before .before .before .before .before .before .before .before .before .before .before .before .args .count) (c .before .before .before .before .before .before .before .before .before .before .before .before .args .mark)) (c .before .before .before .before .before .before .before .before .before .before .before .before .args .s .now)) (c .before .before .before .before .before .before .before .before .before .before .before .before .pre .1 .0) _ _ (c .before .before .before .before .map-at .ensures .0) (c .before .before .before .before .map-at .ensures .1) (c .enum-told .given .1)
-
-add-end : tie.Need-add-end
-add-end c = omega (arith, pull-sum (pairsIn (c .before .before .before .before .before .before .before .before .before .before .before .before .before .args .bytes .now) (c .before .before .before .before .before .before .before .before .before .before .before .before .before .args .slots .now) (c .before .before .before .before .before .before .before .before .before .before .before .before .before .args .b .n)) (c .before .before .before .before .before .before .before .before .before .before .before .before .before .args .b .n) (c .before .before .before .before .before .before .before .before .before .before .before .before .before .args .b .at) (c .before .before .before .before .before .before .before .before .before .before .before .before .before .args .bytes .now) (c .before .before .before .before .before .before .before .before .before .before .before .before .before .args .slots .now) (c .before .before .before .before .before .before .before .before .before .before .before .before .before .pre .0) (c .before .before .before .before .before .before .before .before .before .before .before .before .before .args .t .now) (plain true (lentMap (c .before .before .before .before .before .before .before .before .before .before .before .before .before .args .store .now) (c .before .before .before .before .before .before .before .before .before .before .before .before .before .args .places .now) (c .before .before .before .before .before .before .before .before .before .before .before .before .before .args .count) (c .before .before .before .before .before .before .before .before .before .before .before .before .before .args .mark)) (c .before .before .before .before .before .before .before .before .before .before .before .before .before .args .s .now)) (c .before .before .before .before .before .before .before .before .before .before .before .before .before .pre .1 .0) _ _ (c .before .before .before .before .before .map-at .ensures .0) (c .before .before .before .before .before .map-at .ensures .1) _ (c .before .a .given .1))
-
-is-there-requires : tie.Need-is-there-requires
-is-there-requires c κs = pull-inside (pairsIn (c .before .before .before .before .before .before .before .before .before .before .before .before .before .before .before .args .bytes .now) (c .before .before .before .before .before .before .before .before .before .before .before .before .before .before .before .args .slots .now) (c .before .before .before .before .before .before .before .before .before .before .before .before .before .before .before .args .b .n)) (c .before .before .before .before .before .before .before .before .before .before .before .before .before .before .before .args .b .n) (c .before .before .before .before .before .before .before .before .before .before .before .before .before .before .before .args .b .at) (c .before .before .before .before .before .before .before .before .before .before .before .before .before .before .before .args .bytes .now) (c .before .before .before .before .before .before .before .before .before .before .before .before .before .before .before .args .slots .now) (c .before .before .before .before .before .before .before .before .before .before .before .before .before .before .before .pre .0) (c .before .before .before .before .before .before .before .before .before .before .before .before .before .before .before .args .t .now) (plain true (lentMap (c .before .before .before .before .before .before .before .before .before .before .before .before .before .before .before .args .store .now) (c .before .before .before .before .before .before .before .before .before .before .before .before .before .before .before .args .places .now) (c .before .before .before .before .before .before .before .before .before .before .before .before .before .before .before .args .count) (c .before .before .before .before .before .before .before .before .before .before .before .before .before .before .before .args .mark)) (c .before .before .before .before .before .before .before .before .before .before .before .before .before .before .before .args .s .now)) (c .before .before .before .before .before .before .before .before .before .before .before .before .before .before .before .pre .1 .0) _ _ (c .before .before .before .before .before .before .before .map-at .ensures .0) (c .before .before .before .before .before .before .before .map-at .ensures .1) _ (c .before .before .before .a .given .1)
-
 same-length-2 : tie.Need-same-length-2
 same-length-2 c = search needs
+
+returns-2 : tie.Need-returns-2
+returns-2 c =
+    let z = c .before .before .before .before .before .before .before .before .before .before .before .before .before .before .before .before .before .before .before in
+    pull-some (pairsIn (z .args .bytes .now) (z .args .slots .now) (z .args .b .n)) (z .args .t .now) (plain true (lentMap (z .args .store .now) (z .args .places .now) (z .args .count) (z .args .mark)) (z .args .s .now)) (z .args .b .n) (z .args .b .at) (z .args .bytes .now) (z .args .slots .now) _ (pull-marked (z .args .s .now) (plain true (lentMap (z .args .store .now) (z .args .places .now) (z .args .count) (z .args .mark)) (z .args .s .now)) (z .args .mark) (map-none (z .args .store .now) (z .args .places .now) (z .args .count) (z .args .mark) (z .args .s .now) true (c .before .before .before .before .before .before .before .before .before .before .before .before .best-prefix .result) (c .before .before .before .before .before .before .before .before .before .before .before .before .best-prefix .ensures) (c .before .before .before .before .before .before .before .before .before .before .if1 .taken)) (c .before .before .before .before .before .before .before .before .before .if2 .left)) _ _ _ _ (c .before .before .before .before .add-joined .ensures)
+
+key-at-requires : tie.Need-key-at-requires
+key-at-requires c κs = search needs
+
+key-at-requires-2 : tie.Need-key-at-requires-2
+key-at-requires-2 c κs = search needs
+
+sub-add-joined : tie.Need-sub-add-joined
+sub-add-joined c =
+    let z = c .before .before .before .before .before .before .before .before .before .before .before in
+    map-inside (z .args .store .now) (z .args .places .now) (z .args .count) (z .args .mark) (z .args .s .now) true (c .before .before .before .before .best-prefix .result) (c .before .before .before .before .best-prefix .ensures) (c .before .before .if1 .left) _ (c .before .key-at .ensures)
+
+part-add-joined-start : tie.Need-part-add-joined-start
+part-add-joined-start c =
+    let z = c .before .before .before .before .before .before .before .before .before .before .before in
+    map-inside (z .args .store .now) (z .args .places .now) (z .args .count) (z .args .mark) (z .args .s .now) true (c .before .before .before .before .best-prefix .result) (c .before .before .before .before .best-prefix .ensures) (c .before .before .if1 .left) _ (c .before .key-at .ensures)
+
+part-add-joined-end : tie.Need-part-add-joined-end
+part-add-joined-end c = search needs
+
+add-joined-requires-2 : tie.Need-add-joined-requires-2
+add-joined-requires-2 c κs =
+    let z = c .before .before .before .before .before .before .before .before .before .before .before .before .before .before in
+    (z .pre .0, (pull-fits (pairsIn (z .args .bytes .now) (z .args .slots .now) (z .args .b .n)) (z .args .t .now) (plain true (lentMap (z .args .store .now) (z .args .places .now) (z .args .count) (z .args .mark)) (z .args .s .now)) (z .args .b .n) (z .args .b .at) (z .args .bytes .now) (z .args .slots .now) _ (home-join (z .args .store .now) (z .args .places .now) (z .args .count) (z .args .mark) (z .args .s .now) true (c .before .before .before .before .before .before .before .best-prefix .result) (c .before .before .before .before .before .before .before .best-prefix .ensures) (c .before .before .before .before .before .if1 .left) refl _ _ (c .before .before .before .before .key-at .ensures) (c .before .before .before .key-at2 .ensures)) (z .pre .1 .0), z .pre .1 .1))
 
 same-length-3 : tie.Need-same-length-3
 same-length-3 c = search needs
 
-returns-2 : tie.Need-returns-2
-returns-2 c = pull-there (pairsIn (c .before .before .before .before .before .before .before .before .before .before .before .before .before .before .before .before .before .args .bytes .now) (c .before .before .before .before .before .before .before .before .before .before .before .before .before .before .before .before .before .args .slots .now) (c .before .before .before .before .before .before .before .before .before .before .before .before .before .before .before .before .before .args .b .n)) (c .before .before .before .before .before .before .before .before .before .before .before .before .before .before .before .before .before .args .b .n) (c .before .before .before .before .before .before .before .before .before .before .before .before .before .before .before .before .before .args .b .at) (c .before .before .before .before .before .before .before .before .before .before .before .before .before .before .before .before .before .args .bytes .now) (c .before .before .before .before .before .before .before .before .before .before .before .before .before .before .before .before .before .args .slots .now) (c .before .before .before .before .before .before .before .before .before .before .before .before .before .before .before .before .before .pre .0) (c .before .before .before .before .before .before .before .before .before .before .before .before .before .before .before .before .before .args .t .now) (plain true (lentMap (c .before .before .before .before .before .before .before .before .before .before .before .before .before .before .before .before .before .args .store .now) (c .before .before .before .before .before .before .before .before .before .before .before .before .before .before .before .before .before .args .places .now) (c .before .before .before .before .before .before .before .before .before .before .before .before .before .before .before .before .before .args .count) (c .before .before .before .before .before .before .before .before .before .before .before .before .before .before .before .before .before .args .mark)) (c .before .before .before .before .before .before .before .before .before .before .before .before .before .before .before .before .before .args .s .now)) (c .before .before .before .before .before .before .before .before .before .before .before .before .before .before .before .before .before .pre .1 .0) _ _ (c .before .before .before .before .before .before .before .before .before .map-at .ensures .0) (c .before .before .before .before .before .before .before .before .before .map-at .ensures .1) _ (c .before .before .before .before .before .a .given .1) _ (c .before .is-there .ensures) (c .if1 .taken)
-
-add-write-four : tie.Need-add-write-four
-add-write-four c = search needs
-
-add-t25 : tie.Need-add-t25
-add-t25 c = omega (arith, pull-sum (pairsIn (c .before .before .before .before .before .before .before .before .before .before .before .before .before .before .before .before .before .args .bytes .now) (c .before .before .before .before .before .before .before .before .before .before .before .before .before .before .before .before .before .args .slots .now) (c .before .before .before .before .before .before .before .before .before .before .before .before .before .before .before .before .before .args .b .n)) (c .before .before .before .before .before .before .before .before .before .before .before .before .before .before .before .before .before .args .b .n) (c .before .before .before .before .before .before .before .before .before .before .before .before .before .before .before .before .before .args .b .at) (c .before .before .before .before .before .before .before .before .before .before .before .before .before .before .before .before .before .args .bytes .now) (c .before .before .before .before .before .before .before .before .before .before .before .before .before .before .before .before .before .args .slots .now) (c .before .before .before .before .before .before .before .before .before .before .before .before .before .before .before .before .before .pre .0) (c .before .before .before .before .before .before .before .before .before .before .before .before .before .before .before .before .before .args .t .now) (plain true (lentMap (c .before .before .before .before .before .before .before .before .before .before .before .before .before .before .before .before .before .args .store .now) (c .before .before .before .before .before .before .before .before .before .before .before .before .before .before .before .before .before .args .places .now) (c .before .before .before .before .before .before .before .before .before .before .before .before .before .before .before .before .before .args .count) (c .before .before .before .before .before .before .before .before .before .before .before .before .before .before .before .before .before .args .mark)) (c .before .before .before .before .before .before .before .before .before .before .before .before .before .before .before .before .before .args .s .now)) (c .before .before .before .before .before .before .before .before .before .before .before .before .before .before .before .before .before .pre .1 .0) _ _ (c .before .before .before .before .before .before .before .before .before .map-at .ensures .0) (c .before .before .before .before .before .before .before .before .before .map-at .ensures .1) _ (c .before .before .before .before .before .a .given .1))
-
-write-at-requires : tie.Need-write-at-requires
-write-at-requires c κs = search needs
-
-write-four-requires : tie.Need-write-four-requires
-write-four-requires c κs = search needs
-
 same-length-4 : tie.Need-same-length-4
 same-length-4 c = search needs
 
-same-length-5 : tie.Need-same-length-5
-same-length-5 c = search needs
-
 returns-3 : tie.Need-returns-3
-returns-3 c = pull-new (pairsIn (c .before .before .before .before .before .before .before .before .before .before .before .before .before .before .before .before .before .before .before .before .before .before .before .before .before .args .bytes .now) (c .before .before .before .before .before .before .before .before .before .before .before .before .before .before .before .before .before .before .before .before .before .before .before .before .before .args .slots .now) (c .before .before .before .before .before .before .before .before .before .before .before .before .before .before .before .before .before .before .before .before .before .before .before .before .before .args .b .n)) (c .before .before .before .before .before .before .before .before .before .before .before .before .before .before .before .before .before .before .before .before .before .before .before .before .before .args .b .n) (c .before .before .before .before .before .before .before .before .before .before .before .before .before .before .before .before .before .before .before .before .before .before .before .before .before .args .b .at) (c .before .before .before .before .before .before .before .before .before .before .before .before .before .before .before .before .before .before .before .before .before .before .before .before .before .args .bytes .now) (c .before .before .before .before .before .before .before .before .before .before .before .before .before .before .before .before .before .before .before .before .before .before .before .before .before .args .slots .now) (c .before .before .before .before .before .before .before .before .before .before .before .before .before .before .before .before .before .before .before .before .before .before .before .before .before .pre .0) (c .before .before .before .before .before .before .before .before .before .before .before .before .before .before .before .before .before .before .before .before .before .before .before .before .before .args .t .now) (plain true (lentMap (c .before .before .before .before .before .before .before .before .before .before .before .before .before .before .before .before .before .before .before .before .before .before .before .before .before .args .store .now) (c .before .before .before .before .before .before .before .before .before .before .before .before .before .before .before .before .before .before .before .before .before .before .before .before .before .args .places .now) (c .before .before .before .before .before .before .before .before .before .before .before .before .before .before .before .before .before .before .before .before .before .before .before .before .before .args .count) (c .before .before .before .before .before .before .before .before .before .before .before .before .before .before .before .before .before .before .before .before .before .before .before .before .before .args .mark)) (c .before .before .before .before .before .before .before .before .before .before .before .before .before .before .before .before .before .before .before .before .before .before .before .before .before .args .s .now)) (c .before .before .before .before .before .before .before .before .before .before .before .before .before .before .before .before .before .before .before .before .before .before .before .before .before .pre .1 .0) _ _ (c .before .before .before .before .before .before .before .before .before .before .before .before .before .before .before .before .before .map-at .ensures .0) (c .before .before .before .before .before .before .before .before .before .before .before .before .before .before .before .before .before .map-at .ensures .1) _ (c .before .before .before .before .before .before .before .before .before .before .before .before .before .a .given .1) _ (c .before .before .before .before .before .before .before .before .before .is-there .ensures) (c .before .before .before .before .before .before .before .before .if1 .left) (c .before .before .before .before .before .before .before .before .before .before .before .before .before .before .before .before .before .before .before .before .before .before .before .before .before .pre .1 .1) _ _ (c .before .before .before .before .before .before .write-at .ensures) (c .before .before .write-four .ensures)
+returns-3 c =
+    let z = c .before .before .before .before .before .before .before .before .before .before .before .before .before .before .before .before .before .before .before in
+    pull-some (pairsIn (z .args .bytes .now) (z .args .slots .now) (z .args .b .n)) (z .args .t .now) (plain true (lentMap (z .args .store .now) (z .args .places .now) (z .args .count) (z .args .mark)) (z .args .s .now)) (z .args .b .n) (z .args .b .at) (z .args .bytes .now) (z .args .slots .now) _ (home-join (z .args .store .now) (z .args .places .now) (z .args .count) (z .args .mark) (z .args .s .now) true (c .before .before .before .before .before .before .before .before .before .before .before .before .best-prefix .result) (c .before .before .before .before .before .before .before .before .before .before .before .before .best-prefix .ensures) (c .before .before .before .before .before .before .before .before .before .before .if1 .left) refl _ _ (c .before .before .before .before .before .before .before .before .before .key-at .ensures) (c .before .before .before .before .before .before .before .before .key-at2 .ensures)) _ _ _ _ (c .before .before .before .before .add-joined2 .ensures)
 
 pub pull-pair-spec : {M : Type 1} → statement M
 pull-pair-spec =
     tie.close
     (tie.spec
-    map-at-requires
-    enum-known-a
-    enum-told
-    same-length
+    best-prefix-requires
     returns
-    add-end
-    is-there-requires
+    slice-aggregate-add-joined
+    slice-aggregate-add-joined-2
+    add-joined-requires
+    same-length
     same-length-2
-    same-length-3
     returns-2
-    add-write-four
-    add-t25
-    write-at-requires
-    write-four-requires
+    key-at-requires
+    key-at-requires-2
+    sub-add-joined
+    part-add-joined-start
+    part-add-joined-end
+    add-joined-requires-2
+    same-length-3
     same-length-4
-    same-length-5
     returns-3)
