@@ -6,7 +6,7 @@ ghost use lib.ListN.{length};
 ghost use Rattle.pairs.specs.Pair.{everyEnd};
 ghost use Rattle.pairs.specs.Places.{pairsIn};
 ghost use Rattle.map_function.specs.Read.{mapOf};
-ghost use Rattle.map_function.specs.Made.{mapReply, mapBytes, mapSlots};
+ghost use Rattle.map_function.specs.Made.{GivesMap};
 ghost use Rattle.building.specs.Build.{modest};
 ghost use Rattle.composing.specs.Calls.{composedTime, timeOf, fromMade, composed, composeCall};
 
@@ -34,9 +34,7 @@ fn from_made(
     slots: &mut [usize],
 ) -> map_function::MapReply
     requires { ⌜ 4 * n ≤ length (now places) ⌝ }
-    ensures { λ r. ⌜ r ≡ mapReply (fromMade (pairsIn (now (store .entry)) (now (places .entry)) n) mark time (now (out .entry)) (now (slots .entry))) ⌝ }
-    ensures { λ r. ⌜ now (out .exit) ≡ mapBytes (fromMade (pairsIn (now (store .entry)) (now (places .entry)) n) mark time (now (out .entry)) (now (slots .entry))) (now (out .entry)) ⌝ }
-    ensures { λ r. ⌜ now (slots .exit) ≡ mapSlots (fromMade (pairsIn (now (store .entry)) (now (places .entry)) n) mark time (now (out .entry)) (now (slots .entry))) (now (slots .entry)) ⌝ }
+    ensures { λ r. ⌜ GivesMap (fromMade (pairsIn (now (store .entry)) (now (places .entry)) n) mark time (now (out .entry)) (now (slots .entry))) r (now (out .entry)) (now (out .exit)) (now (slots .entry)) (now (slots .exit)) ⌝ }
 {
     if scratch::are_short(store, places, n) {
         return map_function::from_parts(store, places, n, mark, time, out, slots);
@@ -70,9 +68,7 @@ fn compose_in(
     requires { ⌜ everyEnd modest (pairsIn (now istore) (now iplaces) (inner .count)) ≡ true ⌝ }
     requires { ⌜ 1534 * (inner .count + outer .count) ≤ length (now bytes) ⌝ }
     requires { ⌜ 4 * (inner .count + outer .count) ≤ length (now own) ⌝ }
-    ensures { λ r. ⌜ r ≡ mapReply (composed (mapOf (now (store .entry)) (now (places .entry)) outer) (mapOf (now (istore .entry)) (now (iplaces .entry)) inner) (timeOf outer inner) (now (out .entry)) (now (slots .entry))) ⌝ }
-    ensures { λ r. ⌜ now (out .exit) ≡ mapBytes (composed (mapOf (now (store .entry)) (now (places .entry)) outer) (mapOf (now (istore .entry)) (now (iplaces .entry)) inner) (timeOf outer inner) (now (out .entry)) (now (slots .entry))) (now (out .entry)) ⌝ }
-    ensures { λ r. ⌜ now (slots .exit) ≡ mapSlots (composed (mapOf (now (store .entry)) (now (places .entry)) outer) (mapOf (now (istore .entry)) (now (iplaces .entry)) inner) (timeOf outer inner) (now (out .entry)) (now (slots .entry))) (now (slots .entry)) ⌝ }
+    ensures { λ r. ⌜ GivesMap (composed (mapOf (now (store .entry)) (now (places .entry)) outer) (mapOf (now (istore .entry)) (now (iplaces .entry)) inner) (timeOf outer inner) (now (out .entry)) (now (slots .entry))) r (now (out .entry)) (now (out .exit)) (now (slots .entry)) (now (slots .exit)) ⌝ }
 {
     let mark = outer.has_root_identity;
     let imark = inner.has_root_identity;
@@ -106,9 +102,7 @@ fn compose_few(
     requires { ⌜ everyEnd modest (pairsIn (now store) (now places) (outer .count)) ≡ true ⌝ }
     requires { ⌜ everyEnd modest (pairsIn (now istore) (now iplaces) (inner .count)) ≡ true ⌝ }
     requires { ⌜ inner .count + outer .count ≤ 4 ⌝ }
-    ensures { λ r. ⌜ r ≡ mapReply (composed (mapOf (now (store .entry)) (now (places .entry)) outer) (mapOf (now (istore .entry)) (now (iplaces .entry)) inner) (timeOf outer inner) (now (out .entry)) (now (slots .entry))) ⌝ }
-    ensures { λ r. ⌜ now (out .exit) ≡ mapBytes (composed (mapOf (now (store .entry)) (now (places .entry)) outer) (mapOf (now (istore .entry)) (now (iplaces .entry)) inner) (timeOf outer inner) (now (out .entry)) (now (slots .entry))) (now (out .entry)) ⌝ }
-    ensures { λ r. ⌜ now (slots .exit) ≡ mapSlots (composed (mapOf (now (store .entry)) (now (places .entry)) outer) (mapOf (now (istore .entry)) (now (iplaces .entry)) inner) (timeOf outer inner) (now (out .entry)) (now (slots .entry))) (now (slots .entry)) ⌝ }
+    ensures { λ r. ⌜ GivesMap (composed (mapOf (now (store .entry)) (now (places .entry)) outer) (mapOf (now (istore .entry)) (now (iplaces .entry)) inner) (timeOf outer inner) (now (out .entry)) (now (slots .entry))) r (now (out .entry)) (now (out .exit)) (now (slots .entry)) (now (slots .exit)) ⌝ }
 {
     let mut bytes = [0u8; 6136];
     let mut own = [0usize; 16];
@@ -140,9 +134,7 @@ fn compose_many(
     requires { ⌜ everyEnd modest (pairsIn (now store) (now places) (outer .count)) ≡ true ⌝ }
     requires { ⌜ everyEnd modest (pairsIn (now istore) (now iplaces) (inner .count)) ≡ true ⌝ }
     requires { ⌜ inner .count + outer .count ≤ 128 ⌝ }
-    ensures { λ r. ⌜ r ≡ mapReply (composed (mapOf (now (store .entry)) (now (places .entry)) outer) (mapOf (now (istore .entry)) (now (iplaces .entry)) inner) (timeOf outer inner) (now (out .entry)) (now (slots .entry))) ⌝ }
-    ensures { λ r. ⌜ now (out .exit) ≡ mapBytes (composed (mapOf (now (store .entry)) (now (places .entry)) outer) (mapOf (now (istore .entry)) (now (iplaces .entry)) inner) (timeOf outer inner) (now (out .entry)) (now (slots .entry))) (now (out .entry)) ⌝ }
-    ensures { λ r. ⌜ now (slots .exit) ≡ mapSlots (composed (mapOf (now (store .entry)) (now (places .entry)) outer) (mapOf (now (istore .entry)) (now (iplaces .entry)) inner) (timeOf outer inner) (now (out .entry)) (now (slots .entry))) (now (slots .entry)) ⌝ }
+    ensures { λ r. ⌜ GivesMap (composed (mapOf (now (store .entry)) (now (places .entry)) outer) (mapOf (now (istore .entry)) (now (iplaces .entry)) inner) (timeOf outer inner) (now (out .entry)) (now (slots .entry))) r (now (out .entry)) (now (out .exit)) (now (slots .entry)) (now (slots .exit)) ⌝ }
 {
     let mut bytes = [0u8; 196352];
     let mut own = [0usize; 512];
@@ -171,9 +163,7 @@ pub fn compose(
     out: &mut [u8],
     slots: &mut [usize],
 ) -> map_function::MapReply
-    ensures { λ r. ⌜ r ≡ mapReply (composeCall (now (store .entry)) (now (places .entry)) outer (now (istore .entry)) (now (iplaces .entry)) inner (now (out .entry)) (now (slots .entry))) ⌝ }
-    ensures { λ r. ⌜ now (out .exit) ≡ mapBytes (composeCall (now (store .entry)) (now (places .entry)) outer (now (istore .entry)) (now (iplaces .entry)) inner (now (out .entry)) (now (slots .entry))) (now (out .entry)) ⌝ }
-    ensures { λ r. ⌜ now (slots .exit) ≡ mapSlots (composeCall (now (store .entry)) (now (places .entry)) outer (now (istore .entry)) (now (iplaces .entry)) inner (now (out .entry)) (now (slots .entry))) (now (slots .entry)) ⌝ }
+    ensures { λ r. ⌜ GivesMap (composeCall (now (store .entry)) (now (places .entry)) outer (now (istore .entry)) (now (iplaces .entry)) inner (now (out .entry)) (now (slots .entry))) r (now (out .entry)) (now (out .exit)) (now (slots .entry)) (now (slots .exit)) ⌝ }
 {
     let n = outer.count;
     let mark = outer.has_root_identity;

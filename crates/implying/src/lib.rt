@@ -11,7 +11,7 @@ ghost use Rattle.listing.specs.Lists.{listRoom};
 ghost use Rattle.maps.specs.Map.{lentMap};
 ghost use Rattle.maps.specs.Derive.{inverse};
 ghost use Rattle.map_function.specs.Read.{isPathIdentity, mapOf};
-ghost use Rattle.map_function.specs.Made.{map, mapReply, mapBytes, mapSlots, numbersOf};
+ghost use Rattle.map_function.specs.Made.{map, mapBytes, mapSlots, GivesMap, numbersOf};
 ghost use Rattle.scratch.specs.Scratch.{Holds};
 ghost use Rattle.building.specs.Build.{modest};
 ghost use Rattle.implying.specs.Implied.{composedFrom, implying, impliedTime, impliedClassCall};
@@ -198,9 +198,7 @@ fn finish(
     requires { ⌜ everyEnd modest (pairsIn (now mid) (now mids) (class .count)) ≡ true ⌝ }
     requires { ⌜ 196352 ≤ length (now bytes) ⌝ }
     requires { ⌜ 512 ≤ length (now own) ⌝ }
-    ensures { λ r. ⌜ r ≡ mapReply (finished (mapOf (now (store .entry)) (now (places .entry)) transfer) (mapOf (now (mid .entry)) (now (mids .entry)) class) (b .n) (b .at) short time (now (out .entry)) (now (slots .entry))) ⌝ }
-    ensures { λ r. ⌜ now (out .exit) ≡ mapBytes (finished (mapOf (now (store .entry)) (now (places .entry)) transfer) (mapOf (now (mid .entry)) (now (mids .entry)) class) (b .n) (b .at) short time (now (out .entry)) (now (slots .entry))) (now (out .entry)) ⌝ }
-    ensures { λ r. ⌜ now (slots .exit) ≡ mapSlots (finished (mapOf (now (store .entry)) (now (places .entry)) transfer) (mapOf (now (mid .entry)) (now (mids .entry)) class) (b .n) (b .at) short time (now (out .entry)) (now (slots .entry))) (now (slots .entry)) ⌝ }
+    ensures { λ r. ⌜ GivesMap (finished (mapOf (now (store .entry)) (now (places .entry)) transfer) (mapOf (now (mid .entry)) (now (mids .entry)) class) (b .n) (b .at) short time (now (out .entry)) (now (slots .entry))) r (now (out .entry)) (now (out .exit)) (now (slots .entry)) (now (slots .exit)) ⌝ }
 {
     let n = transfer.count;
     let d = build(store, places, transfer, mid, mids, class, bytes, own);
@@ -236,9 +234,7 @@ fn implied_in(
     requires { ⌜ (transfer .count ≤ 64) × ((4 * transfer .count ≤ length (now places)) × (class .count ≤ 64)) ⌝ }
     requires { ⌜ allShort (pairsIn (now store) (now places) (transfer .count)) ≡ true ⌝ }
     requires { ⌜ allShort (pairsIn (now cstore) (now cplaces) (class .count)) ≡ true ⌝ }
-    ensures { λ r. ⌜ r ≡ mapReply (implying (mapOf (now (store .entry)) (now (places .entry)) transfer) (mapOf (now (cstore .entry)) (now (cplaces .entry)) class) (impliedTime transfer class) (now (out .entry)) (now (slots .entry))) ⌝ }
-    ensures { λ r. ⌜ now (out .exit) ≡ mapBytes (implying (mapOf (now (store .entry)) (now (places .entry)) transfer) (mapOf (now (cstore .entry)) (now (cplaces .entry)) class) (impliedTime transfer class) (now (out .entry)) (now (slots .entry))) (now (out .entry)) ⌝ }
-    ensures { λ r. ⌜ now (slots .exit) ≡ mapSlots (implying (mapOf (now (store .entry)) (now (places .entry)) transfer) (mapOf (now (cstore .entry)) (now (cplaces .entry)) class) (impliedTime transfer class) (now (out .entry)) (now (slots .entry))) (now (slots .entry)) ⌝ }
+    ensures { λ r. ⌜ GivesMap (implying (mapOf (now (store .entry)) (now (places .entry)) transfer) (mapOf (now (cstore .entry)) (now (cplaces .entry)) class) (impliedTime transfer class) (now (out .entry)) (now (slots .entry))) r (now (out .entry)) (now (out .exit)) (now (slots .entry)) (now (slots .exit)) ⌝ }
 {
     let mut bytes = [0u8; 196352];
     let mut own = [0usize; 512];
@@ -292,9 +288,7 @@ pub fn implied_class(
     out: &mut [u8],
     slots: &mut [usize],
 ) -> map_function::MapReply
-    ensures { λ r. ⌜ r ≡ mapReply (impliedClassCall (now (store .entry)) (now (places .entry)) transfer (now (cstore .entry)) (now (cplaces .entry)) class (now (out .entry)) (now (slots .entry))) ⌝ }
-    ensures { λ r. ⌜ now (out .exit) ≡ mapBytes (impliedClassCall (now (store .entry)) (now (places .entry)) transfer (now (cstore .entry)) (now (cplaces .entry)) class (now (out .entry)) (now (slots .entry))) (now (out .entry)) ⌝ }
-    ensures { λ r. ⌜ now (slots .exit) ≡ mapSlots (impliedClassCall (now (store .entry)) (now (places .entry)) transfer (now (cstore .entry)) (now (cplaces .entry)) class (now (out .entry)) (now (slots .entry))) (now (slots .entry)) ⌝ }
+    ensures { λ r. ⌜ GivesMap (impliedClassCall (now (store .entry)) (now (places .entry)) transfer (now (cstore .entry)) (now (cplaces .entry)) class (now (out .entry)) (now (slots .entry))) r (now (out .entry)) (now (out .exit)) (now (slots .entry)) (now (slots .exit)) ⌝ }
 {
     let n = class.count;
     let mark = class.has_root_identity;

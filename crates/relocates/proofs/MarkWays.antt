@@ -8,7 +8,7 @@ use native.Mathlib.Omega.{arith}
 use native.Mathlib.Numerals.{add-one}
 use native.Mathlib.Decide.{ℕ-discrete}
 use lib.Dec.{eqb}
-use lib.ListN.{length, getD, set, drop, length-append, length-drop, List·getD-append}
+use lib.ListN.{length, getD, set, drop, length-append, List·getD-append}
 use lib.Seq.{drop-cons, set-at, getD-at}
 use Rattle.text.specs.Text.{Text, written}
 use Rattle.text.proofs.BoolLaws.{told}
@@ -48,9 +48,6 @@ bytes-length f zero = refl
 bytes-length f (suc n) = rw (length-append (bytesOf f n) (statusByte (f n) ∷ []), bytes-length f n) (omega arith)
 
 module _ (f : ℕ → RelocateOccurrence) (out₀ out : Text) (i : ℕ) where
-  pub bytes-room : i ≤ length out₀ → out ≡ written (bytesOf f i) out₀ → length out ≡ length out₀
-  bytes-room h e = rw (e, length-append (bytesOf f i) (drop (length (bytesOf f i)) out₀), bytes-length f i, length-drop i out₀) (omega arith)
-
   pub bytes-on : (v : ℕ) → i < length out₀ → out ≡ written (bytesOf f i) out₀ → v ≡ statusByte (f i) → set out i v ≡ written (bytesOf f (i + 1)) out₀
   bytes-on v h e k =
       let b : Text = bytesOf f i in
