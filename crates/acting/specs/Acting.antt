@@ -44,7 +44,7 @@ unfoldable pub Acted : Text → Read → Memory → Memory → Reply → Text �
 unfolding meant turnIn
 Acted b r m m′ reply before behind = (f : Frame) → meant b r ≡ some f → Took (turnIn m f) m′ reply before behind
 
--- the kind of a frame that was read; none has 0
+-- the kind of the frame that was read; 0 where there was none
 abbrev pub kindOf : Read → ℕ
 kindOf (Pair n m) = 1
 kindOf Statuses = 2

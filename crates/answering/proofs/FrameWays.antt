@@ -12,7 +12,7 @@ use lib.Seq.{length-take-le}
 use borrow.Author.Tests.{le-leb, lt-leb, leb-true, leb-false}
 use Rattle.text.specs.Text.{Text, written}
 use Rattle.text.proofs.BoolLaws.{told-false, told-true}
-use Rattle.text.proofs.WriteLaws.{placed-first, read-back}
+use Rattle.text.proofs.WriteLaws.{placed-first, read-back, part-size}
 use Rattle.path.specs.declared.Reply.{Reply}
 use Rattle.path.specs.declared.Reply.the-variants.{Written, Refused}
 use Rattle.path.specs.declared.Refusal.{Refusal}
@@ -169,12 +169,9 @@ pub fitting-room : (r : Reply) (n room : ℕ) → r ≡ Written n → Fitting r 
 unfolding Fitting
 fitting-room r n room e f = rw e at f
 
-pub part-length : (n : ℕ) (t : Text) → n ≤ length t → n ≡ length (take n t)
-part-length n t h = sym (length-take-le n t h)
-
 pub reply-room : (n at : ℕ) (payload before : Text) → n ≤ length payload → length payload ≡ 255 → at + 515 ≤ length before
     → at + 5 + 2 * length (take n payload) ≤ length before
-reply-room n at payload before h e r = omega (arith, part-length n payload h, e, r, h)
+reply-room n at payload before h e r = omega (arith, part-size n payload h, e, r, h)
 
 -- `answer_frame`
 module _ (b : Text) (r : Read) (e : r ≡ readOf (frameOf b)) (k : ℕ) (h : k ≡ kindOf r) (m : Memory) (at end : ℕ) (before behind : Text) where

@@ -36,7 +36,7 @@ unfolding lineText
 replyLine head (Written n) payload = lineText (head ∷ 0 ∷ take n payload)
 replyLine head (Refused x) payload = lineText (head ∷ number x ∷ [])
 
--- .. which has that many bytes
+-- the payload of a reply fits into so many bytes
 unfoldable pub Fitting : Reply → ℕ → Type 0
 Fitting (Written n) room = n ≤ room
 Fitting (Refused x) room = 0 ≤ room

@@ -113,3 +113,8 @@ second-end ls ts d e es h = head-passes isEnd e es (tail-passes isEnd d (e ∷ e
 pub second-short : (ls : List Lent) (p q : Text) (ts es : List Text) → asked ls (p ∷ q ∷ ts) es ≡ Passed → length q ≤ 255
 unfolding fits
 second-short ls p q ts es h = leb-true (length q) 255 (head-passes fits q ts (tail-passes fits p (q ∷ ts) (short-texts ls (p ∷ q ∷ ts) es h)))
+
+-- a list's own questions may be put with an empty path, which passes them all
+pub empty-asked : (l : Lent) → asked (l ∷ []) ([] ∷ []) [] ≡ asked (l ∷ []) [] []
+unfolding asked every fits legal
+empty-asked l = refl

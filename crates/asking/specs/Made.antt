@@ -1,4 +1,4 @@
--- What the code makes of a lent list in memory of its own, which has four numbers for each of 64 pairs.
+-- Pairs that the code picks out of a lent list and puts into memory for 64 pairs (256 numbers): when that can be done, and which then stand there.
 use Prim.Native.Nat.{ℕ}
 use mathlib.Core.Bool.{Bool, cond, _&&_}
 use mathlib.Core.List.{List, []}

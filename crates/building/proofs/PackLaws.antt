@@ -11,12 +11,13 @@ use Rattle.pairs.specs.Pair.{Pair, pair}
 use Rattle.pairs.specs.Places.{pairsIn, listText, listPlaces, fourOf, endBytes}
 use Rattle.pairs.proofs.ListLaws.{list-length, places-length, read-back}
 use Rattle.listing.proofs.RoomWays.{end-snoc}
-use Rattle.listing.proofs.WriteWays.{list-snoc, places-snoc, over-written}
+use Rattle.listing.proofs.WriteWays.{list-snoc, places-snoc}
 use Rattle.maps.specs.Map.{Map}
 use Rattle.maps.specs.Compose.{composedPairs}
 use Rattle.scratch.specs.Scratch.{Holds}
 use Rattle.building.specs.declared.Built.{Built}
 use Rattle.building.specs.Build.{enough, builtPairs, builtOf, Packed, Stands}
+use Rattle.text.proofs.WriteLaws.{over-written}
 
 -- what is written over a shorter text leaves nothing of that
 written-longer : (x y out : Text) → length x ≤ length y → written y (written x out) ≡ written y out

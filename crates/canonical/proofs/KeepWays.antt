@@ -31,8 +31,9 @@ use Rattle.asking.specs.Asking.{lentList, listCounts}
 use Rattle.asking.specs.Made.{canMake, madeOf}
 use Rattle.maps.specs.Map.{Map, lentMap, source, target}
 use Rattle.maps.specs.New.{isRoots, anyRoots, noRoots, viaPair, via, isText, implied, canonical, fromParts}
-use Rattle.maps.proofs.LentLaws.{serves-prefix, served-long, out-keys, ends-by}
+use Rattle.maps.proofs.LentLaws.{served-long, out-keys, ends-by}
 use Rattle.canonical.specs.Kept.{elementsAt, mostElements, Keyed, keeps}
+use Rattle.pairs.proofs.BestLaws.{served}
 
 -- `is_roots`
 module _ (store : Text) (places : List ℕ) (i : ℕ) (k : Text) (e : k ≡ keyAt store places false i) (b : Bool) (h : b ≡ isRoot k) where
@@ -150,7 +151,7 @@ module _ (store : Text) (kept : List ℕ) (n : ℕ) (mark : Bool) (s t : Text) (
     implied-join old new e g r m =
         let z = ends-by store kept n mark s false (f .at) chosen in
         let p : replacePrefix s (source lent (f .at)) (target lent (f .at)) ≡ some (joined old new (drop (length old) s))
-        = rw (z .0, z .1, ← e, ← g) (replace-prefix s old new (rw (← e) at (serves-prefix s (keyAt store kept false (f .at)) serving))) in
+        = rw (z .0, z .1, ← e, ← g) (replace-prefix s old new (rw (← e) at (served s (keyAt store kept false (f .at)) serving))) in
         m ∙ rw (rest-whole s (length old)) (sym (implied-by (some (f .at)) chosen ∙ rw p refl))
 
   module _ (k : f .found ≡ false) where

@@ -19,22 +19,22 @@ use Rattle.asking.specs.Made.{canMake}
 use Rattle.maps.specs.Map.{lentMap}
 use Rattle.maps.specs.New.{isRoots, implied}
 use Rattle.canonical.specs.Level.{level, levels}
-use Rattle.canonical.specs.Kept.{elementsAt, mostElements, others, layer, keptOf, keptPairs, canonicalPicks, Holds, keeps}
+use Rattle.canonical.specs.Kept.{elementsAt, mostElements, others, ownLevel, keptOf, keptPairs, canonicalPicks, Holds, keeps}
 use Rattle.canonical.proofs.LevelLaws.{level-append, levels-few}
 use Rattle.canonical.proofs.KeptLaws.{others-few, kept-append, kept-few}
 
 -- `keep_level`
 module _ (store : Text) (places : List ℕ) (e : ℕ) where
   abbrev first : ℕ → List ℕ
-  first i = layer store places e i
+  first i = ownLevel store places e i
 
-  -- the layer of pair i alone
+  -- the level of pair i alone
   abbrev alone : ℕ → List ℕ
   alone i = cond (isRoots (pairIn store places i)) [] (cond (eqb (elementsAt store places i) e) (i ∷ []) [])
 
-  layer-next : (i : ℕ) → first (suc i) ≡ first i ++ alone i
-  unfolding layer others passing level
-  layer-next i = go (isRoots (pairIn store places i))
+  own-next : (i : ℕ) → first (suc i) ≡ first i ++ alone i
+  unfolding ownLevel others passing level
+  own-next i = go (isRoots (pairIn store places i))
     where
       before : List ℕ
       before = passing (λ (k : ℕ). not (isRoots (pairIn store places k))) i
@@ -44,15 +44,15 @@ module _ (store : Text) (places : List ℕ) (e : ℕ) where
       go true = sym (append-nil (level (elementsAt store places) e before))
       go false = level-append (elementsAt store places) e before (i ∷ [])
 
-  layer-grows : (n i : ℕ) → i ≤ n → length (first i) ≤ length (first n)
-  layer-grows zero i h = let z : i ≡ 0 = omega arith in rw z (omega arith)
-  layer-grows (suc n) i h = elim (ℕ-discrete i (suc n)) [
+  own-grows : (n i : ℕ) → i ≤ n → length (first i) ≤ length (first n)
+  own-grows zero i h = let z : i ≡ 0 = omega arith in rw z (omega arith)
+  own-grows (suc n) i h = elim (ℕ-discrete i (suc n)) [
     | yes k ↦ rw k (omega arith)
-    | no k ↦ omega (arith, layer-grows n i (omega arith), ap length (layer-next n), length-append (first n) (alone n))
+    | no k ↦ omega (arith, own-grows n i (omega arith), ap length (own-next n), length-append (first n) (alone n))
   ]
 
   pub level-held : (w₀ n size i w : ℕ) → 4 * (w₀ + length (first n)) ≤ size → i < n → w ≤ w₀ + length (first i) → w ≤ size
-  level-held w₀ n size i w room l f = omega (arith, layer-grows n i (omega arith))
+  level-held w₀ n size i w room l f = omega (arith, own-grows n i (omega arith))
 
   module _ (mark : Bool) where
     -- one pair more is looked at
@@ -75,7 +75,7 @@ module _ (store : Text) (places : List ℕ) (e : ℕ) where
             flip false = refl
         go false false = refl
 
-    -- the w pairs that are kept are those from before, and at most the layer's
+    -- the w pairs that are kept are those from before, and at most those of the level
     module _ (i key : ℕ) (kept : List ℕ) (w : ℕ) (k : key ≡ elementsAt store places i) where
       abbrev kept-here : Bool
       kept-here = keeps store places i key e mark kept w
@@ -86,18 +86,18 @@ module _ (store : Text) (places : List ℕ) (e : ℕ) where
           let r : Bool = not (isRoots (pairIn store places i)) in
           let u : Bool = not (implied (lentMap store kept w mark) (pairIn store places i)) in
           let p : isRoots (pairIn store places i) ≡ false = not-true (isRoots (pairIn store places i)) (and-l r u (and-r (eqb key e) (r && u) h)) in
-          ap length (layer-next i) ∙ rw (length-append (first i) (alone i), p, ← k, and-l (eqb key e) (r && u) h) refl
+          ap length (own-next i) ∙ rw (length-append (first i) (alone i), p, ← k, and-l (eqb key e) (r && u) h) refl
 
       module _ (w₀ : ℕ) (f : w ≤ w₀ + length (first i)) where
         pub level-room : (n size : ℕ) → i < n → 4 * (w₀ + length (first n)) ≤ size → length kept ≡ size → kept-here ≡ true → 4 * w + 4 ≤ length kept
-        level-room n size l room s h = omega (arith, alone-one h, layer-grows n (suc i) l)
+        level-room n size l room s h = omega (arith, alone-one h, own-grows n (suc i) l)
 
         pub level-count : (w′ : ℕ) → w′ ≡ cond kept-here (w + 1) w → w′ ≤ w₀ + length (first (i + 1))
         level-count w′ g = rw (add-one i) (go kept-here refl g)
           where
             go : (b : Bool) → kept-here ≡ b → w′ ≡ cond b (w + 1) w → w′ ≤ w₀ + length (first (suc i))
             go true h g = omega (arith, alone-one h)
-            go false h g = omega (arith, layer-grows (suc i) i (omega arith))
+            go false h g = omega (arith, own-grows (suc i) i (omega arith))
 
     module _ (kept₀ : List ℕ) (w₀ : ℕ) where
       -- what memory holds after the first i pairs, whatever it held before
@@ -105,7 +105,7 @@ module _ (store : Text) (places : List ℕ) (e : ℕ) where
       After i kept w = (picks old : List ℕ) → Holds places picks old kept₀ w₀ → Holds places (keptOf store places mark picks (first i)) old kept w
 
       pub level-none : After 0 kept₀ w₀
-      unfolding layer others passing level keptOf
+      unfolding ownLevel others passing level keptOf
       level-none picks old h = h
 
       pub level-on : (i key : ℕ) (kept : List ℕ) (w : ℕ) → key ≡ elementsAt store places i → After i kept w → 4 * i + 4 ≤ length places
@@ -116,7 +116,7 @@ module _ (store : Text) (places : List ℕ) (e : ℕ) where
           let now : List ℕ = keptOf store places mark picks (first i) in
           let g : Holds places now old kept w = a picks old h in
           let r : pairsIn store kept w ≡ pairsAt store places now = rw (g .0, g .1) (picked-read places store now old) in
-          rw (add-one i, layer-next i, kept-append store places mark picks (first i) (alone i), one-more now i, ← r, ← k)
+          rw (add-one i, own-next i, kept-append store places mark picks (first i) (alone i), one-more now i, ← r, ← k)
           (picked-turn places i now old kept w held (g .0) (g .1) (keeps store places i key e mark kept w) room w′ kept′ f t)
 
       pub level-end : (n i : ℕ) (kept : List ℕ) (w : ℕ) → n ≤ i → i ≤ n → After i kept w → After n kept w
@@ -134,13 +134,13 @@ module _ (store : Text) (places : List ℕ) (n : ℕ) (mark : Bool) (kept₀ : L
 
   module _ (e : ℕ) (kept : List ℕ) (w : ℕ) (h : Holds places (below e) kept₀ kept w) where
     pub levels-on : (kept′ : List ℕ) (w′ : ℕ)
-        → ((picks old : List ℕ) → Holds places picks old kept w → Holds places (keptOf store places mark picks (layer store places e n)) old kept′ w′) → Holds places (below (e + 1)) kept₀ kept′ w′
-    unfolding layer levels
+        → ((picks old : List ℕ) → Holds places picks old kept w → Holds places (keptOf store places mark picks (ownLevel store places e n)) old kept′ w′) → Holds places (below (e + 1)) kept₀ kept′ w′
+    unfolding ownLevel levels
     levels-on kept′ w′ f =
-        rw (add-one e, kept-append store places mark [] (levels (elementsAt store places) e (others store places n)) (layer store places e n)) (f (below e) kept₀ h)
+        rw (add-one e, kept-append store places mark [] (levels (elementsAt store places) e (others store places n)) (ownLevel store places e n)) (f (below e) kept₀ h)
 
-    pub levels-room : n ≤ 64 → 256 ≤ length kept → 4 * (w + length (layer store places e n)) ≤ length kept
-    unfolding Holds layer levels
+    pub levels-room : n ≤ 64 → 256 ≤ length kept → 4 * (w + length (ownLevel store places e n)) ≤ length kept
+    unfolding Holds ownLevel levels
     levels-room k l =
         let all : List ℕ = others store places n in
         omega (
@@ -153,14 +153,14 @@ module _ (store : Text) (places : List ℕ) (n : ℕ) (mark : Bool) (kept₀ : L
         )
 
     pub levels-end : (top : ℕ) → top ≡ mostElements store places n → top ≤ e → e ≤ top → (kept′ : List ℕ) (w′ : ℕ)
-        → ((picks old : List ℕ) → Holds places picks old kept w → Holds places (keptOf store places mark picks (layer store places top n)) old kept′ w′)
+        → ((picks old : List ℕ) → Holds places picks old kept w → Holds places (keptOf store places mark picks (ownLevel store places top n)) old kept′ w′)
         → Holds places (keptPairs store places n mark) kept₀ kept′ w′
     unfolding keptPairs
     levels-end top m k l kept′ w′ f =
         let z : e ≡ top = omega arith in
         rw (z, m, add-one (mostElements store places n)) at (levels-on kept′ w′ (rw (← z) at f))
 
-    pub top-room : (top : ℕ) → top ≤ e → e ≤ top → n ≤ 64 → 256 ≤ length kept → 4 * (w + length (layer store places top n)) ≤ length kept
+    pub top-room : (top : ℕ) → top ≤ e → e ≤ top → n ≤ 64 → 256 ≤ length kept → 4 * (w + length (ownLevel store places top n)) ≤ length kept
     top-room top k l m o = let z : top ≡ e = omega arith in rw z (levels-room m o)
 
 -- `canonical_places`

@@ -32,9 +32,9 @@ unfolding passing pairIn
 others store places n = passing (λ (i : ℕ). not (isRoots (pairIn store places i))) n
 
 -- those of them whose source has e elements
-unfoldable pub layer : Text → List ℕ → ℕ → ℕ → List ℕ
+unfoldable pub ownLevel : Text → List ℕ → ℕ → ℕ → List ℕ
 unfolding level elementsAt others
-layer store places e n = level (elementsAt store places) e (others store places n)
+ownLevel store places e n = level (elementsAt store places) e (others store places n)
 
 -- "a pair is dropped when the kept ones carry its source to its target textually": one after the other, from those that are kept on
 unfoldable pub keptOf : Text → List ℕ → Bool → List ℕ → List ℕ → List ℕ

@@ -10,7 +10,7 @@ ghost use Rattle.listing.specs.Picks.{picked};
 ghost use Rattle.asking.specs.Asking.{lentList};
 ghost use Rattle.maps.specs.Map.{lentMap};
 ghost use Rattle.maps.specs.New.{isRoots, anyRoots, implied};
-ghost use Rattle.canonical.specs.Kept.{mostElements, layer, keptOf, keptPairs, canonicalPicks, Keyed, Holds, keeps};
+ghost use Rattle.canonical.specs.Kept.{mostElements, ownLevel, keptOf, keptPairs, canonicalPicks, Keyed, Holds, keeps};
 
 // Is pair i `/`→`/`?
 fn is_roots(store: &[u8], places: &[usize], i: usize) -> bool
@@ -131,8 +131,8 @@ fn keep_level(
 ) -> usize
     requires { ⌜ (4 * n ≤ length (now places)) × (n ≤ length (now keys)) ⌝ }
     requires { ⌜ Keyed (now store) (now places) n (now keys) ⌝ }
-    requires { ⌜ 4 * (w + length (layer (now store) (now places) e n)) ≤ length (now kept) ⌝ }
-    ensures { λ r. ⌜ ((picks old : List ℕ) → Holds (now (places .entry)) picks old (now (kept .entry)) w → Holds (now (places .entry)) (keptOf (now (store .entry)) (now (places .entry)) mark picks (layer (now (store .entry)) (now (places .entry)) e n)) old (now (kept .exit)) r) ⌝ }
+    requires { ⌜ 4 * (w + length (ownLevel (now store) (now places) e n)) ≤ length (now kept) ⌝ }
+    ensures { λ r. ⌜ ((picks old : List ℕ) → Holds (now (places .entry)) picks old (now (kept .entry)) w → Holds (now (places .entry)) (keptOf (now (store .entry)) (now (places .entry)) mark picks (ownLevel (now (store .entry)) (now (places .entry)) e n)) old (now (kept .exit)) r) ⌝ }
 {
     let mut k = w;
     let mut i = 0;

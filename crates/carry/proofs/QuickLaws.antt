@@ -1,13 +1,13 @@
 -- For ends and a legal path of at most 255 bytes the quick answers are those that the questions ask. Assumes nothing.
 use mathlib.Core.Path.{_≡_, refl, sym, ap, _∙_}
 use mathlib.Core.Bool.{Bool, true, false, not, cond, _&&_, _||_, true≢false, false≢true}
-use mathlib.Core.List.{List, [], _∷_, _++_}
+use mathlib.Core.List.{[], _∷_, _++_}
 use mathlib.Core.Option.{Option, none, some}
-use Prim.Native.Nat.{ℕ, zero, suc, _+_, _≤_}
+use Prim.Native.Nat.{ℕ, _+_, _≤_}
 use native.Mathlib.Omega.{arith}
 use lib.Dec.{eqb}
 use lib.ListN.{length, drop, length-append, length-drop}
-use borrow.Author.Tests.{le-leb, leb-true, eqb-true}
+use borrow.Author.Tests.{le-leb, eqb-true}
 use Rattle.text.specs.Text.{Text, isNil, lastIs}
 use Rattle.text.proofs.BoolLaws.{and-l, and-r, and-no, not-true}
 use Rattle.grammar.specs.Legal.{isIdentifierStart, isIdentifierCont, isRoot, legal, fits, isEnd}
@@ -17,14 +17,15 @@ use Rattle.prefix.proofs.PrefixLaws.{prefix-rest}
 use Rattle.joining.proofs.ReplaceLaws.{replace-prefix}
 use Rattle.joining.proofs.JoinWays.{joined-length, separator-short, body-short}
 use Rattle.joining.proofs.JoinLegal.{joined-legal}
-use Rattle.pairs.specs.Pair.{Pair, sourceAt, targetAt, allShort, allEnds}
+use Rattle.pairs.specs.Pair.{allShort, allEnds}
 use Rattle.pairs.specs.Best.{best, serves}
-use Rattle.pairs.proofs.PlaceLaws.{chosen-best}
+use Rattle.pairs.proofs.PlaceLaws.{chosen-best, short-at}
 use Rattle.path.specs.declared.Refusal.the-variants.{NoPath}
 use Rattle.path.specs.Outcome.{refused, made, given}
 use Rattle.maps.specs.Map.{Map, source, target, size, chosenOut, chosenHome, by, plainOut, plainHome, same, invertible}
 use Rattle.carry.specs.Quick.{joining, keeping, quickBy, quick, isNone, translateMarked, translatePair, translateBy, quickTranslate}
 use Rattle.maps.proofs.EndLaws.{ends-source, ends-target}
+use Rattle.grammar.proofs.LegalLaws.{short-fits}
 
 -- a join that is spoilt is no longer than the path: nothing but `/` stands before the rest
 hang-child : (s : Text) (a : ℕ) → (eqb a 46 || eqb a 123) ≡ true → isChild s a ≡ false
@@ -60,10 +61,6 @@ spoilt-short (c ∷ s) t (a ∷ r) n h = go (isRoot (c ∷ s)) refl
     go : (b : Bool) → isRoot (c ∷ s) ≡ b → length (joined (c ∷ s) t (a ∷ r)) ≤ length (c ∷ s) + length (a ∷ r)
     go true e = rw e (simp length-append (omega (arith, one)))
     go false e = rw (e, hang-child (c ∷ s) a hang, length-append t (cond (eqb a 47) r (a ∷ r))) (omega (arith, one, unslashed (eqb a 47) a r))
-
-short-fits : (q : Text) → length q ≤ 255 → fits q ≡ true
-unfolding fits
-short-fits q h = le-leb (length q) 255 h
 
 -- the join of ends that the code makes, with questions 7 and 8 as they are asked
 joining-made : (s t p : Text) → isEnd s ≡ true → isNil s ≡ false → isEnd t ≡ true → legal p ≡ true → length p ≤ 255 → hasPrefix p s ≡ true
@@ -131,14 +128,6 @@ unfolding given invertible
 no-pair m i = refl
 
 -- translation of a path without selections
-shorts : (l : List Pair) → allShort l ≡ true → (i : ℕ) → (length (sourceAt l i) ≤ 255) × (length (targetAt l i) ≤ 255)
-unfolding allShort
-shorts [] e i = (omega arith, omega arith)
-shorts (x ∷ l) e zero =
-    let a : (fits (x .source) && fits (x .target)) ≡ true = and-l (fits (x .source) && fits (x .target)) (allShort l) e in
-    (leb-true (length (x .source)) 255 (and-l (fits (x .source)) (fits (x .target)) a), leb-true (length (x .target)) 255 (and-r (fits (x .source)) (fits (x .target)) a))
-shorts (x ∷ l) e (suc i) = shorts l (and-r (fits (x .source) && fits (x .target)) (allShort l) e) i
-
 joined-short : (s t r : Text) → length t ≤ 255 → length r ≤ 255 → length (joined s t r) ≤ 512
 joined-short s t r h k = rw (joined-length s t r) (omega (arith, separator-short s t r, body-short s r))
 
@@ -163,7 +152,7 @@ module _ (m : Map) (p : Text) (em : allEnds (m .pairs) ≡ true) (sm : allShort 
     pair =
         rw (
           replace-prefix p (source m i) (target m i) h,
-          le-leb (length j) 512 (joined-short (source m i) (target m i) (drop (length (source m i)) p) (shorts (m .pairs) sm i .1) rest-short),
+          le-leb (length j) 512 (joined-short (source m i) (target m i) (drop (length (source m i)) p) (short-at (m .pairs) sm i .1) rest-short),
         )
         (go (same (some i) (chosenHome m j)))
       where

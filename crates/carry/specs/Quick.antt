@@ -12,7 +12,8 @@ use Rattle.path.specs.declared.Refusal.the-variants.{NoPath, MadeTooLong, MadeI
 use Rattle.path.specs.Outcome.{Outcome, path, refused}
 use Rattle.maps.specs.Map.{Map, source, target, chosenOut, chosenHome, same}
 
--- the path made, spoilt or not: 8, then 7
+-- the path made, spoilt or not. 8 stands before 7 here: where the questions passed, a spoilt path is no longer than the path that it was
+-- made of, so that it is never both (proofs/QuickLaws.antt)
 abbrev pub finished : Bool → Text → Outcome
 finished spoilt q = cond spoilt (refused MadeIllegal) (cond (fits q) (path q) (refused MadeTooLong))
 

@@ -7,7 +7,6 @@ use Prim.Native.Nat.{ℕ, suc, _+_, _-_, _≤_, _<_}
 use native.Mathlib.Omega.{arith}
 use native.Mathlib.Numerals.{add-one}
 use lib.ListN.{length, take, length-take}
-use borrow.Author.Tests.{leb-true}
 use Rattle.text.specs.Text.{Text, placed}
 use Rattle.text.proofs.WriteLaws.{placed-first, read-back}
 use Rattle.grammar.specs.Legal.{legal, fits}
@@ -21,6 +20,7 @@ use Rattle.chaining.specs.declared.steps.Step.{Step}
 use Rattle.chaining.specs.declared.steps.Step.the-variants.{Still, Made, Refused}
 use Rattle.chaining.specs.Chain.{nearest, tried, next, Chained, chained, stopped, goingOn, chainFor, chain}
 use Rattle.chaining.specs.Search.{stepOf, stepMemory}
+use Rattle.grammar.proofs.LegalLaws.{fits-short}
 
 -- a text at the beginning of memory is read back
 pub first-back : (t out : Text) → length t ≤ length out → take (length t) (placed 0 t out) ≡ t
@@ -29,10 +29,6 @@ first-back t out h = rw (placed-first t out h) (read-back t out)
 pub made-passed : (q : Text) → fits q ≡ true → legal q ≡ true → made q ≡ path q
 unfolding made
 made-passed q a b = rw (a, b)
-
-fits-short : (q : Text) → fits q ≡ true → length q ≤ 255
-unfolding fits
-fits-short q a = leb-true (length q) 255 a
 
 pub made-short : (q : Text) → made q ≡ path q → length q ≤ 255
 unfolding made

@@ -1,3 +1,4 @@
+-- The definitions of this crate.
 pub mod Chain
 pub mod Search
 pub mod Calls

@@ -1,4 +1,4 @@
--- What the code keeps on its way to a chain's end.
+-- How the code goes along a chain: what it has found, what one replacement comes to, and what memory of its own then holds.
 use Prim.Native.Nat.{ℕ, _≤_}
 use mathlib.Core.Bool.{Bool, true, not, cond, _&&_, _||_}
 use mathlib.Core.Option.{Option, none, some}
@@ -17,7 +17,7 @@ use Rattle.chaining.specs.Chain.{Chained, chained, stopped}
 abbrev pub skipOf : Bool → Text → Option Text
 skipOf skips skipped = cond skips (some skipped) none
 
--- whether a pair was chosen, its place and the bytes of its source
+-- the place of the pair that was found, where one was
 abbrev pub chosenOf : Longest → Option ℕ
 chosenOf f = cond (f .found) (some (f .at)) none
 

@@ -1,4 +1,4 @@
-// Two maps as one.
+// Document 01's `compose`: two maps as one, behind the questions.
 ghost use mathlib.Core.Path.{_≡_};
 ghost use mathlib.Core.Bool.{true};
 ghost use Prim.Native.Nat.{_+_, _*_, _≤_};

@@ -1,4 +1,4 @@
-// A map with its class deepened to a path.
+// Document 01's `deepen_to`: a map with its class deepened to a path, behind the questions.
 ghost use mathlib.Core.Path.{_≡_};
 ghost use mathlib.Core.Bool.{true, false};
 ghost use mathlib.Core.List.{_++_};

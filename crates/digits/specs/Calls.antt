@@ -1,4 +1,4 @@
--- What the functions answer and leave in lent memory.
+-- What `decode` and `encode` answer, and what they leave in lent memory.
 use Prim.Native.Nat.{ℕ}
 use mathlib.Core.Bool.{Bool, true, false, cond, _&&_}
 use mathlib.Core.List.{[], _∷_}

@@ -11,7 +11,7 @@ use lib.Seq.{take-add}
 use borrow.Author.Tests.{le-leb, lt-leb, leb-true, leb-false, lt-ltb, le-ltb, ltb-true}
 use Rattle.text.specs.Text.{Text, over, placed}
 use Rattle.text.proofs.BoolLaws.{and-l, and-r, and-no}
-use Rattle.text.proofs.WriteLaws.{rest-whole}
+use Rattle.text.proofs.WriteLaws.{rest-whole, over-none}
 use Rattle.listing.proofs.WriteWays.{over-over}
 use Rattle.lines.specs.Lines.{Line}
 use Rattle.lines.specs.Blocks.{fed, said}
@@ -22,7 +22,7 @@ use Rattle.memory.specs.Memory.{Memory, turnIn}
 use Rattle.answering.specs.Answer.{longest, roomAt}
 use Rattle.feeding.specs.Feed.{At, turnOf, goesOn, feedFrom, feedOf}
 use Rattle.feeding.specs.Claims.{machine, mostOf, fedIn, saidIn, Feeds, again}
-use Rattle.feeding.proofs.TurnWays.{from, turn-from, over-nil, Goes, turned}
+use Rattle.feeding.proofs.TurnWays.{from, turn-from, Goes, turned}
 
 -- the turn that comes next
 abbrev pub nextTurn : Text → At → At
@@ -141,7 +141,7 @@ over-then at s t out h =
 -- no bytes
 goes-none : (a : At) → Goes [] a a
 unfolding fed said
-goes-none a = record { state = refl; wrote = over-nil (a .end) (a .out); ends = omega arith; line = refl }
+goes-none a = record { state = refl; wrote = over-none (a .end) (a .out); ends = omega arith; line = refl }
 
 -- one part after another
 goes-then : {a a₁ a₂ : At} {s s′ : Text} → a₂ .end ≤ length (a .out) → Goes s a a₁ → Goes s′ a₁ a₂ → Goes (s ++ s′) a a₂

@@ -7,7 +7,7 @@ use native.Mathlib.Nat.{zero-add}
 use native.Mathlib.Numerals.{add-one}
 use native.Mathlib.Omega.{arith}
 use lib.Dec.{ltb}
-use lib.ListN.{length, take, take-append-drop}
+use lib.ListN.{length, take}
 use lib.Seq.{take-all, length-take-le}
 use borrow.Author.Tests.{le-leb, ltb-true, ltb-false}
 use Rattle.text.specs.Text.{Text, over}
@@ -24,6 +24,7 @@ use Rattle.answering.specs.Answer.{memoryAfter as answeredMemory, outAfter, end
 use Rattle.feeding.specs.Feed.{At, afterTaken, turnOf}
 use Rattle.feeding.specs.Claims.{machine, mostOf, fedIn, saidIn}
 use Rattle.feeding.proofs.AnswerLaws.{answer-fits}
+use Rattle.text.proofs.WriteLaws.{over-none}
 
 -- `turn`
 module _ (block line line′ : Text) (len end : ℕ) (out : Text) (m : Memory) (t : Taken) (e : t ≡ takenOf block len (length line)) (w : line′ ≡ takenMemory block len line) where
@@ -66,10 +67,6 @@ turn-from rest a = go (takenOf rest (a .len) (length (a .line))) (takenMemory re
 pub line-new : (mem : Text) → lineAt 0 mem ≡ text []
 unfolding lineAt
 line-new mem = rw (le-leb 0 (mostIn (length mem)) (omega arith))
-
--- nothing is written
-pub over-nil : (at : ℕ) (out : Text) → out ≡ over at [] out
-over-nil at out = let z : at + 0 ≡ at = omega arith in rw z (sym (take-append-drop at out))
 
 -- the bytes s take the machine from one place to another, and their answers are written behind the others
 pub record Goes (s : Text) (a a′ : At) : Type 0 where
@@ -154,7 +151,7 @@ module _ (rest : Text) (a : At) where
         further = λ z. omega (arith, u, z);
         goes = record {
           state = f;
-          wrote = over-nil (a .end) (a .out) ∙ ap (λ (x : Text). over (a .end) x (a .out)) (sym s);
+          wrote = over-none (a .end) (a .out) ∙ ap (λ (x : Text). over (a .end) x (a .out)) (sym s);
           ends = omega (arith, ap length s);
           line = kept-length;
         };

@@ -1,4 +1,4 @@
--- What was read in a frame stands for that frame, and lies within it.
+-- What was read in a frame stands for that frame, and lies within it. Assumes nothing.
 use mathlib.Core.Path.{_≡_, refl, sym, ap, _∙_}
 use mathlib.Core.Bool.{Bool, true, false, cond}
 use mathlib.Core.List.{[], _∷_}

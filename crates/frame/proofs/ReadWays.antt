@@ -15,6 +15,7 @@ use Rattle.protocol.specs.Frame.{Frame, pair, statuses, close-map, close-reloca
 use Rattle.frame.specs.declared.Read.{Read}
 use Rattle.frame.specs.declared.Read.the-variants.{Pair, Statuses, CloseMap, CloseRelocates, Out, Home, Count, Bad}
 use Rattle.frame.specs.Read.{readOf, aloneOf}
+use Rattle.text.proofs.TextLaws.{nil-length}
 
 -- fewer than two bytes hold no length
 too-few : (x : Text) → length x < 2 → firstField x ≡ none
@@ -53,10 +54,6 @@ not-nil : (x : Text) → 0 < length x → isNil x ≡ false
 not-nil [] h = absurd (omega arith)
 not-nil (a ∷ x) h = refl
 
-is-nil : (x : Text) → length x ≡ 0 → isNil x ≡ true
-is-nil [] h = refl
-is-nil (a ∷ x) h = absurd (omega arith)
-
 -- a target that does not fill the frame, and one that does
 not-filled : (s : Text) (m : ℕ) (x : Text) → length x ≢ m → none ≡ endsWith s (field m x)
 not-filled s m x k = go (leb m (length x)) refl
@@ -70,7 +67,7 @@ not-filled s m x k = go (leb m (length x)) refl
 filled : (s : Text) (m : ℕ) (x : Text) → length x ≡ m → some (pair s (take m x)) ≡ endsWith s (field m x)
 filled s m x k =
     rw (le-leb m (length x) (omega (arith, k)))
-    (sym (ap (λ (b : Bool). cond b (some (pair s (take m x))) none) (is-nil (drop m x) (rw (length-drop m x) (omega (arith, k))))))
+    (sym (ap (λ (b : Bool). cond b (some (pair s (take m x))) none) (nil-length (drop m x) (rw (length-drop m x) (omega (arith, k))))))
 
 -- the number that two bytes of a frame stand for
 abbrev numberAt : Text → ℕ → ℕ

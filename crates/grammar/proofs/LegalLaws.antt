@@ -2,13 +2,14 @@
 use mathlib.Core.Path.{_≡_, refl, sym, ap, _∙_}
 use mathlib.Core.Bool.{Bool, true, false, not, cond, _&&_, true≢false, false≢true}
 use mathlib.Core.List.{[], _∷_}
-use Prim.Native.Nat.{ℕ}
+use Prim.Native.Nat.{ℕ, _≤_}
 use lib.Dec.{eqb}
-use borrow.Author.Tests.{eqb-true}
+use borrow.Author.Tests.{eqb-true, leb-true, le-leb}
 use Rattle.text.specs.Text.{Text, lastIs, lacks}
 use Rattle.text.proofs.BoolLaws.{and-l, and-r, not-true}
-use Rattle.grammar.specs.Legal.{State, Slash, Name, Opened, Set, Equals, Sel, Closed, Dot, Prop, Dead, isIdentifierStart, isIdentifierCont, step, run, accept, isRoot, legal, isEnd}
+use Rattle.grammar.specs.Legal.{State, Slash, Name, Opened, Set, Equals, Sel, Closed, Dot, Prop, Dead, isIdentifierStart, isIdentifierCont, step, run, accept, isRoot, legal, isEnd, fits}
 use Rattle.grammar.proofs.RunLaws.{run-dead}
+use lib.ListN.{length}
 
 -- a legal text but `/` does not end in a slash
 slash-ends : (s : State) → accept (step s 47) ≡ false
@@ -108,6 +109,10 @@ pub end-lacks : (s : Text) → isEnd s ≡ true → lacks 123 s ≡ true
 unfolding isEnd
 end-lacks s e = and-l (lacks 123 s) (lacks 46 s) (and-r (legal s) (lacks 123 s && lacks 46 s) e)
 
+pub end-undotted : (s : Text) → isEnd s ≡ true → lacks 46 s ≡ true
+unfolding isEnd
+end-undotted s e = and-r (lacks 123 s) (lacks 46 s) (and-r (legal s) (lacks 123 s && lacks 46 s) e)
+
 free-close : (s : Text) → legal s ≡ true → lacks 123 s ≡ true → lastIs 125 s ≡ false
 unfolding legal lastIs lacks
 free-close [] e f = refl
@@ -117,6 +122,20 @@ free-close (a ∷ b ∷ r) e f =
 
 pub end-close : (s : Text) → isEnd s ≡ true → lastIs 125 s ≡ false
 end-close s e = free-close s (end-legal s e) (end-lacks s e)
+
+-- texts of at most 255 bytes
+pub fits-short : (p : Text) → fits p ≡ true → length p ≤ 255
+unfolding fits
+fits-short p h = leb-true (length p) 255 h
+
+pub short-fits : (p : Text) → length p ≤ 255 → fits p ≡ true
+unfolding fits
+short-fits p h = le-leb (length p) 255 h
+
+-- a byte that may begin a name may go on with it
+pub start-cont : (a : ℕ) → isIdentifierStart a ≡ true → isIdentifierCont a ≡ true
+unfolding isIdentifierCont
+start-cont a h = rw h
 
 -- the root, and texts put together
 pub root-is : (s : Text) → isRoot s ≡ true → s ≡ 47 ∷ []

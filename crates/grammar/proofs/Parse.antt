@@ -10,6 +10,7 @@ use Rattle.text.specs.Text.{Text}
 use Rattle.grammar.specs.Legal.{State, Slash, Name, Opened, Set, Equals, Sel, Closed, Dot, Prop, Dead, isIdentifierStart, isIdentifierCont, step, run, accept}
 use Rattle.grammar.specs.Grammar as g
 use Rattle.grammar.specs.Grammar.{allCont, nameText, wordText, selectionText, selectionsText, primText, joint, primsText, moreText, propertyText, render}
+use Rattle.grammar.proofs.RunLaws.{dead-refuses}
 
 -- the rest of a name
 record Tail : Type 0 where
@@ -80,11 +81,6 @@ prims-text n x = go (x .rest)
 selection-text : (s : g.Selection) (y : Text) → selectionText s ++ y ≡ 123 ∷ (nameText (s .variantSet) ++ (61 ∷ (wordText (s .variant) ++ (125 ∷ y))))
 unfolding selectionText
 selection-text s y = simp append-assoc
-
-dead : (r : Text) → accept (run Dead r) ≡ true → ⊥
-unfolding run step accept
-dead [] e = false≢true e
-dead (a ∷ r) e = dead r e
 
 -- the rest r was read from the state t
 abbrev Later : Text → State → Type 0
@@ -160,7 +156,7 @@ module _ (a : ℕ) (r : Text) where
   on-slash : (b : Bool) → isIdentifierStart a ≡ b → Later r Name → accept (run (cond b Name Dead) r) ≡ true → Found Slash (a ∷ r)
   unfolding text head-of nameText
   on-slash true h f e = let w : Found Name r = f e in record { what = (head-of a h (w .what .0), w .what .1); same = put a (w .same) }
-  on-slash false h f e = absurd (dead r e)
+  on-slash false h f e = absurd (dead-refuses r e)
 
   on-name : (b c d k : Bool) → isIdentifierCont a ≡ b → eqb a 47 ≡ c → eqb a 123 ≡ d → eqb a 46 ≡ k → Later r Name → Later r Slash → Later r Opened → Later r Dot
       → accept (run (cond b Name (cond c Slash (cond d Opened (cond k Dot Dead)))) r) ≡ true → Found Name (a ∷ r)
@@ -179,29 +175,29 @@ module _ (a : ℕ) (r : Text) where
   on-name false false false true h i j l name slash opened dot e =
       let w : Found Dot r = dot e in
       record { what = (no-more, with-property (w .what .0) (w .what .1)); same = property-name (w .what .0) (w .what .1) ∙ put-at a 46 l (w .same) }
-  on-name false false false false h i j l name slash opened dot e = absurd (dead r e)
+  on-name false false false false h i j l name slash opened dot e = absurd (dead-refuses r e)
 
   on-opened : (b : Bool) → isIdentifierStart a ≡ b → Later r Set → accept (run (cond b Set Dead) r) ≡ true → Found Opened (a ∷ r)
   unfolding text head-of nameText
   on-opened true h f e = let w : Found Set r = f e in record { what = (head-of a h (w .what .0), w .what .1, w .what .2); same = put a (w .same) }
-  on-opened false h f e = absurd (dead r e)
+  on-opened false h f e = absurd (dead-refuses r e)
 
   on-set : (b c : Bool) → isIdentifierCont a ≡ b → eqb a 61 ≡ c → Later r Set → Later r Equals → accept (run (cond b Set (cond c Equals Dead)) r) ≡ true → Found Set (a ∷ r)
   unfolding text no-more one-more
   on-set true c h i f k e = let w : Found Set r = f e in record { what = (one-more a h (w .what .0), w .what .1, w .what .2); same = put a (w .same) }
   on-set false true h i f k e = let w : Found Equals r = k e in record { what = (no-more, w .what .0, w .what .1); same = put-at a 61 i (w .same) }
-  on-set false false h i f k e = absurd (dead r e)
+  on-set false false h i f k e = absurd (dead-refuses r e)
 
   on-equals : (b : Bool) → isIdentifierCont a ≡ b → Later r Sel → accept (run (cond b Sel Dead) r) ≡ true → Found Equals (a ∷ r)
   unfolding text word-of wordText
   on-equals true h f e = let w : Found Sel r = f e in record { what = (word-of a h (w .what .0), w .what .1); same = put a (w .same) }
-  on-equals false h f e = absurd (dead r e)
+  on-equals false h f e = absurd (dead-refuses r e)
 
   on-sel : (b c : Bool) → isIdentifierCont a ≡ b → eqb a 125 ≡ c → Later r Sel → Later r Closed → accept (run (cond b Sel (cond c Closed Dead)) r) ≡ true → Found Sel (a ∷ r)
   unfolding text no-more one-more
   on-sel true c h i f k e = let w : Found Sel r = f e in record { what = (one-more a h (w .what .0), w .what .1); same = put a (w .same) }
   on-sel false true h i f k e = let w : Found Closed r = k e in record { what = (no-more, w .what); same = put-at a 125 i (w .same) }
-  on-sel false false h i f k e = absurd (dead r e)
+  on-sel false false h i f k e = absurd (dead-refuses r e)
 
   on-closed : (b c d : Bool) → isIdentifierStart a ≡ b → eqb a 123 ≡ c → eqb a 46 ≡ d → Later r Name → Later r Opened → Later r Dot
       → accept (run (cond b Name (cond c Opened (cond d Dot Dead))) r) ≡ true → Found Closed (a ∷ r)
@@ -218,18 +214,18 @@ module _ (a : ℕ) (r : Text) where
   on-closed false false true h i j name opened dot e =
       let w : Found Dot r = dot e in
       record { what = with-property (w .what .0) (w .what .1); same = property-selection (w .what .0) (w .what .1) ∙ put-at a 46 j (w .same) }
-  on-closed false false false h i j name opened dot e = absurd (dead r e)
+  on-closed false false false h i j name opened dot e = absurd (dead-refuses r e)
 
   on-dot : (b : Bool) → isIdentifierStart a ≡ b → Later r Prop → accept (run (cond b Prop Dead) r) ≡ true → Found Dot (a ∷ r)
   unfolding text head-of nameText
   on-dot true h f e = let w : Found Prop r = f e in record { what = (head-of a h (w .what .0), w .what .1); same = put a (w .same) }
-  on-dot false h f e = absurd (dead r e)
+  on-dot false h f e = absurd (dead-refuses r e)
 
   on-prop : (b c : Bool) → isIdentifierCont a ≡ b → eqb a 58 ≡ c → Later r Prop → Later r Dot → accept (run (cond b Prop (cond c Dot Dead)) r) ≡ true → Found Prop (a ∷ r)
   unfolding text no-more one-more moreText
   on-prop true c h i f k e = let w : Found Prop r = f e in record { what = (one-more a h (w .what .0), w .what .1); same = put a (w .same) }
   on-prop false true h i f k e = let w : Found Dot r = k e in record { what = (no-more, w .what .0 ∷ w .what .1); same = put-at a 58 i (w .same) }
-  on-prop false false h i f k e = absurd (dead r e)
+  on-prop false false h i f k e = absurd (dead-refuses r e)
 
 parse : (s : State) (r : Text) → accept (run s r) ≡ true → Found s r
 unfolding run step accept text behindName behindSelection follow no-more nothing selectionsText propertyText moreText
@@ -255,7 +251,7 @@ parse Closed (a ∷ r) e =
     on-closed a r (isIdentifierStart a) (eqb a 123) (eqb a 46) refl refl refl (λ h. parse Name r h) (λ h. parse Opened r h) (λ h. parse Dot r h) e
 parse Dot (a ∷ r) e = on-dot a r (isIdentifierStart a) refl (λ h. parse Prop r h) e
 parse Prop (a ∷ r) e = on-prop a r (isIdentifierCont a) (eqb a 58) refl refl (λ h. parse Prop r h) (λ h. parse Dot r h) e
-parse Dead (a ∷ r) e = absurd (dead r e)
+parse Dead (a ∷ r) e = absurd (dead-refuses r e)
 
 -- what is accepted behind the first slash
 pub body : (r : Text) → accept (run Slash r) ≡ true → g.Written (47 ∷ r)

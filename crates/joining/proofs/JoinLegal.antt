@@ -10,7 +10,7 @@ use Rattle.text.proofs.BoolLaws.{and-l, and-r, and-no, and-yes, or-right, or-fa
 use Rattle.text.proofs.TextLaws.{lacks-first, lacks-rest}
 use Rattle.grammar.specs.Legal.{State, Slash, Name, Dead, isIdentifierStart, isIdentifierCont, step, run, accept, isRoot, legal, isEnd}
 use Rattle.grammar.proofs.RunLaws.{run-app, run-dead}
-use Rattle.grammar.proofs.LegalLaws.{end-legal, end-lacks, end-close, root-is}
+use Rattle.grammar.proofs.LegalLaws.{end-legal, end-lacks, end-close, root-is, end-undotted}
 use Rattle.prefix.specs.Prefix.{follows}
 use Rattle.joining.specs.Join.{joined, spoils, JoinedLegal}
 use Rattle.joining.proofs.JoinLaws.{stem, stem-root, stem-not, joined-none, joined-root, joined-slash, joined-other}
@@ -43,15 +43,11 @@ accepts-name slash e = absurd (false≢true e)
 accepts-name name e = refl
 accepts-name dead e = absurd (false≢true e)
 
-end-lacks-dot : (s : Text) → isEnd s ≡ true → lacks 46 s ≡ true
-unfolding isEnd
-end-lacks-dot s e = and-r (lacks 123 s) (lacks 46 s) (and-r (legal s) (lacks 123 s && lacks 46 s) e)
-
 -- behind a prim path the reader is in a name
 in-name : (a b : ℕ) (x : Text) → isEnd (a ∷ b ∷ x) ≡ true → accept (run Slash (b ∷ x)) ≡ true → run Slash (b ∷ x) ≡ Name
 in-name a b x e h =
     let s : Text = a ∷ b ∷ x in
-    accepts-name (reads-plain slash (b ∷ x) (lacks-rest 123 a (b ∷ x) (end-lacks s e)) (lacks-rest 46 a (b ∷ x) (end-lacks-dot s e))) h
+    accepts-name (reads-plain slash (b ∷ x) (lacks-rest 123 a (b ∷ x) (end-lacks s e)) (lacks-rest 46 a (b ∷ x) (end-undotted s e))) h
 
 pub behind-end : (s y : Text) → isEnd s ≡ true → isNil s ≡ false → isRoot s ≡ false → legal (s ++ y) ≡ accept (run Name y)
 unfolding legal

@@ -6,7 +6,7 @@ use Prim.Native.Nat.{ℕ, zero, suc, _+_, _*_, _/_, _≤_, _<_}
 use native.Mathlib.Omega.{arith}
 use native.Mathlib.Decide.{ℕ-discrete}
 use lib.Dec.{eqb, leb}
-use lib.ListN.{length, getD, take, drop, replicate, length-append, length-take, length-drop, length-replicate}
+use lib.ListN.{length, getD, take, drop, replicate, length-append, length-drop, length-replicate}
 use lib.Seq.{length-take-le, getD-drop}
 use borrow.Author.Tests.{eqb-true, eq-eqb, ne-eqb, le-leb, leb-true, leb-false}
 use Rattle.text.specs.Text.{Text, over}
@@ -34,6 +34,7 @@ use Rattle.legs.proofs.RouteLaws.{route-few, route-sound}
 use Rattle.laying.specs.Laid.{mapAt, Laid, LaidIfPassed}
 use Rattle.laying.specs.Laying.{activeList, pickedFrom, legPicks, legBlock, mapKind, legNumbers, laidPlaces, laidTable, canLay, placesAfter, tableAfter}
 use Rattle.laying.proofs.LaidLaws.{plain-leg}
+use Rattle.text.proofs.WriteLaws.{over-length}
 
 -- the map that is laid for leg k: none of its pairs where question 4 refuses its list
 unfoldable pub laidMap : LentRoute → ℕ → Map
@@ -154,9 +155,6 @@ unfolding legMap legOf fromParts
 leg-mark zero l = refl
 leg-mark (suc zero) l = refl
 leg-mark (suc (suc k)) l = rw (ne-eqb (suc (suc k)) 0 (λ (z : suc (suc k) ≡ 0). omega arith)) (sym (ap (λ (m : Map). m .mark) (relocate-parts l)))
-
-over-length : (at : ℕ) (v l : List ℕ) → at + length v ≤ length l → length (over at v l) ≡ length l
-over-length at v l h = simp (length-append, length-take, length-drop) (omega arith)
 
 -- three numbers of leg k, in a table that has room for them
 module _ (table : List ℕ) (k a b c : ℕ) (h : 3 * k + 3 ≤ length table) where

@@ -1,7 +1,7 @@
 -- What a route that passed questions 1 to 4 is. Assumes nothing.
 use mathlib.Core.Path.{_≡_, refl, sym, ap, _∙_}
 use mathlib.Core.Bool.{Bool, true, false, cond, _&&_}
-use mathlib.Core.List.{List, [], _∷_, _++_}
+use mathlib.Core.List.{List, [], _∷_}
 use Prim.Native.Nat.{ℕ, zero, suc, _/_, _≤_, _<_}
 use native.Mathlib.Omega.{arith}
 use native.Mathlib.Decide.{ℕ-discrete}
@@ -20,9 +20,10 @@ use Rattle.path.specs.Calls.{newCall}
 use Rattle.asking.specs.Asking.{Lent, pairsOf, listFits, listAll, listCounts, every, firstNo, asked, earlierOf}
 use Rattle.asking.proofs.EarlierLaws.{never, none-earlier, each, list-more}
 use Rattle.asking.proofs.PassLaws.{Sound, lists-pass, first-sound, text-short, text-legal}
-use Rattle.route.specs.Leg.{Leg, legEnds}
+use Rattle.route.specs.Leg.{legEnds}
 use Rattle.route.specs.Route.{routeEnds}
 use Rattle.legs.specs.Lent.{LentRoute, kindAt, listAt, legOf, legAt, legsIn, listsIn, present, legsCount, routeAsked}
+use Rattle.route.proofs.RouteLaws.{legs-more}
 
 -- the number of legs is asked last, as the number of pairs is
 counted-last : (a b c d t : Bool) → unless (firstNo a b c d) Refused (cond t Passed (Refused TooMany)) ≡ firstNo a b c (t && d)
@@ -96,16 +97,11 @@ leg-ends zero l h = h
 leg-ends (suc zero) l h = h
 leg-ends (suc (suc k)) l h = h
 
-ends-more : (xs : List Leg) (x : Leg) → routeEnds xs ≡ true → legEnds x ≡ true → routeEnds (xs ++ x ∷ []) ≡ true
-unfolding routeEnds
-ends-more [] x h e = rw e
-ends-more (y ∷ xs) x h e = rw (and-l (legEnds y) (routeEnds xs) h) (ends-more xs x (and-r (legEnds y) (routeEnds xs) h) e)
-
 legs-end : (r : LentRoute) (n : ℕ) → ((k : ℕ) → k < n → Sound (listAt r k)) → routeEnds (legsIn r n) ≡ true
 unfolding legsIn legAt routeEnds
 legs-end r zero s = refl
 legs-end r (suc n) s =
-    ends-more (legsIn r n) (legAt r n) (legs-end r n (λ k h. s k (omega arith)))
+    legs-more (legsIn r n) (legAt r n) (legs-end r n (λ k h. s k (omega arith)))
     (leg-ends (kindAt (r .legs) n) (pairsOf (listAt r n)) ((s n (omega arith)) .ends))
 
 pub route-ends : (r : LentRoute) (ts : List Text) → routeAsked r ts ≡ Passed → routeEnds (legsIn r (r .count)) ≡ true

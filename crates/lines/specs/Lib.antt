@@ -1,3 +1,4 @@
+-- The definitions of this crate.
 pub mod Lines
 pub mod Blocks
 pub mod Taking

@@ -11,7 +11,7 @@ use Rattle.pairs.specs.Places.{pairIn, pairsIn}
 use Rattle.listing.specs.Lists.{four, copied}
 use Rattle.listing.specs.Picks.{passing, picked, pairsAt}
 use Rattle.listing.proofs.CopyLaws.{pair-same, copied-over, four-at}
-use Rattle.listing.proofs.WriteWays.{over-written}
+use Rattle.text.proofs.WriteLaws.{over-written}
 
 -- at most n of the first n pass
 pub passing-few : (passes : ℕ → Bool) (n : ℕ) → length (passing passes n) ≤ n

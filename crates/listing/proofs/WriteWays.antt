@@ -20,6 +20,7 @@ use Rattle.listing.specs.Lists.{four, copied, appendRoom, appendFit, app
 use Rattle.pairs.proofs.PlaceLaws.{pairsIn-length}
 use Rattle.pairs.proofs.ListLaws.{list-length, places-length}
 use Rattle.listing.proofs.RoomWays.{end-next, end-grows}
+use Rattle.text.proofs.WriteLaws.{over-written}
 
 -- four numbers stored one after the other, and three
 pub four-stored : (l : List ℕ) (j a b c d : ℕ) → j + 4 ≤ length l
@@ -115,9 +116,6 @@ places-snoc at (y ∷ l) x =
     let n : ℕ = at + length (y .source) + length (y .target) in
     let z : n + endBytes l ≡ at + (length (y .source) + length (y .target) + endBytes l) = omega arith in
     rw (places-snoc n l x, z) refl
-
-pub over-written : (t s out : Text) → over (length t) s (written t out) ≡ written (t ++ s) out
-over-written t s out = simp (take-append-seam, drop-append-add, drop-drop, length-append, append-assoc)
 
 -- `append_list`: behind `start` bytes of the memory o
 module _ (store : Text) (places : List ℕ) where

@@ -16,8 +16,7 @@ use Rattle.asking.specs.Asking.{Lent, lentList, pairsOf, asked}
 use Rattle.asking.proofs.PassLaws.{first-sound}
 use Rattle.maps.specs.Map.{Map}
 use Rattle.maps.specs.New.{fromParts, new, fromPair, fromPairIdentity}
-use Rattle.map_function.specs.declared.MapReply.{MapReply}
-use Rattle.map_function.specs.Made.{MapOutcome, refused, mapReply, mapBytes, mapSlots, weighed, held, asItIs, fromPartsOutcome}
+use Rattle.map_function.specs.Made.{MapOutcome, refused, weighed, held, asItIs, fromPartsOutcome}
 use Rattle.layer_offset.specs.Offset.{identity as noOffset}
 use Rattle.making.specs.Calls.{making, newCall, fromPairCall, fromPairIdentityCall}
 
@@ -28,11 +27,6 @@ module _ (a : Asked) (l : List Pair) (m : Map) (time : LayerOffset) (out : Text)
 
   pub made-passed : q ≡ Passed → making a l m time out slots ≡ weighed l m time out slots
   made-passed k = rw (← h, k) refl
-
--- what a function that makes a map answers and leaves, under another name of its outcome
-pub making-map : (o m : MapOutcome) → o ≡ m → (r : MapReply) (out out′ : Text) (slots slots′ : List ℕ)
-    → (r ≡ mapReply m) × ((out′ ≡ mapBytes m out) × (slots′ ≡ mapSlots m slots)) → (r ≡ mapReply o) × ((out′ ≡ mapBytes o out) × (slots′ ≡ mapSlots o slots))
-making-map o m e r out out′ slots slots′ w = rw e w
 
 -- a lent list that passed is held by its slice
 pub held-passed : (l : Lent) (ts es : List Text) → asked (l ∷ []) ts es ≡ Passed → (o : MapOutcome) → held l o ≡ o

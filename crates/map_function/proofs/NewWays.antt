@@ -24,8 +24,9 @@ use Rattle.maps.proofs.WeightLaws.{weight, fromParts-weight}
 use Rattle.maps.proofs.EndLaws.{fromParts-length}
 use Rattle.asking.specs.Made.{madeOf}
 use Rattle.map_function.specs.declared.MapReply.the-variants.{Made, Refused}
-use Rattle.map_function.specs.Made.{MapOutcome, map, refused, mapReply, mapBytes, mapSlots, roomFor, weighed, held, asItIs, fromPartsOutcome}
+use Rattle.map_function.specs.Made.{MapOutcome, map, refused, mapReply, mapBytes, mapSlots, roomFor, weighed, held, asItIs, fromPartsOutcome, GivesMap}
 use Rattle.canonical.proofs.KeepWays.{pairs-made}
+use Rattle.map_function.specs.declared.MapReply.{MapReply}
 
 -- what a call that makes a map answers and leaves, once its outcome is known
 pub refusing-map : (o : MapOutcome) (x : Refusal) → o ≡ refused x → (out : Text) (slots : List ℕ)
@@ -152,3 +153,8 @@ module _ (store : Text) (places : List ℕ) (n : ℕ) (mark : Bool) (time : Laye
         parts-made out′ slots′ p q =
             let z : call ≡ map (fromParts list mark) time = asked-room ∙ rw has-room refl in
             rw z (rw (count-is, mark-is) refl, (p ∙ rw (room-still, pairs-are) refl, q ∙ rw (room-still, pairs-are) refl))
+
+-- what a function that makes a map answers and leaves, under another name of its outcome
+pub gives-map : (o m : MapOutcome) → o ≡ m → (r : MapReply) (out out′ : Text) (slots slots′ : List ℕ)
+    → GivesMap m r out out′ slots slots′ → GivesMap o r out out′ slots slots′
+gives-map o m e r out out′ slots slots′ w = rw e w

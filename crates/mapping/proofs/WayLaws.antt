@@ -7,7 +7,7 @@ use lib.Dec.{leb}
 use lib.ListN.{length}
 use borrow.Author.Tests.{leb-true}
 use Rattle.text.specs.Text.{Text}
-use Rattle.grammar.specs.Legal.{legal, fits}
+use Rattle.grammar.specs.Legal.{fits}
 use Rattle.path.specs.declared.Refusal.{Refusal}
 use Rattle.path.specs.declared.Refusal.the-variants.{TooLong, Illegal, NoRoom}
 use Rattle.path.specs.declared.Asked.{Asked}
@@ -17,7 +17,7 @@ use Rattle.path.specs.Outcome.{refused}
 use Rattle.path.specs.Calls.{newCall}
 use Rattle.path.proofs.CallWays.{answered-refused, answered-short, answered-passed}
 use Rattle.parts.specs.Strip.{strip}
-use Rattle.asking.specs.Asking.{Lent, lentList, every, asked, earlierOf}
+use Rattle.asking.specs.Asking.{lentList, asked, earlierOf}
 use Rattle.asking.proofs.EarlierLaws.{never, none-earlier, one-by-one}
 use Rattle.maps.specs.Map.{Map}
 use Rattle.carry.specs.Quick.{quick, quickTranslate}
@@ -28,6 +28,7 @@ use Rattle.mapping.specs.declared.Way.the-variants.{Out, Home, Translate
 use Rattle.mapping.specs.Way.{wayCall, quickWay, afterList}
 use Rattle.mapping.proofs.HandWays.{Short, short-quick, short-translate, short-answered}
 use Rattle.mapping.proofs.CarryWays.{out-asked, home-asked, translate-asked}
+use Rattle.asking.proofs.PassLaws.{empty-asked}
 
 -- `go`
 module _ (way : Way) (m : Map) (p : Text) where
@@ -80,15 +81,10 @@ after-is-call Out store places f p room = rw (one-by-one (lentList store places 
 after-is-call Home store places f p room = rw (one-by-one (lentList store places (f .count) ∷ []) p) (sym (home-asked store places f p room))
 after-is-call Translated store places f p room = rw (one-by-one (lentList store places (f .count) ∷ []) p) (sym (translate-asked store places f p room))
 
--- the list's own questions may be put with an empty path, which passes them all
-ask-empty : (l : Lent) → asked (l ∷ []) ([] ∷ []) [] ≡ asked (l ∷ []) [] []
-unfolding asked every fits legal
-ask-empty l = refl
-
 pub call-is-after : (way : Way) (store : Text) (places : List ℕ) (f : MapFunction) (p : Text) (room : ℕ) (list : Asked)
     → list ≡ asked (lentList store places (f .count) ∷ []) ([] ∷ []) [] → wayCall way store places f p room ≡ afterList list way store places f p room
 call-is-after way store places f p room list h =
-    sym (after-is-call way store places f p room) ∙ ap (λ (a : Asked). afterList a way store places f p room) (sym (h ∙ ask-empty (lentList store places (f .count))))
+    sym (after-is-call way store places f p room) ∙ ap (λ (a : Asked). afterList a way store places f p room) (sym (h ∙ empty-asked (lentList store places (f .count))))
 
 -- every path that the calls give has at most 255 bytes
 short-way : (way : Way) (m : Map) (p : Text) → Short (quickWay way m p)

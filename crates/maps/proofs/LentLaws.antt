@@ -1,26 +1,21 @@
 -- A map in lent memory: the keys that code reads are its ends. Assumes nothing.
 use mathlib.Core.Path.{_≡_}
-use mathlib.Core.Bool.{Bool, true, false, not}
+use mathlib.Core.Bool.{Bool, true, false}
 use mathlib.Core.List.{List}
 use mathlib.Core.Option.{some}
 use Prim.Native.Nat.{ℕ, _≤_, _<_}
 use lib.ListN.{length}
-use Rattle.text.specs.Text.{Text, isNil}
-use Rattle.text.proofs.BoolLaws.{and-r}
-use Rattle.prefix.specs.Prefix.{hasPrefix}
+use Rattle.text.specs.Text.{Text}
 use Rattle.prefix.proofs.PrefixLaws.{prefix-long}
 use Rattle.pairs.specs.Places.{keyAt}
 use Rattle.pairs.specs.Best.{best, serves}
 use Rattle.pairs.proofs.PlaceLaws.{pairsIn-length, pairsIn-source, pairsIn-target, chosen-best, best-same}
 use Rattle.maps.specs.Map.{Map, lentMap, source, target, size, chosenOut, chosenHome}
+use Rattle.pairs.proofs.BestLaws.{served}
 
--- a key that serves is a prefix, and no longer than the path
-pub serves-prefix : (p k : Text) → serves p k ≡ true → hasPrefix p k ≡ true
-unfolding serves
-serves-prefix p k e = and-r (not (isNil k)) (hasPrefix p k) e
-
+-- a key that serves is no longer than the path
 pub served-long : (p k : Text) → serves p k ≡ true → length k ≤ length p
-served-long p k e = prefix-long p k (serves-prefix p k e)
+served-long p k e = prefix-long p k (served p k e)
 
 module _ (store : Text) (places : List ℕ) (n : ℕ) (mark : Bool) (p : Text) where
   abbrev key : Bool → ℕ → Text

@@ -12,17 +12,19 @@ unfoldable pub carried : Map → Pair → Pair
 unfolding plainOut
 carried outer x = record { source = x .source; target = cond (isNil (x .target)) [] (Option·getD (plainOut outer (x .target)) []) }
 
+-- some pair has this source
 unfoldable pub hasSource : List Pair → Text → Bool
 unfolding equal
 hasSource [] s = false
 hasSource (x ∷ xs) s = equal (x .source) s || hasSource xs s
 
--- each outer pair whose source goes back through the inner map to a source that is not there yet
+-- a list with the pair of s and t behind it, where there is such an s and no pair has it yet
 unfoldable pub added : List Pair → Text → Option Text → List Pair
 unfolding hasSource
 added l t none = l
 added l t (some s) = cond (hasSource l s) l (l ++ record { source = s; target = t } ∷ [])
 
+-- each outer pair whose source goes back through the inner map to a source that is not there yet
 unfoldable pub pulled : Map → List Pair → List Pair → List Pair
 unfolding added plainHome
 pulled inner l [] = l
@@ -41,6 +43,7 @@ unfoldable pub composedPairs : Map → Map → List Pair
 unfolding pulled carried
 composedPairs outer inner = pulled inner (map (carried outer) (inner .pairs)) (outer .pairs)
 
+-- Rust: compose; a side that leaves every path as it is gives the other
 unfoldable pub compose : Map → Map → Map
 unfolding composedPairs fromParts
 compose outer inner =

@@ -1,3 +1,4 @@
+-- The definitions of this crate.
 pub mod Map
 pub mod New
 pub mod Compose

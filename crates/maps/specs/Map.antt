@@ -66,7 +66,7 @@ unfolding chosenHome
 invertible m i none = none
 invertible m i (some q) = cond (same i (chosenHome m q)) (some q) none
 
--- Rust: translate_to_target, which "strips selections, maps, then" asks that
+-- Rust: translate_to_target, which "strips selections, maps, then" asks that. OpenUSD: PcpTranslatePathFromNodeToRoot.
 unfoldable pub translated : Map → Text → Option Text
 unfolding invertible chosenOut plainOut strip
 translated m p = invertible m (chosenOut m (strip p)) (plainOut m (strip p))

@@ -23,8 +23,9 @@ use Rattle.holding.proofs.OpenedLaws.{opened}
 use Rattle.protocol.specs.State.{State, refuses, takesPair, added, adds}
 use Rattle.memory.specs.Memory.{Memory, addAfter, addIn}
 use Rattle.memory.specs.Means.{Large, Means, Alike}
-use Rattle.memory.proofs.PieceLaws.{over-length}
 use Rattle.memory.proofs.OpenLaws.{short-bytes}
+use Rattle.text.proofs.WriteLaws.{over-length}
+use Rattle.grammar.proofs.LegalLaws.{short-fits}
 
 module _ (m : Memory) (st : State) (g : Means m st) (s t : Text) where
   abbrev k : ℕ
@@ -78,7 +79,7 @@ module _ (m : Memory) (st : State) (g : Means m st) (s t : Text) where
       opened = opened .grows (st .opened) (m .kept .opened) (m .bytes) (m .places) s t (g .opened) (add-asked ∙ rw (e, h) refl);
       ends = every-snoc isEnd (st .opened) (pair s t) (g .ends) (text-end [] two s (t ∷ []) e) (second-end [] two s t [] e);
       short =
-          every-snoc fits (st .opened) (pair s t) (g .short) (fits-short s (text-short [] s (t ∷ []) two e)) (fits-short t (second-short [] s t [] two e));
+          every-snoc fits (st .opened) (pair s t) (g .short) (short-fits s (text-short [] s (t ∷ []) two e)) (short-fits t (second-short [] s t [] two e));
       legs = g .legs;
       used = g .used;
       answered = g .answered;
@@ -89,9 +90,6 @@ module _ (m : Memory) (st : State) (g : Means m st) (s t : Text) where
       };
       large = still-large;
     }
-      where
-        fits-short : (p : Text) → length p ≤ 255 → fits p ≡ true
-        fits-short p l = le-leb (length p) 255 l
 
   pub same-add : Alike (addIn m s t) (adds st s t)
   unfolding addIn adds addBytes addPlaces

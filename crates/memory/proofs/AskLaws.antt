@@ -13,7 +13,7 @@ use Rattle.grammar.specs.Legal.{legal, isEnd}
 use Rattle.grammar.proofs.LegalLaws.{end-legal}
 use Rattle.pairs.specs.Pair.{Pair, sourceAt, targetAt, allEnds}
 use Rattle.pairs.specs.Places.{startAt, lengthAt, inside, textAt, listPlaces, fourOf, endBytes, fitsAt, placesFit, placesAll}
-use Rattle.pairs.proofs.PlaceLaws.{pairsIn-source, pairsIn-target}
+use Rattle.pairs.proofs.PlaceLaws.{pairsIn-source, pairsIn-target, short-at}
 use Rattle.path.specs.declared.Asked.the-variants.{Passed}
 use Rattle.asking.specs.Asking.{pairsOf, present, listFits, listAll, listCounts, every, firstNo, asked}
 use Rattle.holding.proofs.OpenedLaws.{opened}
@@ -21,7 +21,7 @@ use Rattle.protocol.specs.State.{State}
 use Rattle.memory.specs.Memory.{Memory, openList}
 use Rattle.memory.specs.Means.{Means}
 use Rattle.memory.proofs.PieceLaws.{stands-at}
-use Rattle.memory.proofs.OpenLaws.{ends-at, short-at, short-bytes, end-at, four-at}
+use Rattle.memory.proofs.OpenLaws.{ends-at, short-bytes, end-at, four-at}
 
 -- a test of each number below an even one
 by-twos : (all test : ℕ → Bool) → all 0 ≡ true → ((n : ℕ) → all (suc n) ≡ (all n && test n)) → (n : ℕ)

@@ -23,10 +23,10 @@ use Rattle.closing.specs.Close.{Vault, counted, closedMap, takesLeg as takesLeg
 use Rattle.protocol.specs.State.{State, refuses, takesLeg, takesBytes, closed, closes}
 use Rattle.memory.specs.Memory.{Memory, openList, vaultOf, closeAfter, closeIn}
 use Rattle.memory.specs.Means.{Large, Means, Alike}
-use Rattle.memory.proofs.PieceLaws.{over-length}
 use Rattle.memory.proofs.LegLaws.{Room, legs-more}
 use Rattle.memory.proofs.WayLaws.{in-store, legs-count}
 use Rattle.memory.proofs.AskLaws.{opened-read, list-counts}
+use Rattle.text.proofs.WriteLaws.{over-length}
 
 -- the answer to questions 4 and 5
 abbrev replied : Bool → Bool → Asked

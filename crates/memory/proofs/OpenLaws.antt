@@ -5,7 +5,6 @@ use mathlib.Core.List.{List, [], _∷_, _++_}
 use Prim.Native.Nat.{ℕ, zero, suc, _+_, _*_, _≤_, _<_}
 use native.Mathlib.Omega.{arith}
 use lib.ListN.{length, take}
-use borrow.Author.Tests.{leb-true}
 use Rattle.text.specs.Text.{Text}
 use Rattle.text.proofs.BoolLaws.{and-l, and-r}
 use Rattle.grammar.specs.Legal.{fits}
@@ -13,16 +12,13 @@ use Rattle.pairs.specs.Pair.{Pair, sourceAt, targetAt, everyEnd, allShort}
 use Rattle.pairs.specs.Places.{listPlaces, fourOf, endBytes}
 use Rattle.route.proofs.RelocateLaws.{every-at}
 use Rattle.memory.specs.Means.{Stands}
+use Rattle.pairs.proofs.PlaceLaws.{short-at}
 
 -- a test that every end passes, and so does the empty text
 pub ends-at : (passes : Text → Bool) → passes [] ≡ true → (l : List Pair) → everyEnd passes l ≡ true → (i : ℕ) → (passes (sourceAt l i) ≡ true) × (passes (targetAt l i) ≡ true)
 ends-at passes none l e i =
     let a : (passes (sourceAt l i) && passes (targetAt l i)) ≡ true = every-at passes none l e i in
     (and-l (passes (sourceAt l i)) (passes (targetAt l i)) a, and-r (passes (sourceAt l i)) (passes (targetAt l i)) a)
-
-pub short-at : (l : List Pair) → allShort l ≡ true → (i : ℕ) → (length (sourceAt l i) ≤ 255) × (length (targetAt l i) ≤ 255)
-unfolding allShort fits
-short-at l e i = let w = ends-at fits refl l e i in (leb-true (length (sourceAt l i)) 255 (w .0), leb-true (length (targetAt l i)) 255 (w .1))
 
 -- 510 bytes for each pair
 pub short-bytes : (l : List Pair) → allShort l ≡ true → endBytes l ≤ 510 * length l

@@ -3,16 +3,10 @@ use mathlib.Core.Path.{_≡_, sym, ap, _∙_}
 use mathlib.Core.List.{List, _++_}
 use Prim.Native.Nat.{ℕ, _+_, _-_, _≤_, _<_}
 use native.Mathlib.Omega.{arith}
-use lib.ListN.{length, getD, take, drop, length-append, length-drop, take-append-drop}
+use lib.ListN.{length, getD, take, drop, length-drop, take-append-drop}
 use lib.Seq.{length-take-le, take-append-seam, take-append-le, drop-append-le, drop-at, getD-take, getD-drop}
 use Rattle.text.specs.Text.{over}
 use Rattle.memory.specs.Means.{Stands}
-
--- writing where there is room leaves the length
-pub over-length : (b : ℕ) (t mem : List ℕ) → b + length t ≤ length mem → length (over b t mem) ≡ length mem
-over-length b t mem h =
-    let l : length (take b mem) ≡ b = length-take-le b mem (omega arith) in
-    simp (length-append, length-drop) (omega arith)
 
 -- what stands below a place does not depend on what is behind it
 module _ (mem : List ℕ) (b n at : ℕ) (h : at + n ≤ b) (r : b ≤ length mem) where

@@ -1,15 +1,17 @@
 -- What the chosen key is: of those that pass the test one with most elements, and the last such. Assumes nothing.
 use mathlib.Core.Path.{_≡_, refl, sym, _∙_}
-use mathlib.Core.Bool.{Bool, true, false, cond, _&&_, false≢true}
+use mathlib.Core.Bool.{Bool, true, false, cond, _&&_, false≢true, not}
 use mathlib.Core.Option.{Option, none, some}
 use Prim.Native.Nat.{ℕ, zero, suc, _≤_, _<_}
 use native.Mathlib.Omega.{arith}
 use native.Mathlib.Decide.{ℕ-discrete}
 use lib.Dec.{leb}
 use borrow.Author.Tests.{leb-true, leb-false}
-use Rattle.text.specs.Text.{Text}
+use Rattle.text.specs.Text.{Text, isNil}
 use Rattle.prefix.specs.Elements.{elements}
 use Rattle.pairs.specs.Best.{better, bestBy, serves, best}
+use Rattle.prefix.specs.Prefix.{hasPrefix}
+use Rattle.text.proofs.BoolLaws.{and-r}
 
 -- the key at i is the best of the first n: it passes, none that passes has more elements, and none with as many stands later
 pub record Best (passes : Text → Bool) (key : ℕ → Text) (n i : ℕ) : Type 0 where
@@ -61,3 +63,8 @@ says passes key (suc n) = go (bestBy passes key n) (says passes key n) (passes (
 pub best-says : (p : Text) (key : ℕ → Text) (n : ℕ) → Says (serves p) key n (best p key n)
 unfolding best
 best-says p key n = says (serves p) key n
+
+-- a key that serves is a prefix
+pub served : (p k : Text) → serves p k ≡ true → hasPrefix p k ≡ true
+unfolding serves
+served p k h = and-r (not (isNil k)) (hasPrefix p k) h

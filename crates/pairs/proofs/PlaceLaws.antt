@@ -14,10 +14,11 @@ use lib.Seq.{getD-append-seam}
 use Rattle.text.specs.Text.{Text}
 use Rattle.text.proofs.BoolLaws.{and-l, and-r}
 use Rattle.grammar.specs.Legal.{fits}
-use Rattle.pairs.specs.Pair.{Pair, pair, nothing, pairAt, sourceAt, targetAt, everyEnd}
+use Rattle.pairs.specs.Pair.{Pair, pair, nothing, pairAt, sourceAt, targetAt, everyEnd, allShort}
 use Rattle.pairs.specs.Places.{startAt, lengthAt, inside, textAt, pairIn, pairsIn, keyAt, fitsAt, placesFit, placesAll}
 use Rattle.pairs.specs.Best.{better, bestBy}
 use Rattle.pairs.proofs.BestLaws.{Best, Says, says}
+use Rattle.grammar.proofs.LegalLaws.{fits-short}
 
 module _ (store : Text) (places : List ℕ) where
   pub pairsIn-length : (n : ℕ) → length (pairsIn store places n) ≡ n
@@ -120,3 +121,12 @@ module _ (store : Text) (places : List ℕ) where
 pub pair-is : (store : Text) (places : List ℕ) (i : ℕ) (s t : Text) → s ≡ keyAt store places false i → t ≡ keyAt store places true i → pair s t ≡ pairIn store places i
 unfolding pairIn
 pair-is store places i s t h k = let z : 2 * i + 0 ≡ 2 * i = omega arith in rw (h, k, z)
+
+-- the ends of short pairs; behind the list there are empty ones
+pub short-at : (l : List Pair) → allShort l ≡ true → (i : ℕ) → (length (sourceAt l i) ≤ 255) × (length (targetAt l i) ≤ 255)
+unfolding allShort
+short-at [] e i = (omega arith, omega arith)
+short-at (x ∷ l) e zero =
+    let a : (fits (x .source) && fits (x .target)) ≡ true = and-l (fits (x .source) && fits (x .target)) (allShort l) e in
+    (fits-short (x .source) (and-l (fits (x .source)) (fits (x .target)) a), fits-short (x .target) (and-r (fits (x .source)) (fits (x .target)) a))
+short-at (x ∷ l) e (suc i) = short-at l (and-r (fits (x .source) && fits (x .target)) (allShort l) e) i

@@ -8,8 +8,8 @@ use native.Mathlib.Nat.{add-zero}
 use native.Mathlib.Numerals.{add-one}
 use native.Mathlib.Omega.{arith}
 use lib.Dec.{eqb}
-use lib.ListN.{length, getD, set, drop, length-append, take-append-drop, drop-of-length-le}
-use lib.Seq.{set-split, drop-cons, take-append-seam, drop-append-add, drop-drop}
+use lib.ListN.{length, getD, set, drop, length-append, drop-of-length-le}
+use lib.Seq.{set-split, drop-cons}
 use borrow.Author.Tests.{le-leb, lt-leb, ne-eqb}
 use Rattle.text.specs.Text.{Text, written, over}
 use Rattle.text.specs.declared.Fit.the-variants.{Written, Over}
@@ -17,6 +17,7 @@ use Rattle.text.proofs.BoolLaws.{told}
 use Rattle.parts.specs.Parent.{beginsBehind}
 use Rattle.parts.specs.Strip.{piece, turned, stripFrom, strip, stripFit, stripMemory}
 use Rattle.parts.proofs.StripLaws.{piece-short}
+use Rattle.text.proofs.WriteLaws.{over-written, over-none}
 
 -- `turns`
 pub turned-inside : (m : Bool) (a : ℕ) → m ≡ true → not (eqb a 125) ≡ turned m a
@@ -26,9 +27,6 @@ pub turned-outside : (m : Bool) (a : ℕ) → m ≡ false → eqb a 123 ≡ turn
 turned-outside m a h = rw h
 
 -- `emit`
-over-none : (j : ℕ) (out : Text) → out ≡ over j [] out
-over-none j out = rw (add-zero, take-append-drop)
-
 over-one : (j b : ℕ) (out : Text) → j < length out → set out j b ≡ over j (b ∷ []) out
 over-one j b out h = rw add-one (set-split out j b h)
 
@@ -92,10 +90,6 @@ strip-next : (m : Bool) (p : Text) (i : ℕ) → i < length p
     → stripFrom m (drop i p) ≡ piece m (getD p i 0) (drop (i + 1) p) ++ stripFrom (turned m (getD p i 0)) (drop (i + 1) p)
 unfolding stripFrom
 strip-next m p i h = rw add-one (ap (λ (s : Text). stripFrom m s) (drop-cons p i 0 h))
-
--- one piece behind another
-over-written : (t g out : Text) → over (length t) g (written t out) ≡ written (t ++ g) out
-over-written t g out = simp (take-append-seam, drop-append-add, drop-drop, length-append, append-assoc)
 
 module _ (p out₀ out out′ : Text) (m m′ : Bool) (i j j′ : ℕ) where
   pub sofar-on : Sofar p out₀ out m i j → i < length p → m′ ≡ turned m (getD p i 0)

@@ -12,7 +12,8 @@ use Rattle.text.specs.Text.{Text, lacks}
 use Rattle.text.proofs.BoolLaws.{and-l, and-r}
 use Rattle.grammar.specs.Legal.{State, Slash, Name, Opened, Set, Equals, Sel, Closed, Dot, Prop, Dead, isIdentifierStart, isIdentifierCont, startsName, step, run, accept}
 use Rattle.parts.specs.Parent.{beginsAt, beginsBehind, partAt, lastPart, endAt, parentLen}
-use Rattle.parts.proofs.ReadLaws.{choose, dies, closes, start-cont}
+use Rattle.parts.proofs.ReadLaws.{choose, dies, closes}
+use Rattle.grammar.proofs.LegalLaws.{start-cont}
 
 -- `none` is not `some`
 pub no-part : {k : ℕ} → none ≡ some k → ⊥

@@ -7,7 +7,7 @@ use lib.Dec.{eqb}
 use borrow.Author.Tests.{eqb-true}
 use Rattle.text.specs.Text.{Text}
 use Rattle.text.proofs.BoolLaws.{and-l, and-r}
-use Rattle.grammar.specs.Legal.{State, Slash, Name, Opened, Set, Equals, Sel, Closed, Dot, Prop, Dead, isIdentifierStart, isIdentifierCont, step, run, accept, legal}
+use Rattle.grammar.specs.Legal.{State, Slash, Name, Opened, Set, Equals, Sel, Closed, Dot, Prop, Dead, isIdentifierCont, step, run, accept, legal}
 use Rattle.grammar.proofs.RunLaws.{dead-refuses}
 
 -- a legal text is empty, or `/`, or a slash before a text that the automaton reads to its end
@@ -47,10 +47,6 @@ closes Prop r e = dies r e
 closes Dead r e = dies r e
 
 -- bytes of names
-pub start-cont : (a : ℕ) → isIdentifierStart a ≡ true → isIdentifierCont a ≡ true
-unfolding isIdentifierCont
-start-cont a h = rw h
-
 pub not-name : (a k : ℕ) → isIdentifierCont k ≡ false → isIdentifierCont a ≡ true → eqb a k ≡ false
 not-name a k n h = go (eqb a k) refl
   where

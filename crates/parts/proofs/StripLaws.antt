@@ -18,7 +18,8 @@ use Rattle.grammar.specs.Legal.{State, Slash, Name, Opened, Set, Equals, Sel, C
 use Rattle.grammar.proofs.RunLaws.{run-app}
 use Rattle.parts.specs.Parent.{beginsBehind}
 use Rattle.parts.specs.Strip.{piece, turned, stripFrom, strip, stripFit, stripMemory}
-use Rattle.parts.proofs.ReadLaws.{Shape, empty, root, below, shape, choose, dies, start-cont, not-name}
+use Rattle.parts.proofs.ReadLaws.{Shape, empty, root, below, shape, choose, dies, not-name}
+use Rattle.grammar.proofs.LegalLaws.{start-cont}
 
 -- a byte gives at most one byte
 either-short : (t : Bool) (x y : Text) → length x ≤ 1 → length y ≤ 1 → length (cond t x y) ≤ 1

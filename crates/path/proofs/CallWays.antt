@@ -9,8 +9,11 @@ use Rattle.path.specs.declared.Asked.{Asked}
 use Rattle.path.specs.declared.Asked.the-variants.{Passed, Refused as RefusedAsked}
 use Rattle.path.specs.declared.Reply.{Reply}
 use Rattle.path.specs.declared.Reply.the-variants.{Refused}
-use Rattle.path.specs.Refusal.{unless}
+use Rattle.path.specs.Refusal.{unless, allFit, allLegal, asked}
 use Rattle.path.specs.Outcome.{Outcome, refused, reply, memory, lent, answered}
+use mathlib.Core.Bool.{true}
+use Rattle.grammar.specs.Legal.{fits, legal}
+use Rattle.path.specs.Calls.{newCall}
 
 -- whatever the answer's type: a refusal goes out as it is, and a call whose questions passed is answered
 module _ {A : Type 0} (refuse : Refusal → A) (answer : A) (a q : Asked) where
@@ -51,3 +54,8 @@ refusing o x e out = rw e (refl, refl)
 
 pub answering : (o m : Outcome) → o ≡ m → (r : Reply) (out out′ : Text) → (r ≡ reply m) × (out′ ≡ memory m out) → (r ≡ reply o) × (out′ ≡ memory o out)
 answering o m e r out out′ w = rw e w
+
+-- a short and legal text passes the questions
+pub new-passed : (p : Text) → fits p ≡ true → legal p ≡ true → newCall p ≡ Passed
+unfolding newCall asked allFit allLegal
+new-passed p h l = rw (h, l)

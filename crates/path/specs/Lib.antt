@@ -1,3 +1,4 @@
+-- The definitions of this crate.
 pub mod Refusal
 pub mod Outcome
 pub mod Calls

@@ -9,10 +9,11 @@ use lib.Dec.{eqb}
 use borrow.Author.Tests.{eqb-true}
 use Rattle.text.specs.Text.{Text}
 use Rattle.text.proofs.BoolLaws.{and-l, and-r, and-no, or-false}
-use Rattle.grammar.specs.Legal.{isIdentifierStart, isIdentifierCont, startsName}
+use Rattle.grammar.specs.Legal.{isIdentifierCont, startsName}
 use Rattle.grammar.specs.Grammar as g
 use Rattle.grammar.specs.Grammar.{allCont, nameText, wordText, selectionText, selectionsText, joint, primsText, moreText, propertyText, render}
 use Rattle.prefix.specs.Elements.{count, selectionCount, primCount, pathCount, Counted}
+use Rattle.grammar.proofs.LegalLaws.{start-cont}
 
 is-not : (a b : ℕ) → isIdentifierCont a ≡ true → isIdentifierCont b ≡ false → eqb a b ≡ false
 is-not a b h k = go (eqb a b) refl
@@ -20,10 +21,6 @@ is-not a b h k = go (eqb a b) refl
     go : (t : Bool) → eqb a b ≡ t → t ≡ false
     go true e = absurd (true≢false (sym h ∙ rw (eqb-true a b e) k))
     go false e = refl
-
-start-cont : (a : ℕ) → isIdentifierStart a ≡ true → isIdentifierCont a ≡ true
-unfolding isIdentifierCont
-start-cont a h = rw h
 
 -- prims begin with a name, a property does not
 prims-start : (p : g.Prim) (r : List g.Prim) (y : Text) → startsName (primsText p r ++ y) ≡ true

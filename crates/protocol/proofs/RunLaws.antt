@@ -9,7 +9,6 @@ use lib.Dec.{leb}
 use lib.ListN.{length, length-append}
 use borrow.Author.Tests.{le-leb, lt-leb, leb-true, leb-false}
 use Rattle.text.specs.Text.{Text, lacks}
-use Rattle.text.proofs.BoolLaws.{and-l, and-r}
 use Rattle.grammar.specs.Legal.{legal, fits, isEnd}
 use Rattle.pairs.specs.Pair.{Pair, allEnds, pair as pairOf}
 use Rattle.pairs.specs.Places.{endBytes}
@@ -33,6 +32,8 @@ use Rattle.route.proofs.Theorem.{demand-3, way-next}
 use Rattle.protocol.specs.Frame.{Frame, pair, statuses, close-map, close-relocates, out, home, count}
 use Rattle.protocol.specs.State.{State, start, given, refusal, refuses, takesPair, added, adds, takesLeg, takesBytes, closed, closes, goes, answerOf, more, counts, leaves, fourBytes, turn}
 use Rattle.protocol.specs.Run.{next, after, isPath, outs, allOuts, held, Within, Claims}
+use Rattle.route.proofs.RouteLaws.{legs-more}
+use Rattle.path.proofs.CallWays.{new-passed}
 
 -- what every state of a run keeps
 record Kept (st : State) : Type 0 where
@@ -49,11 +50,6 @@ begins = record { ends = refl; leg-ends = refl; few = omega arith; within = reco
 ends-more : (l : List Pair) (x : Pair) → allEnds l ≡ true → isEnd (x .source) ≡ true → isEnd (x .target) ≡ true → allEnds (l ++ x ∷ []) ≡ true
 unfolding allEnds
 ends-more = every-snoc isEnd
-
-legs-more : (xs : List Leg) (x : Leg) → routeEnds xs ≡ true → legEnds x ≡ true → routeEnds (xs ++ x ∷ []) ≡ true
-unfolding routeEnds
-legs-more [] x e h = rw h
-legs-more (y ∷ xs) x e h = rw (and-l (legEnds y) (routeEnds xs) e) (legs-more xs x (and-r (legEnds y) (routeEnds xs) e) h)
 
 adds-keeps : (st : State) (s t : Text) → Kept st → Kept ((adds st s t) .state)
 unfolding adds
@@ -199,10 +195,6 @@ passed-whole p h = go (fits p) (legal p) h
     go true false e = absurd (let z : _≡_ {A = ℕ} 0 1 = cc in omega arith)
     go false b e = absurd (let z : _≡_ {A = ℕ} 0 1 = cc in omega arith)
 
-whole-passed : (q : Text) → PlainPath q → newCall q ≡ Passed
-unfolding newCall askedTexts allFit allLegal
-whole-passed q c = rw (c .is-short, c .is-legal)
-
 given-goes : (o : Outcome) (q : Text) → answerOf o ≡ given q → o ≡ path q
 given-goes (path t) q e = let z : t ≡ q = cc in ap path z
 given-goes (refused x) q e = absurd (let z : _≡_ {A = ℕ} 0 1 = cc in omega arith)
@@ -227,7 +219,7 @@ module _ (st : State) (k : Kept st) (p q : Text) (plain : lacks 123 p ≡ true) 
       let t = passed-whole p (w .0) in
       let c : PlainPath p = record { is-legal = t .1; is-short = t .0; is-plain = plain } in
       let d : PlainPath q = way-next (st .legs) p q (k .leg-ends) c (w .1) in
-      passed-goes true st′ q (whole-passed q d)
+      passed-goes true st′ q (new-passed q (d .is-short) (d .is-legal))
       ∙ ap (λ (l : List Leg). wayOver true l q) same
       ∙ (demand-3 (st .legs) p (k .leg-ends) c) .home-again q (w .1) .0
 

@@ -1,3 +1,4 @@
+-- The definitions of this crate.
 pub mod Frame
 pub mod State
 pub mod Run

@@ -1,4 +1,4 @@
-// A map with its targets put elsewhere.
+// Document 01's `rebase_target`: a map with the targets below one path put below another, behind the questions.
 ghost use mathlib.Core.Path.{_≡_};
 ghost use mathlib.Core.Bool.{true};
 ghost use mathlib.Core.List.{[], _∷_, _++_};

@@ -19,7 +19,7 @@ use Rattle.relocates.specs.declared.RelocateOccurrence.{RelocateOccurren
 use Rattle.relocates.specs.declared.RelocateOccurrence.the-variants.{Active, DroppedStructural, DroppedDuplicateSource, DroppedConflict}
 use Rattle.relocates.specs.Status.{statusByte, someBelow, structural, reserves, duplicate, canConflict, against, conflict, occurrenceOr, occurrence, bytesOf, statuses}
 use Rattle.relocates.specs.Marks.{marks, marked}
-use Rattle.relocates.proofs.StatusWays.{some-same, some-hit, some-none, some-on, duplicate-in}
+use Rattle.relocates.proofs.StatusWays.{some-same, some-hit, some-on, duplicate-in}
 
 -- `first_occurrence`
 module _ (store : Text) (places : List ℕ) (i : ℕ) (s t : Text) (hs : s ≡ keyAt store places false i) (ht : t ≡ keyAt store places true i)
@@ -180,9 +180,6 @@ module _ (store : Text) (places : List ℕ) (n : ℕ) (out₀ : Text) where
         settle-active k f r w =
             let y : j ≡ n = omega arith in
             rw (s, u) (settle-by out i v g h e (w ∙ ap statusByte (sym (settled false (rw (y, s) at r)))))
-
-pub seek-begin : (f : ℕ → Bool) → someBelow 0 f ≡ false
-seek-begin f = some-none f
 
 pub seek-on : (f : ℕ → Bool) (j : ℕ) (b : Bool) → someBelow j f ≡ false → b ≡ f j → b ≡ false → someBelow (j + 1) f ≡ false
 seek-on f j b h e l = some-on f j h (told e l)

@@ -1,3 +1,4 @@
+-- The definitions of this crate.
 pub mod Status
 pub mod Marks
 pub mod Calls

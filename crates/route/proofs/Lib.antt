@@ -1,3 +1,5 @@
+-- The laws of this crate; the proof of each function stands in a folder of its name.
 pub mod RelocateLaws
 pub mod Theorem
 pub mod Sharp
+pub mod RouteLaws

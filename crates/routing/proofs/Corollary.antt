@@ -17,7 +17,6 @@ use Rattle.path.specs.declared.Refusal.the-variants.{NoRoom}
 use Rattle.path.specs.declared.Asked.{Asked}
 use Rattle.path.specs.declared.Asked.the-variants.{Passed, Refused}
 use Rattle.path.specs.declared.Reply.the-variants.{Written}
-use Rattle.path.specs.Refusal.{allFit, allLegal, asked as askedTexts}
 use Rattle.path.specs.Outcome.{Outcome, path, refused, reply, memory, lent, answered}
 use Rattle.path.specs.Calls.{newCall}
 use Rattle.asking.specs.Asking.{earlierOf}
@@ -32,6 +31,7 @@ use Rattle.legs.proofs.RouteLaws.{route-one-by-one, route-ends, route-short, ro
 use Rattle.routing.specs.Calls.{routeCall}
 use Rattle.routing.specs.Claims.{firstLegs, CallsReturnAlways}
 use Rattle.routing.proofs.OverWays.{along-snoc}
+use Rattle.path.proofs.CallWays.{new-passed}
 
 -- a call that gives a path: the questions passed, and the way gives it
 answered-path : (a : Asked) (room : ℕ) (o : Outcome) (q : Text) → answered a room o ≡ path q → (a ≡ Passed) × (255 ≤ room) × (o ≡ path q)
@@ -57,11 +57,6 @@ stands : (p mem : Text) → (reply (path p) ≡ Written (length p)) × (take (le
 unfolding reply memory
 stands p mem = (refl, read-back p mem)
 
--- a path that was made passes the questions
-new-passed : (q : Text) → PlainPath q → newCall q ≡ Passed
-unfolding newCall askedTexts allFit allLegal
-new-passed q c = rw (c .is-short, c .is-legal)
-
 passes : earlierOf Passed Passed ≡ Passed
 unfolding earlierOf
 passes = refl
@@ -82,7 +77,7 @@ module _ (r : LentRoute) (p : Text) (plain : lacks 123 p ≡ true) where
       let w = answered-path (routeAsked r (p ∷ [])) room (along outward (legsIn r (r .count)) p) q e in
       let c : PlainPath q = way-next (legsIn r (r .count)) p q (route-ends r (p ∷ []) (w .0)) (plain-path (w .0)) (w .2) in
       path-answered (routeAsked r (q ∷ [])) behind (wayOver true (legsIn r (r .count)) q)
-      (sym (route-one-by-one r q) ∙ rw (legs-passed (w .0) .0, new-passed q c) passes) l
+      (sym (route-one-by-one r q) ∙ rw (legs-passed (w .0) .0, new-passed q (c .is-short) (c .is-legal)) passes) l
       ∙ (demand-3 (legsIn r (r .count)) p (route-ends r (p ∷ []) (w .0)) (plain-path (w .0))) .home-again q (w .2) .0
 
 -- the first legs of a route are its legs

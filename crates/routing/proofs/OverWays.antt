@@ -59,9 +59,6 @@ module _ (home : Bool) (m : Map) (p buf made : Text) (r : Reply) (w : (r ≡ rep
   pub over-written : (here here′ : Text) → length here ≡ 255 → here′ ≡ placed 0 (take n made) here → Holds (quickLeg home m p) (Written n) here′
   over-written = made-holds buf made n (quickLeg home m p) (sym k ∙ w .0) (w .1) (short-leg home m p)
 
-pub part-size : (n : ℕ) (t : Text) → n ≤ length t → n ≡ length (take n t)
-part-size n t h = sym (length-take-le n t h)
-
 -- what an answer in memory tells
 module _ (o : Outcome) (r : Reply) (mem : Text) (h : Holds o r mem) where
   pub holds-path : (n : ℕ) → r ≡ Written n → o ≡ path (take n mem)

@@ -2,10 +2,10 @@
 use mathlib.Core.Path.{_≡_, refl, sym, ap, _∙_}
 use mathlib.Core.Bool.{Bool, true, false, _&&_}
 use mathlib.Core.List.{List, [], _∷_, _++_, map, map-append, reverse, reverse-cons}
-use Prim.Native.Nat.{ℕ, zero, suc, _≤_, _<_}
+use Prim.Native.Nat.{ℕ, zero, suc, _<_}
 use native.Mathlib.Omega.{arith}
 use lib.ListN.{length, length-append}
-use borrow.Author.Tests.{le-leb, leb-true}
+use borrow.Author.Tests.{le-leb}
 use Rattle.text.specs.Text.{Text}
 use Rattle.text.proofs.BoolLaws.{and-l, and-r}
 use Rattle.grammar.specs.Legal.{legal, fits}
@@ -26,6 +26,7 @@ use Rattle.route.proofs.RelocateLaws.{relocate-ends, relocate-short}
 use Rattle.legs.specs.Lent.{LentRoute, kindAt, listAt, legOf, legAt, legsIn}
 use Rattle.laying.specs.Laid.{Laid}
 use Rattle.routing.specs.Quick.{quickLeg, mapsIn, quickOver, entering}
+use Rattle.grammar.proofs.LegalLaws.{fits-short}
 
 -- a way over legs is the way over their maps
 along-map : {A B : Type 0} (go : B → Text → Outcome) (f : A → B) (xs : List A) (p : Text) → along (λ (x : A). go (f x)) xs p ≡ along go (map f xs) p
@@ -64,10 +65,6 @@ module _ (m : Map) (s : soundMap m ≡ true) where
 
   its-shorts : allShort (m .pairs) ≡ true
   its-shorts = and-r (allEnds (m .pairs)) (allShort (m .pairs)) s
-
-fits-short : (p : Text) → fits p ≡ true → length p ≤ 255
-unfolding fits
-fits-short p h = leb-true (length p) 255 h
 
 -- the way out, of a path without selections
 out-leg : (m : Map) (p : Text) → soundMap m ≡ true → PlainPath p → translate m p ≡ quickLeg false m p

@@ -19,8 +19,7 @@ use Rattle.asking.specs.Asking.{lentList}
 use Rattle.maps.specs.Map.{Map, lentMap}
 use Rattle.maps.specs.New.{fromParts}
 use Rattle.maps.specs.Compose.{isEmpty, isPathIdentity}
-use Rattle.map_function.specs.declared.MapReply.{MapReply}
-use Rattle.map_function.specs.Made.{MapOutcome, map, refused, mapReply, mapBytes, mapSlots, roomFor, weighed, held}
+use Rattle.map_function.specs.Made.{MapOutcome, map, refused, roomFor, weighed, held}
 use Rattle.scratch.specs.Scratch.{Holds}
 use Rattle.scratch.specs.Ends.{madeShort, madeLegal, fromEnds}
 use Rattle.scratch.proofs.ScratchLaws.{holds-list, built-held}
@@ -35,11 +34,6 @@ unfolding pairsIn
 identity-lent store places zero mark = refl
 identity-lent store places (suc n) mark =
     rw (snoc-full (pairsIn store places n) (pairIn store places n), ne-eqb (suc n) 0 (λ e. omega arith))
-
--- a call's answer and memory, once its outcome is known
-pub answering-map : (o m : MapOutcome) → o ≡ m → (r : MapReply) (out out′ : Text) (slots slots′ : List ℕ)
-    → (r ≡ mapReply m) × ((out′ ≡ mapBytes m out) × (slots′ ≡ mapSlots m slots)) → (r ≡ mapReply o) × ((out′ ≡ mapBytes o out) × (slots′ ≡ mapSlots o slots))
-answering-map o m e r out out′ slots slots′ w = rw e w
 
 -- a list that its slice holds
 pub held-all : (store : Text) (places : List ℕ) (n : ℕ) (o : MapOutcome) → n ≤ length places / 4 → held (lentList store places n) o ≡ o

@@ -12,8 +12,8 @@ use lib.Dec.{eqb, leb}
 use lib.ListN.{length, getD, take, drop, length-drop, take-append-drop}
 use lib.Seq.{length-take-le, take-append-seam, take-append-le, getD-take, getD-drop}
 use borrow.Author.Tests.{eqb-true, ne-eqb, le-leb, lt-leb, leb-true, leb-false}
-use Rattle.text.specs.Text.{Text, isNil}
-use Rattle.text.proofs.BoolLaws.{and-r, told-false, told-true}
+use Rattle.text.specs.Text.{Text}
+use Rattle.text.proofs.BoolLaws.{told-false, told-true}
 use Rattle.text.proofs.TextLaws.{starts-at}
 use Rattle.prefix.specs.Prefix.{hasPrefix}
 use Rattle.prefix.specs.Elements.{elements}
@@ -24,6 +24,7 @@ use Rattle.serving.specs.Search.{cut, keysHeld, least, foundOf, outdoes,
 use Rattle.pairs.specs.Places.{textAt, keyAt}
 use Rattle.pairs.specs.Best.{serves, best}
 use Rattle.pairs.proofs.PlaceWays.{text-missing}
+use Rattle.pairs.proofs.BestLaws.{served}
 
 pub serves-empty : (p k : Text) → length k ≡ 0 → false ≡ serves p k
 unfolding serves
@@ -45,10 +46,6 @@ prefix-of p s k h g l =
 -- .. and so has no fewer elements
 no-fewer : (p s k : Text) → hasPrefix p s ≡ true → hasPrefix p k ≡ true → length s ≤ length k → elements s ≤ elements k
 no-fewer p s k h g l = rw (prefix-of p s k h g l) (count-more true s (drop (length s) k))
-
-served : (p k : Text) → serves p k ≡ true → hasPrefix p k ≡ true
-unfolding serves
-served p k h = and-r (not (isNil k)) (hasPrefix p k) h
 
 -- `outdoes` decides as the elements do
 decides : (p s k : Text) → hasPrefix p s ≡ true → hasPrefix p k ≡ true → outdoes p (length s) k ≡ leb (elements s) (elements k)

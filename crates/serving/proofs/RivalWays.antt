@@ -11,7 +11,7 @@ use lib.Dec.{eqb, leb, ltb}
 use lib.ListN.{length, getD, take, drop}
 use borrow.Author.Tests.{eqb-false, eq-eqb, ne-eqb, ltb-true, ltb-false, leb-true, leb-false}
 use Rattle.text.specs.Text.{Text}
-use Rattle.text.proofs.BoolLaws.{and-l, and-r, and-no, told, told-false, told-true}
+use Rattle.text.proofs.BoolLaws.{and-l, and-r, and-no, told, told-false, told-true, not-true}
 use Rattle.prefix.specs.Elements.{elements}
 use Rattle.serving.specs.Search.{cut, keysHeld, least, isAt, beats, rivals}
 use Rattle.pairs.specs.Places.{keyAt}
@@ -118,11 +118,7 @@ module _ (p : Text) (key : ℕ → Text) (n i : ℕ) where
         more = and-r (serves p (key k)) (cond (ltb k i) (ltb (elements (key i)) (elements (key k))) (leb (elements (key i)) (elements (key k)))) (and-r (not (eqb k i)) _ rival)
 
         apart : eqb k i ≡ false
-        apart = not-so (eqb k i) (and-l (not (eqb k i)) _ rival)
-          where
-            not-so : (c : Bool) → not c ≡ true → c ≡ false
-            not-so true q = sym q
-            not-so false q = refl
+        apart = not-true (eqb k i) (and-l (not (eqb k i)) _ rival)
 
         beaten : Best (serves p) key n i → (c : Bool) → ltb k i ≡ c → ⊥
         beaten w true q =

@@ -37,7 +37,7 @@ unfoldable pub beats : Text → Text → Bool → Text → Bool
 unfolding serves count
 beats p t before key = serves p t && cond before (ltb (elements key) (elements t)) (leb (elements key) (elements t))
 
--- so it is of the text at k and the key at i
+-- the text at k, another than the key at i, would be chosen over it
 unfoldable pub rivals : Text → Text → ℕ → ℕ → Text → Bool
 unfolding beats
 rivals p t k i key = not (eqb k i) && beats p t (ltb k i) key

@@ -1,16 +1,16 @@
 -- What copying leaves in lent memory. Assumes nothing.
 use mathlib.Core.Path.{_≡_, refl, sym, ap, _∙_}
 use mathlib.Core.Bool.{Bool, true, false, cond}
-use mathlib.Core.List.{_++_, append-assoc}
+use mathlib.Core.List.{_++_, append-assoc, List, []}
 use Prim.Native.Nat.{ℕ, _+_, _-_, _≤_, _<_}
 use native.Mathlib.Nat.{zero-add}
 use native.Mathlib.Numerals.{add-one}
 use native.Mathlib.Omega.{arith}
 use lib.Dec.{leb}
-use lib.ListN.{length, getD, set, take, drop, length-set, length-append, length-drop, length-take}
-use lib.Seq.{paste, paste-zero, paste-suc, take-append-seam, drop-append-add, drop-drop, take-all, take-length}
+use lib.ListN.{length, getD, set, take, drop, length-set, length-append, length-drop, length-take, take-append-drop}
+use lib.Seq.{paste, paste-zero, paste-suc, take-append-seam, drop-append-add, drop-drop, take-all, take-length, length-take-le}
 use borrow.Author.Tests.{le-leb, lt-leb, leb-true, leb-false}
-use Rattle.text.specs.Text.{Text, written, placed, fitted}
+use Rattle.text.specs.Text.{Text, written, placed, fitted, over}
 use Rattle.text.specs.declared.Fit.{Fit}
 use Rattle.text.specs.declared.Fit.the-variants.{Written, Over}
 
@@ -53,6 +53,20 @@ unfolding placed
 placed-next t s out h =
     let l : length (written t out) ≡ length out = simp (length-append, length-drop) (omega arith) in
     rw (l, le-leb (length t + length s) (length out) h) (simp (take-append-seam, drop-append-add, drop-drop, length-append, append-assoc))
+
+-- nothing written, a text written where there is room for it, and one behind another
+pub over-none : (at : ℕ) (out : Text) → out ≡ over at [] out
+over-none at out = let z : at + 0 ≡ at = omega arith in rw z (sym (take-append-drop at out))
+
+pub over-length : (at : ℕ) (t out : List ℕ) → at + length t ≤ length out → length (over at t out) ≡ length out
+over-length at t out h = simp (length-append, length-take, length-drop) (omega arith)
+
+pub over-written : (t s out : Text) → over (length t) s (written t out) ≡ written (t ++ s) out
+over-written t s out = simp (take-append-seam, drop-append-add, drop-drop, length-append, append-assoc)
+
+-- the beginning of a text has its length
+pub part-size : (n : ℕ) (t : Text) → n ≤ length t → n ≡ length (take n t)
+part-size n t h = sym (length-take-le n t h)
 
 -- what was written can be read back
 pub read-back : (t out : Text) → take (length t) (written t out) ≡ t

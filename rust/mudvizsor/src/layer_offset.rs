@@ -1,4 +1,4 @@
-//! Time offsets.
+//! Time offsets, over the entries for them.
 
 use crate::ffi::times;
 

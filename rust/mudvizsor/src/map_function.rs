@@ -1,4 +1,4 @@
-//! Maps.
+//! Maps: a list of pairs, a root-identity mark and a time offset, over the entries for maps.
 
 use crate::ffi::Reply;
 use crate::ffi::makes::{self, Map, Room};

@@ -1,4 +1,4 @@
-//! Path texts.
+//! Path texts, over the entries for paths.
 
 use crate::ffi::{Reply, paths};
 use crate::refusal::{Refusal, Result, read, sure};

@@ -1,4 +1,4 @@
-//! Relocate lists.
+//! Relocate lists: statuses, chaining and shifting, over the entries for relocates.
 
 use crate::Path;
 use crate::ffi::maps::List;

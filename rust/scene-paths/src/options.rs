@@ -1,4 +1,4 @@
-//! The arguments.
+//! What the arguments of the tool ask for.
 
 use std::ffi::OsString;
 use std::path::PathBuf;

@@ -1,9 +1,9 @@
 use mathlib.Core.Path.{refl, sym, _∙_}
 use native.Mathlib.Omega.{arith}
 use Rattle.asking.proofs.PassLaws.{first-sound}
-use Rattle.map_function.proofs.NewWays.{refusing-map}
+use Rattle.map_function.proofs.NewWays.{refusing-map, gives-map}
 use Rattle.altering.proofs.ListWays.{left-all, left-some, left-few}
-use Rattle.making.proofs.MakeWays.{made-refused, made-passed, making-map, held-passed, own-parts}
+use Rattle.making.proofs.MakeWays.{made-refused, made-passed, held-passed, own-parts}
 use Rattle.altering.proofs.AlterWays.{dropped-none, dropped-some, end-asked, dropping-opened}
 use borrow.Author.Needs.{needs}
 use Rattle.altering.proofs.dropping_source.Statement.{statement}
@@ -40,7 +40,7 @@ same-length-2 : tie.Need-same-length-2
 same-length-2 c = search needs
 
 returns-2 : tie.Need-returns-2
-returns-2 c = making-map _ _ (dropping-opened _ _ _ _ _ _ ∙ made-passed _ _ _ _ _ _ _ (c .before .before .before .before .before .before .before .before .before .before .before .before .before .ask-list .ensures ∙ end-asked _ _ _ refl) (c .before .before .before .before .before .before .before .before .before .before .before .enum-told .given .1) ∙ dropped-none _ _ _ _ _ _ (left-all _ _ _ _ _ _ (c .before .before .before .before .before .before .before .before .before .without-source .ensures) (c .before .before .before .before .before .before .before .if1 .taken)) ∙ sym (held-passed _ _ _ (sym (c .before .before .before .before .before .before .before .before .before .before .before .before .before .ask-list .ensures) ∙ c .before .before .before .before .before .before .before .before .before .before .before .enum-told .given .1) _)) _ _ _ _ _ (c .before .before .before .before .as-it-is .ensures)
+returns-2 c = gives-map _ _ (dropping-opened _ _ _ _ _ _ ∙ made-passed _ _ _ _ _ _ _ (c .before .before .before .before .before .before .before .before .before .before .before .before .before .ask-list .ensures ∙ end-asked _ _ _ refl) (c .before .before .before .before .before .before .before .before .before .before .before .enum-told .given .1) ∙ dropped-none _ _ _ _ _ _ (left-all _ _ _ _ _ _ (c .before .before .before .before .before .before .before .before .before .without-source .ensures) (c .before .before .before .before .before .before .before .if1 .taken)) ∙ sym (held-passed _ _ _ (sym (c .before .before .before .before .before .before .before .before .before .before .before .before .before .ask-list .ensures) ∙ c .before .before .before .before .before .before .before .before .before .before .before .enum-told .given .1) _)) _ _ _ _ _ (c .before .before .before .before .as-it-is .ensures)
 
 slice-aggregate-from-parts : tie.Need-slice-aggregate-from-parts
 slice-aggregate-from-parts c = search needs
@@ -55,7 +55,7 @@ same-length-4 : tie.Need-same-length-4
 same-length-4 c = search needs
 
 returns-3 : tie.Need-returns-3
-returns-3 c = making-map _ _ (dropping-opened _ _ _ _ _ _ ∙ made-passed _ _ _ _ _ _ _ (c .before .before .before .before .before .before .before .before .before .before .before .before .before .before .ask-list .ensures ∙ end-asked _ _ _ refl) (c .before .before .before .before .before .before .before .before .before .before .before .before .enum-told .given .1) ∙ dropped-some _ _ _ _ _ _ (left-some _ _ _ _ _ _ (c .before .before .before .before .before .before .before .before .before .before .without-source .ensures) (c .before .before .before .before .before .before .before .before .if1 .left)) ∙ own-parts _ _ _ _ _ _ _ _ (c .before .before .before .before .before .before .before .before .before .before .without-source .ensures) (omega (arith, left-few _ _ _ _ _ _ (c .before .before .before .before .before .before .before .before .before .before .without-source .ensures), (first-sound _ _ _ _ (sym (c .before .before .before .before .before .before .before .before .before .before .before .before .before .before .ask-list .ensures) ∙ c .before .before .before .before .before .before .before .before .before .before .before .before .enum-told .given .1)) .few))) _ _ _ _ _ (c .before .before .before .before .from-parts .ensures)
+returns-3 c = gives-map _ _ (dropping-opened _ _ _ _ _ _ ∙ made-passed _ _ _ _ _ _ _ (c .before .before .before .before .before .before .before .before .before .before .before .before .before .before .ask-list .ensures ∙ end-asked _ _ _ refl) (c .before .before .before .before .before .before .before .before .before .before .before .before .enum-told .given .1) ∙ dropped-some _ _ _ _ _ _ (left-some _ _ _ _ _ _ (c .before .before .before .before .before .before .before .before .before .before .without-source .ensures) (c .before .before .before .before .before .before .before .before .if1 .left)) ∙ own-parts _ _ _ _ _ _ _ _ (c .before .before .before .before .before .before .before .before .before .before .without-source .ensures) (omega (arith, left-few _ _ _ _ _ _ (c .before .before .before .before .before .before .before .before .before .before .without-source .ensures), (first-sound _ _ _ _ (sym (c .before .before .before .before .before .before .before .before .before .before .before .before .before .before .ask-list .ensures) ∙ c .before .before .before .before .before .before .before .before .before .before .before .before .enum-told .given .1)) .few))) _ _ _ _ _ (c .before .before .before .before .from-parts .ensures)
 
 pub dropping-source-spec : {M : Type 1} → statement M
 dropping-source-spec =

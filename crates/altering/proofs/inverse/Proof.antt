@@ -2,8 +2,8 @@ use mathlib.Core.Path.{sym, _∙_}
 use native.Mathlib.Omega.{arith}
 use lib.Ieee.{ofBits}
 use Rattle.asking.proofs.PassLaws.{first-sound}
-use Rattle.map_function.proofs.NewWays.{refusing-map}
-use Rattle.making.proofs.MakeWays.{made-refused, made-passed, making-map, own-parts}
+use Rattle.map_function.proofs.NewWays.{refusing-map, gives-map}
+use Rattle.making.proofs.MakeWays.{made-refused, made-passed, own-parts}
 use Rattle.altering.proofs.ExchangeLaws.{exchanged-list}
 use Rattle.altering.proofs.AlterWays.{inverse-opened}
 use borrow.Author.Needs.{needs}
@@ -42,7 +42,7 @@ same-length-2 c = search needs
 
 returns-2 : tie.Need-returns-2
 unfolding ofBits
-returns-2 c = making-map _ _ (inverse-opened _ _ _ _ _ ∙ made-passed _ _ _ _ _ _ _ (c .before .before .before .before .before .before .before .before .before .before .before .before .before .ask-pairs .ensures) (c .before .before .before .before .before .before .before .before .before .before .before .enum-told .given .1) ∙ own-parts _ _ _ _ _ _ _ _ (exchanged-list _ _ _ _ _ (c .before .before .before .before .before .before .before .before .before .exchange .ensures) (omega (arith, (first-sound _ _ _ _ (sym (c .before .before .before .before .before .before .before .before .before .before .before .before .before .ask-pairs .ensures) ∙ c .before .before .before .before .before .before .before .before .before .before .before .enum-told .given .1)) .held)) (omega (arith, (first-sound _ _ _ _ (sym (c .before .before .before .before .before .before .before .before .before .before .before .before .before .ask-pairs .ensures) ∙ c .before .before .before .before .before .before .before .before .before .before .before .enum-told .given .1)) .few))) (omega (arith, (first-sound _ _ _ _ (sym (c .before .before .before .before .before .before .before .before .before .before .before .before .before .ask-pairs .ensures) ∙ c .before .before .before .before .before .before .before .before .before .before .before .enum-told .given .1)) .few))) _ _ _ _ _ (c .before .before .before .before .from-parts .ensures)
+returns-2 c = gives-map _ _ (inverse-opened _ _ _ _ _ ∙ made-passed _ _ _ _ _ _ _ (c .before .before .before .before .before .before .before .before .before .before .before .before .before .ask-pairs .ensures) (c .before .before .before .before .before .before .before .before .before .before .before .enum-told .given .1) ∙ own-parts _ _ _ _ _ _ _ _ (exchanged-list _ _ _ _ _ (c .before .before .before .before .before .before .before .before .before .exchange .ensures) (omega (arith, (first-sound _ _ _ _ (sym (c .before .before .before .before .before .before .before .before .before .before .before .before .before .ask-pairs .ensures) ∙ c .before .before .before .before .before .before .before .before .before .before .before .enum-told .given .1)) .held)) (omega (arith, (first-sound _ _ _ _ (sym (c .before .before .before .before .before .before .before .before .before .before .before .before .before .ask-pairs .ensures) ∙ c .before .before .before .before .before .before .before .before .before .before .before .enum-told .given .1)) .few))) (omega (arith, (first-sound _ _ _ _ (sym (c .before .before .before .before .before .before .before .before .before .before .before .before .before .ask-pairs .ensures) ∙ c .before .before .before .before .before .before .before .before .before .before .before .enum-told .given .1)) .few))) _ _ _ _ _ (c .before .before .before .before .from-parts .ensures)
 
 pub inverse-spec : {M : Type 1} → statement M
 inverse-spec =

@@ -1,6 +1,6 @@
 use mathlib.Core.Path.{sym, _∙_}
-use Rattle.map_function.proofs.NewWays.{refusing-map}
-use Rattle.making.proofs.MakeWays.{made-refused, made-passed, making-map, held-passed}
+use Rattle.map_function.proofs.NewWays.{refusing-map, gives-map}
+use Rattle.making.proofs.MakeWays.{made-refused, made-passed, held-passed}
 use Rattle.altering.proofs.AlterWays.{marked-copy, marked-opened}
 use borrow.Author.Needs.{needs}
 use Rattle.altering.proofs.with_root_identity.Statement.{statement}
@@ -28,7 +28,7 @@ same-length-2 : tie.Need-same-length-2
 same-length-2 c = search needs
 
 returns-2 : tie.Need-returns-2
-returns-2 c = making-map _ _ (marked-opened _ _ _ _ _ ∙ made-passed _ _ _ _ _ _ _ (c .before .before .before .before .before .before .before .before .before .ask-pairs .ensures) (c .before .before .before .before .before .before .before .enum-told .given .1) ∙ marked-copy _ _ _ _ _ ∙ sym (held-passed _ _ _ (sym (c .before .before .before .before .before .before .before .before .before .ask-pairs .ensures) ∙ c .before .before .before .before .before .before .before .enum-told .given .1) _)) _ _ _ _ _ (c .before .before .before .before .as-it-is .ensures)
+returns-2 c = gives-map _ _ (marked-opened _ _ _ _ _ ∙ made-passed _ _ _ _ _ _ _ (c .before .before .before .before .before .before .before .before .before .ask-pairs .ensures) (c .before .before .before .before .before .before .before .enum-told .given .1) ∙ marked-copy _ _ _ _ _ ∙ sym (held-passed _ _ _ (sym (c .before .before .before .before .before .before .before .before .before .ask-pairs .ensures) ∙ c .before .before .before .before .before .before .before .enum-told .given .1) _)) _ _ _ _ _ (c .before .before .before .before .as-it-is .ensures)
 
 pub with-root-identity-spec : {M : Type 1} → statement M
 with-root-identity-spec =

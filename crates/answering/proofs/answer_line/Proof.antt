@@ -1,7 +1,8 @@
-use Rattle.answering.proofs.FrameWays.{part-length, heard-few, line-refused, line-room, line-answered}
+use Rattle.answering.proofs.FrameWays.{heard-few, line-refused, line-room, line-answered}
 use borrow.Author.Needs.{needs}
 use Rattle.answering.proofs.answer_line.Statement.{statement}
 use Rattle.answering.proofs.answer_line.Tie as tie
+use Rattle.text.proofs.WriteLaws.{part-size}
 
 has-room-requires : tie.Need-has-room-requires
 has-room-requires c κs = search needs
@@ -19,7 +20,7 @@ array-share-prefix-frame : tie.Need-array-share-prefix-frame
 array-share-prefix-frame c = heard-few _ _ _ (c .before .hear .ensures)
 
 slice-aggregate-answer-frame : tie.Need-slice-aggregate-answer-frame
-slice-aggregate-answer-frame c = part-length _ _ (heard-few _ _ _ (c .before .before .hear .ensures))
+slice-aggregate-answer-frame c = part-size _ _ (heard-few _ _ _ (c .before .before .hear .ensures))
 
 answer-frame-requires : tie.Need-answer-frame-requires
 answer-frame-requires c κs = line-room _ (c .before .before .before .before .before .before .before .before .before .before .before .before .before .before .before .before .before .before .before .args .out .now) _ (c .before .before .before .before .before .before .before .before .before .before .before .has-room .ensures) (c .before .before .before .before .before .before .before .before .before .before .if1 .left)

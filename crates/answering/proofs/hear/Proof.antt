@@ -1,8 +1,8 @@
-use Rattle.answering.proofs.FrameWays.{part-length}
 use Rattle.answering.proofs.FrameWays.{hear-long, hear-beyond, hear-bytes, hear-bad, hear-over}
 use borrow.Author.Needs.{needs}
 use Rattle.answering.proofs.hear.Statement.{statement}
 use Rattle.answering.proofs.hear.Tie as tie
+use Rattle.text.proofs.WriteLaws.{part-size}
 
 returns : tie.Need-returns
 returns c = hear-long _ _ _ (c .if1 .taken)
@@ -11,7 +11,7 @@ returns-2 : tie.Need-returns-2
 returns-2 c = hear-beyond _ _ _ (c .if2 .taken)
 
 slice-aggregate-decode : tie.Need-slice-aggregate-decode
-slice-aggregate-decode c = part-length _ _ (c .before .if2 .left)
+slice-aggregate-decode c = part-size _ _ (c .before .if2 .left)
 
 decode-requires : tie.Need-decode-requires
 decode-requires c κs = search needs

@@ -1,14 +1,15 @@
-use Rattle.answering.proofs.FrameWays.{part-length, reply-room}
+use Rattle.answering.proofs.FrameWays.{reply-room}
 use Rattle.answering.proofs.FrameWays.{reply-written, reply-refused, fitting-room}
 use borrow.Author.Needs.{needs}
 use Rattle.answering.proofs.write_reply.Statement.{statement}
 use Rattle.answering.proofs.write_reply.Tie as tie
+use Rattle.text.proofs.WriteLaws.{part-size}
 
 enum-known-reply : tie.Need-enum-known-reply
 enum-known-reply c = search needs
 
 slice-aggregate-write-line : tie.Need-slice-aggregate-write-line
-slice-aggregate-write-line c = part-length _ _ (fitting-room _ _ _ (c .before .before .reply .given .1) (c .before .before .before .before .before .before .pre .0))
+slice-aggregate-write-line c = part-size _ _ (fitting-room _ _ _ (c .before .before .reply .given .1) (c .before .before .before .before .before .before .pre .0))
 
 write-line-requires : tie.Need-write-line-requires
 write-line-requires c κs = reply-room _ _ _ (c .before .before .before .before .before .before .before .args .out .now) (fitting-room _ _ _ (c .before .before .before .reply .given .1) (c .before .before .before .before .before .before .before .pre .0)) (c .before .before .before .before .before .before .before .pre .1 .0) (c .before .before .before .before .before .before .before .pre .1 .1)

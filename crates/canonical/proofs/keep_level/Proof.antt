@@ -2,7 +2,7 @@ use mathlib.Core.Path.{_≡_, refl}
 use native.Mathlib.Omega.{arith}
 use Prim.Native.Nat.{_≤_, _+_, _-_}
 use lib.ListN.{length}
-use Rattle.canonical.specs.Kept.{layer}
+use Rattle.canonical.specs.Kept.{ownLevel}
 use Rattle.canonical.proofs.KeepWays.{keyed-at}
 use Rattle.canonical.proofs.LevelWays.{After, level-none, level-held, level-room, level-count, level-on, level-end}
 use borrow.Author.Needs.{needs}
@@ -10,7 +10,7 @@ use Rattle.canonical.proofs.keep_level.Statement.{statement}
 use Rattle.canonical.proofs.keep_level.Tie as tie
 
 abbrev Inv-loop : tie.InvT-loop
-Inv-loop store places n keys e mark kept₀ w k₀ i₀ kept k i = (i ≤ n) × After store places e mark kept₀ w i kept k × (k ≤ w + length (layer store places e i)) × (length kept ≡ length kept₀)
+Inv-loop store places n keys e mark kept₀ w k₀ i₀ kept k i = (i ≤ n) × After store places e mark kept₀ w i kept k × (k ≤ w + length (ownLevel store places e i)) × (length kept ≡ length kept₀)
 
 abbrev μ-loop : tie.MeasureT-loop
 μ-loop store places n keys e mark kept₀ w k₀ i₀ kept k i = n - i

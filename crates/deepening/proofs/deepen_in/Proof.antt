@@ -1,8 +1,9 @@
 use native.Mathlib.Omega.{arith}
-use Rattle.scratch.proofs.MapLaws.{answering-map, built-ends}
+use Rattle.scratch.proofs.MapLaws.{built-ends}
 use borrow.Author.Needs.{needs}
 use Rattle.deepening.proofs.deepen_in.Statement.{statement}
 use Rattle.deepening.proofs.deepen_in.Tie as tie
+use Rattle.map_function.proofs.NewWays.{gives-map}
 
 deepen-all-requires : tie.Need-deepen-all-requires
 deepen-all-requires c κs = (c .before .before .before .before .before .before .before .before .before .before .before .before .pre .0, (c .before .before .before .before .before .before .before .before .before .before .before .before .pre .1 .0, (c .before .before .before .before .before .before .before .before .before .before .before .before .pre .1 .1 .0, (omega (arith, c .before .before .before .before .before .before .before .before .before .before .before .before .pre .1 .1 .1 .1 .0), omega (arith, c .before .before .before .before .before .before .before .before .before .before .before .before .pre .1 .1 .1 .1 .1)))))
@@ -23,7 +24,7 @@ same-length-4 : tie.Need-same-length-4
 same-length-4 c = search needs
 
 returns : tie.Need-returns
-returns c = answering-map _ _ (built-ends _ _ _ _ _ (c .before .before .before .before .before .before .before .before .before .before .before .before .before .deepen-all .ensures) _ _ _ _) _ _ _ _ _ (c .before .before .before .before .from-ends .ensures)
+returns c = gives-map _ _ (built-ends _ _ _ _ _ (c .before .before .before .before .before .before .before .before .before .before .before .before .before .deepen-all .ensures) _ _ _ _) _ _ _ _ _ (c .before .before .before .before .from-ends .ensures)
 
 pub deepen-in-spec : {M : Type 1} → statement M
 deepen-in-spec =

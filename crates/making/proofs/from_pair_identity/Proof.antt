@@ -2,8 +2,8 @@ use mathlib.Core.Path.{sym, _∙_}
 use native.Mathlib.Omega.{arith}
 use lib.Ieee.{ofBits}
 use Rattle.asking.proofs.PassLaws.{text-short, second-short}
-use Rattle.map_function.proofs.NewWays.{refusing-map}
-use Rattle.making.proofs.MakeWays.{made-refused, made-passed, making-map, own-parts, pair-identity-opened}
+use Rattle.map_function.proofs.NewWays.{refusing-map, gives-map}
+use Rattle.making.proofs.MakeWays.{made-refused, made-passed, own-parts, pair-identity-opened}
 use borrow.Author.Needs.{needs}
 use Rattle.making.proofs.from_pair_identity.Statement.{statement}
 use Rattle.making.proofs.from_pair_identity.Tie as tie
@@ -46,7 +46,7 @@ same-length-2 c = search needs
 
 returns-2 : tie.Need-returns-2
 unfolding ofBits
-returns-2 c = making-map _ _ (pair-identity-opened _ _ _ _ ∙ made-passed _ _ _ _ _ _ _ (c .before .before .before .before .before .before .before .before .before .before .before .before .before .before .before .before .ask-ends .ensures) (c .before .before .before .before .before .before .before .before .before .before .before .before .before .before .enum-told .given .1) ∙ own-parts _ _ _ _ _ _ _ _ (c .before .before .before .before .before .before .before .before .before .before .before .store-pair .ensures) (omega arith)) _ _ _ _ _ (c .before .before .before .before .from-parts .ensures)
+returns-2 c = gives-map _ _ (pair-identity-opened _ _ _ _ ∙ made-passed _ _ _ _ _ _ _ (c .before .before .before .before .before .before .before .before .before .before .before .before .before .before .before .before .ask-ends .ensures) (c .before .before .before .before .before .before .before .before .before .before .before .before .before .before .enum-told .given .1) ∙ own-parts _ _ _ _ _ _ _ _ (c .before .before .before .before .before .before .before .before .before .before .before .store-pair .ensures) (omega arith)) _ _ _ _ _ (c .before .before .before .before .from-parts .ensures)
 
 pub from-pair-identity-spec : {M : Type 1} → statement M
 from-pair-identity-spec =

@@ -1,7 +1,7 @@
 use mathlib.Core.Path.{sym, _∙_}
 use lib.Ieee.{ofBits}
-use Rattle.map_function.proofs.NewWays.{refusing-map}
-use Rattle.making.proofs.MakeWays.{made-refused, made-passed, making-map, held-passed, new-parts, new-opened}
+use Rattle.map_function.proofs.NewWays.{refusing-map, gives-map}
+use Rattle.making.proofs.MakeWays.{made-refused, made-passed, held-passed, new-parts, new-opened}
 use borrow.Author.Needs.{needs}
 use Rattle.making.proofs.new.Statement.{statement}
 use Rattle.making.proofs.new.Tie as tie
@@ -29,7 +29,7 @@ same-length-2 c = search needs
 
 returns-2 : tie.Need-returns-2
 unfolding ofBits
-returns-2 c = making-map _ _ (new-opened _ _ _ _ _ ∙ made-passed _ _ _ _ _ _ _ (c .before .before .before .before .before .before .before .before .before .ask-pairs .ensures) (c .before .before .before .before .before .before .before .enum-told .given .1) ∙ new-parts _ _ _ _ ∙ sym (held-passed _ _ _ (sym (c .before .before .before .before .before .before .before .before .before .ask-pairs .ensures) ∙ c .before .before .before .before .before .before .before .enum-told .given .1) _)) _ _ _ _ _ (c .before .before .before .before .from-parts .ensures)
+returns-2 c = gives-map _ _ (new-opened _ _ _ _ _ ∙ made-passed _ _ _ _ _ _ _ (c .before .before .before .before .before .before .before .before .before .ask-pairs .ensures) (c .before .before .before .before .before .before .before .enum-told .given .1) ∙ new-parts _ _ _ _ ∙ sym (held-passed _ _ _ (sym (c .before .before .before .before .before .before .before .before .before .ask-pairs .ensures) ∙ c .before .before .before .before .before .before .before .enum-told .given .1) _)) _ _ _ _ _ (c .before .before .before .before .from-parts .ensures)
 
 pub new-spec : {M : Type 1} → statement M
 new-spec =

@@ -1,7 +1,8 @@
-use Rattle.scratch.proofs.MapLaws.{answering-map, built-ends}
+use Rattle.scratch.proofs.MapLaws.{built-ends}
 use borrow.Author.Needs.{needs}
 use Rattle.rebasing.proofs.rebase_in.Statement.{statement}
 use Rattle.rebasing.proofs.rebase_in.Tie as tie
+use Rattle.map_function.proofs.NewWays.{gives-map}
 
 rebase-all-requires : tie.Need-rebase-all-requires
 rebase-all-requires c κs = search needs
@@ -22,7 +23,7 @@ same-length-4 : tie.Need-same-length-4
 same-length-4 c = search needs
 
 returns : tie.Need-returns
-returns c = answering-map _ _ (built-ends _ _ _ _ _ (c .before .before .before .before .before .before .before .before .before .before .before .before .before .rebase-all .ensures) _ _ _ _) _ _ _ _ _ (c .before .before .before .before .from-ends .ensures)
+returns c = gives-map _ _ (built-ends _ _ _ _ _ (c .before .before .before .before .before .before .before .before .before .before .before .before .before .rebase-all .ensures) _ _ _ _) _ _ _ _ _ (c .before .before .before .before .from-ends .ensures)
 
 pub rebase-in-spec : {M : Type 1} → statement M
 rebase-in-spec =

@@ -1,8 +1,9 @@
 use native.Mathlib.Omega.{arith}
-use Rattle.routing.proofs.OverWays.{over-refused, over-inside, over-written, part-size}
+use Rattle.routing.proofs.OverWays.{over-refused, over-inside, over-written}
 use borrow.Author.Needs.{needs}
 use Rattle.routing.proofs.go_over.Statement.{statement}
 use Rattle.routing.proofs.go_over.Tie as tie
+use Rattle.text.proofs.WriteLaws.{part-size}
 
 slice-reshare-prefix-carry-leg : tie.Need-slice-reshare-prefix-carry-leg
 slice-reshare-prefix-carry-leg c = search needs

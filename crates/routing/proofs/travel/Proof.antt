@@ -1,8 +1,9 @@
 use Rattle.routing.proofs.CallWays.{entered-size, travel-refused, travel-written}
-use Rattle.routing.proofs.OverWays.{holds-inside, part-size}
+use Rattle.routing.proofs.OverWays.{holds-inside}
 use borrow.Author.Needs.{needs}
 use Rattle.routing.proofs.travel.Statement.{statement}
 use Rattle.routing.proofs.travel.Tie as tie
+use Rattle.text.proofs.WriteLaws.{part-size}
 
 slice-aggregate-enter : tie.Need-slice-aggregate-enter
 slice-aggregate-enter c = search needs

@@ -1,3 +1,5 @@
+//! Tests of maps.
+
 mod longest;
 
 use super::*;

@@ -1,3 +1,5 @@
+//! Tests of path texts.
+
 use super::*;
 use std::collections::{BTreeSet, HashSet};
 

@@ -1,3 +1,5 @@
+//! Tests of relocate lists.
+
 use super::*;
 use crate::Refusal;
 

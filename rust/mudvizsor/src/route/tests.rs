@@ -1,3 +1,5 @@
+//! Tests of routes.
+
 use super::*;
 use crate::MOST_LEGS;
 

@@ -1,3 +1,5 @@
+//! Tests of reading a scenario.
+
 use super::*;
 
 fn problems(text: &str) -> Vec<(usize, String)> {

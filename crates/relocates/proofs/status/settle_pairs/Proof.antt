@@ -1,4 +1,4 @@
-use Rattle.relocates.proofs.MarkWays.{reason, settle-begin, settle-end, settle-dropped, settle-conflict, settle-active, seek-begin, seek-on}
+use Rattle.relocates.proofs.MarkWays.{reason, settle-begin, settle-end, settle-dropped, settle-conflict, settle-active, seek-on}
 use borrow.Author.Needs.{needs}
 use mathlib.Core.Path.{_≡_, refl, _∙_}
 use mathlib.Core.Bool.{false}
@@ -9,6 +9,7 @@ use Rattle.pairs.specs.Places.{pairsIn}
 use Rattle.relocates.specs.Status.{someBelow, statuses}
 use Rattle.relocates.proofs.status.settle_pairs.Statement.{statement}
 use Rattle.relocates.proofs.status.settle_pairs.Tie as tie
+use Rattle.relocates.proofs.StatusWays.{some-none}
 
 abbrev Inv-loop : tie.InvT-loop
 Inv-loop store places n mark out₀ i₀ own j₀ out i j = (i ≡ i₀) × (j ≤ n) × (length out ≡ length out₀) × (out ≡ out₀) × (someBelow j (reason store places mark i) ≡ false)
@@ -41,7 +42,7 @@ pairs-again : tie.Need-pairs-again Inv-loop μ-loop Inv-pairs μ-pairs
 pairs-again c = (search needs, search needs, settle-dropped _ _ _ _ _ (c .before .before .before .before .before .before .before .pre .1) _ (c .before .before .pairs-test .taken) _ (c .before .before .before .pairs .inv .2) (c .before .before .before .before .before .before .before .pre .0 .1) (c .if1 .taken))
 
 loop-holds : tie.Need-loop-holds Inv-loop μ-loop Inv-pairs μ-pairs
-loop-holds c = (refl, search needs, refl, refl, seek-begin _)
+loop-holds c = (refl, search needs, refl, refl, some-none _)
 
 element-copy-out-conflicts-with :
     tie.Need-element-copy-out-conflicts-with Inv-loop μ-loop Inv-pairs μ-pairs
