@@ -34,5 +34,5 @@ holds = record {
 }
 
 pub readings : Readings
-unfolding deepenTo out
-readings = record { deepened = refl; skipped = refl }
+unfolding chain deepenTo out
+readings = record { later-chained = refl; later-deepened = refl; deepened = refl; skipped = refl }

@@ -104,8 +104,11 @@ pub record Table : Type 0 where
   pub inner-out : out inner "/A/B/C" ≡ path (bytes "/Y/C")
   pub outer-out : out outer "/Y/C" ≡ path (bytes "/W/C")
 
--- "Readings a quick porter would get wrong": the first three are the rows `composed`, `later` and `dropped` above; the fourth is
--- "Skipping an empty source in `deepen_to`; only `best_prefix` skips it."
+-- "Readings a quick porter would get wrong": the first three are the rows `composed`, `later` and `dropped` above. Of the second, "`max_by_key`
+-- and `best_prefix` both take the last", `later` is `best_prefix`; chaining and `deepen_to` are `max_by_key`. The fourth is "Skipping an empty
+-- source in `deepen_to`; only `best_prefix` skips it."
 pub record Readings : Type 0 where
+  pub later-chained : chain none (pair "/R/a" "/R/b" ∷ pair "/R/a" "/R/c" ∷ []) (bytes "/R/a/d") ≡ chained (bytes "/R/c/d") 1
+  pub later-deepened : deepenTo (unmarked (pair "/A" "/X" ∷ pair "/A" "/Y" ∷ [])) (bytes "/A/b") ≡ unmarked (pair "/A/b" "/Y/b" ∷ [])
   pub deepened : deepenTo (unmarked (pair "" "/X" ∷ [])) (bytes "/A") ≡ unmarked (pair "/A" "/X/A" ∷ [])
   pub skipped : out (unmarked (pair "" "/X" ∷ [])) "/A" ≡ refused NoPath
