@@ -249,7 +249,7 @@ size_t mudvizsor_map_deepen_to(
 
 /* The map of a class (the parameters that begin with i) across a transfer: the transfer after the class after the
    transfer's inverse, with the mark; the class itself where the transfer is the identity, its time included. Memory is
-   counted over the three lists on the way, so that 97,920 bytes and 768 numbers are always enough. Refusals: 1 to 5, 7. */
+   counted over the three lists on the way; 97,920 bytes and 768 numbers are enough for every map that is made. Refusals: 1 to 5, 7. */
 size_t mudvizsor_map_implied_class(
     const char *store, size_t store_length, const size_t *places, size_t places_length, size_t count, bool mark,
     double offset, double scale, const char *istore, size_t istore_length, const size_t *iplaces,
@@ -338,8 +338,9 @@ size_t mudvizsor_route_all(
    out; the value is its length. Bad frames are answered too, with FF09. Between two calls the caller keeps, unaltered, the
    five numbers of `kept`, all 0 at first (pairs and bytes of the open list, legs and their bytes, 05 frames answered 00), the
    open list in `bytes` and `places`, and the legs in `store`, `slots` and `table`, whose first contents do not matter. The
-   constants above have enough of each; a frame for which there is not enough is answered with 05, and memory that was
-   altered changes the answers and nothing else. Kept: 5 numbers. Out: 515 bytes. Refusals: 5. */
+   constants above have enough of each; a frame for which `bytes` or `store` is too short is answered with 05, one whose list
+   or leg would reach beyond `places`, `slots` or `table` with 04, and memory that was altered changes the answers and nothing
+   else. Kept: 5 numbers. Out: 515 bytes. Refusals: 5. */
 size_t mudvizsor_frames_line(
     const char *line, size_t line_length, size_t *kept, size_t kept_length, char *bytes, size_t bytes_length,
     size_t *places, size_t places_length, char *store, size_t store_length, size_t *slots, size_t slots_length,
