@@ -30,7 +30,7 @@ written-longer x y out h =
 abbrev pub Longer : List Pair → List Pair → Type 0
 Longer l k = (length l ≤ length k) × (endBytes l ≤ endBytes k)
 
--- no pair is packed in any memory
+-- a list without pairs stands in any memory
 pub packed-none : (bytes : Text) (slots : List ℕ) → Packed [] 0 0 bytes slots bytes slots
 unfolding listText listPlaces endBytes
 packed-none bytes slots = record { number = refl; end = refl; text = refl; places = refl }

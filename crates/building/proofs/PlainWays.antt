@@ -1,4 +1,4 @@
--- What each way through `join_at`, `keep_at`, `map_at` and `carried_at` gives. Assumes nothing.
+-- What each way through `join_at`, `keep_at`, `map_at` and `carried_at` gives, and what the search in `pull_pair` finds. Assumes nothing.
 use mathlib.Core.Path.{_≡_, refl, sym, ap, _∙_}
 use mathlib.Core.Logic.{_≢_}
 use mathlib.Core.Bool.{Bool, true, false, not, cond, false≢true}
