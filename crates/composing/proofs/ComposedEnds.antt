@@ -1,7 +1,7 @@
 -- Composing ends gives ends: nothing that it makes is illegal. Assumes nothing.
 use mathlib.Core.Path.{_≡_, refl, sym, ap, _∙_}
 use mathlib.Core.Bool.{Bool, true, false, not, cond, _&&_, _||_}
-use mathlib.Core.List.{[], _∷_, _++_}
+use mathlib.Core.List.{List, [], _∷_, _++_}
 use mathlib.Core.Option.{Option, none, some}
 use Prim.Native.Nat.{ℕ}
 use lib.Dec.{eqb}
@@ -16,7 +16,7 @@ use Rattle.joining.specs.Join.{isChild, bare, slashUnless, separator, body, joi
 use Rattle.prefix.proofs.PrefixLaws.{prefix-rest}
 use Rattle.joining.proofs.ReplaceLaws.{replace-prefix}
 use Rattle.joining.proofs.JoinLegal.{joined-legal}
-use Rattle.pairs.specs.Pair.{allEnds}
+use Rattle.pairs.specs.Pair.{Pair, everyEnd, allEnds}
 use Rattle.pairs.specs.Best.{best, serves}
 use Rattle.pairs.proofs.PlaceLaws.{chosen-best}
 use Rattle.maps.specs.Map.{Map, source, target, size, by, chosenOut, chosenHome, plainOut, plainHome}
@@ -115,3 +115,12 @@ pub composed-ends : ComposedEnds
 unfolding allEnds
 composed-ends outer inner eo ei =
     composed-every isEnd isEnd (λ t e. e) no-end outer inner (λ t q e. out-end outer eo t q e) (λ s q e. home-end inner ei s q e) eo ei
+
+-- and ends are legal
+pub ends-legal : (l : List Pair) → allEnds l ≡ true → everyEnd legal l ≡ true
+unfolding allEnds everyEnd
+ends-legal [] e = refl
+ends-legal (x ∷ l) e =
+    let s : isEnd (x .source) ≡ true = search (and-l, and-r) in
+    let t : isEnd (x .target) ≡ true = search (and-l, and-r) in
+    rw (end-legal (x .source) s, end-legal (x .target) t) (ends-legal l (search (and-l, and-r)))

@@ -1,2 +1,3 @@
 mod CallWays
-mod ComposedEnds
+pub mod ComposedEnds
+pub mod NeverIllegal
