@@ -1,1 +1,3 @@
+mod ImpliedEnds
 mod ImpliedWays
+mod NeverIllegal
