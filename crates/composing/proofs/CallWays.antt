@@ -1,5 +1,5 @@
 -- What each way through the calls gives. Assumes nothing.
-use mathlib.Core.Path.{_≡_, sym, _∙_}
+use mathlib.Core.Path.{_≡_, sym, ap, _∙_}
 use mathlib.Core.Bool.{Bool, true, false, not, cond, _&&_}
 use mathlib.Core.List.{List, [], _∷_}
 use Prim.Native.Nat.{ℕ, _+_, _*_, _/_, _≤_, _<_}
@@ -11,7 +11,7 @@ use Rattle.text.specs.Text.{Text}
 use Rattle.text.proofs.BoolLaws.{and-no, told, told-true, told-false}
 use Rattle.layer_offset.specs.declared.LayerOffset.{LayerOffset}
 use Rattle.layer_offset.specs.Offset.{identity, isIdentity, concatenated}
-use Rattle.pairs.specs.Pair.{Pair, everyEnd, allShort}
+use Rattle.pairs.specs.Pair.{Pair, everyEnd, allShort, allEnds}
 use Rattle.pairs.specs.Places.{pairsIn, endBytes}
 use Rattle.listing.specs.Lists.{listRoom}
 use Rattle.pairs.proofs.PlaceLaws.{pairsIn-length}
@@ -28,12 +28,13 @@ use Rattle.map_function.specs.declared.MapFunction.{MapFunction}
 use Rattle.map_function.specs.Read.{listOf, mapOf}
 use Rattle.map_function.specs.Made.{map, refused, roomFor, weighed, asItIs, fromPartsOutcome, held}
 use Rattle.scratch.specs.Scratch.{Holds}
-use Rattle.scratch.specs.Ends.{madeShort}
+use Rattle.scratch.specs.Ends.{madeShort, madeLegal, fromEnds}
 use Rattle.scratch.proofs.ScratchLaws.{holds-list}
-use Rattle.scratch.proofs.MapLaws.{identity-lent, held-all, no-map, weighed-map}
+use Rattle.scratch.proofs.MapLaws.{identity-lent, held-all, weighed-map, fromEnds-map}
 use Rattle.building.specs.Build.{modest}
 use Rattle.building.proofs.LengthLaws.{short-modest}
-use Rattle.composing.specs.Calls.{composedTime, timeOf, fromMade, composed, composing, composeCall, ComposesTo}
+use Rattle.composing.specs.Calls.{composedTime, timeOf, composed, composing, composeCall, ComposesTo}
+use Rattle.composing.proofs.ComposedEnds.{composed-ends, ends-legal}
 
 -- `composed_time`
 module _ (outer inner : LayerOffset) (b c d : Bool) (h : b ≡ isIdentity outer) (g : c ≡ isIdentity inner) (e : d ≡ (b && c)) where
@@ -51,39 +52,44 @@ module _ (store : Text) (places : List ℕ) (n : ℕ) (mark : Bool) (time : Laye
   abbrev list : List Pair
   list = pairsIn store places n
 
-  pub made-parts : b ≡ true → 4 * n ≤ length places
-      → fromMade list mark time out slots ≡ held (lentList store places n) (fromPartsOutcome list mark time out slots)
-  unfolding fromMade madeShort fromPartsOutcome
-  made-parts k l = rw (told h k) (sym (held-all store places n (fromPartsOutcome list mark time out slots) (omega arith)))
+  pub made-parts : b ≡ true → 4 * n ≤ length places → allEnds list ≡ true
+      → fromEnds list mark time out slots ≡ held (lentList store places n) (fromPartsOutcome list mark time out slots)
+  unfolding fromEnds madeShort madeLegal fromPartsOutcome
+  made-parts k l e = rw (told h k, ends-legal list e) (sym (held-all store places n (fromPartsOutcome list mark time out slots) (omega arith)))
 
-  pub made-many : 64 < n → fromMade list mark time out slots ≡ refused TooMany
-  unfolding fromMade
+  pub made-many : 64 < n → fromEnds list mark time out slots ≡ refused TooMany
+  unfolding fromEnds
   made-many l = rw (pairsIn-length store places n, lt-leb n 64 l)
 
   module _ (few : n ≤ 64) where
-    made-room : listRoom list out slots ≡ false → fromMade list mark time out slots ≡ refused NoRoom
-    unfolding fromMade roomFor
+    made-room : listRoom list out slots ≡ false → fromEnds list mark time out slots ≡ refused NoRoom
+    unfolding fromEnds roomFor
     made-room g = rw (g, pairsIn-length store places n, le-leb n 64 few)
 
-    pub made-slots : length slots / 4 < n → fromMade list mark time out slots ≡ refused NoRoom
+    pub made-slots : length slots / 4 < n → fromEnds list mark time out slots ≡ refused NoRoom
     unfolding listRoom
     made-slots l = made-room (rw (pairsIn-length store places n, lt-leb n (length slots / 4) l) (and-no (leb (endBytes list) (length out))))
 
     module _ (c : Bool) (g : c ≡ leb (endBytes list) (length out)) where
-      pub made-bytes : not c ≡ true → fromMade list mark time out slots ≡ refused NoRoom
+      pub made-bytes : not c ≡ true → fromEnds list mark time out slots ≡ refused NoRoom
       unfolding listRoom
       made-bytes l = made-room (rw (told-false g l))
 
-      pub made-long : b ≡ false → n ≤ length slots / 4 → not c ≡ false → fromMade list mark time out slots ≡ refused MadeTooLong
-      unfolding fromMade roomFor listRoom madeShort
+      pub made-long : b ≡ false → n ≤ length slots / 4 → not c ≡ false → fromEnds list mark time out slots ≡ refused MadeTooLong
+      unfolding fromEnds roomFor listRoom madeShort
       made-long k l f = rw (pairsIn-length store places n, le-leb n 64 few, told-true g f, le-leb n (length slots / 4) l, told h k)
 
 -- `compose_in`: the list that was built, under the composed mark and time offset
 pub built-map : (outer inner : Map) (time : LayerOffset) (out : Text) (slots : List ℕ) (n at : ℕ) (bytes : Text) (own : List ℕ)
     → Holds (composedPairs outer inner) n at bytes own → (mark : Bool) → mark ≡ (outer .mark && inner .mark) → (t : LayerOffset) → t ≡ time
-    → composed outer inner time out slots ≡ fromMade (pairsIn bytes own n) mark t out slots
+    → composed outer inner time out slots ≡ fromEnds (pairsIn bytes own n) mark t out slots
 unfolding composed
 built-map outer inner time out slots n at bytes own c mark e t f = rw (holds-list (composedPairs outer inner) n at bytes own c, e, f)
+
+-- .. whose ends are ends
+pub made-ends : (outer inner : Map) → allEnds (outer .pairs) ≡ true → allEnds (inner .pairs) ≡ true → (n at : ℕ) (bytes : Text) (own : List ℕ)
+    → Holds (composedPairs outer inner) n at bytes own → allEnds (pairsIn bytes own n) ≡ true
+made-ends outer inner eo ei n at bytes own c = ap allEnds (holds-list (composedPairs outer inner) n at bytes own c) ∙ composed-ends outer inner eo ei
 
 -- `compose`
 module _ (store : Text) (places : List ℕ) (outer : MapFunction) (istore : Text) (iplaces : List ℕ) (inner : MapFunction) (out : Text) (slots : List ℕ)
@@ -114,6 +120,12 @@ module _ (store : Text) (places : List ℕ) (outer : MapFunction) (istore : Text
 
     pub call-modest-inner : everyEnd modest (i .pairs) ≡ true
     call-modest-inner = short-modest (i .pairs) (inner-sound .shorts)
+
+    pub call-ends : allEnds (o .pairs) ≡ true
+    call-ends = outer-sound .ends
+
+    pub call-ends-inner : allEnds (i .pairs) ≡ true
+    call-ends-inner = inner-sound .ends
 
     pub call-few : inner .count + outer .count ≤ 128
     call-few = omega (arith, outer-sound .few, inner-sound .few)
@@ -148,26 +160,15 @@ module _ (store : Text) (places : List ℕ) (outer : MapFunction) (istore : Text
         unfolding composing
         call-composed l = passed ∙ rw (identity-outer, g, identity-inner, l)
 
--- a map that comes out of dropping is the one that dropping gives ..
-fromMade-map : (m : Map) (t : LayerOffset) (l : List Pair) (mark : Bool) (time : LayerOffset) (out : Text) (slots : List ℕ) → fromMade l mark time out slots ≡ map m t → m ≡ fromParts l mark
-unfolding fromMade roomFor madeShort
-fromMade-map m t l mark time out slots e = go (leb (length l) 64) (listRoom l out slots) (allShort l) e
-  where
-    go : (a b c : Bool) → cond a (cond b (cond c (map (fromParts l mark) time) (refused MadeTooLong)) (refused NoRoom)) (refused TooMany) ≡ map m t → m ≡ fromParts l mark
-    go true true true e = cc
-    go true true false e = absurd (no-map m t MadeTooLong e)
-    go true false c e = absurd (no-map m t NoRoom e)
-    go false b c e = absurd (no-map m t TooMany e)
-
--- .. so what comes out of composing is the composed map
+-- what comes out of composing is the composed map
 pub composes-to : ComposesTo
 unfolding composing composed compose asItIs
 composes-to outer inner m time t out slots e = go (isPathIdentity outer) (isPathIdentity inner) e
   where
     go : (a b : Bool)
         → cond a (weighed (inner .pairs) inner time out slots)
-        (cond b (weighed (outer .pairs) outer time out slots) (fromMade (composedPairs outer inner) (outer .mark && inner .mark) time out slots)) ≡ map m t
+        (cond b (weighed (outer .pairs) outer time out slots) (fromEnds (composedPairs outer inner) (outer .mark && inner .mark) time out slots)) ≡ map m t
         → m ≡ cond a inner (cond b outer (fromParts (composedPairs outer inner) (outer .mark && inner .mark)))
     go true b e = weighed-map m t (inner .pairs) inner time out slots e
     go false true e = weighed-map m t (outer .pairs) outer time out slots e
-    go false false e = fromMade-map m t (composedPairs outer inner) (outer .mark && inner .mark) time out slots e
+    go false false e = fromEnds-map m t (composedPairs outer inner) (outer .mark && inner .mark) time out slots e

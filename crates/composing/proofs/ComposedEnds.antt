@@ -1,7 +1,7 @@
 -- Composing ends gives ends: nothing that it makes is illegal. Assumes nothing.
 use mathlib.Core.Path.{_≡_, refl, sym, ap, _∙_}
 use mathlib.Core.Bool.{Bool, true, false, not, cond, _&&_, _||_}
-use mathlib.Core.List.{[], _∷_, _++_}
+use mathlib.Core.List.{List, [], _∷_, _++_}
 use mathlib.Core.Option.{Option, none, some}
 use Prim.Native.Nat.{ℕ}
 use lib.Dec.{eqb}
@@ -10,13 +10,13 @@ use Rattle.text.specs.Text.{Text, isNil, lacks}
 use Rattle.text.proofs.BoolLaws.{and-l, and-r, and-no, not-true}
 use Rattle.text.proofs.TextLaws.{no-text, lacks-first, lacks-rest, lacks-behind, lacks-join}
 use Rattle.grammar.specs.Legal.{isRoot, legal, isEnd}
-use Rattle.grammar.proofs.LegalLaws.{end-legal, end-lacks}
+use Rattle.grammar.proofs.LegalLaws.{end-legal, end-lacks, end-undotted}
 use Rattle.prefix.specs.Prefix.{hasPrefix, follows}
 use Rattle.joining.specs.Join.{isChild, bare, slashUnless, separator, body, joined, replacePrefix, hangs, spoils}
 use Rattle.prefix.proofs.PrefixLaws.{prefix-rest}
 use Rattle.joining.proofs.ReplaceLaws.{replace-prefix}
 use Rattle.joining.proofs.JoinLegal.{joined-legal}
-use Rattle.pairs.specs.Pair.{allEnds}
+use Rattle.pairs.specs.Pair.{Pair, everyEnd, allEnds}
 use Rattle.pairs.specs.Best.{best, serves}
 use Rattle.pairs.proofs.PlaceLaws.{chosen-best}
 use Rattle.maps.specs.Map.{Map, source, target, size, by, chosenOut, chosenHome, plainOut, plainHome}
@@ -48,10 +48,6 @@ joined-lacks : (b : ℕ) → eqb 47 b ≡ false → (s t r : Text) → lacks b t
 unfolding joined
 joined-lacks b h s t r e f =
     lacks-join b t (separator s t r ++ body s r) e (lacks-join b (separator s t r) (body s r) (separator-lacks b h s t r) (body-lacks b s r f))
-
-end-undotted : (s : Text) → isEnd s ≡ true → lacks 46 s ≡ true
-unfolding isEnd
-end-undotted s e = and-r (lacks 123 s) (lacks 46 s) (and-r (legal s) (lacks 123 s && lacks 46 s) e)
 
 -- what follows a prefix of an end is no property and no selection
 no-hang : (r : Text) → lacks 123 r ≡ true → lacks 46 r ≡ true → hangs r ≡ false
@@ -115,3 +111,12 @@ pub composed-ends : ComposedEnds
 unfolding allEnds
 composed-ends outer inner eo ei =
     composed-every isEnd isEnd (λ t e. e) no-end outer inner (λ t q e. out-end outer eo t q e) (λ s q e. home-end inner ei s q e) eo ei
+
+-- and ends are legal
+pub ends-legal : (l : List Pair) → allEnds l ≡ true → everyEnd legal l ≡ true
+unfolding allEnds everyEnd
+ends-legal [] e = refl
+ends-legal (x ∷ l) e =
+    let s : isEnd (x .source) ≡ true = search (and-l, and-r) in
+    let t : isEnd (x .target) ≡ true = search (and-l, and-r) in
+    rw (end-legal (x .source) s, end-legal (x .target) t) (ends-legal l (search (and-l, and-r)))

@@ -1,3 +1,4 @@
 -- The laws of this crate; the proof of each function stands in a folder of its name.
 mod CallWays
-mod ComposedEnds
+pub mod ComposedEnds
+pub mod NeverIllegal

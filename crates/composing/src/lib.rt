@@ -3,12 +3,13 @@ ghost use mathlib.Core.Path.{_≡_};
 ghost use mathlib.Core.Bool.{true};
 ghost use Prim.Native.Nat.{_+_, _*_, _≤_};
 ghost use lib.ListN.{length};
-ghost use Rattle.pairs.specs.Pair.{everyEnd};
+ghost use Rattle.pairs.specs.Pair.{everyEnd, allEnds};
 ghost use Rattle.pairs.specs.Places.{pairsIn};
 ghost use Rattle.map_function.specs.Read.{mapOf};
 ghost use Rattle.map_function.specs.Made.{GivesMap};
+ghost use Rattle.scratch.specs.Ends.{fromEnds};
 ghost use Rattle.building.specs.Build.{modest};
-ghost use Rattle.composing.specs.Calls.{composedTime, timeOf, fromMade, composed, composeCall};
+ghost use Rattle.composing.specs.Calls.{composedTime, timeOf, composed, composeCall};
 
 // The time offset of the composed map.
 pub fn composed_time(
@@ -23,7 +24,8 @@ pub fn composed_time(
     outer.concatenate(inner)
 }
 
-// The map made of the first n pairs, which were made themselves: questions 4 and 5, then 7.
+// The map made of the first n pairs, which were made themselves: questions 4 and 5, then 7. They are ends,
+// so 8 is not asked.
 fn from_made(
     store: &[u8],
     places: &[usize],
@@ -34,7 +36,8 @@ fn from_made(
     slots: &mut [usize],
 ) -> map_function::MapReply
     requires { ⌜ 4 * n ≤ length (now places) ⌝ }
-    ensures { λ r. ⌜ GivesMap (fromMade (pairsIn (now (store .entry)) (now (places .entry)) n) mark time (now (out .entry)) (now (slots .entry))) r (now (out .entry)) (now (out .exit)) (now (slots .entry)) (now (slots .exit)) ⌝ }
+    requires { ⌜ allEnds (pairsIn (now store) (now places) n) ≡ true ⌝ }
+    ensures { λ r. ⌜ GivesMap (fromEnds (pairsIn (now (store .entry)) (now (places .entry)) n) mark time (now (out .entry)) (now (slots .entry))) r (now (out .entry)) (now (out .exit)) (now (slots .entry)) (now (slots .exit)) ⌝ }
 {
     if scratch::are_short(store, places, n) {
         return map_function::from_parts(store, places, n, mark, time, out, slots);
@@ -66,6 +69,8 @@ fn compose_in(
 ) -> map_function::MapReply
     requires { ⌜ everyEnd modest (pairsIn (now store) (now places) (outer .count)) ≡ true ⌝ }
     requires { ⌜ everyEnd modest (pairsIn (now istore) (now iplaces) (inner .count)) ≡ true ⌝ }
+    requires { ⌜ allEnds (pairsIn (now store) (now places) (outer .count)) ≡ true ⌝ }
+    requires { ⌜ allEnds (pairsIn (now istore) (now iplaces) (inner .count)) ≡ true ⌝ }
     requires { ⌜ 1534 * (inner .count + outer .count) ≤ length (now bytes) ⌝ }
     requires { ⌜ 4 * (inner .count + outer .count) ≤ length (now own) ⌝ }
     ensures { λ r. ⌜ GivesMap (composed (mapOf (now (store .entry)) (now (places .entry)) outer) (mapOf (now (istore .entry)) (now (iplaces .entry)) inner) (timeOf outer inner) (now (out .entry)) (now (slots .entry))) r (now (out .entry)) (now (out .exit)) (now (slots .entry)) (now (slots .exit)) ⌝ }
@@ -101,6 +106,8 @@ fn compose_few(
 ) -> map_function::MapReply
     requires { ⌜ everyEnd modest (pairsIn (now store) (now places) (outer .count)) ≡ true ⌝ }
     requires { ⌜ everyEnd modest (pairsIn (now istore) (now iplaces) (inner .count)) ≡ true ⌝ }
+    requires { ⌜ allEnds (pairsIn (now store) (now places) (outer .count)) ≡ true ⌝ }
+    requires { ⌜ allEnds (pairsIn (now istore) (now iplaces) (inner .count)) ≡ true ⌝ }
     requires { ⌜ inner .count + outer .count ≤ 4 ⌝ }
     ensures { λ r. ⌜ GivesMap (composed (mapOf (now (store .entry)) (now (places .entry)) outer) (mapOf (now (istore .entry)) (now (iplaces .entry)) inner) (timeOf outer inner) (now (out .entry)) (now (slots .entry))) r (now (out .entry)) (now (out .exit)) (now (slots .entry)) (now (slots .exit)) ⌝ }
 {
@@ -133,6 +140,8 @@ fn compose_many(
 ) -> map_function::MapReply
     requires { ⌜ everyEnd modest (pairsIn (now store) (now places) (outer .count)) ≡ true ⌝ }
     requires { ⌜ everyEnd modest (pairsIn (now istore) (now iplaces) (inner .count)) ≡ true ⌝ }
+    requires { ⌜ allEnds (pairsIn (now store) (now places) (outer .count)) ≡ true ⌝ }
+    requires { ⌜ allEnds (pairsIn (now istore) (now iplaces) (inner .count)) ≡ true ⌝ }
     requires { ⌜ inner .count + outer .count ≤ 128 ⌝ }
     ensures { λ r. ⌜ GivesMap (composed (mapOf (now (store .entry)) (now (places .entry)) outer) (mapOf (now (istore .entry)) (now (iplaces .entry)) inner) (timeOf outer inner) (now (out .entry)) (now (slots .entry))) r (now (out .entry)) (now (out .exit)) (now (slots .entry)) (now (slots .exit)) ⌝ }
 {

@@ -9,16 +9,16 @@ use lib.ListN.{length, length-append}
 use borrow.Author.Tests.{le-leb, lt-leb, leb-true, leb-false}
 use Rattle.text.specs.Text.{Text}
 use Rattle.text.proofs.BoolLaws.{and-l, and-r, and-no, and-yes, told-true, told-false}
-use Rattle.grammar.specs.Legal.{fits}
+use Rattle.grammar.specs.Legal.{legal, fits}
 use Rattle.layer_offset.specs.declared.LayerOffset.{LayerOffset}
 use Rattle.layer_offset.specs.Offset.{identity}
-use Rattle.pairs.specs.Pair.{Pair, everyEnd, allShort}
+use Rattle.pairs.specs.Pair.{Pair, everyEnd, allShort, allEnds}
 use Rattle.pairs.specs.Places.{pairsIn, endBytes}
 use Rattle.listing.specs.Lists.{listRoom}
 use Rattle.pairs.proofs.PlaceLaws.{pairsIn-length}
 use Rattle.pairs.proofs.ListLaws.{read-back}
 use Rattle.path.specs.declared.Refusal.{Refusal}
-use Rattle.path.specs.declared.Refusal.the-variants.{TooMany, NoRoom, MadeTooLong}
+use Rattle.path.specs.declared.Refusal.the-variants.{TooMany, NoRoom, MadeTooLong, MadeIllegal}
 use Rattle.path.specs.declared.Asked.{Asked}
 use Rattle.path.specs.declared.Asked.the-variants.{Passed, Refused as RefusedAsked}
 use Rattle.asking.specs.Asking.{lentList, asked}
@@ -34,7 +34,7 @@ use Rattle.map_function.specs.declared.MapReply.the-variants.{Made}
 use Rattle.map_function.specs.Read.{isIdentityMap, isPathIdentity as leavesPaths, listOf, mapOf}
 use Rattle.map_function.specs.Made.{MapOutcome, map, refused, numbersOf, mapReply, mapBytes, mapSlots, roomFor, weighed, asItIs, fromPartsOutcome, held}
 use Rattle.scratch.specs.Scratch.{Holds}
-use Rattle.scratch.specs.Ends.{madeShort}
+use Rattle.scratch.specs.Ends.{madeShort, madeLegal}
 use Rattle.scratch.proofs.ScratchLaws.{holds-list}
 use Rattle.scratch.proofs.MapLaws.{identity-lent, held-all, no-map}
 use Rattle.building.specs.Build.{modest}
@@ -42,6 +42,7 @@ use Rattle.building.proofs.LengthLaws.{short-modest, composed-modest, modest-by
 use Rattle.composing.specs.Calls.{composedTime}
 use Rattle.implying.specs.Implied.{exchangedPairs, composedFrom, inverseList, classList, impliedList, allFew, implying, ImpliesTo, impliedTime, impliedClassCall}
 use Rattle.implying.specs.Settle.{settled, composedOf, madeOf, roomBeside, finished}
+use Rattle.implying.proofs.ImpliedEnds.{every-append, implied-legal}
 
 -- the exchanged list has the lengths of the other
 exchanged-bytes : (l : List Pair) → endBytes (exchangedPairs l) ≡ endBytes l
@@ -315,13 +316,8 @@ end-append [] b = omega arith
 end-append (x ∷ a) b = omega (arith, end-append a b)
 
 short-append : (a b : List Pair) → allShort (a ++ b) ≡ (allShort a && allShort b)
-unfolding allShort everyEnd
-short-append [] b = refl
-short-append (x ∷ a) b = go (fits (x .source) && fits (x .target)) (short-append a b)
-  where
-    go : (c : Bool) → allShort (a ++ b) ≡ (allShort a && allShort b) → (c && allShort (a ++ b)) ≡ (c && allShort a && allShort b)
-    go true ih = ih
-    go false ih = refl
+unfolding allShort
+short-append = every-append fits
 
 -- settling adds no pair and no end
 settled-few : (whole : Bool) (l : List Pair) (mark : Bool) → length ((settled whole l mark) .pairs) ≤ length l
@@ -458,16 +454,17 @@ module _ (store : Text) (places : List ℕ) (transfer : MapFunction) (cstore : T
         first-few : leb (length (inverseList tr)) 64 ≡ true
         first-few = le-leb (length (inverseList tr)) 64 (omega (arith, few, exchanged-number (tr .pairs), pairsIn-length store places (transfer .count)))
 
-        implied-last : (time : LayerOffset) (out : Text) (slots : List ℕ)
+        implied-last : allEnds (tr .pairs) ≡ true → allEnds (cl .pairs) ≡ true → (time : LayerOffset) (out : Text) (slots : List ℕ)
             → implying tr cl time out slots ≡ finished tr (compose cl (inverse tr)) k end (allShort (composedFrom cl bk)) time out slots
-        unfolding implying allFew finished roomFor listRoom madeShort roomBeside impliedClass impliedList
-        implied-last time out slots =
-            rw (list-is, all-bytes, all-number, short-append (composedFrom cl bk) last, first-few, ← (c .number), le-leb k 64 small) refl
+        unfolding implying allFew finished roomFor listRoom madeShort madeLegal roomBeside impliedClass impliedList
+        implied-last te ce time out slots =
+            rw (implied-legal tr cl te ce, list-is, all-bytes, all-number, short-append (composedFrom cl bk) last, first-few, ← (c .number), le-leb k 64 small) refl
 
-        pub implied-rest : (short : Bool) → short ≡ allShort (pairsIn bytes own k) → (time : LayerOffset) → time ≡ impliedTime transfer class → (out : Text) (slots : List ℕ)
+        pub implied-rest : allEnds (tr .pairs) ≡ true → allEnds (cl .pairs) ≡ true → (short : Bool) → short ≡ allShort (pairsIn bytes own k)
+            → (time : LayerOffset) → time ≡ impliedTime transfer class → (out : Text) (slots : List ℕ)
             → implying tr cl (impliedTime transfer class) out slots ≡ finished tr (mapOf mid′ mids′ part) k end short time out slots
-        implied-rest short f time g out slots =
-            implied-last (impliedTime transfer class) out slots
+        implied-rest te ce short f time g out slots =
+            implied-last te ce (impliedTime transfer class) out slots
             ∙ ap (λ (x : Map). finished tr x k end (allShort (composedFrom cl bk)) (impliedTime transfer class) out slots) (sym part-is)
             ∙ ap (λ (x : Bool). finished tr (mapOf mid′ mids′ part) k end x (impliedTime transfer class) out slots) (sym (f ∙ ap allShort built))
             ∙ ap (λ (x : LayerOffset). finished tr (mapOf mid′ mids′ part) k end short x out slots) (sym g)
@@ -506,14 +503,16 @@ module _ (store : Text) (places : List ℕ) (transfer : MapFunction) (cstore : T
 
 -- a map that comes out is the implied one
 pub implies-to : ImpliesTo
-unfolding implying roomFor madeShort
+unfolding implying roomFor madeShort madeLegal
 implies-to transfer class m time t out slots e =
     go (allFew transfer class) (listRoom (inverseList transfer ++ (classList transfer class ++ impliedList transfer class)) out slots)
-    (allShort (classList transfer class ++ impliedList transfer class)) e
+    (allShort (classList transfer class ++ impliedList transfer class)) (everyEnd legal (classList transfer class ++ impliedList transfer class)) e
   where
-    go : (a b c : Bool) → cond a (cond b (cond c (map (impliedClass transfer class) time) (refused MadeTooLong)) (refused NoRoom)) (refused TooMany) ≡ map m t
+    go : (a b c d : Bool)
+        → cond a (cond b (cond c (cond d (map (impliedClass transfer class) time) (refused MadeIllegal)) (refused MadeTooLong)) (refused NoRoom)) (refused TooMany) ≡ map m t
         → m ≡ impliedClass transfer class
-    go true true true e = cc
-    go true true false e = absurd (no-map m t MadeTooLong e)
-    go true false c e = absurd (no-map m t NoRoom e)
-    go false b c e = absurd (no-map m t TooMany e)
+    go true true true true e = cc
+    go true true true false e = absurd (no-map m t MadeIllegal e)
+    go true true false d e = absurd (no-map m t MadeTooLong e)
+    go true false c d e = absurd (no-map m t NoRoom e)
+    go false b c d e = absurd (no-map m t TooMany e)

@@ -1,2 +1,4 @@
 -- The laws of this crate; the proof of each function stands in a folder of its name.
+mod ImpliedEnds
 mod ImpliedWays
+mod NeverIllegal

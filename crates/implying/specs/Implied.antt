@@ -11,7 +11,7 @@ use Rattle.layer_offset.specs.Offset.{identity}
 use Rattle.pairs.specs.Pair.{Pair}
 use Rattle.pairs.specs.Places.{pairsIn}
 use Rattle.path.specs.Refusal.{unless}
-use Rattle.path.specs.declared.Refusal.the-variants.{TooMany}
+use Rattle.path.specs.declared.Refusal.the-variants.{TooMany, MadeIllegal}
 use Rattle.asking.specs.Asking.{asked}
 use Rattle.maps.specs.Map.{Map}
 use Rattle.maps.specs.Compose.{isPathIdentity, composedPairs, compose}
@@ -19,7 +19,7 @@ use Rattle.maps.specs.Derive.{exchanged, inverse, impliedClass}
 use Rattle.map_function.specs.declared.MapFunction.{MapFunction}
 use Rattle.map_function.specs.Read.{isIdentityMap, listOf, mapOf}
 use Rattle.map_function.specs.Made.{MapOutcome, map, refused, roomFor, asItIs}
-use Rattle.scratch.specs.Ends.{madeShort}
+use Rattle.scratch.specs.Ends.{madeShort, madeLegal}
 use Rattle.composing.specs.Calls.{composedTime}
 
 -- the list that dropping starts from: in `inverse` the pairs with their ends exchanged, ..
@@ -48,13 +48,15 @@ unfoldable pub allFew : Map → Map → Bool
 unfolding classList impliedList
 allFew transfer class = leb (length (inverseList transfer)) 64 && (leb (length (classList transfer class)) 64 && leb (length (impliedList transfer class)) 64)
 
--- across a transfer that is no identity: 4 of each list, 5 of the three together, then 7 of the ends that were made
+-- across a transfer that is no identity: 4 of each list, 5 of the three together, then 7 and 8 of the ends that were made; 8 never comes:
+-- `implied-legal` (proofs/ImpliedEnds.antt)
 unfoldable pub implying : Map → Map → LayerOffset → Text → List ℕ → MapOutcome
-unfolding allFew roomFor madeShort impliedClass
+unfolding allFew roomFor madeShort madeLegal impliedClass
 implying transfer class time out slots =
     cond (allFew transfer class)
     (roomFor (inverseList transfer ++ (classList transfer class ++ impliedList transfer class)) out slots
-    (madeShort (classList transfer class ++ impliedList transfer class) (map (impliedClass transfer class) time)))
+    (madeShort (classList transfer class ++ impliedList transfer class)
+    (madeLegal (classList transfer class ++ impliedList transfer class) (map (impliedClass transfer class) time))))
     (refused TooMany)
 
 -- a map that comes out is the implied one (proved in proofs/ImpliedWays.antt)
@@ -72,3 +74,8 @@ impliedClassCall store places transfer cstore cplaces class out slots =
     unless (asked (listOf store places transfer ∷ listOf cstore cplaces class ∷ []) [] []) refused
     (cond (isIdentityMap transfer) (asItIs (pairsIn cstore cplaces (class .count)) (class .«has_root_identity») (class .«time_offset») out slots)
     (implying (mapOf store places transfer) (mapOf cstore cplaces class) (impliedTime transfer class) out slots))
+
+-- no call of `implied_class` answers 8 (proved in proofs/NeverIllegal.antt)
+abbrev pub NeverIllegal : Type 0
+NeverIllegal = (store : Text) (places : List ℕ) (transfer : MapFunction) (cstore : Text) (cplaces : List ℕ) (class : MapFunction) (out : Text) (slots : List ℕ)
+    → impliedClassCall store places transfer cstore cplaces class out slots ≡ refused MadeIllegal → ⊥

@@ -41,7 +41,7 @@ unfoldable pub roomBeside : List Pair → ℕ → ℕ → ℕ → ℕ → Bool
 unfolding endBytes
 roomBeside l k b room slots = leb (endBytes l + b) room && leb (length l + k) (slots / 4)
 
--- the questions that are left once the class after the inverse is there: its list had n pairs and `at` bytes, short or not
+-- the questions that are left once the class after the inverse is there: its list had n pairs and `at` bytes, short or not; 8 never comes
 unfoldable pub finished : Map → Map → ℕ → ℕ → Bool → LayerOffset → Text → List ℕ → MapOutcome
 unfolding composedFrom compose withRootIdentity roomBeside allShort
 finished transfer middle n at short time out slots =

@@ -5,7 +5,7 @@ ghost use mathlib.Core.Bool.{true, _||_};
 ghost use Prim.Native.Nat.{_+_, _*_, _≤_};
 ghost use lib.ListN.{length};
 ghost use Rattle.layer_offset.specs.Offset.{identity};
-ghost use Rattle.pairs.specs.Pair.{everyEnd, allShort};
+ghost use Rattle.pairs.specs.Pair.{everyEnd, allShort, allEnds};
 ghost use Rattle.pairs.specs.Places.{pairsIn};
 ghost use Rattle.listing.specs.Lists.{listRoom};
 ghost use Rattle.maps.specs.Map.{lentMap};
@@ -220,7 +220,7 @@ fn finish(
 }
 
 // The same from the beginning, in memory of the call's own: the inverse and then the class's part stand
-// in `mid`.
+// in `mid`. What is made of ends is legal, so question 8 is not asked.
 fn implied_in(
     store: &[u8],
     places: &[usize],
@@ -234,6 +234,8 @@ fn implied_in(
     requires { ⌜ (transfer .count ≤ 64) × ((4 * transfer .count ≤ length (now places)) × (class .count ≤ 64)) ⌝ }
     requires { ⌜ allShort (pairsIn (now store) (now places) (transfer .count)) ≡ true ⌝ }
     requires { ⌜ allShort (pairsIn (now cstore) (now cplaces) (class .count)) ≡ true ⌝ }
+    requires { ⌜ allEnds (pairsIn (now store) (now places) (transfer .count)) ≡ true ⌝ }
+    requires { ⌜ allEnds (pairsIn (now cstore) (now cplaces) (class .count)) ≡ true ⌝ }
     ensures { λ r. ⌜ GivesMap (implying (mapOf (now (store .entry)) (now (places .entry)) transfer) (mapOf (now (cstore .entry)) (now (cplaces .entry)) class) (impliedTime transfer class) (now (out .entry)) (now (slots .entry))) r (now (out .entry)) (now (out .exit)) (now (slots .entry)) (now (slots .exit)) ⌝ }
 {
     let mut bytes = [0u8; 196352];

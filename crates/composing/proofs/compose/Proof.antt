@@ -1,6 +1,6 @@
 use native.Mathlib.Omega.{arith}
 use Rattle.map_function.proofs.NewWays.{refusing-map, gives-map}
-use Rattle.composing.proofs.CallWays.{call-refused, call-modest, call-modest-inner, call-few, call-inner, call-outer, call-composed}
+use Rattle.composing.proofs.CallWays.{call-refused, call-modest, call-modest-inner, call-ends, call-ends-inner, call-few, call-inner, call-outer, call-composed}
 use borrow.Author.Needs.{needs}
 use Rattle.composing.proofs.compose.Statement.{statement}
 use Rattle.composing.proofs.compose.Tie as tie
@@ -54,7 +54,7 @@ add-if3 : tie.Need-add-if3
 add-if3 c = omega (arith, call-few (c .before .before .before .before .before .before .before .before .before .before .before .before .before .before .args .store .now) (c .before .before .before .before .before .before .before .before .before .before .before .before .before .before .args .places .now) (c .before .before .before .before .before .before .before .before .before .before .before .before .before .before .args .outer) (c .before .before .before .before .before .before .before .before .before .before .before .before .before .before .args .istore .now) (c .before .before .before .before .before .before .before .before .before .before .before .before .before .before .args .iplaces .now) (c .before .before .before .before .before .before .before .before .before .before .before .before .before .before .args .inner) (c .before .before .before .before .before .before .before .before .before .before .before .before .before .before .args .out .now) (c .before .before .before .before .before .before .before .before .before .before .before .before .before .before .args .slots .now) _ (c .before .before .before .before .before .before .before .ask-lists .ensures) (c .before .before .before .before .before .enum-told .given .1))
 
 compose-few-requires : tie.Need-compose-few-requires
-compose-few-requires c κs = (call-modest (c .before .before .before .before .before .before .before .before .before .before .before .before .before .before .before .before .before .args .store .now) (c .before .before .before .before .before .before .before .before .before .before .before .before .before .before .before .before .before .args .places .now) (c .before .before .before .before .before .before .before .before .before .before .before .before .before .before .before .before .before .args .outer) (c .before .before .before .before .before .before .before .before .before .before .before .before .before .before .before .before .before .args .istore .now) (c .before .before .before .before .before .before .before .before .before .before .before .before .before .before .before .before .before .args .iplaces .now) (c .before .before .before .before .before .before .before .before .before .before .before .before .before .before .before .before .before .args .inner) (c .before .before .before .before .before .before .before .before .before .before .before .before .before .before .before .before .before .args .out .now) (c .before .before .before .before .before .before .before .before .before .before .before .before .before .before .before .before .before .args .slots .now) _ (c .before .before .before .before .before .before .before .before .before .before .ask-lists .ensures) (c .before .before .before .before .before .before .before .before .enum-told .given .1), (call-modest-inner (c .before .before .before .before .before .before .before .before .before .before .before .before .before .before .before .before .before .args .store .now) (c .before .before .before .before .before .before .before .before .before .before .before .before .before .before .before .before .before .args .places .now) (c .before .before .before .before .before .before .before .before .before .before .before .before .before .before .before .before .before .args .outer) (c .before .before .before .before .before .before .before .before .before .before .before .before .before .before .before .before .before .args .istore .now) (c .before .before .before .before .before .before .before .before .before .before .before .before .before .before .before .before .before .args .iplaces .now) (c .before .before .before .before .before .before .before .before .before .before .before .before .before .before .before .before .before .args .inner) (c .before .before .before .before .before .before .before .before .before .before .before .before .before .before .before .before .before .args .out .now) (c .before .before .before .before .before .before .before .before .before .before .before .before .before .before .before .before .before .args .slots .now) _ (c .before .before .before .before .before .before .before .before .before .before .ask-lists .ensures) (c .before .before .before .before .before .before .before .before .enum-told .given .1), c .before .before .if3 .taken))
+compose-few-requires c κs = (call-modest (c .before .before .before .before .before .before .before .before .before .before .before .before .before .before .before .before .before .args .store .now) (c .before .before .before .before .before .before .before .before .before .before .before .before .before .before .before .before .before .args .places .now) (c .before .before .before .before .before .before .before .before .before .before .before .before .before .before .before .before .before .args .outer) (c .before .before .before .before .before .before .before .before .before .before .before .before .before .before .before .before .before .args .istore .now) (c .before .before .before .before .before .before .before .before .before .before .before .before .before .before .before .before .before .args .iplaces .now) (c .before .before .before .before .before .before .before .before .before .before .before .before .before .before .before .before .before .args .inner) (c .before .before .before .before .before .before .before .before .before .before .before .before .before .before .before .before .before .args .out .now) (c .before .before .before .before .before .before .before .before .before .before .before .before .before .before .before .before .before .args .slots .now) _ (c .before .before .before .before .before .before .before .before .before .before .ask-lists .ensures) (c .before .before .before .before .before .before .before .before .enum-told .given .1), (call-modest-inner (c .before .before .before .before .before .before .before .before .before .before .before .before .before .before .before .before .before .args .store .now) (c .before .before .before .before .before .before .before .before .before .before .before .before .before .before .before .before .before .args .places .now) (c .before .before .before .before .before .before .before .before .before .before .before .before .before .before .before .before .before .args .outer) (c .before .before .before .before .before .before .before .before .before .before .before .before .before .before .before .before .before .args .istore .now) (c .before .before .before .before .before .before .before .before .before .before .before .before .before .before .before .before .before .args .iplaces .now) (c .before .before .before .before .before .before .before .before .before .before .before .before .before .before .before .before .before .args .inner) (c .before .before .before .before .before .before .before .before .before .before .before .before .before .before .before .before .before .args .out .now) (c .before .before .before .before .before .before .before .before .before .before .before .before .before .before .before .before .before .args .slots .now) _ (c .before .before .before .before .before .before .before .before .before .before .ask-lists .ensures) (c .before .before .before .before .before .before .before .before .enum-told .given .1), (call-ends (c .before .before .before .before .before .before .before .before .before .before .before .before .before .before .before .before .before .args .store .now) (c .before .before .before .before .before .before .before .before .before .before .before .before .before .before .before .before .before .args .places .now) (c .before .before .before .before .before .before .before .before .before .before .before .before .before .before .before .before .before .args .outer) (c .before .before .before .before .before .before .before .before .before .before .before .before .before .before .before .before .before .args .istore .now) (c .before .before .before .before .before .before .before .before .before .before .before .before .before .before .before .before .before .args .iplaces .now) (c .before .before .before .before .before .before .before .before .before .before .before .before .before .before .before .before .before .args .inner) (c .before .before .before .before .before .before .before .before .before .before .before .before .before .before .before .before .before .args .out .now) (c .before .before .before .before .before .before .before .before .before .before .before .before .before .before .before .before .before .args .slots .now) _ (c .before .before .before .before .before .before .before .before .before .before .ask-lists .ensures) (c .before .before .before .before .before .before .before .before .enum-told .given .1), (call-ends-inner (c .before .before .before .before .before .before .before .before .before .before .before .before .before .before .before .before .before .args .store .now) (c .before .before .before .before .before .before .before .before .before .before .before .before .before .before .before .before .before .args .places .now) (c .before .before .before .before .before .before .before .before .before .before .before .before .before .before .before .before .before .args .outer) (c .before .before .before .before .before .before .before .before .before .before .before .before .before .before .before .before .before .args .istore .now) (c .before .before .before .before .before .before .before .before .before .before .before .before .before .before .before .before .before .args .iplaces .now) (c .before .before .before .before .before .before .before .before .before .before .before .before .before .before .before .before .before .args .inner) (c .before .before .before .before .before .before .before .before .before .before .before .before .before .before .before .before .before .args .out .now) (c .before .before .before .before .before .before .before .before .before .before .before .before .before .before .before .before .before .args .slots .now) _ (c .before .before .before .before .before .before .before .before .before .before .ask-lists .ensures) (c .before .before .before .before .before .before .before .before .enum-told .given .1), c .before .before .if3 .taken))))
 
 same-length-5 : tie.Need-same-length-5
 same-length-5 c = search needs
@@ -66,7 +66,7 @@ returns-4 : tie.Need-returns-4
 returns-4 c = gives-map _ _ (call-composed (c .before .before .before .before .before .before .before .before .before .before .before .before .before .before .before .before .before .before .before .before .before .before .args .store .now) (c .before .before .before .before .before .before .before .before .before .before .before .before .before .before .before .before .before .before .before .before .before .before .args .places .now) (c .before .before .before .before .before .before .before .before .before .before .before .before .before .before .before .before .before .before .before .before .before .before .args .outer) (c .before .before .before .before .before .before .before .before .before .before .before .before .before .before .before .before .before .before .before .before .before .before .args .istore .now) (c .before .before .before .before .before .before .before .before .before .before .before .before .before .before .before .before .before .before .before .before .before .before .args .iplaces .now) (c .before .before .before .before .before .before .before .before .before .before .before .before .before .before .before .before .before .before .before .before .before .before .args .inner) (c .before .before .before .before .before .before .before .before .before .before .before .before .before .before .before .before .before .before .before .before .before .before .args .out .now) (c .before .before .before .before .before .before .before .before .before .before .before .before .before .before .before .before .before .before .before .before .before .before .args .slots .now) _ (c .before .before .before .before .before .before .before .before .before .before .before .before .before .before .before .ask-lists .ensures) (c .before .before .before .before .before .before .before .before .before .before .before .before .before .enum-told .given .1) _ (c .before .before .before .before .before .before .before .before .before .before .before .before .composed-time .ensures) _ (c .before .before .before .before .before .before .before .before .before .before .before .both .ensures) (c .before .before .before .before .before .before .before .before .before .before .if1 .left) _ (c .before .before .before .before .before .before .before .before .before .both2 .ensures) (c .before .before .before .before .before .before .before .before .if2 .left)) _ _ _ _ _ (c .before .before .before .before .compose-few .ensures)
 
 compose-many-requires : tie.Need-compose-many-requires
-compose-many-requires c κs = (call-modest (c .before .before .before .before .before .before .before .before .before .before .before .before .before .before .before .before .before .args .store .now) (c .before .before .before .before .before .before .before .before .before .before .before .before .before .before .before .before .before .args .places .now) (c .before .before .before .before .before .before .before .before .before .before .before .before .before .before .before .before .before .args .outer) (c .before .before .before .before .before .before .before .before .before .before .before .before .before .before .before .before .before .args .istore .now) (c .before .before .before .before .before .before .before .before .before .before .before .before .before .before .before .before .before .args .iplaces .now) (c .before .before .before .before .before .before .before .before .before .before .before .before .before .before .before .before .before .args .inner) (c .before .before .before .before .before .before .before .before .before .before .before .before .before .before .before .before .before .args .out .now) (c .before .before .before .before .before .before .before .before .before .before .before .before .before .before .before .before .before .args .slots .now) _ (c .before .before .before .before .before .before .before .before .before .before .ask-lists .ensures) (c .before .before .before .before .before .before .before .before .enum-told .given .1), (call-modest-inner (c .before .before .before .before .before .before .before .before .before .before .before .before .before .before .before .before .before .args .store .now) (c .before .before .before .before .before .before .before .before .before .before .before .before .before .before .before .before .before .args .places .now) (c .before .before .before .before .before .before .before .before .before .before .before .before .before .before .before .before .before .args .outer) (c .before .before .before .before .before .before .before .before .before .before .before .before .before .before .before .before .before .args .istore .now) (c .before .before .before .before .before .before .before .before .before .before .before .before .before .before .before .before .before .args .iplaces .now) (c .before .before .before .before .before .before .before .before .before .before .before .before .before .before .before .before .before .args .inner) (c .before .before .before .before .before .before .before .before .before .before .before .before .before .before .before .before .before .args .out .now) (c .before .before .before .before .before .before .before .before .before .before .before .before .before .before .before .before .before .args .slots .now) _ (c .before .before .before .before .before .before .before .before .before .before .ask-lists .ensures) (c .before .before .before .before .before .before .before .before .enum-told .given .1), call-few (c .before .before .before .before .before .before .before .before .before .before .before .before .before .before .before .before .before .args .store .now) (c .before .before .before .before .before .before .before .before .before .before .before .before .before .before .before .before .before .args .places .now) (c .before .before .before .before .before .before .before .before .before .before .before .before .before .before .before .before .before .args .outer) (c .before .before .before .before .before .before .before .before .before .before .before .before .before .before .before .before .before .args .istore .now) (c .before .before .before .before .before .before .before .before .before .before .before .before .before .before .before .before .before .args .iplaces .now) (c .before .before .before .before .before .before .before .before .before .before .before .before .before .before .before .before .before .args .inner) (c .before .before .before .before .before .before .before .before .before .before .before .before .before .before .before .before .before .args .out .now) (c .before .before .before .before .before .before .before .before .before .before .before .before .before .before .before .before .before .args .slots .now) _ (c .before .before .before .before .before .before .before .before .before .before .ask-lists .ensures) (c .before .before .before .before .before .before .before .before .enum-told .given .1)))
+compose-many-requires c κs = (call-modest (c .before .before .before .before .before .before .before .before .before .before .before .before .before .before .before .before .before .args .store .now) (c .before .before .before .before .before .before .before .before .before .before .before .before .before .before .before .before .before .args .places .now) (c .before .before .before .before .before .before .before .before .before .before .before .before .before .before .before .before .before .args .outer) (c .before .before .before .before .before .before .before .before .before .before .before .before .before .before .before .before .before .args .istore .now) (c .before .before .before .before .before .before .before .before .before .before .before .before .before .before .before .before .before .args .iplaces .now) (c .before .before .before .before .before .before .before .before .before .before .before .before .before .before .before .before .before .args .inner) (c .before .before .before .before .before .before .before .before .before .before .before .before .before .before .before .before .before .args .out .now) (c .before .before .before .before .before .before .before .before .before .before .before .before .before .before .before .before .before .args .slots .now) _ (c .before .before .before .before .before .before .before .before .before .before .ask-lists .ensures) (c .before .before .before .before .before .before .before .before .enum-told .given .1), (call-modest-inner (c .before .before .before .before .before .before .before .before .before .before .before .before .before .before .before .before .before .args .store .now) (c .before .before .before .before .before .before .before .before .before .before .before .before .before .before .before .before .before .args .places .now) (c .before .before .before .before .before .before .before .before .before .before .before .before .before .before .before .before .before .args .outer) (c .before .before .before .before .before .before .before .before .before .before .before .before .before .before .before .before .before .args .istore .now) (c .before .before .before .before .before .before .before .before .before .before .before .before .before .before .before .before .before .args .iplaces .now) (c .before .before .before .before .before .before .before .before .before .before .before .before .before .before .before .before .before .args .inner) (c .before .before .before .before .before .before .before .before .before .before .before .before .before .before .before .before .before .args .out .now) (c .before .before .before .before .before .before .before .before .before .before .before .before .before .before .before .before .before .args .slots .now) _ (c .before .before .before .before .before .before .before .before .before .before .ask-lists .ensures) (c .before .before .before .before .before .before .before .before .enum-told .given .1), (call-ends (c .before .before .before .before .before .before .before .before .before .before .before .before .before .before .before .before .before .args .store .now) (c .before .before .before .before .before .before .before .before .before .before .before .before .before .before .before .before .before .args .places .now) (c .before .before .before .before .before .before .before .before .before .before .before .before .before .before .before .before .before .args .outer) (c .before .before .before .before .before .before .before .before .before .before .before .before .before .before .before .before .before .args .istore .now) (c .before .before .before .before .before .before .before .before .before .before .before .before .before .before .before .before .before .args .iplaces .now) (c .before .before .before .before .before .before .before .before .before .before .before .before .before .before .before .before .before .args .inner) (c .before .before .before .before .before .before .before .before .before .before .before .before .before .before .before .before .before .args .out .now) (c .before .before .before .before .before .before .before .before .before .before .before .before .before .before .before .before .before .args .slots .now) _ (c .before .before .before .before .before .before .before .before .before .before .ask-lists .ensures) (c .before .before .before .before .before .before .before .before .enum-told .given .1), (call-ends-inner (c .before .before .before .before .before .before .before .before .before .before .before .before .before .before .before .before .before .args .store .now) (c .before .before .before .before .before .before .before .before .before .before .before .before .before .before .before .before .before .args .places .now) (c .before .before .before .before .before .before .before .before .before .before .before .before .before .before .before .before .before .args .outer) (c .before .before .before .before .before .before .before .before .before .before .before .before .before .before .before .before .before .args .istore .now) (c .before .before .before .before .before .before .before .before .before .before .before .before .before .before .before .before .before .args .iplaces .now) (c .before .before .before .before .before .before .before .before .before .before .before .before .before .before .before .before .before .args .inner) (c .before .before .before .before .before .before .before .before .before .before .before .before .before .before .before .before .before .args .out .now) (c .before .before .before .before .before .before .before .before .before .before .before .before .before .before .before .before .before .args .slots .now) _ (c .before .before .before .before .before .before .before .before .before .before .ask-lists .ensures) (c .before .before .before .before .before .before .before .before .enum-told .given .1), call-few (c .before .before .before .before .before .before .before .before .before .before .before .before .before .before .before .before .before .args .store .now) (c .before .before .before .before .before .before .before .before .before .before .before .before .before .before .before .before .before .args .places .now) (c .before .before .before .before .before .before .before .before .before .before .before .before .before .before .before .before .before .args .outer) (c .before .before .before .before .before .before .before .before .before .before .before .before .before .before .before .before .before .args .istore .now) (c .before .before .before .before .before .before .before .before .before .before .before .before .before .before .before .before .before .args .iplaces .now) (c .before .before .before .before .before .before .before .before .before .before .before .before .before .before .before .before .before .args .inner) (c .before .before .before .before .before .before .before .before .before .before .before .before .before .before .before .before .before .args .out .now) (c .before .before .before .before .before .before .before .before .before .before .before .before .before .before .before .before .before .args .slots .now) _ (c .before .before .before .before .before .before .before .before .before .before .ask-lists .ensures) (c .before .before .before .before .before .before .before .before .enum-told .given .1)))))
 
 same-length-7 : tie.Need-same-length-7
 same-length-7 c = search needs

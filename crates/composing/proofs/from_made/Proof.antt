@@ -17,7 +17,7 @@ same-length-2 : tie.Need-same-length-2
 same-length-2 c = search needs
 
 returns : tie.Need-returns
-returns c = gives-map _ _ (made-parts (c .before .before .before .before .before .before .before .before .before .before .before .before .before .args .store .now) (c .before .before .before .before .before .before .before .before .before .before .before .before .before .args .places .now) (c .before .before .before .before .before .before .before .before .before .before .before .before .before .args .n) (c .before .before .before .before .before .before .before .before .before .before .before .before .before .args .mark) (c .before .before .before .before .before .before .before .before .before .before .before .before .before .args .time) (c .before .before .before .before .before .before .before .before .before .before .before .before .before .args .out .now) (c .before .before .before .before .before .before .before .before .before .before .before .before .before .args .slots .now) _ (c .before .before .before .before .before .before .before .before .are-short .ensures) (c .before .before .before .before .before .before .before .if1 .taken) (c .before .before .before .before .before .before .before .before .before .before .before .before .before .pre)) _ _ _ _ _ (c .before .before .before .before .from-parts .ensures)
+returns c = gives-map _ _ (made-parts (c .before .before .before .before .before .before .before .before .before .before .before .before .before .args .store .now) (c .before .before .before .before .before .before .before .before .before .before .before .before .before .args .places .now) (c .before .before .before .before .before .before .before .before .before .before .before .before .before .args .n) (c .before .before .before .before .before .before .before .before .before .before .before .before .before .args .mark) (c .before .before .before .before .before .before .before .before .before .before .before .before .before .args .time) (c .before .before .before .before .before .before .before .before .before .before .before .before .before .args .out .now) (c .before .before .before .before .before .before .before .before .before .before .before .before .before .args .slots .now) _ (c .before .before .before .before .before .before .before .before .are-short .ensures) (c .before .before .before .before .before .before .before .if1 .taken) (c .before .before .before .before .before .before .before .before .before .before .before .before .before .pre .0) (c .before .before .before .before .before .before .before .before .before .before .before .before .before .pre .1)) _ _ _ _ _ (c .before .before .before .before .from-parts .ensures)
 
 returns-2 : tie.Need-returns-2
 returns-2 c = refusing-map _ _ (made-many (c .before .before .before .before .before .before .before .args .store .now) (c .before .before .before .before .before .before .before .args .places .now) (c .before .before .before .before .before .before .before .args .n) (c .before .before .before .before .before .before .before .args .mark) (c .before .before .before .before .before .before .before .args .time) (c .before .before .before .before .before .before .before .args .out .now) (c .before .before .before .before .before .before .before .args .slots .now) _ (c .before .before .are-short .ensures) (c .if2 .taken)) _ _

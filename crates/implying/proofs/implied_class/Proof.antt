@@ -32,7 +32,7 @@ returns-2 : tie.Need-returns-2
 returns-2 c = gives-map _ _ (implied-same (c .before .before .before .before .before .before .before .before .before .before .before .before .before .before .before .before .before .before .before .args .store .now) (c .before .before .before .before .before .before .before .before .before .before .before .before .before .before .before .before .before .before .before .args .places .now) (c .before .before .before .before .before .before .before .before .before .before .before .before .before .before .before .before .before .before .before .args .transfer) (c .before .before .before .before .before .before .before .before .before .before .before .before .before .before .before .before .before .before .before .args .cstore .now) (c .before .before .before .before .before .before .before .before .before .before .before .before .before .before .before .before .before .before .before .args .cplaces .now) (c .before .before .before .before .before .before .before .before .before .before .before .before .before .before .before .before .before .before .before .args .class) (c .before .before .before .before .before .before .before .before .before .before .before .before .before .before .before .before .before .before .before .args .out .now) (c .before .before .before .before .before .before .before .before .before .before .before .before .before .before .before .before .before .before .before .args .slots .now) _ (c .before .before .before .before .before .before .before .before .before .before .before .before .ask-lists .ensures) (c .before .before .before .before .before .before .before .before .before .before .enum-told .given .1) _ (c .before .before .before .before .before .before .before .before .before .is-identity .ensures) (c .before .before .before .before .before .before .before .before .if1 .taken)) _ _ _ _ _ (c .before .before .before .before .as-it-is .ensures)
 
 implied-in-requires : tie.Need-implied-in-requires
-implied-in-requires c κs = (((transfer-sound (c .before .before .before .before .before .before .before .before .before .before .before .before .before .args .store .now) (c .before .before .before .before .before .before .before .before .before .before .before .before .before .args .places .now) (c .before .before .before .before .before .before .before .before .before .before .before .before .before .args .transfer) (c .before .before .before .before .before .before .before .before .before .before .before .before .before .args .cstore .now) (c .before .before .before .before .before .before .before .before .before .before .before .before .before .args .cplaces .now) (c .before .before .before .before .before .before .before .before .before .before .before .before .before .args .class) (c .before .before .before .before .before .before .before .before .before .before .before .before .before .args .out .now) (c .before .before .before .before .before .before .before .before .before .before .before .before .before .args .slots .now) _ (c .before .before .before .before .before .before .ask-lists .ensures) (c .before .before .before .before .enum-told .given .1)) .few, (transfer-held (c .before .before .before .before .before .before .before .before .before .before .before .before .before .args .store .now) (c .before .before .before .before .before .before .before .before .before .before .before .before .before .args .places .now) (c .before .before .before .before .before .before .before .before .before .before .before .before .before .args .transfer) (c .before .before .before .before .before .before .before .before .before .before .before .before .before .args .cstore .now) (c .before .before .before .before .before .before .before .before .before .before .before .before .before .args .cplaces .now) (c .before .before .before .before .before .before .before .before .before .before .before .before .before .args .class) (c .before .before .before .before .before .before .before .before .before .before .before .before .before .args .out .now) (c .before .before .before .before .before .before .before .before .before .before .before .before .before .args .slots .now) _ (c .before .before .before .before .before .before .ask-lists .ensures) (c .before .before .before .before .enum-told .given .1), (class-sound (c .before .before .before .before .before .before .before .before .before .before .before .before .before .args .store .now) (c .before .before .before .before .before .before .before .before .before .before .before .before .before .args .places .now) (c .before .before .before .before .before .before .before .before .before .before .before .before .before .args .transfer) (c .before .before .before .before .before .before .before .before .before .before .before .before .before .args .cstore .now) (c .before .before .before .before .before .before .before .before .before .before .before .before .before .args .cplaces .now) (c .before .before .before .before .before .before .before .before .before .before .before .before .before .args .class) (c .before .before .before .before .before .before .before .before .before .before .before .before .before .args .out .now) (c .before .before .before .before .before .before .before .before .before .before .before .before .before .args .slots .now) _ (c .before .before .before .before .before .before .ask-lists .ensures) (c .before .before .before .before .enum-told .given .1)) .few)), ((transfer-sound (c .before .before .before .before .before .before .before .before .before .before .before .before .before .args .store .now) (c .before .before .before .before .before .before .before .before .before .before .before .before .before .args .places .now) (c .before .before .before .before .before .before .before .before .before .before .before .before .before .args .transfer) (c .before .before .before .before .before .before .before .before .before .before .before .before .before .args .cstore .now) (c .before .before .before .before .before .before .before .before .before .before .before .before .before .args .cplaces .now) (c .before .before .before .before .before .before .before .before .before .before .before .before .before .args .class) (c .before .before .before .before .before .before .before .before .before .before .before .before .before .args .out .now) (c .before .before .before .before .before .before .before .before .before .before .before .before .before .args .slots .now) _ (c .before .before .before .before .before .before .ask-lists .ensures) (c .before .before .before .before .enum-told .given .1)) .shorts, (class-sound (c .before .before .before .before .before .before .before .before .before .before .before .before .before .args .store .now) (c .before .before .before .before .before .before .before .before .before .before .before .before .before .args .places .now) (c .before .before .before .before .before .before .before .before .before .before .before .before .before .args .transfer) (c .before .before .before .before .before .before .before .before .before .before .before .before .before .args .cstore .now) (c .before .before .before .before .before .before .before .before .before .before .before .before .before .args .cplaces .now) (c .before .before .before .before .before .before .before .before .before .before .before .before .before .args .class) (c .before .before .before .before .before .before .before .before .before .before .before .before .before .args .out .now) (c .before .before .before .before .before .before .before .before .before .before .before .before .before .args .slots .now) _ (c .before .before .before .before .before .before .ask-lists .ensures) (c .before .before .before .before .enum-told .given .1)) .shorts))
+implied-in-requires c κs = (((transfer-sound (c .before .before .before .before .before .before .before .before .before .before .before .before .before .args .store .now) (c .before .before .before .before .before .before .before .before .before .before .before .before .before .args .places .now) (c .before .before .before .before .before .before .before .before .before .before .before .before .before .args .transfer) (c .before .before .before .before .before .before .before .before .before .before .before .before .before .args .cstore .now) (c .before .before .before .before .before .before .before .before .before .before .before .before .before .args .cplaces .now) (c .before .before .before .before .before .before .before .before .before .before .before .before .before .args .class) (c .before .before .before .before .before .before .before .before .before .before .before .before .before .args .out .now) (c .before .before .before .before .before .before .before .before .before .before .before .before .before .args .slots .now) _ (c .before .before .before .before .before .before .ask-lists .ensures) (c .before .before .before .before .enum-told .given .1)) .few, (transfer-held (c .before .before .before .before .before .before .before .before .before .before .before .before .before .args .store .now) (c .before .before .before .before .before .before .before .before .before .before .before .before .before .args .places .now) (c .before .before .before .before .before .before .before .before .before .before .before .before .before .args .transfer) (c .before .before .before .before .before .before .before .before .before .before .before .before .before .args .cstore .now) (c .before .before .before .before .before .before .before .before .before .before .before .before .before .args .cplaces .now) (c .before .before .before .before .before .before .before .before .before .before .before .before .before .args .class) (c .before .before .before .before .before .before .before .before .before .before .before .before .before .args .out .now) (c .before .before .before .before .before .before .before .before .before .before .before .before .before .args .slots .now) _ (c .before .before .before .before .before .before .ask-lists .ensures) (c .before .before .before .before .enum-told .given .1), (class-sound (c .before .before .before .before .before .before .before .before .before .before .before .before .before .args .store .now) (c .before .before .before .before .before .before .before .before .before .before .before .before .before .args .places .now) (c .before .before .before .before .before .before .before .before .before .before .before .before .before .args .transfer) (c .before .before .before .before .before .before .before .before .before .before .before .before .before .args .cstore .now) (c .before .before .before .before .before .before .before .before .before .before .before .before .before .args .cplaces .now) (c .before .before .before .before .before .before .before .before .before .before .before .before .before .args .class) (c .before .before .before .before .before .before .before .before .before .before .before .before .before .args .out .now) (c .before .before .before .before .before .before .before .before .before .before .before .before .before .args .slots .now) _ (c .before .before .before .before .before .before .ask-lists .ensures) (c .before .before .before .before .enum-told .given .1)) .few)), ((transfer-sound (c .before .before .before .before .before .before .before .before .before .before .before .before .before .args .store .now) (c .before .before .before .before .before .before .before .before .before .before .before .before .before .args .places .now) (c .before .before .before .before .before .before .before .before .before .before .before .before .before .args .transfer) (c .before .before .before .before .before .before .before .before .before .before .before .before .before .args .cstore .now) (c .before .before .before .before .before .before .before .before .before .before .before .before .before .args .cplaces .now) (c .before .before .before .before .before .before .before .before .before .before .before .before .before .args .class) (c .before .before .before .before .before .before .before .before .before .before .before .before .before .args .out .now) (c .before .before .before .before .before .before .before .before .before .before .before .before .before .args .slots .now) _ (c .before .before .before .before .before .before .ask-lists .ensures) (c .before .before .before .before .enum-told .given .1)) .shorts, ((class-sound (c .before .before .before .before .before .before .before .before .before .before .before .before .before .args .store .now) (c .before .before .before .before .before .before .before .before .before .before .before .before .before .args .places .now) (c .before .before .before .before .before .before .before .before .before .before .before .before .before .args .transfer) (c .before .before .before .before .before .before .before .before .before .before .before .before .before .args .cstore .now) (c .before .before .before .before .before .before .before .before .before .before .before .before .before .args .cplaces .now) (c .before .before .before .before .before .before .before .before .before .before .before .before .before .args .class) (c .before .before .before .before .before .before .before .before .before .before .before .before .before .args .out .now) (c .before .before .before .before .before .before .before .before .before .before .before .before .before .args .slots .now) _ (c .before .before .before .before .before .before .ask-lists .ensures) (c .before .before .before .before .enum-told .given .1)) .shorts, ((transfer-sound (c .before .before .before .before .before .before .before .before .before .before .before .before .before .args .store .now) (c .before .before .before .before .before .before .before .before .before .before .before .before .before .args .places .now) (c .before .before .before .before .before .before .before .before .before .before .before .before .before .args .transfer) (c .before .before .before .before .before .before .before .before .before .before .before .before .before .args .cstore .now) (c .before .before .before .before .before .before .before .before .before .before .before .before .before .args .cplaces .now) (c .before .before .before .before .before .before .before .before .before .before .before .before .before .args .class) (c .before .before .before .before .before .before .before .before .before .before .before .before .before .args .out .now) (c .before .before .before .before .before .before .before .before .before .before .before .before .before .args .slots .now) _ (c .before .before .before .before .before .before .ask-lists .ensures) (c .before .before .before .before .enum-told .given .1)) .ends, (class-sound (c .before .before .before .before .before .before .before .before .before .before .before .before .before .args .store .now) (c .before .before .before .before .before .before .before .before .before .before .before .before .before .args .places .now) (c .before .before .before .before .before .before .before .before .before .before .before .before .before .args .transfer) (c .before .before .before .before .before .before .before .before .before .before .before .before .before .args .cstore .now) (c .before .before .before .before .before .before .before .before .before .before .before .before .before .args .cplaces .now) (c .before .before .before .before .before .before .before .before .before .before .before .before .before .args .class) (c .before .before .before .before .before .before .before .before .before .before .before .before .before .args .out .now) (c .before .before .before .before .before .before .before .before .before .before .before .before .before .args .slots .now) _ (c .before .before .before .before .before .before .ask-lists .ensures) (c .before .before .before .before .enum-told .given .1)) .ends))))
 
 same-length-3 : tie.Need-same-length-3
 same-length-3 c = search needs
