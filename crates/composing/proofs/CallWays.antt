@@ -1,5 +1,5 @@
 -- What each way through the calls gives. Assumes nothing.
-use mathlib.Core.Path.{_≡_, sym, ap, _∙_}
+use mathlib.Core.Path.{_≡_, refl, sym, ap, _∙_}
 use mathlib.Core.Bool.{Bool, true, false, not, cond, _&&_}
 use mathlib.Core.List.{List, [], _∷_}
 use Prim.Native.Nat.{ℕ, _+_, _*_, _/_, _≤_, _<_}
@@ -79,12 +79,18 @@ module _ (store : Text) (places : List ℕ) (n : ℕ) (mark : Bool) (time : Laye
       unfolding fromEnds roomFor listRoom madeShort
       made-long k l f = rw (pairsIn-length store places n, le-leb n 64 few, told-true g f, le-leb n (length slots / 4) l, told h k)
 
+-- two maps that are no identities: the map made of the composed list, under the composed mark
+pub composed-made : (outer inner : Map) (time : LayerOffset) (out : Text) (slots : List ℕ)
+    → composed outer inner time out slots ≡ fromEnds (composedPairs outer inner) (outer .mark && inner .mark) time out slots
+unfolding composed
+composed-made outer inner time out slots = refl
+
 -- `compose_in`: the list that was built, under the composed mark and time offset
 pub built-map : (outer inner : Map) (time : LayerOffset) (out : Text) (slots : List ℕ) (n at : ℕ) (bytes : Text) (own : List ℕ)
     → Holds (composedPairs outer inner) n at bytes own → (mark : Bool) → mark ≡ (outer .mark && inner .mark) → (t : LayerOffset) → t ≡ time
     → composed outer inner time out slots ≡ fromEnds (pairsIn bytes own n) mark t out slots
-unfolding composed
-built-map outer inner time out slots n at bytes own c mark e t f = rw (holds-list (composedPairs outer inner) n at bytes own c, e, f)
+built-map outer inner time out slots n at bytes own c mark e t f =
+    rw (composed-made outer inner time out slots, holds-list (composedPairs outer inner) n at bytes own c, e, f)
 
 -- .. whose ends are ends
 pub made-ends : (outer inner : Map) → allEnds (outer .pairs) ≡ true → allEnds (inner .pairs) ≡ true → (n at : ℕ) (bytes : Text) (own : List ℕ)

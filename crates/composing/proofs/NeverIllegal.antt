@@ -25,6 +25,7 @@ use Rattle.map_function.specs.Made.{MapOutcome, map, refused, roomFor, weighed,
 use Rattle.scratch.specs.Ends.{madeShort, madeLegal, fromEnds}
 use Rattle.composing.specs.Calls.{timeOf, composed, composing, composeCall, NeverIllegal}
 use Rattle.composing.proofs.ComposedEnds.{composed-ends, ends-legal}
+use Rattle.composing.proofs.CallWays.{composed-made}
 
 -- an outcome that is not the refusal 8
 abbrev pub Never : MapOutcome → Type 0
@@ -60,9 +61,11 @@ unfolding madeShort madeLegal
 never-made l m time h = rw h (never-either (allShort l) (map m time) (refused MadeTooLong) (never-map m time) never-seven)
 
 -- a map as it stands, and one made of ends
-pub never-weighed : (l : List Pair) (m : Map) (time : LayerOffset) (out : Text) (slots : List ℕ) → Never (weighed l m time out slots)
-unfolding weighed
-never-weighed l m time out slots = never-many (leb (length l) 64) (roomFor l out slots (map m time)) (never-room l out slots (map m time) (never-map m time))
+pub never-as-it-is : (l : List Pair) (mark : Bool) (time : LayerOffset) (out : Text) (slots : List ℕ) → Never (asItIs l mark time out slots)
+unfolding asItIs weighed
+never-as-it-is l mark time out slots =
+    never-many (leb (length l) 64) (roomFor l out slots (map (record { pairs = l; mark = mark }) time))
+    (never-room l out slots (map (record { pairs = l; mark = mark }) time) (never-map (record { pairs = l; mark = mark }) time))
 
 never-ends : (l : List Pair) (mark : Bool) (time : LayerOffset) (out : Text) (slots : List ℕ) → allEnds l ≡ true → Never (fromEnds l mark time out slots)
 unfolding fromEnds
@@ -95,16 +98,16 @@ never-unless lists o f = go (asked lists [] []) (never-asked lists [] []) f
         let z : x ≡ MadeIllegal = cc in
         n (ap RefusedAsked z)
 
-never-composing : (outer inner : Map) (time : LayerOffset) (out : Text) (slots : List ℕ) → allEnds (outer .pairs) ≡ true → allEnds (inner .pairs) ≡ true
-    → Never (composing outer inner time out slots)
-unfolding composing composed asItIs
-never-composing outer inner time out slots eo ei =
-    never-either (isPathIdentity outer) (weighed (inner .pairs) inner time out slots)
-    (cond (isPathIdentity inner) (weighed (outer .pairs) outer time out slots) (fromEnds (composedPairs outer inner) (outer .mark && inner .mark) time out slots))
-    (never-weighed (inner .pairs) inner time out slots)
-    (never-either (isPathIdentity inner) (weighed (outer .pairs) outer time out slots) (fromEnds (composedPairs outer inner) (outer .mark && inner .mark) time out slots)
-    (never-weighed (outer .pairs) outer time out slots)
-    (never-ends (composedPairs outer inner) (outer .mark && inner .mark) time out slots (composed-ends outer inner eo ei)))
+module _ (outer inner : Map) (time : LayerOffset) (out : Text) (slots : List ℕ) (eo : allEnds (outer .pairs) ≡ true) (ei : allEnds (inner .pairs) ≡ true) where
+  never-composed : Never (composed outer inner time out slots)
+  never-composed =
+      rw (composed-made outer inner time out slots) (never-ends (composedPairs outer inner) (outer .mark && inner .mark) time out slots (composed-ends outer inner eo ei))
+
+  never-composing : Never (composing outer inner time out slots)
+  unfolding composing
+  never-composing =
+      never-either (isPathIdentity outer) _ _ (never-as-it-is (inner .pairs) (inner .mark) time out slots)
+      (never-either (isPathIdentity inner) _ _ (never-as-it-is (outer .pairs) (outer .mark) time out slots) never-composed)
 
 pub never-illegal : NeverIllegal
 unfolding composeCall

@@ -14,7 +14,7 @@ use Rattle.maps.specs.Derive.{impliedClass}
 use Rattle.map_function.specs.Read.{isIdentityMap, listOf, mapOf}
 use Rattle.map_function.specs.Made.{MapOutcome, map, roomFor, asItIs}
 use Rattle.scratch.specs.Ends.{madeShort, madeLegal}
-use Rattle.composing.proofs.NeverIllegal.{Never, never-either, never-many, never-room, never-made, never-weighed, never-unless}
+use Rattle.composing.proofs.NeverIllegal.{Never, never-either, never-many, never-room, never-made, never-as-it-is, never-unless}
 use Rattle.implying.specs.Implied.{inverseList, classList, impliedList, allFew, implying, impliedTime, impliedClassCall, NeverIllegal}
 use Rattle.implying.proofs.ImpliedEnds.{implied-legal}
 
@@ -32,11 +32,11 @@ module _ (transfer class : Map) (time : LayerOffset) (out : Text) (slots : List 
       (never-room (inverseList transfer ++ made) out slots answer (never-made made (impliedClass transfer class) time (implied-legal transfer class te ce)))
 
 pub never-illegal : NeverIllegal
-unfolding impliedClassCall asItIs
+unfolding impliedClassCall
 never-illegal store places transfer cstore cplaces class out slots =
     never-unless (k ∷ l ∷ []) (cond (isIdentityMap transfer) whole rest)
     (λ h. never-either (isIdentityMap transfer) whole rest
-    (never-weighed (pairsIn cstore cplaces (class .count)) (mapOf cstore cplaces class) (class .«time_offset») out slots)
+    (never-as-it-is (pairsIn cstore cplaces (class .count)) (class .«has_root_identity») (class .«time_offset») out slots)
     (never-implying (mapOf store places transfer) (mapOf cstore cplaces class) (impliedTime transfer class) out slots (first-sound k (l ∷ []) [] [] h .ends) (second-sound k l [] [] [] h .ends)))
   where
     k : Lent
