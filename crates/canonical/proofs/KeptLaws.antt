@@ -10,7 +10,7 @@ use Rattle.text.specs.Text.{Text}
 use Rattle.prefix.specs.Elements.{elements}
 use Rattle.pairs.specs.Pair.{Pair}
 use Rattle.pairs.specs.Places.{pairIn, pairsIn}
-use Rattle.listing.specs.Picks.{passing, picked, pairsAt}
+use Rattle.listing.specs.Picks.{passing, Holds, pairsAt}
 use Rattle.listing.proofs.PickLaws.{passing-few, picked-read}
 use Rattle.asking.specs.Asking.{lentList}
 use Rattle.asking.specs.Made.{canMake, madeOf}
@@ -105,12 +105,11 @@ module _ (store : Text) (places : List ℕ) where
         ∙ sym (canonical-keeps mark (noRoots (pairsIn store places n)))
 
     -- what `canonical_places` leaves is read as the pairs of the map
-    pub canonical-read : (n room : ℕ) (kept kept′ : List ℕ) (w : ℕ) → w ≡ length (canonicalPicks (lentList store places n) mark room)
-        → kept′ ≡ picked places (canonicalPicks (lentList store places n) mark room) kept
+    pub canonical-read : (n room : ℕ) (kept kept′ : List ℕ) (w : ℕ) → Holds places (canonicalPicks (lentList store places n) mark room) kept kept′ w
         → pairsIn store kept′ w ≡ madeOf (lentList store places n) room (canonical mark (noRoots (pairsIn store places n)))
     unfolding canonicalPicks madeOf
-    canonical-read n room kept kept′ w e f =
-        rw (e, f) (picked-read places store (canonicalPicks (lentList store places n) mark room) kept ∙ go (canMake (lentList store places n) room))
+    canonical-read n room kept kept′ w h =
+        picked-read places store (canonicalPicks (lentList store places n) mark room) kept kept′ w h ∙ go (canMake (lentList store places n) room)
       where
         go : (b : Bool) → pairsAt store places (cond b (keptPairs store places n mark) []) ≡ cond b (canonical mark (noRoots (pairsIn store places n))) []
         go true = all-kept n

@@ -12,14 +12,14 @@ use Rattle.text.specs.Text.{Text}
 use Rattle.text.proofs.BoolLaws.{told-false, told-true, not-true, and-l, and-r}
 use Rattle.pairs.specs.Places.{pairIn, pairsIn}
 use Rattle.listing.specs.Lists.{copied}
-use Rattle.listing.specs.Picks.{passing, picked, pairsAt}
+use Rattle.listing.specs.Picks.{passing, Holds, pairsAt}
 use Rattle.listing.proofs.PickLaws.{picked-none, picked-read, picked-turn}
 use Rattle.asking.specs.Asking.{lentList, listCounts}
 use Rattle.asking.specs.Made.{canMake}
 use Rattle.maps.specs.Map.{lentMap}
 use Rattle.maps.specs.New.{isRoots, implied}
 use Rattle.canonical.specs.Level.{level, levels}
-use Rattle.canonical.specs.Kept.{elementsAt, mostElements, others, ownLevel, keptOf, keptPairs, canonicalPicks, Holds, keeps}
+use Rattle.canonical.specs.Kept.{elementsAt, mostElements, others, ownLevel, keptOf, keptPairs, canonicalPicks, keeps}
 use Rattle.canonical.proofs.LevelLaws.{level-append, levels-few}
 use Rattle.canonical.proofs.KeptLaws.{others-few, kept-append, kept-few}
 
@@ -111,13 +111,13 @@ module _ (store : Text) (places : List ℕ) (e : ℕ) where
       pub level-on : (i key : ℕ) (kept : List ℕ) (w : ℕ) → key ≡ elementsAt store places i → After i kept w → 4 * i + 4 ≤ length places
           → (keeps store places i key e mark kept w ≡ true → 4 * w + 4 ≤ length kept) → (kept′ : List ℕ) (w′ : ℕ) → w′ ≡ cond (keeps store places i key e mark kept w) (w + 1) w
           → kept′ ≡ cond (keeps store places i key e mark kept w) (copied places i w kept) kept → After (i + 1) kept′ w′
-      unfolding Holds keeps
+      unfolding keeps
       level-on i key kept w k a held room kept′ w′ f t picks old h =
           let now : List ℕ = keptOf store places mark picks (first i) in
           let g : Holds places now old kept w = a picks old h in
-          let r : pairsIn store kept w ≡ pairsAt store places now = rw (g .0, g .1) (picked-read places store now old) in
+          let r : pairsIn store kept w ≡ pairsAt store places now = picked-read places store now old kept w g in
           rw (add-one i, own-next i, kept-append store places mark picks (first i) (alone i), one-more now i, ← r, ← k)
-          (picked-turn places i now old kept w held (g .0) (g .1) (keeps store places i key e mark kept w) room w′ kept′ f t)
+          (picked-turn places i now old kept w held g (keeps store places i key e mark kept w) room w′ kept′ f t)
 
       pub level-end : (n i : ℕ) (kept : List ℕ) (w : ℕ) → n ≤ i → i ≤ n → After i kept w → After n kept w
       level-end n i kept w h k a = let z : i ≡ n = omega arith in rw z at a
@@ -129,8 +129,8 @@ module _ (store : Text) (places : List ℕ) (n : ℕ) (mark : Bool) (kept₀ : L
   below e = keptOf store places mark [] (levels (elementsAt store places) e (others store places n))
 
   pub levels-none : Holds places (below 0) kept₀ kept₀ 0
-  unfolding Holds levels keptOf
-  levels-none = (refl, picked-none places kept₀)
+  unfolding levels keptOf
+  levels-none = picked-none places kept₀
 
   module _ (e : ℕ) (kept : List ℕ) (w : ℕ) (h : Holds places (below e) kept₀ kept w) where
     pub levels-on : (kept′ : List ℕ) (w′ : ℕ)
@@ -140,7 +140,7 @@ module _ (store : Text) (places : List ℕ) (n : ℕ) (mark : Bool) (kept₀ : L
         rw (add-one e, kept-append store places mark [] (levels (elementsAt store places) e (others store places n)) (ownLevel store places e n)) (f (below e) kept₀ h)
 
     pub levels-room : n ≤ 64 → 256 ≤ length kept → 4 * (w + length (ownLevel store places e n)) ≤ length kept
-    unfolding Holds ownLevel levels
+    unfolding ownLevel levels
     levels-room k l =
         let all : List ℕ = others store places n in
         omega (
@@ -168,10 +168,10 @@ module _ (store : Text) (places : List ℕ) (n : ℕ) (mark : Bool) (kept : List
   abbrev picks : List ℕ
   picks = canonicalPicks (lentList store places n) mark (length kept)
 
-  pub places-none : not b ≡ true → (0 ≡ length picks) × (kept ≡ picked places picks kept)
+  pub places-none : not b ≡ true → Holds places picks kept kept 0
   unfolding canonicalPicks canMake listCounts
-  places-none h = rw (told-false e h) (refl, picked-none places kept)
+  places-none h = rw (told-false e h) (picked-none places kept)
 
-  pub places-made : not b ≡ false → (kept′ : List ℕ) (w : ℕ) → Holds places (keptPairs store places n mark) kept kept′ w → (w ≡ length picks) × (kept′ ≡ picked places picks kept)
-  unfolding canonicalPicks canMake listCounts Holds
-  places-made h kept′ w f = rw (told-true e h) (f .0, f .1)
+  pub places-made : not b ≡ false → (kept′ : List ℕ) (w : ℕ) → Holds places (keptPairs store places n mark) kept kept′ w → Holds places picks kept kept′ w
+  unfolding canonicalPicks canMake listCounts
+  places-made h kept′ w f = rw (told-true e h) f

@@ -4,11 +4,11 @@ use mathlib.Core.Path.{_≡_}
 use mathlib.Core.Bool.{Bool, not, cond, _&&_}
 use mathlib.Core.List.{List, [], _∷_, _++_}
 use lib.Dec.{eqb}
-use lib.ListN.{length, getD}
+use lib.ListN.{getD}
 use Rattle.text.specs.Text.{Text}
 use Rattle.prefix.specs.Elements.{count, elements}
 use Rattle.pairs.specs.Places.{pairIn}
-use Rattle.listing.specs.Picks.{passing, picked, pairsAt}
+use Rattle.listing.specs.Picks.{passing, pairsAt}
 use Rattle.asking.specs.Asking.{Lent}
 use Rattle.asking.specs.Made.{canMake}
 use Rattle.maps.specs.Map.{lentMap}
@@ -49,20 +49,15 @@ unfolding keptOf levels elementsAt mostElements others
 keptPairs store places n mark =
     keptOf store places mark [] (levels (elementsAt store places) (suc (mostElements store places n)) (others store places n))
 
--- those of a lent list; none where memory of this room cannot take them
+-- those of a lent list; none where question 4 refuses it, or where the room is not enough for 64 pairs
 unfoldable pub canonicalPicks : Lent → Bool → ℕ → List ℕ
 unfolding canMake keptPairs
 canonicalPicks l mark room = cond (canMake l room) (keptPairs (l .store) (l .places) (l .count) mark) []
 
--- What the code keeps on its way: the elements of the first n sources ..
+-- What the code keeps on its way: the numbers hold the elements of the first n sources.
 unfoldable pub Keyed : Text → List ℕ → ℕ → List ℕ → Type 0
 unfolding elementsAt
 Keyed store places n keys = (i : ℕ) → i < n → getD keys i 0 ≡ elementsAt store places i
-
--- .. and memory with the picked pairs, w of them, over what stood there
-unfoldable pub Holds : List ℕ → List ℕ → List ℕ → List ℕ → ℕ → Type 0
-unfolding picked
-Holds places picks old kept w = (w ≡ length picks) × (kept ≡ picked places picks old)
 
 -- a pair whose source has `key` elements is kept behind w others: it is of the level e, no `/`→`/`, and they do not imply it
 unfoldable pub keeps : Text → List ℕ → ℕ → ℕ → ℕ → Bool → List ℕ → ℕ → Bool

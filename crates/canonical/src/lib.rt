@@ -6,11 +6,11 @@ ghost use lib.ListN.{length};
 ghost use Prim.Native.Nat.{ℕ, max as larger, _+_, _*_, _≤_};
 ghost use Rattle.pairs.specs.Places.{pairIn, pairsIn};
 ghost use Rattle.listing.specs.Lists.{copied};
-ghost use Rattle.listing.specs.Picks.{picked};
+ghost use Rattle.listing.specs.Picks.{picked, Holds};
 ghost use Rattle.asking.specs.Asking.{lentList};
 ghost use Rattle.maps.specs.Map.{lentMap};
 ghost use Rattle.maps.specs.New.{isRoots, anyRoots, implied};
-ghost use Rattle.canonical.specs.Kept.{mostElements, ownLevel, keptOf, keptPairs, canonicalPicks, Keyed, Holds, keeps};
+ghost use Rattle.canonical.specs.Kept.{mostElements, ownLevel, keptOf, keptPairs, canonicalPicks, Keyed, keeps};
 
 // Is pair i `/`→`/`?
 fn is_roots(store: &[u8], places: &[usize], i: usize) -> bool

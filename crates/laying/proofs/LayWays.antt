@@ -14,7 +14,7 @@ use borrow.Author.Tests.{eq-eqb, ne-eqb, le-leb, lt-leb}
 use Rattle.text.specs.Text.{Text, over}
 use Rattle.text.proofs.BoolLaws.{told-false, told-true, and-no}
 use Rattle.listing.specs.Lists.{copied}
-use Rattle.listing.specs.Picks.{passing, picked}
+use Rattle.listing.specs.Picks.{passing, picked, Holds}
 use Rattle.listing.proofs.WriteWays.{three-stored}
 use Rattle.listing.proofs.PickLaws.{picked-none, picked-turn}
 use Rattle.asking.specs.Asking.{Lent, lentList, listCounts}
@@ -32,13 +32,13 @@ module _ (places block₀ : List ℕ) where
 
   pub copy-none : block₀ ≡ picked places (all 0) block₀
   unfolding passing
-  copy-none = picked-none places block₀
+  copy-none = (picked-none places block₀) .1
 
   pub copy-on : (i : ℕ) (block block′ : List ℕ) → 4 * i + 4 ≤ length places → 4 * i + 4 ≤ length block → block ≡ picked places (all i) block₀ → block′ ≡ copied places i i block
       → block′ ≡ picked places (all (i + 1)) block₀
   unfolding passing
   copy-on i block block′ h k e f =
-      rw (add-one i) ((picked-turn places i (all i) block₀ block i h (sym (all-length i)) e true (λ _. k) (i + 1) block′ refl f) .1)
+      rw (add-one i) ((picked-turn places i (all i) block₀ block i h (sym (all-length i), e) true (λ _. k) (i + 1) block′ refl f) .1)
 
   pub copy-end : (n i : ℕ) (block : List ℕ) → n ≤ i → i ≤ n → block ≡ picked places (all i) block₀ → block ≡ picked places (all n) block₀
   copy-end n i block h k e = let z : i ≡ n = omega arith in rw z at e
@@ -48,12 +48,11 @@ module _ (store : Text) (places : List ℕ) (n : ℕ) where
   abbrev lent : Lent
   lent = lentList store places n
 
-  pub relocates-laid : (act : List ℕ) (w : ℕ) → w ≡ length (activePicks lent 256) → act ≡ picked places (activePicks lent 256) (replicate 256 0)
+  pub relocates-laid : (act : List ℕ) (w : ℕ) → Holds places (activePicks lent 256) (replicate 256 0) act w
       → (room : ℕ) (block block′ : List ℕ) (r : ℕ)
-      → (r ≡ length (canonicalPicks (lentList store act w) true room)) × (block′ ≡ picked act (canonicalPicks (lentList store act w) true room) block)
-      → (r ≡ length (canonicalPicks (activeList lent) true room)) × (block′ ≡ picked ((activeList lent) .places) (canonicalPicks (activeList lent) true room) block)
+      → Holds act (canonicalPicks (lentList store act w) true room) block block′ r → Holds ((activeList lent) .places) (canonicalPicks (activeList lent) true room) block block′ r
   unfolding activeList
-  relocates-laid act w e f room block block′ r h = rw (e, f) at h
+  relocates-laid act w e room block block′ r h = rw (e .0, e .1) at h
 
 -- `lay_pairs`
 module _ (store : Text) (places : List ℕ) (kind n : ℕ) (block : List ℕ) where
@@ -64,14 +63,14 @@ module _ (store : Text) (places : List ℕ) (kind n : ℕ) (block : List ℕ) wh
   Leaves r block′ = (r ≡ length (legPicks kind from (length block))) × (block′ ≡ legBlock kind from block)
 
   pub leg-relocates : 2 ≤ kind → (r : ℕ) (block′ : List ℕ)
-      → (r ≡ length (canonicalPicks (activeList from) true (length block))) × (block′ ≡ picked ((activeList from) .places) (canonicalPicks (activeList from) true (length block)) block) → Leaves r block′
+      → Holds ((activeList from) .places) (canonicalPicks (activeList from) true (length block)) block block′ r → Leaves r block′
   unfolding legPicks legBlock pickedFrom
   leg-relocates h r block′ e = rw (le-leb 2 kind h) e
 
   module _ (h : kind < 2) (b : Bool) (e : b ≡ canMake (lentList [] places n) (length block)) where
     pub leg-none : not b ≡ true → Leaves 0 block
     unfolding legPicks legBlock pickedFrom canMake listCounts
-    leg-none k = rw (lt-leb 2 kind h, told-false e k) (refl, picked-none places block)
+    leg-none k = rw (lt-leb 2 kind h, told-false e k) (picked-none places block)
 
     pub leg-copied : not b ≡ false → (block′ : List ℕ) → block′ ≡ picked places (passing (λ (i : ℕ). true) n) block → Leaves n block′
     unfolding legPicks legBlock pickedFrom canMake listCounts

@@ -101,11 +101,11 @@ module _ (store : Text) (places : List ℕ) (n : ℕ) where
       let zeros : List ℕ = replicate 256 0 in
       let act : List ℕ = picked places (activePicks lent 256) zeros in
       let w : ℕ = length (activePicks lent 256) in
-      let e : pairsIn store act w ≡ madeOf lent 256 (active list n) = active-read store places n 256 zeros act w refl refl in
+      let e : pairsIn store act w ≡ madeOf lent 256 (active list n) = active-read store places n 256 zeros act w (refl, refl) in
       let z : length zeros ≡ 256 = length-replicate {A = ℕ} 256 0 in
       let l : length act ≡ 256 = picked-length places (activePicks lent 256) zeros (omega (arith, few act w e, z)) ∙ z in
       let picks : List ℕ = canonicalPicks (lentList store act w) true room in
-      canonical-read store act true w room block (picked act picks block) (length picks) refl refl ∙ of-both act w e l room
+      canonical-read store act true w room block (picked act picks block) (length picks) (refl, refl) ∙ of-both act w e l room
 
 -- a leg's map
 relocate-leg : (kind : ℕ) (l : List Pair) → 2 ≤ kind → legMap (legOf kind l) ≡ relocateMap l
@@ -138,7 +138,8 @@ module _ (kind : ℕ) (l : Lent) where
           ≡ madeOf l (length block) (leg .pairs)
       go true e = relocates-read (l .store) (l .places) (l .count) (length block) block ∙ rw (relocate-leg kind (pairsOf l) (leb-true 2 kind e)) refl
       go false e =
-          picked-read (l .places) (l .store) (cond (canMake l (length block)) (passing (λ (i : ℕ). true) (l .count)) []) block ∙ copied (canMake l (length block))
+          let picks : List ℕ = cond (canMake l (length block)) (passing (λ (i : ℕ). true) (l .count)) [] in
+          picked-read (l .places) (l .store) picks block (picked (l .places) picks block) (length picks) (refl, refl) ∙ copied (canMake l (length block))
         where
           copied : (c : Bool) → pairsAt (l .store) (l .places) (cond c (passing (λ (i : ℕ). true) (l .count)) []) ≡ cond c (leg .pairs) []
           copied true = all-read (l .store) (l .places) (l .count) ∙ ap (λ (m : Map). m .pairs) (plain-leg kind (pairsOf l) (leb-false 2 kind e))

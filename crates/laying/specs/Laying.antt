@@ -23,7 +23,8 @@ unfoldable pub pickedFrom : ℕ → Lent → Lent
 unfolding activeList
 pickedFrom kind l = cond (leb 2 kind) (activeList l) l
 
--- which of them it has: what `new` keeps of a relocate list, all of a map; none where memory of this room cannot take them
+-- which of them it has: what `new` keeps of a relocate list, all of a map; none where question 4 refuses the list, or where the room is not
+-- enough for 64 pairs
 unfoldable pub legPicks : ℕ → Lent → ℕ → List ℕ
 unfolding canonicalPicks activeList canMake passing
 legPicks kind l room = cond (leb 2 kind) (canonicalPicks (activeList l) true room) (cond (canMake l room) (passing (λ (i : ℕ). true) (l .count)) [])

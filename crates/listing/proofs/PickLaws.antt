@@ -9,7 +9,7 @@ use Rattle.text.specs.Text.{Text}
 use Rattle.pairs.specs.Pair.{Pair}
 use Rattle.pairs.specs.Places.{pairIn, pairsIn}
 use Rattle.listing.specs.Lists.{four, copied}
-use Rattle.listing.specs.Picks.{passing, picked, pairsAt}
+use Rattle.listing.specs.Picks.{passing, picked, Holds, pairsAt}
 use Rattle.listing.proofs.CopyLaws.{pair-same, copied-over, four-at}
 use Rattle.text.proofs.WriteLaws.{over-written}
 
@@ -58,9 +58,9 @@ module _ (places : List ℕ) where
       rw (append-assoc (four places i) (flatMap (four places) picks) rest)
       (pairs-shift store i (flatMap (four places) picks ++ rest) (length picks) ∙ ap (λ (l : List Pair). pairIn store places i ∷ l) (all-read store picks rest))
 
-  pub picked-read : (store : Text) (picks slots : List ℕ) → pairsIn store (picked places picks slots) (length picks) ≡ pairsAt store places picks
+  pub picked-read : (store : Text) (picks old slots : List ℕ) (w : ℕ) → Holds places picks old slots w → pairsIn store slots w ≡ pairsAt store places picks
   unfolding picked
-  picked-read store picks slots = all-read store picks (drop (length (flatMap (four places) picks)) slots)
+  picked-read store picks old slots w h = rw (h .0, h .1) (all-read store picks (drop (length (flatMap (four places) picks)) old))
 
   -- memory that has room for the picks keeps its length
   pub picked-length : (picks slots : List ℕ) → 4 * length picks ≤ length slots → length (picked places picks slots) ≡ length slots
@@ -70,20 +70,20 @@ module _ (places : List ℕ) where
       omega (arith, h, fours-length picks, length-append t (drop (length t) slots), length-drop (length t) slots)
 
   -- before the first pick memory is as it was
-  pub picked-none : (slots : List ℕ) → slots ≡ picked places [] slots
+  pub picked-none : (slots : List ℕ) → Holds places [] slots slots 0
   unfolding picked flatMap
-  picked-none slots = refl
+  picked-none slots = (refl, refl)
 
   -- one more is copied behind those that were picked
-  module _ (i : ℕ) (picks old slots : List ℕ) (w : ℕ) (held : 4 * i + 4 ≤ length places) (count : w ≡ length picks) (e : slots ≡ picked places picks old) where
+  module _ (i : ℕ) (picks old slots : List ℕ) (w : ℕ) (held : 4 * i + 4 ≤ length places) (h : Holds places picks old slots w) where
     picked-next : 4 * w + 4 ≤ length slots → copied places i w slots ≡ picked places (picks ++ i ∷ []) old
     unfolding picked flatMap
     picked-next room =
-        let z : 4 * w ≡ length (flatMap (four places) picks) = sym (fours-length picks ∙ ap (λ (n : ℕ). 4 * n) (sym count)) in
-        copied-over places i w slots held room ∙ rw (e, z, fours-append picks (i ∷ [])) (over-written (flatMap (four places) picks) (four places i) old)
+        let z : 4 * w ≡ length (flatMap (four places) picks) = sym (fours-length picks ∙ ap (λ (n : ℕ). 4 * n) (sym (h .0))) in
+        copied-over places i w slots held room ∙ rw (h .1, z, fours-append picks (i ∷ [])) (over-written (flatMap (four places) picks) (four places i) old)
 
     -- where a test says so
     pub picked-turn : (b : Bool) → (b ≡ true → 4 * w + 4 ≤ length slots) → (r : ℕ) (slots′ : List ℕ) → r ≡ cond b (w + 1) w → slots′ ≡ cond b (copied places i w slots) slots
-        → (r ≡ length (cond b (picks ++ i ∷ []) picks)) × (slots′ ≡ picked places (cond b (picks ++ i ∷ []) picks) old)
-    picked-turn true room r slots′ f g = (f ∙ rw (length-append picks (i ∷ []), count) refl, g ∙ picked-next (room refl))
-    picked-turn false room r slots′ f g = (f ∙ count, g ∙ e)
+        → Holds places (cond b (picks ++ i ∷ []) picks) old slots′ r
+    picked-turn true room r slots′ f g = (f ∙ rw (length-append picks (i ∷ []), h .0) refl, g ∙ picked-next (room refl))
+    picked-turn false room r slots′ f g = (f ∙ h .0, g ∙ h .1)

@@ -1,7 +1,9 @@
 -- Pairs picked out of a list in lent memory: which they are, and how their numbers stand in other memory.
+use mathlib.Core.Path.{_≡_}
 use mathlib.Core.Bool.{Bool, cond}
 use mathlib.Core.List.{List, [], _∷_, _++_, map, flatMap}
 use Prim.Native.Nat.{ℕ, zero, suc}
+use lib.ListN.{length}
 use Rattle.text.specs.Text.{Text, written}
 use Rattle.pairs.specs.Pair.{Pair}
 use Rattle.pairs.specs.Places.{pairIn}
@@ -16,6 +18,10 @@ passing passes (suc n) = cond (passes n) (passing passes n ++ n ∷ []) (passing
 unfoldable pub picked : List ℕ → List ℕ → List ℕ → List ℕ
 unfolding flatMap
 picked places picks slots = written (flatMap (four places) picks) slots
+
+-- memory holds the picked pairs, w of them, over what stood there before
+abbrev pub Holds : List ℕ → List ℕ → List ℕ → List ℕ → ℕ → Type 0
+Holds places picks old slots w = (w ≡ length picks) × (slots ≡ picked places picks old)
 
 -- the pairs that were picked
 abbrev pub pairsAt : Text → List ℕ → List ℕ → List Pair

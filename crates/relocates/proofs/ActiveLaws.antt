@@ -5,12 +5,11 @@ use mathlib.Core.List.{List, [], _∷_, _++_, map-append}
 use Prim.Native.Nat.{ℕ, zero, suc, _≤_}
 use native.Mathlib.Omega.{arith}
 use lib.Dec.{eqb}
-use lib.ListN.{length}
 use Rattle.text.specs.Text.{Text}
 use Rattle.pairs.specs.Pair.{Pair, pairAt}
 use Rattle.pairs.specs.Places.{pairIn, pairsIn}
 use Rattle.pairs.proofs.PlaceLaws.{pairsIn-at}
-use Rattle.listing.specs.Picks.{passing, picked, pairsAt}
+use Rattle.listing.specs.Picks.{passing, Holds, pairsAt}
 use Rattle.listing.proofs.PickLaws.{picked-read}
 use Rattle.asking.specs.Asking.{lentList}
 use Rattle.asking.specs.Made.{canMake, madeOf}
@@ -34,11 +33,10 @@ module _ (store : Text) (places : List ℕ) (n : ℕ) where
       go false ih = ih
 
   -- what `active_pairs` leaves is read as the Active pairs
-  pub active-read : (room : ℕ) (kept kept′ : List ℕ) (w : ℕ) → w ≡ length (activePicks (lentList store places n) room) → kept′ ≡ picked places (activePicks (lentList store places n) room) kept
+  pub active-read : (room : ℕ) (kept kept′ : List ℕ) (w : ℕ) → Holds places (activePicks (lentList store places n) room) kept kept′ w
       → pairsIn store kept′ w ≡ madeOf (lentList store places n) room (active list n)
   unfolding activePicks madeOf
-  active-read room kept kept′ w e f =
-      rw (e, f) (picked-read places store (activePicks (lentList store places n) room) kept ∙ go (canMake (lentList store places n) room))
+  active-read room kept kept′ w h = picked-read places store (activePicks (lentList store places n) room) kept kept′ w h ∙ go (canMake (lentList store places n) room)
     where
       go : (b : Bool) → pairsAt store places (cond b (activeAt list n) []) ≡ cond b (active list n) []
       go true = all-active n (omega arith)

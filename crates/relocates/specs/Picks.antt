@@ -14,7 +14,7 @@ unfoldable pub activeAt : List Pair → ℕ → List ℕ
 unfolding passing occurrence
 activeAt l n = passing (λ (i : ℕ). eqb (statusByte (occurrence l i)) 0) n
 
--- those of a lent list; none where memory of this room cannot take them
+-- those of a lent list; none where question 4 refuses it, or where the room is not enough for 64 pairs
 unfoldable pub activePicks : Lent → ℕ → List ℕ
 unfolding canMake activeAt
 activePicks l room = cond (canMake l room) (activeAt (pairsOf l) (l .count)) []

@@ -2,7 +2,8 @@ use mathlib.Core.Path.{_≡_, refl}
 use native.Mathlib.Omega.{arith}
 use Prim.Native.Nat.{_≤_, _-_}
 use lib.ListN.{length}
-use Rattle.canonical.specs.Kept.{mostElements, Keyed, Holds}
+use Rattle.listing.specs.Picks.{Holds}
+use Rattle.canonical.specs.Kept.{mostElements, Keyed}
 use Rattle.canonical.proofs.LevelWays.{below, levels-none, levels-on, levels-room, levels-end, top-room}
 use borrow.Author.Needs.{needs}
 use Rattle.canonical.proofs.canonicalize.Statement.{statement}

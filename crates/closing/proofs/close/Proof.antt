@@ -38,7 +38,7 @@ slice-aggregate-close-list : tie.Need-slice-aggregate-close-list
 slice-aggregate-close-list c = search needs
 
 close-list-requires-2 : tie.Need-close-list-requires-2
-close-list-requires-2 c κs = let f = active-held _ _ _ _ (c .before .before .before .before .before .before .before .before .before .can-make .ensures) (c .before .before .before .before .before .before .before .before .if1 .left) _ _ _ (search needs) (active-read _ _ _ _ _ _ _ (c .before .before .before .before .before .active-pairs .ensures .0) (c .before .before .before .before .before .active-pairs .ensures .1)) in (f, omega (arith, f))
+close-list-requires-2 c κs = let f = active-held _ _ _ _ (c .before .before .before .before .before .before .before .before .before .can-make .ensures) (c .before .before .before .before .before .before .before .before .if1 .left) _ _ _ (search needs) (active-read _ _ _ _ _ _ _ (c .before .before .before .before .before .active-pairs .ensures)) in (f, omega (arith, f))
 
 same-length-4 : tie.Need-same-length-4
 same-length-4 c = search needs
@@ -50,7 +50,7 @@ same-length-6 : tie.Need-same-length-6
 same-length-6 c = search needs
 
 returns-3 : tie.Need-returns-3
-returns-3 c = close-as _ _ _ _ _ _ (c .before .before .before .before .before .before .before .before .before .before .before .before .before .before .before .before .can-make .ensures) (c .before .before .before .before .before .before .before .before .before .before .before .before .before .before .before .if1 .left) _ (not-false _ (c .before .before .before .before .before .before .before .before .before .before .before .before .before .before .if2 .left)) _ (active-counted _ _ _ _ (c .before .before .before .before .before .before .before .before .before .before .before .before .before .before .before .before .can-make .ensures) (c .before .before .before .before .before .before .before .before .before .before .before .before .before .before .before .if1 .left) _ _ _ (search needs) (active-read _ _ _ _ _ _ _ (c .before .before .before .before .before .before .before .before .before .before .before .before .active-pairs .ensures .0) (c .before .before .before .before .before .before .before .before .before .before .before .before .active-pairs .ensures .1))) _ _ _ _ (c .before .before .before .before .before .before .close-list2 .ensures)
+returns-3 c = close-as _ _ _ _ _ _ (c .before .before .before .before .before .before .before .before .before .before .before .before .before .before .before .before .can-make .ensures) (c .before .before .before .before .before .before .before .before .before .before .before .before .before .before .before .if1 .left) _ (not-false _ (c .before .before .before .before .before .before .before .before .before .before .before .before .before .before .if2 .left)) _ (active-counted _ _ _ _ (c .before .before .before .before .before .before .before .before .before .before .before .before .before .before .before .before .can-make .ensures) (c .before .before .before .before .before .before .before .before .before .before .before .before .before .before .before .if1 .left) _ _ _ (search needs) (active-read _ _ _ _ _ _ _ (c .before .before .before .before .before .before .before .before .before .before .before .before .active-pairs .ensures))) _ _ _ _ (c .before .before .before .before .before .before .close-list2 .ensures)
 
 pub close-spec : {M : Type 1} → statement M
 close-spec =

@@ -73,7 +73,7 @@ same-length-6 : tie.Need-same-length-6
 same-length-6 c = search needs
 
 returns-2 : tie.Need-returns-2
-returns-2 c = list-closed _ _ _ _ _ _ _ (c .before .before .before .before .before .before .before .before .before .before .before .before .before .before .before .before .before .before .before .ask-close .ensures) _ (c .before .before .before .before .before .before .before .before .before .before .before .before .before .before .before .before .before .enum-told .given .1) _ _ _ refl (c .before .before .before .before .before .before .before .before .before .before .before .before .before .before .before .before .before .before .before .before .before .before .before .before .before .before .before .before .pre .0) (c .before .before .before .before .before .before .before .before .before .before .before .before .before .before .before .before .before .before .before .before .before .before .before .before .before .before .before .before .pre .1) _ (c .before .before .before .before .before .before .before .before .before .before .before .before .before .before .before .before .is-marked .ensures) _ (search needs) _ _ (canonical-read _ _ _ _ _ _ _ _ (c .before .before .before .before .before .before .before .before .before .before .before .before .before .before .canonical-places .ensures .0) (c .before .before .before .before .before .before .before .before .before .before .before .before .before .before .canonical-places .ensures .1)) _ _ _ (c .before .before .before .before .before .before .before .before .append-list .ensures .1 .0) (c .before .before .before .before .before .before .before .before .append-list .ensures .1 .1) (c .before .before .write-three .ensures)
+returns-2 c = list-closed _ _ _ _ _ _ _ (c .before .before .before .before .before .before .before .before .before .before .before .before .before .before .before .before .before .before .before .ask-close .ensures) _ (c .before .before .before .before .before .before .before .before .before .before .before .before .before .before .before .before .before .enum-told .given .1) _ _ _ refl (c .before .before .before .before .before .before .before .before .before .before .before .before .before .before .before .before .before .before .before .before .before .before .before .before .before .before .before .before .pre .0) (c .before .before .before .before .before .before .before .before .before .before .before .before .before .before .before .before .before .before .before .before .before .before .before .before .before .before .before .before .pre .1) _ (c .before .before .before .before .before .before .before .before .before .before .before .before .before .before .before .before .is-marked .ensures) _ (search needs) _ _ (canonical-read _ _ _ _ _ _ _ _ (c .before .before .before .before .before .before .before .before .before .before .before .before .before .before .canonical-places .ensures)) _ _ _ (c .before .before .before .before .before .before .before .before .append-list .ensures .1 .0) (c .before .before .before .before .before .before .before .before .append-list .ensures .1 .1) (c .before .before .write-three .ensures)
 
 pub close-list-spec : {M : Type 1} → statement M
 close-list-spec =

@@ -19,7 +19,7 @@ same-length : tie.Need-same-length
 same-length c = search needs
 
 returns : tie.Need-returns
-returns c = relocates-laid _ _ _ _ _ (c .before .before .before .before .before .before .active-pairs .ensures .0) (c .before .before .before .before .before .before .active-pairs .ensures .1) _ _ _ _ (c .before .before .canonical-places .ensures)
+returns c = relocates-laid _ _ _ _ _ (c .before .before .before .before .before .before .active-pairs .ensures) _ _ _ _ (c .before .before .canonical-places .ensures)
 
 pub lay-relocates-spec : {M : Type 1} → statement M
 lay-relocates-spec =

@@ -41,7 +41,7 @@ same-length-2 : tie.Need-same-length-2
 same-length-2 c = search needs
 
 returns-5 : tie.Need-returns-5
-returns-5 c = parts-made _ _ _ _ _ _ _ (c .before .before .before .before .before .before .before .before .before .before .before .before .before .before .before .before .if1 .left) (c .before .before .before .before .before .before .before .before .before .before .before .before .before .before .before .if2 .left) (c .before .before .before .before .before .before .before .before .before .before .before .before .before .before .if3 .left) _ (c .before .before .before .before .before .before .before .before .before .before .before .before .before .has-room .ensures) (c .before .before .before .before .before .before .before .before .before .before .before .before .if4 .left) _ (c .before .before .before .before .before .before .before .before .before .before .before .is-marked .ensures) _ (search needs) _ _ (canonical-read _ _ _ _ _ _ _ _ (c .before .before .before .before .before .before .before .before .before .canonical-places .ensures .0) (c .before .before .before .before .before .before .before .before .before .canonical-places .ensures .1)) _ _ (c .before .before .before .before .write-list .ensures .1 .0) (c .before .before .before .before .write-list .ensures .1 .1)
+returns-5 c = parts-made _ _ _ _ _ _ _ (c .before .before .before .before .before .before .before .before .before .before .before .before .before .before .before .before .if1 .left) (c .before .before .before .before .before .before .before .before .before .before .before .before .before .before .before .if2 .left) (c .before .before .before .before .before .before .before .before .before .before .before .before .before .before .if3 .left) _ (c .before .before .before .before .before .before .before .before .before .before .before .before .before .has-room .ensures) (c .before .before .before .before .before .before .before .before .before .before .before .before .if4 .left) _ (c .before .before .before .before .before .before .before .before .before .before .before .is-marked .ensures) _ (search needs) _ _ (canonical-read _ _ _ _ _ _ _ _ (c .before .before .before .before .before .before .before .before .before .canonical-places .ensures)) _ _ (c .before .before .before .before .write-list .ensures .1 .0) (c .before .before .before .before .write-list .ensures .1 .1)
 
 pub from-parts-spec : {M : Type 1} → statement M
 from-parts-spec =

@@ -3,13 +3,16 @@ use borrow.Author.Needs.{needs}
 use Prim.Native.Nat.{_≤_, _-_}
 use mathlib.Core.Path.{_≡_, refl}
 use lib.ListN.{length}
+use Rattle.pairs.specs.Places.{pairsIn}
+use Rattle.listing.specs.Picks.{Holds}
+use Rattle.relocates.specs.Picks.{activeAt}
 use Rattle.asking.proofs.MadeLaws.{made-few, made-held, made-room}
-use Rattle.relocates.proofs.ActiveWays.{Holds, active-none, active-few, active-on, picks-none, active-end}
+use Rattle.relocates.proofs.ActiveWays.{active-none, active-few, active-on, picks-none, active-end}
 use Rattle.relocates.proofs.status.active_pairs.Statement.{statement}
 use Rattle.relocates.proofs.status.active_pairs.Tie as tie
 
 abbrev Inv-loop : tie.InvT-loop
-Inv-loop store places n kept₀ status w₀ i₀ kept w i = (i ≤ n) × Holds store places n kept₀ i kept w × (length kept ≡ length kept₀)
+Inv-loop store places n kept₀ status w₀ i₀ kept w i = (i ≤ n) × Holds places (activeAt (pairsIn store places n) i) kept₀ kept w × (length kept ≡ length kept₀)
 
 abbrev μ-loop : tie.MeasureT-loop
 μ-loop store places n kept₀ status w₀ i₀ kept w i = n - i
