@@ -14,7 +14,7 @@ use Rattle.text.proofs.BoolLaws.{and-no, and-yes, upTo}
 use Rattle.grammar.specs.Legal.{State, Slash, Name, Opened, Set, Equals, Sel, Closed, Dot, Prop, Dead, step, run, accept, legal, isEnd}
 use Rattle.grammar.specs.Pack.{pack, plain, EndsByPlain}
 use Rattle.grammar.proofs.RunLaws.{run-dead}
-use Rattle.grammar.proofs.ScanLaws.{letters-1, letters-2, digits-1, digits-2, listed, Reads, first, on, none, other, root, whole}
+use Rattle.grammar.proofs.ScanLaws.{upper-1, lower-1, more-1, upper-2, lower-2, more-2, digits-1, digits-2, listed, Reads, first, on, none, other, root, whole}
 
 -- no path has the byte 0
 null-dead : (s : State) → step s 0 ≡ Dead
@@ -67,10 +67,10 @@ abbrev pub end-pack : ℕ → ℕ
 end-pack a = pack (plain a)
 
 unfoldable pub end-arms : List (List ℕ)
-end-arms = (125 ∷ []) ∷ (61 ∷ []) ∷ (58 ∷ []) ∷ (47 ∷ []) ∷ digits-2 ∷ digits-1 ∷ letters-2 ∷ letters-1 ∷ []
+end-arms = (125 ∷ []) ∷ (61 ∷ []) ∷ (58 ∷ []) ∷ (47 ∷ []) ∷ digits-2 ∷ digits-1 ∷ more-2 ∷ lower-2 ∷ upper-2 ∷ more-1 ∷ lower-1 ∷ upper-1 ∷ []
 
 pub all-end-listed : upTo (listed end-pack end-arms) 256 ≡ true
-unfolding end-arms letters-1 letters-2 digits-1 digits-2 pack
+unfolding end-arms upper-1 lower-1 more-1 upper-2 lower-2 more-2 digits-1 digits-2 pack
 all-end-listed = refl
 
 -- `is_end`

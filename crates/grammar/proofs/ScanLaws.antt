@@ -40,11 +40,23 @@ unfolding holds
 rule s a h = eqb-true (pack a / 2 ^ number s % 64) (number (step s a)) (at-each (holds s) 256 a (all-hold s) h)
 
 -- the keys of the arms, in their order
-unfoldable pub letters-1 : List ℕ
-letters-1 = 65 ∷ 67 ∷ 69 ∷ 71 ∷ 73 ∷ 75 ∷ 77 ∷ 79 ∷ 81 ∷ 83 ∷ 85 ∷ 87 ∷ 89 ∷ 95 ∷ 97 ∷ 99 ∷ 101 ∷ 103 ∷ 105 ∷ 107 ∷ 109 ∷ 111 ∷ 113 ∷ 115 ∷ 117 ∷ 119 ∷ 121 ∷ []
+unfoldable pub upper-1 : List ℕ
+upper-1 = 65 ∷ 67 ∷ 69 ∷ 71 ∷ 73 ∷ 75 ∷ 77 ∷ 79 ∷ 81 ∷ 83 ∷ 85 ∷ 87 ∷ 89 ∷ 95 ∷ []
 
-unfoldable pub letters-2 : List ℕ
-letters-2 = 66 ∷ 68 ∷ 70 ∷ 72 ∷ 74 ∷ 76 ∷ 78 ∷ 80 ∷ 82 ∷ 84 ∷ 86 ∷ 88 ∷ 90 ∷ 98 ∷ 100 ∷ 102 ∷ 104 ∷ 106 ∷ 108 ∷ 110 ∷ 112 ∷ 114 ∷ 116 ∷ 118 ∷ 120 ∷ 122 ∷ []
+unfoldable pub lower-1 : List ℕ
+lower-1 = 97 ∷ 99 ∷ 101 ∷ 103 ∷ 105 ∷ 107 ∷ 109 ∷ []
+
+unfoldable pub more-1 : List ℕ
+more-1 = 111 ∷ 113 ∷ 115 ∷ 117 ∷ 119 ∷ 121 ∷ []
+
+unfoldable pub upper-2 : List ℕ
+upper-2 = 66 ∷ 68 ∷ 70 ∷ 72 ∷ 74 ∷ 76 ∷ 78 ∷ 80 ∷ 82 ∷ 84 ∷ 86 ∷ 88 ∷ 90 ∷ []
+
+unfoldable pub lower-2 : List ℕ
+lower-2 = 98 ∷ 100 ∷ 102 ∷ 104 ∷ 106 ∷ 108 ∷ 110 ∷ []
+
+unfoldable pub more-2 : List ℕ
+more-2 = 112 ∷ 114 ∷ 116 ∷ 118 ∷ 120 ∷ 122 ∷ []
 
 unfoldable pub digits-1 : List ℕ
 digits-1 = 48 ∷ 50 ∷ 52 ∷ 54 ∷ 56 ∷ []
@@ -102,10 +114,10 @@ others f arms a t h w = sym (eqb-true (f a) 988218432520154550 (rw (none-of arms
 
 unfoldable pub arms : List (List ℕ)
 arms =
-    (125 ∷ []) ∷ (123 ∷ []) ∷ (61 ∷ []) ∷ (58 ∷ []) ∷ (47 ∷ []) ∷ (46 ∷ []) ∷ digits-2 ∷ digits-1 ∷ letters-2 ∷ letters-1 ∷ []
+    (125 ∷ []) ∷ (123 ∷ []) ∷ (61 ∷ []) ∷ (58 ∷ []) ∷ (47 ∷ []) ∷ (46 ∷ []) ∷ digits-2 ∷ digits-1 ∷ more-2 ∷ lower-2 ∷ upper-2 ∷ more-1 ∷ lower-1 ∷ upper-1 ∷ []
 
 pub all-listed : upTo (listed pack arms) 256 ≡ true
-unfolding arms letters-1 letters-2 digits-1 digits-2 pack
+unfolding arms upper-1 lower-1 more-1 upper-2 lower-2 more-2 digits-1 digits-2 pack
 all-listed = refl
 
 -- the states that accept are those below 18
