@@ -21,7 +21,7 @@ use Rattle.asking.specs.Asking.{Lent, lentList, pairsOf, asked}
 use Rattle.asking.proofs.PassLaws.{first-sound}
 use Rattle.relocates.specs.Status.{occurrence, statuses as statusesOf}
 use Rattle.relocates.specs.Calls.{analyzeReply, analyzeMemory}
-use Rattle.relocates.proofs.MarkWays.{bytes-length}
+use Rattle.relocates.proofs.FirstWays.{bytes-length}
 use Rattle.legs.specs.Lent.{LentRoute, lentRoute}
 use Rattle.routing.specs.Quick.{afterLegs}
 use Rattle.protocol.specs.Frame.{Frame, pair, statuses, close-map, close-relocates, out, home, count}

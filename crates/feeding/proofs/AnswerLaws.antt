@@ -16,7 +16,7 @@ use Rattle.path.specs.Outcome.{Outcome, path, refused}
 use Rattle.asking.specs.Asking.{pairsOf, asked}
 use Rattle.asking.proofs.PassLaws.{first-sound}
 use Rattle.relocates.specs.Status.{occurrence, statuses as statusesOf}
-use Rattle.relocates.proofs.MarkWays.{bytes-length}
+use Rattle.relocates.proofs.FirstWays.{bytes-length}
 use Rattle.mapping.proofs.HandWays.{Short}
 use Rattle.routing.proofs.ShortLaws.{short-after}
 use Rattle.holding.specs.Add.{addAsked}

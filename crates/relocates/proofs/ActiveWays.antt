@@ -20,7 +20,7 @@ use Rattle.asking.specs.Asking.{lentList, listCounts}
 use Rattle.asking.specs.Made.{canMake}
 use Rattle.relocates.specs.Status.{statusByte, occurrence, statuses}
 use Rattle.relocates.specs.Picks.{activeAt, activePicks}
-use Rattle.relocates.proofs.MarkWays.{bytes-at}
+use Rattle.relocates.proofs.FirstWays.{bytes-at}
 
 -- `keep_active`
 module _ (places : List ℕ) (i status : ℕ) (kept : List ℕ) (w : ℕ) where

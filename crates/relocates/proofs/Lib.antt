@@ -1,6 +1,6 @@
 -- The laws of this crate; the proof of each function stands in a folder of its name.
 pub mod StatusWays
-pub mod MarkWays
+pub mod FirstWays
 mod AnalyzeWays
 pub mod ActiveLaws
 mod ActiveWays

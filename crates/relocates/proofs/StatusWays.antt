@@ -154,25 +154,25 @@ module _ (sa ta sb tb : Text) (x : Bool) (hx : x ≡ (not (isNil ta) && hasPrefi
 pub ruleset reasons = (alike-empty, alike-equal, target-empty, target-prefix, source-equal, source-prefix, conflict-target, conflict-alike, conflict-source)
 
 -- `conflicts_with`
-module _ (store : Text) (places : List ℕ) (i j mark : ℕ) where
-  pub with-itself : i ≡ j → false ≡ (not (eqb i j) && eqb mark 0 && against (pairIn store places i) (pairIn store places j))
+module _ (store : Text) (places : List ℕ) (i j first : ℕ) where
+  pub with-itself : i ≡ j → false ≡ (not (eqb i j) && eqb first 0 && against (pairIn store places i) (pairIn store places j))
   with-itself h = rw (eq-eqb i j h)
 
-  pub with-dropped : i ≢ j → mark ≢ 0 → false ≡ (not (eqb i j) && eqb mark 0 && against (pairIn store places i) (pairIn store places j))
-  with-dropped h k = rw (ne-eqb i j h, ne-eqb mark 0 k)
+  pub with-dropped : i ≢ j → first ≢ 0 → false ≡ (not (eqb i j) && eqb first 0 && against (pairIn store places i) (pairIn store places j))
+  with-dropped h k = rw (ne-eqb i j h, ne-eqb first 0 k)
 
-  module _ (h : i ≢ j) (k : mark ≡ 0) (sa ta sb tb : Text)
+  module _ (h : i ≢ j) (k : first ≡ 0) (sa ta sb tb : Text)
       (hsa : sa ≡ keyAt store places false i) (hta : ta ≡ keyAt store places true i)
       (hsb : sb ≡ keyAt store places false j) (htb : tb ≡ keyAt store places true j) (x : Bool) (hx : x ≡ alike ta tb) where
-    pub with-target : x ≡ true → true ≡ (not (eqb i j) && eqb mark 0 && against (pairIn store places i) (pairIn store places j))
+    pub with-target : x ≡ true → true ≡ (not (eqb i j) && eqb first 0 && against (pairIn store places i) (pairIn store places j))
     unfolding against
     with-target l =
-        rw (ne-eqb i j h, eq-eqb mark 0 k, ← (pair-is store places i sa ta hsa hta), ← (pair-is store places j sb tb hsb htb), told hx l)
+        rw (ne-eqb i j h, eq-eqb first 0 k, ← (pair-is store places i sa ta hsa hta), ← (pair-is store places j sb tb hsb htb), told hx l)
 
     pub with-reason : x ≡ false → (y : Bool) → y ≡ pairConflicts (pair sa ta) (pair sb tb)
-        → y ≡ (not (eqb i j) && eqb mark 0 && against (pairIn store places i) (pairIn store places j))
+        → y ≡ (not (eqb i j) && eqb first 0 && against (pairIn store places i) (pairIn store places j))
     unfolding against
     with-reason l y hy =
-        rw (ne-eqb i j h, eq-eqb mark 0 k, ← (pair-is store places i sa ta hsa hta), ← (pair-is store places j sb tb hsb htb), told hx l) hy
+        rw (ne-eqb i j h, eq-eqb first 0 k, ← (pair-is store places i sa ta hsa hta), ← (pair-is store places j sb tb hsb htb), told hx l) hy
 
 pub ruleset conflicting = (with-itself, with-dropped, with-target, with-reason)

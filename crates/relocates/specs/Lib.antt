@@ -1,5 +1,5 @@
 -- The definitions of this crate.
 pub mod Status
-pub mod Marks
+pub mod First
 pub mod Calls
 pub mod Picks

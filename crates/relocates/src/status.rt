@@ -14,7 +14,7 @@ ghost use Rattle.pairs.specs.Pair.{pair};
 ghost use Rattle.asking.specs.Asking.{lentList};
 ghost use Rattle.relocates.specs.declared.RelocateOccurrence.the-variants.{Active};
 ghost use Rattle.relocates.specs.Status.{structural, reserves, duplicate, alike, pairConflicts, against, occurrenceOr, statusByte, statuses};
-ghost use Rattle.relocates.specs.Marks.{marks, marked};
+ghost use Rattle.relocates.specs.First.{firstStatuses, HasFirst};
 ghost use Rattle.relocates.specs.Picks.{activePicks};
 
 // Is the pair dropped whatever stands beside it? (Rust: relocate_invalid_reason)
@@ -107,15 +107,15 @@ pub fn relocate_pair_conflicts(sa: &[u8], ta: &[u8], sb: &[u8], tb: &[u8]) -> bo
     is_source_below(sa, sb)
 }
 
-// The same of pair i and pair j, or the same target. The mark of pair j is 0 where it is neither
+// The same of pair i and pair j, or the same target. The first status of pair j is 0 where it is neither
 // structural nor a duplicate.
-fn conflicts_with(store: &[u8], places: &[usize], i: usize, j: usize, mark: u8) -> bool
-    ensures { λ r. ⌜ r ≡ (not (eqb i j) && eqb mark 0 && against (pairIn (now (store .entry)) (now (places .entry)) i) (pairIn (now (store .entry)) (now (places .entry)) j)) ⌝ }
+fn conflicts_with(store: &[u8], places: &[usize], i: usize, j: usize, first: u8) -> bool
+    ensures { λ r. ⌜ r ≡ (not (eqb i j) && eqb first 0 && against (pairIn (now (store .entry)) (now (places .entry)) i) (pairIn (now (store .entry)) (now (places .entry)) j)) ⌝ }
 {
     if i == j {
         return false;
     }
-    if mark != 0 {
+    if first != 0 {
         return false;
     }
     let sa = pairs::key_at(store, places, i, false);
@@ -156,9 +156,9 @@ pub fn status_byte(o: crate::RelocateOccurrence) -> u8
 }
 
 // Writes the statuses of the first n pairs before conflicts are sought.
-fn mark_pairs(store: &[u8], places: &[usize], n: usize, out: &mut [u8])
+fn write_first(store: &[u8], places: &[usize], n: usize, out: &mut [u8])
     requires { ⌜ n ≤ length (now out) ⌝ }
-    ensures { λ _. ⌜ now (out .exit) ≡ written (marks (pairsIn (now (store .entry)) (now (places .entry)) n) n) (now (out .entry)) ⌝ }
+    ensures { λ _. ⌜ now (out .exit) ≡ written (firstStatuses (pairsIn (now (store .entry)) (now (places .entry)) n) n) (now (out .entry)) ⌝ }
 {
     let mut i = 0;
     while i < n {
@@ -169,14 +169,14 @@ fn mark_pairs(store: &[u8], places: &[usize], n: usize, out: &mut [u8])
 
 // Writes the statuses of the first n pairs. The search over the other pairs stops at the first reason
 // found.
-fn settle_pairs(store: &[u8], places: &[usize], n: usize, mark: &[u8; 64], out: &mut [u8])
+fn settle_pairs(store: &[u8], places: &[usize], n: usize, first: &[u8; 64], out: &mut [u8])
     requires { ⌜ (n ≤ 64) × (n ≤ length (now out)) ⌝ }
-    requires { ⌜ marked (pairsIn (now store) (now places) n) (now mark) ⌝ }
+    requires { ⌜ HasFirst (pairsIn (now store) (now places) n) (now first) ⌝ }
     ensures { λ _. ⌜ now (out .exit) ≡ written (statuses (pairsIn (now (store .entry)) (now (places .entry)) n) n) (now (out .entry)) ⌝ }
 {
     let mut i = 0;
     'pairs: while i < n {
-        let own = mark[i];
+        let own = first[i];
         if own != 0 {
             out[i] = own;
             i += 1;
@@ -184,7 +184,7 @@ fn settle_pairs(store: &[u8], places: &[usize], n: usize, mark: &[u8; 64], out: 
         }
         let mut j = 0;
         while j < n {
-            if conflicts_with(store, places, i, j, mark[j]) {
+            if conflicts_with(store, places, i, j, first[j]) {
                 out[i] = status_byte(crate::RelocateOccurrence::DroppedConflict);
                 i += 1;
                 continue 'pairs;
@@ -201,9 +201,9 @@ pub(crate) fn write_statuses(store: &[u8], places: &[usize], n: usize, out: &mut
     requires { ⌜ (n ≤ 64) × (n ≤ length (now out)) ⌝ }
     ensures { λ _. ⌜ now (out .exit) ≡ written (statuses (pairsIn (now (store .entry)) (now (places .entry)) n) n) (now (out .entry)) ⌝ }
 {
-    let mut mark = [0u8; 64];
-    mark_pairs(store, places, n, &mut mark);
-    settle_pairs(store, places, n, &mark, out);
+    let mut first = [0u8; 64];
+    write_first(store, places, n, &mut first);
+    settle_pairs(store, places, n, &first, out);
 }
 
 // Keeps pair i behind the w pairs that are kept, where its status is Active.

@@ -1,4 +1,4 @@
-use Rattle.relocates.proofs.MarkWays.{firsts}
+use Rattle.relocates.proofs.FirstWays.{firsts}
 use borrow.Author.Needs.{needs}
 use Rattle.relocates.proofs.status.first_occurrence.Statement.{statement}
 use Rattle.relocates.proofs.status.first_occurrence.Tie as tie

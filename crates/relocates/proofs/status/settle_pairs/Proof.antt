@@ -1,4 +1,4 @@
-use Rattle.relocates.proofs.MarkWays.{reason, settle-begin, settle-end, settle-dropped, settle-conflict, settle-active, seek-on}
+use Rattle.relocates.proofs.FirstWays.{reason, settle-begin, settle-end, settle-dropped, settle-conflict, settle-active, seek-on}
 use borrow.Author.Needs.{needs}
 use mathlib.Core.Path.{_≡_, refl, _∙_}
 use mathlib.Core.Bool.{false}
@@ -12,16 +12,16 @@ use Rattle.relocates.proofs.status.settle_pairs.Tie as tie
 use Rattle.relocates.proofs.StatusWays.{some-none}
 
 abbrev Inv-loop : tie.InvT-loop
-Inv-loop store places n mark out₀ i₀ own j₀ out i j = (i ≡ i₀) × (j ≤ n) × (length out ≡ length out₀) × (out ≡ out₀) × (someBelow j (reason store places mark i) ≡ false)
+Inv-loop store places n first out₀ i₀ own j₀ out i j = (i ≡ i₀) × (j ≤ n) × (length out ≡ length out₀) × (out ≡ out₀) × (someBelow j (reason store places first i) ≡ false)
 
 abbrev μ-loop : tie.MeasureT-loop
-μ-loop store places n mark out₀ i₀ own j₀ out i j = n - j
+μ-loop store places n first out₀ i₀ own j₀ out i j = n - j
 
 abbrev Inv-pairs : tie.InvT-pairs
-Inv-pairs store places n mark out₀ i₀ out i = (i ≤ n) × (length out ≡ length out₀) × (out ≡ written (statuses (pairsIn store places n) i) out₀)
+Inv-pairs store places n first out₀ i₀ out i = (i ≤ n) × (length out ≡ length out₀) × (out ≡ written (statuses (pairsIn store places n) i) out₀)
 
 abbrev μ-pairs : tie.MeasureT-pairs
-μ-pairs store places n mark out₀ i₀ out i = n - i
+μ-pairs store places n first out₀ i₀ out i = n - i
 
 pairs-holds : tie.Need-pairs-holds Inv-loop μ-loop Inv-pairs μ-pairs
 pairs-holds c = (search needs, refl, settle-begin _ _ _ _)

@@ -1,49 +1,49 @@
-use Rattle.relocates.proofs.MarkWays.{marking}
+use Rattle.relocates.proofs.FirstWays.{writing-first}
 use mathlib.Core.Path.{_≡_}
 use Prim.Native.Nat.{_≤_, _-_}
 use lib.ListN.{length}
 use Rattle.text.specs.Text.{written}
 use Rattle.pairs.specs.Places.{pairsIn}
-use Rattle.relocates.specs.Marks.{marks}
+use Rattle.relocates.specs.First.{firstStatuses}
 use borrow.Author.Needs.{needs}
-use Rattle.relocates.proofs.status.mark_pairs.Statement.{statement}
-use Rattle.relocates.proofs.status.mark_pairs.Tie as tie
+use Rattle.relocates.proofs.status.write_first.Statement.{statement}
+use Rattle.relocates.proofs.status.write_first.Tie as tie
 
 abbrev Inv-loop : tie.InvT-loop
-Inv-loop store places n out₀ i₀ out i = (i ≤ n) × (length out ≡ length out₀) × (out ≡ written (marks (pairsIn store places n) i) out₀)
+Inv-loop store places n out₀ i₀ out i = (i ≤ n) × (length out ≡ length out₀) × (out ≡ written (firstStatuses (pairsIn store places n) i) out₀)
 
 abbrev μ-loop : tie.MeasureT-loop
 μ-loop store places n out₀ i₀ out i = n - i
 
 loop-holds : tie.Need-loop-holds Inv-loop μ-loop
-loop-holds c = search (needs, marking)
+loop-holds c = search (needs, writing-first)
 
 first-occurrence-requires : tie.Need-first-occurrence-requires Inv-loop μ-loop
-first-occurrence-requires c κs = search (needs, marking)
+first-occurrence-requires c κs = search (needs, writing-first)
 
 status-byte-requires : tie.Need-status-byte-requires Inv-loop μ-loop
-status-byte-requires c κs = search (needs, marking)
+status-byte-requires c κs = search (needs, writing-first)
 
 slice-write-out : tie.Need-slice-write-out Inv-loop μ-loop
-slice-write-out c = search (needs, marking)
+slice-write-out c = search (needs, writing-first)
 
 add-i : tie.Need-add-i Inv-loop μ-loop
-add-i c = search (needs, marking)
+add-i c = search (needs, writing-first)
 
 loop-less : tie.Need-loop-less Inv-loop μ-loop
-loop-less c = search (needs, marking)
+loop-less c = search (needs, writing-first)
 
 loop-again : tie.Need-loop-again Inv-loop μ-loop
-loop-again c = search (needs, marking)
+loop-again c = search (needs, writing-first)
 
 same-length : tie.Need-same-length Inv-loop μ-loop
-same-length c = search (needs, marking)
+same-length c = search (needs, writing-first)
 
 returns : tie.Need-returns Inv-loop μ-loop
-returns c = search (needs, marking)
+returns c = search (needs, writing-first)
 
-pub mark-pairs-spec : {M : Type 1} → statement M
-mark-pairs-spec =
+pub write-first-spec : {M : Type 1} → statement M
+write-first-spec =
     tie.close
     (tie.spec
     Inv-loop

@@ -18,7 +18,7 @@ use Rattle.pairs.proofs.PlaceLaws.{pair-is, pairsIn-at, pairsIn-length}
 use Rattle.relocates.specs.declared.RelocateOccurrence.{RelocateOccurrence}
 use Rattle.relocates.specs.declared.RelocateOccurrence.the-variants.{Active, DroppedStructural, DroppedDuplicateSource, DroppedConflict}
 use Rattle.relocates.specs.Status.{statusByte, someBelow, structural, reserves, duplicate, canConflict, against, conflict, occurrenceOr, occurrence, bytesOf, statuses}
-use Rattle.relocates.specs.Marks.{marks, marked}
+use Rattle.relocates.specs.First.{firstStatuses, HasFirst}
 use Rattle.relocates.proofs.StatusWays.{some-same, some-hit, some-on, duplicate-in}
 
 -- `first_occurrence`
@@ -70,7 +70,7 @@ by-tests : (l : List Pair) (i : ℕ) (a b : Bool) → structural (pairAt l i) �
 unfolding occurrenceOr
 by-tests l i a b ea eb = rw (ea, eb)
 
--- `mark_pairs`
+-- `write_first`
 module _ (store : Text) (places : List ℕ) where
   -- the list's length does not matter
   pub first-same : (n i : ℕ) → i < n → occurrenceOr Active (pairsIn store places (i + 1)) i ≡ occurrenceOr Active (pairsIn store places n) i
@@ -82,30 +82,30 @@ module _ (store : Text) (places : List ℕ) where
       ∙ sym (by-tests (pairsIn store places n) i a b (ap structural (pairsIn-at store places n i h)) (duplicate-in store places n i h))
 
   module _ (n : ℕ) (out₀ : Text) where
-    pub mark-begin : out₀ ≡ written (marks (pairsIn store places n) 0) out₀
-    unfolding marks
-    mark-begin = refl
+    pub first-begin : out₀ ≡ written (firstStatuses (pairsIn store places n) 0) out₀
+    unfolding firstStatuses
+    first-begin = refl
 
-    pub mark-on : (out : Text) (i : ℕ) → n ≤ length out₀ → i < n → out ≡ written (marks (pairsIn store places n) i) out₀
+    pub first-on : (out : Text) (i : ℕ) → n ≤ length out₀ → i < n → out ≡ written (firstStatuses (pairsIn store places n) i) out₀
         → (o : RelocateOccurrence) → o ≡ occurrenceOr Active (pairsIn store places (i + 1)) i → (v : ℕ) → v ≡ statusByte o
-        → set out i v ≡ written (marks (pairsIn store places n) (i + 1)) out₀
-    unfolding marks
-    mark-on out i g h e o ho v hv =
+        → set out i v ≡ written (firstStatuses (pairsIn store places n) (i + 1)) out₀
+    unfolding firstStatuses
+    first-on out i g h e o ho v hv =
         bytes-on (occurrenceOr Active (pairsIn store places n)) out₀ out i v (omega arith) e (hv ∙ ap statusByte (ho ∙ first-same n i h))
 
-    pub mark-end : (out : Text) (i : ℕ) → n ≤ i → i ≤ n → out ≡ written (marks (pairsIn store places n) i) out₀ → out ≡ written (marks (pairsIn store places n) n) out₀
-    mark-end out i g h e = let z : i ≡ n = omega arith in rw z at e
+    pub first-end : (out : Text) (i : ℕ) → n ≤ i → i ≤ n → out ≡ written (firstStatuses (pairsIn store places n) i) out₀ → out ≡ written (firstStatuses (pairsIn store places n) n) out₀
+    first-end out i g h e = let z : i ≡ n = omega arith in rw z at e
 
-pub ruleset marking = (mark-begin, mark-on, mark-end)
+pub ruleset writing-first = (first-begin, first-on, first-end)
 
--- what marks say
-pub is-marked : (store : Text) (places : List ℕ) (n : ℕ) (buf mem : Text) → mem ≡ written (marks (pairsIn store places n) n) buf → marked (pairsIn store places n) mem
-unfolding marks marked
-is-marked store places n buf mem e =
+-- what the first statuses say
+pub has-first : (store : Text) (places : List ℕ) (n : ℕ) (buf mem : Text) → mem ≡ written (firstStatuses (pairsIn store places n) n) buf → HasFirst (pairsIn store places n) mem
+unfolding firstStatuses HasFirst
+has-first store places n buf mem e =
     λ i h. rw e (bytes-at (occurrenceOr Active (pairsIn store places n)) buf n i (rw (pairsIn-length store places n) at h))
 
 module _ (l : List Pair) (i : ℕ) where
-  -- a mark that is not 0 is the status; with the mark 0 conflicts decide
+  -- a first status that is not 0 is the status; where it is 0 conflicts decide
   kept : (a b : Bool) (m : ℕ) → structural (pairAt l i) ≡ a → duplicate l i ≡ b → m ≡ statusByte (occurrenceOr Active l i) → m ≢ 0 → m ≡ statusByte (occurrence l i)
   unfolding occurrenceOr occurrence
   kept true b m ea eb e d = rw ea (rw ea at e)
@@ -130,7 +130,7 @@ conflict-is l i = refl
 
 -- pair j is a reason to drop pair i
 abbrev pub reason : Text → List ℕ → List ℕ → ℕ → ℕ → Bool
-reason store places mark i j = not (eqb i j) && eqb (getD mark j 0) 0 && against (pairIn store places i) (pairIn store places j)
+reason store places first i j = not (eqb i j) && eqb (getD first j 0) 0 && against (pairIn store places i) (pairIn store places j)
 
 -- `settle_pairs`
 module _ (store : Text) (places : List ℕ) (n : ℕ) (out₀ : Text) where
@@ -146,37 +146,37 @@ module _ (store : Text) (places : List ℕ) (n : ℕ) (out₀ : Text) where
   pub settle-end : (out : Text) (i : ℕ) → n ≤ i → i ≤ n → out ≡ written (statuses (pairsIn store places n) i) out₀ → out ≡ written (statuses (pairsIn store places n) n) out₀
   settle-end out i g h e = let z : i ≡ n = omega arith in rw z at e
 
-  module _ (mark : List ℕ) (m : marked (pairsIn store places n) mark) where
-    at-mark : (i : ℕ) → i < n → getD mark i 0 ≡ statusByte (occurrenceOr Active (pairsIn store places n) i)
-    unfolding marked
-    at-mark i h = m i (rw (pairsIn-length store places n) h)
+  module _ (first : List ℕ) (m : HasFirst (pairsIn store places n) first) where
+    at-first : (i : ℕ) → i < n → getD first i 0 ≡ statusByte (occurrenceOr Active (pairsIn store places n) i)
+    unfolding HasFirst
+    at-first i h = m i (rw (pairsIn-length store places n) h)
 
-    conflict-in : (i : ℕ) → i < n → conflict (pairsIn store places n) i ≡ someBelow n (reason store places mark i)
+    conflict-in : (i : ℕ) → i < n → conflict (pairsIn store places n) i ≡ someBelow n (reason store places first i)
     conflict-in i h =
         let l : List Pair = pairsIn store places n in
         conflict-is l i ∙ ap (λ (k : ℕ). someBelow k (λ (j : ℕ). not (eqb i j) && canConflict l j && against (pairAt l i) (pairAt l j))) (pairsIn-length store places n)
-        ∙ some-same (λ (j : ℕ). not (eqb i j) && canConflict l j && against (pairAt l i) (pairAt l j)) (reason store places mark i) n
-        (λ j k. rw (pairsIn-at store places n i h, pairsIn-at store places n j k, at-mark j k, conflicting l j (structural (pairAt l j)) (duplicate l j) refl refl))
+        ∙ some-same (λ (j : ℕ). not (eqb i j) && canConflict l j && against (pairAt l i) (pairAt l j)) (reason store places first i) n
+        (λ j k. rw (pairsIn-at store places n i h, pairsIn-at store places n j k, at-first j k, conflicting l j (structural (pairAt l j)) (duplicate l j) refl refl))
 
     -- at pair i, with the statuses before it written
     module _ (i : ℕ) (h : i < n) (out : Text) (e : out ≡ written (statuses (pairsIn store places n) i) out₀) (g : n ≤ length out₀) where
-      pub settle-dropped : getD mark i 0 ≢ 0 → set out i (getD mark i 0) ≡ written (statuses (pairsIn store places n) (i + 1)) out₀
+      pub settle-dropped : getD first i 0 ≢ 0 → set out i (getD first i 0) ≡ written (statuses (pairsIn store places n) (i + 1)) out₀
       settle-dropped d =
           let l : List Pair = pairsIn store places n in
-          settle-by out i (getD mark i 0) g h e (kept l i (structural (pairAt l i)) (duplicate l i) (getD mark i 0) refl refl (at-mark i h) d)
+          settle-by out i (getD first i 0) g h e (kept l i (structural (pairAt l i)) (duplicate l i) (getD first i 0) refl refl (at-first i h) d)
 
-      module _ (z : getD mark i 0 ≡ 0) (now : Text) (at j v : ℕ) (s : at ≡ i) (u : now ≡ out) where
-        settled : (b : Bool) → someBelow n (reason store places mark i) ≡ b → occurrence (pairsIn store places n) i ≡ cond b DroppedConflict Active
+      module _ (z : getD first i 0 ≡ 0) (now : Text) (at j v : ℕ) (s : at ≡ i) (u : now ≡ out) where
+        settled : (b : Bool) → someBelow n (reason store places first i) ≡ b → occurrence (pairsIn store places n) i ≡ cond b DroppedConflict Active
         settled b k =
             let l : List Pair = pairsIn store places n in
-            decided l i (structural (pairAt l i)) (duplicate l i) refl refl (sym z ∙ at-mark i h) ∙ rw (conflict-in i h, k)
+            decided l i (structural (pairAt l i)) (duplicate l i) refl refl (sym z ∙ at-first i h) ∙ rw (conflict-in i h, k)
 
-        pub settle-conflict : j < n → (b : Bool) → b ≡ reason store places mark at j → b ≡ true → v ≡ 3 → set now at v ≡ written (statuses (pairsIn store places n) (at + 1)) out₀
+        pub settle-conflict : j < n → (b : Bool) → b ≡ reason store places first at j → b ≡ true → v ≡ 3 → set now at v ≡ written (statuses (pairsIn store places n) (at + 1)) out₀
         settle-conflict k b r t w =
             rw (s, u)
-            (settle-by out i v g h e (w ∙ ap statusByte (sym (settled true (some-hit (reason store places mark i) n j k (rw s at (told r t)))))))
+            (settle-by out i v g h e (w ∙ ap statusByte (sym (settled true (some-hit (reason store places first i) n j k (rw s at (told r t)))))))
 
-        pub settle-active : n ≤ j → j ≤ n → someBelow j (reason store places mark at) ≡ false → v ≡ 0 → set now at v ≡ written (statuses (pairsIn store places n) (at + 1)) out₀
+        pub settle-active : n ≤ j → j ≤ n → someBelow j (reason store places first at) ≡ false → v ≡ 0 → set now at v ≡ written (statuses (pairsIn store places n) (at + 1)) out₀
         settle-active k f r w =
             let y : j ≡ n = omega arith in
             rw (s, u) (settle-by out i v g h e (w ∙ ap statusByte (sym (settled false (rw (y, s) at r)))))

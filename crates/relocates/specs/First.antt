@@ -1,4 +1,4 @@
--- What the code keeps on its way to the status bytes.
+-- How the code comes to the status bytes: first the statuses without conflicts, in memory of its own.
 use mathlib.Core.Path.{_≡_}
 use Prim.Native.Nat.{ℕ, _<_}
 use mathlib.Core.List.{List}
@@ -8,11 +8,11 @@ use Rattle.relocates.specs.declared.RelocateOccurrence.the-variants.{Act
 use Rattle.relocates.specs.Status.{statusByte, occurrenceOr, bytesOf}
 
 -- the status bytes of the first n pairs before conflicts are sought
-unfoldable pub marks : List Pair → ℕ → List ℕ
+unfoldable pub firstStatuses : List Pair → ℕ → List ℕ
 unfolding occurrenceOr
-marks l n = bytesOf (occurrenceOr Active l) n
+firstStatuses l n = bytesOf (occurrenceOr Active l) n
 
 -- memory holds those of all pairs
-unfoldable pub marked : List Pair → List ℕ → Type 0
+unfoldable pub HasFirst : List Pair → List ℕ → Type 0
 unfolding occurrenceOr
-marked l mark = (i : ℕ) → i < length l → getD mark i 0 ≡ statusByte (occurrenceOr Active l i)
+HasFirst l first = (i : ℕ) → i < length l → getD first i 0 ≡ statusByte (occurrenceOr Active l i)
