@@ -1,4 +1,4 @@
-// Hexadecimal digits, two for a byte. Every public function asks nothing of its caller.
+// Hexadecimal encoding and decoding, two digits for each byte. No public function has a precondition.
 ghost use mathlib.Core.Path.{_≡_};
 ghost use Prim.Native.Nat.{_+_, _*_, _/_, _%_, _<_};
 ghost use lib.ListN.{length, set};
@@ -6,17 +6,17 @@ ghost use Rattle.text.specs.Text.{placed};
 ghost use Rattle.digits.specs.Digits.{digit, decoded, capital, encoded};
 ghost use Rattle.digits.specs.Calls.{hasValue, value, allDigits, decodeReply, decodeMemory};
 
-// What `decode` answers.
+// The result of `decode`.
 pub enum Decoded {
-    // how many bytes it wrote, from the beginning of the memory on
+    // The number of bytes written, from the start of the buffer.
     Bytes(usize),
-    // the text has an odd number of digits, or another character: nothing was written
+    // The text has an odd number of characters, or a character that is not a digit; nothing was written.
     Bad,
-    // the memory is too short: nothing was written
+    // The buffer is too short; nothing was written.
     Over,
 }
 
-// Is the byte a digit?
+// Returns whether the byte is a hexadecimal digit.
 fn is_digit(b: u8) -> bool
     ensures { λ r. ⌜ r ≡ hasValue (digit b) ⌝ }
 {
@@ -28,7 +28,7 @@ fn is_digit(b: u8) -> bool
     }
 }
 
-// The value of a digit, 0 for another byte.
+// The value of a digit; 0 for any other byte.
 fn value_of(b: u8) -> u8
     ensures { λ r. ⌜ r ≡ value (digit b) ⌝ }
 {
@@ -40,7 +40,7 @@ fn value_of(b: u8) -> u8
     }
 }
 
-// Is every byte of the text a digit?
+// Returns whether every byte of the text is a digit.
 fn are_digits(text: &[u8]) -> bool
     ensures { λ r. ⌜ r ≡ allDigits (now (text .entry)) ⌝ }
 {
@@ -54,15 +54,15 @@ fn are_digits(text: &[u8]) -> bool
     true
 }
 
-// The byte of two digits.
+// The byte that two digits encode.
 fn byte_of(high: u8, low: u8) -> u8
     ensures { λ r. ⌜ r ≡ 16 * value (digit high) + value (digit low) ⌝ }
 {
     16 * value_of(high) + value_of(low)
 }
 
-// Writes the bytes that a text of digits stands for over the beginning of the memory, where it is
-// such a text and they fit; otherwise it writes nothing.
+// Decodes a text of digits into the start of the buffer if the text is well formed and its bytes fit;
+// otherwise writes nothing.
 pub fn decode(text: &[u8], out: &mut [u8]) -> Decoded
     ensures { λ r. ⌜ r ≡ decodeReply (decoded (now (text .entry))) (length (now (out .entry))) ⌝ }
     ensures { λ r. ⌜ now (out .exit) ≡ decodeMemory (decoded (now (text .entry))) (now (out .entry)) ⌝ }
@@ -85,7 +85,7 @@ pub fn decode(text: &[u8], out: &mut [u8]) -> Decoded
     Decoded::Bytes(n)
 }
 
-// The digit of a value, in capitals.
+// The digit of a value below 16, in upper case.
 fn digit_of(v: u8) -> u8
     requires { ⌜ v < 16 ⌝ }
     ensures { λ r. ⌜ r ≡ capital v ⌝ }
@@ -105,8 +105,7 @@ fn write_byte(b: u8, at: usize, out: &mut [u8])
     out[at + 1] = digit_of(b % 16);
 }
 
-// Writes the digits of the bytes over the memory from a place on, where they fit; otherwise it writes
-// nothing.
+// Writes the digits of the bytes into the buffer from index `at` if they fit; otherwise writes nothing.
 pub fn encode(bytes: &[u8], at: usize, out: &mut [u8])
     ensures { λ _. ⌜ now (out .exit) ≡ placed at (encoded (now (bytes .entry))) (now (out .entry)) ⌝ }
 {

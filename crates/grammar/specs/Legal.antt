@@ -1,5 +1,5 @@
--- Legal path texts, as an automaton that reads a text byte by byte. Grammar.antt says the same as data; proofs/Theorem.antt
--- proves that the two agree. The bytes: . 46, / 47, : 58, = 61, _ 95, { 123, } 125.
+-- Legal path texts, as an automaton that reads a text byte by byte. Grammar.antt defines the same texts by data types; proofs/Theorem.antt
+-- proves that the two agree. The bytes: . is 46, / is 47, : is 58, = is 61, _ is 95, { is 123, } is 125.
 use Prim.Native.Nat.{ℕ}
 use mathlib.Core.Bool.{Bool, true, false, cond, _&&_, _||_}
 use mathlib.Core.List.{[], _∷_}
@@ -7,38 +7,44 @@ use lib.Dec.{eqb, leb}
 use lib.ListN.{length}
 use Rattle.text.specs.Text.{Text, isNil, lacks}
 
--- "A name is a letter or `_`, then letters, digits, `_`": its first byte (Rust: is_identifier_start) ..
+-- The byte may begin a name (Rust: is_identifier_start). Requirements: "A name is a letter or `_`, then letters, digits, `_`."
 unfoldable pub isIdentifierStart : ℕ → Bool
 isIdentifierStart a = leb 65 a && leb a 90 || leb 97 a && leb a 122 || eqb a 95
 
--- .. and any later one (Rust: is_identifier_cont)
+-- The byte may follow the first byte of a name (Rust: is_identifier_cont).
 unfoldable pub isIdentifierCont : ℕ → Bool
 unfolding isIdentifierStart
 isIdentifierCont a = isIdentifierStart a || leb 48 a && leb a 57
 
--- the text begins with a byte of a name
+-- The text begins with a letter, a digit or `_`.
 abbrev pub startsName : Text → Bool
 startsName [] = false
 startsName (a ∷ r) = isIdentifierCont a
 
--- what was read last
+-- The state of the automaton: what was read last.
 pub data State : Type 0 where
-  -- a slash that a name must follow
+  -- A slash, which a name must follow.
   Slash : State
-  -- a byte of a prim's name
+  -- A byte of a prim's name.
   Name : State
-  -- the `{` of a selection, a byte of its set, its `=`, a byte of what it selects, its `}`
+  -- The `{` of a variant selection.
   Opened : State
+  -- A byte of the variant set's name.
   Set : State
+  -- The `=` of a variant selection.
   Equals : State
+  -- A byte of the variant.
   Sel : State
+  -- The `}` of a variant selection.
   Closed : State
-  -- the `.` of a property or a `:` in it; a byte of a property's name
+  -- The `.` of a property, or a `:` in it.
   Dot : State
+  -- A byte of a property's name.
   Prop : State
-  -- something that no legal text has
+  -- A byte that no legal text has at this point; the automaton stays in this state.
   Dead : State
 
+-- The next state after the byte a.
 unfoldable pub step : State → ℕ → State
 unfolding isIdentifierStart isIdentifierCont
 step Slash a = cond (isIdentifierStart a) Name Dead
@@ -52,13 +58,13 @@ step Dot a = cond (isIdentifierStart a) Prop Dead
 step Prop a = cond (isIdentifierCont a) Prop (cond (eqb a 58) Dot Dead)
 step Dead a = Dead
 
--- the state after the bytes of a text
+-- The state after all bytes of a text.
 unfoldable pub run : State → Text → State
 unfolding step
 run s [] = s
 run s (a ∷ r) = run (step s a) r
 
--- a text may end behind a name, a selection or a property's name
+-- The accepting states: a text may end after a name, a selection or a property's name.
 unfoldable pub accept : State → Bool
 accept Slash = false
 accept Name = true
@@ -71,22 +77,24 @@ accept Dot = false
 accept Prop = true
 accept Dead = false
 
--- the text is `/`
+-- The text is `/`.
 abbrev pub isRoot : Text → Bool
 isRoot [] = false
 isRoot (a ∷ r) = eqb a 47 && isNil r
 
--- "It is empty, or `/`, or `/` and a name followed by elements, then perhaps a property." Its length is asked apart, by `fits`.
+-- The text is a legal path; its length is checked separately, by `fits`. Requirements: "It is empty, or `/`, or `/` and a name followed by
+-- elements, then perhaps a property."
 unfoldable pub legal : Text → Bool
 unfolding run accept
 legal [] = true
 legal (a ∷ r) = eqb a 47 && (isNil r || accept (run Slash r))
 
--- "A legal path is at most 255 ASCII bytes."
+-- The text has at most 255 bytes. Requirements: "A legal path is at most 255 ASCII bytes."
 unfoldable pub fits : Text → Bool
 fits p = leb (length p) 255
 
--- "A prim path has names only." An end of a pair is a prim path, `/` or empty: a legal text with no selection and no property.
+-- The text may be an end of a pair: a prim path, `/` or empty, that is, a legal text with no selection and no property. Requirements: "A
+-- prim path has names only."
 unfoldable pub isEnd : Text → Bool
 unfolding legal lacks
 isEnd s = legal s && (lacks 123 s && lacks 46 s)

@@ -1,5 +1,5 @@
--- The automaton's step at one byte, for every state in one number: six bits for each state, at the place that the state's number
--- names. The scan loads this number for a byte and shifts it by the present state.
+-- The transition table of the automaton: one number for each byte, with six bits for each state that hold the next state. The scan loads
+-- the number of a byte and shifts it right by the current state.
 use Prim.Native.Nat.{ℕ, _+_, _*_, _^_}
 use mathlib.Core.Path.{_≡_}
 use mathlib.Core.Bool.{cond, _||_}
@@ -8,7 +8,7 @@ use lib.Dec.{eqb}
 use Rattle.text.specs.Text.{Text}
 use Rattle.grammar.specs.Legal.{State, Name, Closed, Prop, Slash, Opened, Set, Equals, Sel, Dot, Dead, step, legal, isEnd}
 
--- six times the number of a state; the states that accept are those below 18
+-- The bit offset of a state in the packed number: six times its index. The accepting states are those below 18.
 unfoldable pub number : State → ℕ
 number Name = 0
 number Closed = 6
@@ -21,10 +21,12 @@ number Sel = 42
 number Dot = 48
 number Dead = 54
 
+-- The part of the packed number for state s and byte a: the next state, shifted to the bit offset of s.
 unfoldable pub place : State → ℕ → ℕ
 unfolding number step
 place s a = number (step s a) * 2 ^ number s
 
+-- The packed number of byte a: the next state of every state.
 unfoldable pub pack : ℕ → ℕ
 unfolding place
 pack a =
@@ -39,10 +41,10 @@ pack a =
     + place Dot a
     + place Dead a
 
--- a byte as the scan of an end reads it: `.` and `{`, which no end has, count as a byte that no path has
+-- The byte as the scan for ends reads it: `.` and `{`, which no end contains, are replaced by a byte that no path contains.
 abbrev pub plain : ℕ → ℕ
 plain a = cond (eqb a 46 || eqb a 123) 0 a
 
--- so a text is an end where it is legal when read like that (proved in proofs/EndLaws.antt)
+-- Theorem (proofs/EndLaws.antt): a text is an end exactly if it is legal after this replacement.
 abbrev pub EndsByPlain : Type 0
 EndsByPlain = (s : Text) → isEnd s ≡ legal (map plain s)

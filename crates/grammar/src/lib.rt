@@ -1,4 +1,5 @@
-// Which texts are legal paths. The scan reads one byte at a time and keeps the automaton's state in
+// The path grammar: validates path texts (the role of Path::new in the Rust sdf/path.rs, with a narrower
+// grammar). The scan is a table-driven automaton that reads one byte at a time and keeps its state in
 // the low six bits of a number.
 ghost use mathlib.Core.Path.{_≡_};
 ghost use mathlib.Core.Bool.{_&&_};
@@ -7,9 +8,10 @@ ghost use lib.Dec.{leb};
 ghost use Rattle.grammar.specs.Legal.{isIdentifierStart, isIdentifierCont, isRoot, legal, isEnd};
 ghost use Rattle.grammar.specs.Pack.{pack, plain};
 
-// The next state of every state at the byte a, six bits for each. A match whose arms are single keys
-// compiles to a table in read-only memory, where a const array is built anew at each use. Keys next to
-// each other in one arm would become range tests, so odd and even letters and digits stand apart.
+// The transition table: the next state of every state at the byte `a`, six bits for each. A match whose
+// arms are single values compiles to a table in read-only memory, whereas a const array is built anew at
+// each use. Adjacent values in one arm would become range tests, so odd and even letters and digits are
+// in separate arms.
 fn row(a: u8) -> u64
     ensures { λ r. ⌜ r ≡ pack a ⌝ }
 {
@@ -32,14 +34,14 @@ fn row(a: u8) -> u64
     }
 }
 
-// The state after the state s and the byte a: the low six bits count.
+// The state after state `s` and byte `a`; only the low six bits count.
 fn next(s: u64, a: u8) -> u64
     ensures { λ r. ⌜ r ≡ pack a / 2 ^ (s % 64) ⌝ }
 {
     row(a) >> (s % 64)
 }
 
-// Is the text a legal path, whatever its length?
+// Returns whether the text is a legal path, regardless of its length.
 pub fn is_legal(p: &[u8]) -> bool
     ensures { λ r. ⌜ r ≡ legal (now (p .entry)) ⌝ }
 {
@@ -61,7 +63,7 @@ pub fn is_legal(p: &[u8]) -> bool
     false
 }
 
-// As `row`, where `.` and `{` count as bytes that no path has.
+// Like `row`, but treats `.` and `{` as bytes that no path contains.
 fn end_row(a: u8) -> u64
     ensures { λ r. ⌜ r ≡ pack (plain a) ⌝ }
 {
@@ -82,14 +84,15 @@ fn end_row(a: u8) -> u64
     }
 }
 
-// As `next`, for `end_row`.
+// Like `next`, with `end_row`.
 fn next_in_end(s: u64, a: u8) -> u64
     ensures { λ r. ⌜ r ≡ pack (plain a) / 2 ^ (s % 64) ⌝ }
 {
     end_row(a) >> (s % 64)
 }
 
-// Is the text a prim path, `/` or empty, whatever its length? One scan, as `is_legal` makes it.
+// Returns whether the text is a prim path, `/` or empty, regardless of its length. Uses one scan, as
+// `is_legal` does.
 pub fn is_end(p: &[u8]) -> bool
     ensures { λ r. ⌜ r ≡ isEnd (now (p .entry)) ⌝ }
 {
@@ -111,7 +114,7 @@ pub fn is_end(p: &[u8]) -> bool
     false
 }
 
-// Is the text `/`?
+// Returns whether the text is `/`.
 pub fn is_root(p: &[u8]) -> bool
     ensures { λ r. ⌜ r ≡ isRoot (now (p .entry)) ⌝ }
 {
@@ -121,13 +124,14 @@ pub fn is_root(p: &[u8]) -> bool
     p[0] == b'/'
 }
 
+// Returns whether `a` lies between `low` and `high`, both included.
 fn is_within(low: u8, a: u8, high: u8) -> bool
     ensures { λ r. ⌜ r ≡ (leb low a && leb a high) ⌝ }
 {
     if low <= a { a <= high } else { false }
 }
 
-// May the byte begin a name?
+// Returns whether the byte may begin a name.
 fn is_identifier_start(a: u8) -> bool
     ensures { λ r. ⌜ r ≡ isIdentifierStart a ⌝ }
 {
@@ -140,7 +144,7 @@ fn is_identifier_start(a: u8) -> bool
     a == b'_'
 }
 
-// May the byte stand in a name behind its first?
+// Returns whether the byte may follow the first byte of a name.
 pub fn is_identifier_cont(a: u8) -> bool
     ensures { λ r. ⌜ r ≡ isIdentifierCont a ⌝ }
 {

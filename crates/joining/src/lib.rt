@@ -1,5 +1,6 @@
-// The join that replaces a prefix of a path text. Every function is defined for any bytes and asks nothing of
-// its caller.
+// Prefix replacement on path texts: appends the remainder of a path after its old prefix to a new
+// prefix. Ports the joining step of replace_prefix in the Rust sdf/path.rs. Every function is defined
+// for any bytes; none has a precondition.
 ghost use mathlib.Core.Path.{_≡_};
 ghost use mathlib.Core.Bool.{_||_};
 ghost use lib.Dec.{eqb};
@@ -9,7 +10,7 @@ ghost use lib.ListN.{length, take, drop};
 ghost use Rattle.text.specs.Text.{equal, fitted, placed};
 ghost use Rattle.joining.specs.Join.{isChild, bare, separator, body, joined, spoils};
 
-// Is a rest that begins with the byte a, behind the prefix, a child prim?
+// Returns whether a remainder that begins with byte `a` after the prefix is a child prim.
 fn is_child(prefix: &[u8], a: u8) -> bool
     ensures { λ r. ⌜ r ≡ isChild (now (prefix .entry)) a ⌝ }
 {
@@ -22,7 +23,7 @@ fn is_child(prefix: &[u8], a: u8) -> bool
     grammar::is_identifier_cont(a)
 }
 
-// Does a child stand behind the prefix with no slash?
+// Returns whether a child prim is appended to the prefix without a slash.
 fn is_bare(prefix: &[u8]) -> bool
     ensures { λ r. ⌜ r ≡ bare (now (prefix .entry)) ⌝ }
 {
@@ -32,7 +33,7 @@ fn is_bare(prefix: &[u8]) -> bool
     text::last_is(prefix, b'}')
 }
 
-// The length of the separator, 0 or 1, between the new prefix and the rest behind the old one.
+// The length, 0 or 1, of the separator between the new prefix and the remainder after the old one.
 fn separator_len(old: &[u8], new: &[u8], rest: &[u8]) -> usize
     ensures { λ r. ⌜ r ≡ length (separator (now (old .entry)) (now (new .entry)) (now (rest .entry))) ⌝ }
 {
@@ -54,7 +55,7 @@ fn separator_len(old: &[u8], new: &[u8], rest: &[u8]) -> usize
     1
 }
 
-// Where the rest behind the old prefix begins without its own leading slash: 0 or 1.
+// The index, 0 or 1, at which the remainder after the old prefix begins without its own leading slash.
 fn body_at(old: &[u8], rest: &[u8]) -> usize
     ensures { λ r. ⌜ drop r (now (rest .entry)) ≡ body (now (old .entry)) (now (rest .entry)) ⌝ }
     ensures { λ r. ⌜ r ≤ length (now (rest .entry)) ⌝ }
@@ -71,8 +72,8 @@ fn body_at(old: &[u8], rest: &[u8]) -> usize
     1
 }
 
-// Writes a slash at a place where k is not 0 and the memory reaches there. A store, where copying one byte
-// would be a call.
+// Writes a slash at index `at` if `k` is not 0 and the index is in the buffer. A single store is used
+// because copying one byte would be a call.
 fn write_slash(k: usize, at: usize, out: &mut [u8])
     ensures { λ _. ⌜ now (out .exit) ≡ placed at (take k (47 ∷ [])) (now (out .entry)) ⌝ }
 {
@@ -85,7 +86,8 @@ fn write_slash(k: usize, at: usize, out: &mut [u8])
     out[at] = b'/';
 }
 
-// Writes the rest, which stood behind the old prefix, behind the new one, where that fits.
+// Writes the new prefix followed by the remainder after the old prefix if it fits; otherwise writes
+// nothing.
 pub fn join(old: &[u8], new: &[u8], rest: &[u8], out: &mut [u8]) -> text::Fit
     ensures { λ r. ⌜ r ≡ fitted (joined (now (old .entry)) (now (new .entry)) (now (rest .entry))) (now (out .entry)) ⌝ }
     ensures { λ r. ⌜ now (out .exit) ≡ placed 0 (joined (now (old .entry)) (now (new .entry)) (now (rest .entry))) (now (out .entry)) ⌝ }
@@ -111,7 +113,7 @@ pub fn join(old: &[u8], new: &[u8], rest: &[u8], out: &mut [u8]) -> text::Fit
     text::Fit::Written(at + body.len())
 }
 
-// Is the text what the rest, which stood behind the old prefix, gives behind the new one?
+// Returns whether the text is what `join` would write, without writing it.
 pub fn is_join(old: &[u8], new: &[u8], rest: &[u8], text: &[u8]) -> bool
     ensures { λ r. ⌜ r ≡ equal (joined (now (old .entry)) (now (new .entry)) (now (rest .entry))) (now (text .entry)) ⌝ }
 {
@@ -129,7 +131,8 @@ pub fn is_join(old: &[u8], new: &[u8], rest: &[u8], text: &[u8]) -> bool
     text::is_equal(&rest[from..], &tail[k..])
 }
 
-// Is the new prefix `/` or empty, behind which a rest that begins with `.` or `{` cannot stand?
+// Returns whether the joined path would be illegal: the new prefix is `/` or empty, and the remainder
+// begins with `.` or `{`, which cannot follow it.
 pub fn is_spoilt(new: &[u8], rest: &[u8]) -> bool
     ensures { λ r. ⌜ r ≡ spoils (now (new .entry)) (now (rest .entry)) ⌝ }
 {
@@ -145,7 +148,7 @@ pub fn is_spoilt(new: &[u8], rest: &[u8]) -> bool
     grammar::is_root(new)
 }
 
-// Is the byte `.` or `{`?
+// Returns whether the byte is `.` or `{`, which begins a suffix that attaches without a slash.
 fn hangs_at(a: u8) -> bool
     ensures { λ r. ⌜ r ≡ (eqb a 46 || eqb a 123) ⌝ }
 {

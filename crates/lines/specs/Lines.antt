@@ -1,4 +1,4 @@
--- The lines of an input, and the answers to them. Nothing here knows what a line says. The newline is the byte 10.
+-- The lines of an input and the replies to them, independent of what a line contains. The newline is byte 10.
 use Prim.Native.Nat.{ℕ}
 use mathlib.Core.Bool.{cond}
 use mathlib.Core.List.{List, [], _∷_, _++_, map}
@@ -6,32 +6,32 @@ use lib.Dec.{eqb, leb}
 use lib.ListN.{length}
 use Rattle.text.specs.Text.{Text}
 
--- a line is its bytes, or it is overlong
+-- A line: its bytes, or overlong.
 pub data Line : Type 0 where
   text : Text → Line
   overlong : Line
 
--- "a line of at most 4,096 digits": the line that these bytes are, where a line has at most `most`
+-- The line with these bytes, where `most` is the maximum length. Requirements: "a line of at most 4,096 digits".
 abbrev pub lineOf : ℕ → Text → Line
 lineOf most t = cond (leb (length t) most) (text t) overlong
 
--- "the last line may lack its newline": what follows the last newline is a line, unless it is nothing. So an empty input has no line, and
--- an input that ends in a newline has no line after it.
+-- The text after the last newline is a line unless it is empty. So an empty input has no line, and an input that ends in a newline has no
+-- line after it. Requirements: "the last line may lack its newline".
 abbrev pub lastLine : Text → List Text
 lastLine [] = []
 lastLine (b ∷ t) = (b ∷ t) ∷ []
 
--- the texts that the newlines of an input end, where t came before it since the last newline
+-- The texts that the newlines of an input delimit; t is the text read since the last newline.
 unfoldable pub split : Text → Text → List Text
 split t [] = lastLine t
 split t (b ∷ s) = cond (eqb b 10) (t ∷ split [] s) (split (t ++ (b ∷ [])) s)
 
--- the lines of a whole input
+-- The lines of a whole input, where `most` is the maximum length of a line.
 unfoldable pub linesOf : ℕ → Text → List Line
 unfolding split
 linesOf most s = map (lineOf most) (split [] s)
 
--- the answers to lines, one after the other: `reply` to each, in the state that `next` made of the lines before it
+-- The output for a list of lines: the `reply` to each line, in the state that `next` computes from the lines before it.
 unfoldable pub answers : {S : Type 0} → (S → Line → S) → (S → Line → Text) → S → List Line → Text
 answers next reply st [] = []
 answers next reply st (l ∷ ls) = reply st l ++ answers next reply (next st l) ls

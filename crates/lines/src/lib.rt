@@ -1,22 +1,23 @@
-// The lines of an input that comes in blocks of any size. Every function asks nothing of its caller.
+// Splits an input that arrives in blocks of any size into lines, using a caller's line buffer. No
+// function has a precondition.
 ghost use mathlib.Core.Path.{_≡_};
 ghost use lib.ListN.{length};
 ghost use Rattle.lines.specs.Taking.{stop, mostIn, lengthAfter, memoryAfter, takenOf, takenMemory};
 
-// The most bytes of a line.
+// The maximum length of a line in bytes.
 const MOST: usize = 4096;
 
-// What was taken of a block.
+// The part of a block that one call consumed, and the line so far.
 pub struct Taken {
-    // how many bytes of the block
+    // Number of bytes of the block that were consumed.
     pub used: usize,
-    // whether the line is at its end
+    // Whether the end of the line was reached.
     pub done: bool,
-    // how many bytes the line has so far; more than a line has: it is overlong
+    // Length of the line so far; a value above the maximum line length means that the line is overlong.
     pub len: usize,
 }
 
-// How many bytes stand before the first newline.
+// Returns the number of bytes before the first newline, or the length of the block if it has none.
 fn find_newline(block: &[u8]) -> usize
     ensures { λ r. ⌜ r ≡ stop (now (block .entry)) ⌝ }
 {
@@ -30,7 +31,7 @@ fn find_newline(block: &[u8]) -> usize
     i
 }
 
-// The most bytes of a line in memory of this length.
+// The maximum line length for a line buffer of capacity `room`.
 fn most_in(room: usize) -> usize
     ensures { λ r. ⌜ r ≡ mostIn room ⌝ }
 {
@@ -40,7 +41,8 @@ fn most_in(room: usize) -> usize
     MOST
 }
 
-// Adds bytes to the line so far, and returns its length with them.
+// Appends bytes to the line so far and returns its new length; bytes that make the line overlong are not
+// stored.
 fn add_to(s: &[u8], line: &mut [u8], len: usize) -> usize
     ensures { λ r. ⌜ r ≡ lengthAfter (mostIn (length (now (line .entry)))) len (length (now (s .entry))) ⌝ }
     ensures { λ r. ⌜ now (line .exit) ≡ memoryAfter (mostIn (length (now (line .entry)))) len (now (s .entry)) (now (line .entry)) ⌝ }
@@ -56,8 +58,8 @@ fn add_to(s: &[u8], line: &mut [u8], len: usize) -> usize
     len + s.len()
 }
 
-// Takes the bytes of a block to the end of one line, or all of them where the line does not end in
-// it. `len` is what the call before returned, and 0 for a new line.
+// Consumes the bytes of a block up to the end of one line, or the whole block if the line does not end
+// in it. `len` is the length returned by the previous call, or 0 for a new line.
 pub fn take_line(block: &[u8], line: &mut [u8], len: usize) -> Taken
     ensures { λ r. ⌜ r ≡ takenOf (now (block .entry)) len (length (now (line .entry))) ⌝ }
     ensures { λ r. ⌜ now (line .exit) ≡ takenMemory (now (block .entry)) len (now (line .entry)) ⌝ }

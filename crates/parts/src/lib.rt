@@ -1,5 +1,6 @@
-// Parts of path texts: parents, prim paths, ancestors, and the text without its selections. Every
-// public function is defined for any bytes and asks nothing of its caller.
+// Parents, prim paths, ancestors and the removal of variant selections, on path texts. Ports parent,
+// prim_path, ancestors and strip_variant_selections of the Rust sdf/path.rs. Every public function is
+// defined for any bytes and has no precondition.
 ghost use mathlib.Core.Path.{_≡_};
 ghost use Prim.Native.Nat.{_+_, _<_};
 ghost use lib.ListN.{length, getD, drop};
@@ -8,7 +9,7 @@ ghost use Rattle.grammar.specs.Legal.{startsName};
 ghost use Rattle.parts.specs.Parent.{beginsAt, beginsBehind, parentLen, hasParent, primLen, ancestors, ancestorLens};
 ghost use Rattle.parts.specs.Strip.{piece, turned, stripFit, stripMemory};
 
-// Does a byte of a name stand at the place i?
+// Returns whether there is a byte at index `i` and it may occur in a name.
 fn starts_name(path: &[u8], i: usize) -> bool
     ensures { λ r. ⌜ r ≡ startsName (drop i (now (path .entry))) ⌝ }
 {
@@ -18,7 +19,7 @@ fn starts_name(path: &[u8], i: usize) -> bool
     grammar::is_identifier_cont(path[i])
 }
 
-// Does a part begin at the byte i?
+// Returns whether a part (an element or the property) begins at byte `i`.
 fn begins_at(path: &[u8], i: usize) -> bool
     requires { ⌜ i < length (now path) ⌝ }
     ensures { λ r. ⌜ r ≡ beginsAt (getD (now (path .entry)) i 0) (drop (i + 1) (now (path .entry))) ⌝ }
@@ -32,7 +33,7 @@ fn begins_at(path: &[u8], i: usize) -> bool
     path[i] == b'.'
 }
 
-// Does a part begin right behind the byte i?
+// Returns whether a part begins directly after byte `i`: a name after a selection.
 fn begins_behind(path: &[u8], i: usize) -> bool
     requires { ⌜ i < length (now path) ⌝ }
     ensures { λ r. ⌜ r ≡ beginsBehind (getD (now (path .entry)) i 0) (drop (i + 1) (now (path .entry))) ⌝ }
@@ -43,7 +44,7 @@ fn begins_behind(path: &[u8], i: usize) -> bool
     false
 }
 
-// The length of the path's parent. It reads backwards to the place where the last part begins.
+// The length of the path's parent. Scans backwards to the beginning of the last part.
 pub fn parent_len(path: &[u8]) -> usize
     ensures { λ r. ⌜ r ≡ parentLen (now (path .entry)) ⌝ }
 {
@@ -63,7 +64,7 @@ pub fn parent_len(path: &[u8]) -> usize
     0
 }
 
-// The length of the path without its property, or without the last selection where it ends in one.
+// The length of the path without its property, or without the last selection if it ends in one.
 pub fn prim_len(path: &[u8]) -> usize
     ensures { λ r. ⌜ r ≡ primLen (now (path .entry)) ⌝ }
 {
@@ -76,7 +77,7 @@ pub fn prim_len(path: &[u8]) -> usize
     path.len()
 }
 
-// Is the path neither empty nor `/`?
+// Returns whether the path is neither empty nor `/`.
 fn has_parent(path: &[u8]) -> bool
     ensures { λ r. ⌜ r ≡ hasParent (now (path .entry)) ⌝ }
 {
@@ -86,7 +87,7 @@ fn has_parent(path: &[u8]) -> bool
     !grammar::is_root(path)
 }
 
-// How many ancestors the path has, itself counted.
+// The number of ancestors of the path, including the path itself.
 pub fn ancestor_count(path: &[u8]) -> usize
     ensures { λ r. ⌜ r ≡ length (ancestors (now (path .entry))) ⌝ }
 {
@@ -102,8 +103,8 @@ pub fn ancestor_count(path: &[u8]) -> usize
     count
 }
 
-// Writes the lengths of the path and its ancestors, where the lent numbers are enough; otherwise it
-// writes nothing.
+// Writes the lengths of the path and its ancestors if the lent slice is long enough; otherwise writes
+// nothing.
 pub fn write_ancestors(path: &[u8], out: &mut [usize]) -> text::Fit
     ensures { λ r. ⌜ r ≡ fitted (ancestorLens (now (path .entry))) (now (out .entry)) ⌝ }
     ensures { λ r. ⌜ now (out .exit) ≡ placed 0 (ancestorLens (now (path .entry))) (now (out .entry)) ⌝ }
@@ -122,7 +123,7 @@ pub fn write_ancestors(path: &[u8], out: &mut [usize]) -> text::Fit
     text::Fit::Written(count)
 }
 
-// Is the reader inside a selection behind the byte a?
+// Returns whether the scan is inside a selection after byte `a`.
 fn turns(inside: bool, a: u8) -> bool
     ensures { λ r. ⌜ r ≡ turned inside a ⌝ }
 {
@@ -132,7 +133,7 @@ fn turns(inside: bool, a: u8) -> bool
     a == b'{'
 }
 
-// Writes to the place j what the byte i of the path gives, and returns the place behind it.
+// Writes the output for byte `i` of the path at index `j`, and returns the index after it.
 fn emit(path: &[u8], i: usize, inside: bool, out: &mut [u8], j: usize) -> usize
     requires { ⌜ i < length (now path) ⌝ }
     requires { ⌜ j < length (now out) ⌝ }
@@ -153,8 +154,8 @@ fn emit(path: &[u8], i: usize, inside: bool, out: &mut [u8], j: usize) -> usize
     j + 1
 }
 
-// Writes the path without its selections, where the memory has room for the path as it was;
-// otherwise it writes nothing.
+// Writes the path without its selections if the buffer has capacity for the original path; otherwise
+// writes nothing.
 pub fn strip_into(path: &[u8], out: &mut [u8]) -> text::Fit
     ensures { λ r. ⌜ r ≡ stripFit (now (path .entry)) (now (out .entry)) ⌝ }
     ensures { λ r. ⌜ now (out .exit) ≡ stripMemory (now (path .entry)) (now (out .entry)) ⌝ }

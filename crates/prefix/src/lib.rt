@@ -1,5 +1,5 @@
-// Prefixes of path texts, and how many elements a text has. Every function is defined for any bytes and asks
-// nothing of its caller.
+// Path prefixes and element counts. Ports has_prefix, element_count and prim_element_count of the Rust
+// sdf/path.rs. Every public function is defined for any bytes and has no precondition.
 ghost use mathlib.Core.Path.{_≡_};
 ghost use mathlib.Core.Bool.{cond};
 ghost use Prim.Native.Nat.{_+_, _<_};
@@ -7,10 +7,11 @@ ghost use lib.ListN.{length, getD, drop};
 ghost use Rattle.prefix.specs.Elements.{begins, count, elements, names};
 ghost use Rattle.prefix.specs.Prefix.{boundary, follows, hasPrefix};
 
-// A number of elements: how maps measure a key.
+// A number of elements, in which maps measure the length of a key. It is a type of its own so that it
+// cannot be mixed with a length in bytes.
 pub struct Elements(pub usize);
 
-// May a rest that begins with the byte a stand behind the prefix?
+// Returns whether an element boundary lies between the prefix and a remainder that begins with byte `a`.
 fn is_boundary(prefix: &[u8], a: u8) -> bool
     ensures { λ r. ⌜ r ≡ boundary (now (prefix .entry)) a ⌝ }
 {
@@ -29,7 +30,8 @@ fn is_boundary(prefix: &[u8], a: u8) -> bool
     text::last_is(prefix, b'}')
 }
 
-// May what stands in the path behind so many bytes stand behind the prefix?
+// Returns whether the path, after as many bytes as the prefix has, is at its end or at an element
+// boundary.
 fn is_bounded(path: &[u8], prefix: &[u8]) -> bool
     ensures { λ r. ⌜ r ≡ follows (now (prefix .entry)) (drop (length (now (prefix .entry))) (now (path .entry))) ⌝ }
 {
@@ -40,7 +42,8 @@ fn is_bounded(path: &[u8], prefix: &[u8]) -> bool
     is_boundary(prefix, path[n])
 }
 
-// Does the path begin with the prefix, at the end of an element? The one byte behind it is asked first.
+// Returns whether the path begins with the prefix and the prefix ends at an element boundary. The
+// boundary is checked first, since it takes only one byte.
 pub fn has_prefix(path: &[u8], prefix: &[u8]) -> bool
     ensures { λ r. ⌜ r ≡ hasPrefix (now (path .entry)) (now (prefix .entry)) ⌝ }
 {
@@ -50,7 +53,7 @@ pub fn has_prefix(path: &[u8], prefix: &[u8]) -> bool
     text::starts_with(path, prefix)
 }
 
-// Does an element begin at place i? Selections count where the flag says so.
+// Returns whether an element begins at index `i`; selections count only if `selections` is set.
 fn begins_at(text: &[u8], i: usize, selections: bool) -> bool
     requires { ⌜ i < length (now text) ⌝ }
     ensures { λ r. ⌜ r ≡ begins selections (getD (now (text .entry)) i 0) (drop (i + 1) (now (text .entry))) ⌝ }
@@ -72,7 +75,7 @@ fn begins_at(text: &[u8], i: usize, selections: bool) -> bool
     grammar::is_identifier_cont(text[j])
 }
 
-// n, and one more where b is set
+// Returns n + 1 if `b` is set, otherwise n.
 fn plus_if(n: usize, b: bool) -> usize
     requires { ⌜ n < 18446744073709551615 ⌝ }
     ensures { λ r. ⌜ r ≡ n + cond b 1 0 ⌝ }
@@ -80,6 +83,7 @@ fn plus_if(n: usize, b: bool) -> usize
     if b { n + 1 } else { n }
 }
 
+// Counts the elements of the text; selections count only if `selections` is set.
 fn count(text: &[u8], selections: bool) -> usize
     ensures { λ r. ⌜ r ≡ count selections (now (text .entry)) ⌝ }
 {
@@ -92,14 +96,14 @@ fn count(text: &[u8], selections: bool) -> usize
     n
 }
 
-// How many names and selections the text has.
+// Returns the number of names and selections in the text.
 pub fn element_count(text: &[u8]) -> Elements
     ensures { λ r. ⌜ r .0 ≡ elements (now (text .entry)) ⌝ }
 {
     Elements(count(text, true))
 }
 
-// How many names the text has.
+// Returns the number of names in the text.
 pub fn prim_element_count(text: &[u8]) -> Elements
     ensures { λ r. ⌜ r .0 ≡ names (now (text .entry)) ⌝ }
 {

@@ -1,4 +1,4 @@
--- Texts: lists of bytes, each a number below 256. Nothing here knows what a path is.
+-- Byte texts, as lists of numbers (a byte is a number below 256). These definitions do not depend on the path syntax.
 use Prim.Native.Nat.{ℕ, _+_}
 use Prim.Native.Char.{code}
 use Prim.Native.String.{String, [] as []ˢ, _∷_ as _∷ˢ_}
@@ -10,63 +10,66 @@ use lib.ListN.{length, take, drop}
 use Rattle.text.specs.declared.Fit.{Fit}
 use Rattle.text.specs.declared.Fit.the-variants.{Written, Over}
 
+-- A text: a list of bytes.
 abbrev pub Text : Type 0
 Text = List ℕ
 
--- the bytes of an ASCII string, so that tables of cases can be read
+-- The bytes of an ASCII string, which makes tables of cases readable.
 abbrev pub bytes : String → Text
 bytes []ˢ = []
 bytes (c ∷ˢ s) = code c ∷ bytes s
 
+-- The text is empty.
 abbrev pub isNil : Text → Bool
 isNil [] = true
 isNil (a ∷ r) = false
 
--- the two texts are the same, byte for byte
+-- The two texts are equal, byte for byte.
 unfoldable pub equal : Text → Text → Bool
 equal [] [] = true
 equal [] (b ∷ t) = false
 equal (a ∷ s) [] = false
 equal (a ∷ s) (b ∷ t) = eqb a b && equal s t
 
--- what follows the prefix s in the text p, where p begins with s
+-- The remainder of the text p after the prefix s; none if p does not begin with s.
 unfoldable pub after : Text → Text → Option Text
 after [] p = some p
 after (a ∷ s) [] = none
 after (a ∷ s) (b ∷ p) = cond (eqb a b) (after s p) none
 
+-- The option has a value.
 abbrev pub isSome : Option Text → Bool
 isSome none = false
 isSome (some q) = true
 
--- the text p begins with the prefix s
+-- The text p begins with the prefix s.
 unfoldable pub starts : Text → Text → Bool
 unfolding after
 starts s p = isSome (after s p)
 
--- the last byte is b
+-- The last byte is b; false for the empty text.
 unfoldable pub lastIs : ℕ → Text → Bool
 lastIs b [] = false
 lastIs b (a ∷ []) = eqb a b
 lastIs b (a ∷ c ∷ r) = lastIs b (c ∷ r)
 
--- no byte is b
+-- No byte of the text is b.
 unfoldable pub lacks : ℕ → Text → Bool
 lacks b [] = true
 lacks b (a ∷ r) = not (eqb a b) && lacks b r
 
--- lent memory with a text over its beginning: the text, then the old bytes
+-- The buffer `out` with the text t written over its beginning: the text, then the remaining old bytes.
 abbrev pub written : Text → Text → Text
 written t out = t ++ drop (length t) out
 
--- lent memory with a text over it from a place on
+-- The buffer `out` with the text t written over it from index `at`.
 abbrev pub over : ℕ → Text → Text → Text
 over at t out = take at out ++ (t ++ drop (at + length t) out)
 
--- the answer of a function that writes a text over the beginning of lent memory, where it fits
+-- The result of writing a text over the beginning of a buffer: the length written, or `Over` if the text does not fit.
 unfoldable pub fitted : Text → Text → Fit
 fitted t out = cond (leb (length t) (length out)) (Written (length t)) Over
 
--- the memory with a text over it from a place on, where the text fits there; otherwise the memory as it was
+-- The buffer `out` with the text t written over it from index `at` if it fits there; otherwise the buffer unchanged.
 unfoldable pub placed : ℕ → Text → Text → Text
 placed at t out = cond (leb (at + length t) (length out)) (over at t out) out

@@ -1,18 +1,18 @@
-// Byte texts: comparing, looking for a byte, copying. Every function is total: it asks nothing of
-// its caller.
+// Byte-string primitives: comparison, search for a byte, and copying into a caller's buffer. Every
+// function is total: none has a precondition.
 ghost use mathlib.Core.Path.{_≡_};
 ghost use Rattle.text.specs.Text.{equal, starts, lastIs, lacks, placed};
 
-// What a function that writes to lent memory answers.
+// The result of writing to a lent buffer.
 pub enum Fit {
-    // how much it wrote, from the beginning of the memory on
+    // The number of items written: bytes, lengths or pairs, depending on the function.
     Written(usize),
-    // the memory is too short: nothing was written
+    // The buffer is too short; nothing was written.
     Over,
 }
 
-// Does the text begin with the prefix? The last byte is looked at first; the loop leaves nowhere, so that
-// it compiles to comparisons of many bytes at once.
+// Returns whether the text begins with the prefix. The last byte is compared first, as a cheap
+// rejection; the loop has no early exit, so that it compiles to comparisons of many bytes at once.
 pub fn starts_with(text: &[u8], prefix: &[u8]) -> bool
     ensures { λ r. ⌜ r ≡ starts (now (prefix .entry)) (now (text .entry)) ⌝ }
 {
@@ -35,7 +35,7 @@ pub fn starts_with(text: &[u8], prefix: &[u8]) -> bool
     same
 }
 
-// Are the two texts the same?
+// Returns whether the two texts are equal.
 pub fn is_equal(a: &[u8], b: &[u8]) -> bool
     ensures { λ r. ⌜ r ≡ equal (now (a .entry)) (now (b .entry)) ⌝ }
 {
@@ -45,7 +45,7 @@ pub fn is_equal(a: &[u8], b: &[u8]) -> bool
     starts_with(b, a)
 }
 
-// Is the last byte b?
+// Returns whether the last byte is `b`; false for an empty text.
 pub fn last_is(text: &[u8], b: u8) -> bool
     ensures { λ r. ⌜ r ≡ lastIs b (now (text .entry)) ⌝ }
 {
@@ -56,7 +56,7 @@ pub fn last_is(text: &[u8], b: u8) -> bool
     text[n - 1] == b
 }
 
-// Is no byte of the text b? As in `starts_with`, the loop leaves nowhere.
+// Returns whether no byte of the text is `b`. As in `starts_with`, the loop has no early exit.
 pub fn lacks_byte(text: &[u8], b: u8) -> bool
     ensures { λ r. ⌜ r ≡ lacks b (now (text .entry)) ⌝ }
 {
@@ -69,7 +69,7 @@ pub fn lacks_byte(text: &[u8], b: u8) -> bool
     lacks
 }
 
-// Copies the text over the memory from a place on, where it fits; otherwise it writes nothing.
+// Copies the text into the buffer from index `at` if it fits; otherwise writes nothing.
 pub fn write_at(text: &[u8], at: usize, out: &mut [u8])
     ensures { λ _. ⌜ now (out .exit) ≡ placed at (now (text .entry)) (now (out .entry)) ⌝ }
 {
