@@ -1,4 +1,5 @@
--- A reply as one plain number, for Rust and C: 256 times the value, and document 01's number (0 for an answer) in the low byte.
+-- A reply as one plain number, for callers in Rust and C: 256 times the value, with the refusal's number (0 if there is none) in the low
+-- byte.
 use Prim.Native.Nat.{ℕ, _*_, _%_}
 use mathlib.Core.Bool.{cond}
 use Rattle.path.specs.declared.Asked.{Asked}
@@ -11,22 +12,26 @@ use Rattle.path.specs.declared.Reply.{Reply}
 use Rattle.path.specs.declared.Reply.the-variants.{Written, Refused}
 use Rattle.path.specs.Refusal.{number}
 
--- an answer's value; it is at most 255 everywhere, so the remainder keeps it
+-- The code of a value; values are at most 255, so the remainder does not change them.
 unfoldable pub answer : ℕ → ℕ
 answer n = 256 * (n % 72057594037927936)
 
+-- The code of the result of validation.
 unfoldable pub askedCode : Asked → ℕ
 askedCode Passed = 0
 askedCode (RefusedAsked x) = number x
 
+-- The code of the reply of a test.
 unfoldable pub testCode : Test → ℕ
 testCode (Holds b) = cond b 256 0
 testCode (RefusedTest x) = number x
 
+-- The code of a number of elements.
 unfoldable pub countCode : Count → ℕ
 countCode (Counted e) = answer (e .0)
 countCode (RefusedCount x) = number x
 
+-- The code of the reply of a call that writes.
 unfoldable pub replyCode : Reply → ℕ
 replyCode (Written n) = answer n
 replyCode (Refused x) = number x

@@ -1,10 +1,10 @@
-// A reply as one plain number: 256 times the value, and document 01's number (0 for an answer) in the low
-// byte.
+// Encodes a reply as one plain number for the C interface: 256 times the value, with the refusal's
+// number (0 if there is none) in the low byte.
 ghost use mathlib.Core.Path.{_≡_};
 ghost use Rattle.path.specs.Refusal.{number};
 ghost use Rattle.codes.specs.Code.{answer, askedCode, testCode, countCode, replyCode};
 
-// Document 01's number of a refusal.
+// The number of a refusal: that of the question that failed.
 pub fn number_of(x: path::Refusal) -> usize
     ensures { λ r. ⌜ r ≡ number x ⌝ }
 {
@@ -20,13 +20,15 @@ pub fn number_of(x: path::Refusal) -> usize
     }
 }
 
+// Encodes the value of a reply that is no refusal. Values are at most 255, so the remainder only
+// prevents overflow.
 fn answer_of(n: usize) -> usize
     ensures { λ r. ⌜ r ≡ answer n ⌝ }
 {
     256 * (n % 72057594037927936)
 }
 
-// The code of the questions so far.
+// Encodes the result of validation.
 pub fn asked_code(q: path::Asked) -> usize
     ensures { λ r. ⌜ r ≡ askedCode q ⌝ }
 {
@@ -36,7 +38,7 @@ pub fn asked_code(q: path::Asked) -> usize
     }
 }
 
-// The code of a yes or no.
+// Encodes the reply of a test.
 pub fn test_code(t: path::Test) -> usize
     ensures { λ r. ⌜ r ≡ testCode t ⌝ }
 {
@@ -51,7 +53,7 @@ pub fn test_code(t: path::Test) -> usize
     }
 }
 
-// The code of a count.
+// Encodes a number of elements.
 pub fn count_code(n: path::Count) -> usize
     ensures { λ r. ⌜ r ≡ countCode n ⌝ }
 {
@@ -61,7 +63,7 @@ pub fn count_code(n: path::Count) -> usize
     }
 }
 
-// The code of what was written.
+// Encodes the reply of a call that writes.
 pub fn reply_code(r: path::Reply) -> usize
     ensures { λ a. ⌜ a ≡ replyCode r ⌝ }
 {

@@ -1,5 +1,6 @@
-// Document 01's calls that derive a path from a path. Each puts the questions in their order and refuses with
-// the first "no"; a refused call writes nothing.
+// Calls that derive a path from a path. Ports replace_prefix, parent, prim_path, split_property,
+// strip_variant_selections and ancestors of the Rust sdf/path.rs. Each call validates in the order of
+// the questions; the first failed question decides the refusal, and a refused call writes nothing.
 ghost use mathlib.Core.Path.{_≡_};
 ghost use Prim.Native.Nat.{_≤_};
 ghost use lib.ListN.{length};
@@ -9,8 +10,8 @@ ghost use Rattle.path.specs.Outcome.{reply, memory, made};
 ghost use Rattle.deriving.specs.Calls.{replacePrefixCall, parentCall, primPathCall, splitPropertyCall, stripCall, ancestorsReply};
 ghost use Rattle.path.specs.Calls.{listed};
 
-// The rest, which stood behind the old prefix, behind the new one, with questions 7 and 8. It is made
-// in memory of its own, so that a refused call writes nothing.
+// Writes the new prefix followed by the remainder after the old prefix, with questions 7 and 8. The path
+// is built in a scratch buffer, so that a refused call writes nothing.
 fn write_joined(old: &[u8], new: &[u8], rest: &[u8], out: &mut [u8]) -> path::Reply
     requires { ⌜ 255 ≤ length (now out) ⌝ }
     ensures { λ r. ⌜ r ≡ reply (made (joined (now (old .entry)) (now (new .entry)) (now (rest .entry)))) ⌝ }
@@ -28,7 +29,7 @@ fn write_joined(old: &[u8], new: &[u8], rest: &[u8], out: &mut [u8]) -> path::Re
     path::Reply::Written(n)
 }
 
-// The path with its old prefix replaced by the new one.
+// Writes the path with its old prefix replaced by the new one.
 pub fn replace_prefix(path: &[u8], old: &[u8], new: &[u8], out: &mut [u8]) -> path::Reply
     ensures { λ r. ⌜ r ≡ reply (replacePrefixCall (now (path .entry)) (now (old .entry)) (now (new .entry)) (length (now (out .entry)))) ⌝ }
     ensures { λ r. ⌜ now (out .exit) ≡ memory (replacePrefixCall (now (path .entry)) (now (old .entry)) (now (new .entry)) (length (now (out .entry)))) (now (out .entry)) ⌝ }
@@ -47,7 +48,7 @@ pub fn replace_prefix(path: &[u8], old: &[u8], new: &[u8], out: &mut [u8]) -> pa
     write_joined(old, new, &path[k..], out)
 }
 
-// The path without its last element or its property.
+// Writes the path without its last element or its property.
 pub fn parent(path: &[u8], out: &mut [u8]) -> path::Reply
     ensures { λ r. ⌜ r ≡ reply (parentCall (now (path .entry)) (length (now (out .entry)))) ⌝ }
     ensures { λ r. ⌜ now (out .exit) ≡ memory (parentCall (now (path .entry)) (length (now (out .entry)))) (now (out .entry)) ⌝ }
@@ -70,7 +71,7 @@ pub fn parent(path: &[u8], out: &mut [u8]) -> path::Reply
     path::Reply::Written(n)
 }
 
-// The path without its property, or without the last selection where it ends in one.
+// Writes the path without its property, or without the last selection if it ends in one.
 pub fn prim_path(path: &[u8], out: &mut [u8]) -> path::Reply
     ensures { λ r. ⌜ r ≡ reply (primPathCall (now (path .entry)) (length (now (out .entry)))) ⌝ }
     ensures { λ r. ⌜ now (out .exit) ≡ memory (primPathCall (now (path .entry)) (length (now (out .entry)))) (now (out .entry)) ⌝ }
@@ -87,7 +88,8 @@ pub fn prim_path(path: &[u8], out: &mut [u8]) -> path::Reply
     path::Reply::Written(n)
 }
 
-// The prim path of a property; the property's name is the text behind the dot that follows it.
+// Writes the prim path of a property path; the property's name is the text after the dot that follows
+// it.
 pub fn split_property(path: &[u8], out: &mut [u8]) -> path::Reply
     ensures { λ r. ⌜ r ≡ reply (splitPropertyCall (now (path .entry)) (length (now (out .entry)))) ⌝ }
     ensures { λ r. ⌜ now (out .exit) ≡ memory (splitPropertyCall (now (path .entry)) (length (now (out .entry)))) (now (out .entry)) ⌝ }
@@ -107,7 +109,7 @@ pub fn split_property(path: &[u8], out: &mut [u8]) -> path::Reply
     path::Reply::Written(n)
 }
 
-// The path without its selections.
+// Writes the path without its variant selections.
 pub fn strip_variant_selections(path: &[u8], out: &mut [u8]) -> path::Reply
     ensures { λ r. ⌜ r ≡ reply (stripCall (now (path .entry)) (length (now (out .entry)))) ⌝ }
     ensures { λ r. ⌜ now (out .exit) ≡ memory (stripCall (now (path .entry)) (length (now (out .entry)))) (now (out .entry)) ⌝ }
@@ -125,7 +127,7 @@ pub fn strip_variant_selections(path: &[u8], out: &mut [u8]) -> path::Reply
     }
 }
 
-// The lengths of the path and its ancestors, each a beginning of the path.
+// Writes the lengths of the path and its ancestors; each of them is a prefix of the path.
 pub fn ancestors(path: &[u8], lengths: &mut [usize]) -> path::Reply
     ensures { λ r. ⌜ r ≡ ancestorsReply (now (path .entry)) (length (now (lengths .entry))) ⌝ }
     ensures { λ r. ⌜ now (lengths .exit) ≡ listed r (ancestorLens (now (path .entry))) (now (lengths .entry)) ⌝ }

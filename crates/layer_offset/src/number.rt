@@ -1,25 +1,27 @@
-// What Rust's f64 has as methods.
+// Functions on one f64 that Rust has as methods.
 ghost use mathlib.Core.Path.{_≡_};
 ghost use Rattle.layer_offset.specs.Number as spec;
 
-// The distance within which two valid offsets are close.
+// The distance below which two valid time offsets are close.
 const TOLERANCE: f64 = 1e-6;
 
-// Is it no infinity and no NaN? Only these less themselves are not zero.
+// Returns whether the number is neither an infinity nor a NaN: x - x is NaN for those, and zero for
+// every other number.
 pub fn is_finite(x: f64) -> bool
     ensures { λ r. ⌜ r ≡ spec.isFinite x ⌝ }
 {
     x - x == 0.0
 }
 
-// Is it nearer to zero than the tolerance?
+// Returns whether the number is closer to zero than the tolerance.
 pub fn is_small(x: f64) -> bool
     ensures { λ r. ⌜ r ≡ spec.isSmall x ⌝ }
 {
     -TOLERANCE < x && x < TOLERANCE
 }
 
-// Its bits; of a NaN, whose bits cannot be asked, one pattern.
+// Returns the bits of the number; one fixed pattern for every NaN, because the bits of a NaN are left
+// open.
 pub fn pattern(x: f64) -> u64
     ensures { λ r. ⌜ r ≡ spec.pattern x ⌝ }
 {

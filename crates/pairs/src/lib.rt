@@ -1,10 +1,11 @@
-// Lists of pairs in lent memory: reading them, and asking questions 1 to 3 of them. Every public function is
-// defined for any bytes and any numbers.
+// Lists of (source, target) pairs in lent memory: reading them, and validating their ends (questions 1
+// to 3). A text is a place, a start and a length, in a store of bytes; a pair is two places. Every
+// public function is defined for any bytes and any numbers.
 ghost use mathlib.Core.Path.{_≡_};
 ghost use Rattle.grammar.specs.Legal.{legal, isEnd};
 ghost use Rattle.pairs.specs.Places.{fitsAt, textAt, keyAt, placesFit, placesAll};
 
-// The text at the place j; empty where the place is not there or reaches outside the store.
+// Returns the text at place `j`; empty if there is no such place or it reaches outside the store.
 pub fn text_at<'a>(store: &'a [u8], places: &[usize], j: usize) -> &'a [u8]
     ensures { λ r. ⌜ now r ≡ textAt (now (store .entry)) (now (places .entry)) j ⌝ }
 {
@@ -23,7 +24,7 @@ pub fn text_at<'a>(store: &'a [u8], places: &[usize], j: usize) -> &'a [u8]
     &store[start..end]
 }
 
-// The source of pair i, or its target.
+// Returns the source of pair `i`, or its target if `invert` is set.
 pub fn key_at<'a>(store: &'a [u8], places: &[usize], i: usize, invert: bool) -> &'a [u8]
     ensures { λ r. ⌜ now r ≡ keyAt (now (store .entry)) (now (places .entry)) invert i ⌝ }
 {
@@ -36,7 +37,8 @@ pub fn key_at<'a>(store: &'a [u8], places: &[usize], i: usize, invert: bool) -> 
     text_at(store, places, 2 * i)
 }
 
-// Does the place j lie in the store, with at most 255 bytes?
+// Returns whether place `j` lies in the store and has at most 255 bytes; a place beyond the slice
+// passes.
 fn fits_at(store: &[u8], places: &[usize], j: usize) -> bool
     ensures { λ r. ⌜ r ≡ fitsAt (now (store .entry)) (now (places .entry)) j ⌝ }
 {
@@ -54,7 +56,7 @@ fn fits_at(store: &[u8], places: &[usize], j: usize) -> bool
     n <= 255
 }
 
-// Question 1 of the first n places.
+// Question 1 for the first n places: returns whether each text has at most 255 bytes.
 pub fn all_fit(store: &[u8], places: &[usize], n: usize) -> bool
     ensures { λ r. ⌜ r ≡ placesFit (now (store .entry)) (now (places .entry)) n ⌝ }
 {
@@ -68,7 +70,7 @@ pub fn all_fit(store: &[u8], places: &[usize], n: usize) -> bool
     true
 }
 
-// Question 2 of the texts at the first n places.
+// Question 2 for the first n places: returns whether each text is a legal path.
 pub fn all_legal(store: &[u8], places: &[usize], n: usize) -> bool
     ensures { λ r. ⌜ r ≡ placesAll legal (now (store .entry)) (now (places .entry)) n ⌝ }
 {
@@ -82,7 +84,7 @@ pub fn all_legal(store: &[u8], places: &[usize], n: usize) -> bool
     true
 }
 
-// Question 3 of the texts at the first n places.
+// Question 3 for the first n places: returns whether each text is a prim path, `/` or empty.
 pub fn all_ends(store: &[u8], places: &[usize], n: usize) -> bool
     ensures { λ r. ⌜ r ≡ placesAll isEnd (now (store .entry)) (now (places .entry)) n ⌝ }
 {

@@ -1,4 +1,4 @@
--- "The first 'no' gives its number": document 01's refusals, and its questions 1 and 2.
+-- Refusals, and the validation of texts (questions 1 and 2). Requirements: "The first 'no' gives its number".
 use Prim.Native.Nat.{ℕ}
 use mathlib.Core.Bool.{Bool, true, cond, _&&_}
 use mathlib.Core.List.{List, [], _∷_}
@@ -9,6 +9,7 @@ use Rattle.path.specs.declared.Refusal.the-variants.{TooLong, Illegal, N
 use Rattle.path.specs.declared.Asked.{Asked}
 use Rattle.path.specs.declared.Asked.the-variants.{Passed, Refused}
 
+-- The number of a refusal: that of the question that failed.
 abbrev pub number : Refusal → ℕ
 number TooLong = 1
 number Illegal = 2
@@ -19,24 +20,24 @@ number NoPath = 6
 number MadeTooLong = 7
 number MadeIllegal = 8
 
--- "Is every path text at most 255 bytes?"
+-- Question 1. Requirements: "Is every path text at most 255 bytes?"
 unfoldable pub allFit : List Text → Bool
 unfolding fits
 allFit [] = true
 allFit (t ∷ r) = fits t && allFit r
 
--- "Is every text legal?"
+-- Question 2. Requirements: "Is every text legal?"
 unfoldable pub allLegal : List Text → Bool
 unfolding legal
 allLegal [] = true
 allLegal (t ∷ r) = legal t && allLegal r
 
--- questions 1 and 2, each put to all texts of the call before the next
+-- Validates the texts of a call: question 1 for all of them, then question 2 for all of them.
 unfoldable pub asked : List Text → Asked
 unfolding allFit allLegal
 asked ts = cond (allFit ts) (cond (allLegal ts) Passed (Refused Illegal)) (Refused TooLong)
 
--- the refusal where there is one, otherwise the answer
+-- The refusal if there is one, otherwise the answer.
 abbrev pub unless : {A : Type 0} → Asked → (Refusal → A) → A → A
 unless Passed refuse answer = answer
 unless (Refused x) refuse answer = refuse x

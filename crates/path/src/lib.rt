@@ -1,55 +1,59 @@
-// Document 01's refusals, its questions 1 and 2, and the calls that test a path or count in it. Each puts the
-// questions in their order and refuses with the first "no".
+// Refusals, the validation of path texts (questions 1 and 2 of docs/REQUIREMENTS.md), and the calls that
+// test a path or count its elements. Each call validates in the order of the questions; the first failed
+// question decides the refusal.
 ghost use mathlib.Core.Path.{_≡_};
 ghost use mathlib.Core.List.{[], _∷_};
 ghost use Rattle.path.specs.Refusal.{allFit, allLegal, asked};
 ghost use Rattle.path.specs.Calls.{newCall, isEndCall, hasVariantSelectionCall, elementCountCall, primElementCountCall, hasPrefixCall};
 
-// Why a call is refused; specs/Refusal.antt gives document 01's number of each.
+// Why a call is refused; `number` in specs/Refusal.antt defines the number of each.
 pub enum Refusal {
-    // 1: a text has more than 255 bytes
+    // 1: a text has more than 255 bytes.
     TooLong,
-    // 2: a text is not a legal path
+    // 2: a text is not a legal path.
     Illegal,
-    // 3: an end is no prim path, not `/` and not empty
+    // 3: an end is not a prim path, `/` or empty.
     NotAnEnd,
-    // 4: a list has more than 64 pairs, or a route more than 16 legs
+    // 4: a list has more than 64 pairs, or a route more than 16 legs.
     TooMany,
-    // 5: the lent memory is too short
+    // 5: a lent buffer is too short.
     NoRoom,
-    // 6: there is no path
+    // 6: the definition yields no path.
     NoPath,
-    // 7: the path made has more than 255 bytes
+    // 7: the resulting path has more than 255 bytes.
     MadeTooLong,
-    // 8: the path made is not legal
+    // 8: the resulting path is not legal.
     MadeIllegal,
 }
 
-// Whether the questions so far were answered with yes.
+// The result of validation.
 pub enum Asked {
+    // Every question so far has passed.
     Passed,
+    // A question has failed.
     Refused(Refusal),
 }
 
-// The answer of a call that tests something.
+// The reply of a call that tests a path or a map.
 pub enum Test {
     Holds(bool),
     Refused(Refusal),
 }
 
-// The answer of a call that counts elements.
+// The reply of a call that counts elements.
 pub enum Count {
     Counted(prefix::Elements),
     Refused(Refusal),
 }
 
-// The answer of a call that writes a path, or the lengths of several.
+// The reply of a call that writes a path, or the lengths of several paths.
 pub enum Reply {
-    // how much was written
+    // The number of bytes written, or of lengths.
     Written(usize),
     Refused(Refusal),
 }
 
+// Question 1: returns whether each of the three texts has at most 255 bytes.
 fn all_fit(a: &[u8], b: &[u8], c: &[u8]) -> bool
     ensures { λ r. ⌜ r ≡ allFit (now (a .entry) ∷ now (b .entry) ∷ now (c .entry) ∷ []) ⌝ }
 {
@@ -62,6 +66,7 @@ fn all_fit(a: &[u8], b: &[u8], c: &[u8]) -> bool
     c.len() <= 255
 }
 
+// Question 2: returns whether each of the three texts is a legal path.
 fn all_legal(a: &[u8], b: &[u8], c: &[u8]) -> bool
     ensures { λ r. ⌜ r ≡ allLegal (now (a .entry) ∷ now (b .entry) ∷ now (c .entry) ∷ []) ⌝ }
 {
@@ -74,7 +79,7 @@ fn all_legal(a: &[u8], b: &[u8], c: &[u8]) -> bool
     grammar::is_legal(c)
 }
 
-// Questions 1 and 2 of three texts; a call with fewer gives empty ones, which pass.
+// Validates three texts (questions 1 and 2). A call with fewer texts passes empty ones, which are valid.
 pub fn ask(a: &[u8], b: &[u8], c: &[u8]) -> Asked
     ensures { λ r. ⌜ r ≡ asked (now (a .entry) ∷ now (b .entry) ∷ now (c .entry) ∷ []) ⌝ }
 {
@@ -87,14 +92,14 @@ pub fn ask(a: &[u8], b: &[u8], c: &[u8]) -> Asked
     Asked::Passed
 }
 
-// Is the text a legal path of at most 255 bytes?
+// Validates a path: a legal text of at most 255 bytes.
 pub fn new(path: &[u8]) -> Asked
     ensures { λ r. ⌜ r ≡ newCall (now (path .entry)) ⌝ }
 {
     ask(path, b"", b"")
 }
 
-// Is the path a prim path, `/` or empty?
+// Returns whether the path is a prim path, `/` or empty.
 pub fn is_end(path: &[u8]) -> Test
     ensures { λ r. ⌜ r ≡ isEndCall (now (path .entry)) ⌝ }
 {
@@ -105,7 +110,7 @@ pub fn is_end(path: &[u8]) -> Test
     Test::Holds(grammar::is_end(path))
 }
 
-// Does the path have a selection?
+// Returns whether the path has a variant selection.
 pub fn has_variant_selection(path: &[u8]) -> Test
     ensures { λ r. ⌜ r ≡ hasVariantSelectionCall (now (path .entry)) ⌝ }
 {
@@ -116,7 +121,7 @@ pub fn has_variant_selection(path: &[u8]) -> Test
     Test::Holds(!text::lacks_byte(path, b'{'))
 }
 
-// Is the prefix a prefix of the path?
+// Returns whether the path has the prefix.
 pub fn has_prefix(path: &[u8], prefix: &[u8]) -> Test
     ensures { λ r. ⌜ r ≡ hasPrefixCall (now (path .entry)) (now (prefix .entry)) ⌝ }
 {
@@ -127,7 +132,7 @@ pub fn has_prefix(path: &[u8], prefix: &[u8]) -> Test
     Test::Holds(prefix::has_prefix(path, prefix))
 }
 
-// How many names and selections does the path have?
+// Returns the number of names and selections in the path.
 pub fn element_count(path: &[u8]) -> Count
     ensures { λ r. ⌜ r ≡ elementCountCall (now (path .entry)) ⌝ }
 {
@@ -138,7 +143,7 @@ pub fn element_count(path: &[u8]) -> Count
     Count::Counted(prefix::element_count(path))
 }
 
-// How many names does the path have?
+// Returns the number of names in the path.
 pub fn prim_element_count(path: &[u8]) -> Count
     ensures { λ r. ⌜ r ≡ primElementCountCall (now (path .entry)) ⌝ }
 {

@@ -1,4 +1,5 @@
-// The pair that serves a path. Every public function is defined for any bytes and any numbers.
+// Longest-match lookup: the pair of a map whose key is the longest prefix of a path. Ports best_prefix
+// of the Rust pcp/mapping.rs. Every public function is defined for any bytes and any numbers.
 ghost use mathlib.Core.Path.{_≡_};
 ghost use mathlib.Core.Bool.{cond};
 ghost use lib.ListN.{length};
@@ -7,20 +8,22 @@ ghost use Rattle.serving.specs.Search.{cut, keysHeld, least, foundOf, co
 ghost use Rattle.pairs.specs.Places.{keyAt};
 ghost use Rattle.pairs.specs.Best.{serves, best};
 
-// What a search has found.
+// The result of a lookup.
 pub struct Found {
+    // Whether a pair matches.
     pub found: bool,
+    // Index of the pair; 0 if none matches.
     pub at: usize,
 }
 
-// What it keeps as it goes on: the pair and the length of its key, 0 before a key was found. Two numbers
-// stay in registers, where a flag beside them would go through memory.
+// The longest match so far: the index of the pair and the length of its key, which is 0 before a key has
+// matched. Two numbers stay in registers, whereas a separate flag would go through memory.
 struct Kept {
     at: usize,
     bytes: usize,
 }
 
-// May the key serve for the path?
+// Returns whether the key matches the path: it is a nonempty prefix of it.
 pub fn does_serve(path: &[u8], key: &[u8]) -> bool
     ensures { λ r. ⌜ r ≡ serves (now (path .entry)) (now (key .entry)) ⌝ }
 {
@@ -30,8 +33,8 @@ pub fn does_serve(path: &[u8], key: &[u8]) -> bool
     prefix::has_prefix(path, key)
 }
 
-// The better of what was found and the key at i. Elements are counted only where a key that serves is
-// shorter than one that was found.
+// Returns the longer of the match so far and the key at index `i`. Elements are counted only if the key
+// matches and is shorter in bytes than the match so far.
 fn choose(f: Kept, path: &[u8], key: &[u8], i: usize) -> Kept
     requires { ⌜ f .bytes ≤ length (now path) ⌝ }
     ensures { λ r. ⌜ r ≡ considered f (now (path .entry)) (now (key .entry)) i ⌝ }
@@ -49,7 +52,7 @@ fn choose(f: Kept, path: &[u8], key: &[u8], i: usize) -> Kept
     Kept { at: i, bytes: n }
 }
 
-// The same of the key of n bytes from `start` on, where that lies in the store. Most keys are refused by
+// Like `choose`, for the key of n bytes from `start` if it lies in the store. Most keys are rejected by
 // their length or their last byte.
 fn consider(
     f: Kept,
@@ -82,7 +85,7 @@ fn consider(
     choose(f, path, &store[start..end], i)
 }
 
-// The lesser of two numbers.
+// The smaller of two numbers.
 fn lesser(a: usize, b: usize) -> usize
     ensures { λ r. ⌜ r ≡ least a b ⌝ }
 {
@@ -92,7 +95,7 @@ fn lesser(a: usize, b: usize) -> usize
     b
 }
 
-// How many of the first n pairs have their key in the slice, which may end in a source alone.
+// The number of the first n pairs whose key lies in the slice, which may end after a source.
 fn keys_held(places: &[usize], n: usize, invert: bool) -> usize
     ensures { λ r. ⌜ r ≡ least n (keysHeld (now (places .entry)) invert) ⌝ }
 {
@@ -103,7 +106,7 @@ fn keys_held(places: &[usize], n: usize, invert: bool) -> usize
     lesser(n, (half + 1) / 2)
 }
 
-// Where the numbers of a pair's key stand among its four.
+// The offset of a key's start and length among the four numbers of its pair.
 fn key_offset(invert: bool) -> usize
     ensures { λ r. ⌜ r ≡ 2 * cond invert 1 0 ⌝ }
 {
@@ -113,7 +116,8 @@ fn key_offset(invert: bool) -> usize
     0
 }
 
-// The pair whose key serves the path and has most elements, the later on a tie.
+// Finds the longest match: the key that is a nonempty prefix of the path and has most elements, the
+// later on a tie.
 pub fn best_prefix(store: &[u8], places: &[usize], n: usize, invert: bool, path: &[u8]) -> Found
     ensures { λ r. ⌜ r ≡ foundOf (best (now (path .entry)) (keyAt (now (store .entry)) (now (places .entry)) invert) n) ⌝ }
 {
@@ -133,7 +137,8 @@ pub fn best_prefix(store: &[u8], places: &[usize], n: usize, invert: bool, path:
     }
 }
 
-// Would the text t be chosen over the key, before which or behind which it stands?
+// Returns whether the text `t` would be selected instead of the key; `before` states whether it comes
+// before the key in the list.
 fn does_beat(path: &[u8], t: &[u8], before: bool, key: &[u8]) -> bool
     ensures { λ r. ⌜ r ≡ beats (now (path .entry)) (now (t .entry)) before (now (key .entry)) ⌝ }
 {
@@ -148,8 +153,9 @@ fn does_beat(path: &[u8], t: &[u8], before: bool, key: &[u8]) -> bool
     n <= m
 }
 
-// The same of the text of n bytes from `start` on, at place k, and the key at i. As in `consider`, most are
-// refused by their length or their last byte; that, and the key itself, is one branch.
+// Like `does_beat`, for the text of n bytes from `start`, at index `k`, and the key at index `i`. As in
+// `consider`, most texts are rejected by their length or their last byte; the last byte and the key
+// itself are tested in one branch.
 fn is_rival(
     store: &[u8],
     start: usize,
@@ -181,7 +187,7 @@ fn is_rival(
     does_beat(path, &store[start..end], k < i, key)
 }
 
-// Is pair i the one that `best_prefix` finds?
+// Returns whether pair `i` is the longest match, as `best_prefix` would find it.
 pub fn is_best(
     store: &[u8],
     places: &[usize],
