@@ -1,4 +1,4 @@
--- Document 01's calls that make a map from a map: the questions in their order, then the meaning.
+-- The calls that build a map from one map: validation in the order of the questions, then the result.
 use Prim.Native.Nat.{ℕ}
 use mathlib.Core.Bool.{Bool, true, not, _&&_}
 use mathlib.Core.List.{List, [], _∷_, map}
@@ -15,32 +15,33 @@ use Rattle.map_function.specs.Read.{isNull, listOf, mapOf}
 use Rattle.map_function.specs.Made.{MapOutcome, weighed}
 use Rattle.making.specs.Calls.{making}
 
--- "`inverse` always sets the time offset to (0, 1)."
+-- The call `inverse`. Requirements: "`inverse` always sets the time offset to (0, 1)."
 unfoldable pub inverseCall : Text → List ℕ → MapFunction → Text → List ℕ → MapOutcome
 unfolding asked weighed inverse
 inverseCall store places f out slots =
     making (asked (listOf store places f ∷ []) [] []) (map (λ (x : Pair). exchanged x) (pairsOf (listOf store places f))) (inverse (mapOf store places f)) noOffset out slots
 
--- "`with_root_identity` drops nothing."
+-- The call `with_root_identity`. Requirements: "`with_root_identity` drops nothing."
 unfoldable pub withRootIdentityCall : Text → List ℕ → MapFunction → Text → List ℕ → MapOutcome
 unfolding asked weighed withRootIdentity
 withRootIdentityCall store places f out slots =
     making (asked (listOf store places f ∷ []) [] []) (pairsOf (listOf store places f)) (withRootIdentity (mapOf store places f)) (f .«time_offset») out slots
 
--- "The paths given to `dropping_source` .. count as ends." Questions 4 and 5 go to the list without that source.
+-- The call `dropping_source`. Questions 4 and 5 apply to the list without that source. Requirements: "The paths given to `dropping_source`
+-- .. count as ends."
 unfoldable pub droppingSourceCall : Text → List ℕ → MapFunction → Text → Text → List ℕ → MapOutcome
 unfolding asked weighed withoutSource droppingSource
 droppingSourceCall store places f s out slots =
     making (asked (listOf store places f ∷ []) (s ∷ []) (s ∷ [])) (withoutSource s (pairsOf (listOf store places f))) (droppingSource (mapOf store places f) s)
     (f .«time_offset») out slots
 
--- every pair leaves its path as it is
+-- Every pair has equal ends.
 unfoldable pub allSame : List Pair → Bool
 unfolding equal
 allSame [] = true
 allSame (x ∷ xs) = equal (x .source) (x .target) && allSame xs
 
--- Rust: is_noop. It maps, and changes neither path nor time.
+-- The call `is_noop`: the map is not null and changes neither paths nor times.
 unfoldable pub isNoopCall : Text → List ℕ → MapFunction → Test
 unfolding asked isNull allSame isIdentity
 isNoopCall store places f =

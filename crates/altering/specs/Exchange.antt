@@ -1,4 +1,4 @@
--- The numbers of a list of pairs with source and target exchanged.
+-- The places of a list of pairs with source and target exchanged.
 use mathlib.Core.Bool.{cond, _&&_}
 use mathlib.Core.List.{List, [], _∷_, _++_}
 use Prim.Native.Nat.{ℕ, zero, suc, _+_, _*_}
@@ -6,16 +6,17 @@ use lib.Dec.{leb}
 use lib.ListN.{length, getD}
 use Rattle.text.specs.Text.{written}
 
--- the four numbers of pair i, the target's two before the source's
+-- The four numbers of pair i, those of the target before those of the source.
 abbrev pub turned : List ℕ → ℕ → List ℕ
 turned places i = getD places (4 * i + 2) 0 ∷ getD places (4 * i + 3) 0 ∷ getD places (4 * i) 0 ∷ getD places (4 * i + 1) 0 ∷ []
 
--- those of the first n pairs
+-- The exchanged numbers of the first n pairs.
 unfoldable pub turnedPlaces : List ℕ → ℕ → List ℕ
 turnedPlaces places zero = []
 turnedPlaces places (suc n) = turnedPlaces places n ++ turned places n
 
--- other numbers with those over their beginning; where there are fewer than n pairs on one of the two sides, the other numbers as they were
+-- The numbers `other` with the exchanged numbers of the first n pairs over their beginning; unchanged if one of the two slices has fewer
+-- than n pairs.
 unfoldable pub exchangedPlaces : List ℕ → ℕ → List ℕ → List ℕ
 unfolding turnedPlaces
 exchangedPlaces places n other = cond (leb (4 * n) (length places) && leb (4 * n) (length other)) (written (turnedPlaces places n) other) other

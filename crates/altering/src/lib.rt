@@ -1,4 +1,5 @@
-// Document 01's calls that make a map from a map, and the one that asks whether a map changes anything.
+// Calls that build a map from one map, and the call that tests whether a map changes anything. Ports
+// with_root_identity, inverse, dropping_source and is_noop of MapFunction in the Rust pcp/mapping.rs.
 ghost use mathlib.Core.Path.{_≡_};
 ghost use mathlib.Core.List.{[], _∷_, _++_};
 ghost use Prim.Native.Nat.{_+_, _*_, _≤_};
@@ -9,7 +10,7 @@ ghost use Rattle.map_function.specs.Made.{GivesMap};
 ghost use Rattle.altering.specs.Exchange.{exchangedPlaces};
 ghost use Rattle.altering.specs.Calls.{inverseCall, withRootIdentityCall, droppingSourceCall, allSame, isNoopCall};
 
-// The map with the mark put to it.
+// Builds the map with its mark set.
 pub fn with_root_identity(
     store: &[u8],
     places: &[usize],
@@ -27,8 +28,8 @@ pub fn with_root_identity(
     map_function::as_it_is(store, places, n, true, map.time_offset, out, slots)
 }
 
-// The numbers of the first n pairs with source and target exchanged; nothing is written where one of the
-// slices is too short.
+// Writes the four numbers of each of the first n pairs with source and target exchanged; writes nothing
+// if one of the slices is too short.
 pub fn exchange(places: &[usize], n: usize, other: &mut [usize])
     ensures { λ _. ⌜ now (other .exit) ≡ exchangedPlaces (now (places .entry)) n (now (other .entry)) ⌝ }
 {
@@ -53,7 +54,7 @@ pub fn exchange(places: &[usize], n: usize, other: &mut [usize])
     }
 }
 
-// The map with source and target exchanged, and no time offset.
+// Builds the map with source and target exchanged, and with the time offset (0, 1).
 pub fn inverse(
     store: &[u8],
     places: &[usize],
@@ -75,7 +76,7 @@ pub fn inverse(
     map_function::from_parts(store, &other, n, mark, time, out, slots)
 }
 
-// Puts pair i behind the w pairs that are kept, unless it has the source.
+// Appends pair `i` to the `w` kept pairs unless it has the source; returns the new number of kept pairs.
 fn keep_other(
     store: &[u8],
     places: &[usize],
@@ -95,7 +96,7 @@ fn keep_other(
     w + 1
 }
 
-// The first n pairs without those that have the source.
+// Selects those of the first n pairs that do not have the source, and returns their number.
 fn without_source(
     store: &[u8],
     places: &[usize],
@@ -116,7 +117,7 @@ fn without_source(
     w
 }
 
-// The map without the pairs that have the source.
+// Builds the map without the pairs that have the source.
 pub fn dropping_source(
     store: &[u8],
     places: &[usize],
@@ -143,7 +144,7 @@ pub fn dropping_source(
     map_function::from_parts(store, &kept, w, mark, time, out, slots)
 }
 
-// Do the first n pairs leave their paths as they are?
+// Returns whether each of the first n pairs has equal ends.
 fn all_same(store: &[u8], places: &[usize], n: usize) -> bool
     ensures { λ r. ⌜ r ≡ allSame (pairsIn (now (store .entry)) (now (places .entry)) n) ⌝ }
 {
@@ -158,7 +159,7 @@ fn all_same(store: &[u8], places: &[usize], n: usize) -> bool
     true
 }
 
-// Does the map map, and change neither path nor time?
+// Returns whether the map is not null and changes neither paths nor times.
 pub fn is_noop(store: &[u8], places: &[usize], map: map_function::MapFunction) -> path::Test
     ensures { λ r. ⌜ r ≡ isNoopCall (now (store .entry)) (now (places .entry)) map ⌝ }
 {

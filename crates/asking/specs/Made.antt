@@ -1,4 +1,5 @@
--- Pairs that the code picks out of a lent list and puts into memory for 64 pairs (256 numbers): when that can be done, and which then stand there.
+-- Pairs that the code selects from a lent list and copies to a buffer for 64 pairs (256 numbers): when that is possible, and which pairs
+-- the buffer then holds.
 use Prim.Native.Nat.{ℕ}
 use mathlib.Core.Bool.{Bool, cond, _&&_}
 use mathlib.Core.List.{List, []}
@@ -6,12 +7,12 @@ use lib.Dec.{leb}
 use Rattle.pairs.specs.Pair.{Pair}
 use Rattle.asking.specs.Asking.{Lent, listCounts}
 
--- question 4 lets the list pass, and the memory has room for 64 pairs
+-- The list passes question 4, and the buffer has capacity for 64 pairs.
 unfoldable pub canMake : Lent → ℕ → Bool
 unfolding listCounts
 canMake l room = listCounts l && leb 256 room
 
--- the pairs made; none where they cannot be made
+-- The pairs that the buffer holds: those given, or none if they cannot be copied.
 unfoldable pub madeOf : Lent → ℕ → List Pair → List Pair
 unfolding canMake
 madeOf l room pairs = cond (canMake l room) pairs []

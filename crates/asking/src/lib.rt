@@ -1,5 +1,6 @@
-// Document 01's questions 1 to 4. Each is put to the whole call; the first "no" counts. An empty text
-// passes them all, so it stands for a text that a call does not have.
+// Validation of the lists and texts of a call (questions 1 to 4 of docs/REQUIREMENTS.md). Each question
+// is checked for the whole call before the next; the first failed question decides. An empty text passes
+// every question, so it is passed for a text that a call does not have.
 ghost use mathlib.Core.Path.{_≡_};
 ghost use mathlib.Core.Bool.{true, not, _&&_, _||_};
 ghost use mathlib.Core.List.{[], _∷_};
@@ -7,7 +8,7 @@ ghost use Rattle.grammar.specs.Legal.{legal, fits, isEnd};
 ghost use Rattle.asking.specs.Asking.{lentList, present, listFits, listAll, listCounts, every, firstNo, asked, earlierOf};
 ghost use Rattle.asking.specs.Made.{canMake};
 
-// How many places the slice has for the pairs that are counted.
+// The number of places that the slice holds for the first `count` pairs.
 fn places_of(places: &[usize], count: usize) -> usize
     ensures { λ r. ⌜ r ≡ present (lentList [] (now (places .entry)) count) ⌝ }
 {
@@ -18,7 +19,7 @@ fn places_of(places: &[usize], count: usize) -> usize
     2 * held
 }
 
-// Question 1 of a list and two texts.
+// Question 1 for a list and two texts: returns whether each text has at most 255 bytes.
 fn are_short(store: &[u8], places: &[usize], count: usize, p: &[u8], q: &[u8]) -> bool
     ensures { λ r. ⌜ r ≡ (every fits (now (p .entry) ∷ now (q .entry) ∷ []) && listFits (lentList (now (store .entry)) (now (places .entry)) count)) ⌝ }
 {
@@ -31,7 +32,8 @@ fn are_short(store: &[u8], places: &[usize], count: usize, p: &[u8], q: &[u8]) -
     pairs::all_fit(store, places, places_of(places, count))
 }
 
-// Question 2 of a list and two texts. Where the list has only ends, which are legal, it is not read again.
+// Question 2 for a list and two texts: returns whether each text is legal. If the list is known to
+// contain only ends, which are legal, it is not scanned again.
 fn are_legal(ends: bool, store: &[u8], places: &[usize], count: usize, p: &[u8], q: &[u8]) -> bool
     requires { ⌜ (not ends || listAll legal (lentList (now store) (now places) count)) ≡ true ⌝ }
     ensures { λ r. ⌜ r ≡ (every legal (now (p .entry) ∷ now (q .entry) ∷ []) && listAll legal (lentList (now (store .entry)) (now (places .entry)) count)) ⌝ }
@@ -48,7 +50,7 @@ fn are_legal(ends: bool, store: &[u8], places: &[usize], count: usize, p: &[u8],
     pairs::all_legal(store, places, places_of(places, count))
 }
 
-// Question 3 of a list and two texts.
+// Question 3 for a list and two texts: returns whether each is a prim path, `/` or empty.
 fn are_ends(store: &[u8], places: &[usize], count: usize, e: &[u8], f: &[u8]) -> bool
     ensures { λ r. ⌜ r ≡ (every isEnd (now (e .entry) ∷ now (f .entry) ∷ []) && listAll isEnd (lentList (now (store .entry)) (now (places .entry)) count)) ⌝ }
 {
@@ -61,7 +63,7 @@ fn are_ends(store: &[u8], places: &[usize], count: usize, e: &[u8], f: &[u8]) ->
     pairs::all_ends(store, places, places_of(places, count))
 }
 
-// Question 4 of a list.
+// Question 4 for a list: returns whether it has at most 64 pairs and the slice holds them.
 fn is_counted(places: &[usize], count: usize) -> bool
     ensures { λ r. ⌜ r ≡ listCounts (lentList [] (now (places .entry)) count) ⌝ }
 {
@@ -71,7 +73,7 @@ fn is_counted(places: &[usize], count: usize) -> bool
     count <= places.len() / 4
 }
 
-// Is the list one that question 4 lets pass, and has the memory room for 64 pairs?
+// Returns whether the list passes question 4 and a buffer of `room` numbers has capacity for 64 pairs.
 pub fn can_make(places: &[usize], count: usize, room: usize) -> bool
     ensures { λ r. ⌜ r ≡ canMake (lentList [] (now (places .entry)) count) room ⌝ }
 {
@@ -81,7 +83,7 @@ pub fn can_make(places: &[usize], count: usize, room: usize) -> bool
     is_counted(places, count)
 }
 
-// The first "no" of four answers.
+// The refusal of the first failed question of four, given the results.
 fn first_no(short: bool, legal: bool, ends: bool, counted: bool) -> path::Asked
     ensures { λ r. ⌜ r ≡ firstNo short legal ends counted ⌝ }
 {
@@ -100,7 +102,7 @@ fn first_no(short: bool, legal: bool, ends: bool, counted: bool) -> path::Asked
     path::Asked::Passed
 }
 
-// Is the answer yes both times?
+// Returns whether both are true.
 pub fn both(a: bool, b: bool) -> bool
     ensures { λ r. ⌜ r ≡ (a && b) ⌝ }
 {
@@ -110,7 +112,7 @@ pub fn both(a: bool, b: bool) -> bool
     b
 }
 
-// Of two answers the earlier refusal.
+// Of two results, the refusal with the lower number.
 pub fn earlier(a: path::Asked, b: path::Asked) -> path::Asked
     ensures { λ r. ⌜ r ≡ earlierOf a b ⌝ }
 {
@@ -126,7 +128,7 @@ pub fn earlier(a: path::Asked, b: path::Asked) -> path::Asked
     b
 }
 
-// Questions 1 to 4 of a list and of the texts p and q; e and f count as ends.
+// Validates a list and the texts `p` and `q` (questions 1 to 4); `e` and `f` count as ends.
 pub fn ask_list(
     store: &[u8],
     places: &[usize],
@@ -144,7 +146,7 @@ pub fn ask_list(
     first_no(short, legal, ends, is_counted(places, count))
 }
 
-// Questions 1 to 4 of a list and of a path.
+// Validates a list and a path (questions 1 to 4).
 pub fn ask_path(store: &[u8], places: &[usize], count: usize, p: &[u8]) -> path::Asked
     ensures { λ r. ⌜ r ≡ asked (lentList (now (store .entry)) (now (places .entry)) count ∷ []) (now (p .entry) ∷ []) [] ⌝ }
 {
@@ -152,7 +154,7 @@ pub fn ask_path(store: &[u8], places: &[usize], count: usize, p: &[u8]) -> path:
     ask_list(store, places, count, p, e, e, e)
 }
 
-// Questions 1 to 4 of a list.
+// Validates a list (questions 1 to 4).
 pub fn ask_pairs(store: &[u8], places: &[usize], count: usize) -> path::Asked
     ensures { λ r. ⌜ r ≡ asked (lentList (now (store .entry)) (now (places .entry)) count ∷ []) [] [] ⌝ }
 {
@@ -160,7 +162,7 @@ pub fn ask_pairs(store: &[u8], places: &[usize], count: usize) -> path::Asked
     ask_list(store, places, count, e, e, e, e)
 }
 
-// Questions 1 to 3 of two ends.
+// Validates two ends (questions 1 to 3).
 pub fn ask_ends(e: &[u8], f: &[u8]) -> path::Asked
     ensures { λ r. ⌜ r ≡ asked [] (now (e .entry) ∷ now (f .entry) ∷ []) (now (e .entry) ∷ now (f .entry) ∷ []) ⌝ }
 {
@@ -168,7 +170,7 @@ pub fn ask_ends(e: &[u8], f: &[u8]) -> path::Asked
     ask_list(e, &none, 0, e, f, e, f)
 }
 
-// Questions 1 to 4 of two lists: each to both of them before the next.
+// Validates two lists (questions 1 to 4): each question is checked for both lists before the next.
 pub fn ask_lists(
     store: &[u8],
     places: &[usize],

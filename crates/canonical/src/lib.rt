@@ -1,4 +1,5 @@
-// How pairs become those of a map: the mark, and the pairs that carry something of their own.
+// The canonical form of a map's pairs: root pairs become the mark, and redundant pairs are dropped.
+// Ports canonicalize and map_via of the Rust pcp/mapping.rs.
 ghost use mathlib.Core.Path.{_≡_};
 ghost use mathlib.Core.Bool.{cond, _||_};
 ghost use mathlib.Core.List.{List};
@@ -12,7 +13,7 @@ ghost use Rattle.maps.specs.Map.{lentMap};
 ghost use Rattle.maps.specs.New.{isRoots, anyRoots, implied};
 ghost use Rattle.canonical.specs.Kept.{mostElements, ownLevel, keptOf, keptPairs, canonicalPicks, Keyed, keeps};
 
-// Is pair i `/`→`/`?
+// Returns whether pair `i` is `/`→`/`.
 fn is_roots(store: &[u8], places: &[usize], i: usize) -> bool
     ensures { λ r. ⌜ r ≡ isRoots (pairIn (now (store .entry)) (now (places .entry)) i) ⌝ }
 {
@@ -22,7 +23,7 @@ fn is_roots(store: &[u8], places: &[usize], i: usize) -> bool
     grammar::is_root(pairs::key_at(store, places, i, true))
 }
 
-// Is one of the first n pairs `/`→`/`?
+// Returns whether one of the first n pairs is `/`→`/`.
 fn any_roots(store: &[u8], places: &[usize], n: usize) -> bool
     ensures { λ r. ⌜ r ≡ anyRoots (pairsIn (now (store .entry)) (now (places .entry)) n) ⌝ }
 {
@@ -36,7 +37,7 @@ fn any_roots(store: &[u8], places: &[usize], n: usize) -> bool
     false
 }
 
-// Has the map of the first n pairs the mark?
+// Returns whether the map of the first n pairs has the mark.
 pub fn is_marked(mark: bool, store: &[u8], places: &[usize], n: usize) -> bool
     ensures { λ r. ⌜ r ≡ (mark || anyRoots (pairsIn (now (store .entry)) (now (places .entry)) n)) ⌝ }
 {
@@ -53,7 +54,7 @@ fn max(a: usize, b: usize) -> usize
     if a < b { b } else { a }
 }
 
-// How many elements each of the first n sources has, and the most of them.
+// Writes the number of elements of each of the first n sources to `keys`, and returns the maximum.
 fn fill_keys(store: &[u8], places: &[usize], n: usize, keys: &mut [usize]) -> usize
     requires { ⌜ n ≤ length (now keys) ⌝ }
     ensures { λ r. ⌜ Keyed (now (store .entry)) (now (places .entry)) n (now (keys .exit)) ⌝ }
@@ -70,7 +71,8 @@ fn fill_keys(store: &[u8], places: &[usize], n: usize, keys: &mut [usize]) -> us
     top
 }
 
-// Do the first n kept pairs, or the mark, carry the source to the target?
+// Returns whether the first n kept pairs, or the mark, map the source to the target, so that such a pair
+// is redundant.
 fn is_implied(store: &[u8], kept: &[usize], n: usize, mark: bool, s: &[u8], t: &[u8]) -> bool
     ensures { λ r. ⌜ r ≡ implied (lentMap (now (store .entry)) (now (kept .entry)) n mark) (record { source = now (s .entry); target = now (t .entry) }) ⌝ }
 {
@@ -87,8 +89,8 @@ fn is_implied(store: &[u8], kept: &[usize], n: usize, mark: bool, s: &[u8], t: &
     text::is_equal(s, t)
 }
 
-// Keeps pair i, whose source has `key` elements, where it is of the level e, no `/`→`/`, and not
-// implied by the w pairs that are kept.
+// Appends pair `i`, whose source has `key` elements, to the `w` kept pairs if `key` is `e`, the pair is
+// not `/`→`/`, and the kept pairs do not imply it. Returns the new number of kept pairs.
 fn keep_pair(
     store: &[u8],
     places: &[usize],
@@ -118,7 +120,8 @@ fn keep_pair(
     w + 1
 }
 
-// Keeps what is to be kept of the level e, behind the w pairs that are kept.
+// Appends the pairs whose source has `e` elements to the `w` kept pairs, without the redundant ones.
+// Returns the new number of kept pairs.
 fn keep_level(
     store: &[u8],
     places: &[usize],
@@ -143,8 +146,9 @@ fn keep_level(
     k
 }
 
-// The pairs of the map: those that are neither `/`→`/` nor implied by the ones before them, the
-// sources with fewer elements first. Rust: canonicalize.
+// Selects the pairs of the map: those that are neither `/`→`/` nor implied by the pairs before them,
+// sources with fewer elements first. Going through the levels in turn replaces the sort. Rust:
+// canonicalize.
 fn canonicalize(store: &[u8], places: &[usize], n: usize, mark: bool, kept: &mut [usize]) -> usize
     requires { ⌜ (n ≤ 64) × (4 * n ≤ length (now places)) ⌝ }
     requires { ⌜ 256 ≤ length (now kept) ⌝ }
@@ -161,7 +165,8 @@ fn canonicalize(store: &[u8], places: &[usize], n: usize, mark: bool, kept: &mut
     keep_level(store, places, n, &keys, top, mark, kept, w)
 }
 
-// The pairs that `new` keeps of the first n, as places in memory of the caller's own.
+// Writes the places of those of the first n pairs that `new` keeps to the caller's buffer, and returns
+// their number.
 pub fn canonical_places(
     store: &[u8],
     places: &[usize],

@@ -1,5 +1,6 @@
-// Carrying a path through a list of pairs: plain mapping and translation, defined for any bytes and any
-// numbers. A caller that has checked a list once carries many paths through it.
+// Maps a path through a list of pairs: plain mapping (map_source_to_target, map_target_to_source) and
+// translation (translate_to_target) of the Rust pcp/mapping.rs. Defined for any bytes and any numbers,
+// so that a caller can validate a list once and then map many paths through it.
 ghost use mathlib.Core.Path.{_≡_};
 ghost use Prim.Native.Nat.{_≤_};
 ghost use lib.ListN.{length, drop};
@@ -7,7 +8,7 @@ ghost use Rattle.path.specs.Outcome.{reply, memory};
 ghost use Rattle.maps.specs.Map.{lentMap};
 ghost use Rattle.carry.specs.Quick.{joining, keeping, quick, translateMarked, finished, translatePair, quickTranslate};
 
-// The rest of the path behind the old prefix, behind the new one.
+// Writes the path with its old prefix replaced by the new one, with questions 7 and 8.
 fn carry(old: &[u8], new: &[u8], path: &[u8], out: &mut [u8; 255]) -> path::Reply
     requires { ⌜ length (now old) ≤ length (now path) ⌝ }
     ensures { λ r. ⌜ r ≡ reply (joining (now (old .entry)) (now (new .entry)) (drop (length (now (old .entry))) (now (path .entry)))) ⌝ }
@@ -24,7 +25,7 @@ fn carry(old: &[u8], new: &[u8], path: &[u8], out: &mut [u8; 255]) -> path::Repl
     }
 }
 
-// The path itself where the map has the mark.
+// Writes the path itself if the map has the mark.
 fn keep(mark: bool, path: &[u8], out: &mut [u8; 255]) -> path::Reply
     ensures { λ r. ⌜ r ≡ reply (keeping mark (now (path .entry))) ⌝ }
     ensures { λ r. ⌜ now (out .exit) ≡ memory (keeping mark (now (path .entry))) (now (out .entry)) ⌝ }
@@ -39,7 +40,7 @@ fn keep(mark: bool, path: &[u8], out: &mut [u8; 255]) -> path::Reply
     path::Reply::Written(path.len())
 }
 
-// Plain mapping through the first n pairs, forward or backwards.
+// Plain mapping through the first n pairs, forward, or backwards if `invert` is set.
 pub fn map_text(
     store: &[u8],
     places: &[usize],
@@ -66,7 +67,8 @@ pub fn map_text(
     carry(old, new, path, out)
 }
 
-// Translation of a path that no pair carries: the mark returns it where no pair would take it back.
+// Translation of a path that no pair matches: the mark returns the path, unless some target is a prefix
+// of it.
 fn translate_marked(
     store: &[u8],
     places: &[usize],
@@ -88,7 +90,7 @@ fn translate_marked(
     keep(mark, path, out)
 }
 
-// The path made of the first n bytes, with questions 8 and 7.
+// Writes the path that was built, with questions 8 and 7.
 fn finish(spoilt: bool, made: &[u8], out: &mut [u8; 255]) -> path::Reply
     ensures { λ r. ⌜ r ≡ reply (finished spoilt (now (made .entry))) ⌝ }
     ensures { λ r. ⌜ now (out .exit) ≡ memory (finished spoilt (now (made .entry))) (now (out .entry)) ⌝ }
@@ -99,7 +101,8 @@ fn finish(spoilt: bool, made: &[u8], out: &mut [u8; 255]) -> path::Reply
     keep(true, made, out)
 }
 
-// Translation by pair i: the path that it makes must be taken back by the same pair.
+// Translation by pair `i`: mapping the new path backwards must select the same pair. The path is built
+// in a scratch buffer longer than a path, since this is question 6, which comes before question 7.
 fn translate_pair(
     store: &[u8],
     places: &[usize],

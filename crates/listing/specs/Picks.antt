@@ -1,4 +1,4 @@
--- Pairs picked out of a list in lent memory: which they are, and how their numbers stand in other memory.
+-- Pairs selected from a list in lent memory: their indices, and their numbers copied to another slice.
 use mathlib.Core.Path.{_≡_}
 use mathlib.Core.Bool.{Bool, cond}
 use mathlib.Core.List.{List, [], _∷_, _++_, map, flatMap}
@@ -9,20 +9,20 @@ use Rattle.pairs.specs.Pair.{Pair}
 use Rattle.pairs.specs.Places.{pairIn}
 use Rattle.listing.specs.Lists.{four}
 
--- those of the first n pairs that pass a test, by their numbers, in their order
+-- The indices, in ascending order, of those of the first n pairs that pass a test.
 unfoldable pub passing : (ℕ → Bool) → ℕ → List ℕ
 passing passes zero = []
 passing passes (suc n) = cond (passes n) (passing passes n ++ n ∷ []) (passing passes n)
 
--- memory with the four numbers of each picked pair, one behind the other, over its beginning
+-- The numbers `slots` with the four numbers of each selected pair written consecutively over their beginning.
 unfoldable pub picked : List ℕ → List ℕ → List ℕ → List ℕ
 unfolding flatMap
 picked places picks slots = written (flatMap (four places) picks) slots
 
--- memory holds the picked pairs, w of them, over what stood there before
+-- The numbers `slots` are the w selected pairs written over the old numbers.
 abbrev pub Holds : List ℕ → List ℕ → List ℕ → List ℕ → ℕ → Type 0
 Holds places picks old slots w = (w ≡ length picks) × (slots ≡ picked places picks old)
 
--- the pairs that were picked
+-- The selected pairs.
 abbrev pub pairsAt : Text → List ℕ → List ℕ → List Pair
 pairsAt store places picks = map (pairIn store places) picks

@@ -1,5 +1,5 @@
-// Lists of pairs written to lent memory, one behind the other. Every public function is defined for any bytes
-// and any numbers.
+// Writes lists of pairs to lent memory: the bytes of all ends consecutively, and the places of each
+// pair. Every public function is defined for any bytes and any numbers.
 ghost use mathlib.Core.Path.{_≡_};
 ghost use mathlib.Core.Bool.{true, false};
 ghost use mathlib.Core.List.{[], _∷_, _++_};
@@ -10,13 +10,15 @@ ghost use lib.Dec.{leb};
 ghost use Rattle.pairs.specs.Places.{pairsIn, endBytes, fourOf, keyAt};
 ghost use Rattle.listing.specs.Lists.{copied, roomLeft, appendFit, appendBytes, appendSlots, listFit, listBytes, listSlots};
 
-// What is left of a room for bytes.
+// The remaining capacity of a byte buffer.
 pub enum Room {
+    // The number of bytes that remain.
     Left(usize),
+    // The list does not fit.
     Over,
 }
 
-// What is left of the room behind the first n pairs, one behind the other.
+// The part of the capacity `room` that remains after the bytes of the first n pairs.
 pub fn room_left(store: &[u8], places: &[usize], n: usize, room: usize) -> Room
     ensures { λ r. ⌜ r ≡ roomLeft (pairsIn (now (store .entry)) (now (places .entry)) n) room ⌝ }
 {
@@ -38,7 +40,7 @@ pub fn room_left(store: &[u8], places: &[usize], n: usize, room: usize) -> Room
     Room::Left(left)
 }
 
-// Is the lent memory enough for the first n pairs, one behind the other?
+// Returns whether the capacity `room` is enough for the bytes of the first n pairs.
 pub fn has_room(store: &[u8], places: &[usize], n: usize, room: usize) -> bool
     ensures { λ r. ⌜ r ≡ leb (endBytes (pairsIn (now (store .entry)) (now (places .entry)) n)) room ⌝ }
 {
@@ -48,7 +50,7 @@ pub fn has_room(store: &[u8], places: &[usize], n: usize, room: usize) -> bool
     }
 }
 
-// Writes the four numbers of pair w, where the slice has room for them.
+// Writes the four numbers of pair `w` if the slice is long enough; otherwise writes nothing.
 pub fn write_four(w: usize, a: usize, b: usize, c: usize, d: usize, slots: &mut [usize])
     ensures { λ _. ⌜ now (slots .exit) ≡ placed (4 * w) (a ∷ b ∷ c ∷ d ∷ []) (now (slots .entry)) ⌝ }
 {
@@ -62,7 +64,8 @@ pub fn write_four(w: usize, a: usize, b: usize, c: usize, d: usize, slots: &mut 
     slots[j + 3] = d;
 }
 
-// Copies the numbers of pair i over those of pair w in another slice.
+// Copies the four numbers of pair `i` over those of pair `w` in another slice, if both pairs lie in
+// their slices.
 pub fn copy_pair(places: &[usize], i: usize, w: usize, slots: &mut [usize])
     ensures { λ _. ⌜ now (slots .exit) ≡ copied (now (places .entry)) i w (now (slots .entry)) ⌝ }
 {
@@ -80,7 +83,8 @@ pub fn copy_pair(places: &[usize], i: usize, w: usize, slots: &mut [usize])
     );
 }
 
-// Writes pair i behind `at` bytes, and its four numbers; the place behind it.
+// Writes the bytes of pair `i` from index `at` of `out`, and its four numbers to `slots`; returns the
+// index after the bytes.
 fn write_pair(
     store: &[u8],
     places: &[usize],
@@ -104,8 +108,8 @@ fn write_pair(
     m + t.len()
 }
 
-// Writes the first n pairs behind the first `at` bytes, one behind the other, and their places; nothing
-// where the memory is too short.
+// Writes the bytes of the first n pairs consecutively from index `at` of `out`, and their places to
+// `slots`; writes nothing if one of the buffers is too short.
 pub fn append_list(
     store: &[u8],
     places: &[usize],
@@ -136,7 +140,7 @@ pub fn append_list(
     text::Fit::Written(n)
 }
 
-// The same from the beginning on.
+// Like `append_list`, from the beginning of `out`.
 pub fn write_list(
     store: &[u8],
     places: &[usize],

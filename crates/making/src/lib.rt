@@ -1,4 +1,6 @@
-// Document 01's calls that make a map from pairs.
+// Calls that build a map from pairs. Ports new, from_pair and from_pair_identity of MapFunction in the
+// Rust pcp/mapping.rs. Each call validates its arguments in the order of the questions; a refused call
+// writes nothing.
 ghost use mathlib.Core.Path.{_≡_};
 ghost use mathlib.Core.List.{[], _∷_};
 ghost use Prim.Native.Nat.{_+_, _≤_};
@@ -8,7 +10,7 @@ ghost use Rattle.pairs.specs.Places.{pairsIn};
 ghost use Rattle.map_function.specs.Made.{GivesMap};
 ghost use Rattle.making.specs.Calls.{newCall, fromPairCall, fromPairIdentityCall};
 
-// The map of the pairs.
+// Builds the map of the pairs in canonical form.
 pub fn new(
     store: &[u8],
     places: &[usize],
@@ -26,7 +28,7 @@ pub fn new(
     map_function::from_parts(store, places, count, false, time, out, slots)
 }
 
-// One pair as a list, in memory of the call's own.
+// Writes one pair as a list into scratch buffers.
 fn store_pair(s: &[u8], t: &[u8], store: &mut [u8], places: &mut [usize])
     requires { ⌜ length (now s) + length (now t) ≤ length (now store) ⌝ }
     requires { ⌜ 4 ≤ length (now places) ⌝ }
@@ -38,7 +40,7 @@ fn store_pair(s: &[u8], t: &[u8], store: &mut [u8], places: &mut [usize])
     listing::write_four(0, 0, n, n, t.len(), places);
 }
 
-// The map of one pair as it stands.
+// Builds the map of one pair, unchanged and without the mark.
 pub fn from_pair(
     source: &[u8],
     target: &[u8],
@@ -58,7 +60,7 @@ pub fn from_pair(
     map_function::as_it_is(&store, &places, 1, false, time, out, slots)
 }
 
-// The map of one pair beside the mark.
+// Builds the map of one pair and the mark.
 pub fn from_pair_identity(
     source: &[u8],
     target: &[u8],

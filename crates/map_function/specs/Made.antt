@@ -1,4 +1,4 @@
--- What a call that makes a map comes to: its reply and what lent memory holds afterwards are read off one outcome.
+-- The outcome of a call that builds a map. Its reply and the contents of the lent buffers afterwards are all derived from this one value.
 use mathlib.Core.Path.{_≡_}
 use Prim.Native.Nat.{ℕ, _/_}
 use mathlib.Core.Bool.{Bool, cond}
@@ -19,56 +19,59 @@ use Rattle.map_function.specs.declared.MapFunction.{MapFunction}
 use Rattle.map_function.specs.declared.MapReply.{MapReply}
 use Rattle.map_function.specs.declared.MapReply.the-variants.{Made, Refused}
 
--- a map with its time offset, or why there is none
+-- A map with its time offset, or the refusal.
 pub data MapOutcome : Type 0 where
   map : Map → LayerOffset → MapOutcome
   refused : Refusal → MapOutcome
 
--- the map's own numbers: how many pairs it has, its mark, its time offset
+-- The struct of a map: its number of pairs, its mark and its time offset.
 abbrev pub numbersOf : Map → LayerOffset → MapFunction
 numbersOf m time = record { count = size m; «has_root_identity» = m .mark; «time_offset» = time }
 
+-- The reply of a call with this outcome.
 unfoldable pub mapReply : MapOutcome → MapReply
 mapReply (map m time) = Made (numbersOf m time)
 mapReply (refused x) = Refused x
 
--- the pairs' bytes, one behind the other, over the beginning of the lent bytes; "A refused call writes nothing."
+-- The byte buffer after a call with this outcome: the bytes of the pairs consecutively over its beginning. Requirements: "A refused call
+-- writes nothing."
 unfoldable pub mapBytes : MapOutcome → Text → Text
 unfolding listText
 mapBytes (map m time) out = written (listText (m .pairs)) out
 mapBytes (refused x) out = out
 
--- and their places over the beginning of the lent numbers
+-- The lent numbers after a call with this outcome: the places of the pairs over their beginning.
 unfoldable pub mapSlots : MapOutcome → List ℕ → List ℕ
 unfolding listPlaces
 mapSlots (map m time) slots = written (listPlaces 0 (m .pairs)) slots
 mapSlots (refused x) slots = slots
 
--- a call gave what the outcome says: the reply, and both lent memories as they were before and are afterwards
+-- A call had this outcome: its reply r, and the contents of both lent buffers before (`out`, `slots`) and after it.
 abbrev pub GivesMap : MapOutcome → MapReply → Text → Text → List ℕ → List ℕ → Type 0
 GivesMap o r out out′ slots slots′ = (r ≡ mapReply o) × ((out′ ≡ mapBytes o out) × (slots′ ≡ mapSlots o slots))
 
--- question 5 for a list: "the sum of all end lengths before dropping for a list .. and a place for each such end"
+-- Question 5 for a list. Requirements: "the sum of all end lengths before dropping for a list .. and a place for each such end".
 unfoldable pub roomFor : List Pair → Text → List ℕ → MapOutcome → MapOutcome
 unfolding listRoom
 roomFor l out slots o = cond (listRoom l out slots) o (refused NoRoom)
 
--- the map m, with questions 4 and 5 put to the list l: "the list that the dropping in `new` starts from .. where that isn't run, the list
--- read or answered"
+-- The map m, with questions 4 and 5 applied to the list l. Requirements: "the list that the dropping in `new` starts from .. where that
+-- isn't run, the list read or answered".
 unfoldable pub weighed : List Pair → Map → LayerOffset → Text → List ℕ → MapOutcome
 unfolding roomFor
 weighed l m time out slots = cond (leb (length l) 64) (roomFor l out slots (map m time)) (refused TooMany)
 
--- a map whose pairs are just these
+-- The map with these pairs unchanged.
 unfoldable pub asItIs : List Pair → Bool → LayerOffset → Text → List ℕ → MapOutcome
 unfolding weighed
 asItIs l mark time out slots = weighed l (record { pairs = l; mark = mark }) time out slots
 
--- a map made of these pairs
+-- The map of these pairs in canonical form.
 unfoldable pub fromPartsOutcome : List Pair → Bool → LayerOffset → Text → List ℕ → MapOutcome
 unfolding weighed fromParts
 fromPartsOutcome l mark time out slots = weighed l (fromParts l mark) time out slots
 
--- what is done with a lent list: "A count beyond its slice counts as over 64."
+-- The outcome for a lent list, refused if the slice holds fewer pairs than the count. Requirements: "A count beyond its slice counts as
+-- over 64."
 unfoldable pub held : Lent → MapOutcome → MapOutcome
 held l o = cond (leb (l .count) (length (l .places) / 4)) o (refused TooMany)

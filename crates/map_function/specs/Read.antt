@@ -1,4 +1,4 @@
--- What a map's own numbers tell. OpenUSD: PcpMapFunction::Identity, IsNull, IsIdentity, HasRootIdentity, GetTimeOffset.
+-- The properties of a map's struct. OpenUSD: PcpMapFunction::Identity, IsNull, IsIdentity, HasRootIdentity, GetTimeOffset.
 use Prim.Native.Nat.{ℕ}
 use mathlib.Core.Bool.{Bool, not, _&&_}
 use mathlib.Core.List.{List}
@@ -10,26 +10,27 @@ use Rattle.asking.specs.Asking.{Lent, lentList}
 use Rattle.maps.specs.Map.{Map, lentMap}
 use Rattle.map_function.specs.declared.MapFunction.{MapFunction}
 
--- the list that they name in lent memory, and the map
+-- The list of pairs of a map in lent memory.
 abbrev pub listOf : Text → List ℕ → MapFunction → Lent
 listOf store places f = lentList store places (f .count)
 
+-- The map in lent memory.
 abbrev pub mapOf : Text → List ℕ → MapFunction → Map
 mapOf store places f = lentMap store places (f .count) (f .«has_root_identity»)
 
--- it maps nothing: no pairs and no mark
+-- The null map: no pairs and no mark.
 unfoldable pub isNull : MapFunction → Bool
 isNull f = eqb (f .count) 0 && not (f .«has_root_identity»)
 
--- it leaves every path as it is, whatever its time offset (Rust: path_is_identity)
+-- The identity on paths, whatever its time offset (Rust: path_is_identity).
 unfoldable pub isPathIdentity : MapFunction → Bool
 isPathIdentity f = eqb (f .count) 0 && f .«has_root_identity»
 
--- it changes neither path nor time
+-- The identity on both paths and times.
 unfoldable pub isIdentityMap : MapFunction → Bool
 unfolding isPathIdentity isIdentity
 isIdentityMap f = isPathIdentity f && isIdentity (f .«time_offset»)
 
--- with its time offset replaced
+-- The map with its time offset replaced.
 abbrev pub timedMap : MapFunction → LayerOffset → MapFunction
 timedMap f time = record { count = f .count; «has_root_identity» = f .«has_root_identity»; «time_offset» = time }

@@ -1,4 +1,5 @@
-// A map and its own numbers, and how pairs become a map in lent memory.
+// The map type (MapFunction of the Rust pcp/mapping.rs), and building a map in canonical form in lent
+// memory. The pairs of a map are in buffers that the caller lends; the struct holds the rest.
 ghost use mathlib.Core.Path.{_≡_};
 ghost use Rattle.pairs.specs.Places.{pairsIn};
 ghost use Rattle.asking.specs.Asking.{lentList};
@@ -7,15 +8,18 @@ ghost use Rattle.layer_offset.specs.Offset.{identity as noOffset};
 ghost use Rattle.map_function.specs.Read.{isNull, isPathIdentity, isIdentityMap, timedMap};
 ghost use Rattle.map_function.specs.Made.{numbersOf, GivesMap, held, asItIs, fromPartsOutcome};
 
-// A map: how many pairs of the lent list are its own, the root-identity mark, and the time offset.
+// A map without its pairs.
 pub struct MapFunction {
+    // Number of pairs of the lent list that belong to the map.
     pub count: usize,
+    // The root-identity mark: paths that no pair matches map to themselves.
     pub has_root_identity: bool,
+    // The time offset between source and target.
     pub time_offset: layer_offset::LayerOffset,
 }
 
 impl MapFunction {
-    // The map that leaves every path as it is.
+    // Returns the identity map: every path maps to itself.
     pub fn identity() -> Self
         ensures { λ r. ⌜ r ≡ numbersOf identity noOffset ⌝ }
     {
@@ -26,7 +30,7 @@ impl MapFunction {
         }
     }
 
-    // The map that maps nothing.
+    // Returns the null map: no path is mapped.
     pub fn null() -> Self
         ensures { λ r. ⌜ r ≡ numbersOf null noOffset ⌝ }
     {
@@ -37,7 +41,7 @@ impl MapFunction {
         }
     }
 
-    // Does it map nothing?
+    // Returns whether this is the null map.
     pub fn is_null(self) -> bool
         ensures { λ r. ⌜ r ≡ isNull self ⌝ }
     {
@@ -47,7 +51,7 @@ impl MapFunction {
         !self.has_root_identity
     }
 
-    // Does it leave every path as it is?
+    // Returns whether this is the identity on paths, whatever its time offset.
     pub fn path_is_identity(self) -> bool
         ensures { λ r. ⌜ r ≡ isPathIdentity self ⌝ }
     {
@@ -57,7 +61,7 @@ impl MapFunction {
         self.has_root_identity
     }
 
-    // Does it change neither path nor time?
+    // Returns whether this is the identity on both paths and times.
     pub fn is_identity(self) -> bool
         ensures { λ r. ⌜ r ≡ isIdentityMap self ⌝ }
     {
@@ -67,21 +71,21 @@ impl MapFunction {
         self.time_offset.is_identity()
     }
 
-    // Its mark.
+    // Returns the root-identity mark.
     pub fn has_root_identity(self) -> bool
         ensures { λ r. ⌜ r ≡ self .«has_root_identity» ⌝ }
     {
         self.has_root_identity
     }
 
-    // Its time offset.
+    // Returns the time offset.
     pub fn time_offset(self) -> layer_offset::LayerOffset
         ensures { λ r. ⌜ r ≡ self .«time_offset» ⌝ }
     {
         self.time_offset
     }
 
-    // The map with its time offset replaced; its pairs stay where they are.
+    // Returns the map with its time offset replaced; its pairs are unchanged.
     pub fn with_time_offset(self, offset: layer_offset::LayerOffset) -> Self
         ensures { λ r. ⌜ r ≡ timedMap self offset ⌝ }
     {
@@ -93,14 +97,14 @@ impl MapFunction {
     }
 }
 
-// The answer of a call that makes a map.
+// The reply of a call that builds a map.
 pub enum MapReply {
     Made(MapFunction),
     Refused(path::Refusal),
 }
 
-// The map of the first n pairs, written to out and slots. Questions 4 and 5 are put to the list
-// before anything is dropped. Rust: from_parts.
+// Builds the map of the first n pairs in canonical form, and writes its pairs to `out` and `slots`.
+// Questions 4 and 5 apply to the list before redundant pairs are dropped. Rust: from_parts.
 pub fn from_parts(
     store: &[u8],
     places: &[usize],
@@ -135,7 +139,7 @@ pub fn from_parts(
     })
 }
 
-// The first n pairs as they stand as a map, written to out and slots.
+// Builds the map of the first n pairs unchanged, and writes them to `out` and `slots`.
 pub fn as_it_is(
     store: &[u8],
     places: &[usize],

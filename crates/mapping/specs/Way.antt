@@ -1,4 +1,4 @@
--- The three calls that carry a path as one, and such a call on a list whose own questions were put before.
+-- The three calls that map a path as one definition, and the same call on a list that was validated before.
 use Prim.Native.Nat.{ℕ}
 use mathlib.Core.Bool.{true, false}
 use mathlib.Core.List.{List}
@@ -16,22 +16,22 @@ use Rattle.mapping.specs.declared.Way.{Way}
 use Rattle.mapping.specs.declared.Way.the-variants.{Out, Home, Translated}
 use Rattle.mapping.specs.Calls.{mapSourceToTargetCall, mapTargetToSourceCall, translateToTargetCall}
 
--- the call that goes this way
+-- The call that maps a path in this way.
 unfoldable pub wayCall : Way → Text → List ℕ → MapFunction → Text → ℕ → Outcome
 unfolding mapSourceToTargetCall mapTargetToSourceCall translateToTargetCall
 wayCall Out store places f p room = mapSourceToTargetCall store places f p room
 wayCall Home store places f p room = mapTargetToSourceCall store places f p room
 wayCall Translated store places f p room = translateToTargetCall store places f p room
 
--- what the code makes of a path once the questions have passed
+-- The outcome of the code for a path once validation has passed.
 unfoldable pub quickWay : Way → Map → Text → Outcome
 unfolding quick quickTranslate strip
 quickWay Out m p = quick false m p
 quickWay Home m p = quick true m p
 quickWay Translated m p = quickTranslate m (strip p)
 
--- the answer on the list is there, the path is asked, and the earlier refusal counts; where `list` is what the list's own questions give,
--- this is the call (proofs/WayLaws.antt)
+-- The call with `list`, the result of validating the list, given: the path is validated, and the refusal with the lower number decides. If
+-- `list` is the result for this list, this equals `wayCall` (proofs/WayLaws.antt).
 unfoldable pub afterList : Asked → Way → Text → List ℕ → MapFunction → Text → ℕ → Outcome
 unfolding earlierOf newCall answered quickWay
 afterList list way store places f p room = answered (earlierOf list (newCall p)) room (quickWay way (mapOf store places f) p)

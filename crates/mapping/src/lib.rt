@@ -1,5 +1,6 @@
-// Document 01's calls that carry a path through a map in lent memory: the questions in their order,
-// then the answer.
+// Calls that map a path through a map in lent memory. Ports map_source_to_target, map_target_to_source
+// and translate_to_target of MapFunction in the Rust pcp/mapping.rs. Each call validates in the order of
+// the questions; a refused call writes nothing.
 ghost use mathlib.Core.Path.{_≡_};
 ghost use Prim.Native.Nat.{_≤_};
 ghost use lib.ListN.{length};
@@ -11,17 +12,17 @@ ghost use Rattle.mapping.specs.Hand.{within, handed};
 ghost use Rattle.mapping.specs.Calls.{mapSourceToTargetCall, mapTargetToSourceCall, translateToTargetCall};
 ghost use Rattle.mapping.specs.Way.{wayCall, quickWay, afterList};
 
-// Which way a path goes through a map.
+// How a path is mapped.
 pub enum Way {
-    // as by `map_source_to_target`
+    // Plain mapping: `map_source_to_target`.
     Out,
-    // as by `map_target_to_source`
+    // Plain mapping backwards: `map_target_to_source`.
     Home,
-    // as by `translate_to_target`
+    // Translation: `translate_to_target`.
     Translated,
 }
 
-// Writes a path that was made in memory of the call's own; a refusal writes nothing.
+// Copies a path from the scratch buffer to the lent buffer; a refusal writes nothing.
 fn hand_out(r: path::Reply, made: &[u8; 255], out: &mut [u8]) -> path::Reply
     requires { ⌜ within r (length (now made)) ⌝ }
     ensures { λ a. ⌜ a ≡ r ⌝ }
@@ -35,7 +36,7 @@ fn hand_out(r: path::Reply, made: &[u8; 255], out: &mut [u8]) -> path::Reply
     r
 }
 
-// Plain mapping into lent memory.
+// Plain mapping into the lent buffer.
 fn map_out(
     store: &[u8],
     places: &[usize],
@@ -54,7 +55,7 @@ fn map_out(
     hand_out(r, &made, out)
 }
 
-// Translation of a path without selections into lent memory.
+// Translation of a path without selections into the lent buffer.
 fn translate_out(
     store: &[u8],
     places: &[usize],
@@ -72,7 +73,7 @@ fn translate_out(
     hand_out(r, &made, out)
 }
 
-// Translation into lent memory, the selections stripped first where there are any.
+// Translation into the lent buffer; the path's selections are stripped first, if it has any.
 fn translate_stripped(
     store: &[u8],
     places: &[usize],
@@ -96,7 +97,7 @@ fn translate_stripped(
     translate_out(store, places, n, mark, &plain[..k], out)
 }
 
-// One of the three ways into lent memory.
+// Maps the path into the lent buffer in one of the three ways.
 fn go(
     store: &[u8],
     places: &[usize],
@@ -117,8 +118,8 @@ fn go(
     }
 }
 
-// One of the three calls, where `list` is the answer that the list's own questions have got: only those
-// of the path are put here.
+// One of the three calls, given the result `list` of validating the list; only the path is validated
+// here. So a list can be validated once for many paths.
 pub fn carry_after(
     list: path::Asked,
     store: &[u8],
@@ -143,7 +144,7 @@ pub fn carry_after(
     go(store, places, count, mark, way, path, out)
 }
 
-// One of the three calls: the list's own questions, then the path's.
+// One of the three calls: validates the list, then the path.
 fn call(
     store: &[u8],
     places: &[usize],
@@ -159,7 +160,7 @@ fn call(
     carry_after(list, store, places, map, way, path, out)
 }
 
-// Where the map takes the path.
+// Maps the path from the source to the target namespace by plain mapping.
 pub fn map_source_to_target(
     store: &[u8],
     places: &[usize],
@@ -173,7 +174,7 @@ pub fn map_source_to_target(
     call(store, places, map, Way::Out, path, out)
 }
 
-// Where the map takes the path back to.
+// Maps the path from the target back to the source namespace by plain mapping.
 pub fn map_target_to_source(
     store: &[u8],
     places: &[usize],
@@ -187,7 +188,8 @@ pub fn map_target_to_source(
     call(store, places, map, Way::Home, path, out)
 }
 
-// Where the map takes the path without its selections, if the same pair takes it back.
+// Translates the path, without its selections, to the target namespace; no path if mapping the result
+// backwards would select another pair.
 pub fn translate_to_target(
     store: &[u8],
     places: &[usize],

@@ -1,4 +1,5 @@
--- Two maps as one: pairs are composed, not functions. OpenUSD: PcpMapFunction::Compose.
+-- The composition of two maps. It composes pairs, not functions, so the result may differ from applying one map after the other. OpenUSD:
+-- PcpMapFunction::Compose.
 use mathlib.Core.Bool.{Bool, true, false, cond, _&&_, _||_}
 use mathlib.Core.List.{List, [], _∷_, _++_, map}
 use mathlib.Core.Option.{Option, none, some, Option·getD}
@@ -7,43 +8,46 @@ use Rattle.pairs.specs.Pair.{Pair}
 use Rattle.maps.specs.Map.{Map, plainOut, plainHome}
 use Rattle.maps.specs.New.{fromParts}
 
--- the inner pair with its target carried through the outer map; "a None target becomes an empty one"
+-- The inner pair with its target mapped through the outer map. A target that does not map becomes empty, so that the source stays
+-- unmappable instead of falling back to a shorter pair. Requirements: "a None target becomes an empty one".
 unfoldable pub carried : Map → Pair → Pair
 unfolding plainOut
 carried outer x = record { source = x .source; target = cond (isNil (x .target)) [] (Option·getD (plainOut outer (x .target)) []) }
 
--- some pair has this source
+-- Some pair has the source s.
 unfoldable pub hasSource : List Pair → Text → Bool
 unfolding equal
 hasSource [] s = false
 hasSource (x ∷ xs) s = equal (x .source) s || hasSource xs s
 
--- a list with the pair of s and t behind it, where there is such an s and no pair has it yet
+-- The list with the pair of s and t appended, if there is an s and no pair has that source yet.
 unfoldable pub added : List Pair → Text → Option Text → List Pair
 unfolding hasSource
 added l t none = l
 added l t (some s) = cond (hasSource l s) l (l ++ record { source = s; target = t } ∷ [])
 
--- each outer pair whose source goes back through the inner map to a source that is not there yet
+-- The list with the outer pairs appended, each with its source mapped back through the inner map; a pair whose source does not map back, or
+-- maps to a source already in the list, is left out.
 unfoldable pub pulled : Map → List Pair → List Pair → List Pair
 unfolding added plainHome
 pulled inner l [] = l
 pulled inner l (x ∷ xs) = pulled inner (added l (x .target) (plainHome inner (x .source))) xs
 
+-- The list has no pairs.
 abbrev pub isEmpty : List Pair → Bool
 isEmpty [] = true
 isEmpty (x ∷ xs) = false
 
--- the mark alone, whatever the time offset (Rust: path_is_identity)
+-- The map has the mark and no pairs: it is the identity on paths, whatever its time offset (Rust: path_is_identity).
 abbrev pub isPathIdentity : Map → Bool
 isPathIdentity m = isEmpty (m .pairs) && m .mark
 
--- the list that dropping starts from
+-- The composed pairs before redundant ones are dropped.
 unfoldable pub composedPairs : Map → Map → List Pair
 unfolding pulled carried
 composedPairs outer inner = pulled inner (map (carried outer) (inner .pairs)) (outer .pairs)
 
--- Rust: compose; a side that leaves every path as it is gives the other
+-- The composition of an outer and an inner map (Rust: compose). If one of them is the identity on paths, the result is the other.
 unfoldable pub compose : Map → Map → Map
 unfolding composedPairs fromParts
 compose outer inner =

@@ -1,1 +1,2 @@
-// Maps of paths: definitions and theorems only (specs/, proofs/).
+// Path maps, the MapFunction of the Rust pcp/mapping.rs: definitions and theorems only (specs/,
+// proofs/), no code.
