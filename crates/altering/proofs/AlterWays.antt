@@ -1,4 +1,4 @@
--- What each way through the calls that make a map from a map gives. Assumes nothing.
+-- Lemmas for the branches of the calls that make a map from a map.
 use mathlib.Core.Path.{_≡_, refl}
 use mathlib.Core.Bool.{Bool, true, false, not, cond, _&&_}
 use mathlib.Core.List.{List, [], _∷_, map as mapped}
@@ -52,7 +52,7 @@ pub end-asked : (l : Lent) (s e : Text) → e ≡ [] → asked (l ∷ []) (s ∷
 unfolding asked every fits legal isEnd
 end-asked l s e h = rw h refl
 
--- `is_noop`
+-- Lemmas for `is_noop`.
 module _ (f : MapFunction) (l : List Pair) (a : Bool) (g : a ≡ isNull f) where
   pub noop-null : a ≡ true → false ≡ (not (isNull f) && (allSame l && isIdentity (f .«time_offset»)))
   noop-null h = rw (told g h) refl

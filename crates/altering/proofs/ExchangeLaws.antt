@@ -1,4 +1,4 @@
--- What `exchange` leaves, and which pairs are read there. Assumes nothing.
+-- What `exchange` leaves, and which pairs are read there.
 use mathlib.Core.Path.{_≡_, refl, sym, ap, _∙_}
 use mathlib.Core.List.{List, [], _∷_, _++_, append-assoc, map as mapped, map-append}
 use Prim.Native.Nat.{ℕ, zero, suc, _+_, _*_, _≤_, _<_}
@@ -23,7 +23,7 @@ module _ (places : List ℕ) where
   turned-length zero = refl
   turned-length (suc n) = omega (arith, length-append (turnedPlaces places n) (turned places n), turned-length n)
 
-  -- `exchange`
+  -- Lemmas for `exchange`.
   module _ (other : List ℕ) where
     pub exchange-beyond : (n : ℕ) → length places < 4 * n → other ≡ exchangedPlaces places n other
     unfolding exchangedPlaces

@@ -1,4 +1,4 @@
--- What each way through the functions that change a list gives. Assumes nothing.
+-- Lemmas for the branches of the functions that change a list.
 use mathlib.Core.Path.{_≡_, refl, sym, ap, _∙_}
 use mathlib.Core.Logic.{_≢_}
 use mathlib.Core.Bool.{Bool, true, false, not, cond, _&&_, _||_, true≢false}
@@ -20,7 +20,7 @@ use Rattle.maps.specs.Compose.{hasSource}
 use Rattle.maps.specs.Derive.{withoutSource}
 use Rattle.altering.specs.Calls.{allSame}
 
--- `without_source`
+-- Lemmas for `without_source`.
 without-append : (s : Text) (a b : List Pair) → withoutSource s (a ++ b) ≡ withoutSource s a ++ withoutSource s b
 unfolding withoutSource
 without-append s [] b = refl
@@ -91,7 +91,7 @@ without-all s (x ∷ l) h = go (equal (x .source) s) h (without-all s l)
     go true h ih = absurd (true≢false h)
     go false h ih = ap suc (ih h)
 
--- `all_same`
+-- Lemmas for `all_same`.
 same-append : (a b : List Pair) → allSame (a ++ b) ≡ (allSame a && allSame b)
 unfolding allSame
 same-append [] b = refl

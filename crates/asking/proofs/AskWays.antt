@@ -1,4 +1,4 @@
--- What each way through the functions that ask gives. Assumes nothing.
+-- Lemmas for the branches of the functions that ask.
 use mathlib.Core.Path.{_≡_, refl, sym, _∙_}
 use mathlib.Core.Bool.{Bool, true, false, not, _&&_, _||_}
 use mathlib.Core.List.{List, [], _∷_}

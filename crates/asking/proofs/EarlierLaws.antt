@@ -1,4 +1,4 @@
--- Questions put one list or text at a time: of their answers the earlier refusal counts. Assumes nothing.
+-- Questions put one list or text at a time: of their answers the earlier refusal counts.
 use mathlib.Core.Path.{_≡_, refl, sym, ap, _∙_}
 use mathlib.Core.Bool.{Bool, true, false, cond, _&&_}
 use mathlib.Core.List.{List, [], _∷_, _++_}
@@ -16,7 +16,7 @@ use Rattle.path.specs.Refusal.{number, allFit, allLegal, asked as askedTexts}
 use Rattle.path.specs.Calls.{newCall}
 use Rattle.asking.specs.Asking.{Lent, listFits, listAll, listCounts, every, firstNo, asked, earlierOf}
 
--- `earlier`
+-- Lemmas for `earlier`.
 module _ (a b : Asked) where
   pub earlier-passed : a ≡ Passed → b ≡ earlierOf a b
   unfolding earlierOf

@@ -1,4 +1,4 @@
--- What is made of a lent list, and when. Assumes nothing.
+-- What is made of a lent list, and when.
 use mathlib.Core.Path.{_≡_, refl, sym, _∙_}
 use mathlib.Core.Bool.{Bool, true, false, not}
 use mathlib.Core.List.{List, []}
@@ -14,7 +14,7 @@ use Rattle.asking.specs.Asking.{Lent, lentList, listCounts}
 use Rattle.asking.specs.Made.{canMake, madeOf}
 use Rattle.asking.proofs.PassLaws.{Sound}
 
--- `can_make`
+-- Lemmas for `can_make`.
 module _ (places : List ℕ) (count room : ℕ) where
   pub make-short : room < 256 → false ≡ canMake (lentList [] places count) room
   unfolding canMake

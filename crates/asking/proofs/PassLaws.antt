@@ -1,4 +1,4 @@
--- What lists and texts that passed questions 1 to 4 are. Assumes nothing.
+-- What lists and texts that passed questions 1 to 4 are.
 use mathlib.Core.Path.{_≡_, refl}
 use mathlib.Core.Bool.{Bool, true, false, _&&_}
 use mathlib.Core.List.{List, [], _∷_}

@@ -1,4 +1,4 @@
--- What each way through the functions that choose which pairs are kept gives. Assumes nothing.
+-- Lemmas for the branches of the functions that choose which pairs are kept.
 use mathlib.Core.Path.{_≡_, refl, sym, ap, _∙_}
 use mathlib.Core.Logic.{_≢_}
 use mathlib.Core.Bool.{Bool, true, false, not, cond, _||_}
@@ -35,7 +35,7 @@ use Rattle.maps.proofs.LentLaws.{served-long, out-keys, ends-by}
 use Rattle.canonical.specs.Kept.{elementsAt, mostElements, Keyed, keeps}
 use Rattle.pairs.proofs.BestLaws.{served}
 
--- `is_roots`
+-- Lemmas for `is_roots`.
 module _ (store : Text) (places : List ℕ) (i : ℕ) (k : Text) (e : k ≡ keyAt store places false i) (b : Bool) (h : b ≡ isRoot k) where
   source-told : b ≡ isRoot ((pairIn store places i) .source)
   source-told = h ∙ ap isRoot (e ∙ sym (source-key store places i))
@@ -46,7 +46,7 @@ module _ (store : Text) (places : List ℕ) (i : ℕ) (k : Text) (e : k ≡ keyA
   pub roots-both : not b ≡ false → (t : Text) → t ≡ keyAt store places true i → (c : Bool) → c ≡ isRoot t → c ≡ isRoots (pairIn store places i)
   roots-both l t f c m = rw (told-true source-told l) (m ∙ ap isRoot (f ∙ sym (target-key store places i)))
 
--- `any_roots`
+-- Lemmas for `any_roots`.
 any-append : (a b : List Pair) → anyRoots (a ++ b) ≡ (anyRoots a || anyRoots b)
 unfolding anyRoots
 any-append [] b = refl
@@ -84,7 +84,7 @@ module _ (store : Text) (places : List ℕ) where
 
 pub ruleset rooting = (any-found, any-on, any-none, any-end)
 
--- `fill_keys`
+-- Lemmas for `fill_keys`.
 module _ (store : Text) (places : List ℕ) where
   key-told : (i e : ℕ) (k : Text) → k ≡ keyAt store places false i → e ≡ elements k → e ≡ elementsAt store places i
   unfolding elementsAt
@@ -122,7 +122,7 @@ module _ (store : Text) (places : List ℕ) where
   pub most-end : (n i top : ℕ) → n ≤ i → i ≤ n → top ≡ mostElements store places i → top ≡ mostElements store places n
   most-end n i top h k e = let z : i ≡ n = omega arith in rw z at e
 
--- `is_implied`
+-- Lemmas for `is_implied`.
 module _ (store : Text) (kept : List ℕ) (n : ℕ) (mark : Bool) (s t : Text) (f : Found) (h : f ≡ foundOf (best s (keyAt store kept false) n)) where
   abbrev lent : Map
   lent = lentMap store kept n mark
@@ -166,7 +166,7 @@ module _ (store : Text) (kept : List ℕ) (n : ℕ) (mark : Bool) (s t : Text) (
     unfolding isText viaPair
     implied-mark l r m = m ∙ sym (implied-by none left-out ∙ rw (not-false mark l) refl)
 
--- `keep_pair`
+-- Lemmas for `keep_pair`.
 module _ (store : Text) (places : List ℕ) (i key e : ℕ) (mark : Bool) (kept : List ℕ) (w : ℕ) where
   abbrev pair : Pair
   pair = pairIn store places i
@@ -198,7 +198,7 @@ module _ (store : Text) (places : List ℕ) (i key e : ℕ) (mark : Bool) (kept 
       pub pair-kept : c ≡ false → (kept′ : List ℕ) → kept′ ≡ copied places i w kept → Leaves (w + 1) kept′
       pair-kept n kept′ p = rw (keeps-unless, n) (refl, p)
 
--- `is_marked`
+-- Lemmas for `is_marked`.
 pub marked-so : (mark any r : Bool) → mark ≡ false → r ≡ any → r ≡ (mark || any)
 marked-so mark any r h e = rw h e
 

@@ -1,4 +1,4 @@
--- The pairs that are kept, by their numbers, are those of the map. Assumes nothing.
+-- The pairs that are kept, by their numbers, are those of the map.
 use mathlib.Core.Path.{_≡_, refl, sym, ap, _∙_}
 use mathlib.Core.Bool.{Bool, true, false, not, cond}
 use mathlib.Core.List.{List, [], _∷_, _++_, map-append, append-nil}

@@ -1,4 +1,4 @@
--- Level after level is the stable sort by source elements. Assumes nothing.
+-- Level after level is the stable sort by source elements.
 use mathlib.Core.Path.{_≡_, refl, sym, ap, _∙_}
 use mathlib.Core.Bool.{Bool, true, false, cond, _&&_}
 use mathlib.Core.List.{List, [], _∷_, _++_, append-assoc, map, map-append}

@@ -1,4 +1,4 @@
--- What each way through `keep_level`, `canonicalize` and `canonical_places` gives. Assumes nothing.
+-- Lemmas for the branches of `keep_level`, `canonicalize` and `canonical_places`.
 use mathlib.Core.Path.{_≡_, refl, sym, ap, _∙_}
 use mathlib.Core.Bool.{Bool, true, false, not, cond, _&&_}
 use mathlib.Core.List.{List, [], _∷_, _++_, append-nil}
@@ -23,7 +23,7 @@ use Rattle.canonical.specs.Kept.{elementsAt, mostElements, others, ownLe
 use Rattle.canonical.proofs.LevelLaws.{level-append, levels-few}
 use Rattle.canonical.proofs.KeptLaws.{others-few, kept-append, kept-few}
 
--- `keep_level`
+-- Lemmas for `keep_level`.
 module _ (store : Text) (places : List ℕ) (e : ℕ) where
   abbrev first : ℕ → List ℕ
   first i = ownLevel store places e i
@@ -122,7 +122,7 @@ module _ (store : Text) (places : List ℕ) (e : ℕ) where
       pub level-end : (n i : ℕ) (kept : List ℕ) (w : ℕ) → n ≤ i → i ≤ n → After i kept w → After n kept w
       level-end n i kept w h k a = let z : i ≡ n = omega arith in rw z at a
 
--- `canonicalize`
+-- Lemmas for `canonicalize`.
 module _ (store : Text) (places : List ℕ) (n : ℕ) (mark : Bool) (kept₀ : List ℕ) where
   -- the pairs that are kept of the levels below e
   abbrev pub below : ℕ → List ℕ
@@ -163,7 +163,7 @@ module _ (store : Text) (places : List ℕ) (n : ℕ) (mark : Bool) (kept₀ : L
     pub top-room : (top : ℕ) → top ≤ e → e ≤ top → n ≤ 64 → 256 ≤ length kept → 4 * (w + length (ownLevel store places top n)) ≤ length kept
     top-room top k l m o = let z : top ≡ e = omega arith in rw z (levels-room m o)
 
--- `canonical_places`
+-- Lemmas for `canonical_places`.
 module _ (store : Text) (places : List ℕ) (n : ℕ) (mark : Bool) (kept : List ℕ) (b : Bool) (e : b ≡ canMake (lentList [] places n) (length kept)) where
   abbrev picks : List ℕ
   picks = canonicalPicks (lentList store places n) mark (length kept)

@@ -1,4 +1,4 @@
--- What each way through `carry`, `keep` and `map_text` gives. Assumes nothing.
+-- Lemmas for the branches of `carry`, `keep` and `map_text`.
 use mathlib.Core.Path.{_≡_, refl, sym, ap, _∙_}
 use mathlib.Core.Logic.{_≢_}
 use mathlib.Core.Bool.{Bool, true, false, not, cond}
@@ -69,7 +69,7 @@ module _ (s t p out : Text) (b : Bool) (h : b ≡ spoils t (restOf s p)) where
     unfolding joining
     carry-made r out′ w = rw unspoilt (rw (rest-whole p (length s)) at w)
 
--- `keep`
+-- Lemmas for `keep`.
 module _ (mark : Bool) (p out : Text) where
   pub keep-none : not mark ≡ true → (Refused NoPath ≡ reply (keeping mark p)) × (out ≡ memory (keeping mark p) out)
   unfolding keeping reply memory

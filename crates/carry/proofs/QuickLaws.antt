@@ -1,4 +1,4 @@
--- For ends and a legal path of at most 255 bytes the quick answers are those that the questions ask. Assumes nothing.
+-- For ends and a legal path of at most 255 bytes the quick answers are those that the questions ask.
 use mathlib.Core.Path.{_≡_, refl, sym, ap, _∙_}
 use mathlib.Core.Bool.{Bool, true, false, not, cond, _&&_, _||_, true≢false, false≢true}
 use mathlib.Core.List.{[], _∷_, _++_}

@@ -1,4 +1,4 @@
--- What each way through `finish`, `translate_marked`, `translate_pair` and `translate_text` gives. Assumes nothing.
+-- Lemmas for the branches of `finish`, `translate_marked`, `translate_pair` and `translate_text`.
 use mathlib.Core.Path.{_≡_, refl, sym, _∙_}
 use mathlib.Core.Logic.{_≢_}
 use mathlib.Core.Bool.{Bool, true, false, not, cond}
@@ -28,7 +28,7 @@ use Rattle.carry.specs.Quick.{finished, joining, keeping, translateMarke
 use Rattle.maps.proofs.LentLaws.{out-keys, home-keys, ends-by}
 use Rattle.text.proofs.TextLaws.{nil-length, nil-not}
 
--- `finish`
+-- Lemmas for `finish`.
 module _ (b : Bool) (q out : Text) where
   pub finish-spoilt : b ≡ true → (Refused MadeIllegal ≡ reply (finished b q)) × (out ≡ memory (finished b q) out)
   unfolding reply memory
@@ -43,7 +43,7 @@ module _ (store : Text) (places : List ℕ) (n : ℕ) (mark : Bool) (p : Text) w
   abbrev lent : Map
   lent = lentMap store places n mark
 
-  -- `translate_marked`
+  -- Lemmas for `translate_marked`.
   pub marked-none : not mark ≡ true → translateMarked lent p ≡ refused NoPath
   unfolding translateMarked
   marked-none k = rw (not-true mark k)
@@ -60,7 +60,7 @@ module _ (store : Text) (places : List ℕ) (n : ℕ) (mark : Bool) (p : Text) w
     unfolding translateMarked
     marked-kept k l = rw (found-none f (chosenHome lent p) home-is l, not-false mark k)
 
-  -- `translate_text`
+  -- Lemmas for `translate_text`.
   module _ (f : Found) (h : f ≡ foundOf (best p (keyAt store places false) n)) where
     out-is : f ≡ foundOf (chosenOut lent p)
     out-is = rw (out-keys store places n mark p) h

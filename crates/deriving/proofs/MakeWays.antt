@@ -1,4 +1,4 @@
--- What each way through `write_joined` gives, for a text j that was made in memory of 255 bytes. Assumes nothing.
+-- What each way through `write_joined` gives, for a text j that was made in memory of 255 bytes.
 use mathlib.Core.Path.{_≡_, refl, sym, _∙_}
 use mathlib.Core.Bool.{Bool, true, false, not}
 use Prim.Native.Nat.{ℕ, _≤_}

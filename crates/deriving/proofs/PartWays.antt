@@ -1,4 +1,4 @@
--- What each way through `parent`, `prim_path`, `split_property`, `strip_variant_selections` and `ancestors` gives. Assumes nothing.
+-- Lemmas for the branches of `parent`, `prim_path`, `split_property`, `strip_variant_selections` and `ancestors`.
 use mathlib.Core.Path.{_≡_, refl, sym, ap, _∙_}
 use mathlib.Core.Logic.{_≢_}
 use mathlib.Core.Bool.{Bool, true, false, cond}
@@ -61,7 +61,7 @@ cut-written p n m a h s l out out′ r e =
 pub cut-length : (p : Text) (n m : ℕ) → n ≡ m → m ≤ length p → n ≡ length (take n p)
 cut-length p n m a h = sym (length-take-le n p (omega arith))
 
--- `parent`
+-- Lemmas for `parent`.
 pub parent-empty : (p : Text) → length p ≡ 0 → parent p ≡ none
 unfolding parent
 parent-empty [] e = refl
@@ -77,13 +77,13 @@ unfolding parent
 parent-cut [] b d h k = absurd (d refl)
 parent-cut (a ∷ p) b d h k = rw (told h k)
 
--- `prim_path`
+-- Lemmas for `prim_path`.
 pub prim-written : (p : Text) (n : ℕ) → n ≡ primLen p → length p ≤ 255 → legal p ≡ true → (out out′ : Text) → 255 ≤ length out
     → out′ ≡ placed 0 (take n p) out → (Written n ≡ reply (made (primPath p))) × (out′ ≡ memory (made (primPath p)) out)
 unfolding primPath
 prim-written p n a s l out out′ r e = cut-written p n (primLen p) a (prim-len-le p) s (prim-legal p l) out out′ r e
 
--- `split_property`
+-- Lemmas for `split_property`.
 pub split-none : (p : Text) (b : Bool) → b ≡ lacks 46 p → b ≡ true → splitProperty p ≡ none
 unfolding splitProperty
 split-none p b h k = rw (told h k)
@@ -102,7 +102,7 @@ strip-written p out f s r h n out′ e l m =
     let o : out′ ≡ written (strip p) out = strip-memory p out f (omega arith) h n e out′ m in
     (ap (λ (x : ℕ). Written x) i ∙ w .0, o ∙ sym (placed-first (strip p) out (omega (arith, strip-shorter p))) ∙ w .1)
 
--- `ancestors`
+-- Lemmas for `ancestors`.
 module _ (lens out : Text) (f : Fit) (h : f ≡ fitted lens out) where
   pub listed-written : (n : ℕ) → f ≡ WrittenFit n → Written n ≡ cond (leb (length lens) (length out)) (Written (length lens)) (Refused NoRoom)
   listed-written n e =

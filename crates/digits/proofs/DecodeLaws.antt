@@ -1,4 +1,4 @@
--- What a text of digits stands for, read two digits at a time, and what each way through `are_digits` and `decode` gives. Assumes nothing.
+-- What a text of digits stands for, read two digits at a time, and what each way through `are_digits` and `decode` gives.
 use mathlib.Core.Path.{_≡_, refl, sym, ap}
 use mathlib.Core.Logic.{_≢_}
 use mathlib.Core.Bool.{Bool, true, false, not, _&&_, true≢false, false≢true}
@@ -18,7 +18,7 @@ use Rattle.digits.specs.Digits.{digit, joined, decoded}
 use Rattle.digits.specs.Calls.{hasValue, value, allDigits, decodeReply, decodeMemory}
 use Rattle.digits.specs.declared.Decoded.the-variants.{Bytes, Bad, Over}
 
--- `are_digits`
+-- Lemmas for `are_digits`.
 module _ (s : Text) (i : ℕ) (b : Bool) (f : b ≡ hasValue (digit (getD s i 0))) (e : allDigits s ≡ allDigits (drop i s)) where
   pub digits-on : i < length s → not b ≡ false → allDigits s ≡ allDigits (drop (i + 1) s)
   unfolding allDigits
@@ -91,7 +91,7 @@ all-some (a ∷ b ∷ s) (suc n) l e = go (digit a) (digit b) e (all-some s n (o
     go (some h) none k ih = absurd (false≢true k)
     go (some h) (some l) k ih = rw (← ih k)
 
--- `decode`
+-- Lemmas for `decode`.
 module _ (s out : Text) where
   odd-half : length s ≢ 2 * (length s / 2) → none ≡ decoded s
   odd-half d = odd-none s (λ n e. d (omega arith))

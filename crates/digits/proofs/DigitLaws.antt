@@ -1,4 +1,4 @@
--- The value of a byte, between two bytes that the code compares it with. Assumes nothing.
+-- The value of a byte, between two bytes that the code compares it with.
 use mathlib.Core.Path.{_≡_, refl}
 use mathlib.Core.Bool.{Bool, true, false, cond}
 use mathlib.Core.Option.{none, some}
@@ -26,7 +26,7 @@ within-low low high b e = leb-true low b (and-l (leb low b) (leb b high) e)
 pub within-high : (low high b : ℕ) → within low high b ≡ true → b ≤ high
 within-high low high b e = leb-true b high (and-r (leb low b) (leb b high) e)
 
--- `is_digit` and `value_of`
+-- Lemmas for `is_digit` and `value_of`.
 module _ (b : ℕ) where
   pub below-decimals : b < 48 → none ≡ digit b
   unfolding digit

@@ -1,4 +1,4 @@
--- The digits of bytes by their places, and what each way through `digit_of` and `encode` gives. Assumes nothing.
+-- The digits of bytes by their places, and what each way through `digit_of` and `encode` gives.
 use mathlib.Core.Path.{_≡_, refl, _∙_}
 use mathlib.Core.List.{[], _∷_}
 use Prim.Native.Nat.{ℕ, zero, suc, _+_, _-_, _*_, _/_, _%_, _≤_, _<_}
@@ -10,7 +10,7 @@ use Rattle.text.specs.Text.{Text, placed}
 use Rattle.text.proofs.WriteLaws.{put-begin, put-on, put-length, put-end, put-outside, put-over}
 use Rattle.digits.specs.Digits.{capital, encoded}
 
--- `digit_of`
+-- Lemmas for `digit_of`.
 pub digit-decimal : (v : ℕ) → v < 10 → 48 + v ≡ capital v
 digit-decimal v h = rw (lt-ltb v 10 h)
 
@@ -19,7 +19,7 @@ digit-capital v h = rw (le-ltb v 10 h)
 
 pub ruleset capitals = (digit-decimal, digit-capital)
 
--- `encode`
+-- Lemmas for `encode`.
 pub encoded-length : (t : Text) → length (encoded t) ≡ 2 * length t
 unfolding encoded
 encoded-length [] = refl

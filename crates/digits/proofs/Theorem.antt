@@ -1,4 +1,4 @@
--- The digits of bytes stand for those bytes, and the case of digits does not count. Assumes nothing.
+-- The digits of bytes stand for those bytes, and the case of digits does not count.
 use mathlib.Core.Path.{_≡_, refl, sym, ap, _∙_}
 use mathlib.Core.Bool.{Bool, true, false, cond}
 use mathlib.Core.List.{[], _∷_}

@@ -1,4 +1,4 @@
--- What each way through `is_within`, `is_identifier_start`, `is_identifier_cont` and `is_root` gives. Assumes nothing.
+-- Lemmas for the branches of `is_within`, `is_identifier_start`, `is_identifier_cont` and `is_root`.
 use mathlib.Core.Path.{_≡_, refl, sym}
 use mathlib.Core.Logic.{_≢_}
 use mathlib.Core.Bool.{Bool, true, false, _&&_}

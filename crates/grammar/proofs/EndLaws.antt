@@ -1,5 +1,4 @@
 -- An end is a text that is legal when `.` and `{` count as bytes that no path has, and what each way through `end_row` and `is_end` gives.
--- Assumes nothing.
 use mathlib.Core.Path.{_≡_, refl, sym, ap, _∙_}
 use mathlib.Core.Bool.{Bool, true, false, not, cond, _&&_, _||_}
 use mathlib.Core.List.{List, [], _∷_, map}
@@ -62,7 +61,7 @@ ends-by-plain (a ∷ r) = go (eqb a 47) refl
     go true h = rw (eqb-true a 47 h) (rest r)
     go false h = rw (h, other-head (eqb a 46 || eqb a 123) h)
 
--- `end_row`
+-- Lemmas for `end_row`.
 abbrev pub end-pack : ℕ → ℕ
 end-pack a = pack (plain a)
 
@@ -73,7 +72,7 @@ pub all-end-listed : upTo (listed end-pack end-arms) 256 ≡ true
 unfolding end-arms upper-1 lower-1 more-1 upper-2 lower-2 more-2 digits-1 digits-2 pack
 all-end-listed = refl
 
--- `is_end`
+-- Lemmas for `is_end`.
 module _ (p : Text) where
   pub end-none : length p ≡ 0 → true ≡ isEnd p
   end-none h = rw (ends-by-plain p) (none (map plain p) (length-map p plain ∙ h))

@@ -1,4 +1,4 @@
--- What a legal text and an end cannot be. Assumes nothing.
+-- What a legal text and an end cannot be.
 use mathlib.Core.Path.{_≡_, refl, sym, ap, _∙_}
 use mathlib.Core.Bool.{Bool, true, false, not, cond, _&&_, true≢false, false≢true}
 use mathlib.Core.List.{[], _∷_}

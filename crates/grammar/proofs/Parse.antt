@@ -1,4 +1,4 @@
--- What is accepted from a state is what can be left there of a path, written. Assumes nothing.
+-- What is accepted from a state is what can be left there of a path, written.
 use mathlib.Core.Path.{_≡_, refl, ap, _∙_}
 use mathlib.Core.Bool.{Bool, true, false, cond, false≢true}
 use mathlib.Core.List.{List, [], _∷_, _++_, append-assoc}

@@ -1,4 +1,4 @@
--- A path, written, is legal. Assumes nothing.
+-- A path, written, is legal.
 use mathlib.Core.Path.{_≡_, refl, ap, _∙_}
 use mathlib.Core.Bool.{true}
 use mathlib.Core.List.{List, [], _∷_, _++_}

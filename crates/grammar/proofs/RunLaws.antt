@@ -1,4 +1,4 @@
--- How the automaton reads: text after text, and from a dead state. Assumes nothing.
+-- How the automaton reads: text after text, and from a dead state.
 use mathlib.Core.Path.{_≡_, refl}
 use mathlib.Core.Bool.{true, false≢true}
 use mathlib.Core.List.{[], _∷_, _++_}

@@ -1,4 +1,4 @@
--- The numbers' rule, and what it says of the reading of a text. Assumes nothing.
+-- The numbers' rule, and what it says of the reading of a text.
 use mathlib.Core.Path.{_≡_, refl, sym, ap, _∙_}
 use mathlib.Core.Bool.{Bool, true, false, _&&_, _||_, false≢true}
 use mathlib.Core.List.{List, [], _∷_}

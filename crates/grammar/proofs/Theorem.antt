@@ -1,4 +1,4 @@
--- A text is legal exactly where it is some path, written. Assumes nothing.
+-- A text is legal exactly where it is some path, written.
 use mathlib.Core.Path.{_≡_, refl}
 use mathlib.Core.Bool.{true}
 use mathlib.Core.List.{[], _∷_}

@@ -1,4 +1,4 @@
--- Replacing a prefix, as a relation that can be read both ways. Assumes nothing.
+-- Replacing a prefix, as a relation that can be read both ways.
 use mathlib.Core.Path.{_≡_, refl, sym, _∙_}
 use mathlib.Core.Bool.{Bool, true, false, cond, true≢false, false≢true}
 use mathlib.Core.List.{[], _∷_, _++_, append-nil}

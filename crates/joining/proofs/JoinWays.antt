@@ -1,4 +1,4 @@
--- What each way through `is_child`, `is_bare`, `separator_len`, `body_at`, `is_spoilt`, `write_slash` and `join` gives. Assumes nothing.
+-- Lemmas for the branches of `is_child`, `is_bare`, `separator_len`, `body_at`, `is_spoilt`, `write_slash` and `join`.
 use mathlib.Core.Path.{_≡_, refl, sym, ap, _∙_}
 use mathlib.Core.Logic.{_≢_}
 use mathlib.Core.Bool.{Bool, true, false, not, cond, _&&_, _||_}
@@ -144,7 +144,7 @@ separator-short s t (a ∷ r) = one-byte (cond (isRoot s) (isRoot t) (not (isChi
 pub taken-length : (k : ℕ) → k ≤ 1 → k ≡ length {A = ℕ} (take k (47 ∷ []))
 taken-length k h = sym (length-take-le k (47 ∷ []) h)
 
--- `write_slash`
+-- Lemmas for `write_slash`.
 slash-taken : (k : ℕ) → k ≢ 0 → take {A = ℕ} k (47 ∷ []) ≡ 47 ∷ []
 slash-taken zero d = absurd (d refl)
 slash-taken (suc k) d = rw (take-nil k)
@@ -240,7 +240,7 @@ module _ (s t r out : Text) where
 
 pub ruleset joins = (child-slash, child-not, child-name, bare-root, bare-closed, separator-none, separator-roots, separator-root, separator-other, separator-bare, separator-slash, body-none, body-whole, body-root, body-slash, body-in, hangs-dot, hangs-open, spoils-none, spoils-not, spoils-empty, spoils-root)
 
--- `is_join`
+-- Lemmas for `is_join`.
 module _ (s t r x : Text) where
   join-equal : equal (joined s t r) x ≡ (starts t x && (starts (separator s t r) (drop (length t) x) && equal (body s r) (drop (length (separator s t r)) (drop (length t) x))))
   unfolding joined

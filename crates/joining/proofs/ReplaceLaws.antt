@@ -1,4 +1,4 @@
--- Laws of replacing a prefix. Assumes nothing.
+-- Laws of replacing a prefix.
 use mathlib.Core.Path.{_≡_, refl, sym, ap, _∙_}
 use mathlib.Core.Bool.{Bool, true, false}
 use mathlib.Core.List.{_++_}

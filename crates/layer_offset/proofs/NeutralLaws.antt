@@ -1,4 +1,4 @@
--- 1 in a product, and 0 in a sum: neutral, but that -0 + 0 is +0. Assumes nothing.
+-- 1 in a product, and 0 in a sum: neutral, but that -0 + 0 is +0.
 use mathlib.Core.Path.{_≡_, refl, sym, _∙_, subst}
 use mathlib.Core.Logic.{_⊎_, inl, inr}
 use mathlib.Core.Bool.{Bool, true, false, false≢true}

@@ -1,4 +1,4 @@
--- Laws of one float: what `is_finite`, `is_small` and `pattern` compute. Assumes nothing.
+-- Laws of one float: what `is_finite`, `is_small` and `pattern` compute.
 use mathlib.Core.Path.{_≡_, refl, sym, ap, _∙_, subst}
 use mathlib.Core.Bool.{Bool, true, false, not, false≢true}
 use Prim.Native.Nat.{ℕ, _+_, _*_, _<_}
@@ -23,7 +23,7 @@ unfolding sum round
 difference true a c h = rw (le-ltb a a (omega arith), sub-self a) (round-zero false c h)
 difference false a c h = rw (le-ltb a a (omega arith), sub-self a) (round-zero false c h)
 
--- `is_finite`
+-- Lemmas for `is_finite`.
 pub less-itself : (x : Float) → eq (sub binary64 x x) plusZero ≡ isFinite x
 unfolding eq sub add neg
 less-itself nan = refl

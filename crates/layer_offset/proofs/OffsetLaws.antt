@@ -1,4 +1,4 @@
--- Laws of time offsets. `Held` is true of every offset in memory: its numbers are floats that the format has. Assumes nothing.
+-- Laws of time offsets. `Held` is true of every offset in memory: its numbers are floats that the format has.
 use mathlib.Core.Path.{_≡_, refl, sym, subst}
 use mathlib.Core.Logic.{_⊎_, inl, inr, ⊎-elim}
 use mathlib.Core.Bool.{true}

@@ -1,4 +1,4 @@
--- Rounding gives back a number that the format holds. Assumes nothing.
+-- Rounding gives back a number that the format holds.
 use mathlib.Core.Path.{_≡_, sym, ap, _∙_}
 use mathlib.Core.Bool.{Bool, _&&_}
 use Prim.Native.Nat.{ℕ, zero, suc, _+_, _-_, _*_, _%_, _^_, _≤_, _<_}

@@ -1,4 +1,4 @@
--- What each way through a function gives: a test's answer p was found, and the value that it picks is returned. Assumes nothing.
+-- What each way through a function gives: a test's answer p was found, and the value that it picks is returned.
 use mathlib.Core.Path.{_≡_, sym, _∙_}
 use mathlib.Core.Bool.{Bool, true, false, not, cond, _&&_}
 use Prim.Native.Nat.{ℕ}

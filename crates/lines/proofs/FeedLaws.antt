@@ -1,5 +1,5 @@
 -- What a block, or the end of the input, makes of the line so far and the state. A block is taken apart where `stop` says: one line with
--- its newline, or a part of a line. Assumes nothing.
+-- its newline, or a part of a line.
 use mathlib.Core.Path.{_≡_, refl, sym, _∙_}
 use mathlib.Core.Bool.{Bool, true, false, cond}
 use mathlib.Core.List.{List, [], _∷_, _++_, append-assoc, append-nil}

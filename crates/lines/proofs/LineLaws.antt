@@ -1,4 +1,4 @@
--- The line so far grows, in memory, by the bytes that are added to it. Assumes nothing.
+-- The line so far grows, in memory, by the bytes that are added to it.
 use mathlib.Core.Path.{_≡_, refl, sym, ap, _∙_}
 use mathlib.Core.Bool.{Bool, true, false, cond}
 use mathlib.Core.List.{[], _∷_, _++_, append-assoc, append-nil}

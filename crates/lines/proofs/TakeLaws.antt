@@ -1,4 +1,4 @@
--- What each way through the functions gives. Assumes nothing.
+-- Lemmas for the branches of the functions.
 use mathlib.Core.Path.{_≡_, refl, sym}
 use mathlib.Core.Logic.{_≢_}
 use mathlib.Core.Bool.{Bool, true, false, cond}
@@ -13,7 +13,7 @@ use borrow.Author.Tests.{eq-eqb, ne-eqb, le-leb, lt-leb, leb-true, leb-false, lt
 use Rattle.text.specs.Text.{Text, placed}
 use Rattle.lines.specs.Taking.{stop, mostIn, lengthAfter, memoryAfter, takenOf, takenMemory}
 
--- `find_newline`
+-- Lemmas for `find_newline`.
 pub newline-on : (s : Text) (i : ℕ) → i < length s → getD s i 0 ≢ 10 → stop s ≡ i + stop (drop i s) → stop s ≡ i + 1 + stop (drop (i + 1) s)
 unfolding stop
 newline-on s i h d e =
@@ -40,7 +40,7 @@ stop-le (b ∷ s) = go (eqb b 10) (stop-le s)
     go true h = omega arith
     go false h = omega arith
 
--- `most_in`
+-- Lemmas for `most_in`.
 pub most-room : (room : ℕ) → room ≤ 4096 → room ≡ mostIn room
 unfolding mostIn
 most-room room h = rw (le-leb room 4096 h)
@@ -68,7 +68,7 @@ most-le room = go (leb room 4096) refl
     go true e = omega arith
     go false e = omega (arith, leb-false room 4096 e)
 
--- `add_to`
+-- Lemmas for `add_to`.
 module _ (room most n : ℕ) (s mem : Text) (e : most ≡ mostIn room) where
   too-long : most < n + length s → most + 1 ≡ lengthAfter (mostIn room) n (length s)
   unfolding lengthAfter
@@ -101,7 +101,7 @@ module _ (room most n : ℕ) (s mem : Text) (e : most ≡ mostIn room) where
 
 pub ruleset adds = (add-overlong, overlong-kept, add-over, over-kept, add-fits, fits-placed)
 
--- `take_line`
+-- Lemmas for `take_line`.
 pub part-length : (block : Text) (k : ℕ) → k ≡ stop block → k ≡ length (take k block)
 part-length block k e = sym (length-take-le k block (rw e (stop-le block)))
 

@@ -1,4 +1,4 @@
--- In whatever blocks the input comes, the answers are those to the lines of the whole. Assumes nothing.
+-- In whatever blocks the input comes, the answers are those to the lines of the whole.
 use mathlib.Core.Path.{_≡_, refl, sym, ap, _∙_}
 use mathlib.Core.Bool.{Bool, true, false, cond}
 use mathlib.Core.List.{List, [], _∷_, _++_, map, flatten, append-assoc, append-nil}

@@ -1,4 +1,4 @@
--- Copying the places of a pair. Assumes nothing.
+-- Copying the places of a pair.
 use mathlib.Core.Path.{_≡_, refl, _∙_}
 use mathlib.Core.List.{List, [], _∷_, _++_}
 use Prim.Native.Nat.{ℕ, zero, suc, _+_, _*_, _/_, _≤_, _<_}

@@ -1,4 +1,4 @@
--- Pairs that were picked are read back from memory. Assumes nothing.
+-- Pairs that were picked are read back from memory.
 use mathlib.Core.Path.{_≡_, refl, sym, ap, _∙_}
 use mathlib.Core.Bool.{Bool, true, false, cond}
 use mathlib.Core.List.{List, [], _∷_, _++_, append-assoc, flatMap}

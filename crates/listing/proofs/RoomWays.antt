@@ -1,4 +1,4 @@
--- What each way through `room_left` and `has_room` gives. Assumes nothing.
+-- Lemmas for the branches of `room_left` and `has_room`.
 use mathlib.Core.Path.{_≡_, refl, sym, ap, _∙_}
 use mathlib.Core.Bool.{Bool, true, false, cond}
 use mathlib.Core.List.{List, [], _∷_, _++_}
@@ -79,7 +79,7 @@ module _ (l : List Pair) (room : ℕ) (r : Room) (e : r ≡ roomLeft l room) whe
       go true z w = absurd (let x : _≡_ {A = ℕ} 0 1 = cc in omega arith)
       go false z w = leb-false (endBytes l) room z
 
-  -- `has_room`
+  -- Lemmas for `has_room`.
   pub room-yes : (left : ℕ) → r ≡ Left left → true ≡ leb (endBytes l) room
   room-yes left h = sym (le-leb (endBytes l) room (omega (arith, left-fits left h)))
 

@@ -1,4 +1,4 @@
--- What each way through `write_pair`, `append_list` and `write_list` gives. Assumes nothing.
+-- Lemmas for the branches of `write_pair`, `append_list` and `write_list`.
 use mathlib.Core.Path.{_≡_, refl, sym, ap, _∙_}
 use mathlib.Core.Bool.{Bool, true, false, not}
 use mathlib.Core.List.{List, [], _∷_, _++_, append-assoc, append-nil}
@@ -39,7 +39,7 @@ three-stored l j a b c h =
     let f : j + 2 ≡ suc (suc j) = omega arith in
     rw (e, f) (sets-eq v l j h ∙ append-assoc (take j l) v (drop (j + 3) l))
 
--- `write_four` and `copy_pair`
+-- Lemmas for `write_four` and `copy_pair`.
 module _ (w a b c d : ℕ) (slots : List ℕ) where
   pub four-over : length slots / 4 ≤ w → slots ≡ placed (4 * w) (a ∷ b ∷ c ∷ d ∷ []) slots
   unfolding placed

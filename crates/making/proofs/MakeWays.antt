@@ -1,4 +1,4 @@
--- What each way through the calls that make a map from pairs gives. Assumes nothing.
+-- Lemmas for the branches of the calls that make a map from pairs.
 use mathlib.Core.Path.{_≡_, refl}
 use mathlib.Core.Bool.{Bool, true, false}
 use mathlib.Core.List.{List, [], _∷_}

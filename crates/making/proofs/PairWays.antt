@@ -1,4 +1,4 @@
--- What storing a pair gives. Assumes nothing.
+-- What storing a pair gives.
 use mathlib.Core.Path.{_≡_, refl, ap, _∙_}
 use mathlib.Core.List.{List, [], _∷_, _++_, append-nil}
 use Prim.Native.Nat.{ℕ, _+_, _*_, _≤_}
@@ -12,7 +12,7 @@ use Rattle.pairs.specs.Places.{pairsIn, listText, listPlaces, fourOf}
 use Rattle.pairs.proofs.ListLaws.{read-back}
 use Rattle.listing.proofs.WriteWays.{over-over}
 
--- `store_pair`
+-- Lemmas for `store_pair`.
 module _ (s t store : Text) (places : List ℕ) (h : length s + length t ≤ length store) (k : 4 ≤ length places) where
   abbrev one : List Pair
   one = pair s t ∷ []

@@ -1,4 +1,4 @@
--- What each way through `from_parts` and `as_it_is` gives. Assumes nothing.
+-- Lemmas for the branches of `from_parts` and `as_it_is`.
 use mathlib.Core.Path.{_≡_, refl, sym, ap, _∙_}
 use mathlib.Core.Bool.{Bool, true, false, not, cond, _||_}
 use mathlib.Core.List.{List, [], _∷_}
@@ -34,7 +34,7 @@ pub refusing-map : (o : MapOutcome) (x : Refusal) → o ≡ refused x → (out :
 unfolding mapReply mapBytes mapSlots
 refusing-map o x e out slots = rw e (refl, (refl, refl))
 
--- `from_parts`
+-- Lemmas for `from_parts`.
 endBytes-weight : (l : List Pair) → endBytes l ≡ weight (λ (x : Pair). length (x .source) + length (x .target)) l
 unfolding endBytes weight
 endBytes-weight [] = refl

@@ -1,4 +1,4 @@
--- What each way through the functions that read a map's own numbers gives. Assumes nothing.
+-- Lemmas for the branches of the functions that read a map's own numbers.
 use mathlib.Core.Path.{_≡_, refl}
 use mathlib.Core.Logic.{_≢_}
 use mathlib.Core.Bool.{Bool, true, false, not}

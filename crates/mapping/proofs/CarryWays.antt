@@ -1,4 +1,4 @@
--- The calls that carry a path, as the code makes them. Assumes nothing.
+-- The calls that carry a path, as the code makes them.
 use mathlib.Core.Path.{_≡_, sym}
 use mathlib.Core.Bool.{true, false}
 use mathlib.Core.List.{List, [], _∷_}

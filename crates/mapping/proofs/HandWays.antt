@@ -1,4 +1,4 @@
--- What each way through `hand_out`, `map_out`, `translate_out` and `translate_stripped` gives. Assumes nothing.
+-- Lemmas for the branches of `hand_out`, `map_out`, `translate_out` and `translate_stripped`.
 use mathlib.Core.Path.{_≡_, refl, sym, ap, _∙_}
 use mathlib.Core.Bool.{Bool, true, false, cond, _&&_}
 use mathlib.Core.Option.{Option, none, some}
@@ -89,7 +89,7 @@ unfolding answered lent
 short-answered Passed room o h = short-cond (leb 255 room) o (refused NoRoom) (h refl) (short-refused NoRoom)
 short-answered (RefusedAsked x) room o h = short-refused x
 
--- `hand_out`
+-- Lemmas for `hand_out`.
 module _ (r : Reply) (made : Text) (p : within r (length made)) (n : ℕ) (e : r ≡ Written n) where
   pub hand-part : n ≡ length (take n made)
   hand-part = sym (length-take-le n made (rw e at p))
@@ -116,7 +116,7 @@ module _ (o : Outcome) (r : Reply) (buf made : Text) (h : r ≡ reply o) (m : ma
   pub made-out : (a : Reply) (out out′ : Text) → 255 ≤ length out → Short o → (a ≡ r) × (out′ ≡ handed r made out) → (a ≡ reply o) × (out′ ≡ memory o out)
   made-out a out out′ l s w = (w .0 ∙ h, w .1 ∙ rw (h, m) (goes out o l s))
 
--- `translate_stripped`
+-- Lemmas for `translate_stripped`.
 pub translate-plain : (m : Map) (p : Text) (b : Bool) → b ≡ lacks 123 p → b ≡ true → quickTranslate m (strip p) ≡ quickTranslate m p
 translate-plain m p b h k = ap (quickTranslate m) (strip-same p (told h k))
 

@@ -1,4 +1,4 @@
--- A call on a list whose own questions were put before is the call. Assumes nothing.
+-- A call on a list whose own questions were put before is the call.
 use mathlib.Core.Path.{_≡_, refl, sym, ap, _∙_}
 use mathlib.Core.Bool.{Bool, true, false, cond, _&&_}
 use mathlib.Core.List.{List, [], _∷_}
@@ -30,7 +30,7 @@ use Rattle.mapping.proofs.HandWays.{Short, short-quick, short-translate
 use Rattle.mapping.proofs.CarryWays.{out-asked, home-asked, translate-asked}
 use Rattle.asking.proofs.PassLaws.{empty-asked}
 
--- `go`
+-- Lemmas for `go`.
 module _ (way : Way) (m : Map) (p : Text) where
   pub way-out : way ≡ Out → quickWay way m p ≡ quick false m p
   unfolding quickWay
@@ -52,7 +52,7 @@ new-short p h = go (leb (length p) 255) refl h
     go true e k = leb-true (length p) 255 e
     go false e k = absurd (never TooLong k)
 
--- `carry_after`
+-- Lemmas for `carry_after`.
 pub after-length : (list : Asked) (p : Text) (n q : Asked) → n ≡ newCall p → q ≡ earlierOf list n → q ≡ Passed → length p ≤ 255
 after-length list p n q g h k = new-short p (none-earlier list (newCall p) (sym (h ∙ ap (earlierOf list) g) ∙ k) .1)
 

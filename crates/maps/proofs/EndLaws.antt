@@ -1,4 +1,4 @@
--- The ends of a map: what a list of ends says of each, and that a map made of ends has only ends. Assumes nothing.
+-- The ends of a map: what a list of ends says of each, and that a map made of ends has only ends.
 use mathlib.Core.Path.{_≡_, refl, sym, ap, _∙_}
 use mathlib.Core.Bool.{Bool, true, false, not, cond, _&&_}
 use mathlib.Core.List.{List, [], _∷_, map}

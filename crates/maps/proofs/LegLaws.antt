@@ -1,4 +1,4 @@
--- One leg, out and home: what comes out goes back to where it came from, and what goes there and back comes out. Assumes nothing.
+-- One leg, out and home: what comes out goes back to where it came from, and what goes there and back comes out.
 use mathlib.Core.Path.{_≡_, refl}
 use mathlib.Core.Logic.{_↔_}
 use mathlib.Core.Bool.{Bool, true, false, not, cond, false≢true}

@@ -1,4 +1,4 @@
--- A map in lent memory: the keys that code reads are its ends. Assumes nothing.
+-- A map in lent memory: the keys that code reads are its ends.
 use mathlib.Core.Path.{_≡_}
 use mathlib.Core.Bool.{Bool, true, false}
 use mathlib.Core.List.{List}

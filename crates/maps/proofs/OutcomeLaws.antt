@@ -1,4 +1,4 @@
--- What an outcome that is a path says, and what is one. Assumes nothing.
+-- What an outcome that is a path says, and what is one.
 use mathlib.Core.Path.{_≡_, refl, ap}
 use mathlib.Core.Bool.{Bool, true, false, cond}
 use mathlib.Core.Option.{Option, none, some}

@@ -1,5 +1,5 @@
 -- The exactness of a leg needs its hypothesis: with the mark and a pair whose source is empty, `/A` goes plainly out and back to itself,
--- and the leg answers 6. Assumes nothing.
+-- and the leg answers 6.
 use mathlib.Core.Path.{_≡_, refl, sym, _∙_}
 use mathlib.Core.Bool.{true}
 use mathlib.Core.List.{[], _∷_}

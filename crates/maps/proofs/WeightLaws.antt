@@ -1,4 +1,4 @@
--- A map made from pairs weighs no more than they, whatever each pair weighs: nothing is added to them. Assumes nothing.
+-- A map made from pairs weighs no more than they, whatever each pair weighs: nothing is added to them.
 use mathlib.Core.Path.{_≡_, refl, ap, _∙_}
 use mathlib.Core.Bool.{Bool, true, false, cond, _&&_, _||_}
 use mathlib.Core.List.{List, [], _∷_, _++_, map}

@@ -1,4 +1,4 @@
--- What the chosen key is: of those that pass the test one with most elements, and the last such. Assumes nothing.
+-- What the chosen key is: of those that pass the test one with most elements, and the last such.
 use mathlib.Core.Path.{_≡_, refl, sym, _∙_}
 use mathlib.Core.Bool.{Bool, true, false, cond, _&&_, false≢true, not}
 use mathlib.Core.Option.{Option, none, some}

@@ -1,4 +1,4 @@
--- A list that was written is read back as it was. Assumes nothing.
+-- A list that was written is read back as it was.
 use mathlib.Core.Path.{_≡_, refl, sym, _∙_}
 use mathlib.Core.List.{List, [], _∷_, _++_, append-assoc}
 use Prim.Native.Nat.{ℕ, zero, suc, _+_, _*_, _<_}

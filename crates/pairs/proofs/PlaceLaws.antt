@@ -1,4 +1,4 @@
--- The list in lent memory, pair by pair. Assumes nothing.
+-- The list in lent memory, pair by pair.
 use mathlib.Core.Path.{_≡_, refl, ap, _∙_}
 use mathlib.Core.Bool.{Bool, true, false, cond, _&&_, _||_}
 use mathlib.Core.List.{List, [], _∷_, _++_}

@@ -1,4 +1,4 @@
--- What each way through `text_at`, `key_at`, `fits_at`, `all_fit`, `all_legal` and `all_ends` gives. Assumes nothing.
+-- Lemmas for the branches of `text_at`, `key_at`, `fits_at`, `all_fit`, `all_legal` and `all_ends`.
 use mathlib.Core.Path.{_≡_, refl, sym}
 use mathlib.Core.Bool.{Bool, true, false, not, cond}
 use mathlib.Core.List.{List, []}

@@ -1,4 +1,4 @@
--- The ancestors of legal paths: they are legal, they end at `/` or the empty path, and there are at most 128. Assumes nothing.
+-- The ancestors of legal paths: they are legal, they end at `/` or the empty path, and there are at most 128.
 use mathlib.Core.Path.{_≡_, refl, _∙_}
 use mathlib.Core.Bool.{Bool, true, false, cond, false≢true}
 use mathlib.Core.List.{List, [], _∷_}

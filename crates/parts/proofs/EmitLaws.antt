@@ -1,4 +1,4 @@
--- What each way through the functions that write a text without its selections gives. Assumes nothing.
+-- Lemmas for the branches of the functions that write a text without its selections.
 use mathlib.Core.Path.{_≡_, refl, sym, ap, _∙_}
 use mathlib.Core.Logic.{_≢_}
 use mathlib.Core.Bool.{Bool, true, false, not}
@@ -19,14 +19,14 @@ use Rattle.parts.specs.Strip.{piece, turned, stripFrom, strip, stripFit,
 use Rattle.parts.proofs.StripLaws.{piece-short}
 use Rattle.text.proofs.WriteLaws.{over-written, over-none}
 
--- `turns`
+-- Lemmas for `turns`.
 pub turned-inside : (m : Bool) (a : ℕ) → m ≡ true → not (eqb a 125) ≡ turned m a
 turned-inside m a h = rw h
 
 pub turned-outside : (m : Bool) (a : ℕ) → m ≡ false → eqb a 123 ≡ turned m a
 turned-outside m a h = rw h
 
--- `emit`
+-- Lemmas for `emit`.
 over-one : (j b : ℕ) (out : Text) → j < length out → set out j b ≡ over j (b ∷ []) out
 over-one j b out h = rw add-one (set-split out j b h)
 

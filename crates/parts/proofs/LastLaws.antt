@@ -1,4 +1,4 @@
--- Where the last part of a text begins, and what stands before it. Assumes nothing.
+-- Where the last part of a text begins, and what stands before it.
 use mathlib.Core.Path.{_≡_, refl, sym, ap, _∙_}
 use mathlib.Core.Bool.{Bool, true, false, cond, true≢false, false≢true}
 use mathlib.Core.List.{[], _∷_, _++_}

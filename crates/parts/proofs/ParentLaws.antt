@@ -1,4 +1,4 @@
--- Parents and prim paths of legal paths. Assumes nothing.
+-- Parents and prim paths of legal paths.
 use mathlib.Core.Path.{_≡_, refl, ap, _∙_}
 use mathlib.Core.Bool.{Bool, true, false, cond, _||_, false≢true}
 use mathlib.Core.List.{_∷_, _++_}

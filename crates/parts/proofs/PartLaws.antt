@@ -1,4 +1,4 @@
--- What each way through the functions that look for the last part gives. Assumes nothing.
+-- Lemmas for the branches of the functions that look for the last part.
 use mathlib.Core.Path.{_≡_, refl, sym, ap, _∙_}
 use mathlib.Core.Logic.{_≢_}
 use mathlib.Core.Bool.{Bool, true, false, not}
@@ -18,14 +18,14 @@ use Rattle.grammar.specs.Legal.{isIdentifierCont, startsName}
 use Rattle.parts.specs.Parent.{beginsAt, beginsBehind, partAt, lastPart, parentLen, primLen}
 use Rattle.parts.proofs.LastLaws.{no-part}
 
--- `starts_name`
+-- Lemmas for `starts_name`.
 pub name-none : (p : Text) (i : ℕ) → length p ≤ i → false ≡ startsName (drop i p)
 name-none p i h = rw (drop-of-length-le p h)
 
 pub name-some : (p : Text) (i : ℕ) (b : Bool) → i < length p → b ≡ isIdentifierCont (getD p i 0) → b ≡ startsName (drop i p)
 name-some p i b h e = rw (drop-cons p i 0 h) e
 
--- `begins_at`
+-- Lemmas for `begins_at`.
 more-behind : (p : Text) (i : ℕ) → ltb i (length p) ≡ not (isNil (drop i p))
 more-behind p i = go (ltb i (length p)) refl
   where
@@ -45,7 +45,7 @@ pub at-other : (r : Text) (a : ℕ) → a ≢ 47 → a ≢ 123 → eqb a 46 ≡ 
 unfolding beginsAt
 at-other r a d e = rw (ne-eqb a 47 d, ne-eqb a 123 e)
 
--- `begins_behind`
+-- Lemmas for `begins_behind`.
 pub behind-close : (r : Text) (a : ℕ) (b : Bool) → a ≡ 125 → b ≡ startsName r → b ≡ beginsBehind a r
 unfolding beginsBehind
 behind-close r a b h e = rw h e
@@ -106,7 +106,7 @@ parent-end p i h e = let k : i ≡ 0 = omega arith in rw (rw k at e)
 
 pub ruleset parents = (parent-first, parent-at, parent-behind, parent-on, parent-begin, parent-end)
 
--- `prim_len`
+-- Lemmas for `prim_len`.
 module _ (p : Text) (b c : Bool) (f : b ≡ lacks 46 p) where
   pub prim-property : (n : ℕ) → not b ≡ true → n ≡ parentLen p → n ≡ primLen p
   unfolding primLen

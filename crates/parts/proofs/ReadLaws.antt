@@ -1,4 +1,4 @@
--- How the automaton reads legal texts, and what it makes of the bytes of names. Assumes nothing.
+-- How the automaton reads legal texts, and what it makes of the bytes of names.
 use mathlib.Core.Path.{_≡_, refl, sym, _∙_}
 use mathlib.Core.Bool.{Bool, true, false, cond, true≢false}
 use mathlib.Core.List.{[], _∷_}

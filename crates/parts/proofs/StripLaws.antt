@@ -1,5 +1,5 @@
--- A text without its selections: it is no longer than the text, it is legal where the text is, it has no selection, and a text
--- without selections stays as it is; where memory has room for the text, it holds the stripped one. Assumes nothing.
+-- A text without its selections: it is no longer than the text, it is legal where the text is, it has no selection, and a text without
+-- selections stays as it is; where memory has room for the text, it holds the stripped one.
 use mathlib.Core.Path.{_≡_, refl, sym, ap, _∙_}
 use mathlib.Core.Bool.{Bool, true, false, cond, false≢true}
 use mathlib.Core.List.{[], _∷_}

@@ -1,4 +1,4 @@
--- What each way through the functions that go from parent to parent gives. Assumes nothing.
+-- Lemmas for the branches of the functions that go from parent to parent.
 use mathlib.Core.Path.{_≡_, refl, sym, ap, _∙_}
 use mathlib.Core.Logic.{_≢_}
 use mathlib.Core.Bool.{Bool, true, false, not}
@@ -18,7 +18,7 @@ use Rattle.parts.specs.Parent.{parentLen, hasParent, ancestorsIn, ancest
 use Rattle.parts.proofs.ParentLaws.{parent-len-le}
 use Rattle.parts.proofs.AncestorLaws.{lens-count, ancestors-none, ancestors-least, ancestors-some}
 
--- `has_parent`
+-- Lemmas for `has_parent`.
 pub parent-of-nil : (p : Text) → length p ≡ 0 → false ≡ hasParent p
 parent-of-nil [] h = refl
 parent-of-nil (a ∷ p) h = absurd (omega arith)

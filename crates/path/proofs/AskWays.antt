@@ -1,4 +1,4 @@
--- What each way through `all_fit`, `all_legal` and `ask` gives. Assumes nothing.
+-- Lemmas for the branches of `all_fit`, `all_legal` and `ask`.
 use mathlib.Core.Path.{_≡_}
 use mathlib.Core.Bool.{Bool, true, false, not}
 use mathlib.Core.List.{List, [], _∷_}

@@ -1,4 +1,4 @@
--- What each way through the calls gives. Assumes nothing.
+-- Lemmas for the branches of the calls.
 use mathlib.Core.Path.{_≡_, refl, ap}
 use Prim.Native.Nat.{ℕ, _≤_, _<_}
 use borrow.Author.Tests.{le-leb, lt-leb}

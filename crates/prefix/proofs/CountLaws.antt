@@ -1,4 +1,4 @@
--- Laws of the counts of elements, with selections or without. Assumes nothing.
+-- Laws of the counts of elements, with selections or without.
 use mathlib.Core.Path.{_≡_, refl}
 use mathlib.Core.Bool.{Bool, true, false, cond, _&&_, _||_, false≢true}
 use mathlib.Core.List.{[], _∷_, _++_}

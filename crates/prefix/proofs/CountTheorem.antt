@@ -1,4 +1,4 @@
--- The elements that a text counts are those of the path that it writes. Assumes nothing.
+-- The elements that a text counts are those of the path that it writes.
 use mathlib.Core.Path.{_≡_, refl, sym, ap, _∙_}
 use mathlib.Core.Bool.{Bool, true, false, cond, _&&_, true≢false, false≢true}
 use mathlib.Core.List.{List, [], _∷_, _++_, append-assoc}

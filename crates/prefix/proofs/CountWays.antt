@@ -1,4 +1,4 @@
--- What each way through `begins_at`, `plus_if` and `count` gives. Assumes nothing.
+-- Lemmas for the branches of `begins_at`, `plus_if` and `count`.
 use mathlib.Core.Path.{_≡_, refl}
 use mathlib.Core.Logic.{_≢_}
 use mathlib.Core.Bool.{Bool, true, false, not, cond}

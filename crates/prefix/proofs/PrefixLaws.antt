@@ -1,4 +1,4 @@
--- Laws of prefixes. Assumes nothing.
+-- Laws of prefixes.
 use mathlib.Core.Path.{_≡_, refl, sym, ap, _∙_}
 use mathlib.Core.Bool.{true, _||_, false≢true}
 use mathlib.Core.List.{[], _∷_, _++_, append-nil}

@@ -1,4 +1,4 @@
--- What each way through `is_boundary`, `is_bounded` and `has_prefix` gives. Assumes nothing.
+-- Lemmas for the branches of `is_boundary`, `is_bounded` and `has_prefix`.
 use mathlib.Core.Path.{_≡_, refl, sym}
 use mathlib.Core.Logic.{_≢_}
 use mathlib.Core.Bool.{Bool, true, false, not, _&&_, _||_}

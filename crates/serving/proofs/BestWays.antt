@@ -1,4 +1,4 @@
--- What each way through `does_serve`, `choose`, `consider` and `best_prefix` gives. Assumes nothing.
+-- Lemmas for the branches of `does_serve`, `choose`, `consider` and `best_prefix`.
 use mathlib.Core.Path.{_≡_, refl, sym, ap, _∙_}
 use mathlib.Core.Logic.{_≢_}
 use mathlib.Core.Bool.{Bool, true, false, not, cond, _||_, false≢true}
@@ -56,7 +56,7 @@ decides p s k h g = go (leb (length s) (length k)) refl
     go true e = sym (le-leb (elements s) (elements k) (no-fewer p s k h g (leb-true (length s) (length k) e)))
     go false e = rw (prefix-rest p s h .0, take-append-seam s (drop (length s) p))
 
--- `choose`
+-- Lemmas for `choose`.
 module _ (f : Kept) (p k : Text) (i : ℕ) where
   other : serves p k ≡ false → f ≡ considered f p k i
   unfolding considered
@@ -79,7 +79,7 @@ module _ (f : Kept) (p k : Text) (i : ℕ) where
       unfolding considered outdoes
       choose-more n = rw (told-true h l, lt-leb (f .bytes) (length k) m, ← e, ← d, le-leb y x n)
 
--- `lesser`
+-- Lemmas for `lesser`.
 pub least-first : (a b : ℕ) → a ≤ b → a ≡ least a b
 least-first a b h = rw (le-leb a b h)
 
@@ -107,7 +107,7 @@ below-one a b n l m = go (leb a b) refl
     go true e = absurd (omega (arith, rw e at l))
     go false e = rw e at l
 
--- `consider`
+-- Lemmas for `consider`.
 refused : (p k : Text) → (serves p k ≡ true → ⊥) → serves p k ≡ false
 refused p k h = go (serves p k) refl
   where
@@ -191,7 +191,7 @@ module _ (f : Kept) (p store : Text) (start n i : ℕ) where
     pub consider-chosen : (r : Kept) → r ≡ considered f p (take (start + n - start) (drop start store)) i → r ≡ considered f p (cut store start n) i
     consider-chosen r e = rw (cut-is p store start n limit k z l h) at e
 
--- `keys_held`
+-- Lemmas for `keys_held`.
 pub held-targets : (places : List ℕ) (n m : ℕ) (invert : Bool) → invert ≡ true → m ≡ least n (length places / 2 / 2) → m ≡ least n (keysHeld places invert)
 unfolding keysHeld
 held-targets places n m invert h e = let z : length places / 2 + 0 ≡ length places / 2 = omega arith in rw (h, z) e

@@ -1,4 +1,4 @@
--- What the reply to a search says of the choice. Assumes nothing.
+-- What the reply to a search says of the choice.
 use mathlib.Core.Path.{_≡_, refl, sym, ap, _∙_}
 use mathlib.Core.Bool.{true, false, false≢true}
 use mathlib.Core.Option.{Option, none, some}

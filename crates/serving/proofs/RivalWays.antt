@@ -1,4 +1,4 @@
--- What each way through `does_beat`, `is_rival` and `is_best` gives. Assumes nothing.
+-- Lemmas for the branches of `does_beat`, `is_rival` and `is_best`.
 use mathlib.Core.Path.{_≡_, refl, sym, _∙_}
 use mathlib.Core.Logic.{_≢_}
 use mathlib.Core.Bool.{Bool, true, false, not, cond, _&&_, _||_, false≢true, true≢false}
@@ -19,7 +19,7 @@ use Rattle.pairs.specs.Best.{serves, best}
 use Rattle.pairs.proofs.BestLaws.{Best, Says, best-says}
 use Rattle.serving.proofs.BestWays.{serves-empty, cut-none, cut-long, cut-outside, cut-differs, cut-is, key-is, key-behind, least-left}
 
--- `does_beat`
+-- Lemmas for `does_beat`.
 module _ (p t : Text) (before : Bool) (key : Text) (b : Bool) (h : b ≡ serves p t) where
   pub beats-not : not b ≡ true → false ≡ beats p t before key
   unfolding beats
@@ -34,7 +34,7 @@ module _ (p t : Text) (before : Bool) (key : Text) (b : Bool) (h : b ≡ serves 
     unfolding beats
     beats-behind g = rw (told-true h k, g, e, f)
 
--- `is_rival`
+-- Lemmas for `is_rival`.
 no-rival : (p t : Text) (k i : ℕ) (key : Text) → serves p t ≡ false → false ≡ rivals p t k i key
 unfolding rivals beats
 no-rival p t k i key h = rw h (sym (and-no (not (eqb k i))))
@@ -82,7 +82,7 @@ pub unrivalled-on : (p : Text) (key : ℕ → Text) (i k : ℕ) (b : Bool) (t s 
 unrivalled-on p key i k b t s e f r n u =
     record { so-far = λ m h. elim (ℕ-discrete m k) [ yes q ↦ rw q (rw (e, f) at (told r n)) | no d ↦ u .so-far m (omega arith) ] }
 
--- `is_best`
+-- Lemmas for `is_best`.
 module _ (p : Text) (key : ℕ → Text) (n i : ℕ) where
   pub best-behind : n ≤ i → false ≡ isAt i (best p key n)
   unfolding Says

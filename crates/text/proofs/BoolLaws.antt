@@ -1,4 +1,4 @@
--- Tests: what a conjunction, a negation and a computed test over a range of numbers say. Assumes nothing.
+-- Tests: what a conjunction, a negation and a computed test over a range of numbers say.
 use mathlib.Core.Path.{_≡_, refl, sym, _∙_}
 use mathlib.Core.Bool.{Bool, true, false, not, _&&_, _||_, false≢true}
 use Prim.Native.Nat.{ℕ, zero, suc, _<_}

@@ -1,4 +1,4 @@
--- Laws of texts, and what each way through the comparing functions gives. Assumes nothing.
+-- Laws of texts, and what each way through the comparing functions gives.
 use mathlib.Core.Path.{_≡_, refl, sym, ap, _∙_}
 use mathlib.Core.Logic.{_≢_}
 use mathlib.Core.Bool.{Bool, true, false, not, cond, _&&_, true≢false}
@@ -50,7 +50,7 @@ starts-long s p h = go (after s p) refl
     go none e = absurd (true≢false (sym h ∙ ap isSome e))
     go (some r) e = rw (after-up s p r e, length-append s r) (omega arith)
 
--- `starts_with`
+-- Lemmas for `starts_with`.
 pub starts-shorter : (s p : Text) → length p < length s → false ≡ starts s p
 starts-shorter s p h = go (starts s p) refl
   where
@@ -95,7 +95,7 @@ pub starts-end : (s p : Text) (i : ℕ) (same : Bool) → length s ≤ i → sta
 unfolding starts after
 starts-end s p i same l e = rw (e, drop-of-length-le s l) (sym (and-yes same))
 
--- `is_equal`
+-- Lemmas for `is_equal`.
 pub equal-lengths : (a b : Text) → length a ≢ length b → false ≡ equal a b
 unfolding equal
 equal-lengths [] [] d = absurd (d refl)
@@ -137,7 +137,7 @@ unfolding equal
 equal-self [] = refl
 equal-self (x ∷ a) = rw (eqb-self x) (equal-self a)
 
--- `last_is`
+-- Lemmas for `last_is`.
 -- a text is s and then r exactly where it starts with s and r is what follows
 pub equal-append : (s r t : Text) → equal (s ++ r) t ≡ (starts s t && equal r (drop (length s) t))
 unfolding equal starts after

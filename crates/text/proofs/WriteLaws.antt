@@ -1,4 +1,4 @@
--- What copying leaves in lent memory. Assumes nothing.
+-- What copying leaves in lent memory.
 use mathlib.Core.Path.{_≡_, refl, sym, ap, _∙_}
 use mathlib.Core.Bool.{Bool, true, false, cond}
 use mathlib.Core.List.{_++_, append-assoc, List, []}
@@ -14,7 +14,7 @@ use Rattle.text.specs.Text.{Text, written, placed, fitted, over}
 use Rattle.text.specs.declared.Fit.{Fit}
 use Rattle.text.specs.declared.Fit.the-variants.{Written, Over}
 
--- `write_at`
+-- Lemmas for `write_at`.
 pub put-begin : (d : Text) (at : ℕ) (s : Text) → d ≡ paste d at s 0
 put-begin d at s = paste-zero d at s
 

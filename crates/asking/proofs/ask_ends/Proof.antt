@@ -6,16 +6,10 @@ use Rattle.asking.proofs.ask_ends.Tie as tie
 use Rattle.asking.proofs.ask_ends.Reads as reads
 use Rattle.asking.proofs.ask_ends.Lts as lts
 use Rattle.asking.proofs.ask_list.Reads as ask-list-reads
-
--- src/lib.rt:137:17
 slice-aggregate-ask-list : tie.Need-slice-aggregate-ask-list
 slice-aggregate-ask-list c = search needs
-
--- src/lib.rt:137:5
 ask-list-requires : tie.Need-ask-list-requires
 ask-list-requires c κs = search needs
-
--- src/lib.rt:133:1
 returns : tie.Need-returns
 returns c = c .ask-list .ensures ∙ ask-empty _ _ _ _
 

@@ -6,16 +6,10 @@ use Rattle.asking.proofs.ask_pairs.Tie as tie
 use Rattle.asking.proofs.ask_pairs.Reads as reads
 use Rattle.asking.proofs.ask_pairs.Lts as lts
 use Rattle.asking.proofs.ask_list.Reads as ask-list-reads
-
--- src/lib.rt:128:9
 slice-aggregate-e : tie.Need-slice-aggregate-e
 slice-aggregate-e c = search needs
-
--- src/lib.rt:129:5
 ask-list-requires : tie.Need-ask-list-requires
 ask-list-requires c κs = search needs
-
--- src/lib.rt:125:1
 returns : tie.Need-returns
 returns c = c .ask-list .ensures ∙ ask-none _ _ refl
 

@@ -5,68 +5,36 @@ use Rattle.listing.proofs.copy_pair.Tie as tie
 use Rattle.listing.proofs.copy_pair.Reads as reads
 use Rattle.listing.proofs.copy_pair.Lts as lts
 use Rattle.listing.proofs.write_four.Reads as write-four-reads
-
--- src/lib.rt:201:9
 returns : tie.Need-returns
 returns c = copy-none _ _ _ _ (c .if1 .taken)
-
--- src/lib.rt:203:13
 mul-j : tie.Need-mul-j
 mul-j c = search needs
-
--- src/lib.rt:204:19
 mul-write-four : tie.Need-mul-write-four
 mul-write-four c = search needs
-
--- src/lib.rt:204:19
 shared-slice-read-write-four : tie.Need-shared-slice-read-write-four
 shared-slice-read-write-four c = search needs
-
--- src/lib.rt:204:37
 add-write-four : tie.Need-add-write-four
 add-write-four c = search needs
-
--- src/lib.rt:204:30
 mul-write-four-2 : tie.Need-mul-write-four-2
 mul-write-four-2 c = search needs
-
--- src/lib.rt:204:30
 shared-slice-read-write-four-2 : tie.Need-shared-slice-read-write-four-2
 shared-slice-read-write-four-2 c = search needs
-
--- src/lib.rt:204:52
 add-write-four-2 : tie.Need-add-write-four-2
 add-write-four-2 c = search needs
-
--- src/lib.rt:204:45
 mul-write-four-3 : tie.Need-mul-write-four-3
 mul-write-four-3 c = search needs
-
--- src/lib.rt:204:45
 shared-slice-read-write-four-3 : tie.Need-shared-slice-read-write-four-3
 shared-slice-read-write-four-3 c = search needs
-
--- src/lib.rt:204:67
 add-write-four-3 : tie.Need-add-write-four-3
 add-write-four-3 c = search needs
-
--- src/lib.rt:204:60
 mul-write-four-4 : tie.Need-mul-write-four-4
 mul-write-four-4 c = search needs
-
--- src/lib.rt:204:60
 shared-slice-read-write-four-4 : tie.Need-shared-slice-read-write-four-4
 shared-slice-read-write-four-4 c = search needs
-
--- src/lib.rt:204:5
 write-four-requires : tie.Need-write-four-requires
 write-four-requires c κs = search needs
-
--- src/lib.rt:197:1
 same-length : tie.Need-same-length
 same-length c = search needs
-
--- src/lib.rt:197:1
 returns-2 : tie.Need-returns-2
 returns-2 c = copy-some _ _ _ _ (c .before .before .before .before .before .before .before .before .if1 .left) _ (c .before .before .write-four .ensures)
 

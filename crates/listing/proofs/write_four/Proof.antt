@@ -6,64 +6,34 @@ use Rattle.listing.proofs.write_four.Statement.{statement}
 use Rattle.listing.proofs.write_four.Tie as tie
 use Rattle.listing.proofs.write_four.Reads as reads
 use Rattle.listing.proofs.write_four.Lts as lts
-
--- src/lib.rt:187:9
 returns : tie.Need-returns
 returns c = four-over _ _ _ _ _ _ (c .if1 .taken)
-
--- src/lib.rt:189:13
 mul-j : tie.Need-mul-j
 mul-j c = search needs
-
--- src/lib.rt:190:5
 mul-slots : tie.Need-mul-slots
 mul-slots c = search needs
-
--- src/lib.rt:190:5
 slice-write-slots : tie.Need-slice-write-slots
 slice-write-slots c = search needs
-
--- src/lib.rt:191:11
 add-slots : tie.Need-add-slots
 add-slots c = search needs
-
--- src/lib.rt:191:5
 mul-slots-2 : tie.Need-mul-slots-2
 mul-slots-2 c = search needs
-
--- src/lib.rt:191:5
 slice-write-slots-2 : tie.Need-slice-write-slots-2
 slice-write-slots-2 c = simp length-set (omega (arith, c .if1 .left))
-
--- src/lib.rt:192:11
 add-slots-2 : tie.Need-add-slots-2
 add-slots-2 c = search needs
-
--- src/lib.rt:192:5
 mul-slots-3 : tie.Need-mul-slots-3
 mul-slots-3 c = search needs
-
--- src/lib.rt:192:5
 slice-write-slots-3 : tie.Need-slice-write-slots-3
 slice-write-slots-3 c = simp length-set (omega (arith, c .if1 .left))
-
--- src/lib.rt:193:11
 add-slots-3 : tie.Need-add-slots-3
 add-slots-3 c = search needs
-
--- src/lib.rt:193:5
 mul-slots-4 : tie.Need-mul-slots-4
 mul-slots-4 c = search needs
-
--- src/lib.rt:193:5
 slice-write-slots-4 : tie.Need-slice-write-slots-4
 slice-write-slots-4 c = simp length-set (omega (arith, c .if1 .left))
-
--- src/lib.rt:183:1
 same-length : tie.Need-same-length
 same-length c = search needs
-
--- src/lib.rt:183:1
 returns-2 : tie.Need-returns-2
 returns-2 c = four-fits _ _ _ _ _ _ (c .if1 .left)
 
