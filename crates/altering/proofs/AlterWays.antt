@@ -1,4 +1,4 @@
--- Lemmas for the branches of the calls that make a map from a map.
+-- Lemmas for the branches of the calls that build a map from one map.
 use mathlib.Core.Path.{_≡_, refl}
 use mathlib.Core.Bool.{Bool, true, false, not, cond, _&&_}
 use mathlib.Core.List.{List, [], _∷_, map as mapped}
@@ -23,13 +23,13 @@ use Rattle.making.specs.Calls.{making}
 use Rattle.altering.specs.Calls.{allSame, inverseCall, withRootIdentityCall, droppingSourceCall, isNoopCall}
 use Rattle.altering.proofs.ListWays.{whole-without, without-all}
 
--- the map with the mark put to it, as the code makes it
+-- The map with its mark set, as the code builds it.
 module _ (l : List Pair) (mark : Bool) (time : LayerOffset) (out : Text) (slots : List ℕ) where
   pub marked-copy : weighed l (withRootIdentity (record { pairs = l; mark = mark })) time out slots ≡ asItIs l true time out slots
   unfolding withRootIdentity asItIs
   marked-copy = refl
 
--- the pairs without a source, where none has it and where one does
+-- The pairs without a source, if no pair has it and if one does.
 module _ (l : List Pair) (mark : Bool) (s : Text) (time : LayerOffset) (out : Text) (slots : List ℕ) where
   abbrev dropped : MapOutcome
   dropped = weighed (withoutSource s l) (droppingSource (record { pairs = l; mark = mark }) s) time out slots
@@ -47,7 +47,7 @@ module _ (l : List Pair) (mark : Bool) (s : Text) (time : LayerOffset) (out : Te
       go true k = refl
       go false k = absurd (h (without-all s l k))
 
--- the questions of a list and an end
+-- Validation of a list and an end.
 pub end-asked : (l : Lent) (s e : Text) → e ≡ [] → asked (l ∷ []) (s ∷ e ∷ []) (s ∷ e ∷ []) ≡ asked (l ∷ []) (s ∷ []) (s ∷ [])
 unfolding asked every fits legal isEnd
 end-asked l s e h = rw h refl
@@ -64,7 +64,7 @@ module _ (f : MapFunction) (l : List Pair) (a : Bool) (g : a ≡ isNull f) where
     pub noop-time : not b ≡ false → (c : Bool) → c ≡ isIdentity (f .«time_offset») → c ≡ (not (isNull f) && (allSame l && isIdentity (f .«time_offset»)))
     noop-time m c n = rw (told g h, told-true k m) n
 
--- the calls, opened
+-- The calls, unfolded.
 module _ (store : Text) (places : List ℕ) (f : MapFunction) (out : Text) (slots : List ℕ) where
   pub marked-opened : withRootIdentityCall store places f out slots
       ≡ making (asked (listOf store places f ∷ []) [] []) (pairsOf (listOf store places f)) (withRootIdentity (mapOf store places f)) (f .«time_offset») out slots

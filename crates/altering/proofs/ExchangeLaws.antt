@@ -1,4 +1,4 @@
--- What `exchange` leaves, and which pairs are read there.
+-- Lemmas about the numbers that `exchange` writes, and the pairs they stand for.
 use mathlib.Core.Path.{_≡_, refl, sym, ap, _∙_}
 use mathlib.Core.List.{List, [], _∷_, _++_, append-assoc, map as mapped, map-append}
 use Prim.Native.Nat.{ℕ, zero, suc, _+_, _*_, _≤_, _<_}
@@ -52,7 +52,7 @@ module _ (places : List ℕ) where
           let z : i ≡ n = omega arith in
           rw (le-leb (4 * n) (length places) h, le-leb (4 * n) (length other) g) (rw z at e)
 
-  -- where both sides have the pairs, the exchanged ones are read back
+  -- If both slices have the pairs, the exchanged pairs are read back.
   module _ (store : Text) where
     turned-at : (i : ℕ) (rest : List ℕ) (j k : ℕ) → j ≡ 4 * i + k → getD (turnedPlaces places i ++ rest) j 0 ≡ getD rest k 0
     turned-at i rest j k e = rw (e, ← (turned-length i)) (getD-append-add (turnedPlaces places i) rest k 0)

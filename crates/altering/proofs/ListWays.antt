@@ -70,7 +70,7 @@ module _ (store : Text) (places : List ℕ) (s : Text) where
   pub without-end : (n i w : ℕ) (kept : List ℕ) → n ≤ i → i ≤ n → pairsIn store kept w ≡ withoutSource s (pairsIn store places i) → pairsIn store kept w ≡ withoutSource s (pairsIn store places n)
   without-end n i w kept h k f = let z : i ≡ n = omega arith in rw z at f
 
--- nothing was dropped exactly where no pair has the source
+-- No pair was dropped exactly if no pair has the source.
 pub whole-without : (s : Text) (l : List Pair) → length (withoutSource s l) ≡ length l → (hasSource l s ≡ false) × (withoutSource s l ≡ l)
 unfolding withoutSource hasSource
 whole-without s [] h = (refl, refl)
@@ -132,7 +132,7 @@ module _ (store : Text) (places : List ℕ) where
   pub same-end : (n i : ℕ) → n ≤ i → i ≤ n → true ≡ allSame (pairsIn store places i) → true ≡ allSame (pairsIn store places n)
   same-end n i h k e = let z : i ≡ n = omega arith in rw z at e
 
--- how many are left of a list without a source
+-- The number of pairs of a list without a source.
 module _ (store : Text) (places kept : List ℕ) (s : Text) (n w : ℕ) (e : pairsIn store kept w ≡ withoutSource s (pairsIn store places n)) where
   left-length : length (withoutSource s (pairsIn store places n)) ≡ w
   left-length = sym (ap length e) ∙ pairsIn-length store kept w

@@ -1,4 +1,4 @@
--- Lemmas for the branches of the functions that ask.
+-- Lemmas for the branches of the functions that validate.
 use mathlib.Core.Path.{_≡_, refl, sym, _∙_}
 use mathlib.Core.Bool.{Bool, true, false, not, _&&_, _||_}
 use mathlib.Core.List.{List, [], _∷_}
@@ -25,7 +25,7 @@ pub held-part : (places : List ℕ) (count : ℕ) → length places / 4 < count 
 unfolding present
 held-part places count h = rw (lt-leb count (length places / 4) h)
 
--- question 1
+-- Lemmas for question 1.
 module _ (store : Text) (places : List ℕ) (count : ℕ) (p q : Text) where
   pub first-long : 255 < length p → false ≡ (every fits (p ∷ q ∷ []) && listFits (lentList store places count))
   unfolding every fits
@@ -40,7 +40,7 @@ module _ (store : Text) (places : List ℕ) (count : ℕ) (p q : Text) where
   unfolding every fits listFits present
   list-short h k n e r f = rw (le-leb (length p) 255 h, le-leb (length q) 255 k, ← e) f
 
--- questions 2 and 3
+-- Lemmas for questions 2 and 3.
 module _ (passes : Text → Bool) (store : Text) (places : List ℕ) (count : ℕ) (p q : Text) (a : Bool) (e : a ≡ passes p) where
   pub first-fails : not a ≡ true → false ≡ (every passes (p ∷ q ∷ []) && listAll passes (lentList store places count))
   unfolding every
@@ -56,7 +56,7 @@ module _ (passes : Text → Bool) (store : Text) (places : List ℕ) (count : �
     unfolding every listAll present
     list-passes k n g r i = rw (told-true e h, told-true f k, ← g) i
 
--- where the list has only ends, its texts are legal
+-- If a list has only ends, its texts are legal.
 ends-legal : (store : Text) (places : List ℕ) (n : ℕ) → placesAll isEnd store places n ≡ true → placesAll legal store places n ≡ true
 unfolding placesAll
 ends-legal store places zero h = refl
@@ -77,7 +77,7 @@ pub list-legal : (l : Lent) (p q : Text) (a : Bool) → a ≡ legal p → not a 
 unfolding every
 list-legal l p q a e h b f k ends o t = rw (told-true e h, told-true f k) (sym (rw t at o))
 
--- question 4
+-- Lemmas for question 4.
 module _ (places : List ℕ) (count : ℕ) where
   pub over-many : 64 < count → false ≡ listCounts (lentList [] places count)
   unfolding listCounts
@@ -116,7 +116,7 @@ both-second a b h = rw (not-false a h)
 
 pub ruleset asks = (held-all, held-part, first-long, second-long, over-many, no-1, no-2, no-3, no-4, all-pass, both-false, both-second)
 
--- the questions of one list, and of two
+-- Validation of one list, and of two.
 module _ (store : Text) (places : List ℕ) (count : ℕ) where
   pub one-list : (p q e f : Text) (a b c d : Bool) → a ≡ (every fits (p ∷ q ∷ []) && listFits (lentList store places count))
       → b ≡ (every legal (p ∷ q ∷ []) && listAll legal (lentList store places count))

@@ -1,4 +1,4 @@
--- Questions put one list or text at a time: of their answers the earlier refusal counts.
+-- Validating lists and texts one at a time: of their results, the refusal with the lower number decides.
 use mathlib.Core.Path.{_≡_, refl, sym, ap, _∙_}
 use mathlib.Core.Bool.{Bool, true, false, cond, _&&_}
 use mathlib.Core.List.{List, [], _∷_, _++_}
@@ -36,7 +36,7 @@ module _ (a b : Asked) where
       unfolding earlierOf
       earlier-second l = rw (h, k, ← e, ← f, lt-leb m n l)
 
--- both answers passed where the earlier of them is none
+-- Both results passed if the combined result is no refusal.
 pub never : (x : Refusal) → Refused x ≡ Passed → ⊥
 never x h = let z : _≡_ {A = ℕ} 0 1 = cc in omega arith
 
@@ -50,7 +50,7 @@ none-earlier (Refused x) (Refused y) h = absurd (go (leb (number x) (number y)) 
     go true k = never x k
     go false k = never y k
 
--- what one asks of two things is the earlier refusal of what one asks of each
+-- Validating two things yields the refusal with the lower number of the two results.
 one-passed : (a : Asked) → earlierOf a Passed ≡ a
 unfolding earlierOf
 one-passed Passed = refl
@@ -80,13 +80,13 @@ each false b c d true true false k = refl
 each false b c d true false e k = refl
 each false b c d false l e k = refl
 
--- a text beside lists
+-- A text together with lists.
 pub one-by-one : (ls : List Lent) (p : Text) → earlierOf (asked ls [] []) (newCall p) ≡ asked ls (p ∷ []) []
 unfolding asked newCall askedTexts allFit allLegal every firstNo
 one-by-one ls p =
     each (fits p && true) (legal p && true) true true (every listFits ls) (every (listAll legal) ls) (every (listAll isEnd) ls) (every listCounts ls)
 
--- one list more
+-- One more list.
 every-more : {A : Type 0} (f : A → Bool) (xs : List A) (x : A) → every f (xs ++ x ∷ []) ≡ (every f (x ∷ []) && every f xs)
 unfolding every
 every-more f [] x = sym (and-yes (f x && true))

@@ -1,4 +1,4 @@
--- What is made of a lent list, and when.
+-- Lemmas about the pairs that are copied from a lent list.
 use mathlib.Core.Path.{_≡_, refl, sym, _∙_}
 use mathlib.Core.Bool.{Bool, true, false, not}
 use mathlib.Core.List.{List, []}
@@ -24,7 +24,7 @@ module _ (places : List ℕ) (count room : ℕ) where
   unfolding canMake
   make-counted h r e = rw (le-leb 256 room h) (e ∙ sym (and-yes (listCounts (lentList [] places count))))
 
--- where it says yes, the pairs are there, at most 64, and so is the room
+-- If `can_make` returns true, the slice holds the pairs, there are at most 64, and the buffer has the capacity.
 module _ (places : List ℕ) (n room : ℕ) (b : Bool) (e : b ≡ canMake (lentList [] places n) room) (h : not b ≡ false) where
   pub made-all : (store : Text) (l : List Pair) → madeOf (lentList store places n) room l ≡ l
   unfolding madeOf canMake listCounts
@@ -46,7 +46,7 @@ module _ (places : List ℕ) (n room : ℕ) (b : Bool) (e : b ≡ canMake (lentL
   unfolding canMake
   made-room = leb-true 256 room (and-r (listCounts (lentList [] places n)) (leb 256 room) (told-true e h))
 
--- a list that passed questions 1 to 4 is one of which pairs can be made
+-- The pairs of a list that passed questions 1 to 4 can be copied.
 pub sound-made : (l : Lent) (room : ℕ) (x : List Pair) → Sound l → 256 ≤ room → madeOf l room x ≡ x
 unfolding madeOf canMake listCounts
 sound-made l room x s h = rw (le-leb (l .count) 64 (s .few), le-leb (l .count) (length (l .places) / 4) (s .held), le-leb 256 room h) refl

@@ -1,4 +1,4 @@
--- What lists and texts that passed questions 1 to 4 are.
+-- Properties of lists and texts that passed questions 1 to 4.
 use mathlib.Core.Path.{_≡_, refl}
 use mathlib.Core.Bool.{Bool, true, false, _&&_}
 use mathlib.Core.List.{List, [], _∷_}
@@ -15,7 +15,7 @@ use Rattle.pairs.proofs.PlaceLaws.{every-pairIn, fit-texts}
 use Rattle.path.specs.declared.Asked.the-variants.{Passed}
 use Rattle.asking.specs.Asking.{Lent, pairsOf, present, listFits, listAll, listCounts, every, firstNo, asked}
 
--- a list that passed: its pairs are all there, at most 64, with short ends
+-- A list that passed: the slice holds all its pairs, at most 64, with ends of at most 255 bytes.
 pub record Sound (l : Lent) : Type 0 where
   pub few : l .count ≤ 64
   pub held : l .count ≤ length (l .places) / 4
@@ -69,7 +69,7 @@ module _ (ls : List Lent) (ts es : List Text) (h : asked ls ts es ≡ Passed) wh
   counted-lists : every listCounts ls ≡ true
   counted-lists = answers .3
 
-  -- without the texts beside them the lists pass too
+  -- The lists also pass without the texts.
   pub lists-pass : asked ls [] [] ≡ Passed
   unfolding asked every firstNo
   lists-pass = rw (short-lists, and-r (every legal ts) (every (listAll legal) ls) (answers .1), end-lists, counted-lists) refl
@@ -83,7 +83,7 @@ module _ {A : Type 0} (f : A → Bool) (x : A) (xs : List A) (h : every f (x ∷
   unfolding every
   tail-passes = and-r (f x) (every f xs) h
 
--- the first list, the second, and the texts of a call that passed
+-- The first list, the second, and the texts of a call that passed.
 module _ (l : Lent) (ls : List Lent) (ts es : List Text) (h : asked (l ∷ ls) ts es ≡ Passed) where
   pub first-sound : Sound l
   first-sound =
@@ -114,7 +114,7 @@ pub second-short : (ls : List Lent) (p q : Text) (ts es : List Text) → asked l
 unfolding fits
 second-short ls p q ts es h = leb-true (length q) 255 (head-passes fits q ts (tail-passes fits p (q ∷ ts) (short-texts ls (p ∷ q ∷ ts) es h)))
 
--- a list's own questions may be put with an empty path, which passes them all
+-- A list may be validated together with an empty path, which passes every question.
 pub empty-asked : (l : Lent) → asked (l ∷ []) ([] ∷ []) [] ≡ asked (l ∷ []) [] []
 unfolding asked every fits legal
 empty-asked l = refl

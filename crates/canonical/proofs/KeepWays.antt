@@ -1,4 +1,4 @@
--- Lemmas for the branches of the functions that choose which pairs are kept.
+-- Lemmas for the branches of the functions that select the pairs to keep.
 use mathlib.Core.Path.{_≡_, refl, sym, ap, _∙_}
 use mathlib.Core.Logic.{_≢_}
 use mathlib.Core.Bool.{Bool, true, false, not, cond, _||_}
@@ -202,7 +202,7 @@ module _ (store : Text) (places : List ℕ) (i key e : ℕ) (mark : Bool) (kept 
 pub marked-so : (mark any r : Bool) → mark ≡ false → r ≡ any → r ≡ (mark || any)
 marked-so mark any r h e = rw h e
 
--- what `canonical_places` leaves, of at most 64 pairs in the slice, are the pairs of the map
+-- For at most 64 pairs that the slice holds, `canonical_places` writes the pairs of the map.
 pub pairs-made : (store : Text) (places : List ℕ) (n : ℕ) (l : List Pair) (mark : Bool) → n ≤ 64 → n ≤ length places / 4 → (marked : Bool) → marked ≡ (mark || anyRoots l)
     → (room : ℕ) → room ≡ 256 → (kept : List ℕ) (w : ℕ) → pairsIn store kept w ≡ madeOf (lentList store places n) room (canonical marked (noRoots l))
     → pairsIn store kept w ≡ (fromParts l mark) .pairs

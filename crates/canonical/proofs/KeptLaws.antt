@@ -1,4 +1,4 @@
--- The pairs that are kept, by their numbers, are those of the map.
+-- The kept pairs, by their indices, are the pairs of the map.
 use mathlib.Core.Path.{_≡_, refl, sym, ap, _∙_}
 use mathlib.Core.Bool.{Bool, true, false, not, cond}
 use mathlib.Core.List.{List, [], _∷_, _++_, map-append, append-nil}
@@ -53,7 +53,7 @@ module _ (store : Text) (places : List ℕ) where
       go true = append-nil (pairsAt store places before)
       go false = sym (map-append (pairIn store places) before (n ∷ []))
 
-  -- no source has more elements than the most
+  -- No source has more elements than the maximum.
   most-at : (n i : ℕ) → i < n → elementsAt store places i ≤ mostElements store places n
   unfolding mostElements
   most-at zero i h = absurd (omega arith)
@@ -66,7 +66,7 @@ module _ (store : Text) (places : List ℕ) where
       below-snoc (suc top) (pairsIn store places n) (pairIn store places n) (all-below n top (λ i h. f i (omega arith))) (omega (arith, f n (omega arith)))
 
   module _ (mark : Bool) where
-    -- dropping goes on from where it stands
+    -- Selecting from a concatenation is selecting from its parts one after another.
     pub kept-append : (k a b : List ℕ) → keptOf store places mark k (a ++ b) ≡ keptOf store places mark (keptOf store places mark k a) b
     unfolding keptOf
     kept-append k [] b = refl
@@ -104,7 +104,7 @@ module _ (store : Text) (places : List ℕ) where
         ∙ sym (sorted-levels e (noRoots (pairsIn store places n)) (below-noRoots e (pairsIn store places n) (all-below n (mostElements store places n) (most-at n)))))
         ∙ sym (canonical-keeps mark (noRoots (pairsIn store places n)))
 
-    -- what `canonical_places` leaves is read as the pairs of the map
+    -- The places that `canonical_places` writes are read as the pairs of the map.
     pub canonical-read : (n room : ℕ) (kept kept′ : List ℕ) (w : ℕ) → Holds places (canonicalPicks (lentList store places n) mark room) kept kept′ w
         → pairsIn store kept′ w ≡ madeOf (lentList store places n) room (canonical mark (noRoots (pairsIn store places n)))
     unfolding canonicalPicks madeOf

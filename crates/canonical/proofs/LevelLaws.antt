@@ -1,4 +1,4 @@
--- Level after level is the stable sort by source elements.
+-- The theorem that going through the levels in turn is the stable sort by source elements.
 use mathlib.Core.Path.{_≡_, refl, sym, ap, _∙_}
 use mathlib.Core.Bool.{Bool, true, false, cond, _&&_}
 use mathlib.Core.List.{List, [], _∷_, _++_, append-assoc, map, map-append}
@@ -15,7 +15,7 @@ use Rattle.maps.specs.Map.{chosenOut}
 use Rattle.maps.specs.New.{insert, sorted, via, implied, keep, canonical, isRoots, noRoots}
 use Rattle.canonical.specs.Level.{level, levels}
 
--- the levels of a list, whatever it holds
+-- The levels of a list of any type.
 module _ {A : Type 0} (key : A → ℕ) where
   level-nil : (e : ℕ) → level key e [] ≡ []
   unfolding level
@@ -38,13 +38,13 @@ module _ {A : Type 0} (key : A → ℕ) where
   levels-nil zero = refl
   levels-nil (suc e) = rw (levels-nil e, level-nil e)
 
-  -- one above the levels is in none of them
+  -- An item above the levels is in none of them.
   levels-above : (e : ℕ) (x : A) (l : List A) → e ≤ key x → levels key e (x ∷ l) ≡ levels key e l
   unfolding levels
   levels-above zero x l h = refl
   levels-above (suc e) x l h = rw (levels-above e x l (omega arith), level-out e x l (λ k. omega arith))
 
-  -- the levels hold each at most once
+  -- The levels contain each item at most once.
   more : (x : A) (e : ℕ) (l : List A) → length (levels key e (x ∷ l)) ≤ suc (length (levels key e l))
   unfolding levels
   more x zero l = omega arith
@@ -66,7 +66,7 @@ module _ {A : Type 0} (key : A → ℕ) where
       go true ih = ap (λ (z : List A). x ∷ z) ih
       go false ih = ih
 
--- the levels of what a list stands for
+-- The levels of a list after each item was mapped.
 module _ {A B : Type 0} (f : A → B) (key : B → ℕ) where
   level-map : (e : ℕ) (l : List A) → map f (level (λ (x : A). key (f x)) e l) ≡ level key e (map f l)
   unfolding level
@@ -86,11 +86,11 @@ module _ {A B : Type 0} (f : A → B) (key : B → ℕ) where
   levels-map (suc e) l =
       map-append f (levels (λ (x : A). key (f x)) e l) (level (λ (x : A). key (f x)) e l) ∙ rw (levels-map e l, level-map e l) refl
 
--- pairs, by the elements of their sources
+-- The key of a pair: the number of elements of its source.
 abbrev pub key : Pair → ℕ
 key x = elements (x .source)
 
--- `insert`, shut
+-- `insert`, as equations that do not unfold it further.
 insert-nil : (x : Pair) → insert x [] ≡ x ∷ []
 unfolding insert
 insert-nil x = refl
@@ -103,7 +103,7 @@ insert-on : (x y : Pair) (l : List Pair) → key y < key x → insert x (y ∷ l
 unfolding insert
 insert-on x y l h = rw (lt-leb (key x) (key y) h)
 
--- a pair passes a lower level, ..
+-- A pair is inserted after a lower level.
 pass : (x : Pair) (e : ℕ) (l b : List Pair) → e < key x → insert x (level key e l ++ b) ≡ level key e l ++ insert x b
 pass x e [] b h = rw (level-nil key e)
 pass x e (y ∷ l) b h = elim (ℕ-discrete (key y) e) [
@@ -120,7 +120,7 @@ pass-all x (suc e) l b h =
     ∙ ap (λ (z : List Pair). levels key e l ++ z) (pass x e l b (omega arith))
     ∙ sym (append-assoc (levels key e l) (level key e l) (insert x b))
 
--- .. stands before its own and before a higher one, ..
+-- A pair is inserted before its own level and before a higher one.
 first : (x : Pair) (e : ℕ) (l : List Pair) → key x ≤ e → insert x (level key e l) ≡ x ∷ level key e l
 first x e [] h = rw (level-nil key e) (insert-nil x)
 first x e (y ∷ l) h = elim (ℕ-discrete (key y) e) [
@@ -128,7 +128,7 @@ first x e (y ∷ l) h = elim (ℕ-discrete (key y) e) [
   | no k ↦ rw (level-out key e y l k) (first x e l h)
 ]
 
--- .. and what stands behind it stays behind it
+-- What follows the inserted pair still follows it.
 before : (x : Pair) (a b : List Pair) → insert x b ≡ x ∷ b → insert x (a ++ b) ≡ insert x a ++ b
 unfolding insert
 before x [] b h = h
@@ -145,7 +145,7 @@ insert-levels x (suc e) l h = elim (ℕ-discrete (key x) e) [
   | no k ↦ rw (levels-suc key e l, levels-suc key e (x ∷ l), level-out key e x l k, ← insert-levels x e l (omega arith)) (before x (levels key e l) (level key e l) (first x e l (omega arith)))
 ]
 
--- every source has fewer than e elements
+-- Every source has fewer than e elements.
 unfoldable pub Below : ℕ → List Pair → Type 0
 Below e [] = Unit {0}
 Below e (x ∷ l) = (elements (x .source) < e) × Below e l
@@ -164,7 +164,7 @@ noRoots-append (x ∷ a) b = go (isRoots x) (noRoots-append a b)
     go true ih = ih
     go false ih = ap (λ (z : List Pair). x ∷ z) ih
 
--- a single pair needs no rule of its own
+-- A single pair needs no rule of its own.
 lone : (mark : Bool) (x : Pair) → implied (record { pairs = []; mark = mark }) x ≡ (mark && equal (x .source) (x .target))
 unfolding implied via chosenOut
 lone true x = refl

@@ -28,7 +28,7 @@ module _ (store : Text) (places : List ℕ) (e : ℕ) where
   abbrev first : ℕ → List ℕ
   first i = ownLevel store places e i
 
-  -- the level of pair i alone
+  -- The level of pair i alone.
   abbrev alone : ℕ → List ℕ
   alone i = cond (isRoots (pairIn store places i)) [] (cond (eqb (elementsAt store places i) e) (i ∷ []) [])
 
@@ -55,7 +55,7 @@ module _ (store : Text) (places : List ℕ) (e : ℕ) where
   level-held w₀ n size i w room l f = omega (arith, own-grows n i (omega arith))
 
   module _ (mark : Bool) where
-    -- one pair more is looked at
+    -- One more pair is considered.
     one-more : (picks : List ℕ) (i : ℕ)
         → keptOf store places mark picks (alone i)
         ≡ cond (eqb (elementsAt store places i) e && (not (isRoots (pairIn store places i)) && not (implied (record { pairs = pairsAt store places picks; mark = mark }) (pairIn store places i)))) (picks ++ i ∷ []) picks
@@ -75,7 +75,7 @@ module _ (store : Text) (places : List ℕ) (e : ℕ) where
             flip false = refl
         go false false = refl
 
-    -- the w pairs that are kept are those from before, and at most those of the level
+    -- The w kept pairs are those from before, and at most those of the level.
     module _ (i key : ℕ) (kept : List ℕ) (w : ℕ) (k : key ≡ elementsAt store places i) where
       abbrev kept-here : Bool
       kept-here = keeps store places i key e mark kept w
@@ -100,7 +100,7 @@ module _ (store : Text) (places : List ℕ) (e : ℕ) where
             go false h g = omega (arith, own-grows (suc i) i (omega arith))
 
     module _ (kept₀ : List ℕ) (w₀ : ℕ) where
-      -- what memory holds after the first i pairs, whatever it held before
+      -- What the buffer holds after the first i pairs, whatever it held before.
       abbrev pub After : ℕ → List ℕ → ℕ → Type 0
       After i kept w = (picks old : List ℕ) → Holds places picks old kept₀ w₀ → Holds places (keptOf store places mark picks (first i)) old kept w
 
@@ -124,7 +124,7 @@ module _ (store : Text) (places : List ℕ) (e : ℕ) where
 
 -- Lemmas for `canonicalize`.
 module _ (store : Text) (places : List ℕ) (n : ℕ) (mark : Bool) (kept₀ : List ℕ) where
-  -- the pairs that are kept of the levels below e
+  -- The kept pairs of the levels below e.
   abbrev pub below : ℕ → List ℕ
   below e = keptOf store places mark [] (levels (elementsAt store places) e (others store places n))
 

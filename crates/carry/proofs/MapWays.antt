@@ -31,8 +31,7 @@ use Rattle.maps.specs.Map.{Map, lentMap, source, target}
 use Rattle.maps.proofs.LentLaws.{served-long, out-keys, home-keys, ends-by}
 use Rattle.carry.specs.Quick.{joining, keeping, quickBy, quick}
 
--- a text's length and whether it is empty
--- what a text that fits 255 bytes leaves, and one that does not
+-- The buffer after writing a text that fits 255 bytes, and one that does not.
 module _ (q out : Text) (f : Fit) (h : f ≡ fitted q out) (l : length out ≡ 255) where
   pub path-written : (n : ℕ) (out′ : Text) → f ≡ WrittenFit n → out′ ≡ placed 0 q out
       → (Written n ≡ reply (cond (fits q) (path q) (refused MadeTooLong))) × (out′ ≡ memory (cond (fits q) (path q) (refused MadeTooLong)) out)
@@ -49,7 +48,7 @@ module _ (q out : Text) (f : Fit) (h : f ≡ fitted q out) (l : length out ≡ 2
       let o : out′ ≡ out = rw (zero-add (length q), lt-leb (length q) (length out) r) at m in
       rw (lt-leb (length q) 255 (omega arith)) (refl, o)
 
--- `carry`: the rest as the code cuts it
+-- Lemmas for `carry`; the remainder as the code cuts it.
 abbrev restOf : Text → Text → Text
 restOf s p = take (length p - length s) (drop (length s) p)
 
@@ -84,7 +83,7 @@ module _ (mark : Bool) (p out : Text) where
   unfolding keeping reply memory fits
   keep-whole out′ k l e m = rw (not-false mark k, le-leb (length p) 255 l) (refl, m ∙ placed-first p out (omega arith))
 
--- `map_text`: the keys that the code reads are the ends of the map in lent memory
+-- Lemmas for `map_text`; the keys that the code reads are the ends of the map in lent memory.
 module _ (mark : Bool) (p : Text) (a a′ b b′ t t′ : ℕ → Text) where
   by-same : (o : Option ℕ) → ((i : ℕ) → o ≡ some i → (a i ≡ a′ i) × (b i ≡ b′ i) × (t i ≡ t′ i)) → quickBy mark a b t p o ≡ quickBy mark a′ b′ t′ p o
   unfolding quickBy

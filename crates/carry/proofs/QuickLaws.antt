@@ -1,4 +1,4 @@
--- For ends and a legal path of at most 255 bytes the quick answers are those that the questions ask.
+-- For ends and a legal path of at most 255 bytes, the outcomes of the code are those of the definitions with the questions.
 use mathlib.Core.Path.{_≡_, refl, sym, ap, _∙_}
 use mathlib.Core.Bool.{Bool, true, false, not, cond, _&&_, _||_, true≢false, false≢true}
 use mathlib.Core.List.{[], _∷_, _++_}
@@ -27,7 +27,7 @@ use Rattle.carry.specs.Quick.{joining, keeping, quickBy, quick, isNone, 
 use Rattle.maps.proofs.EndLaws.{ends-source, ends-target}
 use Rattle.grammar.proofs.LegalLaws.{short-fits}
 
--- a join that is spoilt is no longer than the path: nothing but `/` stands before the rest
+-- An illegal joined path is no longer than the original path: only `/` or nothing precedes the remainder.
 hang-child : (s : Text) (a : ℕ) → (eqb a 46 || eqb a 123) ≡ true → isChild s a ≡ false
 unfolding isChild isIdentifierCont isIdentifierStart
 hang-child s a h = go (eqb a 46) refl (eqb a 123) refl h
@@ -62,7 +62,7 @@ spoilt-short (c ∷ s) t (a ∷ r) n h = go (isRoot (c ∷ s)) refl
     go true e = rw e (simp length-append (omega (arith, one)))
     go false e = rw (e, hang-child (c ∷ s) a hang, length-append t (cond (eqb a 47) r (a ∷ r))) (omega (arith, one, unslashed (eqb a 47) a r))
 
--- the join of ends that the code makes, with questions 7 and 8 as they are asked
+-- The joined path of ends that the code builds, with questions 7 and 8 as defined.
 joining-made : (s t p : Text) → isEnd s ≡ true → isNil s ≡ false → isEnd t ≡ true → legal p ≡ true → length p ≤ 255 → hasPrefix p s ≡ true
     → joining s t (drop (length s) p) ≡ made (joined s t (drop (length s) p))
 unfolding joining made
@@ -109,7 +109,7 @@ module _ (m : Map) (a b : ℕ → Text) (p : Text) (ea : (i : ℕ) → isEnd (a 
   quick-given n none e = kept (m .mark)
   quick-given n (some i) e = let w = served p a n i e in carried i (isNil (target m i)) (w .0) (w .1)
 
--- the quick answers are the questions' answers
+-- The outcomes of the code are those of the definitions.
 module _ (m : Map) (p : Text) (em : allEnds (m .pairs) ≡ true) (lp : legal p ≡ true) (sp : length p ≤ 255) where
   pub quick-out : quick false m p ≡ given (plainOut m p)
   unfolding quick plainOut chosenOut
@@ -127,7 +127,7 @@ no-pair : (m : Map) (i : ℕ) → refused NoPath ≡ given (invertible m (some i
 unfolding given invertible
 no-pair m i = refl
 
--- translation of a path without selections
+-- Translation of a path without selections.
 joined-short : (s t r : Text) → length t ≤ 255 → length r ≤ 255 → length (joined s t r) ≤ 512
 joined-short s t r h k = rw (joined-length s t r) (omega (arith, separator-short s t r, body-short s r))
 

@@ -92,7 +92,7 @@ same-at : (i : ℕ) (o : Option ℕ) → same (some i) o ≡ isAt i o
 same-at i none = refl
 same-at i (some j) = refl
 
--- `translate_pair`: the text j is made in memory of 512 bytes
+-- Lemmas for `translate_pair`; the joined text is built in a scratch buffer of 512 bytes.
 module _ (store : Text) (places : List ℕ) (n : ℕ) (mark : Bool) (i : ℕ) (s t r : Text) (buf : Text) (f : Fit) (h : f ≡ fitted (joined s t r) buf) (l : length buf ≡ 512) where
   abbrev lentOne : Map
   lentOne = lentMap store places n mark

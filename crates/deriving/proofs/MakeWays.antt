@@ -1,4 +1,4 @@
--- What each way through `write_joined` gives, for a text j that was made in memory of 255 bytes.
+-- Lemmas for the branches of `write_joined`, for a text j that was built in a scratch buffer of 255 bytes.
 use mathlib.Core.Path.{_≡_, refl, sym, _∙_}
 use mathlib.Core.Bool.{Bool, true, false, not}
 use Prim.Native.Nat.{ℕ, _≤_}
@@ -15,7 +15,7 @@ use Rattle.path.specs.declared.Refusal.the-variants.{MadeTooLong, MadeIllegal}
 use Rattle.path.specs.declared.Reply.the-variants.{Written, Refused}
 use Rattle.path.specs.Outcome.{reply, memory, made}
 
--- a path that was made and is legal
+-- A path that was built and is legal.
 pub made-legal : (q : Text) → length q ≤ 255 → legal q ≡ true → (out : Text) → 255 ≤ length out
     → (Written (length q) ≡ reply (made q)) × (placed 0 q out ≡ memory (made q) out)
 unfolding reply memory made fits

@@ -1,4 +1,4 @@
--- Each call as the code puts its questions: always of three texts, the missing ones empty.
+-- Each call as the code validates it: always with three texts, the missing ones empty.
 use mathlib.Core.Path.{_≡_, refl}
 use mathlib.Core.Bool.{cond}
 use mathlib.Core.List.{[], _∷_}

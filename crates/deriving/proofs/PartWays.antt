@@ -29,7 +29,7 @@ use Rattle.path.specs.Refusal.{asked, allFit, allLegal}
 use Rattle.path.specs.Outcome.{reply, memory, made}
 use Rattle.deriving.proofs.MakeWays.{made-legal}
 
--- a text that passed is short and legal
+-- A text that passed validation is legal and has at most 255 bytes.
 refused-not-passed : {x : Asked} → x ≡ Passed → (a b : Bool) → cond a (cond b Passed (RefusedAsked Illegal)) (RefusedAsked TooLong) ≡ x → (a ≡ true) × (b ≡ true)
 refused-not-passed {x} e true true h = (refl, refl)
 refused-not-passed {x} e true false h = absurd (let z : _≡_ {A = ℕ} 0 1 = cc in omega arith)
@@ -48,7 +48,7 @@ module _ (p : Text) (q : Asked) (h : q ≡ asked (p ∷ [] ∷ [] ∷ [])) (k : 
   unfolding allLegal
   passed-legal = and-l (legal p) true (passed .1)
 
--- a beginning of the path that is legal goes out as it is
+-- A legal prefix of the path is written unchanged.
 pub cut-written : (p : Text) (n m : ℕ) → n ≡ m → m ≤ length p → length p ≤ 255 → legal (take m p) ≡ true → (out out′ : Text) → 255 ≤ length out
     → out′ ≡ placed 0 (take n p) out → (Written n ≡ reply (made (take m p))) × (out′ ≡ memory (made (take m p)) out)
 cut-written p n m a h s l out out′ r e =
@@ -57,7 +57,7 @@ cut-written p n m a h s l out out′ r e =
     = made-legal (take m p) (omega arith) l out r in
     (ap (λ (x : ℕ). Written x) (a ∙ sym k) ∙ w .0, (rw a at e) ∙ w .1)
 
--- `&path[..n]` has n bytes
+-- `&path[..n]` has n bytes.
 pub cut-length : (p : Text) (n m : ℕ) → n ≡ m → m ≤ length p → n ≡ length (take n p)
 cut-length p n m a h = sym (length-take-le n p (omega arith))
 
@@ -92,7 +92,7 @@ pub split-some : (p : Text) (b : Bool) → b ≡ lacks 46 p → b ≡ false → 
 unfolding splitProperty
 split-some p b h k = rw (told h k)
 
--- `strip_variant_selections`: the memory has room, since the path is short
+-- Lemmas for `strip_variant_selections`. The buffer has capacity, since the path has at most 255 bytes.
 pub strip-written : (p out : Text) (f : Fit) → length p ≤ 255 → 255 ≤ length out → f ≡ stripFit p out → (n : ℕ) (out′ : Text) → f ≡ WrittenFit n → legal p ≡ true
     → out′ ≡ stripMemory p out → (Written n ≡ reply (made (strip p))) × (out′ ≡ memory (made (strip p)) out)
 strip-written p out f s r h n out′ e l m =

@@ -1,4 +1,4 @@
--- What a text of digits stands for, read two digits at a time, and what each way through `are_digits` and `decode` gives.
+-- Lemmas about decoding, two digits at a time, and for the branches of `are_digits` and `decode`.
 use mathlib.Core.Path.{_≡_, refl, sym, ap}
 use mathlib.Core.Logic.{_≢_}
 use mathlib.Core.Bool.{Bool, true, false, not, _&&_, true≢false, false≢true}
@@ -34,7 +34,7 @@ digits-end s i h e = rw (e, drop-of-length-le s h)
 
 pub ruleset testing = (digits-on, digits-other, digits-end)
 
--- the bytes of a text of digits, where each byte that is no digit counts 0
+-- The bytes of a text of digits, where a byte that is not a digit counts as 0.
 abbrev pub values : Text → Text
 values [] = []
 values (a ∷ []) = []
@@ -55,7 +55,7 @@ values-at (a ∷ b ∷ s) (suc i) h =
     let l : 2 * suc i + 1 ≡ suc (suc (2 * i + 1)) = omega arith in
     rw (l, k) (values-at s i (omega arith))
 
--- the text stands for them, unless its number of digits is odd or a byte of it is no digit
+-- The text decodes to these bytes, unless its number of digits is odd or one of its bytes is not a digit.
 odd-none : (s : Text) → ((n : ℕ) → length s ≢ 2 * n) → none ≡ decoded s
 unfolding decoded
 odd-none [] d = absurd (d 0 refl)
@@ -138,7 +138,7 @@ module _ (s out : Text) where
 
 pub ruleset decoding = (bad-odd, kept-odd, bad-other, kept-other, over-short, kept-short, bytes-all, written-all, written-on, put-begin, put-length)
 
--- two digits a byte
+-- Two digits encode one byte.
 pub decoded-length : (s x : Text) → decoded s ≡ some x → length s ≡ 2 * length x
 unfolding decoded
 decoded-length [] x e = let z : [] ≡ x = cc in rw (← z) refl

@@ -1,4 +1,4 @@
--- The value of a byte, between two bytes that the code compares it with.
+-- Lemmas about the value of a byte, given the range that the code has found it in.
 use mathlib.Core.Path.{_≡_, refl}
 use mathlib.Core.Bool.{Bool, true, false, cond}
 use mathlib.Core.Option.{none, some}
@@ -10,7 +10,7 @@ use Rattle.text.proofs.BoolLaws.{and-l, and-r, and-no}
 use Rattle.digits.specs.Digits.{within, digit}
 use Rattle.digits.specs.Calls.{value}
 
--- tests
+-- Lemmas about the range test.
 within-yes : (low high b : ℕ) → low ≤ b → b ≤ high → within low high b ≡ true
 within-yes low high b h k = rw (le-leb low b h, le-leb b high k)
 
@@ -56,7 +56,7 @@ module _ (b : ℕ) where
   unfolding digit
   above-small h = rw (within-above 48 57 b (omega arith), within-above 65 70 b (omega arith), within-above 97 102 b (omega arith))
 
-  -- a value is below 16
+  -- A value is below 16.
   pub value-small : value (digit b) ≤ 15
   unfolding digit
   value-small = go (within 48 57 b) (within 65 70 b) (within 97 102 b) refl refl refl

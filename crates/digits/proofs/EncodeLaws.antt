@@ -1,4 +1,4 @@
--- The digits of bytes by their places, and what each way through `digit_of` and `encode` gives.
+-- Lemmas about the digits of bytes by index, and for the branches of `digit_of` and `encode`.
 use mathlib.Core.Path.{_≡_, refl, _∙_}
 use mathlib.Core.List.{[], _∷_}
 use Prim.Native.Nat.{ℕ, zero, suc, _+_, _-_, _*_, _/_, _%_, _≤_, _<_}

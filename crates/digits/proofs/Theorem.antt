@@ -1,4 +1,4 @@
--- The digits of bytes stand for those bytes, and the case of digits does not count.
+-- The theorems that decoding inverts encoding and that the case of the digits does not matter.
 use mathlib.Core.Path.{_≡_, refl, sym, ap, _∙_}
 use mathlib.Core.Bool.{Bool, true, false, cond}
 use mathlib.Core.List.{[], _∷_}
@@ -11,7 +11,7 @@ use Rattle.text.proofs.BoolLaws.{and-l, and-r}
 use Rattle.digits.specs.Digits.{within, digit, decoded, capital, encoded, areBytes, upper, ComesBack, EitherCase}
 use Rattle.digits.proofs.DigitLaws.{a-decimal, a-capital, a-small, within-low, within-high}
 
--- a digit in capitals has the value that it was written for
+-- An upper-case digit has the value it was written for.
 capital-value : (v : ℕ) → v < 16 → digit (capital v) ≡ some v
 capital-value v h = go (ltb v 10) refl
   where
@@ -31,7 +31,7 @@ comes-back (b ∷ t) h =
     let k : 16 * (b / 16) + b % 16 ≡ b = omega arith in
     rw (capital-value (b / 16) (omega arith), capital-value (b % 16) (omega arith), comes-back t (and-r (ltb b 256) (areBytes t) h), k)
 
--- a digit and its capital have one value
+-- A digit has the same value in upper case.
 upper-value : (b : ℕ) → digit (upper b) ≡ digit b
 upper-value b = go (within 97 102 b) refl
   where

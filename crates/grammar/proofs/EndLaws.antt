@@ -1,4 +1,5 @@
--- An end is a text that is legal when `.` and `{` count as bytes that no path has, and what each way through `end_row` and `is_end` gives.
+-- The theorem that an end is a text that is legal when `.` and `{` count as bytes that no path contains, and lemmas for the branches of
+-- `end_row` and `is_end`.
 use mathlib.Core.Path.{_≡_, refl, sym, ap, _∙_}
 use mathlib.Core.Bool.{Bool, true, false, not, cond, _&&_, _||_}
 use mathlib.Core.List.{List, [], _∷_, map}
@@ -15,7 +16,7 @@ use Rattle.grammar.specs.Pack.{pack, plain, EndsByPlain}
 use Rattle.grammar.proofs.RunLaws.{run-dead}
 use Rattle.grammar.proofs.ScanLaws.{upper-1, lower-1, more-1, upper-2, lower-2, more-2, digits-1, digits-2, listed, Reads, first, on, none, other, root, whole}
 
--- no path has the byte 0
+-- No path contains the byte 0.
 null-dead : (s : State) → step s 0 ≡ Dead
 unfolding step
 null-dead Slash = refl

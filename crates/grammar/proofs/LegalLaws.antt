@@ -1,4 +1,4 @@
--- What a legal text and an end cannot be.
+-- Lemmas about legal texts and ends, mainly about what they cannot contain.
 use mathlib.Core.Path.{_≡_, refl, sym, ap, _∙_}
 use mathlib.Core.Bool.{Bool, true, false, not, cond, _&&_, true≢false, false≢true}
 use mathlib.Core.List.{[], _∷_}
@@ -11,7 +11,7 @@ use Rattle.grammar.specs.Legal.{State, Slash, Name, Opened, Set, Equals,
 use Rattle.grammar.proofs.RunLaws.{run-dead}
 use lib.ListN.{length}
 
--- a legal text but `/` does not end in a slash
+-- A legal text other than `/` does not end in a slash.
 slash-ends : (s : State) → accept (step s 47) ≡ false
 unfolding accept step
 slash-ends Slash = refl
@@ -35,7 +35,7 @@ run-last s (a ∷ []) e = go (eqb a 47) refl
     go false h = h
 run-last s (a ∷ b ∷ r) e = run-last (step s a) (b ∷ r) e
 
--- from a state outside a selection, without `{`, no `}` is read
+-- From a state outside a selection, a text without `{` contains no `}`.
 abbrev outside : State → Bool
 outside Slash = true
 outside Name = true
@@ -100,7 +100,7 @@ legal-last [] e n = refl
 legal-last (a ∷ []) e n = absurd (true≢false (sym e ∙ n))
 legal-last (a ∷ b ∷ r) e n = run-last Slash (b ∷ r) (and-r (eqb a 47) (accept (run Slash (b ∷ r))) e)
 
--- the ends of pairs
+-- Lemmas about the ends of pairs.
 pub end-legal : (s : Text) → isEnd s ≡ true → legal s ≡ true
 unfolding isEnd
 end-legal s e = and-l (legal s) (lacks 123 s && lacks 46 s) e
@@ -123,7 +123,7 @@ free-close (a ∷ b ∷ r) e f =
 pub end-close : (s : Text) → isEnd s ≡ true → lastIs 125 s ≡ false
 end-close s e = free-close s (end-legal s e) (end-lacks s e)
 
--- texts of at most 255 bytes
+-- Texts of at most 255 bytes.
 pub fits-short : (p : Text) → fits p ≡ true → length p ≤ 255
 unfolding fits
 fits-short p h = leb-true (length p) 255 h
@@ -132,12 +132,12 @@ pub short-fits : (p : Text) → length p ≤ 255 → fits p ≡ true
 unfolding fits
 short-fits p h = le-leb (length p) 255 h
 
--- a byte that may begin a name may go on with it
+-- A byte that may begin a name may also follow in one.
 pub start-cont : (a : ℕ) → isIdentifierStart a ≡ true → isIdentifierCont a ≡ true
 unfolding isIdentifierCont
 start-cont a h = rw h
 
--- the root, and texts put together
+-- Lemmas about `/`, and about concatenated texts.
 pub root-is : (s : Text) → isRoot s ≡ true → s ≡ 47 ∷ []
 root-is [] e = absurd (false≢true e)
 root-is (a ∷ []) e = let h : a ≡ 47 = eqb-true a 47 (and-l (eqb a 47) true e) in cc

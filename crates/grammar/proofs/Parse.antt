@@ -1,4 +1,4 @@
--- What is accepted from a state is what can be left there of a path, written.
+-- A text that the automaton accepts from a state is the text of what may remain of a path there: one half of the theorem.
 use mathlib.Core.Path.{_≡_, refl, ap, _∙_}
 use mathlib.Core.Bool.{Bool, true, false, cond, false≢true}
 use mathlib.Core.List.{List, [], _∷_, _++_, append-assoc}
@@ -12,12 +12,12 @@ use Rattle.grammar.specs.Grammar as g
 use Rattle.grammar.specs.Grammar.{allCont, nameText, wordText, selectionText, selectionsText, primText, joint, primsText, moreText, propertyText, render}
 use Rattle.grammar.proofs.RunLaws.{dead-refuses}
 
--- the rest of a name
+-- The remaining bytes of a name.
 record Tail : Type 0 where
   bytes : Text
   are : allCont bytes ≡ true
 
--- what stands behind a name
+-- What follows a name.
 pub record After : Type 0 where
   pub selections : List g.Selection
   pub rest : List g.Prim
@@ -27,7 +27,7 @@ follow : Text → List g.Prim → Text
 follow j [] = []
 follow j (q ∷ r) = j ++ primsText q r
 
--- it is written behind a name, and behind a selection
+-- Its text when it follows a name, and when it follows a selection.
 behindName : After → Text
 unfolding follow
 behindName x = selectionsText (x .selections) ++ (follow (joint (x .selections)) (x .rest) ++ propertyText (x .property))
@@ -36,7 +36,7 @@ behindSelection : After → Text
 unfolding follow
 behindSelection x = selectionsText (x .selections) ++ (follow [] (x .rest) ++ propertyText (x .property))
 
--- what is left of a path where the reader stands so
+-- What may remain of a path in each state of the automaton.
 abbrev Left : State → Type 0
 Left Slash = g.Name × After
 Left Name = Tail × After
@@ -49,7 +49,7 @@ Left Dot = g.Name × List g.Name
 Left Prop = Tail × List g.Name
 Left Dead = ⊥
 
--- the selection goes on: `=`, the word, `}`
+-- The text of what remains.
 text : (s : State) → Left s → Text
 unfolding behindName behindSelection
 text Slash l = nameText (l .0) ++ behindName (l .1)
@@ -63,11 +63,12 @@ text Dot l = nameText (l .0) ++ moreText (l .1)
 text Prop l = l .0 .bytes ++ moreText (l .1)
 text Dead l = absurd l
 
+-- The text r is the text of something that may remain in the state s.
 record Found (s : State) (r : Text) : Type 0 where
   what : Left s
   same : text s what ≡ r
 
--- prims and a selection in front of a text
+-- Prims and a selection before a text.
 prims-text : (n : g.Name) (x : After) → primsText (record { name = n; selections = x .selections }) (x .rest) ++ propertyText (x .property) ≡ nameText n ++ behindName x
 unfolding behindName follow primsText primText
 prims-text n x = go (x .rest)
@@ -82,7 +83,7 @@ selection-text : (s : g.Selection) (y : Text) → selectionText s ++ y ≡ 123 �
 unfolding selectionText
 selection-text s y = simp append-assoc
 
--- the rest r was read from the state t
+-- If the automaton accepts r from the state t, then r is the text of something that may remain there.
 abbrev Later : Text → State → Type 0
 Later r t = accept (run t r) ≡ true → Found t r
 
@@ -103,7 +104,7 @@ word-of a h t = record { first = a; more = t .bytes; first-is = h; more-are = t 
 nothing : After
 nothing = record { selections = []; rest = []; property = none }
 
--- a prim, a selection, a property in front
+-- A prim, a selection or a property added in front.
 with-prim : g.Name → After → After
 with-prim n x =
     record { selections = []; rest = (record { name = n; selections = x .selections }) ∷ x .rest; property = x .property }
@@ -115,7 +116,7 @@ with-selection n w x =
 with-property : g.Name → List g.Name → After
 with-property n r = record { selections = []; rest = []; property = some (record { first = n; more = r }) }
 
--- how those are written
+-- The texts of those.
 prim-name : (n : g.Name) (x : After) → behindName (with-prim n x) ≡ 47 ∷ (nameText n ++ behindName x)
 unfolding with-prim behindName follow joint selectionsText
 prim-name n x = ap (λ (y : Text). 47 ∷ y) (prims-text n x)
@@ -144,14 +145,14 @@ property-selection : (n : g.Name) (r : List g.Name) → behindSelection (with-pr
 unfolding with-property behindSelection follow selectionsText propertyText
 property-selection n r = refl
 
--- one byte more in front
+-- One more byte in front.
 put : (a : ℕ) {x r : Text} → x ≡ r → a ∷ x ≡ a ∷ r
 put a e = ap (λ (y : Text). a ∷ y) e
 
 put-at : (a b : ℕ) {x r : Text} → eqb a b ≡ true → x ≡ r → b ∷ x ≡ a ∷ r
 put-at a b h e = let q : a ≡ b = eqb-true a b h in cc
 
--- one byte, from each state
+-- One byte, from each state.
 module _ (a : ℕ) (r : Text) where
   on-slash : (b : Bool) → isIdentifierStart a ≡ b → Later r Name → accept (run (cond b Name Dead) r) ≡ true → Found Slash (a ∷ r)
   unfolding text head-of nameText
@@ -253,7 +254,7 @@ parse Dot (a ∷ r) e = on-dot a r (isIdentifierStart a) refl (λ h. parse Prop 
 parse Prop (a ∷ r) e = on-prop a r (isIdentifierCont a) (eqb a 58) refl refl (λ h. parse Prop r h) (λ h. parse Dot r h) e
 parse Dead (a ∷ r) e = absurd (dead-refuses r e)
 
--- what is accepted behind the first slash
+-- The texts that are accepted after the first slash.
 pub body : (r : Text) → accept (run Slash r) ≡ true → g.Written (47 ∷ r)
 unfolding text render
 body r e =

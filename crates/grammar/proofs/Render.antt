@@ -1,4 +1,4 @@
--- A path, written, is legal.
+-- The rendering of a path is legal: the other half of the theorem.
 use mathlib.Core.Path.{_≡_, refl, ap, _∙_}
 use mathlib.Core.Bool.{true}
 use mathlib.Core.List.{List, [], _∷_, _++_}
@@ -11,7 +11,7 @@ use Rattle.grammar.proofs.RunLaws.{run-app}
 use Rattle.grammar.specs.Grammar as g
 use Rattle.grammar.specs.Grammar.{allCont, nameText, wordText, selectionText, selectionsText, primText, joint, primsText, moreText, propertyText, render}
 
--- a state in which letters, digits and `_` keep the reader
+-- A state that letters, digits and `_` do not leave.
 abbrev keeps : State → Type 0
 keeps s = (a : ℕ) → isIdentifierCont a ≡ true → step s a ≡ s
 
@@ -36,7 +36,7 @@ prop-keeps : keeps Prop
 unfolding step
 prop-keeps a h = rw h
 
--- a name from s leads to t
+-- A name leads from state s to state t.
 reads-name : (s t : State) → ((a : ℕ) → isIdentifierStart a ≡ true → step s a ≡ t) → keeps t → (n : g.Name) → run s (nameText n) ≡ t
 unfolding run nameText
 reads-name s t f k n = ap (λ (u : State). run u (n .more)) (f (n .first) (n .first-is)) ∙ stays t k (n .more) (n .more-are)
@@ -66,7 +66,7 @@ unfolding run wordText
 from-equals w =
     ap (λ (u : State). run u (w .more)) (equals-word (w .first) (w .first-is)) ∙ stays Sel sel-keeps (w .more) (w .more-are)
 
--- a selection, behind a name or behind a selection
+-- A selection, after a name or after another selection.
 inside : (s : g.Selection) → run Opened (nameText (s .variantSet) ++ (61 ∷ (wordText (s .variant) ++ (125 ∷ [])))) ≡ Closed
 unfolding run step isIdentifierStart isIdentifierCont
 inside s =
@@ -90,7 +90,7 @@ unfolding run selectionsText
 more-closed [] = refl
 more-closed (s ∷ r) = rw (run-app Closed (selectionText s) (selectionsText r), selection-closed s) (more-closed r)
 
--- where the reader stands behind a prim with these selections
+-- The state after a prim with these selections.
 abbrev behind : List g.Selection → State
 behind [] = Name
 behind (s ∷ r) = Closed
@@ -100,18 +100,18 @@ unfolding run selectionsText
 reads-selections [] = refl
 reads-selections (s ∷ r) = rw (run-app Name (selectionText s) (selectionsText r), selection-name s) (more-closed r)
 
--- a prim is read where a name is
+-- A prim may be read in every state in which a name may be read.
 reads-prim : (s : State) → ((n : g.Name) → run s (nameText n) ≡ Name) → (p : g.Prim) → run s (primText p) ≡ behind (p .selections)
 unfolding primText
 reads-prim s f p = rw (run-app s (nameText (p .name)) (selectionsText (p .selections)), f (p .name)) (reads-selections (p .selections))
 
--- behind the joint a name is read
+-- After the separator a name may be read.
 reads-joint : (r : List g.Selection) (n : g.Name) → run (run (behind r) (joint r)) (nameText n) ≡ Name
 unfolding joint run step isIdentifierStart isIdentifierCont
 reads-joint [] n = from-slash n
 reads-joint (s ∷ r) n = from-closed n
 
--- the selections of the last prim
+-- The selections of the last prim.
 abbrev last : g.Prim → List g.Prim → List g.Selection
 last p [] = p .selections
 last p (q ∷ r) = last q r

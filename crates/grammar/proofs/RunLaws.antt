@@ -1,4 +1,4 @@
--- How the automaton reads: text after text, and from a dead state.
+-- Lemmas about runs of the automaton: on concatenated texts, and from the dead state.
 use mathlib.Core.Path.{_≡_, refl}
 use mathlib.Core.Bool.{true, false≢true}
 use mathlib.Core.List.{[], _∷_, _++_}
@@ -10,7 +10,7 @@ unfolding run
 run-app s [] y = refl
 run-app s (a ∷ x) y = run-app (step s a) x y
 
--- a dead reader stays dead
+-- The automaton stays in the dead state.
 pub run-dead : (r : Text) → run Dead r ≡ Dead
 unfolding run step
 run-dead [] = refl

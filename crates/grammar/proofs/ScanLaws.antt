@@ -1,4 +1,4 @@
--- The numbers' rule, and what it says of the reading of a text.
+-- Lemmas about the packed transition table, and about the scan that uses it.
 use mathlib.Core.Path.{_≡_, refl, sym, ap, _∙_}
 use mathlib.Core.Bool.{Bool, true, false, _&&_, _||_, false≢true}
 use mathlib.Core.List.{List, [], _∷_}
@@ -16,12 +16,12 @@ use Rattle.text.proofs.BoolLaws.{and-l, and-r, or-false, upTo, at-each}
 use Rattle.grammar.specs.Legal.{State, Name, Closed, Prop, Slash, Opened, Set, Equals, Sel, Dot, Dead, step, accept, run, legal}
 use Rattle.grammar.specs.Pack.{number, pack}
 
--- the number of the byte a holds the step of the state s at the place of s
+-- The packed number of byte a holds the next state of state s at the bit offset of s.
 unfoldable pub holds : State → ℕ → Bool
 unfolding number pack step
 holds s a = eqb (pack a / 2 ^ number s % 64) (number (step s a))
 
--- at each state and each byte, computed
+-- That holds for each state and each byte, by computation.
 all-hold : (s : State) → upTo (holds s) 256 ≡ true
 unfolding holds
 all-hold Slash = refl
@@ -39,7 +39,7 @@ pub rule : (s : State) (a : ℕ) → a < 256 → pack a / 2 ^ number s % 64 ≡ 
 unfolding holds
 rule s a h = eqb-true (pack a / 2 ^ number s % 64) (number (step s a)) (at-each (holds s) 256 a (all-hold s) h)
 
--- the keys of the arms, in their order
+-- The values of the arms of the match, in their order.
 unfoldable pub upper-1 : List ℕ
 upper-1 = 65 ∷ 67 ∷ 69 ∷ 71 ∷ 73 ∷ 75 ∷ 77 ∷ 79 ∷ 81 ∷ 83 ∷ 85 ∷ 87 ∷ 89 ∷ 95 ∷ []
 
@@ -64,7 +64,7 @@ digits-1 = 48 ∷ 50 ∷ 52 ∷ 54 ∷ 56 ∷ []
 unfoldable pub digits-2 : List ℕ
 digits-2 = 49 ∷ 51 ∷ 53 ∷ 55 ∷ 57 ∷ []
 
--- an arm gives the same number x at each of its keys, where f is asked for
+-- The function f has the same result x at each value of an arm.
 abbrev pub same : (ℕ → ℕ) → ℕ → List ℕ → Bool
 same f x [] = true
 same f x (k ∷ ks) = eqb x (f k) && same f x ks
@@ -75,7 +75,7 @@ arm f x (k ∷ []) a w t = rw w (eqb-true x (f k) (and-l (eqb x (f k)) true t))
 arm f x (k ∷ l ∷ ks) a (inl e) t = rw e (eqb-true x (f k) (and-l (eqb x (f k)) (same f x (l ∷ ks)) t))
 arm f x (k ∷ l ∷ ks) a (inr w) t = arm f x (l ∷ ks) a w (and-r (eqb x (f k)) (same f x (l ∷ ks)) t)
 
--- what the default of a match knows: the number is none of the keys of each arm, the last arm first
+-- What the default arm of a match assumes: the number is none of the values of each arm, the last arm first.
 abbrev pub Rest : List (List ℕ) → ℕ → Type 0
 Rest [] a = Unit {0}
 Rest (ks ∷ arms) a = Rest arms a × (OneOf ks a → ⊥)
@@ -105,7 +105,7 @@ none-of (ks ∷ arms) a w = rw (not-one (one-of ks a) refl) (none-of arms a (w .
     not-one true h = absurd (w .1 (one ks a h))
     not-one false h = h
 
--- the default gives the number of a byte that no path has
+-- The byte a is a value of some arm, or f returns for it the number of a byte that no path contains.
 abbrev pub listed : (ℕ → ℕ) → List (List ℕ) → ℕ → Bool
 listed f arms a = in-arms arms a || eqb (f a) 988218432520154550
 
@@ -120,7 +120,7 @@ pub all-listed : upTo (listed pack arms) 256 ≡ true
 unfolding arms upper-1 lower-1 more-1 upper-2 lower-2 more-2 digits-1 digits-2 pack
 all-listed = refl
 
--- the states that accept are those below 18
+-- The accepting states are those below 18.
 ends : (s : State) → ltb (number s) 18 ≡ accept s
 unfolding number accept
 ends Slash = refl
@@ -134,7 +134,8 @@ ends Dot = refl
 ends Prop = refl
 ends Dead = refl
 
--- what the loop keeps: the text from i on, read from the state that the low six bits of k stand for, is read as the whole
+-- The loop invariant: scanning the text from index i, in the state given by the low six bits of k, has the same result as scanning the
+-- whole text.
 pub record Reads (p : Text) (k i : ℕ) : Type 0 where
   pub at-state : State
   pub numbered : k % 64 ≡ number at-state

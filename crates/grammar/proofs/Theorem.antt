@@ -1,4 +1,4 @@
--- A text is legal exactly where it is some path, written.
+-- The theorem that a text is legal exactly if it is the rendering of some path.
 use mathlib.Core.Path.{_≡_, refl}
 use mathlib.Core.Bool.{true}
 use mathlib.Core.List.{[], _∷_}

@@ -1,4 +1,4 @@
--- Replacing a prefix, as a relation that can be read both ways.
+-- Prefix replacement as a relation between two paths that is symmetric in old and new prefix.
 use mathlib.Core.Path.{_≡_, refl, sym, _∙_}
 use mathlib.Core.Bool.{Bool, true, false, cond, true≢false, false≢true}
 use mathlib.Core.List.{[], _∷_, _++_, append-nil}
@@ -20,11 +20,11 @@ use Rattle.prefix.proofs.PrefixLaws.{prefix-made, prefix-rest}
 use Rattle.joining.proofs.ReplaceLaws.{replace-made, replace-prefix, replaced-prefix}
 use Rattle.prefix.proofs.CountLaws.{count-root, count-behind}
 
--- a prim path, or nothing for `/`: what a slash and a name may follow
+-- A prim path, or nothing for `/`: the text to which a slash and a name may be appended.
 pub stem : Text → Text
 stem s = cond (isRoot s) [] s
 
--- with a text behind it
+-- The same followed by a text.
 pub stem-root : (y : Text) → stem (47 ∷ []) ++ y ≡ y
 unfolding stem
 stem-root y = refl
@@ -33,19 +33,19 @@ pub stem-not : (s y : Text) → isRoot s ≡ false → stem s ++ y ≡ s ++ y
 unfolding stem
 stem-not s y h = rw h
 
--- p is s and a rest, and q is t and the same rest: nothing, a slash and more, or a property
+-- The path p is s and a remainder, and q is t and the same remainder: nothing, a slash and more, or a property.
 pub data Rel (s t : Text) : Text → Text → Type 0 where
   whole : Rel s t s t
   under : (x : ℕ) (r : Text) → Rel s t (stem s ++ 47 ∷ x ∷ r) (stem t ++ 47 ∷ x ∷ r)
   dotted : (r : Text) → isRoot s ≡ false → isRoot t ≡ false → Rel s t (s ++ 46 ∷ r) (t ++ 46 ∷ r)
 
--- then q and p are so related, by t and s
+-- Then q and p are related by t and s.
 pub swap : {s t p q : Text} → Rel s t p q → Rel t s q p
 swap whole = whole
 swap (under x r) = under x r
 swap (dotted r h k) = dotted r k h
 
--- a slash is written where the new prefix is not one
+-- A slash is written unless the new prefix is `/`.
 slash-stem : (t y : Text) → t ++ (slashUnless (isRoot t) ++ y) ≡ stem t ++ 47 ∷ y
 slash-stem t y = go (isRoot t) refl
   where
@@ -53,7 +53,7 @@ slash-stem t y = go (isRoot t) refl
     go true h = rw (root-is t h, stem-root)
     go false h = sym (stem-not t (47 ∷ y) h)
 
--- the joined text, by what the rest begins with
+-- The joined text, by the first byte of the remainder.
 pub joined-none : (s t : Text) → joined s t [] ≡ t
 unfolding joined
 joined-none s t = append-nil t
@@ -73,7 +73,7 @@ joined-other s t a r h l e = rw (h, e, l)
 made : (s t r p q : Text) → follows s r ≡ true → s ++ r ≡ p → joined s t r ≡ q → (hasPrefix p s ≡ true) × (replacePrefix p s t ≡ some q)
 made s t r p q f h k = rw (← h, ← k) (prefix-made s r ∙ f, replace-made s t r f)
 
--- what is so related is what replacing gives
+-- Related paths: replacing the prefix of the one yields the other.
 pub back : {s t p q : Text} → Rel s t p q → isEnd s ≡ true → isEnd t ≡ true → (hasPrefix p s ≡ true) × (replacePrefix p s t ≡ some q)
 unfolding follows
 back {s} {t} whole es et = made s t [] s t refl (append-nil s) (joined-none s t)
@@ -109,7 +109,7 @@ behind-dot s t r h es lq = go (isRoot t) refl
     go true k = absurd (no-root-dot r (rw (is, root-is t k) at lq))
     go false k = rw is (dotted r h k)
 
--- a rest that may follow s, and the joined text, are so related ..
+-- A path s ++ r, where r may follow s, is related to the joined text.
 pub rests : (s t r : Text) → isNil s ≡ false → isEnd s ≡ true → isEnd t ≡ true → legal (s ++ r) ≡ true → lacks 123 (s ++ r) ≡ true
     → follows s r ≡ true → legal (joined s t r) ≡ true → Rel s t (s ++ r) (joined s t r)
 unfolding follows
@@ -128,7 +128,7 @@ rests s t (a ∷ r) n es et lp f j lq = root (isRoot s) refl
     root true h = rw (root-is s h) (under-root t a r)
     root false h = slash (eqb a 47) h refl
 
--- .. and so what replacing gives is
+-- So a path is related to the result of prefix replacement.
 pub replaced : (p s t q : Text) → isNil s ≡ false → isEnd s ≡ true → isEnd t ≡ true → legal p ≡ true → lacks 123 p ≡ true
     → replacePrefix p s t ≡ some q → legal q ≡ true → Rel s t p q
 replaced p s t q n es et lp f e lq = go (drop (length s) p) (prefix-rest p s h .0) (prefix-rest p s h .1) (sym (replace-prefix p s t h) ∙ e)
@@ -147,7 +147,7 @@ count-stem f s y e = go (isRoot s) refl
     go true h = rw (root-is s h, stem-root, count-root f) (omega arith)
     go false h = rw (stem-not s (47 ∷ y) h) (count-behind f s 47 y refl e h)
 
--- p has as many elements beyond those of s as q has beyond those of t
+-- The path p has as many elements beyond those of s as q has beyond those of t.
 pub weigh : {s t p q : Text} (f : Bool) → Rel s t p q → isEnd s ≡ true → isEnd t ≡ true → count f p + count f t ≡ count f q + count f s
 unfolding isIdentifierCont
 weigh f whole es et = omega arith
@@ -162,7 +162,7 @@ stem-lacks t f = go (isRoot t)
     go true = refl
     go false = f
 
--- where p has no selection, q has none
+-- If p has no selection, q has none.
 pub still-lacks : {s t p q : Text} → Rel s t p q → isEnd t ≡ true → lacks 123 p ≡ true → lacks 123 q ≡ true
 still-lacks {s} {t} whole et f = end-lacks t et
 still-lacks {s} {t} (under x r) et f =

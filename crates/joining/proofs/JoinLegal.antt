@@ -1,4 +1,4 @@
--- When the joined text is legal.
+-- The theorem that states when the joined text is legal.
 use mathlib.Core.Path.{_≡_, refl, sym, ap, _∙_}
 use mathlib.Core.Bool.{Bool, true, false, not, cond, _&&_, _||_, true≢false, false≢true}
 use mathlib.Core.List.{[], _∷_, _++_}
@@ -15,7 +15,7 @@ use Rattle.prefix.specs.Prefix.{follows}
 use Rattle.joining.specs.Join.{joined, spoils, JoinedLegal}
 use Rattle.joining.proofs.JoinLaws.{stem, stem-root, stem-not, joined-none, joined-root, joined-slash, joined-other}
 
--- without `{` and `.` the reader meets three states only
+-- Without `{` and `.` the automaton reaches only three states.
 data Plain : State → Type 0 where
   slash : Plain Slash
   name : Plain Name
@@ -43,7 +43,7 @@ accepts-name slash e = absurd (false≢true e)
 accepts-name name e = refl
 accepts-name dead e = absurd (false≢true e)
 
--- behind a prim path the reader is in a name
+-- After a prim path the automaton is in a name.
 in-name : (a b : ℕ) (x : Text) → isEnd (a ∷ b ∷ x) ≡ true → accept (run Slash (b ∷ x)) ≡ true → run Slash (b ∷ x) ≡ Name
 in-name a b x e h =
     let s : Text = a ∷ b ∷ x in
@@ -58,7 +58,7 @@ behind-end (a ∷ b ∷ x) y e n h =
     let l : (eqb a 47 && c) ≡ true = end-legal (a ∷ b ∷ x) e in
     rw (and-l (eqb a 47) c l, run-app Slash (b ∷ x) y, in-name a b x e (and-r (eqb a 47) c l))
 
--- what may follow a slash may follow it behind an end
+-- A text that may follow a slash may follow an end and a slash.
 under-stem : (t y : Text) → isEnd t ≡ true → accept (run Slash y) ≡ true → legal (stem t ++ 47 ∷ y) ≡ true
 unfolding legal run step isIdentifierCont
 under-stem [] y et e = rw (stem-not [] (47 ∷ y) refl) (or-right (isNil y) (accept (run Slash y)) e)
@@ -68,12 +68,12 @@ under-stem (c ∷ t) y et e = go (isRoot (c ∷ t)) refl
     go true h = rw (root-is (c ∷ t) h, stem-root) (or-right (isNil y) (accept (run Slash y)) e)
     go false h = rw (stem-not (c ∷ t) (47 ∷ y) h) (behind-end (c ∷ t) (47 ∷ y) et refl h ∙ e)
 
--- what a legal text has behind its first slash
+-- The part of a legal text after its first slash is accepted.
 slash-legal : (a : ℕ) (r : Text) → legal (47 ∷ a ∷ r) ≡ true → accept (run Slash (a ∷ r)) ≡ true
 unfolding legal
 slash-legal a r e = e
 
--- `.` and `{` may not follow `/`
+-- `.` and `{` may not follow `/`.
 dies : (a : ℕ) (r : Text) → step Slash a ≡ Dead → legal (47 ∷ a ∷ r) ≡ false
 unfolding legal run accept
 dies a r h = ap (λ (s : State). accept (run s r)) h ∙ rw (run-dead r)
@@ -94,7 +94,7 @@ no-hang a r l = go (eqb a 46 || eqb a 123) refl
     go true h = absurd (true≢false (sym l ∙ hang-dies a r h))
     go false h = refl
 
--- a rest that begins with `.` or `{` stands behind a prim path only
+-- A remainder that begins with `.` or `{` may follow only a prim path.
 hang-legal : (t : Text) (a : ℕ) (r : Text) → isEnd t ≡ true → eqb a 47 ≡ false → (eqb a 46 || eqb a 123) ≡ true → accept (run Name (a ∷ r)) ≡ true
     → legal (t ++ a ∷ r) ≡ not (isNil t || isRoot t)
 unfolding legal
@@ -105,7 +105,7 @@ hang-legal (c ∷ t) a r et k g e = go (isRoot (c ∷ t)) refl
     go true i = ap (λ (x : Text). legal (x ++ a ∷ r)) (root-is (c ∷ t) i) ∙ hang-dies a r g
     go false i = behind-end (c ∷ t) (a ∷ r) et refl i ∙ e
 
--- joining spoils a legal text only where the new prefix is `/` or empty and the rest begins with `.` or `{`
+-- A joined text is illegal only if the new prefix is `/` or empty and the remainder begins with `.` or `{`.
 pub joined-legal : JoinedLegal
 unfolding spoils follows run step isIdentifierStart isIdentifierCont
 joined-legal s t [] l es ns et j = rw (joined-none s t, and-no (isNil t || isRoot t)) (end-legal t et)

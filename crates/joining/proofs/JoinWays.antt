@@ -44,7 +44,7 @@ module _ (s : Text) where
 pub body-in : (r : Text) → length r ≢ 0 → 1 ≤ length r
 body-in r e = omega arith
 
--- a text that is not empty, by its first byte
+-- A nonempty text, by its first byte.
 cons : (r : Text) → length r ≢ 0 → r ≡ getD r 0 0 ∷ drop 1 r
 cons [] d = absurd (d refl)
 cons (a ∷ r) d = refl
@@ -131,7 +131,7 @@ module _ (t r : Text) (b : Bool) (h : b ≡ (eqb (getD r 0 0) 46 || eqb (getD r 
       go [] l = absurd (l refl)
       go (a ∷ t) l = sym (and-yes (isRoot (a ∷ t)))
 
--- the separator, as the part that the code takes of a slash
+-- The separator, as the first bytes of a slash, which is how the code writes it.
 one-byte : (b : Bool) → length (slashUnless b) ≤ 1
 one-byte true = omega arith
 one-byte false = omega arith
@@ -190,7 +190,7 @@ body-short s (a ∷ r) = go (not (isRoot s) && eqb a 47)
     go true = omega arith
     go false = omega arith
 
--- a text that does not fit
+-- A text that does not fit.
 over-long : (t out : Text) → length out < length t → (Over ≡ fitted t out) × (out ≡ placed 0 t out)
 unfolding fitted placed
 over-long t out h = rw (zero-add (length t), lt-leb (length t) (length out) h) (refl, refl)

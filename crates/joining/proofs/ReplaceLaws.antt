@@ -1,4 +1,4 @@
--- Laws of replacing a prefix.
+-- Lemmas about prefix replacement.
 use mathlib.Core.Path.{_≡_, refl, sym, ap, _∙_}
 use mathlib.Core.Bool.{Bool, true, false}
 use mathlib.Core.List.{_++_}
@@ -10,7 +10,7 @@ use Rattle.prefix.specs.Prefix.{follows, followsSome, hasPrefix}
 use Rattle.joining.specs.Join.{joined, replacePrefix}
 use Rattle.prefix.proofs.PrefixLaws.{prefix-rest}
 
--- a prefix is replaced ..
+-- If the path has the prefix, the result is the joined text.
 pub replace-made : (s t r : Text) → follows s r ≡ true → replacePrefix (s ++ r) s t ≡ some (joined s t r)
 unfolding replacePrefix
 replace-made s t r f = rw (after-down s r, f)
@@ -21,7 +21,7 @@ replace-prefix p s t h = go (drop (length s) p) (prefix-rest p s h .0) (prefix-r
     go : (r : Text) → p ≡ s ++ r → follows s r ≡ true → replacePrefix p s t ≡ some (joined s t r)
     go r e f = rw e (replace-made s t r f)
 
--- .. and nothing else is
+-- If the path does not have the prefix, there is no result.
 pub replace-other : (p s t : Text) → hasPrefix p s ≡ false → replacePrefix p s t ≡ none
 unfolding hasPrefix replacePrefix
 replace-other p s t h = go (after s p) refl
@@ -30,7 +30,7 @@ replace-other p s t h = go (after s p) refl
     go none e = rw e
     go (some r) e = let k : follows s r ≡ false = sym (ap (followsSome s) e) ∙ h in rw (e, k)
 
--- what was replaced was a prefix
+-- If there is a result, the path has the prefix.
 pub replaced-prefix : (p s t q : Text) → replacePrefix p s t ≡ some q → hasPrefix p s ≡ true
 replaced-prefix p s t q e = go (hasPrefix p s) refl
   where

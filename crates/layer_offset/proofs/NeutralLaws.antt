@@ -1,4 +1,4 @@
--- 1 in a product, and 0 in a sum: neutral, but that -0 + 0 is +0.
+-- 1 is neutral in a product, and 0 in a sum, except that -0 + 0 is +0.
 use mathlib.Core.Path.{_≡_, refl, sym, _∙_, subst}
 use mathlib.Core.Logic.{_⊎_, inl, inr}
 use mathlib.Core.Bool.{Bool, true, false, false≢true}
@@ -14,11 +14,11 @@ use Rattle.layer_offset.specs.Number.{plusZero, one, isFinite}
 use Rattle.layer_offset.proofs.NumberLaws.{round-zero}
 use Rattle.layer_offset.proofs.RoundLaws.{settled, rounded}
 
--- -0.0
+-- The float -0.0.
 abbrev pub minusZero : Float
 minusZero = fin true 0 (pos 0)
 
--- 1 × x
+-- 1 × x is x.
 pub one-times : (x : Float) → T (fits binary64 x) → mul binary64 one x ≡ x
 unfolding mul
 one-times nan p = refl
@@ -27,7 +27,7 @@ one-times (inf false) p = refl
 one-times (fin true m e) p = simp one-mul (rounded binary64 true m e p)
 one-times (fin false m e) p = simp one-mul (rounded binary64 false m e p)
 
--- x × 1
+-- x × 1 is x.
 pub times-one : (x : Float) → T (fits binary64 x) → mul binary64 x one ≡ x
 unfolding mul
 times-one nan p = refl
@@ -36,12 +36,12 @@ times-one (inf false) p = refl
 times-one (fin true m e) p = simp mul-one (rounded binary64 true m e p)
 times-one (fin false m e) p = simp mul-one (rounded binary64 false m e p)
 
--- a number of size zero is a zero
+-- A number of magnitude zero is a zero.
 only-zero : (s : Bool) (m : ℕ) (e : ℤ) → T (fits binary64 (fin s m e)) → m * up e ≡ 0 → fin s m e ≡ fin s 0 (pos 0)
 unfolding fits
 only-zero s m e p h = sym (settled binary64 s m e (fin s 0 (pos 0)) p tt (refl, simp (h, zero-mul)))
 
--- x + 0 and 0 + x, of signs and sizes: +0 comes only of -0
+-- x + 0 and 0 + x, for signs and magnitudes; the sum differs from x only for -0.
 sum-right : (s t : Bool) (a c : ℕ) → (s ≡ true → 0 < a) → sum binary64 s a t 0 c ≡ round binary64 s a c
 unfolding sum
 sum-right true true a c h = simp add-zero
@@ -59,38 +59,38 @@ size-above true zero e p h k = absurd (h (only-zero true zero e p (zero-mul (up 
 size-above true (suc m) e p h k = mul-pos (zero-lt-suc m) (up-pos e)
 size-above false m e p h k = absurd (false≢true k)
 
--- x + 0, of either sign
+-- x + 0, with a zero of either sign.
 plus-zero : (s : Bool) (x : Float) → T (fits binary64 x) → (x ≡ minusZero → ⊥) → add binary64 x (fin s 0 (pos 0)) ≡ x
 unfolding add
 plus-zero s nan p h = refl
 plus-zero s (inf t) p h = refl
 plus-zero s (fin t m e) p h = simp (zero-mul, mul-one) (sum-right t s (m * up e) (down e) (size-above t m e p h) ∙ rounded binary64 t m e p)
 
--- a number × 0 is a zero of the number's sign
+-- A number times 0 is a zero with the sign of the number.
 times-zero : (s : Bool) (m : ℕ) (e : ℤ) → mul binary64 (fin s m e) plusZero ≡ fin s 0 (pos 0)
 unfolding mul
 times-zero true m e = simp (zero-mul, mul-zero, mul-one) (round-zero true (down e) (down-pos e))
 times-zero false m e = simp (zero-mul, mul-zero, mul-one) (round-zero false (down e) (down-pos e))
 
--- x + (y × 0), where y is a number
+-- x + (y × 0), where y is finite.
 pub plus-nothing : (x y : Float) → T (fits binary64 x) → (x ≡ minusZero → ⊥) → isFinite y ≡ true → add binary64 x (mul binary64 y plusZero) ≡ x
 plus-nothing x nan p h f = absurd (false≢true f)
 plus-nothing x (inf s) p h f = absurd (false≢true f)
 plus-nothing x (fin s m e) p h f = rw (times-zero s m e) (plus-zero s x p h)
 
--- 0 + x
+-- 0 + x is x, unless x is -0.
 pub zero-plus : (x : Float) → T (fits binary64 x) → (x ≡ minusZero → ⊥) → add binary64 plusZero x ≡ x
 unfolding add
 zero-plus nan p h = refl
 zero-plus (inf t) p h = refl
 zero-plus (fin t m e) p h = simp (zero-mul, mul-one, one-mul) (sum-left t (m * up e) (down e) (size-above t m e p h) ∙ rounded binary64 t m e p)
 
--- the size of a number that equals another
+-- The magnitude of a number that equals another.
 size-of : (s : Bool) (m : ℕ) (e : ℤ) (n : ℕ) → eq (fin s m e) (fin false n (pos 0)) ≡ true → m * up e * 1 ≡ n * 1 * down e
 unfolding eq
 size-of s m e n h = eqb→eq _ _ (and-l (eqb (m * up e * 1) (n * 1 * down e)) _ (subst T (sym h) tt))
 
--- the floats that equal 0
+-- The floats that equal 0.
 pub equals-zero : (x : Float) → T (fits binary64 x) → eq x plusZero ≡ true → (x ≡ plusZero) ⊎ (x ≡ minusZero)
 unfolding eq
 equals-zero nan p h = absurd (false≢true h)
@@ -98,7 +98,7 @@ equals-zero (inf s) p h = absurd (false≢true h)
 equals-zero (fin true m e) p h = inr (only-zero true m e p (simp (mul-one, zero-mul) at (size-of true m e 0 h)))
 equals-zero (fin false m e) p h = inl (only-zero false m e p (simp (mul-one, zero-mul) at (size-of false m e 0 h)))
 
--- the float that equals 1
+-- The only float that equals 1.
 pub equals-one : (x : Float) → T (fits binary64 x) → eq x one ≡ true → x ≡ one
 unfolding eq fits
 equals-one nan p h = absurd (false≢true h)

@@ -1,4 +1,4 @@
--- Laws of one float: what `is_finite`, `is_small` and `pattern` compute.
+-- Lemmas about one float: what `is_finite`, `is_small` and `pattern` compute.
 use mathlib.Core.Path.{_≡_, refl, sym, ap, _∙_, subst}
 use mathlib.Core.Bool.{Bool, true, false, not, false≢true}
 use Prim.Native.Nat.{ℕ, _+_, _*_, _<_}
@@ -13,11 +13,11 @@ use lib.Ieee.Scale.{round-same}
 use borrow.Author.Tests.{ltb-false, lt-ltb, le-ltb}
 use Rattle.layer_offset.specs.Number.{plusZero, tolerance, isFinite, magnitude, isSmall, pattern}
 
--- a fraction that is zero rounds to zero
+-- A fraction that is zero rounds to zero.
 pub round-zero : (s : Bool) (c : ℕ) → 0 < c → round binary64 s 0 c ≡ round binary64 s 0 1
 round-zero s c h = round-same binary64 s 0 c 0 1 h (omega arith) (omega arith)
 
--- a number less itself is +0
+-- A number minus itself is +0.
 difference : (s : Bool) (a c : ℕ) → 0 < c → sum binary64 s a (not s) a c ≡ plusZero
 unfolding sum round
 difference true a c h = rw (le-ltb a a (omega arith), sub-self a) (round-zero false c h)
@@ -32,7 +32,7 @@ less-itself (inf false) = refl
 less-itself (fin s m e) =
     ap (λ (y : Float). eq y plusZero) (difference s (m * up e * down e) (down e * down e) (mul-pos (down-pos e) (down-pos e)))
 
--- `is_small`: between minus a bound above zero and the bound
+-- Lemmas for `is_small`: x lies between minus a positive bound and the bound.
 module _ (n : ℕ) (d : ℤ) (h : 0 < n) where
   reach : (e : ℤ) → 0 < n * up d * down e
   reach e = mul-pos (mul-pos h (up-pos d)) (down-pos e)
@@ -61,7 +61,7 @@ pub not-above-lower : (x : Float) → lt (neg tolerance) x ≡ false → lt (neg
 unfolding isSmall neg
 not-above-lower x k = not-above _ _ (omega arith) x k
 
--- `pattern`: only a NaN differs from itself
+-- Lemmas for `pattern`: only a NaN differs from itself.
 pub pattern-nan : (x : Float) → ne x x ≡ true → 0x7ff8_0000_0000_0000 ≡ pattern x
 unfolding toBits
 pattern-nan x h = rw (differs-from-itself x (subst T (sym h) tt))

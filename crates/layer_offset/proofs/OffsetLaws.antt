@@ -1,4 +1,4 @@
--- Laws of time offsets. `Held` is true of every offset in memory: its numbers are floats that the format has.
+-- Lemmas about time offsets. `Held` is true of every time offset in memory: its numbers are floats of the format.
 use mathlib.Core.Path.{_≡_, refl, sym, subst}
 use mathlib.Core.Logic.{_⊎_, inl, inr, ⊎-elim}
 use mathlib.Core.Bool.{true}
@@ -14,16 +14,16 @@ use Rattle.layer_offset.proofs.NeutralLaws.{minusZero, one-times, times
 abbrev pub Held : LayerOffset → Type 0
 Held o = T (fits binary64 (o .offset)) × T (fits binary64 (o .scale))
 
--- (-0, 1)
+-- The time offset (-0, 1).
 abbrev pub minusIdentity : LayerOffset
 minusIdentity = timed minusZero one
 
--- "Minus zero counts as offset 0 in `is_identity`."
+-- Requirements: "Minus zero counts as offset 0 in `is_identity`."
 pub minus-zero-counts : isIdentity minusIdentity ≡ true
 unfolding isIdentity eq
 minus-zero-counts = refl
 
--- the identities: (0, 1) and (-0, 1)
+-- The identities are (0, 1) and (-0, 1).
 pub only-identities : (o : LayerOffset) → Held o → isIdentity o ≡ true → (o ≡ identity) ⊎ (o ≡ minusIdentity)
 unfolding isIdentity
 only-identities o p h =
@@ -32,7 +32,7 @@ only-identities o p h =
     ⊎-elim (λ (k : o .offset ≡ plusZero). inl (rw (k, scaled))) (λ (k : o .offset ≡ minusZero). inr (rw (k, scaled)))
     (equals-zero (o .offset) (p .0) (is-true _ (and-l (eq (o .offset) plusZero) (eq (o .scale) one) both)))
 
--- "`inverse` gives (0, 1) for scale 0 of either sign"
+-- Requirements: "`inverse` gives (0, 1) for scale 0 of either sign".
 pub inverse-of-zero : (o : Float) → inverted (timed o plusZero) ≡ identity
 unfolding inverted eq
 inverse-of-zero o = refl
@@ -41,20 +41,20 @@ pub inverse-of-minus-zero : (o : Float) → inverted (timed o minusZero) ≡ ide
 unfolding inverted eq
 inverse-of-minus-zero o = refl
 
--- the inverse of (0, 1) is an identity, but not (0, 1): the offset is -0 / 1
+-- The inverse of (0, 1) is an identity, but not (0, 1): its offset is -0 / 1.
 pub inverse-of-identity : inverted identity ≡ minusIdentity
 unfolding inverted eq neg div round
 inverse-of-identity = refl
 
--- (0, 1) is neutral, but that an offset -0 becomes 0
+-- (0, 1) is neutral as the outer one, except that an offset -0 becomes 0.
 pub identity-outer : (o : LayerOffset) → Held o → (o .offset ≡ minusZero → ⊥) → concatenated identity o ≡ o
 identity-outer o p h = rw (one-times (o .offset) (p .0), one-times (o .scale) (p .1), zero-plus (o .offset) (p .0) h)
 
--- as the inner one it wants a scale that is a number: an infinity times 0 is a NaN
+-- As the inner one it is neutral only if the scale is finite: an infinity times 0 is a NaN.
 pub identity-inner : (o : LayerOffset) → Held o → isFinite (o .scale) ≡ true → (o .offset ≡ minusZero → ⊥) → concatenated o identity ≡ o
 identity-inner o p f h = rw (plus-nothing (o .offset) (o .scale) (p .0) h f, times-one (o .scale) (p .1))
 
--- "Two identity offsets compose to exactly (0, 1)": so they do by concatenation, unless both offsets are -0
+-- Requirements: "Two identity offsets compose to exactly (0, 1)". By concatenation they do, unless both offsets are -0.
 pub identities : (o i : LayerOffset) → Held o → Held i → isIdentity o ≡ true → isIdentity i ≡ true
     → (concatenated o i ≡ identity) ⊎ ((o ≡ minusIdentity) × (i ≡ minusIdentity))
 unfolding add mul sum round

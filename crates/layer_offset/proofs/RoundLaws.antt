@@ -1,4 +1,4 @@
--- Rounding gives back a number that the format holds.
+-- Rounding a number that the format holds yields that number.
 use mathlib.Core.Path.{_≡_, sym, ap, _∙_}
 use mathlib.Core.Bool.{Bool, _&&_}
 use Prim.Native.Nat.{ℕ, zero, suc, _+_, _-_, _*_, _%_, _^_, _≤_, _<_}
@@ -17,7 +17,7 @@ exponents : (i j : ℕ) → 2 ^ i ≤ 2 ^ j → i ≤ j
 exponents i j h = le-of-suc-le-suc (lt-of-not-le (λ k. not-le-of-lt (pow-lt k) h))
 
 module _ (f : Format) where
-  -- a bit pattern goes by the sign and the size
+  -- A bit pattern is determined by the sign and the magnitude.
   same-pattern : (s : Bool) (m : ℕ) (e : ℤ) (t : Bool) (n : ℕ) (g : ℤ) → HasValue (fin t n g) s (m * up e) (down e) → toBits f (fin t n g) ≡ toBits f (fin s m e)
   unfolding toBits
   same-pattern s m e t n g v =
@@ -26,20 +26,20 @@ module _ (f : Format) where
       mul-right-comm (n * up g) l (down e) ∙ ap (λ (x : ℕ). x * l) (v .1) ∙ mul-right-comm (m * up e) (down g) l in
       rw (v .0, div-same (n * up g * l) (down g) (m * up e * l) (down e) (down-pos g) (down-pos e) cross)
 
-  -- so two floats that the format holds, of one sign and size, are the same
+  -- So two floats of the format with the same sign and magnitude are equal.
   pub settled : (s : Bool) (m : ℕ) (e : ℤ) (y : Float) → T (fits f (fin s m e)) → T (fits f y) → HasValue y s (m * up e) (down e) → y ≡ fin s m e
   settled s m e nan p q v = absurd v
   settled s m e (inf t) p q v = absurd v
   settled s m e (fin t n g) p q v = sym (ofBits-toBits f (fin t n g) q) ∙ ap (ofBits f) (same-pattern s m e t n g v) ∙ ofBits-toBits f (fin s m e) p
 
-  -- 2 ^ e is a whole number of the format's smallest values
+  -- 2 ^ e is an integer multiple of the smallest positive value of the format.
   steps : (e : ℤ) → down e ≤ 2 ^ low f → (j : ℕ) × (up e * 2 ^ low f ≡ 2 ^ j * down e)
   steps (pos k) h = (k + low f, sym (pow-add 2 k (low f)) ∙ sym (mul-one _))
   steps (negsuc k) h =
       let d = low f - suc k in
       (d, one-mul _ ∙ ap (λ (x : ℕ). 2 ^ x) (sym (back (low f) (suc k) (exponents (suc k) (low f) h))) ∙ pow-add 2 d (suc k))
 
-  -- what `fits` says of a number other than zero
+  -- What `fits` implies for a number other than zero.
   held : (s : Bool) (m : ℕ) (e : ℤ) → T (fits f (fin s (suc m) e)) → (suc m < 2 ^ prec f) × (down e ≤ 2 ^ low f) × (suc m * up e < 2 ^ suc (emax f) * down e)
   unfolding fits
   held s m e p =
@@ -53,7 +53,7 @@ module _ (f : Format) where
         ltb→lt _ _ (and-r (a && b && c) d p),
       )
 
-  -- a number that the format holds is what its own size rounds to
+  -- A number that the format holds is the rounding of its own magnitude.
   pub rounded : (s : Bool) (m : ℕ) (e : ℤ) → T (fits f (fin s m e)) → round f s (m * up e) (down e) ≡ fin s m e
   rounded s zero e p =
       settled s zero e _ p (round-fits f s (zero * up e) (down e))

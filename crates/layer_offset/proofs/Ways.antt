@@ -1,4 +1,4 @@
--- What each way through a function gives: a test's answer p was found, and the value that it picks is returned.
+-- Lemmas for the branches of the functions: the result p of a test is known, and the value that it selects is returned.
 use mathlib.Core.Path.{_≡_, sym, _∙_}
 use mathlib.Core.Bool.{Bool, true, false, not, cond, _&&_}
 use Prim.Native.Nat.{ℕ}
@@ -9,14 +9,14 @@ use Rattle.layer_offset.specs.declared.OffsetBits.{OffsetBits}
 use Rattle.layer_offset.specs.Number.{pattern}
 use Rattle.layer_offset.specs.Offset.{patterns, samePatterns}
 
--- a conjunction whose first test passed, and one whose first test did not
+-- A conjunction whose first test passed, and one whose first test failed.
 pub and-on : (a b p r : Bool) → p ≡ a → p ≡ true → r ≡ b → r ≡ (a && b)
 and-on a b p r h k e = rw (sym h ∙ k) e
 
 pub and-left : (a b p : Bool) → p ≡ a → p ≡ false → p ≡ (a && b)
 and-left a b p h k = rw (sym h ∙ k) k
 
--- the same where the first test compares numbers
+-- A conjunction whose first test compares numbers.
 pub same-on : (m n : ℕ) (b : Bool) → m ≡ n → b ≡ (eqb m n && b)
 same-on m n b h = rw (eq-eqb m n h)
 
@@ -26,7 +26,7 @@ same-left m n b h = rw (ne-eqb m n h)
 pub flipped : (a p : Bool) → p ≡ a → not p ≡ not a
 flipped a p h = rw h
 
--- the patterns of an offset, and those of two, compared
+-- The bit patterns of a time offset, and the comparison of those of two.
 pub patterned : (o : LayerOffset) (m n : ℕ) → m ≡ pattern (o .offset) → n ≡ pattern (o .scale) → record { 0 = m; 1 = n } ≡ patterns o
 patterned o m n h k = rw (h, k)
 
@@ -34,7 +34,7 @@ pub compared : (a b : LayerOffset) (x y : OffsetBits) (r : Bool) → x ≡ patte
     → r ≡ samePatterns (patterns a) (patterns b)
 compared a b x y r h k e = rw (h, k) at e
 
--- a choice whose test passed, and one whose test did not
+-- A conditional whose test passed, and one whose test failed.
 pub pick-on : {X : Type 0} (t p : Bool) (r x y : X) → p ≡ t → p ≡ true → r ≡ x → r ≡ cond t x y
 pick-on t p r x y h k e = rw (sym h ∙ k) e
 

@@ -1,5 +1,5 @@
--- What a block, or the end of the input, makes of the line so far and the state. A block is taken apart where `stop` says: one line with
--- its newline, or a part of a line.
+-- Lemmas about the line so far and the state after a block or the end of the input. A block is split at `stop`: one line with its newline,
+-- or a part of a line.
 use mathlib.Core.Path.{_≡_, refl, sym, _∙_}
 use mathlib.Core.Bool.{Bool, true, false, cond}
 use mathlib.Core.List.{List, [], _∷_, _++_, append-assoc, append-nil}
@@ -16,7 +16,7 @@ use Rattle.lines.specs.Taking.{stop, mostIn, lineAt}
 use Rattle.lines.proofs.TakeLaws.{most-le}
 
 module _ {S : Type 0} (most : ℕ) (next : S → Line → S) (reply : S → Line → Text) where
-  -- one line of the block, with its newline
+  -- One line of the block, with its newline.
   pub fed-one : (l : Line) (st : S) (s : Text) → stop s < length s
       → fed most next reply (l, st) (take (suc (stop s)) s) ≡ (text [], next st (grown most l (take (stop s) s)))
   unfolding fed grown stop
@@ -43,7 +43,7 @@ module _ {S : Type 0} (most : ℕ) (next : S → Line → S) (reply : S → Line
       go true k ih = append-nil (reply st l)
       go false k ih = ih (le-of-suc-le-suc k)
 
-  -- a block with no newline
+  -- A block with no newline.
   pub fed-part : (l : Line) (st : S) (s : Text) → length s ≤ stop s → fed most next reply (l, st) s ≡ (grown most l s, st)
   unfolding fed grown stop
   fed-part l st [] h = refl
@@ -66,7 +66,7 @@ module _ {S : Type 0} (most : ℕ) (next : S → Line → S) (reply : S → Line
       go true k ih = absurd (not-suc-le-zero k)
       go false k ih = ih (le-of-suc-le-suc k)
 
-  -- two blocks, one after the other
+  -- Two blocks, one after another.
   pub fed-append : (c : Line × S) (a b : Text) → fed most next reply c (a ++ b) ≡ fed most next reply (fed most next reply c a) b
   unfolding fed
   fed-append c [] b = refl
@@ -78,7 +78,7 @@ module _ {S : Type 0} (most : ℕ) (next : S → Line → S) (reply : S → Line
   said-append c [] b = refl
   said-append c (x ∷ a) b = rw (said-append (turn most next reply c x) a b, append-assoc)
 
--- the end of the input is one newline more where a line is unfinished
+-- The end of the input acts as one more newline if a line is unfinished.
 module _ {S : Type 0} (next : S → Line → S) (reply : S → Line → Text) (st : S) where
   end-some : (most n : ℕ) (mem : Text) (v : Bool) → (v ≡ true → suc n ≤ length mem)
       → atEnd most next reply (cond v (text (take (suc n) mem)) overlong) st ≡ reply st (cond v (text (take (suc n) mem)) overlong)
@@ -96,7 +96,7 @@ module _ {S : Type 0} (next : S → Line → S) (reply : S → Line → Text) (s
       end-some m n mem (leb (suc n) m) (λ e. omega (arith, leb-true (suc n) m e, most-le (length mem)))
       ∙ rw (le-leb 1 (suc n) (omega arith)) (sym (append-nil (reply st (lineAt (suc n) mem))))
 
--- two machines whose states keep a relation answer alike
+-- Two state machines whose states stay in a relation produce the same output.
 pub simulates : {S T : Type 0} (R : S → T → Type 0) (next : S → Line → S) (reply : S → Line → Text) (next' : T → Line → T) (reply' : T → Line → Text)
     → ((s : S) (t : T) (l : Line) → R s t → (reply s l ≡ reply' t l) × R (next s l) (next' t l))
     → (ls : List Line) (s : S) (t : T) → R s t → answers next reply s ls ≡ answers next' reply' t ls

@@ -1,4 +1,4 @@
--- The line so far grows, in memory, by the bytes that are added to it.
+-- Lemmas about appending bytes to the line so far in its buffer.
 use mathlib.Core.Path.{_≡_, refl, sym, ap, _∙_}
 use mathlib.Core.Bool.{Bool, true, false, cond}
 use mathlib.Core.List.{[], _∷_, _++_, append-assoc, append-nil}
@@ -15,13 +15,13 @@ use Rattle.lines.specs.Blocks.{push, grown}
 use Rattle.lines.specs.Taking.{mostIn, lineAt, lengthAfter, memoryAfter}
 use Rattle.lines.proofs.TakeLaws.{most-le}
 
--- an overlong line stays so
+-- An overlong line stays overlong.
 grown-overlong : (most : ℕ) (s : Text) → grown most overlong s ≡ overlong
 unfolding grown
 grown-overlong most [] = refl
 grown-overlong most (b ∷ s) = grown-overlong most s
 
--- another one has its bytes, until they are too many
+-- Any other line has its bytes, until they are too many.
 grown-text : (most : ℕ) (t s : Text) → length t ≤ most → grown most (text t) s ≡ lineOf most (t ++ s)
 unfolding grown
 grown-text most t [] h = rw (append-nil t, le-leb (length t) most h)
@@ -45,7 +45,7 @@ unfolding grown
 grown-append most l [] r = refl
 grown-append most l (b ∷ s) r = grown-append most (push most l b) s r
 
--- a text that is written behind n bytes
+-- A text that is written after n bytes.
 module _ (n : ℕ) (s mem : Text) (h : n + length s ≤ length mem) where
   head-length : length (take n mem ++ s) ≡ n + length s
   head-length = length-append (take n mem) s ∙ ap (λ (k : ℕ). k + length s) (length-take-le n mem (omega arith))
@@ -70,7 +70,7 @@ module _ (most n : ℕ) (s mem : Text) (h : most ≤ length mem) where
       go true e = placed-length n s mem (omega (arith, leb-true (n + length s) most e))
       go false e = refl
 
-  -- a line that is not overlong
+  -- A line that is not overlong.
   grown-line : n ≤ most → grown most (text (take n mem)) s ≡ cond (leb (n + length s) most) (text (take n mem ++ s)) overlong
   grown-line k =
       let l : length (take n mem) ≡ n = length-take-le n mem (omega arith) in
@@ -89,7 +89,7 @@ module _ (most n : ℕ) (s mem : Text) (h : most ≤ length mem) where
       go false e true f = absurd (omega (arith, leb-false n most e, leb-true (n + length s) most f))
       go false e false f = rw (lt-leb (most + 1) most (omega arith), grown-overlong most s)
 
--- the line in memory, after bytes were added to it, is the line grown by them
+-- After bytes are appended, the line in the buffer is the line grown by them.
 pub line-grown : (n : ℕ) (mem s : Text)
     → lineAt (lengthAfter (mostIn (length mem)) n (length s)) (memoryAfter (mostIn (length mem)) n s mem) ≡ grown (mostIn (length mem)) (lineAt n mem) s
 unfolding lineAt

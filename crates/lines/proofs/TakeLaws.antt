@@ -1,4 +1,4 @@
--- Lemmas for the branches of the functions.
+-- Lemmas for the branches of the functions of this crate.
 use mathlib.Core.Path.{_≡_, refl, sym}
 use mathlib.Core.Logic.{_≢_}
 use mathlib.Core.Bool.{Bool, true, false, cond}
@@ -30,7 +30,7 @@ newline-none s i h e = let k : stop (drop i s) ≡ 0 = rw (drop-of-length-le s h
 
 pub ruleset newlines = (newline-on, newline-found, newline-none)
 
--- the newline, or the end, is not behind the end
+-- The first newline, or the end, lies within the text.
 pub stop-le : (s : Text) → stop s ≤ length s
 unfolding stop
 stop-le [] = omega arith
@@ -59,7 +59,7 @@ most-small room = go (leb room 4096) refl
     go true e = leb-true room 4096 e
     go false e = omega arith
 
--- a line finds room in its memory
+-- A line fits in its buffer.
 pub most-le : (room : ℕ) → mostIn room ≤ room
 unfolding mostIn
 most-le room = go (leb room 4096) refl

@@ -1,4 +1,4 @@
--- In whatever blocks the input comes, the answers are those to the lines of the whole.
+-- The theorem that the output does not depend on how the input is divided into blocks.
 use mathlib.Core.Path.{_≡_, refl, sym, ap, _∙_}
 use mathlib.Core.Bool.{Bool, true, false, cond}
 use mathlib.Core.List.{List, [], _∷_, _++_, map, flatten, append-assoc, append-nil}
@@ -13,18 +13,18 @@ use Rattle.lines.specs.Blocks.{push, grown, fed, said, atEnd, blocks, An
 use Rattle.lines.proofs.LineLaws.{grown-new, grown-append}
 use Rattle.lines.proofs.FeedLaws.{fed-append, said-append}
 
--- an empty line so far
+-- The empty line.
 lineOf-nil : (most : ℕ) → lineOf most [] ≡ text []
 lineOf-nil most = rw (le-leb 0 most (omega arith))
 
--- one byte more on the line so far
+-- One more byte on the line so far.
 push-line : (most : ℕ) (t : Text) (b : ℕ) → push most (lineOf most t) b ≡ lineOf most (t ++ (b ∷ []))
 unfolding grown
 push-line most t b =
     ap (λ (l : Line). push most l b) (sym (grown-new most t)) ∙ sym (grown-append most (text []) t (b ∷ [])) ∙ grown-new most (t ++ (b ∷ []))
 
 module _ {S : Type 0} (most : ℕ) (next : S → Line → S) (reply : S → Line → Text) where
-  -- what is answered to an input that comes whole, and to its end
+  -- The output for an input that arrives as one block, and for its end.
   abbrev finish : Line × S → Text → Text
   finish c s = said most next reply c s ++ atEnd most next reply (fed most next reply c s .0) (fed most next reply c s .1)
 
@@ -39,11 +39,11 @@ module _ {S : Type 0} (most : ℕ) (next : S → Line → S) (reply : S → Line
   last-answered b t st true = sym (append-nil (reply st (text (b ∷ t))))
   last-answered b t st false = sym (append-nil (reply st overlong))
 
-  -- the line so far and the state after a byte, which is a newline or not
+  -- The line so far and the state after a byte; the flag states whether it is a newline.
   abbrev after : Text → S → ℕ → Bool → Line × S
   after t st b v = cond v (text [], next st (lineOf most t)) (push most (lineOf most t) b, st)
 
-  -- the whole, where t is the line so far
+  -- The output for the whole input, where t is the line so far.
   whole : (t : Text) (st : S) (s : Text) → finish (lineOf most t, st) s ≡ answers next reply st (map (lineOf most) (split t s))
   unfolding fed said split answers
   whole [] st [] = rw (lineOf-nil most)

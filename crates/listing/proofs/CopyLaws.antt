@@ -1,4 +1,4 @@
--- Copying the places of a pair.
+-- Lemmas about copying the places of a pair.
 use mathlib.Core.Path.{_≡_, refl, _∙_}
 use mathlib.Core.List.{List, [], _∷_, _++_}
 use Prim.Native.Nat.{ℕ, zero, suc, _+_, _*_, _/_, _≤_, _<_}
@@ -10,13 +10,13 @@ use Rattle.text.specs.Text.{Text, over, placed}
 use Rattle.pairs.specs.Places.{inside, textAt, pairIn, pairsIn}
 use Rattle.listing.specs.Lists.{four, copied}
 
--- a text depends on its own two numbers only
+-- A text depends only on its own two numbers.
 pub text-same : (store : Text) (a b : List ℕ) (i j : ℕ) → getD a (2 * i) 0 ≡ getD b (2 * j) 0 → getD a (2 * i + 1) 0 ≡ getD b (2 * j + 1) 0
     → textAt store a i ≡ textAt store b j
 unfolding textAt inside
 text-same store a b i j s n = rw (s, n) refl
 
--- a pair on its four
+-- A pair depends only on its own four numbers.
 pub pair-same : (store : Text) (a b : List ℕ) (i j : ℕ) → ((k : ℕ) → k < 4 → getD a (4 * i + k) 0 ≡ getD b (4 * j + k) 0) → pairIn store a i ≡ pairIn store b j
 unfolding pairIn
 pair-same store a b i j h =
@@ -33,7 +33,7 @@ pair-same store a b i j h =
       text-same store a b (2 * i + 1) (2 * j + 1) (rw (g, g′) at (h 2 (omega arith))) (rw (k, k′) at (h 3 (omega arith))),
     ) refl
 
--- and a list on the numbers of its pairs
+-- A list depends only on the numbers of its pairs.
 pub list-same : (store : Text) (a b : List ℕ) (n : ℕ) → ((k : ℕ) → k < 4 * n → getD a k 0 ≡ getD b k 0) → pairsIn store a n ≡ pairsIn store b n
 unfolding pairsIn
 list-same store a b zero h = refl
@@ -64,7 +64,7 @@ pushed store places i kept w h =
       pair-same store (over (4 * w) (four places i) kept) places w i (λ k l. over-inside (4 * w) (four places i) kept k (omega arith) l ∙ four-at places i k l),
     ) refl
 
--- where both are there, copying writes the four numbers
+-- If both pairs lie in their slices, copying writes the four numbers.
 pub copied-over : (places : List ℕ) (i w : ℕ) (slots : List ℕ) → 4 * i + 4 ≤ length places → 4 * w + 4 ≤ length slots
     → copied places i w slots ≡ over (4 * w) (four places i) slots
 unfolding copied placed

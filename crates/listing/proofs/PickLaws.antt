@@ -1,4 +1,4 @@
--- Pairs that were picked are read back from memory.
+-- Reading back selected pairs from the slice they were copied to.
 use mathlib.Core.Path.{_≡_, refl, sym, ap, _∙_}
 use mathlib.Core.Bool.{Bool, true, false, cond}
 use mathlib.Core.List.{List, [], _∷_, _++_, append-assoc, flatMap}
@@ -13,7 +13,7 @@ use Rattle.listing.specs.Picks.{passing, picked, Holds, pairsAt}
 use Rattle.listing.proofs.CopyLaws.{pair-same, copied-over, four-at}
 use Rattle.text.proofs.WriteLaws.{over-written}
 
--- at most n of the first n pass
+-- At most n of the first n pairs pass.
 pub passing-few : (passes : ℕ → Bool) (n : ℕ) → length (passing passes n) ≤ n
 unfolding passing
 passing-few passes zero = omega arith
@@ -34,7 +34,7 @@ module _ (places : List ℕ) where
   fours-append [] b = refl
   fours-append (i ∷ a) b = rw (fours-append a b) refl
 
-  -- reading: the first pair, then the others
+  -- Reading the first pair, then the others.
   pairs-shift : (store : Text) (i : ℕ) (rest : List ℕ) (n : ℕ) → pairsIn store (four places i ++ rest) (suc n) ≡ pairIn store places i ∷ pairsIn store rest n
   unfolding pairsIn
   pairs-shift store i rest zero = ap (λ (x : Pair). x ∷ []) (pair-same store (four places i ++ rest) places 0 i (λ k l. first k l))
@@ -62,19 +62,19 @@ module _ (places : List ℕ) where
   unfolding picked
   picked-read store picks old slots w h = rw (h .0, h .1) (all-read store picks (drop (length (flatMap (four places) picks)) old))
 
-  -- memory that has room for the picks keeps its length
+  -- Writing the selected pairs does not change the length of a slice that has capacity for them.
   pub picked-length : (picks slots : List ℕ) → 4 * length picks ≤ length slots → length (picked places picks slots) ≡ length slots
   unfolding picked
   picked-length picks slots h =
       let t : List ℕ = flatMap (four places) picks in
       omega (arith, h, fours-length picks, length-append t (drop (length t) slots), length-drop (length t) slots)
 
-  -- before the first pick memory is as it was
+  -- Before the first selected pair, the slice is unchanged.
   pub picked-none : (slots : List ℕ) → Holds places [] slots slots 0
   unfolding picked flatMap
   picked-none slots = (refl, refl)
 
-  -- one more is copied behind those that were picked
+  -- One more pair is appended to the selected ones.
   module _ (i : ℕ) (picks old slots : List ℕ) (w : ℕ) (held : 4 * i + 4 ≤ length places) (h : Holds places picks old slots w) where
     picked-next : 4 * w + 4 ≤ length slots → copied places i w slots ≡ picked places (picks ++ i ∷ []) old
     unfolding picked flatMap
@@ -82,7 +82,7 @@ module _ (places : List ℕ) where
         let z : 4 * w ≡ length (flatMap (four places) picks) = sym (fours-length picks ∙ ap (λ (n : ℕ). 4 * n) (sym (h .0))) in
         copied-over places i w slots held room ∙ rw (h .1, z, fours-append picks (i ∷ [])) (over-written (flatMap (four places) picks) (four places i) old)
 
-    -- where a test says so
+    -- The same, if a test passes.
     pub picked-turn : (b : Bool) → (b ≡ true → 4 * w + 4 ≤ length slots) → (r : ℕ) (slots′ : List ℕ) → r ≡ cond b (w + 1) w → slots′ ≡ cond b (copied places i w slots) slots
         → Holds places (cond b (picks ++ i ∷ []) picks) old slots′ r
     picked-turn true room r slots′ f g = (f ∙ rw (length-append picks (i ∷ []), h .0) refl, g ∙ picked-next (room refl))

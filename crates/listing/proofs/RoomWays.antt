@@ -61,7 +61,7 @@ module _ (store : Text) (places : List ℕ) where
 
 pub ruleset rooms = (room-source, room-target, room-on, room-begin, room-end)
 
--- what an answer of `room_left` says
+-- What a result of `room_left` implies.
 module _ (l : List Pair) (room : ℕ) (r : Room) (e : r ≡ roomLeft l room) where
   pub left-fits : (left : ℕ) → r ≡ Left left → endBytes l + left ≡ room
   unfolding roomLeft

@@ -22,7 +22,7 @@ use Rattle.pairs.proofs.ListLaws.{list-length, places-length}
 use Rattle.listing.proofs.RoomWays.{end-next, end-grows}
 use Rattle.text.proofs.WriteLaws.{over-written}
 
--- four numbers stored one after the other, and three
+-- Four numbers, and three, stored consecutively.
 pub four-stored : (l : List ℕ) (j a b c d : ℕ) → j + 4 ≤ length l
     → set (set (set (set l j a) (j + 1) b) (j + 2) c) (j + 3) d ≡ over j (a ∷ b ∷ c ∷ d ∷ []) l
 four-stored l j a b c d h =
@@ -58,7 +58,7 @@ module _ (places : List ℕ) (i w : ℕ) (slots : List ℕ) where
   unfolding copied
   copy-some h slots′ e = rw (lt-leb (length places / 4) i h) e
 
--- one text behind another, over memory
+-- One text directly after another, written over a buffer.
 module _ (at : ℕ) (s t out : Text) (h : at + (length s + length t) ≤ length out) where
   first-length : length (take at out) ≡ at
   first-length = length-take-le at out (omega arith)
@@ -89,7 +89,7 @@ module _ (at : ℕ) (s t out : Text) (h : at + (length s + length t) ≤ length 
   over-over =
       rw (le-leb (at + length s) (length out) (omega arith), once-length, le-leb (at + length s + length t) (length out) (omega arith)) over-next
 
--- `write_pair`: s and t are the keys that were read
+-- Lemmas for `write_pair`; s and t are the keys that were read.
 module _ (at : ℕ) (s t ks kt : Text) (e : s ≡ ks) (f : t ≡ kt) where
   pub pair-end : at + length s + length t ≡ at + (length ks + length kt)
   pair-end = omega (arith, ap length e, ap length f)
@@ -103,7 +103,7 @@ module _ (at : ℕ) (s t ks kt : Text) (e : s ≡ ks) (f : t ≡ kt) where
   unfolding placed
   pair-slots l l′ i h w = w ∙ rw (le-leb (4 * i + 4) (length l) h, e, f) refl
 
--- a list and one pair more
+-- A list and one more pair.
 pub list-snoc : (l : List Pair) (x : Pair) → listText (l ++ x ∷ []) ≡ listText l ++ (x .source ++ x .target)
 unfolding listText
 list-snoc [] x = simp append-nil
@@ -117,7 +117,7 @@ places-snoc at (y ∷ l) x =
     let z : n + endBytes l ≡ at + (length (y .source) + length (y .target) + endBytes l) = omega arith in
     rw (places-snoc n l x, z) refl
 
--- `append_list`: behind `start` bytes of the memory o
+-- Lemmas for `append_list`, which writes after `start` bytes of the buffer o.
 module _ (store : Text) (places : List ℕ) where
   pub source-key : (i : ℕ) → (pairIn store places i) .source ≡ keyAt store places false i
   unfolding pairIn
@@ -141,7 +141,7 @@ module _ (store : Text) (places : List ℕ) where
   unfolding pairsIn
   slots-next start i = rw (add-one i) (places-snoc start (first i) (pairIn store places i) ∙ rw (source-key i, target-key i) refl)
 
-  -- before the first pair
+  -- Before the first pair.
   pub at-begin : (start : ℕ) → start ≡ start + endBytes (first 0)
   unfolding pairsIn endBytes
   at-begin start = omega arith
@@ -211,7 +211,7 @@ module _ (store : Text) (places : List ℕ) where
         let z : i ≡ n = omega arith in
         rw (pairsIn-length store places n, le-leb (start + endBytes list) (length o) fits, le-leb n (length p / 4) few) (refl, (w ∙ rw z refl, v ∙ rw z refl))
 
--- `write_list`: from the beginning on
+-- Lemmas for `write_list`, which writes from the beginning.
 module _ (l : List Pair) (o : Text) (p : List ℕ) where
   pub list-first : (r : Fit) (out : Text) (slots : List ℕ) → (r ≡ appendFit 0 l o p) × ((out ≡ appendBytes 0 l o p) × (slots ≡ appendSlots 0 l o p))
       → (r ≡ listFit l o p) × ((out ≡ listBytes l o p) × (slots ≡ listSlots l o p))

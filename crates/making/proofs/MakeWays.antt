@@ -1,4 +1,4 @@
--- Lemmas for the branches of the calls that make a map from pairs.
+-- Lemmas for the branches of the calls that build a map from pairs.
 use mathlib.Core.Path.{_≡_, refl}
 use mathlib.Core.Bool.{Bool, true, false}
 use mathlib.Core.List.{List, [], _∷_}
@@ -20,7 +20,7 @@ use Rattle.map_function.specs.Made.{MapOutcome, refused, weighed, held, asItIs,
 use Rattle.layer_offset.specs.Offset.{identity as noOffset}
 use Rattle.making.specs.Calls.{making, newCall, fromPairCall, fromPairIdentityCall}
 
--- a refusal goes out as it is, and a call whose questions passed gives the map
+-- A refusal is returned unchanged, and a call whose validation passed yields the map.
 module _ (a : Asked) (l : List Pair) (m : Map) (time : LayerOffset) (out : Text) (slots : List ℕ) (q : Asked) (h : q ≡ a) where
   pub made-refused : (x : Refusal) → q ≡ RefusedAsked x → making a l m time out slots ≡ refused x
   made-refused x k = rw (← h, k) refl
@@ -28,18 +28,18 @@ module _ (a : Asked) (l : List Pair) (m : Map) (time : LayerOffset) (out : Text)
   pub made-passed : q ≡ Passed → making a l m time out slots ≡ weighed l m time out slots
   made-passed k = rw (← h, k) refl
 
--- a lent list that passed is held by its slice
+-- The slice of a lent list that passed holds its pairs.
 pub held-passed : (l : Lent) (ts es : List Text) → asked (l ∷ []) ts es ≡ Passed → (o : MapOutcome) → held l o ≡ o
 unfolding held
 held-passed l ts es h o = rw (le-leb (l .count) (length (l .places) / 4) ((first-sound l [] ts es h) .held)) refl
 
--- the maps as the code makes them
+-- The maps as the code builds them.
 module _ (l : List Pair) (time : LayerOffset) (out : Text) (slots : List ℕ) where
   pub new-parts : weighed l (new l) time out slots ≡ fromPartsOutcome l false time out slots
   unfolding new fromPartsOutcome
   new-parts = refl
 
--- a list in memory of the call's own
+-- A list in scratch buffers.
 module _ (l : List Pair) (mark : Bool) (time : LayerOffset) (out : Text) (slots : List ℕ) (store : Text) (places : List ℕ) (n : ℕ) (e : pairsIn store places n ≡ l) (h : n ≤ length places / 4) where
   pub own-parts : weighed l (fromParts l mark) time out slots ≡ held (lentList store places n) (fromPartsOutcome (pairsIn store places n) mark time out slots)
   unfolding held fromPartsOutcome
@@ -49,7 +49,7 @@ module _ (l : List Pair) (mark : Bool) (time : LayerOffset) (out : Text) (slots 
   unfolding held asItIs
   own-copy = rw (le-leb n (length places / 4) h, e) refl
 
--- the calls, opened
+-- The calls, unfolded.
 module _ (store : Text) (places : List ℕ) (out : Text) (slots : List ℕ) where
   pub new-opened : (count : ℕ)
       → newCall store places count out slots

@@ -1,4 +1,4 @@
--- What storing a pair gives.
+-- Lemmas about storing a pair.
 use mathlib.Core.Path.{_≡_, refl, ap, _∙_}
 use mathlib.Core.List.{List, [], _∷_, _++_, append-nil}
 use Prim.Native.Nat.{ℕ, _+_, _*_, _≤_}

@@ -28,7 +28,7 @@ use Rattle.map_function.specs.Made.{MapOutcome, map, refused, mapReply, 
 use Rattle.canonical.proofs.KeepWays.{pairs-made}
 use Rattle.map_function.specs.declared.MapReply.{MapReply}
 
--- what a call that makes a map answers and leaves, once its outcome is known
+-- The reply of a call that builds a map and the contents of the buffers, once its outcome is known.
 pub refusing-map : (o : MapOutcome) (x : Refusal) → o ≡ refused x → (out : Text) (slots : List ℕ)
     → (Refused x ≡ mapReply o) × ((out ≡ mapBytes o out) × (slots ≡ mapSlots o slots))
 unfolding mapReply mapBytes mapSlots
@@ -54,7 +54,7 @@ module _ (store : Text) (places : List ℕ) (n : ℕ) (mark : Bool) (time : Laye
   abbrev copy : MapOutcome
   copy = held (lentList store places n) (asItIs list mark time out slots)
 
-  -- a list that is too long, whatever becomes of it
+  -- A list that is too long is refused, whatever the outcome otherwise.
   many : (o : MapOutcome) → 64 < n → held (lentList store places n) (cond (leb (length list) 64) o (refused TooMany)) ≡ refused TooMany
   unfolding held
   many o h = rw (pairsIn-length store places n, lt-leb n 64 h) (same (leb n (length places / 4)))
@@ -154,7 +154,7 @@ module _ (store : Text) (places : List ℕ) (n : ℕ) (mark : Bool) (time : Laye
             let z : call ≡ map (fromParts list mark) time = asked-room ∙ rw has-room refl in
             rw z (rw (count-is, mark-is) refl, (p ∙ rw (room-still, pairs-are) refl, q ∙ rw (room-still, pairs-are) refl))
 
--- what a function that makes a map answers and leaves, under another name of its outcome
+-- The reply of a function that builds a map and the contents of the buffers, for an equal outcome.
 pub gives-map : (o m : MapOutcome) → o ≡ m → (r : MapReply) (out out′ : Text) (slots slots′ : List ℕ)
     → GivesMap m r out out′ slots slots′ → GivesMap o r out out′ slots slots′
 gives-map o m e r out out′ slots slots′ w = rw e w

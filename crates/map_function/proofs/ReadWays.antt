@@ -1,4 +1,4 @@
--- Lemmas for the branches of the functions that read a map's own numbers.
+-- Lemmas for the branches of the functions that read a map's struct.
 use mathlib.Core.Path.{_≡_, refl}
 use mathlib.Core.Logic.{_≢_}
 use mathlib.Core.Bool.{Bool, true, false, not}

@@ -1,4 +1,4 @@
--- The calls that carry a path, as the code makes them.
+-- The calls that map a path, as the code performs them.
 use mathlib.Core.Path.{_≡_, sym}
 use mathlib.Core.Bool.{true, false}
 use mathlib.Core.List.{List, [], _∷_}
@@ -33,7 +33,7 @@ module _ (store : Text) (places : List ℕ) (f : MapFunction) (p : Text) (room :
   abbrev questions : Asked
   questions = asked (l ∷ []) (p ∷ []) []
 
-  -- a call whose questions passed has a legal path of at most 255 bytes, and ends
+  -- A call whose validation passed has a legal path of at most 255 bytes, and ends.
   module _ (e : questions ≡ Passed) where
     is-short : length p ≤ 255
     is-short = text-short (l ∷ []) p [] [] e

@@ -28,7 +28,7 @@ use Rattle.maps.specs.Map.{Map, source, target, chosenOut, chosenHome, same}
 use Rattle.carry.specs.Quick.{joining, keeping, quickBy, quick, isNone, translateMarked, translatePair, translateBy, quickTranslate}
 use Rattle.mapping.specs.Hand.{within, handed}
 
--- every path that the quick answers give is short
+-- Every path that the code yields has at most 255 bytes.
 abbrev pub Short : Outcome → Type 0
 Short o = (q : Text) → o ≡ path q → length q ≤ 255
 
@@ -83,7 +83,7 @@ short-translate m p = go (chosenOut m p)
         short-cond (isNil (target m i)) (refused NoPath) (translatePair m i (source m i) (target m i) (drop (length (source m i)) p)) (short-refused NoPath)
         (short-pair m i (source m i) (target m i) (drop (length (source m i)) p))
 
--- and so is one that a call gives once its questions passed
+-- So has the path of a call whose validation passed.
 pub short-answered : (a : Asked) (room : ℕ) (o : Outcome) → (a ≡ Passed → Short o) → Short (answered a room o)
 unfolding answered lent
 short-answered Passed room o h = short-cond (leb 255 room) o (refused NoRoom) (h refl) (short-refused NoRoom)
@@ -98,7 +98,7 @@ pub hand-written : (r : Reply) (made out : Text) (n : ℕ) → r ≡ Written n �
     → (Written n ≡ r) × (out′ ≡ handed r made out)
 hand-written r made out n e out′ m = (sym e, rw e m)
 
--- what was made of an outcome, in memory of 255 bytes, goes out as the outcome
+-- The path of an outcome that was written to a scratch buffer of 255 bytes is copied to the lent buffer as the outcome states.
 module _ (o : Outcome) (r : Reply) (buf made : Text) (h : r ≡ reply o) (m : made ≡ memory o buf) where
   room : (o : Outcome) → within (reply o) (length (memory o buf))
   unfolding reply memory

@@ -1,4 +1,4 @@
--- A call on a list whose own questions were put before is the call.
+-- A call on a list that was validated before equals the call that validates the list itself.
 use mathlib.Core.Path.{_≡_, refl, sym, ap, _∙_}
 use mathlib.Core.Bool.{Bool, true, false, cond, _&&_}
 use mathlib.Core.List.{List, [], _∷_}
@@ -72,8 +72,8 @@ module _ (list : Asked) (way : Way) (store : Text) (places : List ℕ) (f : MapF
   unfolding afterList
   after-passed k l = answered-passed (earlierOf list (newCall p)) room (quickWay way (mapOf store places f) p) q both k l
 
--- Questions 1 to 4 of a list and a path are answered by the earlier refusal of the list's own answer and the path's own,
--- so the call is the one that has the list's answer beforehand
+-- Validating a list and a path yields the refusal with the lower number of the two results, so the call equals the one that is given the
+-- result for the list.
 pub after-is-call : (way : Way) (store : Text) (places : List ℕ) (f : MapFunction) (p : Text) (room : ℕ)
     → afterList (asked (lentList store places (f .count) ∷ []) [] []) way store places f p room ≡ wayCall way store places f p room
 unfolding afterList wayCall quickWay
@@ -86,7 +86,7 @@ pub call-is-after : (way : Way) (store : Text) (places : List ℕ) (f : MapFunct
 call-is-after way store places f p room list h =
     sym (after-is-call way store places f p room) ∙ ap (λ (a : Asked). afterList a way store places f p room) (sym (h ∙ empty-asked (lentList store places (f .count))))
 
--- every path that the calls give has at most 255 bytes
+-- Every path that the calls yield has at most 255 bytes.
 short-way : (way : Way) (m : Map) (p : Text) → Short (quickWay way m p)
 unfolding quickWay
 short-way Out m p = short-quick false m p

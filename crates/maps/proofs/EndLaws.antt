@@ -1,4 +1,4 @@
--- The ends of a map: what a list of ends says of each, and that a map made of ends has only ends.
+-- Lemmas about the ends of a map: a map built from ends has only ends.
 use mathlib.Core.Path.{_≡_, refl, sym, ap, _∙_}
 use mathlib.Core.Bool.{Bool, true, false, not, cond, _&&_}
 use mathlib.Core.List.{List, [], _∷_, map}
@@ -15,34 +15,34 @@ use Rattle.maps.specs.New.{fromParts, new, fromPair, fromPairIdentity}
 use Rattle.maps.specs.Derive.{droppingSource, exchanged, inverse, withRootIdentity}
 use Rattle.maps.proofs.WeightLaws.{weight, weight-length, fromParts-weight, droppingSource-weight}
 
--- every source of pairs whose ends are ends is one ..
+-- In a list of ends, every source is an end.
 pub ends-source : (l : List Pair) → allEnds l ≡ true → (i : ℕ) → isEnd (sourceAt l i) ≡ true
 unfolding allEnds
 ends-source [] e i = refl
 ends-source (x ∷ l) e zero = search (and-l, and-r)
 ends-source (x ∷ l) e (suc i) = ends-source l (search (and-l, and-r)) i
 
--- .. and so is every target
+-- In a list of ends, every target is an end.
 pub ends-target : (l : List Pair) → allEnds l ≡ true → (i : ℕ) → isEnd (targetAt l i) ≡ true
 unfolding allEnds
 ends-target [] e i = refl
 ends-target (x ∷ l) e zero = search (and-l, and-r)
 ends-target (x ∷ l) e (suc i) = ends-target l (search (and-l, and-r)) i
 
--- where no source is empty, each has a byte
+-- If no source is empty, each has a byte.
 pub full-source : (l : List Pair) → noEmptySource l ≡ true → (i : ℕ) → i < length l → isNil (sourceAt l i) ≡ false
 unfolding noEmptySource
 full-source [] e i h = absurd (not-suc-le-zero h)
 full-source (x ∷ l) e zero h = not-true (isNil (x .source)) (search and-l)
 full-source (x ∷ l) e (suc i) h = full-source l (search (and-l, and-r)) i (omega arith)
 
--- every pair of a list passes a test
+-- Every pair of a list passes a test.
 unfoldable pub all : (Pair → Bool) → List Pair → Bool
 all ok [] = true
 all ok (x ∷ l) = ok x && all ok l
 
 module _ (ok : Pair → Bool) where
-  -- the number of those that fail
+  -- The number of pairs that fail the test.
   abbrev failing : List Pair → ℕ
   failing l = weight (λ x. cond (ok x) 0 1) l
 
@@ -63,19 +63,19 @@ module _ (ok : Pair → Bool) where
   fewer-pass : (l k : List Pair) → failing k ≤ failing l → all ok l ≡ true → all ok k ≡ true
   fewer-pass l k h e = all-pass k (omega (arith, none-fail l e))
 
-  -- a test that every given pair passes, every pair of the map made of them passes
+  -- If every given pair passes a test, so does every pair of the map built from them.
   pub fromParts-keeps : (l : List Pair) (mark : Bool) → all ok l ≡ true → all ok ((fromParts l mark) .pairs) ≡ true
   fromParts-keeps l mark = fewer-pass l ((fromParts l mark) .pairs) (fromParts-weight (λ x. cond (ok x) 0 1) l mark)
 
-  -- and so does every pair of a map that leaves out a source
+  -- If every pair of a map passes a test, so does every pair of the map without a source.
   pub droppingSource-keeps : (m : Map) (s : Text) → all ok (m .pairs) ≡ true → all ok ((droppingSource m s) .pairs) ≡ true
   droppingSource-keeps m s = fewer-pass (m .pairs) ((droppingSource m s) .pairs) (droppingSource-weight (λ x. cond (ok x) 0 1) m s)
 
--- both ends of a pair are ends
+-- Both texts of a pair are ends.
 abbrev pub areEnds : Pair → Bool
 areEnds x = isEnd (x .source) && isEnd (x .target)
 
--- a test of each end is a test of each pair
+-- A test of each end is a test of each pair.
 pub every-all : (passes : Text → Bool) (l : List Pair) → everyEnd passes l ≡ all (λ (x : Pair). passes (x .source) && passes (x .target)) l
 unfolding everyEnd all
 every-all passes [] = refl
@@ -85,36 +85,36 @@ pub ends-all : (l : List Pair) → allEnds l ≡ all areEnds l
 unfolding allEnds
 ends-all = every-all isEnd
 
--- a test that every given end passes, every end of the map made of them passes
+-- If every given end passes a test, so does every end of the map built from them.
 pub fromParts-every : (passes : Text → Bool) (l : List Pair) (mark : Bool) → everyEnd passes l ≡ true → everyEnd passes ((fromParts l mark) .pairs) ≡ true
 fromParts-every passes l mark e =
     every-all passes ((fromParts l mark) .pairs)
     ∙ fromParts-keeps (λ (x : Pair). passes (x .source) && passes (x .target)) l mark (sym (every-all passes l) ∙ e)
 
--- a map made of ends has only ends: with a mark, ..
+-- A map built from ends by `fromParts` has only ends.
 pub fromParts-ends : (l : List Pair) (mark : Bool) → allEnds l ≡ true → allEnds ((fromParts l mark) .pairs) ≡ true
 fromParts-ends l mark e = ends-all ((fromParts l mark) .pairs) ∙ fromParts-keeps areEnds l mark (sym (ends-all l) ∙ e)
 
--- .. with the mark that its pairs bring, ..
+-- A map built from ends by `new` has only ends.
 pub new-ends : (l : List Pair) → allEnds l ≡ true → allEnds ((new l) .pairs) ≡ true
 unfolding new
 new-ends l = fromParts-ends l false
 
--- .. of one pair, ..
+-- A map built from two ends by `fromPair` has only ends.
 pub fromPair-ends : (x : Pair) → allEnds (x ∷ []) ≡ true → allEnds ((fromPair x) .pairs) ≡ true
 unfolding fromPair
 fromPair-ends x e = e
 
--- .. of one pair beside the mark, ..
+-- A map built from two ends by `fromPairIdentity` has only ends.
 pub fromPairIdentity-ends : (x : Pair) → allEnds (x ∷ []) ≡ true → allEnds ((fromPairIdentity x) .pairs) ≡ true
 unfolding fromPairIdentity
 fromPairIdentity-ends x = fromParts-ends (x ∷ []) true
 
--- .. without a source, ..
+-- A map of ends has only ends after `droppingSource`.
 pub droppingSource-ends : (m : Map) (s : Text) → allEnds (m .pairs) ≡ true → allEnds ((droppingSource m s) .pairs) ≡ true
 droppingSource-ends m s e = ends-all ((droppingSource m s) .pairs) ∙ droppingSource-keeps areEnds m s (sym (ends-all (m .pairs)) ∙ e)
 
--- .. with the mark put to it, ..
+-- A map of ends has only ends after `withRootIdentity`.
 pub withRootIdentity-ends : (m : Map) → allEnds (m .pairs) ≡ true → allEnds ((withRootIdentity m) .pairs) ≡ true
 unfolding withRootIdentity
 withRootIdentity-ends m e = e
@@ -127,12 +127,12 @@ exchanged-ends (x ∷ l) e =
     let t : isEnd (x .target) ≡ true = search (and-l, and-r) in
     rw (s, t) (exchanged-ends l (search (and-l, and-r)))
 
--- .. with its ends exchanged
+-- The inverse of a map of ends has only ends.
 pub inverse-ends : (m : Map) → allEnds (m .pairs) ≡ true → allEnds ((inverse m) .pairs) ≡ true
 unfolding inverse
 inverse-ends m e = fromParts-ends (map (λ (x : Pair). exchanged x) (m .pairs)) (m .mark) (exchanged-ends (m .pairs) e)
 
--- the source of a pair is not empty
+-- The source of a pair is not empty.
 abbrev pub isFull : Pair → Bool
 isFull x = not (isNil (x .source))
 
@@ -141,6 +141,6 @@ unfolding noEmptySource all
 full-all [] = refl
 full-all (x ∷ l) = ap (λ (b : Bool). isFull x && b) (full-all l)
 
--- a map made of pairs has no more than they are
+-- A map has no more pairs than the list it was built from.
 pub fromParts-length : (l : List Pair) (mark : Bool) → length ((fromParts l mark) .pairs) ≤ length l
 fromParts-length l mark = omega (arith, fromParts-weight (λ x. 1) l mark, weight-length l, weight-length ((fromParts l mark) .pairs))

@@ -1,4 +1,4 @@
--- A map in lent memory: the keys that code reads are its ends.
+-- Lemmas about a map in lent memory: the keys that the code reads are its ends.
 use mathlib.Core.Path.{_≡_}
 use mathlib.Core.Bool.{Bool, true, false}
 use mathlib.Core.List.{List}
@@ -13,7 +13,7 @@ use Rattle.pairs.proofs.PlaceLaws.{pairsIn-length, pairsIn-source, pairsIn-targ
 use Rattle.maps.specs.Map.{Map, lentMap, source, target, size, chosenOut, chosenHome}
 use Rattle.pairs.proofs.BestLaws.{served}
 
--- a key that serves is no longer than the path
+-- A key that matches is no longer than the path.
 pub served-long : (p k : Text) → serves p k ≡ true → length k ≤ length p
 served-long p k e = prefix-long p k (served p k e)
 

@@ -1,4 +1,4 @@
--- What an outcome that is a path says, and what is one.
+-- Lemmas about outcomes that are paths.
 use mathlib.Core.Path.{_≡_, refl, ap}
 use mathlib.Core.Bool.{Bool, true, false, cond}
 use mathlib.Core.Option.{Option, none, some}
@@ -10,11 +10,11 @@ use Rattle.path.specs.declared.Refusal.{Refusal}
 use Rattle.path.specs.declared.Refusal.the-variants.{MadeTooLong, MadeIllegal}
 use Rattle.path.specs.Outcome.{path, refused, given}
 
--- a refusal is no path
+-- A refusal is not a path.
 pub no-path : {x : Refusal} {q : Text} → refused x ≡ path q → ⊥
 no-path {x} {q} e = let z : _≡_ {A = ℕ} 0 1 = cc in omega arith
 
--- where a path comes out, the definition gave it, it is short and legal
+-- If the outcome is a path, the definition yields it, and it is legal and has at most 255 bytes.
 pub given-path : (o : Option Text) (q : Text) → given o ≡ path q → (o ≡ some q) × (fits q ≡ true) × (legal q ≡ true)
 unfolding given
 given-path none q e = absurd (no-path e)
@@ -26,7 +26,7 @@ given-path (some r) q e = go (fits r) refl (legal r) refl e
     go true h false k e = absurd (no-path e)
     go false h b k e = absurd (no-path e)
 
--- a short and legal path that the definition gives comes out
+-- A legal path of at most 255 bytes that the definition yields is the outcome.
 pub path-given : (q : Text) → fits q ≡ true → legal q ≡ true → given (some q) ≡ path q
 unfolding given
 path-given q h k = rw (h, k)

@@ -1,5 +1,5 @@
--- The exactness of a leg needs its hypothesis: with the mark and a pair whose source is empty, `/A` goes plainly out and back to itself,
--- and the leg answers 6.
+-- The hypothesis of `leg-exact` is needed: with the mark and a pair whose source is empty, `/A` makes the plain round trip, and the leg
+-- refuses it with 6.
 use mathlib.Core.Path.{_≡_, refl, sym, _∙_}
 use mathlib.Core.Bool.{true}
 use mathlib.Core.List.{[], _∷_}
@@ -12,7 +12,7 @@ use Rattle.maps.specs.Map.{Map, plainOut, plainHome}
 use Rattle.maps.specs.Leg.{translate, PlainPath, ThereAndBack}
 use Rattle.maps.proofs.OutcomeLaws.{no-path}
 
--- the mark and empty→`/`
+-- The map with the mark and the pair empty→`/`.
 abbrev marked : Map
 marked = record { pairs = record { source = []; target = bytes "/" } ∷ []; mark = true }
 
@@ -32,6 +32,6 @@ refuses : translate marked (bytes "/A") ≡ refused NoPath
 unfolding translate
 refuses = refl
 
--- not every map of ends lets out whatever goes plainly there and back
+-- Not every map of ends translates each path that makes the plain round trip.
 pub full-needed : ((m : Map) → allEnds (m .pairs) ≡ true → (p q : Text) → PlainPath p → ThereAndBack m p q → translate m p ≡ path q) → ⊥
 full-needed f = no-path (sym refuses ∙ f marked marked-ends (bytes "/A") (bytes "/A") plain there-and-back)

@@ -1,4 +1,4 @@
--- A map made from pairs weighs no more than they, whatever each pair weighs: nothing is added to them.
+-- The pairs of a map have at most the total weight of the pairs it was built from, whatever each pair weighs: no pair is added.
 use mathlib.Core.Path.{_≡_, refl, ap, _∙_}
 use mathlib.Core.Bool.{Bool, true, false, cond, _&&_, _||_}
 use mathlib.Core.List.{List, [], _∷_, _++_, map}
@@ -14,12 +14,12 @@ use Rattle.maps.specs.New.{isRoots, anyRoots, noRoots, insert, sorted, i
 use Rattle.maps.specs.Compose.{hasSource}
 use Rattle.maps.specs.Derive.{withoutSource, droppingSource}
 
--- what the pairs of a list weigh together, by what each weighs
+-- The total weight of a list of pairs, for a weight of each pair.
 unfoldable pub weight : (Pair → ℕ) → List Pair → ℕ
 weight w [] = 0
 weight w (x ∷ l) = w x + weight w l
 
--- where each weighs one, their number
+-- If each pair weighs one, the total weight is the number of pairs.
 pub weight-length : (l : List Pair) → weight (λ x. 1) l ≡ length l
 unfolding weight
 weight-length [] = refl
@@ -31,7 +31,7 @@ module _ (w : Pair → ℕ) where
   weight-snoc x [] = omega arith
   weight-snoc x (y ∷ l) = omega (arith, weight-snoc x l)
 
-  -- pairs changed one by one weigh what the changed ones weigh
+  -- The weight of a list after each pair was changed.
   pub weight-map : (f : Pair → Pair) (l : List Pair) → weight w (map f l) ≡ weight (λ x. w (f x)) l
   unfolding weight
   weight-map f [] = refl
@@ -76,7 +76,7 @@ module _ (w : Pair → ℕ) where
   canonical-weight mark (x ∷ []) = either (mark && equal (x .source) (x .target)) [] (x ∷ []) (w x + 0) (omega arith) (omega arith)
   canonical-weight mark (x ∷ y ∷ l) = omega (arith, keep-weight mark [] (sorted (x ∷ y ∷ l)), sorted-weight (x ∷ y ∷ l))
 
-  -- dropping adds nothing
+  -- Building a map adds no weight.
   pub fromParts-weight : (l : List Pair) (mark : Bool) → weight w ((fromParts l mark) .pairs) ≤ weight w l
   unfolding fromParts
   fromParts-weight l mark = omega (arith, canonical-weight (mark || anyRoots l) (noRoots l), noRoots-weight l)
@@ -88,7 +88,7 @@ module _ (w : Pair → ℕ) where
       let ih = withoutSource-weight s l in
       either (equal (x .source) s) (withoutSource s l) (x ∷ withoutSource s l) (w x + weight w l) (omega arith) (omega arith)
 
-  -- nor does leaving out the pairs of a source
+  -- Removing the pairs with a source adds no weight.
   pub droppingSource-weight : (m : Map) (s : Text) → weight w ((droppingSource m s) .pairs) ≤ weight w (m .pairs)
   unfolding droppingSource
   droppingSource-weight m s = go (hasSource (m .pairs) s)

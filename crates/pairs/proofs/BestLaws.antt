@@ -1,4 +1,4 @@
--- What the chosen key is: of those that pass the test one with most elements, and the last such.
+-- The selected key: of those that pass the test, one with most elements, and the last of these.
 use mathlib.Core.Path.{_≡_, refl, sym, _∙_}
 use mathlib.Core.Bool.{Bool, true, false, cond, _&&_, false≢true, not}
 use mathlib.Core.Option.{Option, none, some}
@@ -13,14 +13,14 @@ use Rattle.pairs.specs.Best.{better, bestBy, serves, best}
 use Rattle.prefix.specs.Prefix.{hasPrefix}
 use Rattle.text.proofs.BoolLaws.{and-r}
 
--- the key at i is the best of the first n: it passes, none that passes has more elements, and none with as many stands later
+-- The key at index i is the longest match of the first n: it passes, none that passes has more elements, and none with as many comes later.
 pub record Best (passes : Text → Bool) (key : ℕ → Text) (n i : ℕ) : Type 0 where
   pub in-range : i < n
   pub does-pass : passes (key i) ≡ true
   pub most : (k : ℕ) → k < n → passes (key k) ≡ true → elements (key k) ≤ elements (key i)
   pub last : (k : ℕ) → k < n → passes (key k) ≡ true → elements (key i) ≤ elements (key k) → k ≤ i
 
--- what an answer says of the first n keys: none passes, or the one named is the best
+-- What a result states about the first n keys: none passes, or the one at this index is the longest match.
 unfoldable pub Says : (Text → Bool) → (ℕ → Text) → ℕ → Option ℕ → Type 0
 Says passes key n none = (k : ℕ) → k < n → passes (key k) ≡ true → ⊥
 Says passes key n (some i) = Best passes key n i
@@ -28,7 +28,7 @@ Says passes key n (some i) = Best passes key n i
 up-to : (P : ℕ → Type 0) (n : ℕ) → ((k : ℕ) → k < n → P k) → P n → (k : ℕ) → k < suc n → P k
 up-to P n f z k h = elim (ℕ-discrete k n) [ yes e ↦ rw e z | no d ↦ f k (omega arith) ]
 
--- the answer of `bestBy` is true
+-- The result of `bestBy` is correct in this sense.
 pub says : (passes : Text → Bool) (key : ℕ → Text) (n : ℕ) → Says passes key n (bestBy passes key n)
 unfolding Says bestBy
 says passes key zero = λ k h s. omega arith
@@ -59,12 +59,12 @@ says passes key (suc n) = go (bestBy passes key n) (says passes key n) (passes (
     go (some i) f true h = compared i f h (leb (elements (key i)) (elements (key n))) refl
     go (some i) f false h = stays i f (λ s. absurd (false≢true (sym h ∙ s)))
 
--- and so is that of `best`, of the keys that serve the path
+-- The result of `best` is correct too, for the keys that match the path.
 pub best-says : (p : Text) (key : ℕ → Text) (n : ℕ) → Says (serves p) key n (best p key n)
 unfolding best
 best-says p key n = says (serves p) key n
 
--- a key that serves is a prefix
+-- A key that matches is a prefix.
 pub served : (p k : Text) → serves p k ≡ true → hasPrefix p k ≡ true
 unfolding serves
 served p k h = and-r (not (isNil k)) (hasPrefix p k) h

@@ -1,4 +1,4 @@
--- A list that was written is read back as it was.
+-- The theorem that reading a list that was written yields that list.
 use mathlib.Core.Path.{_≡_, refl, sym, _∙_}
 use mathlib.Core.List.{List, [], _∷_, _++_, append-assoc}
 use Prim.Native.Nat.{ℕ, zero, suc, _+_, _*_, _<_}
@@ -22,7 +22,7 @@ unfolding listPlaces
 places-length at [] = refl
 places-length at (x ∷ l) = let e = places-length (at + length (x .source) + length (x .target)) l in omega arith
 
--- a text that stands behind `before`, read at the place that names it
+-- A text that is stored after `before`, read at its place.
 read-text : (before t after : Text) (places : List ℕ) (j : ℕ) → getD places (2 * j) 0 ≡ length before → getD places (2 * j + 1) 0 ≡ length t
     → textAt (before ++ (t ++ after)) places j ≡ t
 unfolding textAt inside
@@ -30,7 +30,7 @@ read-text before t after places j s n =
     let r : length (before ++ (t ++ after)) ≡ length before + (length t + length after) = simp length-append in
     rw (s, n, le-leb (length before + length t) (length (before ++ (t ++ after))) (omega arith), drop-append-seam before (t ++ after), take-append-seam t after)
 
--- the pair behind k others, whose bytes are `before` and whose places are `earlier`
+-- The pair after k others, whose bytes are `before` and whose places are `earlier`.
 module _ (x : Pair) (k : ℕ) (before rest : Text) (earlier later : List ℕ) (e : length earlier ≡ 4 * k) where
   number : (n : ℕ) → getD (earlier ++ (fourOf (length before) (x .source) (x .target) ++ later)) (4 * k + n) 0 ≡ getD (fourOf (length before) (x .source) (x .target) ++ later) n 0
   number n = rw (← e) (getD-append-add earlier (fourOf (length before) (x .source) (x .target) ++ later) n 0)
@@ -53,7 +53,7 @@ module _ (x : Pair) (k : ℕ) (before rest : Text) (earlier later : List ℕ) (e
   unfolding pairIn
   read-pair = rw (read-source, read-target)
 
--- every pair of a list behind k others
+-- Every pair of a list that is stored after k others.
 pub read-pairs : (l : List Pair) (i k : ℕ) (before after : Text) (earlier later : List ℕ) → length earlier ≡ 4 * k → i < length l
     → pairIn (before ++ (listText l ++ after)) (earlier ++ (listPlaces (length before) l ++ later)) (k + i) ≡ pairAt l i
 unfolding listText listPlaces

@@ -1,4 +1,4 @@
--- The list in lent memory, pair by pair.
+-- Lemmas about a list in lent memory, pair by pair.
 use mathlib.Core.Path.{_≡_, refl, ap, _∙_}
 use mathlib.Core.Bool.{Bool, true, false, cond, _&&_, _||_}
 use mathlib.Core.List.{List, [], _∷_, _++_}
@@ -40,7 +40,7 @@ module _ (store : Text) (places : List ℕ) where
       earlier : i < n → (i < n → pairAt all i ≡ pairIn store places i) → getD (all ++ pairIn store places n ∷ []) i nothing ≡ pairIn store places i
       earlier l f = List·getD-append all (pairIn store places n ∷ []) nothing i (rw (pairsIn-length n) l) ∙ f l
 
-  -- the sources and the targets, as keys
+  -- The sources and the targets, as keys.
   pub pairsIn-source : (n i : ℕ) → i < n → sourceAt (pairsIn store places n) i ≡ keyAt store places false i
   unfolding pairIn
   pairsIn-source n i h = let z : 2 * i ≡ 2 * i + 0 = omega arith in ap (λ (x : Pair). x .source) (pairsIn-at n i h) ∙ ap (λ (j : ℕ). textAt store places j) z
@@ -49,12 +49,12 @@ module _ (store : Text) (places : List ℕ) where
   unfolding pairIn
   pairsIn-target n i h = ap (λ (x : Pair). x .target) (pairsIn-at n i h)
 
--- the key that was chosen is the best
+-- The selected key is the longest match.
 pub chosen-best : (passes : Text → Bool) (key : ℕ → Text) (n i : ℕ) → bestBy passes key n ≡ some i → Best passes key n i
 unfolding Says
 chosen-best passes key n i e = rw e at (says passes key n)
 
--- the choice looks at the first n keys only
+-- The selection depends only on the first n keys.
 module _ (passes : Text → Bool) (key key′ : ℕ → Text) where
   better-same : (n : ℕ) (o : Option ℕ) → bestBy passes key′ n ≡ o → ((i : ℕ) → i < suc n → key i ≡ key′ i) → better key o n ≡ better key′ o n
   better-same n none e same = refl
@@ -69,7 +69,7 @@ module _ (passes : Text → Bool) (key key′ : ℕ → Text) where
       let e : bestBy passes key n ≡ bestBy passes key′ n = best-same n (λ i h. same i (omega arith)) in
       rw (e, better-same n (bestBy passes key′ n) refl same, same n (omega arith))
 
--- what the questions say of the list, once they are asked of its places
+-- What the questions imply for the list, once its places have passed them.
 pub every-snoc : (passes : Text → Bool) (l : List Pair) (x : Pair) → everyEnd passes l ≡ true → passes (x .source) ≡ true → passes (x .target) ≡ true
     → everyEnd passes (l ++ x ∷ []) ≡ true
 unfolding everyEnd
@@ -92,7 +92,7 @@ module _ (store : Text) (places : List ℕ) where
       (and-r (placesAll passes store places (2 * n)) (passes (textAt store places (2 * n))) k)
       (and-r (placesAll passes store places (2 * n + 1)) (passes (textAt store places (2 * n + 1))) g)
 
-  -- a place that passed question 1 holds a short text
+  -- A place that passed question 1 holds a text of at most 255 bytes.
   place-short : (j : ℕ) → fitsAt store places j ≡ true → lengthAt places j ≤ 255
   unfolding fitsAt
   place-short j h = go (leb (length places / 2) j) refl h
@@ -117,12 +117,12 @@ module _ (store : Text) (places : List ℕ) where
   fit-texts (suc n) h =
       rw (fit-texts n (and-l (placesFit store places n) (fitsAt store places n) h)) (fit-text n (and-r (placesFit store places n) (fitsAt store places n) h))
 
--- a pair read by its ends
+-- A pair, given its ends.
 pub pair-is : (store : Text) (places : List ℕ) (i : ℕ) (s t : Text) → s ≡ keyAt store places false i → t ≡ keyAt store places true i → pair s t ≡ pairIn store places i
 unfolding pairIn
 pair-is store places i s t h k = let z : 2 * i + 0 ≡ 2 * i = omega arith in rw (h, k, z)
 
--- the ends of short pairs; behind the list there are empty ones
+-- The ends of pairs of at most 255 bytes each; beyond the list they are empty.
 pub short-at : (l : List Pair) → allShort l ≡ true → (i : ℕ) → (length (sourceAt l i) ≤ 255) × (length (targetAt l i) ≤ 255)
 unfolding allShort
 short-at [] e i = (omega arith, omega arith)

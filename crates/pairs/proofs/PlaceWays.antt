@@ -16,7 +16,7 @@ use Rattle.pairs.specs.Places.{inside, textAt, keyAt, fitsAt, placesFit,
 no-length : (places : List ℕ) (j : ℕ) → length places / 2 ≤ j → getD places (2 * j + 1) 0 ≡ 0
 no-length places j h = List·getD-eq-default places 0 (omega arith)
 
--- an empty part, whichever way the test goes
+-- An empty part, whatever the result of the test.
 either : (b : Bool) (s : Text) → [] ≡ cond b (take 0 s) []
 either true s = refl
 either false s = refl

@@ -1,4 +1,4 @@
--- The ancestors of legal paths: they are legal, they end at `/` or the empty path, and there are at most 128.
+-- The ancestors of legal paths: they are legal, they end at `/` or the empty path, and there are at most 128 of them.
 use mathlib.Core.Path.{_≡_, refl, _∙_}
 use mathlib.Core.Bool.{Bool, true, false, cond, false≢true}
 use mathlib.Core.List.{List, [], _∷_}
@@ -14,7 +14,7 @@ use Rattle.parts.proofs.ReadLaws.{Shape, empty, root, below, shape, clo
 use Rattle.parts.proofs.LastLaws.{Last, here, behind, beyond, last, begins-byte, behind-byte, behind-name, may-end, last-legal, before, slash-len, before-lt}
 use Rattle.parts.proofs.ParentLaws.{parent-take, parent-less}
 
--- one step
+-- One step.
 pub ancestors-none : (k : ℕ) (p : Text) → hasParent p ≡ false → ancestorsIn k p ≡ p ∷ []
 unfolding ancestorsIn
 ancestors-none zero p e = refl
@@ -28,12 +28,12 @@ pub ancestors-least : (p : Text) → ancestorsIn 0 p ≡ p ∷ []
 unfolding ancestorsIn
 ancestors-least p = refl
 
--- one length for each
+-- There is one length for each ancestor.
 pub lens-count : (p : Text) → length (ancestorLens p) ≡ length (ancestors p)
 unfolding ancestorLens
 lens-count p = length-map (ancestors p) length
 
--- every ancestor of a legal path is legal
+-- Every ancestor of a legal path is legal.
 in-legal : (k : ℕ) (p : Text) (i : ℕ) → legal p ≡ true → legal (getD (ancestorsIn k p) i []) ≡ true
 unfolding ancestorsIn legal
 in-legal zero p zero e = e
@@ -50,7 +50,7 @@ pub ancestors-legal : (p : Text) (i : ℕ) → legal p ≡ true → legal (getD 
 unfolding ancestors
 ancestors-legal p i e = in-legal (length p - 1) p i e
 
--- the last of them has no parent: it is `/` or empty
+-- The last ancestor has no parent: it is `/` or empty.
 abbrev pub furthest : List Text → Text
 furthest l = getD l (length l - 1) []
 
@@ -93,7 +93,7 @@ pub ancestors-end : (p : Text) → legal p ≡ true → parent (furthest (ancest
 unfolding ancestors parent
 ancestors-end p e = rw (in-end (length p - 1) p e (omega arith))
 
--- A weight for each state, which grows by at most one at a byte.
+-- A weight for each state, which grows by at most one at each byte.
 abbrev weight : State → ℕ
 weight Slash = 0
 weight Name = 1
@@ -149,7 +149,7 @@ accept-weight Dot e = absurd (false≢true e)
 accept-weight Prop e = omega arith
 accept-weight Dead e = absurd (false≢true e)
 
--- a byte that begins a part leads to a state of weight 0
+-- A byte that begins a part leads to a state of weight 0.
 module _ (a : ℕ) (start : isIdentifierStart a ≡ false) (cont : isIdentifierCont a ≡ false) (close : eqb a 125 ≡ false) where
   mark-light : (s : State) → weight (step s a) ≤ 0
   unfolding step
@@ -169,7 +169,7 @@ unfolding isIdentifierStart isIdentifierCont
 begins-light s =
     begins-byte (λ (a : ℕ). weight (step s a) ≤ 0) (mark-light 47 refl refl refl s) (mark-light 123 refl refl refl s) (mark-light 46 refl refl refl s)
 
--- So each parent of a legal path is shorter by two, counted in this way.
+-- So, measured by this weight, each parent of a legal path is shorter by two.
 closed-run : (r : Text) → startsName r ≡ true → weight (run Closed r) ≤ length r
 unfolding run
 closed-run [] e = absurd (false≢true e)
@@ -204,7 +204,7 @@ in-most (suc k) r e = go (lastPart r) refl (λ x. in-most k x)
         let l = last r j h in
         rw (onwards (some j) h) (omega (arith, ih (take j r) (last-legal Slash l e), falls Slash l e, length-take j r))
 
--- a legal path has at most 128 ancestors, itself counted
+-- A legal path has at most 128 ancestors, including itself.
 pub ancestors-most : (p : Text) → legal p ≡ true → length p ≤ 255 → length (ancestors p) ≤ 128
 unfolding ancestors
 ancestors-most p e l = go (shape p e) l

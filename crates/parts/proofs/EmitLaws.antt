@@ -1,4 +1,4 @@
--- Lemmas for the branches of the functions that write a text without its selections.
+-- Lemmas for the branches of the functions that strip selections.
 use mathlib.Core.Path.{_≡_, refl, sym, ap, _∙_}
 use mathlib.Core.Logic.{_≢_}
 use mathlib.Core.Bool.{Bool, true, false, not}
@@ -75,7 +75,7 @@ module _ (m : Bool) (a : ℕ) (r out : Text) (j : ℕ) where
 
 pub ruleset emits = (turned-inside, turned-outside, slash-long, slash-over, inside-long, inside-over, open-long, open-over, itself-long, itself-over)
 
--- `strip_into`: what has been written, and what is left to write
+-- The loop invariant of `strip_into`: what has been written, and what remains to be written.
 pub record Sofar (p out₀ out : Text) (m : Bool) (i j : ℕ) : Type 0 where
   pub text : Text
   pub long : length text ≡ j

@@ -1,4 +1,4 @@
--- Where the last part of a text begins, and what stands before it.
+-- Lemmas about where the last part of a text begins, and about the text before it.
 use mathlib.Core.Path.{_≡_, refl, sym, ap, _∙_}
 use mathlib.Core.Bool.{Bool, true, false, cond, true≢false, false≢true}
 use mathlib.Core.List.{[], _∷_, _++_}
@@ -19,7 +19,7 @@ use Rattle.grammar.proofs.LegalLaws.{start-cont}
 pub no-part : {k : ℕ} → none ≡ some k → ⊥
 no-part {k} e = let z : _≡_ {A = ℕ} 0 1 = cc in omega arith
 
--- the last part of a text begins at its first byte, right behind that, or later
+-- The last part of a text begins at its first byte, directly after that, or later.
 pub data Last : Text → ℕ → Type 0 where
   here : (a : ℕ) (r : Text) → beginsAt a r ≡ true → Last (a ∷ r) 0
   behind : (a : ℕ) (r : Text) → beginsBehind a r ≡ true → Last (a ∷ r) 1
@@ -39,7 +39,7 @@ last (a ∷ r) k e = go (lastPart r) refl (λ j. last r j)
     go none h ih = first (beginsAt a r) (beginsBehind a r) refl refl (rw h at e)
     go (some j) h ih = let z : k ≡ suc j = cc in rw z (beyond a (ih j h))
 
--- the bytes at which a part begins
+-- The bytes at which a part begins.
 pub begins-byte : (P : ℕ → Type 0) → P 47 → P 123 → P 46 → (a : ℕ) (r : Text) → beginsAt a r ≡ true → P a
 unfolding beginsAt
 begins-byte P slash brace dot a r e = go (eqb a 47) (eqb a 123) refl refl
@@ -66,7 +66,7 @@ last-lt (here a r b) = omega arith
 last-lt (behind a r b) = omega (arith, name-long r (behind-name a r b))
 last-lt (beyond a l) = omega (arith, last-lt l)
 
--- Before a part that the automaton goes on to read, a text may end.
+-- A text may end before a part that the automaton goes on to read.
 module _ (a : ℕ) (start : isIdentifierStart a ≡ false) (cont : isIdentifierCont a ≡ false) (equals : eqb a 61 ≡ false) (close : eqb a 125 ≡ false) where
   mark-dies : (s : State) → accept s ≡ false → step s a ≡ Dead
   unfolding step accept
@@ -99,7 +99,7 @@ last-legal s (here a r b) e = may-end s a r b e
 last-legal s (behind a r b) e = let z : a ≡ 125 = behind-byte a r b in rw z (ap accept (closes s r (rw z at e)))
 last-legal s (beyond a l) e = last-legal (step s a) l e
 
--- Behind a slash: the last part is that of what follows, or else it begins at the slash.
+-- After a slash, the last part is that of the following text, or else it begins at the slash.
 abbrev behindSlash : Option ℕ → ℕ
 behindSlash none = 0
 behindSlash (some k) = suc k
@@ -113,7 +113,7 @@ slash-part (b ∷ r) e = go (lastPart (b ∷ r)) refl
     go none h = rw h
     go (some k) h = rw h
 
--- so the parent is the slash and what stands before that part
+-- So the parent is the slash and the text before that part.
 abbrev pub before : Option ℕ → ℕ
 before none = 0
 before (some k) = k
@@ -135,7 +135,7 @@ before-lt (b ∷ r) e = go (lastPart (b ∷ r)) refl
     go none h = omega arith
     go (some k) h = last-lt (last (b ∷ r) k h)
 
--- In a property no part begins: not at a byte of a name ..
+-- No part begins at a byte of a name.
 name-part : (a : ℕ) (r : Text) → isIdentifierCont a ≡ true → partAt a r ≡ none
 unfolding partAt isIdentifierCont
 name-part a r h = go (beginsAt a r) (beginsBehind a r) refl refl
@@ -149,7 +149,7 @@ none-on : (a : ℕ) (r : Text) → partAt a r ≡ none → lastPart r ≡ none �
 unfolding lastPart
 none-on a r f g = rw (g, f)
 
--- .. and not at a `:`
+-- No part begins in a property, either at a byte of a name or at a `:`.
 property-part : (r : Text) → (accept (run Prop r) ≡ true → lastPart r ≡ none) × (accept (run Dot r) ≡ true → lastPart r ≡ none)
 unfolding run step lastPart
 property-part [] = (λ e. refl, λ e. refl)
@@ -159,7 +159,7 @@ property-part (a ∷ r) = (
   λ e. choose (isIdentifierStart a) Prop Dead r (λ h f. none-on a r (name-part a r (start-cont a h)) (property-part r .0 f)) (λ _ d. dies r d) e,
 )
 
--- so its dot begins the last part
+-- So the last part of a property path begins at its dot.
 dot-last : (s : State) (r : Text) → accept (run (step s 46) r) ≡ true → lastPart r ≡ none
 unfolding step
 dot-last Slash r e = dies r e

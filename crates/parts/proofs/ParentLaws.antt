@@ -1,4 +1,4 @@
--- Parents and prim paths of legal paths.
+-- Lemmas about parents and prim paths of legal paths.
 use mathlib.Core.Path.{_≡_, refl, ap, _∙_}
 use mathlib.Core.Bool.{Bool, true, false, cond, _||_, false≢true}
 use mathlib.Core.List.{_∷_, _++_}
@@ -15,7 +15,7 @@ use Rattle.parts.specs.Parent.{lastPart, endAt, parentLen, hasParent, pa
 use Rattle.parts.proofs.ReadLaws.{Shape, empty, root, below, shape}
 use Rattle.parts.proofs.LastLaws.{last, last-lt, last-legal, before, slash-len, before-lt, Dotted, dotted}
 
--- what `parent_len` and `prim_len` give is no longer than the text, whatever its bytes
+-- The results of `parent_len` and `prim_len` are at most the length of the text, for any bytes.
 pub parent-len-le : (p : Text) → parentLen p ≤ length p
 unfolding parentLen
 parent-len-le p = go (lastPart p) refl
@@ -33,7 +33,7 @@ prim-len-le p = go (isProperty p || lastIs 125 p)
     go true = parent-len-le p
     go false = omega arith
 
--- the text before the last part of a legal path is legal ..
+-- The text before the last part of a legal path is legal.
 slash-legal : (r : Text) → accept (run Slash r) ≡ true → legal (take (parentLen (47 ∷ r)) (47 ∷ r)) ≡ true
 unfolding legal
 slash-legal r e = rw (slash-len r e) (go (lastPart r) refl)
@@ -51,7 +51,7 @@ parent-take p e = go (shape p e)
     go root = refl
     go (below r f) = slash-legal r f
 
--- .. and shorter
+-- The text before the last part of a legal path is shorter than the path.
 pub parent-less : (p : Text) → legal p ≡ true → hasParent p ≡ true → length (take (parentLen p) p) < length p
 parent-less p e h = go (shape p e) h
   where
@@ -60,7 +60,7 @@ parent-less p e h = go (shape p e) h
     go root h = absurd (false≢true h)
     go (below r f) h = rw (slash-len r f) (omega (arith, length-take (before (lastPart r)) r, before-lt r f))
 
--- the parent is that text
+-- The parent is that text.
 pub parent-is : (p q : Text) → parent p ≡ some q → (hasParent p ≡ true) × (q ≡ take (parentLen p) p)
 unfolding parent
 parent-is p q e = go (hasParent p) refl
@@ -75,7 +75,7 @@ parent-legal p q e f = rw (parent-is p q f .1) (parent-take p e)
 pub parent-shorter : (p q : Text) → legal p ≡ true → parent p ≡ some q → length q < length p
 parent-shorter p q e f = rw (parent-is p q f .1) (parent-less p e (parent-is p q f .0))
 
--- prim paths
+-- Lemmas about prim paths.
 pub prim-legal : (p : Text) → legal p ≡ true → legal (primPath p) ≡ true
 unfolding primPath primLen
 prim-legal p e = go (isProperty p || lastIs 125 p)
@@ -84,7 +84,7 @@ prim-legal p e = go (isProperty p || lastIs 125 p)
     go true = parent-take p e
     go false = rw (take-length p) e
 
--- a property is its prim path, a dot and the property's name
+-- A property path is its prim path, a dot and the property's name.
 property-len : (p : Text) → isProperty p ≡ true → primLen p ≡ parentLen p
 unfolding primLen
 property-len p f = rw f

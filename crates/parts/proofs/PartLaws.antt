@@ -56,7 +56,7 @@ behind-other r a d = rw (ne-eqb a 125 d)
 
 pub ruleset places = (name-none, name-some, at-slash, at-brace, at-other, behind-close, behind-other)
 
--- `parent_len`: behind the place i no part begins
+-- Lemmas for `parent_len`. The loop invariant: no part begins after index i.
 pub last-behind : (p : Text) (i k : ℕ) → lastPart (drop i p) ≡ some k → lastPart p ≡ some (k + i)
 unfolding lastPart
 last-behind [] i k e = absurd (no-part (rw (drop-nil i) at e))

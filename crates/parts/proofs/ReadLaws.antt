@@ -1,4 +1,4 @@
--- How the automaton reads legal texts, and what it makes of the bytes of names.
+-- Lemmas about how the automaton reads legal texts, and about the bytes of names.
 use mathlib.Core.Path.{_≡_, refl, sym, _∙_}
 use mathlib.Core.Bool.{Bool, true, false, cond, true≢false}
 use mathlib.Core.List.{[], _∷_}
@@ -10,7 +10,7 @@ use Rattle.text.proofs.BoolLaws.{and-l, and-r}
 use Rattle.grammar.specs.Legal.{State, Slash, Name, Opened, Set, Equals, Sel, Closed, Dot, Prop, Dead, isIdentifierCont, step, run, accept, legal}
 use Rattle.grammar.proofs.RunLaws.{dead-refuses}
 
--- a legal text is empty, or `/`, or a slash before a text that the automaton reads to its end
+-- A legal text is empty, or `/`, or a slash before a text that the automaton accepts.
 pub data Shape : Text → Type 0 where
   empty : Shape []
   root : Shape (47 ∷ [])
@@ -23,7 +23,7 @@ shape (a ∷ []) e = rw (eqb-true a 47 (and-l (eqb a 47) true e)) root
 shape (a ∷ b ∷ r) e =
     rw (eqb-true a 47 (and-l (eqb a 47) (accept (run Slash (b ∷ r))) e)) (below (b ∷ r) (and-r (eqb a 47) (accept (run Slash (b ∷ r))) e))
 
--- the two ways in which a test lets the automaton go on
+-- The two branches in which the automaton can continue after a test.
 pub choose : {G : Type 0} (b : Bool) (x y : State) (r : Text) → (b ≡ true → accept (run x r) ≡ true → G) → (b ≡ false → accept (run y r) ≡ true → G)
     → accept (run (cond b x y) r) ≡ true → G
 choose true x y r f g e = f refl e
@@ -32,7 +32,7 @@ choose false x y r f g e = g refl e
 pub dies : {G : Type 0} (r : Text) → accept (run Dead r) ≡ true → G
 dies r e = absurd (dead-refuses r e)
 
--- a `}` is read behind what a selection selects
+-- A `}` is read only after the variant of a selection.
 pub closes : (s : State) (r : Text) → accept (run (step s 125) r) ≡ true → step s 125 ≡ Closed
 unfolding step
 closes Slash r e = dies r e
@@ -46,7 +46,7 @@ closes Dot r e = dies r e
 closes Prop r e = dies r e
 closes Dead r e = dies r e
 
--- bytes of names
+-- Lemmas about the bytes of names.
 pub not-name : (a k : ℕ) → isIdentifierCont k ≡ false → isIdentifierCont a ≡ true → eqb a k ≡ false
 not-name a k n h = go (eqb a k) refl
   where

@@ -1,5 +1,5 @@
--- A text without its selections: it is no longer than the text, it is legal where the text is, it has no selection, and a text without
--- selections stays as it is; where memory has room for the text, it holds the stripped one.
+-- Lemmas about stripping selections: the result is no longer than the text, is legal if the text is, and has no selection; a text without
+-- selections is unchanged. If the buffer has capacity for the text, it holds the stripped one.
 use mathlib.Core.Path.{_≡_, refl, sym, ap, _∙_}
 use mathlib.Core.Bool.{Bool, true, false, cond, false≢true}
 use mathlib.Core.List.{[], _∷_}
@@ -21,7 +21,7 @@ use Rattle.parts.specs.Strip.{piece, turned, stripFrom, strip, stripFit,
 use Rattle.parts.proofs.ReadLaws.{Shape, empty, root, below, shape, choose, dies, not-name}
 use Rattle.grammar.proofs.LegalLaws.{start-cont}
 
--- a byte gives at most one byte
+-- Each byte yields at most one byte.
 either-short : (t : Bool) (x y : Text) → length x ≤ 1 → length y ≤ 1 → length (cond t x y) ≤ 1
 either-short true x y h k = h
 either-short false x y h k = k
@@ -41,7 +41,7 @@ pub strip-shorter : (p : Text) → length (strip p) ≤ length p
 unfolding strip
 strip-shorter p = from-shorter false p
 
--- no byte gives a `{`
+-- No byte yields a `{`.
 piece-lacks : (m : Bool) (a : ℕ) (r : Text) → lacks 123 (piece m a r) ≡ true
 unfolding piece lacks
 piece-lacks true a r = go (beginsBehind a r)
@@ -64,13 +64,13 @@ pub strip-lacks : (p : Text) → lacks 123 (strip p) ≡ true
 unfolding strip
 strip-lacks p = from-lacks false p
 
--- a text without `{` stays as it is
+-- A text without `{` is unchanged.
 pub strip-same : (p : Text) → lacks 123 p ≡ true → strip p ≡ p
 unfolding strip
 strip-same [] f = refl
 strip-same (a ∷ r) f = rw (lacks-first 123 a r f) (ap (λ (t : Text). a ∷ t) (strip-same r (lacks-rest 123 a r f)))
 
--- The stripped text is read beside the text. Inside a selection its reader stays at the name before it ..
+-- The stripped text is read in parallel with the text. Inside a selection, its automaton stays in the name before the selection.
 abbrev within : State → Bool
 within Slash = false
 within Name = false
@@ -83,7 +83,7 @@ within Dot = false
 within Prop = false
 within Dead = false
 
--- .. and behind one it is there too, or behind the slash that was put before a name.
+-- After a selection, its automaton is in that name or after the slash that was written before a name.
 abbrev beside : State → Text → State
 beside Slash r = Slash
 beside Name r = Name
@@ -96,7 +96,7 @@ beside Dot r = Dot
 beside Prop r = Prop
 beside Dead r = Dead
 
--- the two readers stay beside each other at the byte a before r
+-- The two automata stay in step at the byte a followed by r.
 abbrev Along : State → ℕ → Text → Type 0
 Along s a r = (turned (within s) a ≡ within (step s a)) × (run (beside s (a ∷ r)) (piece (within s) a r) ≡ beside (step s a) r)
 
@@ -187,7 +187,7 @@ strip-legal p e = go (shape p e)
     go root = refl
     go (below r f) = or-right (isNil (stripFrom false r)) (accept (run Slash (stripFrom false r))) (strip-run Slash r f)
 
--- stripping into memory with room for the whole text
+-- Stripping into a buffer with capacity for the whole text.
 module _ (p out : Text) (f : Fit) (room : length p ≤ length out) (h : f ≡ stripFit p out) where
   fit-strip : f ≡ Written (length (strip p))
   unfolding stripFit

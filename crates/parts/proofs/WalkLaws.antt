@@ -29,7 +29,7 @@ parent-of-text (a ∷ p) b h e = ap not e
 
 pub ruleset having = (parent-of-nil, parent-of-text)
 
--- the parent of a beginning of p is a beginning of p
+-- The parent of a prefix of p is a prefix of p.
 take-parent : (p : Text) (n m : ℕ) → n ≤ length p → m ≡ parentLen (take n p) → take m p ≡ take (parentLen (take n p)) (take n p)
 take-parent p n m h e =
     let l : parentLen (take n p) ≤ n = omega (arith, parent-len-le (take n p), length-take n p) in
@@ -38,11 +38,11 @@ take-parent p n m h e =
 pub parent-inside : (p : Text) (n m : ℕ) → n ≤ length p → m ≡ parentLen (take n p) → m ≤ length p
 parent-inside p n m h e = omega (arith, parent-len-le (take n p), length-take n p)
 
--- the length of a beginning, which `&path[..n]` wants
+-- The length of a prefix, as `&path[..n]` needs it.
 pub beginning-long : (p : Text) (n : ℕ) → n ≤ length p → n ≡ length (take n p)
 beginning-long p n h = sym (length-take-le n p h)
 
--- `ancestor_count`: count paths were met, the last of them being the first n bytes
+-- Lemmas for `ancestor_count`. The invariant: `count` paths were visited, and the last of them is the first n bytes.
 pub count-begin : (p : Text) → 1 + length (ancestors p) ≡ 1 + length (ancestorsIn (length p - 1) (take (length p) p))
 unfolding ancestors
 count-begin p = rw take-length
@@ -63,7 +63,7 @@ module _ (p : Text) (n count : ℕ) (i : 1 + length (ancestors p) ≡ count + le
 
 pub ruleset counts = (parent-inside, beginning-long, count-begin, count-done, count-end, count-on)
 
--- `write_ancestors`: the lengths from the i-th on are those of the first n bytes and their ancestors
+-- The invariant of `write_ancestors`: the lengths from index i are those of the first n bytes and their ancestors.
 pub record Ahead (p : Text) (i n : ℕ) : Type 0 where
   pub rest : i < length (ancestorLens p) → drop i (ancestorLens p) ≡ map length (ancestorsIn (length p - 1 - i) (take n p))
 
@@ -94,7 +94,7 @@ ahead-on p i n m a l e = record { rest = λ h. go h (hasParent q) refl (length p
         let z : length p - 1 - (i + 1) ≡ k = omega arith in
         rw (z, take-parent p n m l e) (rw (g, ancestors-some k q f) at (next h))
 
--- the first ancestor is the path itself
+-- The first ancestor is the path itself.
 first-is : (k : ℕ) (q : Text) (x : ℕ) (t : List ℕ) → x ∷ t ≡ map length (ancestorsIn k q) → x ≡ length q
 unfolding ancestorsIn
 first-is zero q x t f = cc

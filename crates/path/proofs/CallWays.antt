@@ -15,7 +15,7 @@ use mathlib.Core.Bool.{true}
 use Rattle.grammar.specs.Legal.{fits, legal}
 use Rattle.path.specs.Calls.{newCall}
 
--- whatever the answer's type: a refusal goes out as it is, and a call whose questions passed is answered
+-- For a reply of any type: a refusal is returned unchanged, and a call whose validation passed returns its answer.
 module _ {A : Type 0} (refuse : Refusal → A) (answer : A) (a q : Asked) where
   pub unless-refused : (x : Refusal) → q ≡ a → q ≡ RefusedAsked x → refuse x ≡ unless a refuse answer
   unless-refused x h k = rw (← h, k)
@@ -23,7 +23,7 @@ module _ {A : Type 0} (refuse : Refusal → A) (answer : A) (a q : Asked) where
   pub unless-passed : (y : A) → q ≡ a → q ≡ Passed → y ≡ answer → y ≡ unless a refuse answer
   unless-passed y h k e = rw (← h, k) e
 
--- a call that writes a path
+-- A call that writes a path.
 module _ (a : Asked) (room : ℕ) (o : Outcome) where
   module _ (q : Asked) (h : q ≡ a) where
     pub answered-refused : (x : Refusal) → q ≡ RefusedAsked x → answered a room o ≡ refused x
@@ -38,7 +38,7 @@ module _ (a : Asked) (room : ℕ) (o : Outcome) where
     unfolding answered lent
     answered-passed k l = rw (← h, k, le-leb 255 room l)
 
-  -- what is the same once the questions passed is the same answer
+  -- Outcomes that agree once validation has passed yield the same outcome of the call.
   pub answered-same : (o′ : Outcome) → (a ≡ Passed → o ≡ o′) → answered a room o ≡ answered a room o′
   unfolding answered
   answered-same o′ f = go a refl
@@ -47,7 +47,7 @@ module _ (a : Asked) (room : ℕ) (o : Outcome) where
       go Passed e = ap (λ (x : Outcome). lent room x) (f e)
       go (RefusedAsked x) e = refl
 
--- what the call answers and leaves in memory, once its outcome is known
+-- The reply of the call and the contents of the buffer, once its outcome is known.
 pub refusing : (o : Outcome) (x : Refusal) → o ≡ refused x → (out : Text) → (Refused x ≡ reply o) × (out ≡ memory o out)
 unfolding reply memory
 refusing o x e out = rw e (refl, refl)
@@ -55,7 +55,7 @@ refusing o x e out = rw e (refl, refl)
 pub answering : (o m : Outcome) → o ≡ m → (r : Reply) (out out′ : Text) → (r ≡ reply m) × (out′ ≡ memory m out) → (r ≡ reply o) × (out′ ≡ memory o out)
 answering o m e r out out′ w = rw e w
 
--- a short and legal text passes the questions
+-- A legal text of at most 255 bytes passes validation.
 pub new-passed : (p : Text) → fits p ≡ true → legal p ≡ true → newCall p ≡ Passed
 unfolding newCall asked allFit allLegal
 new-passed p h l = rw (h, l)

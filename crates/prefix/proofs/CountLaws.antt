@@ -1,4 +1,4 @@
--- Laws of the counts of elements, with selections or without.
+-- Lemmas about the number of elements, with or without selections.
 use mathlib.Core.Path.{_≡_, refl}
 use mathlib.Core.Bool.{Bool, true, false, cond, _&&_, _||_, false≢true}
 use mathlib.Core.List.{[], _∷_, _++_}
@@ -11,7 +11,7 @@ use Rattle.grammar.specs.Legal.{isIdentifierCont, isRoot, isEnd}
 use Rattle.grammar.proofs.LegalLaws.{legal-last, end-legal}
 use Rattle.prefix.specs.Elements.{begins, count}
 
--- a text has no more elements than bytes
+-- A text has no more elements than bytes.
 pub count-short : (f : Bool) (s : Text) → count f s ≤ length s
 unfolding count
 count-short f [] = omega arith
@@ -21,7 +21,7 @@ count-short f (a ∷ s) = go (begins f a s) (count-short f s)
     go true ih = omega arith
     go false ih = omega arith
 
--- a text that goes on has no fewer
+-- A text has no fewer elements when more bytes follow.
 begins-more : (f : Bool) (a : ℕ) (s r : Text) → begins f a s ≡ true → begins f a (s ++ r) ≡ true
 begins-more f a [] [] h = h
 begins-more f a [] (x ∷ r) h = go (eqb a 47) (eqb a 123 && f) (eqb a 125) (isIdentifierCont x) h
@@ -44,12 +44,12 @@ count-more f (a ∷ s) r = go (begins f a s) (begins f a (s ++ r)) (begins-more 
     go false true h ih = omega arith
     go false false h ih = omega arith
 
--- `/` has no element
+-- `/` has no element.
 pub count-root : (f : Bool) → count f (47 ∷ []) ≡ 0
 unfolding count
 count-root f = refl
 
--- the elements of a text are those of its parts, where no element begins at the last byte of the first
+-- The elements of a concatenation are those of its parts if no element begins at the last byte of the first part.
 pub count-app : (f : Bool) (s : Text) (c : ℕ) (y : Text) → isIdentifierCont c ≡ false → lastIs 47 s ≡ false
     → count f (s ++ c ∷ y) ≡ count f s + count f (c ∷ y)
 unfolding count lastIs
@@ -57,7 +57,7 @@ count-app f [] c y t l = omega arith
 count-app f (a ∷ []) c y t l = rw (l, t) (omega arith)
 count-app f (a ∷ b ∷ s) c y t l = rw (count-app f (b ∷ s) c y t l) (omega arith)
 
--- so it is behind an end but `/`
+-- That holds after every end except `/`.
 pub count-behind : (f : Bool) (s : Text) (c : ℕ) (y : Text) → isIdentifierCont c ≡ false → isEnd s ≡ true → isRoot s ≡ false
     → count f (s ++ c ∷ y) ≡ count f s + count f (c ∷ y)
 count-behind f s c y t e n = count-app f s c y t (legal-last s (end-legal s e) n)

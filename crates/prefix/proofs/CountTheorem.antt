@@ -1,4 +1,4 @@
--- The elements that a text counts are those of the path that it writes.
+-- The theorem that the number of elements in a path's text is the number of elements in the path.
 use mathlib.Core.Path.{_≡_, refl, sym, ap, _∙_}
 use mathlib.Core.Bool.{Bool, true, false, cond, _&&_, true≢false, false≢true}
 use mathlib.Core.List.{List, [], _∷_, _++_, append-assoc}
@@ -22,7 +22,7 @@ is-not a b h k = go (eqb a b) refl
     go true e = absurd (true≢false (sym h ∙ rw (eqb-true a b e) k))
     go false e = refl
 
--- prims begin with a name, a property does not
+-- The text of prims begins with a name; the text of a property does not.
 prims-start : (p : g.Prim) (r : List g.Prim) (y : Text) → startsName (primsText p r ++ y) ≡ true
 unfolding primsText
 prims-start p [] y = start-cont (p .name .first) (p .name .first-is)
@@ -33,13 +33,13 @@ unfolding propertyText isIdentifierCont
 property-starts none = refl
 property-starts (some x) = refl
 
--- there are selections
+-- There are selections.
 abbrev any : List g.Selection → Bool
 any [] = false
 any (s ∷ r) = true
 
 module _ (f : Bool) where
-  -- a byte but `/`, `{` and `}` adds nothing, and so no byte of a name does
+  -- A byte other than `/`, `{` and `}` adds no element, so no byte of a name does.
   other : (a : ℕ) (r : Text) → eqb a 47 ≡ false → eqb a 123 ≡ false → eqb a 125 ≡ false → count f (a ∷ r) ≡ count f r
   unfolding count
   other a r h k l = rw (h, k, l) (omega arith)
@@ -61,7 +61,7 @@ module _ (f : Bool) where
   unfolding wordText
   word w y = byte (w .first) (w .more ++ y) (w .first-is) ∙ bytes (w .more) y (w .more-are)
 
-  -- what those three add
+  -- What those three bytes add.
   slash-adds : (y : Text) → startsName y ≡ true → count f (47 ∷ y) ≡ suc (count f y)
   unfolding count
   slash-adds [] h = absurd (false≢true h)
@@ -90,7 +90,7 @@ module _ (f : Bool) where
       rw (append-assoc (selectionText s) (selectionsText (u ∷ r)) y)
       (selection s (selectionsText (u ∷ r) ++ y) ∙ omega (arith, selections (u ∷ r) y))
 
-  -- a property has none
+  -- A property has no elements.
   more : (r : List g.Name) → count f (moreText r) ≡ 0
   unfolding moreText count
   more [] = refl
@@ -101,7 +101,7 @@ module _ (f : Bool) where
   property none = refl
   property (some x) = other 46 (nameText (x .first) ++ moreText (x .more)) refl refl refl ∙ name (x .first) (moreText (x .more)) ∙ more (x .more)
 
-  -- what stands between two prims, with the second's name, adds one
+  -- What lies between two prims, with the second one's name, adds one element.
   next : (l : List g.Selection) (y : Text) → startsName y ≡ true
       → cond (any l && startsName (joint l ++ y)) 1 0 + count f (joint l ++ y) ≡ suc (count f y)
   unfolding joint
@@ -132,7 +132,7 @@ module _ (f : Bool) where
       )
       (omega arith)
 
--- the count of a text is the count of its path
+-- The count of a path's text is the count of the path.
 pub counted : Counted
 unfolding render pathCount count
 counted f g.empty = refl

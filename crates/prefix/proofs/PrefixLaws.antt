@@ -1,4 +1,4 @@
--- Laws of prefixes.
+-- Lemmas about prefixes.
 use mathlib.Core.Path.{_≡_, refl, sym, ap, _∙_}
 use mathlib.Core.Bool.{true, _||_, false≢true}
 use mathlib.Core.List.{[], _∷_, _++_, append-nil}
@@ -13,12 +13,12 @@ use Rattle.text.proofs.TextLaws.{after-up, after-down, starts-long}
 use Rattle.grammar.specs.Legal.{Slash, run, accept, legal}
 use Rattle.prefix.specs.Prefix.{follows, followsSome, hasPrefix}
 
--- what may follow s gives a text with the prefix s ..
+-- The text s ++ r has the prefix s exactly if r may follow s.
 pub prefix-made : (s r : Text) → hasPrefix (s ++ r) s ≡ follows s r
 unfolding hasPrefix
 prefix-made s r = rw (after-down s r)
 
--- .. and only that does
+-- A text with the prefix s is s and a remainder that may follow it.
 pub prefix-rest : (p s : Text) → hasPrefix p s ≡ true → (p ≡ s ++ drop (length s) p) × (follows s (drop (length s) p) ≡ true)
 unfolding hasPrefix
 prefix-rest p s h = go (after s p) refl
@@ -29,27 +29,27 @@ prefix-rest p s h = go (after s p) refl
         let k : drop (length s) p ≡ r = rw (after-up s p r e) (drop-append-seam s r) in
         rw k (after-up s p r e, sym (ap (followsSome s) e) ∙ h)
 
--- a text is a prefix of itself
+-- A text is a prefix of itself.
 pub prefix-self : (p : Text) → hasPrefix p p ≡ true
 unfolding follows
 prefix-self p = rw append-nil at (prefix-made p [])
 
--- the empty text is a prefix of the texts that begin with `/`, `.` or `{` ..
+-- The empty text is a prefix of the texts that begin with `/`, `.` or `{`.
 pub prefix-empty : (a : ℕ) (r : Text) → hasPrefix (a ∷ r) [] ≡ (eqb a 47 || eqb a 46 || eqb a 123)
 unfolding hasPrefix
 prefix-empty a r = or-false (eqb a 47 || eqb a 46 || eqb a 123)
 
--- .. and so of every legal text
+-- So the empty text is a prefix of every legal text.
 pub legal-prefix-empty : (p : Text) → legal p ≡ true → hasPrefix p [] ≡ true
 unfolding legal
 legal-prefix-empty [] l = prefix-self []
 legal-prefix-empty (a ∷ r) l = rw (prefix-empty a r, and-l (eqb a 47) (isNil r || accept (run Slash r)) l)
 
--- a text begins with its prefix ..
+-- A text begins with each of its prefixes.
 pub prefix-starts : (p s : Text) → hasPrefix p s ≡ true → starts s p ≡ true
 unfolding starts
 prefix-starts p s h = rw (prefix-rest p s h .0) (ap isSome (after-down s (drop (length s) p)))
 
--- .. and is as long at least
+-- A text is at least as long as each of its prefixes.
 pub prefix-long : (p s : Text) → hasPrefix p s ≡ true → length s ≤ length p
 prefix-long p s h = starts-long s p (prefix-starts p s h)

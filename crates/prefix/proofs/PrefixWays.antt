@@ -14,7 +14,7 @@ use Rattle.text.proofs.TextLaws.{after-up}
 use Rattle.grammar.specs.Legal.{isRoot}
 use Rattle.prefix.specs.Prefix.{boundary, follows, followsSome, hasPrefix}
 
--- the root's test comes last in the code
+-- The code tests for `/` last.
 root-last : (r s d b l : Bool) → (r || s || d || b || l) ≡ (s || d || b || r || l)
 root-last true true d b l = refl
 root-last true false true b l = refl

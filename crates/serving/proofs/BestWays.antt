@@ -36,18 +36,18 @@ unfolding serves
 serves-prefix p [] r l h = absurd (l refl)
 serves-prefix p (a ∷ k) r l h = h
 
--- of two prefixes of one path the longer begins with the other ..
+-- Of two prefixes of one path, the longer begins with the shorter.
 prefix-of : (p s k : Text) → hasPrefix p s ≡ true → hasPrefix p k ≡ true → length s ≤ length k → k ≡ s ++ drop (length s) k
 prefix-of p s k h g l =
     let e : take (length s) p ≡ s = rw (prefix-rest p s h .0) (take-append-seam s (drop (length s) p)) in
     let d : take (length s) p ≡ take (length s) k = rw (prefix-rest p k g .0) (take-append-le (length s) k (drop (length k) p) l) in
     sym (take-append-drop (length s) k) ∙ ap (λ (x : Text). x ++ drop (length s) k) (sym d ∙ e)
 
--- .. and so has no fewer elements
+-- So the longer has no fewer elements.
 no-fewer : (p s k : Text) → hasPrefix p s ≡ true → hasPrefix p k ≡ true → length s ≤ length k → elements s ≤ elements k
 no-fewer p s k h g l = rw (prefix-of p s k h g l) (count-more true s (drop (length s) k))
 
--- `outdoes` decides as the elements do
+-- `outdoes` agrees with the comparison of elements.
 decides : (p s k : Text) → hasPrefix p s ≡ true → hasPrefix p k ≡ true → outdoes p (length s) k ≡ leb (elements s) (elements k)
 unfolding outdoes
 decides p s k h g = go (leb (length s) (length k)) refl
@@ -115,7 +115,7 @@ refused p k h = go (serves p k) refl
     go true e = absurd (h e)
     go false e = refl
 
--- a text that is cut from the store, refused by its place, its length or its last byte
+-- A text of the store that is rejected by its place, its length or its last byte.
 module _ (p store : Text) (start n : ℕ) where
   outside : length store < start + n → serves p (cut store start n) ≡ false
   unfolding cut
@@ -206,7 +206,7 @@ offset-target invert h = rw h
 pub offset-source : (invert : Bool) → invert ≡ false → 0 ≡ 2 * cond invert 1 0
 offset-source invert h = rw h
 
--- what the loop keeps: what was found is what `best` chooses of the first i keys
+-- The loop invariant: the match so far is what `best` selects of the first i keys.
 abbrev keptIn : Kept → Option ℕ
 keptIn f = cond (eqb (f .bytes) 0) none (some (f .at))
 
@@ -220,7 +220,7 @@ pub holds-none : (p : Text) (key : ℕ → Text) → Holds p key 0 (record { at 
 unfolding best
 holds-none p key = record { chosen = refl; blank = λ e. refl; kept = λ h. absurd (h refl); short = omega arith }
 
--- a key that serves is not empty
+-- A key that matches is not empty.
 served-long : (p k : Text) → serves p k ≡ true → length k ≢ 0
 served-long p k s e = false≢true (serves-empty p k e ∙ s)
 
@@ -257,7 +257,7 @@ module _ (p : Text) (key : ℕ → Text) (i : ℕ) where
   ]
   cases at e false h s = rw s (record { chosen = rw s (h .chosen); blank = h .blank; kept = h .kept; short = h .short })
 
--- the numbers of the keys that are held stand in the slice
+-- The numbers of the keys that count lie in the slice.
 pub held-there : (places : List ℕ) (n held offset : ℕ) (invert : Bool) → held ≡ least n (keysHeld places invert) → offset ≡ 2 * cond invert 1 0
     → 4 * held + offset ≤ length places + 2
 unfolding keysHeld
@@ -274,7 +274,7 @@ module _ (store : Text) (places : List ℕ) (invert : Bool) (offset i : ℕ) (o 
   holds-on p f f′ h c =
       rw (c, key-is, add-one i) (cases p (keyAt store places invert) i (f .at) (f .bytes) (serves p (keyAt store places invert i)) h refl)
 
--- behind the keys that the slice holds there are none
+-- Beyond the keys that the slice holds, no key matches.
 best-rest : (p : Text) (key : ℕ → Text) (m n : ℕ) → m ≤ n → ((k : ℕ) → m ≤ k → key k ≡ []) → best p key m ≡ best p key n
 unfolding best
 best-rest p key m zero l f = let e : m ≡ 0 = omega arith in rw e

@@ -1,4 +1,4 @@
--- What the reply to a search says of the choice.
+-- What the result of a lookup implies for the selected pair.
 use mathlib.Core.Path.{_≡_, refl, sym, ap, _∙_}
 use mathlib.Core.Bool.{true, false, false≢true}
 use mathlib.Core.Option.{Option, none, some}

@@ -70,7 +70,7 @@ module _ (p store : Text) (start n k i : ℕ) (key : Text) where
 
 pub ruleset rivalling = (beats-not, beats-before, beats-behind, rival-none, rival-long, rival-outside, rival-refused, rival-asked)
 
--- what the loop keeps: none of the first k keys is a rival of the key at i
+-- The loop invariant: none of the first k keys would be selected instead of the key at index i.
 pub record Unrivalled (p : Text) (key : ℕ → Text) (i k : ℕ) : Type 0 where
   pub so-far : (m : ℕ) → m < k → rivals p (key m) m i (key i) ≡ false
 
@@ -160,7 +160,7 @@ module _ (p : Text) (key : ℕ → Text) (n i : ℕ) where
             | no d ↦ absurd (lost j w (ne-eqb j i (λ q. d (sym q))) (ltb j i) refl)
           ]
 
--- the keys in lent memory
+-- The keys in lent memory.
 module _ (p store : Text) (places : List ℕ) (n : ℕ) (invert : Bool) (i : ℕ) (s : Text) (b : Bool) (e : s ≡ keyAt store places invert i) (h : b ≡ serves p s) (held : ℕ) (m : held ≡ least n (keysHeld places invert)) where
   pub best-lost : (offset k : ℕ) → offset ≡ 2 * cond invert 1 0 → k < held → (r : Bool)
       → r ≡ rivals p (cut store (getD places (4 * k + offset) 0) (getD places (4 * k + offset + 1) 0)) k i s → r ≡ true

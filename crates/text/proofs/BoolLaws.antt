@@ -1,4 +1,4 @@
--- Tests: what a conjunction, a negation and a computed test over a range of numbers say.
+-- Lemmas about conjunction, negation, and tests computed over a range of numbers.
 use mathlib.Core.Path.{_≡_, refl, sym, _∙_}
 use mathlib.Core.Bool.{Bool, true, false, not, _&&_, _||_, false≢true}
 use Prim.Native.Nat.{ℕ, zero, suc, _<_}
@@ -46,7 +46,7 @@ not-false false e = sym e
 pub eqb-self : (a : ℕ) → eqb a a ≡ true
 eqb-self a = eq-eqb a a refl
 
--- a test's answer r is known to be v, and r was found to be t
+-- If the result r of a test is v, and r was found to be t, then v is t.
 pub told : {r v t : Bool} → r ≡ v → r ≡ t → v ≡ t
 told h k = sym h ∙ k
 
@@ -60,11 +60,12 @@ told-true {r} {v} h k = go r h k
     go true h k = sym h
     go false h k = absurd (false≢true (sym k))
 
--- a test at each number below n, which antt computes, and what it says of each
+-- A test holds at each number below n; antt computes this.
 abbrev pub upTo : (ℕ → Bool) → ℕ → Bool
 upTo f zero = true
 upTo f (suc n) = f n && upTo f n
 
+-- What `upTo` implies for each number.
 pub at-each : (f : ℕ → Bool) (n k : ℕ) → upTo f n ≡ true → k < n → f k ≡ true
 at-each f zero k e h = absurd (omega arith)
 at-each f (suc n) k e h =

@@ -1,4 +1,4 @@
--- Laws of texts, and what each way through the comparing functions gives.
+-- Lemmas about texts, and for the branches of the functions that compare them.
 use mathlib.Core.Path.{_≡_, refl, sym, ap, _∙_}
 use mathlib.Core.Logic.{_≢_}
 use mathlib.Core.Bool.{Bool, true, false, not, cond, _&&_, true≢false}
@@ -18,7 +18,7 @@ use Rattle.text.proofs.BoolLaws.{and-l, and-r, and-yes, and-assoc, eqb-
 pub no-text : {q : Text} → none ≡ some q → ⊥
 no-text {q} e = let z : _≡_ {A = ℕ} 0 1 = cc in omega arith
 
--- what follows a prefix, and the whole
+-- The remainder after a prefix, and the whole text.
 pub after-up : (s p r : Text) → after s p ≡ some r → p ≡ s ++ r
 unfolding after
 after-up [] p r e = cc
@@ -63,7 +63,7 @@ unfolding starts after
 starts-none [] p h = refl
 starts-none (a ∷ s) p h = absurd (omega arith)
 
--- a text that begins with s has at each place of s the byte of s
+-- A text that begins with s has the bytes of s at the indices of s.
 pub starts-at : (s p : Text) (i : ℕ) → i < length s → starts s p ≡ true → getD p i 0 ≡ getD s i 0
 unfolding starts
 starts-at s p i h e = rw (after-up s p (drop (length s) p) (starts-rest s p e)) (List·getD-append s (drop (length s) p) 0 i h)
@@ -121,7 +121,7 @@ equal-as-starts (x ∷ a) (y ∷ b) l = go (eqb x y) refl (equal-as-starts a b (
 pub equal-starts : (a b : Text) (r : Bool) → length a ≡ length b → r ≡ starts a b → r ≡ equal a b
 equal-starts a b r l h = h ∙ equal-as-starts a b l
 
--- equal texts are one text
+-- Texts that `equal` accepts are equal.
 pub equal-is : (a b : Text) → equal a b ≡ true → a ≡ b
 unfolding equal
 equal-is [] [] e = refl
@@ -137,8 +137,7 @@ unfolding equal
 equal-self [] = refl
 equal-self (x ∷ a) = rw (eqb-self x) (equal-self a)
 
--- Lemmas for `last_is`.
--- a text is s and then r exactly where it starts with s and r is what follows
+-- A text equals s ++ r exactly if it begins with s and the remainder equals r.
 pub equal-append : (s r t : Text) → equal (s ++ r) t ≡ (starts s t && equal r (drop (length s) t))
 unfolding equal starts after
 equal-append [] r t = refl
@@ -150,6 +149,7 @@ equal-append (a ∷ s) r (b ∷ t) = go (eqb a b) (equal-append s r t)
     go true h = h
     go false h = refl
 
+-- Lemmas for `last_is`.
 pub last-none : (b : ℕ) (s : Text) → length s ≡ 0 → false ≡ lastIs b s
 unfolding lastIs
 last-none b [] l = refl
@@ -176,7 +176,7 @@ last-behind b [] a r = refl
 last-behind b (c ∷ []) a r = refl
 last-behind b (c ∷ d ∷ s) a r = last-behind b (d ∷ s) a r
 
--- `lacks_byte`: what the loop keeps is the test of the bytes read, and the rest
+-- Lemmas for `lacks_byte`. The loop invariant is the test of the bytes read so far and of the remaining bytes.
 pub lacks-on : (b : ℕ) (s : Text) (i : ℕ) (free : Bool) → i < length s → lacks b s ≡ (free && lacks b (drop i s))
     → lacks b s ≡ (free && not (eqb (getD s i 0) b) && lacks b (drop (i + 1) s))
 unfolding lacks
@@ -207,7 +207,7 @@ lacks-join b (a ∷ s) r e f = rw (and-l (not (eqb a b)) (lacks b s) e) (lacks-j
 
 pub ruleset texts = (starts-shorter, starts-none, starts-differ, starts-on, starts-end, equal-lengths, equal-starts, last-none, last-some, lacks-on, lacks-end)
 
--- an empty text, by its length
+-- A text is empty exactly if its length is 0.
 pub nil-length : (t : Text) → length t ≡ 0 → isNil t ≡ true
 nil-length [] h = refl
 nil-length (a ∷ t) h = absurd (omega arith)

@@ -1,4 +1,4 @@
--- What copying leaves in lent memory.
+-- Lemmas about the contents of a lent buffer after copying.
 use mathlib.Core.Path.{_≡_, refl, sym, ap, _∙_}
 use mathlib.Core.Bool.{Bool, true, false, cond}
 use mathlib.Core.List.{_++_, append-assoc, List, []}
@@ -42,19 +42,19 @@ put-over d s at g h = rw (lt-leb (at + length s) (length d) (omega arith))
 
 pub ruleset puts = (put-begin, put-on, put-length, put-end, put-outside, put-over)
 
--- a text at the beginning of memory
+-- A text placed at the beginning of a buffer.
 pub placed-first : (t out : Text) → length t ≤ length out → placed 0 t out ≡ written t out
 unfolding placed
 placed-first t out h = rw (zero-add (length t), le-leb (length t) (length out) h)
 
--- one text behind another
+-- A text placed directly after another.
 pub placed-next : (t s out : Text) → length t + length s ≤ length out → placed (length t) s (written t out) ≡ written (t ++ s) out
 unfolding placed
 placed-next t s out h =
     let l : length (written t out) ≡ length out = simp (length-append, length-drop) (omega arith) in
     rw (l, le-leb (length t + length s) (length out) h) (simp (take-append-seam, drop-append-add, drop-drop, length-append, append-assoc))
 
--- nothing written, a text written where there is room for it, and one behind another
+-- Writing nothing, writing a text that fits, and writing one text directly after another.
 pub over-none : (at : ℕ) (out : Text) → out ≡ over at [] out
 over-none at out = let z : at + 0 ≡ at = omega arith in rw z (sym (take-append-drop at out))
 
@@ -64,19 +64,19 @@ over-length at t out h = simp (length-append, length-take, length-drop) (omega a
 pub over-written : (t s out : Text) → over (length t) s (written t out) ≡ written (t ++ s) out
 over-written t s out = simp (take-append-seam, drop-append-add, drop-drop, length-append, append-assoc)
 
--- the beginning of a text has its length
+-- The first n bytes of a text have length n.
 pub part-size : (n : ℕ) (t : Text) → n ≤ length t → n ≡ length (take n t)
 part-size n t h = sym (length-take-le n t h)
 
--- what was written can be read back
+-- Reading back a text that was written.
 pub read-back : (t out : Text) → take (length t) (written t out) ≡ t
 read-back t out = take-append-seam t (drop (length t) out)
 
--- `&text[k..]` is what is left from k on
+-- `&text[k..]` is the remainder from index k.
 pub rest-whole : (t : Text) (k : ℕ) → take (length t - k) (drop k t) ≡ drop k t
 rest-whole t k = take-all (length t - k) (drop k t) (simp length-drop (omega arith))
 
--- what the answer of a function that writes a text says of the text
+-- What the result of a function that writes a text implies for the text.
 pub fit-length : (t out : Text) (n : ℕ) → fitted t out ≡ Written n → n ≡ length t
 unfolding fitted
 fit-length t out n e = go (leb (length t) (length out)) e
@@ -101,7 +101,7 @@ fit-over t out e = go (leb (length t) (length out)) refl
     go true h = absurd (let z : _≡_ {A = Fit} (Written (length t)) Over = rw h at e in let y : _≡_ {A = ℕ} 0 1 = cc in omega arith)
     go false h = leb-false (length t) (length out) h
 
--- a text that was written to memory of one's own, read back from it
+-- A text that was written to a scratch buffer is read back from it.
 module _ (t buf : Text) (f : Fit) (h : f ≡ fitted t buf) (n : ℕ) (e : f ≡ Written n) where
   pub fit-is : n ≡ length t
   fit-is = fit-length t buf n (sym h ∙ e)

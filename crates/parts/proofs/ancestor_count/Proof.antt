@@ -7,7 +7,7 @@ use Rattle.parts.specs.Parent.{ancestorsIn, ancestors}
 use Rattle.parts.proofs.ancestor_count.Statement.{statement}
 use Rattle.parts.proofs.ancestor_count.Tie as tie
 
--- count paths were met, the last of them being the first n bytes
+-- Invariant: `count` paths were visited, and the last of them is the first n bytes.
 abbrev Inv-loop : tie.InvT-loop
 Inv-loop path n₀ count₀ n count = (n ≤ length path) × (1 + length (ancestors path) ≡ count + length (ancestorsIn (length path - count) (take n path)))
 

@@ -8,7 +8,7 @@ use Rattle.parts.specs.Parent.{lastPart}
 use Rattle.parts.proofs.parent_len.Statement.{statement}
 use Rattle.parts.proofs.parent_len.Tie as tie
 
--- behind the place i no part begins
+-- Invariant: no part begins after index i.
 abbrev Inv-loop : tie.InvT-loop
 Inv-loop path i₀ i = (i ≤ length path) × (lastPart (drop i path) ≡ none)
 

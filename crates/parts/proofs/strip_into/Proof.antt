@@ -6,7 +6,7 @@ use lib.ListN.{length}
 use Rattle.parts.proofs.strip_into.Statement.{statement}
 use Rattle.parts.proofs.strip_into.Tie as tie
 
--- at the byte i, j bytes are written; what the rest of the path gives is still to come
+-- Invariant: before byte i, j bytes are written, and the output for the remainder of the path is still to be written.
 abbrev Inv-loop : tie.InvT-loop
 Inv-loop path out₀ inside₀ i₀ j₀ out inside i j = (i ≤ length path) × (j ≤ i) × (length out ≡ length out₀) × Sofar path out₀ out inside i j
 

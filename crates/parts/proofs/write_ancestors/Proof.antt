@@ -8,7 +8,7 @@ use Rattle.parts.specs.Parent.{ancestorLens}
 use Rattle.parts.proofs.write_ancestors.Statement.{statement}
 use Rattle.parts.proofs.write_ancestors.Tie as tie
 
--- the first i lengths are written, and the next is n
+-- Invariant: the first i lengths are written, and the next one is n.
 abbrev Inv-loop : tie.InvT-loop
 Inv-loop path out₀ count n₀ i₀ out n i = (i ≤ count) × (n ≤ length path) × Ahead path i n × (length out ≡ length out₀) × (out ≡ paste out₀ 0 (ancestorLens path) i)
 
