@@ -90,7 +90,7 @@ module _ {A B : Type 0} (f : A → B) (key : B → ℕ) where
 abbrev pub key : Pair → ℕ
 key x = elements (x .source)
 
--- `insert`, as equations that do not unfold it further.
+-- The equations of `insert`, for use without unfolding it.
 insert-nil : (x : Pair) → insert x [] ≡ x ∷ []
 unfolding insert
 insert-nil x = refl
@@ -128,7 +128,7 @@ first x e (y ∷ l) h = elim (ℕ-discrete (key y) e) [
   | no k ↦ rw (level-out key e y l k) (first x e l h)
 ]
 
--- What follows the inserted pair still follows it.
+-- If a pair would be inserted at the front of b, inserting it into a ++ b inserts it into a.
 before : (x : Pair) (a b : List Pair) → insert x b ≡ x ∷ b → insert x (a ++ b) ≡ insert x a ++ b
 unfolding insert
 before x [] b h = h
