@@ -55,8 +55,8 @@ unfoldable pub firstNo : Bool → Bool → Bool → Bool → Asked
 firstNo short isLegal ends counted =
     cond short (cond isLegal (cond ends (cond counted Passed (Refused TooMany)) (Refused NotAnEnd)) (Refused Illegal)) (Refused TooLong)
 
--- Validates the lists of a call, its texts, and those texts that count as ends. Requirements: "Is every path text at most 255 bytes ..? Is
--- every text legal? Is every end a prim path, `/` or empty? .. Has each list .. at most 64 pairs?"
+-- Validates the lists of a call, its texts, and those texts that count as ends. Requirements: "Is every path text at most 255 bytes ..?"
+-- "Is every text legal?" "Is every end a prim path, `/` or empty?" "Has each list .. at most 64 pairs"
 unfoldable pub asked : List Lent → List Text → List Text → Asked
 unfolding firstNo every fits legal isEnd listFits listAll listCounts
 asked lists texts ends =

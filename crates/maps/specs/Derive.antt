@@ -71,7 +71,7 @@ deepenBy m node (some i) =
 
 -- The map deepened to a path without its selections, the node (Rust: deepen_to). The class pair is the one whose source is a prefix of the
 -- node and has most elements, the later on a tie; an empty source counts here. If some pair has the node as its source, the map is
--- unchanged.
+-- unchanged. Requirements, on empty sources: "only `best_prefix` skips it."
 unfoldable pub deepenTo : Map → Text → Map
 unfolding hasSource deepenBy bestBy hasPrefix strip
 deepenTo m path = cond (hasSource (m .pairs) (strip path)) m (deepenBy m (strip path) (bestBy (hasPrefix (strip path)) (source m) (size m)))

@@ -46,18 +46,18 @@ unfoldable pub chosenHome : Map → Text → Option ℕ
 unfolding best
 chosenHome m q = best q (target m) (size m)
 
--- The path p mapped by the selected pair, from the ends a to the ends b. Requirements: "an empty target gives no path. With no pair, the
--- mark returns the path itself."
+-- The path p mapped by the selected pair, from the ends a to the ends b. A pair with an empty target is a block: it makes the paths below
+-- its source unmappable. Requirements: "an empty target gives no path. With no pair, the mark returns the path itself."
 abbrev pub by : Map → (ℕ → Text) → (ℕ → Text) → Text → Option ℕ → Option Text
 by m a b p none = cond (m .mark) (some p) none
 by m a b p (some i) = cond (isNil (target m i)) none (replacePrefix p (a i) (b i))
 
--- Plain mapping (Rust: map_source_to_target).
+-- Plain mapping (Rust: map_source_to_target). Requirements: "Plain mapping is `map_source_to_target`".
 unfoldable pub plainOut : Map → Text → Option Text
 unfolding chosenOut replacePrefix
 plainOut m p = by m (source m) (target m) p (chosenOut m p)
 
--- Plain mapping backwards (Rust: map_target_to_source). Requirements: "plainly back .. whose keys are the targets".
+-- Plain mapping backwards (Rust: map_target_to_source). Requirements: "plainly back is `map_target_to_source`, whose keys are the targets."
 unfoldable pub plainHome : Map → Text → Option Text
 unfolding chosenHome replacePrefix
 plainHome m q = by m (target m) (source m) q (chosenHome m q)
@@ -69,14 +69,14 @@ same none (some j) = false
 same (some i) none = false
 same (some i) (some j) = eqb i j
 
--- The invertibility check: mapping the result q backwards must select the same pair i. Requirements: "gives no path if plain mapping
--- backwards would take another pair for the result, or any pair where none was used".
+-- The invertibility check: mapping the result q backwards must select the same pair i, or no pair if none was used.
 unfoldable pub invertible : Map → Option ℕ → Option Text → Option Text
 unfolding chosenHome
 invertible m i none = none
 invertible m i (some q) = cond (same i (chosenHome m q)) (some q) none
 
--- Translation: strips the selections, maps, and checks invertibility (Rust: translate_to_target). OpenUSD: PcpTranslatePathFromNodeToRoot.
+-- Translation (Rust: translate_to_target). Requirements: "`translate_to_target` strips selections, maps, then gives no path if plain
+-- mapping backwards would take another pair for the result, or any pair where none was used." OpenUSD: PcpTranslatePathFromNodeToRoot.
 unfoldable pub translated : Map → Text → Option Text
 unfolding invertible chosenOut plainOut strip
 translated m p = invertible m (chosenOut m (strip p)) (plainOut m (strip p))

@@ -38,7 +38,7 @@ unfolding insert
 sorted [] = []
 sorted (x ∷ xs) = insert x (sorted xs)
 
--- The text p mapped textually by the selected pair: an empty target is joined like any other.
+-- The text p mapped textually by the selected pair. Requirements: "`map_via` joins text, so `/A`→empty takes `/A/B` to `/B` there."
 unfoldable pub viaPair : Map → Text → Option ℕ → Option Text
 unfolding replacePrefix
 viaPair m p none = cond (m .mark) (some p) none
