@@ -6,10 +6,13 @@ use Rattle.asking.proofs.ask_ends.Tie as tie
 use Rattle.asking.proofs.ask_ends.Reads as reads
 use Rattle.asking.proofs.ask_ends.Lts as lts
 use Rattle.asking.proofs.ask_list.Reads as ask-list-reads
+
 slice-aggregate-ask-list : tie.Need-slice-aggregate-ask-list
 slice-aggregate-ask-list c = search needs
+
 ask-list-requires : tie.Need-ask-list-requires
 ask-list-requires c κs = search needs
+
 returns : tie.Need-returns
 returns c = c .ask-list .ensures ∙ ask-empty _ _ _ _
 

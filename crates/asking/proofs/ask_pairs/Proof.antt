@@ -6,10 +6,13 @@ use Rattle.asking.proofs.ask_pairs.Tie as tie
 use Rattle.asking.proofs.ask_pairs.Reads as reads
 use Rattle.asking.proofs.ask_pairs.Lts as lts
 use Rattle.asking.proofs.ask_list.Reads as ask-list-reads
+
 slice-aggregate-e : tie.Need-slice-aggregate-e
 slice-aggregate-e c = search needs
+
 ask-list-requires : tie.Need-ask-list-requires
 ask-list-requires c κs = search needs
+
 returns : tie.Need-returns
 returns c = c .ask-list .ensures ∙ ask-none _ _ refl
 
