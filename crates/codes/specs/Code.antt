@@ -12,7 +12,8 @@ use Rattle.path.specs.declared.Reply.{Reply}
 use Rattle.path.specs.declared.Reply.the-variants.{Written, Refused}
 use Rattle.path.specs.Refusal.{number}
 
--- The code of a value; values are at most 255, so the remainder does not change them.
+-- The code of a value. Every value is far below 2^56 (the length of a path or of a reply line, or a count), so the remainder does not
+-- change it.
 unfoldable pub answer : ℕ → ℕ
 answer n = 256 * (n % 72057594037927936)
 

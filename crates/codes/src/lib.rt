@@ -20,8 +20,8 @@ pub fn number_of(x: path::Refusal) -> usize
     }
 }
 
-// Encodes the value of a reply that is no refusal. Values are at most 255, so the remainder only
-// prevents overflow.
+// Encodes the value of a reply that is no refusal. Every value is far below 2^56, so the remainder only
+// rules out overflow.
 fn answer_of(n: usize) -> usize
     ensures { λ r. ⌜ r ≡ answer n ⌝ }
 {

@@ -46,9 +46,9 @@ pub enum Count {
     Refused(Refusal),
 }
 
-// The reply of a call that writes a path, or the lengths of several paths.
+// The reply of a call that writes to a lent buffer: a path, lengths of paths, statuses or a line.
 pub enum Reply {
-    // The number of bytes written, or of lengths.
+    // The number of items written: bytes, lengths or statuses.
     Written(usize),
     Refused(Refusal),
 }
