@@ -36,10 +36,11 @@ module _ (a b : Asked) where
       unfolding earlierOf
       earlier-second l = rw (h, k, ← e, ← f, lt-leb m n l)
 
--- Both results passed if the combined result is no refusal.
+-- A refusal differs from a passed validation.
 pub never : (x : Refusal) → Refused x ≡ Passed → ⊥
 never x h = let z : _≡_ {A = ℕ} 0 1 = cc in omega arith
 
+-- If the combined result is no refusal, both results passed.
 pub none-earlier : (a b : Asked) → earlierOf a b ≡ Passed → (a ≡ Passed) × (b ≡ Passed)
 unfolding earlierOf
 none-earlier Passed b h = (refl, h)
@@ -50,12 +51,13 @@ none-earlier (Refused x) (Refused y) h = absurd (go (leb (number x) (number y)) 
     go true k = never x k
     go false k = never y k
 
--- Validating two things yields the refusal with the lower number of the two results.
+-- Combining a result with one that passed leaves it unchanged.
 one-passed : (a : Asked) → earlierOf a Passed ≡ a
 unfolding earlierOf
 one-passed Passed = refl
 one-passed (Refused x) = refl
 
+-- Validating two things yields the refusal with the lower number of the two results.
 pub each : (a b c d f l e k : Bool) → earlierOf (firstNo f l e k) (firstNo a b c d) ≡ firstNo (a && f) (b && l) (c && e) (d && k)
 unfolding earlierOf firstNo
 each true true true true f l e k = one-passed (firstNo f l e k)

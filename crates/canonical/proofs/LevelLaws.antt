@@ -44,7 +44,7 @@ module _ {A : Type 0} (key : A → ℕ) where
   levels-above zero x l h = refl
   levels-above (suc e) x l h = rw (levels-above e x l (omega arith), level-out e x l (λ k. omega arith))
 
-  -- The levels contain each item at most once.
+  -- One more item in a list adds at most one item to its levels.
   more : (x : A) (e : ℕ) (l : List A) → length (levels key e (x ∷ l)) ≤ suc (length (levels key e l))
   unfolding levels
   more x zero l = omega arith

@@ -27,7 +27,7 @@ use Rattle.carry.specs.Quick.{joining, keeping, quickBy, quick, isNone, 
 use Rattle.maps.proofs.EndLaws.{ends-source, ends-target}
 use Rattle.grammar.proofs.LegalLaws.{short-fits}
 
--- An illegal joined path is no longer than the original path: only `/` or nothing precedes the remainder.
+-- A remainder that begins with `.` or `{` is not a child prim.
 hang-child : (s : Text) (a : ℕ) → (eqb a 46 || eqb a 123) ≡ true → isChild s a ≡ false
 unfolding isChild isIdentifierCont isIdentifierStart
 hang-child s a h = go (eqb a 46) refl (eqb a 123) refl h
@@ -46,6 +46,7 @@ root-length [] h = refl
 root-length (a ∷ []) h = rw h
 root-length (a ∷ b ∷ t) h = absurd (false≢true (sym (and-no (eqb a 47)) ∙ h))
 
+-- An illegal joined path is no longer than the original path: only `/` or nothing precedes the remainder.
 spoilt-short : (s t r : Text) → isNil s ≡ false → spoils t r ≡ true → length (joined s t r) ≤ length s + length r
 unfolding joined separator body spoils
 spoilt-short s t [] n h = absurd (false≢true (sym (and-no (isNil t || isRoot t)) ∙ h))

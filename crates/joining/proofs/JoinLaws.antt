@@ -24,7 +24,7 @@ use Rattle.prefix.proofs.CountLaws.{count-root, count-behind}
 pub stem : Text → Text
 stem s = cond (isRoot s) [] s
 
--- The same followed by a text.
+-- The stem followed by a text.
 pub stem-root : (y : Text) → stem (47 ∷ []) ++ y ≡ y
 unfolding stem
 stem-root y = refl

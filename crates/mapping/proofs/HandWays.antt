@@ -28,7 +28,7 @@ use Rattle.maps.specs.Map.{Map, source, target, chosenOut, chosenHome, same}
 use Rattle.carry.specs.Quick.{joining, keeping, quickBy, quick, isNone, translateMarked, translatePair, translateBy, quickTranslate}
 use Rattle.mapping.specs.Hand.{within, handed}
 
--- Every path that the code yields has at most 255 bytes.
+-- The path of an outcome, if it is one, has at most 255 bytes.
 abbrev pub Short : Outcome → Type 0
 Short o = (q : Text) → o ≡ path q → length q ≤ 255
 
@@ -83,7 +83,7 @@ short-translate m p = go (chosenOut m p)
         short-cond (isNil (target m i)) (refused NoPath) (translatePair m i (source m i) (target m i) (drop (length (source m i)) p)) (short-refused NoPath)
         (short-pair m i (source m i) (target m i) (drop (length (source m i)) p))
 
--- So has the path of a call whose validation passed.
+-- The path of a call has at most 255 bytes if that holds once validation has passed.
 pub short-answered : (a : Asked) (room : ℕ) (o : Outcome) → (a ≡ Passed → Short o) → Short (answered a room o)
 unfolding answered lent
 short-answered Passed room o h = short-cond (leb 255 room) o (refused NoRoom) (h refl) (short-refused NoRoom)

@@ -169,12 +169,13 @@ unfolding isIdentifierStart isIdentifierCont
 begins-light s =
     begins-byte (λ (a : ℕ). weight (step s a) ≤ 0) (mark-light 47 refl refl refl s) (mark-light 123 refl refl refl s) (mark-light 46 refl refl refl s)
 
--- So, measured by this weight, each parent of a legal path is shorter by two.
+-- After a selection, a text that begins with a name leads to a weight of at most its length.
 closed-run : (r : Text) → startsName r ≡ true → weight (run Closed r) ≤ length r
 unfolding run
 closed-run [] e = absurd (false≢true e)
 closed-run (a ∷ r) e = omega (arith, closed-light a, weight-run (step Closed a) r)
 
+-- So, measured by this weight, each parent of a legal path is shorter by two.
 falls : (s : State) {r : Text} {k : ℕ} → Last r k → accept (run s r) ≡ true → k + 2 + weight (run s r) ≤ length r + weight (run s (take k r))
 unfolding run
 falls s (here a r b) e = omega (arith, weight-run (step s a) r, begins-light s a r b, accept-weight s (may-end s a r b e))
