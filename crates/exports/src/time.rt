@@ -40,8 +40,8 @@ pub extern "C" fn mudvizsor_layer_offset_is_identity(offset: f64, scale: f64) ->
     given.is_identity()
 }
 
-// Returns whether the two time offsets differ by at most 1e-6 in both numbers, or are both invalid with the
-// same bits.
+// Returns whether the two time offsets are both valid and differ by less than 1e-6 in both numbers, or are
+// both invalid with the same bits.
 #[no_mangle]
 pub extern "C" fn mudvizsor_layer_offset_is_close(
     offset: f64,
