@@ -1,5 +1,5 @@
 // The effect of a frame of the program `frames` on the open list, the legs and the counters, for any contents
-// of the lent buffers: specs/Memory.antt of crate memory defines it.
+// of the lent buffers: crates/memory/specs/Memory.antt defines it.
 ghost use mathlib.Core.Path.{_≡_};
 ghost use lib.ListN.{drop};
 ghost use Rattle.memory.specs.Memory.{memory};

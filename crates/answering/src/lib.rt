@@ -1,5 +1,6 @@
 // Processes one line of the program `frames`: decodes and parses it, performs the frame and writes the reply
-// line. The lent buffers may hold anything; the definitions of crate memory state the effect of each frame.
+// line. The lent buffers may hold anything; crates/memory/specs/Memory.antt defines the effect of each
+// frame.
 ghost use mathlib.Core.Path.{_≡_};
 ghost use mathlib.Core.List.{[], _∷_};
 ghost use Prim.Native.Nat.{_+_, _*_, _≤_};

@@ -1,4 +1,4 @@
--- The theorems about `feedOf` (proofs/Theorem.antt): it implements the byte state machine of crate lines on the lent buffers, so the output
+-- The theorems about `feedOf` (proofs/Theorem.antt): it implements the byte state machine of crates/lines on the lent buffers, so the output
 -- is that of the protocol however the input is split into blocks.
 use mathlib.Core.Path.{_≡_}
 use mathlib.Core.Bool.{cond}

@@ -17,8 +17,8 @@ pub struct Fed {
     pub end: usize,
 }
 
-// Consumes the bytes of a block up to the end of one line, or all of them if the line does not end, and
-// writes the reply of a line that ends at offset `end` of `out`.
+// Consumes the bytes of a block up to the end of one line, or all of them if the line does not end. If it
+// ends, processes it and writes its reply at offset `end` of `out`.
 fn turn(
     block: &[u8],
     line: &mut [u8],

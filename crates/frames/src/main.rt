@@ -113,6 +113,8 @@ fn finish(
     }
 }
 
+// Runs the main loop with fixed buffers until the input ends or a write fails; `steps` bounds it so that it
+// provably ends.
 fn main() {
     let mut block = [0u8; 65536];
     let mut line = [0u8; 4096];

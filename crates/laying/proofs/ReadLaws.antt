@@ -46,7 +46,7 @@ unfoldable pub LaidTo : LentRoute → LentRoute → ℕ → Type 0
 unfolding mapAt laidMap
 LaidTo r s n = (k : ℕ) → k < n → (firstAt (s .legs) k ≡ 64 * k) × (sizeAt (s .legs) k ≤ 64) × (mapAt s k ≡ laidMap r k)
 
--- A list of at most 64 pairs yields at most 64 pairs, and an empty one yields none.
+-- The pairs made from a lent list: none from no pairs, and never more than 64.
 made-nothing : (l : Lent) (room : ℕ) → madeOf l room [] ≡ []
 unfolding madeOf
 made-nothing l room = go (canMake l room)

@@ -27,7 +27,7 @@ unfolding decoded frameOf
 heard (text t) = ofBytes (decoded t)
 heard overlong = none
 
--- These definitions hold for any type of state, with the step that a frame takes on it.
+-- Generic in the type of state and in the step that a frame takes on it.
 module _ {S : Type 0} (turns : S → Frame → Turn S) where
   -- The state after a line.
   abbrev pub nextLine : S → Line → S

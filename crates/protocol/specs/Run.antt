@@ -12,7 +12,7 @@ use Rattle.path.specs.Outcome.{Outcome, path, refused}
 use Rattle.protocol.specs.Frame.{Frame, pair, statuses, close-map, close-relocates, out, home, count, kind}
 use Rattle.protocol.specs.State.{State, Turn, start, given, refusal, answerBytes, goes, fourBytes, turn}
 
--- These definitions hold for any type of state, with the step that a frame takes on it.
+-- Generic in the type of state and in the step that a frame takes on it.
 module _ {S : Type 0} (turns : S → Frame → Turn S) where
   -- The state after a frame. Requirements: "A bad frame gives FF09"; it changes nothing.
   abbrev pub next : S → Option Frame → S

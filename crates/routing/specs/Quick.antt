@@ -1,5 +1,5 @@
--- The route as the code computes it, over legs that are all maps: each leg by the fast mapping of crate carry. proofs/QuickLaws.antt proves
--- that the result is that of the definitions.
+-- The route as the code computes it, over legs that are all maps: each leg by the fast mapping of crates/carry. proofs/QuickLaws.antt
+-- proves that the result is that of the definitions.
 use mathlib.Core.Path.{_≡_}
 use Prim.Native.Nat.{ℕ, zero, suc, _≤_}
 use mathlib.Core.Bool.{Bool, true, false, cond}

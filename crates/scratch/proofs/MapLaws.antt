@@ -24,7 +24,7 @@ use Rattle.scratch.specs.Scratch.{Holds}
 use Rattle.scratch.specs.Ends.{madeShort, madeLegal, fromEnds}
 use Rattle.scratch.proofs.ScratchLaws.{holds-list, built-held}
 
--- A map in lent memory is the identity on paths if it has the mark and no pair.
+-- A map in lent memory is the identity on paths exactly if it has the mark and no pair.
 snoc-full : (l : List Pair) (x : Pair) → isEmpty (l ++ x ∷ []) ≡ false
 snoc-full [] x = refl
 snoc-full (y ∷ l) x = refl
