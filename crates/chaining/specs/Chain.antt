@@ -12,7 +12,7 @@ use Rattle.pairs.specs.Pair.{Pair, pairAt}
 use Rattle.path.specs.declared.Refusal.{Refusal}
 use Rattle.path.specs.Outcome.{Outcome, path, refused, made}
 
--- Whether the source of pair n is at least as long, in bytes, as that of the pair found so far.
+-- Whether pair n supersedes the pair found so far: none was found, or the source of pair n is at least as long in bytes.
 abbrev pub longer : List Pair → Option ℕ → ℕ → Bool
 longer l none n = true
 longer l (some i) n = leb (length ((pairAt l i) .source)) (length ((pairAt l n) .source))
@@ -80,7 +80,7 @@ unfolding next goingOn
 chainFor skip l zero p k = chained p k
 chainFor skip l (suc n) p k = goingOn (chainFor skip l n) p k (next skip l p)
 
--- Follows a path through a relocate list. The bound on the number of replacements ends a cyclic list. (Rust: chain_through_relocates)
+-- Follows a path through a relocate list. The bound on the number of replacements ends the chain on a cyclic list. (Rust: chain_through_relocates)
 unfoldable pub chain : Option Text → List Pair → Text → Chained
 unfolding chainFor
 chain skip l p = chainFor skip l (length l) p 0

@@ -51,7 +51,7 @@ pub record Feeds (block : Text) (a a′ : At) : Type 0 where
 abbrev pub again : At → At
 again a = record { used = 0; len = a .len; line = a .line; mem = a .mem; end = 0; out = a .out }
 
--- The state after at most n calls on a block, each with the remainder that the one before left.
+-- The state after n calls on a block, each with the remainder that the one before left.
 unfoldable pub afterCalls : ℕ → Text → At → At
 unfolding feedOf
 afterCalls zero block a = a
@@ -61,7 +61,7 @@ afterCalls (suc n) block a = afterCalls n (drop (feedOf block (again a) .used) b
 abbrev pub answersIn : At → Text
 answersIn a = take (a .end) (a .out)
 
--- The replies of at most n calls on a block, each with the remainder that the one before left.
+-- The replies of n calls on a block, each with the remainder that the one before left.
 unfoldable pub writtenOut : ℕ → Text → At → Text
 unfolding feedOf
 writtenOut zero block a = []

@@ -85,7 +85,7 @@ outputOf st ls = answers (nextLine turn) (answerLine turn) st ls
 
 -- The theorems about the buffers of `frames`.
 pub record Claims : Type 0 where
-  -- Large enough buffers hold the start state, whatever their contents.
+  -- With all counters 0, large enough buffers hold the start state, whatever their contents.
   pub begins : (m : Memory) → Large m → m .kept ≡ fresh → Means m start
   -- Every frame gets the reply of the protocol and leaves buffers that hold the next state.
   pub turns : (m : Memory) (st : State) → Means m st → (f : Frame) → Alike (turnIn m f) (turn st f)

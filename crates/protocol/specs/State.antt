@@ -21,7 +21,7 @@ use Rattle.protocol.specs.Frame.{Frame, pair, statuses, close-map, close
 
 -- The state of `frames` between two lines.
 pub record State : Type 0 where
-  -- The open list: the pairs added since the last close.
+  -- The open list: the pairs added since the last accepted close.
   pub opened : List Pair
   -- The legs closed so far.
   pub legs : List Leg
