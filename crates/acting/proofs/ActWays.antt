@@ -1,4 +1,4 @@
--- What each way through the acts of frames gives. Assumes nothing.
+-- Lemmas about the branches of the functions that perform a frame.
 use mathlib.Core.Path.{_≡_, refl, sym, ap, _∙_}
 use mathlib.Core.Bool.{Bool}
 use mathlib.Core.List.{List, [], _∷_}
@@ -44,14 +44,14 @@ module _ (b : Text) where
   pub kind-some : take (length b - 1) (drop 1 b) ≡ drop 1 b
   kind-some = rest-whole b 1
 
--- no frame was read
+-- No frame was parsed.
 pub no-frame : (f : Frame) → none ≡ some f → ⊥
 no-frame f e = let z : _≡_ {A = ℕ} 0 1 = cc in omega arith
 
 pub same-frame : (f g : Frame) → some f ≡ some g → f ≡ g
 same-frame f g e = cc
 
--- what an answer to an added pair says
+-- The facts that follow from the reply of adding a pair.
 done-is : (o p : Opened) → Done o ≡ Done p → o ≡ p
 done-is o p e = cc
 

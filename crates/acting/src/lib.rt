@@ -1,18 +1,18 @@
-// What a frame of the program `frames` does to the open list, to the legs and to the count, whatever memory is
-// lent: specs/ of crate memory says what each frame makes of it.
+// The effect of a frame of the program `frames` on the open list, the legs and the counters, for any contents
+// of the lent buffers: crates/memory/specs/Memory.antt defines it.
 ghost use mathlib.Core.Path.{_≡_};
 ghost use lib.ListN.{drop};
 ghost use Rattle.memory.specs.Memory.{memory};
 ghost use Rattle.acting.specs.Acting.{countsReply, PairActed, CloseActed};
 
-// What a frame came to: the numbers that are kept, and the reply; its bytes, where there are any, stand at
-// the beginning of the payload.
+// The effect of a frame: the counters after it, and the reply; its payload, if there is one, is at the
+// beginning of the payload buffer.
 pub struct Effect {
     pub kept: memory::Kept,
     pub reply: path::Reply,
 }
 
-// What stands behind the kind of a frame.
+// The bytes after the kind byte of a frame.
 pub fn behind_kind<'a>(frame: &'a [u8]) -> &'a [u8]
     ensures { λ r. ⌜ now r ≡ drop 1 (now (frame .entry)) ⌝ }
 {
@@ -22,7 +22,7 @@ pub fn behind_kind<'a>(frame: &'a [u8]) -> &'a [u8]
     &frame[1..]
 }
 
-// 01: adds a pair to the open list.
+// Frame 01: adds a pair to the open list.
 pub fn act_pair(
     source: &[u8],
     target: &[u8],
@@ -51,7 +51,7 @@ pub fn act_pair(
     }
 }
 
-// 05: counts the frame where it was answered 00.
+// Frame 05: counts the frame if it was answered 00.
 pub fn count_out(k: memory::Kept, r: path::Reply) -> Effect
     ensures { λ a. ⌜ a ≡ record { kept = record { opened = k .opened; legs = k .legs; answered = countsReply r (k .answered) }; reply = r } ⌝ }
 {
@@ -73,7 +73,7 @@ pub fn count_out(k: memory::Kept, r: path::Reply) -> Effect
     }
 }
 
-// 03 and 04: closes the open list as a leg.
+// Frames 03 and 04: closes the open list as a leg.
 pub fn act_close(
     relocates: bool,
     k: memory::Kept,

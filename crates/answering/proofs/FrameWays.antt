@@ -1,4 +1,4 @@
--- From the digits of a line to its answer: what each way gives. Assumes nothing.
+-- Lemmas about the branches from the digits of a line to its reply.
 use mathlib.Core.Path.{_≡_, refl, sym, ap, _∙_, subst}
 use mathlib.Core.Logic.{_≢_}
 use mathlib.Core.Bool.{Bool, true, false, not, cond}
@@ -71,7 +71,7 @@ module _ (line : Text) (len : ℕ) where
     short : length (take len line) ≤ 4096
     short = rw (length-take-le len line i) h
 
-    -- the frame of what was decoded is that of the line
+    -- The frame of the decoded bytes is that of the line.
     hears : (r : ℕ) → (r ≤ length bytes) × (frameOf (take r bytes) ≡ ofBytes (decoded (take len line))) → Heard (lineAt len line) r bytes
     unfolding Heard heard
     hears r w = rw a-line w
@@ -93,7 +93,7 @@ module _ (line : Text) (len : ℕ) where
               ap frameOf (ap (λ (j : ℕ). take j bytes) k ∙ ap (take (length t)) v ∙ read-back t before),
             )
 
-    -- nothing was heard
+    -- The line contains no frame.
     nothing : (o : Option Text) → ofBytes o ≡ none → decoded (take len line) ≡ o → Heard (lineAt len line) 0 bytes
     unfolding frameOf
     nothing o n x = hears 0 (omega arith, sym (ap ofBytes x ∙ n))
@@ -116,7 +116,7 @@ module _ (line : Text) (len : ℕ) where
             let u : Over ≡ Bytes (length t) = y ∙ rw (le-leb (length t) 2048 (fits-half t x)) refl in
             let v : _≡_ {A = ℕ} 0 1 = cc in omega arith
 
--- a frame that was read
+-- A parsed frame.
 record Says (b : Text) (r : Read) : Type 0 where
   frame : Frame
   read : meant b r ≡ some frame
@@ -182,7 +182,7 @@ module _ (b : Text) (r : Read) (e : r ≡ readOf (frameOf b)) (k : ℕ) (h : k �
   unfolding AnswersFrame
   frame-bad z w = rw (← means, silent-kind b r (sym h ∙ z)) (refl, w)
 
-  -- the payload of an answer is read back
+  -- The payload of a reply is read back.
   reply-line : (a : Answer) (head : ℕ) (reply : Reply) (payload payload′ : Text) → reply ≡ replyOf a → payload′ ≡ payloadOf a payload
       → replyLine head reply payload′ ≡ lineText (head ∷ answerBytes a)
   unfolding replyLine

@@ -1,4 +1,4 @@
--- What each way through the writing of a line gives. Assumes nothing.
+-- Lemmas about the branches of writing a line.
 use mathlib.Core.Path.{_≡_, sym, ap, _∙_}
 use mathlib.Core.List.{[], _∷_}
 use Prim.Native.Nat.{ℕ, _+_, _*_, _≤_}
@@ -29,7 +29,7 @@ placed-fits : (at : ℕ) (t out : Text) → at + length t ≤ length out → pla
 unfolding placed
 placed-fits at t out h = rw (le-leb (at + length t) (length out) h)
 
--- `write_line`: the two bytes, the payload and the newline are written one behind the other
+-- `write_line`: the two bytes, the payload and the newline are written consecutively.
 module _ (h a : ℕ) (payload out : Text) (at : ℕ) (room : at + 5 + 2 * length payload ≤ length out) where
   abbrev digits : Text
   digits = encoded (h ∷ a ∷ payload)

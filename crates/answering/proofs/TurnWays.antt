@@ -1,4 +1,4 @@
--- What each kind of frame comes to, from what its own function gives. Assumes nothing.
+-- Lemmas about the step of each kind of frame, from the contract of its function.
 use mathlib.Core.Path.{_≡_, refl, sym, ap, _∙_}
 use mathlib.Core.Bool.{Bool, true, false, cond}
 use mathlib.Core.List.{List, [], _∷_}
@@ -35,7 +35,7 @@ use Rattle.acting.specs.declared.Effect.{Effect}
 use Rattle.acting.specs.Acting.{replyOf, payloadOf, Gave, Went, Acted, PairActed, CloseActed, countsReply}
 use Rattle.acting.proofs.ActWays.{no-frame, same-frame, countedEffect}
 
--- `act_statuses`: a list that passes its questions has at most 64 pairs
+-- `act_statuses`: a validated list has at most 64 pairs.
 module _ (k : Kept) (bytes : Text) (places : List ℕ) (payload payload′ : Text) (e : length payload ≡ 255) where
   abbrev list : Lent
   list = lentList bytes places (k .opened .pairs)
@@ -91,7 +91,7 @@ module _ (b : Text) (r : Read) (k : Kept) (bytes : Text) (places : List ℕ) (st
   abbrev now : Memory
   now = memory k bytes places store slots table
 
-  -- what was read says this frame
+  -- The parse result denotes this frame.
   said : (g f : Frame) → meant b r ≡ some g → meant b r ≡ some f → g ≡ f
   said g f e w = same-frame g f (sym e ∙ w)
 

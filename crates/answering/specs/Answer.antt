@@ -1,4 +1,4 @@
--- The answer to one line, written behind others into lent memory.
+-- The reply to one line, appended to the replies in the lent output buffer.
 use mathlib.Core.Path.{_≡_}
 use Prim.Native.Nat.{ℕ, _+_, _≤_}
 use mathlib.Core.Bool.{Bool, cond}
@@ -17,53 +17,55 @@ use Rattle.protocol.specs.Run.{next, answer}
 use Rattle.protocol.specs.Input.{heard, nextLine, answerLine}
 use Rattle.memory.specs.Memory.{Memory, turnIn}
 
--- the longest answer line: two bytes and a path of 255, two digits each, and the newline
+-- The length of the longest reply line: two bytes and a path of 255, two digits each, and the newline.
 abbrev pub longest : ℕ
 longest = 515
 
--- is there room for any answer behind `at` bytes?
+-- Whether the output buffer has space for any reply after `at` bytes.
 abbrev pub roomAt : ℕ → Text → Bool
 roomAt at out = leb (at + longest) (length out)
 
--- the line of bytes, in capitals and with its newline
+-- The line that encodes bytes in capital digits, with its newline.
 unfoldable pub lineText : Text → Text
 unfolding encoded
 lineText b = encoded b ++ 10 ∷ []
 
--- the line of a reply, whose payload stands at the beginning of memory
+-- The reply line of a reply whose payload is at the beginning of a buffer.
 unfoldable pub replyLine : ℕ → Reply → Text → Text
 unfolding lineText
 replyLine head (Written n) payload = lineText (head ∷ 0 ∷ take n payload)
 replyLine head (Refused x) payload = lineText (head ∷ number x ∷ [])
 
--- the payload of a reply fits into so many bytes
+-- The payload of a reply has at most `room` bytes.
 unfoldable pub Fitting : Reply → ℕ → Type 0
 Fitting (Written n) room = n ≤ room
 Fitting (Refused x) room = 0 ≤ room
 
--- bytes from `at` on are a text, and it ends at `end`
+-- The text t was written at offset `at`, and ends at `end`.
 unfoldable pub Wrote : Text → ℕ → ℕ → Text → Text → Type 0
 Wrote t at end before behind = (end ≡ at + length t) × (behind ≡ over at t before)
 
--- the digits of a line stand for r bytes, from which the frame is read
+-- The line decodes to the first r bytes of the buffer, which parse to the line's frame.
 unfoldable pub Heard : Line → ℕ → Text → Type 0
 unfolding heard frameOf
 Heard l r bytes = (r ≤ length bytes) × (frameOf (take r bytes) ≡ heard l)
 
--- what a frame, or none, makes of the memory, and its answer
+-- The memory after a frame, or after a bad frame, and the reply line written.
 unfoldable pub AnswersFrame : Option Frame → Memory → Memory → ℕ → ℕ → Text → Text → Type 0
 unfolding turnIn Wrote lineText
 AnswersFrame o m m′ at end before behind = (m′ ≡ next turnIn m o) × Wrote (lineText (answer turnIn m o)) at end before behind
 
--- a line's answer behind `at` bytes; where there is no room for the longest one, nothing is taken, changed or written
+-- The memory after a line; unchanged if there is no space for the longest reply after `at` bytes.
 unfoldable pub memoryAfter : ℕ → Text → Memory → Line → Memory
 unfolding heard turnIn
 memoryAfter at out m l = cond (roomAt at out) (nextLine turnIn m l) m
 
+-- The output buffer after a line; unchanged if there is no space for the longest reply.
 unfoldable pub outAfter : ℕ → Text → Memory → Line → Text
 unfolding answerLine
 outAfter at out m l = cond (roomAt at out) (over at (answerLine turnIn m l) out) out
 
+-- The end of the replies after a line; unchanged if there is no space for the longest reply.
 unfoldable pub endAfter : ℕ → Text → Memory → Line → ℕ
 unfolding answerLine
 endAfter at out m l = cond (roomAt at out) (at + length (answerLine turnIn m l)) at

@@ -1,5 +1,6 @@
-// The answer to one line of the program `frames`. Nothing is assumed of the memory that is lent: specs/ of
-// crate memory says what each frame makes of it, whatever it holds.
+// Processes one line of the program `frames`: decodes and parses it, performs the frame and writes the reply
+// line. The lent buffers may hold anything; crates/memory/specs/Memory.antt defines the effect of each
+// frame.
 ghost use mathlib.Core.Path.{_≡_};
 ghost use mathlib.Core.List.{[], _∷_};
 ghost use Prim.Native.Nat.{_+_, _*_, _≤_};
@@ -15,23 +16,23 @@ ghost use Rattle.frame.specs.Read.{readOf};
 ghost use Rattle.acting.specs.Acting.{kindOf, Gave, Went, Acted, PairActed};
 ghost use Rattle.answering.specs.Answer.{longest, lineText, replyLine, Fitting, Wrote, Heard, AnswersFrame, memoryAfter, outAfter, endAfter};
 
-// The longest answer line: two bytes and a path of 255, two digits each, and the newline.
+// The length of the longest reply line: two bytes and a path of 255, two digits each, and the newline.
 pub const LONGEST: usize = 515;
 
-// What a line came to: the numbers that are kept, and where its answer ends.
+// The result of a line: the counters after it, and the offset at which its reply ends.
 pub struct Answered {
     pub kept: memory::Kept,
     pub end: usize,
 }
 
-// Document 01's number of a refusal.
+// The number of a refusal as a byte.
 fn number_byte(x: path::Refusal) -> u8
     ensures { λ r. ⌜ r ≡ number x ⌝ }
 {
     codes::number_of(x) as u8
 }
 
-// Writes a line of two bytes and a payload, in capitals, and returns the place behind it.
+// Writes a line of two bytes and a payload, in capital digits, and returns the offset after it.
 fn write_line(head: u8, answer: u8, payload: &[u8], at: usize, out: &mut [u8]) -> usize
     requires { ⌜ at + 5 + 2 * length (now payload) ≤ length (now out) ⌝ }
     ensures { λ r. ⌜ Wrote (lineText (head ∷ answer ∷ now (payload .entry))) at r (now (out .entry)) (now (out .exit)) ⌝ }
@@ -47,7 +48,7 @@ fn write_line(head: u8, answer: u8, payload: &[u8], at: usize, out: &mut [u8]) -
     end + 1
 }
 
-// The kind of a frame that was read, 0 where it is none.
+// The kind of the parsed frame; 0 if it is not well formed.
 fn kind_of(r: frame::Read) -> u8
     ensures { λ k. ⌜ k ≡ kindOf r ⌝ }
 {
@@ -63,7 +64,7 @@ fn kind_of(r: frame::Read) -> u8
     }
 }
 
-// Writes a number over the first four bytes, the high one first.
+// Writes a number over the first four bytes, the high byte first.
 fn write_count(n: usize, payload: &mut [u8])
     requires { ⌜ 4 ≤ length (now payload) ⌝ }
     ensures { λ _. ⌜ now (payload .exit) ≡ written (fourBytes n) (now (payload .entry)) ⌝ }
@@ -76,7 +77,7 @@ fn write_count(n: usize, payload: &mut [u8])
     text::write_at(&four, 0, payload);
 }
 
-// 01: adds the pair of the frame, whose source has n bytes and whose target m, to the open list.
+// Frame 01: adds the pair of the frame, whose source has n bytes and whose target has m, to the open list.
 fn act_pair_in(
     frame: &[u8],
     n: usize,
@@ -94,7 +95,7 @@ fn act_pair_in(
     acting::act_pair(&frame[3..end], &frame[start..last], k, bytes, places)
 }
 
-// 02: the statuses of the open list.
+// Frame 02: writes the statuses of the open list.
 fn act_statuses(k: memory::Kept, bytes: &[u8], places: &[usize], payload: &mut [u8]) -> path::Reply
     requires { ⌜ length (now payload) ≡ 255 ⌝ }
     ensures { λ r. ⌜ Gave (statusesIn (memory k (now (bytes .entry)) (now (places .entry)) [] [] [])) r (now (payload .entry)) (now (payload .exit)) ⌝ }
@@ -103,7 +104,7 @@ fn act_statuses(k: memory::Kept, bytes: &[u8], places: &[usize], payload: &mut [
     relocates::analyze_relocate_occurrences(bytes, places, opened.pairs, payload)
 }
 
-// 05 and 06: the path of the frame over the legs, out or home.
+// Frames 05 and 06: maps the path of the frame over the legs, out or home.
 fn act_way(
     back: bool,
     frame: &[u8],
@@ -130,7 +131,7 @@ fn act_way(
     )
 }
 
-// Does what the frame says. One that is not well formed does nothing.
+// Performs the frame. A frame that is not well formed has no effect.
 fn act(
     r: frame::Read,
     frame: &[u8],
@@ -184,7 +185,7 @@ fn act(
     }
 }
 
-// Writes the answer line of a reply, whose payload stands at the beginning of memory.
+// Writes the reply line of a reply whose payload is at the beginning of the payload buffer.
 fn write_reply(head: u8, reply: path::Reply, payload: &[u8], at: usize, out: &mut [u8]) -> usize
     requires { ⌜ Fitting reply (length (now payload)) ⌝ }
     requires { ⌜ (length (now payload) ≡ 255) × (at + longest ≤ length (now out)) ⌝ }
@@ -196,7 +197,7 @@ fn write_reply(head: u8, reply: path::Reply, payload: &[u8], at: usize, out: &mu
     }
 }
 
-// Does what the bytes of a frame say, and writes the answer line.
+// Parses and performs a frame, and writes its reply line.
 fn answer_frame(
     frame: &[u8],
     k: memory::Kept,
@@ -235,8 +236,8 @@ fn answer_frame(
     Answered { kept, end }
 }
 
-// The bytes that the digits of a line stand for, at the beginning of memory; none where it is overlong or
-// no line of digits.
+// Decodes the digits of a line to the beginning of the buffer and returns the number of bytes; 0 if the line
+// is overlong or not a line of digits.
 fn hear(line: &[u8], len: usize, frame: &mut [u8]) -> usize
     requires { ⌜ length (now frame) ≡ 2048 ⌝ }
     ensures { λ r. ⌜ Heard (lineAt len (now (line .entry))) r (now (frame .exit)) ⌝ }
@@ -255,7 +256,7 @@ fn hear(line: &[u8], len: usize, frame: &mut [u8]) -> usize
     }
 }
 
-// Is there room for the longest answer behind `at` bytes?
+// Returns whether there is space for the longest reply after `at` bytes.
 fn has_room(at: usize, len: usize) -> bool
     ensures { λ r. ⌜ r ≡ leb (at + longest) len ⌝ }
 {
@@ -265,9 +266,9 @@ fn has_room(at: usize, len: usize) -> bool
     at <= len - LONGEST
 }
 
-// Answers the line of `len` bytes behind `at` bytes of out, and does what it says. A line with more bytes
-// than its memory, or than a line has, is overlong. Where there is no room for the longest answer, nothing
-// is taken, changed or written.
+// Processes the line of `len` bytes and writes its reply at offset `at` of `out`. The line is overlong if
+// `len` exceeds the line buffer or 4,096. If there is no space for the longest reply, nothing is consumed,
+// changed or written.
 pub fn answer_line(
     line: &[u8],
     len: usize,

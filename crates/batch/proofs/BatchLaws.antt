@@ -1,4 +1,4 @@
--- What each way through the functions of the batch gives. Assumes nothing.
+-- Lemmas about the branches of the batch functions.
 use mathlib.Core.Path.{_≡_, refl, sym, ap, _∙_}
 use mathlib.Core.Bool.{Bool, true, false, not, cond, _&&_}
 use mathlib.Core.List.{List, [], _∷_, _++_, append-assoc}
@@ -77,7 +77,7 @@ module _ (list : Asked) (by : Carrier) (store : Text) (places legs : List ℕ) (
   unfolding carriedBy
   by-route n home h = rw h
 
--- it never makes a path of more than 255 bytes
+-- No path made has more than 255 bytes.
 short-by : (list : Asked) (by : Carrier) (store : Text) (places legs : List ℕ) (room : ℕ) (p : Text) → Short (carriedBy list by store places legs room p)
 unfolding carriedBy
 short-by list (Map f way) store places legs room p = short-after list way store places f p room
@@ -99,7 +99,7 @@ module _ (list : Asked) (by : Carrier) (store : Text) (places legs : List ℕ) (
       ap (λ (x : Bool). cond x (carriedBy list by store places legs room (textAt texts spots i)) (refused TooLong)) (told-true h k)
       ∙ ap (carriedBy list by store places legs room) (sym e)
 
--- `carry_block`: the part of the memory that was lent comes back
+-- `carry_block`: the slice lent for one block is put back into the buffer.
 module _ (list : Asked) (by : Carrier) (store : Text) (places legs : List ℕ) (texts : Text) (spots : List ℕ) (i : ℕ) (out : Text) (h : 255 * i + 255 ≤ length out) where
   abbrev given : ℕ → Outcome
   given room = spotBy list by store places legs texts spots room i
@@ -118,13 +118,13 @@ module _ (list : Asked) (by : Carrier) (store : Text) (places legs : List ℕ) (
   pub block-reply : (r : Reply) (a : ℕ) → r ≡ reply (given (length (take (255 * i + 255 - 255 * i) (drop (255 * i) out)))) → a ≡ replyCode r → a ≡ replyCode (reply (given 255))
   block-reply r a e f = f ∙ rw (e, size, long)
 
--- the memory and the numbers after one more turn
+-- The buffer and the replies after one more iteration.
 pub kept-length : (o : Outcome) (x : Text) → Short o → length x ≡ 255 → length (memory o x) ≡ 255
 unfolding memory
 kept-length (path q) x s h = length-append q (drop (length q) x) ∙ rw (length-drop (length q) x) (omega (arith, s q refl, h))
 kept-length (refused r) x s h = h
 
--- 255 k bytes behind 255 others
+-- 255 k bytes after 255 others.
 next-place : (m : Text) (k : ℕ) → length m ≡ 255 → 255 * suc k ≡ length m + 255 * k
 next-place m k l = omega (arith, l)
 
@@ -134,7 +134,7 @@ later m c k l = ap (λ (x : ℕ). drop x (m ++ c)) (next-place m k l) ∙ drop-a
 before : (m c : Text) (k : ℕ) → length m ≡ 255 → take (255 * suc k) (m ++ c) ≡ m ++ take (255 * k) c
 before m c k l = ap (λ (x : ℕ). take x (m ++ c)) (next-place m k l) ∙ take-append-add m c (255 * k)
 
--- block k behind 255 bytes is block k + 1
+-- Block k after 255 bytes is block k + 1.
 behind : (m c : Text) (k : ℕ) → length m ≡ 255 → (o : Outcome) → m ++ inBlock k o c ≡ inBlock (suc k) o (m ++ c)
 unfolding inBlock
 behind m c k l o =
@@ -162,7 +162,7 @@ module _ (o : ℕ → Outcome) where
       let j : i + suc k ≡ suc i + k = omega arith in
       rw j (ap (λ (l : List ℕ). replyCode (reply (o i)) ∷ l) (numbers-next (suc i) k r (omega arith)))
 
--- `carry_each`: what is lent is enough for each turn
+-- `carry_each`: the lent buffers suffice for each iteration.
 module _ (n spots bytes replies : ℕ) (h : enough n spots bytes replies ≡ true) where
   yes-all : (leb (2 * n) spots && leb (255 * n) bytes) && leb n replies ≡ true
   unfolding enough
@@ -181,7 +181,7 @@ module _ (n spots bytes replies : ℕ) (h : enough n spots bytes replies ≡ tru
     pub room-number : i < replies
     room-number = omega (arith, leb-true n replies (and-r (leb (2 * n) spots && leb (255 * n) bytes) (leb n replies) yes-all))
 
--- .. a turn makes one block and one number more ..
+-- One iteration adds one block and one reply.
 module _ (list : Asked) (by : Carrier) (store : Text) (places legs : List ℕ) (texts : Text) (spots : List ℕ) (i : ℕ) where
   abbrev o : ℕ → Outcome
   o = spotBy list by store places legs texts spots 255
@@ -215,7 +215,7 @@ turns-end o n i out₀ out replies₀ replies l m x y =
     let z : i ≡ n = omega arith in
     (x ∙ ap (λ (j : ℕ). blocks o 0 j out₀) z, y ∙ ap (λ (j : ℕ). numbers o 0 j replies₀) z)
 
--- .. and with the lists' own answers each turn gives what the single call gives
+-- With the result of the lists' validation, each iteration yields the result of the single call.
 module _ (o o′ : ℕ → Outcome) (same : (i : ℕ) → o i ≡ o′ i) where
   blocks-same : (i n : ℕ) (out : Text) → blocks o i n out ≡ blocks o′ i n out
   unfolding blocks

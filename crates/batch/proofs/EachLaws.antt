@@ -1,4 +1,4 @@
--- Each path of a batch gets what the single call gives it. Assumes nothing.
+-- The proof that each path of a batch has the result of the single call.
 use mathlib.Core.Path.{_≡_, refl, ap, _∙_}
 use mathlib.Core.List.{List, [], _∷_}
 use Prim.Native.Nat.{ℕ, zero, suc, _+_, _*_, _≤_, _<_}

@@ -1,5 +1,5 @@
-// Many paths through one map, or over one route, in lent memory: the questions on the lists are put
-// once, those on a path for each path.
+// Maps many paths through one map, or over one route, in one call: the lists are validated once, each path
+// by itself.
 ghost use mathlib.Core.Path.{_≡_};
 ghost use mathlib.Core.Bool.{true};
 ghost use Prim.Native.Nat.{_+_, _*_, _≤_, _<_};
@@ -12,7 +12,7 @@ ghost use Rattle.legs.specs.Lent.{lentRoute, routeAsked};
 ghost use Rattle.batch.specs.Batch.{carriedAt, routedAt, blocks, numbers, enough, allAsked, allBytes, allReplies};
 ghost use Rattle.batch.specs.Turn.{carriedBy, spotBy, inBlock};
 
-// Is enough lent for n paths?
+// Returns whether the lent buffers suffice for n paths (question 5).
 fn has_room(n: usize, spots: usize, bytes: usize, replies: usize) -> bool
     ensures { λ r. ⌜ r ≡ enough n spots bytes replies ⌝ }
 {
@@ -25,7 +25,7 @@ fn has_room(n: usize, spots: usize, bytes: usize, replies: usize) -> bool
     n <= replies
 }
 
-// Does spot i lie in the texts?
+// Returns whether the place of text i lies within `texts`.
 fn is_inside(texts: &[u8], spots: &[usize], i: usize) -> bool
     requires { ⌜ 2 * i + 2 ≤ length (now spots) ⌝ }
     ensures { λ r. ⌜ r ≡ inside (now (texts .entry)) (now (spots .entry)) i ⌝ }
@@ -38,14 +38,14 @@ fn is_inside(texts: &[u8], spots: &[usize], i: usize) -> bool
     n <= texts.len() - start
 }
 
-// What carries the paths: a map one of its three ways, or a route of maps with so many legs, home or
-// out.
+// What the batch maps the paths through: a map in one of its three directions, or a route of maps with its
+// number of legs, home if the flag is set.
 enum Carrier {
     Map(map_function::MapFunction, mapping::Way),
     Route(usize, bool),
 }
 
-// A path by the carrier.
+// Maps one path.
 fn carry_one(
     list: path::Asked,
     by: Carrier,
@@ -66,7 +66,7 @@ fn carry_one(
     }
 }
 
-// Path i by the carrier.
+// Maps path i.
 fn carry_spot(
     list: path::Asked,
     by: Carrier,
@@ -89,7 +89,7 @@ fn carry_spot(
     carry_one(list, by, store, places, legs, path, out)
 }
 
-// Path i by the carrier, into block i, with its reply.
+// Maps path i into block i and stores its reply.
 fn carry_block(
     list: path::Asked,
     by: Carrier,
@@ -124,7 +124,7 @@ fn carry_block(
     replies[i] = codes::reply_code(r);
 }
 
-// The n paths by the carrier, each into its block, with its reply.
+// Maps the n paths, each into its block, and stores their replies.
 fn carry_each(
     list: path::Asked,
     by: Carrier,
@@ -148,8 +148,7 @@ fn carry_each(
     }
 }
 
-// Carries the n paths at the spots through a map. Each has the reply and the 255 bytes of the single
-// call.
+// Maps n paths through a map. Each path has the reply and the 255 bytes of the single call.
 pub fn carry_all(
     store: &[u8],
     places: &[usize],
@@ -185,8 +184,7 @@ pub fn carry_all(
     path::Asked::Passed
 }
 
-// The n paths over a route whose legs passed and of which one is a relocate list: the maps of the legs
-// are made first.
+// Maps the n paths over a validated route that has a relocate list: prepares the maps of the legs first.
 fn route_laid(
     list: path::Asked,
     store: &[u8],
@@ -223,7 +221,7 @@ fn route_laid(
     );
 }
 
-// The n paths over a route whose legs have got the answer `list`.
+// Maps the n paths over a route whose validation returned `list`.
 fn route_each(
     list: path::Asked,
     store: &[u8],
@@ -262,8 +260,7 @@ fn route_each(
     );
 }
 
-// Carries the n paths at the spots out over a route, or home. Each has the reply and the 255 bytes of
-// the single call.
+// Maps n paths out over a route, or home. Each path has the reply and the 255 bytes of the single call.
 pub fn route_all(
     store: &[u8],
     places: &[usize],

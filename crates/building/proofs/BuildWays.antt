@@ -1,4 +1,4 @@
--- What a turn and the end of `carry_all` and `pull_all` give. Assumes nothing.
+-- Lemmas about one iteration and the end of `carry_all` and `pull_all`.
 use mathlib.Core.Path.{_≡_, refl, sym, ap, _∙_}
 use mathlib.Core.Bool.{Bool, true, false, cond}
 use mathlib.Core.List.{List, [], _∷_, _++_, map}
@@ -18,12 +18,12 @@ use Rattle.building.specs.Build.{plain, needed, carriedTo, modest, Packe
 use Rattle.building.proofs.LengthLaws.{modest-keys, plain-length, carried-length}
 use Rattle.building.proofs.PackLaws.{Longer, packed-none, packed-list, packed-on, packed-more}
 
--- pair i in lent memory, by its keys
+-- Pair i in lent memory, by its keys.
 pair-keys : (store : Text) (places : List ℕ) (i : ℕ) → pairIn store places i ≡ record { source = keyAt store places false i; target = keyAt store places true i }
 unfolding pairIn
 pair-keys store places i = let z : 2 * i + 0 ≡ 2 * i = omega arith in rw z refl
 
--- `carry_all`: m is the outer map
+-- `carry_all`: m is the outer map.
 module _ (m : Map) (em : everyEnd modest (m .pairs) ≡ true) (store : Text) (places : List ℕ) (n : ℕ) (el : everyEnd modest (pairsIn store places n) ≡ true)
     (i at : ℕ) (h : i < n) (l : at ≤ 1534 * i) (s t : Text) (es : s ≡ keyAt store places false i) (et : t ≡ keyAt store places true i) where
   grows : length s + length (carriedTo m t) ≤ 1534
@@ -60,7 +60,7 @@ pub carry-end : (m : Map) (store : Text) (places : List ℕ) (n i at : ℕ) (o :
     → Packed (map (carried m) (pairsIn store places n)) n at o p bytes slots × (at ≤ 1534 * n)
 carry-end m store places n i at o p bytes slots l k c h = let z : n ≡ i = omega arith in (rw z c, omega arith)
 
--- one outer pair more
+-- One more outer pair.
 pulled-snoc : (m : Map) (l xs : List Pair) (x : Pair) → pulled m l (xs ++ x ∷ []) ≡ added (pulled m l xs) (x .target) (plainHome m (x .source))
 unfolding pulled
 pulled-snoc m l [] x = refl
@@ -101,7 +101,7 @@ pulled-longer m l (x ∷ xs) =
     let k = pulled-longer m (added l (x .target) (plainHome m (x .source))) xs in
     (omega (arith, h .0, k .0), omega (arith, h .1, k .1))
 
--- `pull_all`: m is the inner map, `base` the first half
+-- `pull_all`: m is the inner map, `base` the first half of the list.
 module _ (m : Map) (em : everyEnd modest (m .pairs) ≡ true) (base : List Pair) (store : Text) (places : List ℕ) (n : ℕ)
     (el : everyEnd modest (pairsIn store places n) ≡ true) (inner i : ℕ) (h : i < n) (k at : ℕ) (kn : k ≤ inner + i) (ka : at ≤ 1534 * (inner + i))
     (s t : Text) (es : s ≡ keyAt store places false i) (et : t ≡ keyAt store places true i) where
@@ -151,7 +151,7 @@ module _ (m : Map) (base : List Pair) (store : Text) (places : List ℕ) (n at :
   pub pull-end : (j i : ℕ) → j ≤ i → i ≤ j → Packed (pulled m base (pairsIn store places i)) n at o p bytes slots → Packed (pulled m base (pairsIn store places j)) n at o p bytes slots
   pull-end j i l u c = let z : j ≡ i = omega arith in rw z c
 
--- both halves
+-- Both halves of the composed list.
 pub composed : (outer inner : Map) (n at : ℕ) (o : Text) (p : List ℕ) (bytes : Text) (slots : List ℕ) (k end : ℕ) (bytes′ : Text) (slots′ : List ℕ)
     → Packed (map (carried outer) (inner .pairs)) n at o p bytes slots → Packed (pulled inner (pairsIn bytes slots n) (outer .pairs)) k end bytes slots bytes′ slots′
     → Packed (composedPairs outer inner) k end o p bytes′ slots′

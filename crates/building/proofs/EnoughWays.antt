@@ -1,4 +1,4 @@
--- When the memory is enough to compose in, and what each way through `is_within` and `is_enough` gives. Assumes nothing.
+-- Lemmas about sufficient capacity for composing, and about the branches of `is_within` and `is_enough`.
 use mathlib.Core.Path.{_≡_, refl, sym, _∙_}
 use mathlib.Core.Bool.{Bool, true, false, not, _&&_}
 use mathlib.Core.List.{List}

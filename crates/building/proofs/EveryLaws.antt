@@ -1,4 +1,4 @@
--- What every end of a composed list is, from what plain mapping makes of each end. Assumes nothing.
+-- Lemmas about every end of a composed list, from what plain mapping makes of each end.
 use mathlib.Core.Path.{_≡_, refl}
 use mathlib.Core.Bool.{Bool, true, false, cond}
 use mathlib.Core.List.{List, [], _∷_, _++_, map}
@@ -9,12 +9,12 @@ use Rattle.pairs.specs.Pair.{Pair, everyEnd}
 use Rattle.maps.specs.Map.{Map, plainOut, plainHome}
 use Rattle.maps.specs.Compose.{carried, hasSource, added, pulled, composedPairs}
 
--- the ends that composing starts from are `ok`; what comes out `passes`
+-- If the ends of both maps are `ok`, and plain mapping takes such ends to texts that pass, every end of the composed list `passes`.
 module _ (ok passes : Text → Bool) (weaker : (t : Text) → ok t ≡ true → passes t ≡ true) (nil : passes [] ≡ true) where
   abbrev Makes : (Text → Option Text) → Type 0
   Makes f = (t q : Text) → ok t ≡ true → f t ≡ some q → passes q ≡ true
 
-  -- the first half
+  -- The first half of the list.
   carried-passes : (m : Map) → Makes (plainOut m) → (x : Pair) → ok (x .target) ≡ true → passes ((carried m x) .target) ≡ true
   unfolding carried
   carried-passes m f x e = go (isNil (x .target))
@@ -35,7 +35,7 @@ module _ (ok passes : Text → Bool) (weaker : (t : Text) → ok t ≡ true → 
       let t : ok (x .target) ≡ true = search (and-l, and-r) in
       rw (weaker (x .source) s, carried-passes m f x t) (first-half m f l (search (and-l, and-r)))
 
-  -- the second
+  -- The second half of the list.
   one-more : (l : List Pair) (s t : Text) → everyEnd passes l ≡ true → passes s ≡ true → passes t ≡ true → everyEnd passes (l ++ record { source = s; target = t } ∷ []) ≡ true
   unfolding everyEnd
   one-more [] s t e h k = rw (h, k)

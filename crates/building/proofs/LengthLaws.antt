@@ -1,4 +1,4 @@
--- How long a composed end can be: two ends and a slash. Assumes nothing.
+-- Lemmas about the length of a composed end: at most two ends and a slash.
 use mathlib.Core.Path.{_≡_, refl}
 use mathlib.Core.Bool.{Bool, true, false, cond, _&&_}
 use mathlib.Core.List.{List, [], _∷_, _++_}
@@ -70,7 +70,7 @@ carried-length m t e l = go (isNil t)
     go true = omega arith
     go false = some-is (plainOut m t) (plain-length false m t e l)
 
--- short ends are modest
+-- An end of at most 255 bytes has at most 511 bytes.
 pub fits-modest : (t : Text) → fits t ≡ true → modest t ≡ true
 unfolding fits
 fits-modest t e = le-leb (length t) 511 (omega (arith, leb-true (length t) 255 e))
@@ -83,7 +83,7 @@ short-modest (x ∷ l) e =
     rw (fits-modest (x .source) (and-l (fits (x .source)) (fits (x .target)) a), fits-modest (x .target) (and-r (fits (x .source)) (fits (x .target)) a))
     (short-modest l (and-r (fits (x .source) && fits (x .target)) (allShort l) e))
 
--- so a list composed of short ends is modest ..
+-- The ends of a list composed of ends of at most 255 bytes have at most 511 bytes.
 short-needed : (q : Text) (o : Option Text) → o ≡ some q → needed o ≤ 511 → modest q ≡ true
 short-needed q o e h = le-leb (length q) 511 (rw e at h)
 
@@ -94,7 +94,7 @@ composed-modest outer inner eo ei =
     (λ t q h e. short-needed q (plainOut outer t) e (plain-within 255 false outer t eo (leb-true (length t) 255 h)))
     (λ s q h e. short-needed q (plainHome inner s) e (plain-within 255 true inner s ei (leb-true (length s) 255 h))) eo ei
 
--- .. and a modest list has so many bytes
+-- The total length of a list whose ends have at most 511 bytes.
 pub modest-bytes : (l : List Pair) → everyEnd modest l ≡ true → endBytes l ≤ 1022 * length l
 unfolding everyEnd endBytes
 modest-bytes [] e = omega arith

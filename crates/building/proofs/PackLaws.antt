@@ -1,4 +1,4 @@
--- A list that stands packed from the beginning of the memory on. Assumes nothing.
+-- Lemmas about a list packed from the beginning of the buffers.
 use mathlib.Core.Path.{_≡_, refl, sym, ap, _∙_}
 use mathlib.Core.Bool.{true, false}
 use mathlib.Core.List.{List, [], _∷_, _++_}
@@ -19,28 +19,28 @@ use Rattle.building.specs.declared.Built.{Built}
 use Rattle.building.specs.Build.{enough, builtPairs, builtOf, Packed, Stands}
 use Rattle.text.proofs.WriteLaws.{over-written}
 
--- what is written over a shorter text leaves nothing of that
+-- A longer text written over a shorter one overwrites it completely.
 written-longer : (x y out : Text) → length x ≤ length y → written y (written x out) ≡ written y out
 written-longer x y out h =
     let k : ℕ = length y - length x in
     let z : length y ≡ length x + k = omega arith in
     rw (z, drop-append-add x (drop (length x) out) k, drop-drop k (length x) out) refl
 
--- one list has no fewer pairs and bytes than another
+-- The list k has at least as many pairs and bytes as l.
 abbrev pub Longer : List Pair → List Pair → Type 0
 Longer l k = (length l ≤ length k) × (endBytes l ≤ endBytes k)
 
--- a list without pairs stands in any memory
+-- Every buffer holds the empty list.
 pub packed-none : (bytes : Text) (slots : List ℕ) → Packed [] 0 0 bytes slots bytes slots
 unfolding listText listPlaces endBytes
 packed-none bytes slots = record { number = refl; end = refl; text = refl; places = refl }
 
 module _ (l : List Pair) (n at : ℕ) (o : Text) (p : List ℕ) (bytes : Text) (slots : List ℕ) (c : Packed l n at o p bytes slots) where
-  -- the list is read back
+  -- The list is read back.
   pub packed-list : pairsIn bytes slots n ≡ l
   packed-list = rw (c .number, c .text, c .places) (read-back l o p)
 
-  -- a longer list over it
+  -- A longer list written over it.
   pub packed-on : (k : List Pair) (n′ at′ : ℕ) (bytes′ : Text) (slots′ : List ℕ) → Packed k n′ at′ bytes slots bytes′ slots′ → Longer l k
       → Packed k n′ at′ o p bytes′ slots′
   packed-on k n′ at′ bytes′ slots′ d h = record {
@@ -50,7 +50,7 @@ module _ (l : List Pair) (n at : ℕ) (o : Text) (p : List ℕ) (bytes : Text) (
     places = d .places ∙ rw (c .places) (written-longer (listPlaces 0 l) (listPlaces 0 k) p (omega (arith, places-length 0 l, places-length 0 k, h .0)));
   }
 
-  -- it stands there
+  -- The buffers hold the list in packed form.
   pub packed-stands : Stands n at bytes slots
   packed-stands = rw packed-list record {
     number = c .number;
@@ -59,7 +59,7 @@ module _ (l : List Pair) (n at : ℕ) (o : Text) (p : List ℕ) (bytes : Text) (
     places = sym (rw (c .places) (written-longer (listPlaces 0 l) (listPlaces 0 l) p (omega arith)));
   }
 
-  -- one pair more behind it
+  -- One more pair appended to the list.
   pub packed-more : (s t : Text) (end : ℕ) (bytes′ : Text) (slots′ : List ℕ) → end ≡ at + (length s + length t) → bytes′ ≡ over at (s ++ t) bytes
       → slots′ ≡ over (4 * n) (fourOf at s t) slots → Packed (l ++ pair s t ∷ []) (n + 1) end o p bytes′ slots′
   packed-more s t end bytes′ slots′ e f g = record {
@@ -78,7 +78,7 @@ module _ (l : List Pair) (n at : ℕ) (o : Text) (p : List ℕ) (bytes : Text) (
       zero-at : at ≡ 0 + endBytes l
       zero-at = omega (arith, c .end)
 
--- `compose_into`: what tells of the list, and the list where the memory is enough
+-- `compose_into`: the sizes of the list, and the list itself if the capacity suffices.
 pub built-is : (b : Built) (l : List Pair) → b .n ≡ length l → b .at ≡ endBytes l → b ≡ builtOf l
 built-is b l e f = rw (← e, ← f) refl
 
@@ -98,7 +98,7 @@ module _ (outer inner : Map) (bytes : Text) (slots : List ℕ) where
     unfolding builtPairs
     into-packed c = rw e (built-is r (composedPairs outer inner) (c .number) (c .end), (c .text, c .places))
 
-    -- so the memory begins with the composed list
+    -- The buffers begin with the composed list.
     pub into-holds : Left r bytes′ slots′ → Holds (composedPairs outer inner) (r .n) (r .at) bytes′ slots′
     unfolding builtPairs
     into-holds w = go (rw e at w)

@@ -1,4 +1,4 @@
--- What each way through `join_at`, `keep_at`, `map_at` and `carried_at` gives, and what the search in `pull_pair` finds. Assumes nothing.
+-- Lemmas about the branches of `join_at`, `keep_at`, `map_at` and `carried_at`, and about the search in `pull_pair`.
 use mathlib.Core.Path.{_≡_, refl, sym, ap, _∙_}
 use mathlib.Core.Logic.{_≢_}
 use mathlib.Core.Bool.{Bool, true, false, not, cond, false≢true}
@@ -32,7 +32,7 @@ use Rattle.building.specs.declared.Image.{Image}
 use Rattle.building.specs.declared.Image.the-variants.{Nothing, Made}
 use Rattle.building.specs.Build.{plain, marked, image, needed, imaged, carriedTo}
 
--- `join_at`: a text written over the beginning of what lies behind a place
+-- `join_at`: a text written at an offset, through the slice that begins there.
 module _ (q out : Text) (at : ℕ) (h : at + length q ≤ length out) (f : Fit) (e : f ≡ fitted q (take (length out - at) (drop at out))) where
   part : take (length out - at) (drop at out) ≡ drop at out
   part = rest-whole out at
@@ -63,7 +63,7 @@ module _ (mark : Bool) (p : Text) (at : ℕ) (out : Text) where
   pub keep-some : not mark ≡ false → (out′ : Text) → out′ ≡ placed at p out → (Made (length p) ≡ image (marked mark p)) × (out′ ≡ imaged at (marked mark p) out)
   keep-some k out′ e = rw (not-false mark k) (refl, e)
 
--- `map_at`: the keys that the code reads are the ends of the map in lent memory
+-- `map_at`: the keys that the code reads are the ends of the map in lent memory.
 module _ (store : Text) (places : List ℕ) (n : ℕ) (mark : Bool) (p : Text) where
   abbrev key : Bool → ℕ → Text
   key b = keyAt store places b
@@ -110,12 +110,12 @@ module _ (store : Text) (places : List ℕ) (n : ℕ) (mark : Bool) (p : Text) w
           rw (es, et, rest-whole p (length (key invert (f .at))))
           (plain-some invert (f .at) chosen ∙ rw (nil-not (key true (f .at)) (rw e at l)) (replace-prefix p (key invert (f .at)) (key (not invert) (f .at)) has))
 
-      -- backwards the key that serves is the target, so that is not empty
+      -- Backward, the matching key is the target, so the target is not empty.
       pub home-join : invert ≡ true → (s t : Text) → s ≡ key invert (f .at) → t ≡ key (not invert) (f .at)
           → plain invert lent p ≡ some (joined s t (take (length p - length s) (drop (length s) p)))
       home-join back s t es et = map-join s s t (es ∙ ap (λ (b : Bool). key b (f .at)) back) (λ z. filled (sym (ap length es) ∙ z)) es et
 
--- what is known of the mapped text, handed on
+-- Properties of the mapped text, transferred along an equation.
 module _ (o : Option Text) (v : Option Text) (e : o ≡ v) where
   pub room-of : (at : ℕ) (out : Text) → at + needed o ≤ length out → at + needed v ≤ length out
   room-of at out h = rw e at h
@@ -123,7 +123,7 @@ module _ (o : Option Text) (v : Option Text) (e : o ≡ v) where
   pub answer-of : (r : Image) (at : ℕ) (out out′ : Text) → (r ≡ image v) × (out′ ≡ imaged at v out) → (r ≡ image o) × (out′ ≡ imaged at o out)
   answer-of r at out out′ w = rw e w
 
--- no text leaves the memory as it is
+-- Writing the empty text leaves the buffer unchanged.
 pub placed-none : (at : ℕ) (out : Text) → out ≡ placed at [] out
 unfolding placed
 placed-none at out = go (leb (at + 0) (length out))

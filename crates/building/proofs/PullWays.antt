@@ -1,4 +1,4 @@
--- What each way through `has_joined`, `add_joined` and `pull_pair` gives. Assumes nothing.
+-- Lemmas about the branches of `has_joined`, `add_joined` and `pull_pair`.
 use mathlib.Core.Path.{_≡_, refl, sym, ap, _∙_}
 use mathlib.Core.Bool.{Bool, true, false, not, cond, _&&_}
 use mathlib.Core.List.{List, [], _∷_, _++_, append-assoc, append-nil}
@@ -48,7 +48,7 @@ module _ (s t r : Text) where
       go true f = sym (told-false e k) ∙ ap (lastIs a) (sym (equal-is (joined s t r) u f)) ∙ ends
       go false f = refl
 
--- `has_joined`: the join is held against the source
+-- `has_joined`: the join is compared with the source.
 equal-swap : (a b : Text) → equal a b ≡ equal b a
 equal-swap a b = go (equal a b) (equal b a) refl refl
   where
@@ -67,7 +67,7 @@ module _ (store : Text) (places : List ℕ) (q : Text) (i : ℕ) (k : Text) (e :
 
 pub ruleset joins = (source-begin, joined-found, joined-on, source-end)
 
--- `add_joined`: q is the join
+-- `add_joined`: q is the joined path.
 module _ (l : List Pair) (n at : ℕ) (bytes : Text) (slots : List ℕ) (h : Packed l n at bytes slots bytes slots) (t q : Text) (b : Bool) (g : b ≡ hasSource l q) where
   pub add-there : b ≡ true → Packed (added l t (some q)) n at bytes slots bytes slots
   unfolding added
@@ -81,12 +81,12 @@ module _ (l : List Pair) (n at : ℕ) (bytes : Text) (slots : List ℕ) (h : Pac
       let d = pair-done q t at n (length t) bytes once twice slots slots′ room more refl o (rw e at u) (rw e at v) in
       rw (told g f) (packed-more l n at bytes slots bytes slots h q t (at + k + length t) twice slots′ (omega arith) (d .1 .0) (d .1 .1))
 
--- `pull_pair`: o is what the inner map makes of the outer source
+-- `pull_pair`: o is the outer source mapped back through the inner map.
 module _ (s : Text) (o : Option Text) (mark : Bool) (e : o ≡ marked mark s) where
   pub pull-unmarked : not mark ≡ true → o ≡ none
   pull-unmarked k = e ∙ rw (not-true mark k) refl
 
-  -- nothing replaced by the source, with no rest, is the source
+  -- The source joined to an empty prefix, with an empty rest, is the source.
   pub pull-marked : not mark ≡ false → o ≡ some (joined [] s [])
   unfolding joined separator body
   pull-marked k = e ∙ rw (not-false mark k, append-nil s) refl

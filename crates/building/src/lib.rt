@@ -1,4 +1,5 @@
-// The list that composing two maps gives before dropping, built in memory of the caller's own.
+// Builds the list of pairs of a composed map, before redundant pairs are dropped, in the caller's scratch
+// buffer (the two loops of Rust's `MapFunction::compose`).
 ghost use mathlib.Core.Path.{_≡_};
 ghost use mathlib.Core.Bool.{true, false};
 ghost use mathlib.Core.List.{_++_, map as mapped};
@@ -14,13 +15,13 @@ ghost use Rattle.maps.specs.Map.{lentMap};
 ghost use Rattle.maps.specs.Compose.{carried, hasSource, added, pulled, composedPairs};
 ghost use Rattle.building.specs.Build.{plain, marked, image, needed, imaged, carriedTo, modest, enough, builtOf, builtPairs, Packed, Stands};
 
-// What mapping a text answers: no path, or the length of the path made.
+// The result of mapping a text: no path, or the length of the path made.
 enum Image {
     Nothing,
     Made(usize),
 }
 
-// The rest behind the new prefix, from a place on; its length.
+// Writes the new prefix joined with the rest at offset `at` and returns its length.
 fn join_at(old: &[u8], new: &[u8], rest: &[u8], at: usize, bytes: &mut [u8]) -> usize
     requires { ⌜ at + length (joined (now old) (now new) (now rest)) ≤ length (now bytes) ⌝ }
     ensures { λ r. ⌜ r ≡ length (joined (now (old .entry)) (now (new .entry)) (now (rest .entry))) ⌝ }
@@ -33,7 +34,7 @@ fn join_at(old: &[u8], new: &[u8], rest: &[u8], at: usize, bytes: &mut [u8]) -> 
     }
 }
 
-// The path itself from a place on, where the map has the mark.
+// Writes the path itself at offset `at` if the map has the mark.
 fn keep_at(mark: bool, path: &[u8], at: usize, bytes: &mut [u8]) -> Image
     ensures { λ r. ⌜ r ≡ image (marked mark (now (path .entry))) ⌝ }
     ensures { λ r. ⌜ now (bytes .exit) ≡ imaged at (marked mark (now (path .entry))) (now (bytes .entry)) ⌝ }
@@ -45,7 +46,7 @@ fn keep_at(mark: bool, path: &[u8], at: usize, bytes: &mut [u8]) -> Image
     Image::Made(path.len())
 }
 
-// Plain mapping of a text, from a place on.
+// Maps a text plainly from source to target and writes the result at offset `at`.
 fn map_at(
     store: &[u8],
     places: &[usize],
@@ -73,8 +74,8 @@ fn map_at(
     Image::Made(join_at(old, new, &path[k..], at, bytes))
 }
 
-// The target of an inner pair, carried through the outer map, from a place on; its length. No path
-// becomes an empty target.
+// Maps the target of an inner pair through the outer map, writes it at offset `at` and returns its length. No
+// path becomes an empty target, a block, so that the inner source does not fall back to a shorter pair.
 fn carried_at(
     store: &[u8],
     places: &[usize],
@@ -98,7 +99,7 @@ fn carried_at(
     }
 }
 
-// One pair more: an inner pair with its target carried through the outer map; the place behind it.
+// Appends an inner pair with its target mapped through the outer map and returns the offset after it.
 fn carry_pair(
     store: &[u8],
     places: &[usize],
@@ -124,8 +125,8 @@ fn carry_pair(
     m + k
 }
 
-// Is the text the rest behind the new prefix? Where that ends as the rest does, the last byte is looked at
-// first.
+// Returns whether the text is the new prefix joined with the rest. If the rest has at least two bytes, so
+// that the join ends in its last byte, that byte is compared first.
 fn is_joined(old: &[u8], new: &[u8], rest: &[u8], text: &[u8]) -> bool
     ensures { λ r. ⌜ r ≡ equal (joined (now (old .entry)) (now (new .entry)) (now (rest .entry))) (now (text .entry)) ⌝ }
 {
@@ -139,7 +140,7 @@ fn is_joined(old: &[u8], new: &[u8], rest: &[u8], text: &[u8]) -> bool
     joining::is_join(old, new, rest, text)
 }
 
-// Has one of the first n pairs, as its source, the rest behind the new prefix?
+// Returns whether one of the first n pairs has the new prefix joined with the rest as its source.
 fn has_joined(bytes: &[u8], slots: &[usize], n: usize, old: &[u8], new: &[u8], rest: &[u8]) -> bool
     ensures { λ r. ⌜ r ≡ hasSource (pairsIn (now (bytes .entry)) (now (slots .entry)) n) (joined (now (old .entry)) (now (new .entry)) (now (rest .entry))) ⌝ }
 {
@@ -153,13 +154,14 @@ fn has_joined(bytes: &[u8], slots: &[usize], n: usize, old: &[u8], new: &[u8], r
     false
 }
 
-// How many pairs the memory holds, and how many bytes.
+// The number of pairs and bytes of a list in a buffer.
 pub struct Built {
     pub n: usize,
     pub at: usize,
 }
 
-// One pair more, the rest behind the new prefix and the target, unless a pair has that source already.
+// Appends a pair with the new prefix joined with the rest as its source and t as its target, unless a pair
+// already has that source.
 fn add_joined(
     old: &[u8],
     new: &[u8],
@@ -190,8 +192,8 @@ fn add_joined(
     next
 }
 
-// One pair more where there is need: the outer source taken back through the inner map, unless a pair
-// has it already, and the outer target.
+// Appends an outer pair with its source mapped back through the inner map; appends nothing if there is no
+// such source or a pair already has it.
 fn pull_pair(
     store: &[u8],
     places: &[usize],
@@ -222,8 +224,8 @@ fn pull_pair(
     add_joined(old, new, &s[k..], t, b, bytes, slots)
 }
 
-// The first half of the composed list: each inner pair with its target carried through the outer
-// map; the place behind them.
+// Writes the first half of the composed list, each inner pair with its target mapped through the outer map,
+// and returns the offset after it.
 fn carry_all(
     store: &[u8],
     places: &[usize],
@@ -253,8 +255,8 @@ fn carry_all(
     at
 }
 
-// The second half behind the first: each outer pair whose source goes back through the inner map to a
-// source that is not there yet.
+// Appends the second half of the composed list: each outer pair whose source maps back through the inner map
+// to a source that is not present yet.
 fn pull_all(
     store: &[u8],
     places: &[usize],
@@ -286,7 +288,7 @@ fn pull_all(
     b
 }
 
-// Both halves.
+// Writes both halves of the composed list.
 fn build_both(
     store: &[u8],
     places: &[usize],
@@ -330,7 +332,7 @@ fn build_both(
     )
 }
 
-// Is the sum of two numbers within a third?
+// Returns whether a + b ≤ most, without overflow.
 fn is_within(a: usize, b: usize, most: usize) -> bool
     ensures { λ r. ⌜ r ≡ leb (a + b) most ⌝ }
 {
@@ -340,7 +342,8 @@ fn is_within(a: usize, b: usize, most: usize) -> bool
     b <= most - a
 }
 
-// Are both lists modest, and is the memory enough for what composing makes of them?
+// Returns whether all ends of both lists have at most 511 bytes and the capacities suffice for the composed
+// list.
 fn is_enough(
     store: &[u8],
     places: &[usize],
@@ -365,8 +368,8 @@ fn is_enough(
     scratch::are_within(istore, iplaces, inner, 511)
 }
 
-// The composed list of an outer and an inner one, where the memory is enough for it; otherwise nothing is
-// written.
+// Writes the composed list of an outer and an inner map if the capacity suffices; otherwise writes nothing
+// and returns 0 pairs.
 pub fn compose_into(
     store: &[u8],
     places: &[usize],

@@ -1,4 +1,4 @@
--- Every row of the table holds, by computing the definitions. Assumes nothing.
+-- The proof of every row of the table, by computing the definitions.
 use mathlib.Core.Path.{refl}
 use Rattle.maps.specs.New.{new}
 use Rattle.maps.specs.Compose.{compose}

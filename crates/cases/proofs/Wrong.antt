@@ -1,4 +1,4 @@
--- Every wrong tool parts from its definition. Assumes nothing.
+-- The proof that every wrong tool differs from its definition.
 use mathlib.Core.Path.{_≡_, refl, sym, ap, _∙_}
 use mathlib.Core.Logic.{_≢_}
 use mathlib.Core.Bool.{false, true≢false}
@@ -21,16 +21,16 @@ use Rattle.route.specs.Leg.{Leg, by-map, legMap, legEnds, outward}
 use Rattle.route.specs.Route.{along, met}
 use Rattle.cases.specs.Wrong.{WrongTools, FirstHalf, SecondHalf, unmoved, noPath, firstOnly, inventedSteps, aToB}
 
--- what a number tells apart is not the same
+-- Values that a numeric function distinguishes are not equal.
 apart : {A : Type 0} (f : A → ℕ) {x y : A} → eqb (f x) (f y) ≡ false → x ≢ y
 apart {A} f {x} {y} h e = true≢false (sym (eqb-self (f y)) ∙ ap (λ (z : A). eqb (f z) (f y)) (sym e) ∙ h)
 
--- the second byte of a path, or the number of a refusal
+-- The second byte of a path, or the number of a refusal.
 tells : Outcome → ℕ
 tells (path q) = getD q 1 0
 tells (refused x) = number x
 
--- a path and its copies, in either order
+-- A path and its copies, in either order.
 met-more : (xs : List Leg) (x : Leg) (p : Text) → met unmoved (xs ++ x ∷ []) p ≡ met unmoved xs p ++ p ∷ []
 unfolding met
 met-more [] x p = refl
@@ -56,7 +56,7 @@ unfolding along met
 no-path-returns [] p q e = let z : p ≡ q = cc in rw z (refl, refl)
 no-path-returns (x ∷ xs) p q e = absurd (no-path e)
 
--- over `/A`→`/B` the path `/A/D` goes plainly to `/B/D` and back
+-- Through `/A`→`/B` the path `/A/D` maps plainly to `/B/D` and back.
 plain : PlainPath (bytes "/A/D")
 unfolding legal fits lacks
 plain = record { is-legal = refl; is-short = refl; is-plain = refl }
@@ -65,7 +65,7 @@ there-and-back : ThereAndBack (legMap (by-map aToB)) (bytes "/A/D") (bytes "/B/D
 unfolding legMap plainOut plainHome legal fits
 there-and-back = record { out = refl; is-legal = refl; is-short = refl; back = refl }
 
--- so a leg that meets the second half gives `/B/D`
+-- A leg that meets the second half yields `/B/D`.
 exact-gives : (goes : Leg → Text → Outcome) → SecondHalf goes → goes (by-map aToB) (bytes "/A/D") ≡ path (bytes "/B/D")
 unfolding legEnds legMap noEmptySource
 exact-gives goes h = (h (by-map aToB) (bytes "/A/D") refl plain refl (bytes "/B/D")) .1 there-and-back

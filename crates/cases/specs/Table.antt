@@ -1,4 +1,5 @@
--- Document 01's table of cases, every row marked P: what the definitions give at each. proofs/Holds.antt proves the whole table.
+-- The table of cases of the requirements: every row marked P, as a statement about the definitions. proofs/Holds.antt proves the whole
+-- table.
 use mathlib.Core.Path.{_≡_}
 use mathlib.Core.Bool.{true, false}
 use mathlib.Core.List.{List, [], _∷_}
@@ -19,55 +20,65 @@ use Rattle.maps.specs.Leg.{translate, home}
 use Rattle.relocates.specs.Status.{statuses}
 use Rattle.chaining.specs.Chain.{chained, chain}
 
--- the path, its prefix and the new prefix, with 255 bytes of lent memory
+-- Replacing a prefix by another, with 255 bytes lent.
 unfoldable pub replacing : String → String → String → Outcome
 unfolding replacePrefixCall
 replacing p s t = replacePrefixCall (bytes p) (bytes s) (bytes t) 255
 
+-- Stripping the selections of a path, with 255 bytes lent.
 unfoldable pub stripping : String → Outcome
 unfolding stripCall
 stripping p = stripCall (bytes p) 255
 
+-- A pair of texts.
 abbrev pub pair : String → String → Pair
 pair s t = record { source = bytes s; target = bytes t }
 
--- pairs as a map, without the mark and with it
+-- A map without the mark.
 abbrev pub unmarked : List Pair → Map
 unmarked l = record { pairs = l; mark = false }
 
+-- A map with the mark.
 abbrev pub marked : List Pair → Map
 marked l = record { pairs = l; mark = true }
 
--- a path mapped plainly out, mapped plainly back, and translated
+-- A path mapped plainly from source to target.
 unfoldable pub out : Map → String → Outcome
 unfolding plainOut given
 out m p = given (plainOut m (bytes p))
 
+-- A path mapped plainly from target to source.
 unfoldable pub back : Map → String → Outcome
 unfolding home
 back m q = home m (bytes q)
 
+-- A path translated.
 unfoldable pub translated : Map → String → Outcome
 unfolding translate
 translated m p = translate m (bytes p)
 
+-- The inner map of the row on composition.
 abbrev pub inner : Map
 inner = unmarked (pair "/A" "/X" ∷ pair "/A/B" "/Y" ∷ [])
 
+-- The outer map of the row on composition.
 abbrev pub outer : Map
 outer = unmarked (pair "/X/B/C" "/Z" ∷ pair "/Y" "/W" ∷ [])
 
--- the status bytes of a relocate list
+-- The status bytes of a relocate list.
 unfoldable pub statusesOf : List Pair → List ℕ
 unfolding statuses
 statusesOf l = statuses l (length l)
 
+-- A relocate list whose pairs all conflict.
 abbrev pub conflicting : List Pair
 conflicting = pair "/R/a" "/R/b" ∷ pair "/R/c" "/R/b" ∷ pair "/R/b" "/R/d" ∷ []
 
+-- A relocate list of two Active pairs along which a path chains twice.
 abbrev pub turning : List Pair
 turning = pair "/R/a/b" "/R/c" ∷ pair "/R/c/d" "/R/a" ∷ []
 
+-- The rows of the table; each comment is the row's text.
 pub record Table : Type 0 where
   -- `/AB` by `/A`: 6
   pub no-boundary : replacing "/AB" "/A" "/C" ≡ refused NoPath
@@ -104,9 +115,9 @@ pub record Table : Type 0 where
   pub inner-out : out inner "/A/B/C" ≡ path (bytes "/Y/C")
   pub outer-out : out outer "/Y/C" ≡ path (bytes "/W/C")
 
--- "Readings a quick porter would get wrong": the first three are the rows `composed`, `later` and `dropped` above. Of the second, "`max_by_key`
--- and `best_prefix` both take the last", `later` is `best_prefix`; chaining and `deepen_to` are `max_by_key`. The fourth is "Skipping an empty
--- source in `deepen_to`; only `best_prefix` skips it."
+-- "Readings a quick porter would get wrong": the first three are the rows `composed`, `later` and `dropped` above. For the second,
+-- "`max_by_key` and `best_prefix` both take the last", `later` covers `best_prefix`; the two first fields here cover `max_by_key`, in
+-- chaining and in `deepen_to`. The other two cover the fourth: "Skipping an empty source in `deepen_to`; only `best_prefix` skips it."
 pub record Readings : Type 0 where
   pub later-chained : chain none (pair "/R/a" "/R/b" ∷ pair "/R/a" "/R/c" ∷ []) (bytes "/R/a/d") ≡ chained (bytes "/R/c/d") 1
   pub later-deepened : deepenTo (unmarked (pair "/A" "/X" ∷ pair "/A" "/Y" ∷ [])) (bytes "/A/b") ≡ unmarked (pair "/A/b" "/Y/b" ∷ [])

@@ -1,2 +1,3 @@
-// Document 01's table of cases and its wrong tools: theorems only (specs/Table.antt and proofs/Holds.antt,
+// The table of cases and the wrong tools of the requirements, as theorems only (specs/Table.antt and
+// proofs/Holds.antt,
 // specs/Wrong.antt and proofs/Wrong.antt).

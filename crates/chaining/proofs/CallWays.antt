@@ -1,4 +1,4 @@
--- What each way through the calls gives. Assumes nothing.
+-- Lemmas about the branches of the calls.
 use mathlib.Core.Path.{_≡_, refl, sym, ap, _∙_}
 use mathlib.Core.Bool.{Bool, true, false, cond}
 use mathlib.Core.List.{List, [], _∷_}
@@ -30,7 +30,7 @@ use Rattle.chaining.specs.Search.{skipOf, stepOf, stepMemory, chainedIn,
 use Rattle.chaining.specs.Calls.{shiftCall, skipTexts, chainCall, chainReply, chainMemory}
 use Rattle.chaining.proofs.ChainWays.{made-passed, made-short, still, blocked, Went, went, back-text, back-part, back-inside}
 
--- a path that is written to lent memory
+-- A path that is written to the lent buffer.
 goes-out : (q : Text) (n : ℕ) (o : Outcome) (part out out′ : Text) → o ≡ path q → n ≡ length q → n ≤ 255 → part ≡ q → 255 ≤ length out → out′ ≡ placed 0 part out
     → (Written n ≡ reply o) × (out′ ≡ memory o out)
 unfolding reply memory
@@ -69,7 +69,7 @@ module _ (l : List Pair) (p : Text) (s : Step) (e : s ≡ stepOf (nearest (tried
         let z : made (Option·getD o p) ≡ path (w .text) = rw (w .made-it) (w .passed) in
         goes-out (w .text) n (made (Option·getD o p)) (take n mem) out out′ z (w .long) (w .short) (back-text (nearest (tried false (some p) p) l) n w mem mem₀ r a) f m
 
--- a text that passed is a path
+-- A validated text is a path.
 pub passed-path : (ls : List Lent) (p : Text) (q : Asked) → q ≡ asked ls (p ∷ []) [] → q ≡ Passed → made p ≡ path p
 unfolding fits
 passed-path ls p q e h = made-passed p (le-leb (length p) 255 (text-short ls p [] [] (sym e ∙ h))) (text-legal ls p [] [] (sym e ∙ h))

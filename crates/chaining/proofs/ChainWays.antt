@@ -1,4 +1,4 @@
--- What each way through a chain gives. Assumes nothing.
+-- Lemmas about the branches of the chain.
 use mathlib.Core.Path.{_≡_, refl, sym, ap, _∙_}
 use mathlib.Core.Bool.{Bool, true, false}
 use mathlib.Core.List.{List}
@@ -22,7 +22,7 @@ use Rattle.chaining.specs.Chain.{nearest, tried, next, Chained, chained,
 use Rattle.chaining.specs.Search.{stepOf, stepMemory}
 use Rattle.grammar.proofs.LegalLaws.{fits-short}
 
--- a text at the beginning of memory is read back
+-- A text written to the beginning of a buffer is read back.
 pub first-back : (t out : Text) → length t ≤ length out → take (length t) (placed 0 t out) ≡ t
 first-back t out h = rw (placed-first t out h) (read-back t out)
 
@@ -38,7 +38,7 @@ made-short q e = go (fits q) refl
     go true h = fits-short q h
     go false h = absurd (let z : _≡_ {A = Outcome} (refused MadeTooLong) (path q) = rw h at e in let y : _≡_ {A = ℕ} 0 1 = cc in omega arith)
 
--- what the answer to a replacement says of it
+-- The properties of a replacement that follow from its result.
 pub record Went (o : Option Text) (m : ℕ) : Type 0 where
   pub text : Text
   pub made-it : o ≡ some text
@@ -95,7 +95,7 @@ went-on : (on : Text → ℕ → Chained) (p : Text) (k : ℕ) (o : Option Text)
 unfolding goingOn
 went-on on p k o m w = rw (w .made-it, w .passed)
 
--- what was made is read back
+-- The text made is read back.
 pub back : (q : Text) (m : ℕ) (o : Option Text) (mem mem₀ : Text) → o ≡ some q → m ≡ length q → m ≤ 255 → length mem₀ ≡ 255 → mem ≡ stepMemory o mem₀ → take m mem ≡ q
 unfolding stepMemory
 back q m o mem mem₀ e l h r a = rw (a, e, l) (first-back q mem₀ (omega arith))
@@ -113,7 +113,7 @@ module _ (o : Option Text) (m : ℕ) (w : Went o m) (mem mem₀ : Text) (r : len
 back-again : (q : Text) (m : ℕ) (part cur cur′ : Text) → part ≡ q → m ≡ length q → m ≤ 255 → length cur ≡ 255 → cur′ ≡ placed 0 part cur → take m cur′ ≡ q
 back-again q m part cur cur′ e l h r b = rw (b, e, l) (first-back q cur (omega arith))
 
--- a turn of the loop
+-- One iteration of the loop.
 module _ (sk : Option Text) (l : List Pair) (p : Text) (n k len : ℕ) (cur : Text) (inv : chain sk l p ≡ chainFor sk l (n - k) (take len cur) k) where
   pub chain-end : n ≤ k → chained (take len cur) k ≡ chain sk l p
   unfolding chainFor

@@ -1,4 +1,4 @@
--- What each way through the search for the longest source gives. Assumes nothing.
+-- Lemmas about the branches of the search for the longest source.
 use mathlib.Core.Path.{_≡_, refl, sym, ap, _∙_}
 use mathlib.Core.Logic.{_≢_}
 use mathlib.Core.Bool.{Bool, true, false, not, cond, false≢true}
@@ -95,7 +95,7 @@ module _ (f : Longest) (b : Bool) (k : Text) (i : ℕ) where
   unfolding considered
   consider-first l g = rw (not-false b l, g)
 
--- what the loop keeps: what was found is what `longest` chooses of the first i pairs
+-- The loop invariant: the pair found is the one that `longest` selects among the first i pairs.
 pub record Holds (t : Pair → Option Text) (l : List Pair) (i : ℕ) (f : Longest) : Type 0 where
   pub chosen : chosenOf f ≡ longest t l i
   pub counted : f .found ≡ true → f .bytes .0 ≡ length ((pairAt l (f .at)) .source)

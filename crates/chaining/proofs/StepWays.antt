@@ -1,4 +1,4 @@
--- What each way through one replacement gives. Assumes nothing.
+-- Lemmas about the branches of one replacement.
 use mathlib.Core.Path.{_≡_, refl, sym, ap, _∙_}
 use mathlib.Core.Bool.{Bool, true, false, not, cond, _&&_, false≢true}
 use mathlib.Core.List.{List}
@@ -27,7 +27,7 @@ use Rattle.chaining.specs.declared.steps.Step.the-variants.{Still, Made,
 use Rattle.chaining.specs.Chain.{longer, longest, triedAt, nearest, isSkipped, altered, tried}
 use Rattle.chaining.specs.Search.{chosenOf, stepOf, stepMemory}
 
--- the pair that was chosen is one of the list, and gives a path
+-- The selected pair is a pair of the list, and yields a path.
 chosen-is : (n i : ℕ) → some n ≡ some i → n ≡ i
 chosen-is n i e = cc
 
@@ -46,7 +46,7 @@ longest-says t l (suc n) i e = go (isSome (t (pairAt l n)) && longer l (longest 
         (omega arith, rw z at (and-l (isSome (t (pairAt l n))) (longer l (longest t l n) n) h))
     go false h ih = let r = ih (rw h at e) in let a = r .0 in (omega arith, r .1)
 
--- a pair that gives a path replaces a prefix
+-- A pair that yields a path replaces a prefix.
 all-none : (a b c : Bool) → isSome (cond a none (cond b none (cond c none none))) ≡ true → ⊥
 all-none true b c h = false≢true h
 all-none false true c h = false≢true h
@@ -108,7 +108,7 @@ module _ (alters : Bool) (skip : Option Text) (p store : Text) (places : List �
     pub once-text : nearest (tried alters skip p) (pairsIn store places n) ≡ some (joined s t (take (length p - length s) (drop (length s) p)))
     once-text = nearest-is ∙ rw (not-false (f .found) g, pair-here) (tried-is alters skip p s t gives)
 
--- questions 7 and 8 of the text j that was made in memory of 255 bytes
+-- Questions 7 and 8 for the text j written to a buffer of 255 bytes.
 module _ (o : Option Text) (j : Text) (e : o ≡ some j) (buf : Text) (l : length buf ≡ 255) (f : Fit) (h : f ≡ fitted j buf) (mem : Text) (m : mem ≡ placed 0 j buf) where
   kept : mem ≡ stepMemory o buf
   unfolding stepMemory

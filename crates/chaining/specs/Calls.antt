@@ -1,4 +1,4 @@
--- Document 01's calls that carry a path through a relocate list: the questions in their order, then the meaning.
+-- The calls that map a path through a relocate list by prefix replacement: validation (questions 1 to 5), then the result.
 use Prim.Native.Nat.{ℕ}
 use mathlib.Core.Bool.{cond}
 use mathlib.Core.List.{List, [], _∷_}
@@ -14,27 +14,28 @@ use Rattle.chaining.specs.declared.Chain.{Chain}
 use Rattle.chaining.specs.declared.Chain.the-variants.{Chained as ChainedTo, Refused}
 use Rattle.chaining.specs.Chain.{Chained, chained, stopped, chain, shifted}
 
--- "`shift_through_nearest_ancestor` is ported too." The path that it gives is put questions 7 and 8.
+-- Requirements: "`shift_through_nearest_ancestor` is ported too." Questions 7 and 8 check the resulting path.
 unfoldable pub shiftCall : Lent → Text → ℕ → Outcome
 unfolding asked answered made shifted
 shiftCall l p room = answered (asked (l ∷ []) (p ∷ []) []) room (made (shifted (pairsOf l) p))
 
--- the skipped source is asked where there is one
+-- The texts to validate for a skipped source: the source if there is one.
 abbrev pub skipTexts : Option Text → List Text
 skipTexts none = []
 skipTexts (some k) = k ∷ []
 
--- "`chain_through_relocates` makes at most as many replacements as there are pairs .. We add its step count: the replacements made."
--- Question 5: "255 bytes for a path"; then the chain, "in chaining 7 and 8 to each step".
+-- Requirements: "`chain_through_relocates` makes at most as many replacements as there are pairs .. We add its step count: the replacements
+-- made." Question 5: "255 bytes for a path"; then the chain, "in chaining 7 and 8 to each step".
 unfoldable pub chainCall : Lent → Option Text → Text → ℕ → Chained
 unfolding asked chain
 chainCall l skip p room = unless (asked (l ∷ []) (p ∷ skipTexts skip) []) stopped (cond (leb 255 room) (chain skip (pairsOf l) p) (stopped NoRoom))
 
--- what is answered and what lent memory holds afterwards: the last path; "A refused call writes nothing."
+-- The reply of a chaining call: the length of the last path and the number of replacements, or the refusal.
 unfoldable pub chainReply : Chained → Chain
 chainReply (chained q k) = ChainedTo (length q) k
 chainReply (stopped x) = Refused x
 
+-- The lent buffer after a chaining call: the last path over its beginning. Requirements: "A refused call writes nothing."
 unfoldable pub chainMemory : Chained → Text → Text
 chainMemory (chained q k) out = written q out
 chainMemory (stopped x) out = out

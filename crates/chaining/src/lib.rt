@@ -1,5 +1,6 @@
-// Carrying a path through a relocate list: chaining and shifting. Document 01's calls put the questions in
-// their order; a refused call writes nothing.
+// Chaining: follows a path through a relocate list by prefix replacement. Ports `chain_through_relocates`
+// and `shift_through_nearest_ancestor` of pcp/relocates.rs, and adds the number of replacements made. The
+// calls validate their input first (questions 1 to 5); a refused call writes nothing.
 mod steps;
 
 ghost use mathlib.Core.Path.{_≡_};
@@ -14,14 +15,15 @@ ghost use Rattle.chaining.specs.Chain.{chain, shifted};
 ghost use Rattle.chaining.specs.Search.{skipOf};
 ghost use Rattle.chaining.specs.Calls.{shiftCall, chainCall, chainReply, chainMemory};
 
-// The answer of a call that chains a path.
+// The reply of a chaining call.
 pub enum Chain {
-    // how many bytes were written, and how many replacements were made
+    // The number of bytes written and the number of replacements made.
     Chained(usize, usize),
     Refused(path::Refusal),
 }
 
-// The endpoint under the nearest rename above it, into lent memory.
+// Writes the endpoint, moved by the nearest rename above it, to the lent buffer. The input is already
+// validated.
 fn shift_out(
     store: &[u8],
     places: &[usize],
@@ -48,7 +50,8 @@ fn shift_out(
     }
 }
 
-// The endpoint under the nearest rename above it, or the endpoint itself.
+// Moves the endpoint by the single nearest rename above it, if there is one, and writes it to the lent
+// buffer.
 pub fn shift_through_nearest_ancestor(
     store: &[u8],
     places: &[usize],
@@ -69,7 +72,7 @@ pub fn shift_through_nearest_ancestor(
     shift_out(store, places, count, endpoint, out)
 }
 
-// The skipped source where there is one; otherwise an empty text, which passes every question.
+// The skipped source if there is one; otherwise the empty text, which passes every question.
 fn skipped_text<'a>(skips: bool, skipped: &'a [u8]) -> &'a [u8]
     ensures { λ r. ⌜ now r ≡ cond skips (now (skipped .entry)) [] ⌝ }
 {
@@ -79,7 +82,7 @@ fn skipped_text<'a>(skips: bool, skipped: &'a [u8]) -> &'a [u8]
     &skipped[..0]
 }
 
-// The end of the chain, into lent memory.
+// Writes the last path of the chain to the lent buffer. The input is already validated.
 fn chain_out(
     store: &[u8],
     places: &[usize],
@@ -104,7 +107,9 @@ fn chain_out(
     }
 }
 
-// The path at the end of its chain of replacements, and how many there were.
+// Follows the path through the relocate list, replacing the longest matching source at each step; writes the
+// last path and returns its length and the number of replacements. If `skips` is set, pairs with the source
+// `skipped` are ignored.
 pub fn chain_through_relocates(
     store: &[u8],
     places: &[usize],

@@ -1,4 +1,5 @@
-// One replacement after the other. Maps measure a key in elements, chaining measures it in bytes.
+// The single replacement step and the loop over it. Chaining measures a key in bytes, whereas maps measure it
+// in elements.
 ghost use mathlib.Core.Path.{_≡_};
 ghost use mathlib.Core.Bool.{cond};
 ghost use Prim.Native.Nat.{_≤_};
@@ -10,26 +11,26 @@ ghost use Rattle.chaining.specs.Chain.{isSkipped, altered, tried, longes
 ghost use Rattle.chaining.specs.Search.{skipOf, chosenOf, considered, stepOf, stepMemory, chainedIn, within};
 ghost use Rattle.pairs.specs.Pair.{pair};
 
-// A number of bytes: how chaining measures a key.
+// A number of bytes: the measure of a key in chaining.
 pub struct Bytes(pub usize);
 
-// What a search has found so far.
+// The result of a search: the index of the pair with the longest source so far, and that source's length.
 struct Longest {
     found: bool,
     at: usize,
     bytes: Bytes,
 }
 
-// What one replacement comes to.
+// The result of one replacement step.
 pub enum Step {
-    // no pair gives a path
+    // No pair yields a path.
     Still,
-    // how many bytes were made
+    // The length of the path made.
     Made(usize),
     Refused(path::Refusal),
 }
 
-// Are the pairs with this source left aside?
+// Returns whether pairs with this source are skipped.
 fn is_skipped(skips: bool, skipped: &[u8], source: &[u8]) -> bool
     ensures { λ r. ⌜ r ≡ isSkipped (skipOf skips (now (skipped .entry))) (now (source .entry)) ⌝ }
 {
@@ -39,7 +40,8 @@ fn is_skipped(skips: bool, skipped: &[u8], source: &[u8]) -> bool
     text::is_equal(source, skipped)
 }
 
-// Does the path have the old prefix and, where that counts, become another one by the new one?
+// Returns whether the path has the old prefix and, if `alters` is set, whether replacing that prefix changes
+// the path.
 fn does_replace(alters: bool, path: &[u8], old: &[u8], new: &[u8]) -> bool
     ensures { λ r. ⌜ r ≡ isSome (cond alters (altered (now (path .entry)) (replacePrefix (now (path .entry)) (now (old .entry)) (now (new .entry)))) (replacePrefix (now (path .entry)) (now (old .entry)) (now (new .entry)))) ⌝ }
 {
@@ -53,7 +55,7 @@ fn does_replace(alters: bool, path: &[u8], old: &[u8], new: &[u8]) -> bool
     !joining::is_join(old, new, &path[k..], path)
 }
 
-// Does the pair of the old and the new prefix give a path?
+// Returns whether the pair (old, new) yields a path.
 fn does_try(alters: bool, skips: bool, skipped: &[u8], path: &[u8], old: &[u8], new: &[u8]) -> bool
     ensures { λ r. ⌜ r ≡ isSome (tried alters (skipOf skips (now (skipped .entry))) (now (path .entry)) (pair (now (old .entry)) (now (new .entry)))) ⌝ }
 {
@@ -66,7 +68,8 @@ fn does_try(alters: bool, skips: bool, skipped: &[u8], path: &[u8], old: &[u8], 
     does_replace(alters, path, old, new)
 }
 
-// The longer of what was found and the key at i, where that gives a path.
+// The search result after the key at i: that key if it yields a path and is at least as long as the one found
+// so far.
 fn consider(f: Longest, tries: bool, key: &[u8], i: usize) -> Longest
     ensures { λ r. ⌜ r ≡ considered f tries (now (key .entry)) i ⌝ }
 {
@@ -86,7 +89,7 @@ fn consider(f: Longest, tries: bool, key: &[u8], i: usize) -> Longest
     }
 }
 
-// The pair that gives a path and whose source is longest in bytes, the last on a tie.
+// The pair that yields a path and whose source is longest in bytes, the last on a tie.
 fn longest_source(
     store: &[u8],
     places: &[usize],
@@ -113,7 +116,8 @@ fn longest_source(
     f
 }
 
-// One replacement by that pair, made in memory of the caller's own, with questions 7 and 8.
+// Replaces one prefix by that pair, writes the path to the caller's scratch buffer and validates it
+// (questions 7 and 8).
 pub(crate) fn replace_once(
     store: &[u8],
     places: &[usize],
@@ -145,7 +149,7 @@ pub(crate) fn replace_once(
     Step::Made(len)
 }
 
-// The path at the end of the chain, at the beginning of memory of the caller's own.
+// Runs the chain and writes its last path to the beginning of the caller's scratch buffer.
 pub(crate) fn chain_into(
     store: &[u8],
     places: &[usize],

@@ -1,4 +1,4 @@
--- What each way through the functions that close a list gives. Assumes nothing.
+-- Lemmas about the branches of the functions that close a list.
 use mathlib.Core.Path.{_≡_, refl, sym, ap, _∙_}
 use mathlib.Core.Bool.{Bool, true, false, not, cond, _&&_, _||_}
 use mathlib.Core.List.{List, [], _∷_, _++_, append-assoc}
@@ -60,7 +60,7 @@ module _ (g : Legs) (slots table : List ℕ) where
       leg-more o =
           rw (le-leb (suc (g .count)) 16 (omega (arith, h)), le-leb (256 * suc (g .count)) (length slots) (omega (arith, m)), le-leb (3 * suc (g .count)) (length table) (omega (arith, o))) refl
 
-  -- what it says where it passes
+  -- The bounds that hold if it returns true.
   pub leg-fits : takes ≡ true → (g .count < 16) × (256 * g .count + 256 ≤ length slots) × (3 * g .count + 3 ≤ length table)
   leg-fits e =
       let a : Bool = leb (suc (g .count)) 16 in
@@ -122,7 +122,7 @@ unfolding closedReply
 reply-passed Passed g h n e = refl
 reply-passed (RefusedAsked x) g h n e = absurd (let z : _≡_ {A = ℕ} 0 1 = cc in omega arith)
 
--- a refusal changes nothing
+-- A refusal changes nothing.
 reply-refused : (a : Asked) (g : Legs) (n : ℕ) (x : Refusal) (v : Vault) (m : Map) → closedReply a g n ≡ Refused x → closedVault a v m n ≡ v
 unfolding closedReply closedVault
 reply-refused Passed g n x v m e = absurd (let z : _≡_ {A = ℕ} 0 1 = cc in omega arith)
@@ -142,7 +142,7 @@ asked-fits v l e = go (takesLeg v) refl (takesBytes v (endBytes l)) refl e
     go true h false k e = absurd (never NoRoom e)
     go false h b k e = absurd (never TooMany e)
 
--- a part of the memory with a text over its beginning, put back
+-- A slice of the buffer with a text over its beginning, put back.
 module _ (at k : ℕ) (t s : List ℕ) (h : length t ≤ k) (f : at + k ≤ length s) where
   pub part-over : take at s ++ (written t (take (at + k - at) (drop at s)) ++ drop (at + k - at) (drop at s)) ≡ over at t s
   part-over =
@@ -157,7 +157,7 @@ module _ (mark : Bool) (l : List Pair) (g : Legs) (store : Text) (slots table : 
   abbrev before : Vault
   before = vault g store slots table
 
-  -- what the call gives
+  -- The reply and the buffers after the call.
   abbrev Closes : Closed → Text → List ℕ → List ℕ → Type 0
   Closes r′ store′ slots′ table′ = (r′ ≡ listReply l before)
       × ((store′ ≡ (listVault mark l before) .store) × ((slots′ ≡ (listVault mark l before) .slots) × (table′ ≡ (listVault mark l before) .table)))
@@ -255,7 +255,7 @@ module _ (relocates : Bool) (bytes : Text) (places : List ℕ) (n : ℕ) (v : Va
     unfolding closeReply closeVault askedOf listReply listVault
     close-as mark k l f r store slots table g = rw (k, counts, ← f) g
 
--- the pairs of either leg
+-- The pairs of either kind of leg.
 module _ (bytes : Text) (places : List ℕ) (n : ℕ) where
   pub all-counted : pairsIn bytes places n ≡ counted false (pairsIn bytes places n)
   unfolding counted

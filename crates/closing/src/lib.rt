@@ -1,4 +1,4 @@
-// Closing the open list as a leg, in lent memory. Nothing is assumed of the memory.
+// Closes the open list of the program `frames` as a leg, in lent memory. The buffers may hold anything.
 ghost use mathlib.Core.Path.{_≡_};
 ghost use mathlib.Core.Bool.{cond};
 ghost use mathlib.Core.List.{[], _∷_};
@@ -9,19 +9,20 @@ ghost use Rattle.pairs.specs.Places.{pairsIn};
 ghost use Rattle.asking.specs.Asking.{lentList};
 ghost use Rattle.closing.specs.Close.{vault, takesLeg, listReply, listVault, closeReply, closeVault};
 
-// The legs' own numbers: how many there are, and the bytes of their ends before dropping.
+// The size of the leg store: the number of legs, and the bytes of their ends before redundant pairs are
+// dropped.
 pub struct Legs {
     pub count: usize,
     pub bytes: usize,
 }
 
-// The answer of a call that closes the open list: the legs' numbers afterwards.
+// The reply of closing the open list: the new size of the leg store, or the refusal.
 pub enum Closed {
     Done(Legs),
     Refused(path::Refusal),
 }
 
-// Question 4: may there be a leg more?
+// Returns whether there is space for one more leg (question 4).
 fn takes_leg(v: Legs, slots: &[usize], table: &[usize]) -> bool
     ensures { λ r. ⌜ r ≡ takesLeg (vault v [] (now (slots .entry)) (now (table .entry))) ⌝ }
 {
@@ -38,7 +39,7 @@ fn takes_leg(v: Legs, slots: &[usize], table: &[usize]) -> bool
     true
 }
 
-// Questions 4 and 5 of a leg that is made of the first n pairs: the answer, with the legs' numbers.
+// Validates a leg built from the first n pairs (questions 4 and 5) and returns the new size of the leg store.
 fn ask_close(
     bytes: &[u8],
     places: &[usize],
@@ -71,7 +72,7 @@ fn ask_close(
     })
 }
 
-// The number that stands for the mark.
+// The number that encodes the mark.
 fn mark_number(mark: bool) -> usize
     ensures { λ r. ⌜ r ≡ cond mark 1 0 ⌝ }
 {
@@ -92,7 +93,7 @@ fn write_three(k: usize, mark: bool, w: usize, table: &mut [usize])
     table[j + 2] = w;
 }
 
-// Closes the first n pairs as a leg; its map has the mark where `mark` is set.
+// Closes the first n pairs as a leg; its map has the mark if `mark` is set or a pair is `/`→`/`.
 fn close_list(
     bytes: &[u8],
     places: &[usize],
@@ -123,7 +124,7 @@ fn close_list(
     r
 }
 
-// Closes the open list of n pairs as a leg, a relocate list where `relocates` is set.
+// Closes the open list of n pairs as a leg: a relocate leg if `relocates` is set, otherwise a map leg.
 pub fn close(
     relocates: bool,
     bytes: &[u8],

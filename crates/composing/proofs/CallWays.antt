@@ -1,4 +1,4 @@
--- What each way through the calls gives. Assumes nothing.
+-- Lemmas about the branches of the calls.
 use mathlib.Core.Path.{_≡_, refl, sym, ap, _∙_}
 use mathlib.Core.Bool.{Bool, true, false, not, cond, _&&_}
 use mathlib.Core.List.{List, [], _∷_}
@@ -79,20 +79,20 @@ module _ (store : Text) (places : List ℕ) (n : ℕ) (mark : Bool) (time : Laye
       unfolding fromEnds roomFor listRoom madeShort
       made-long k l f = rw (pairsIn-length store places n, le-leb n 64 few, told-true g f, le-leb n (length slots / 4) l, told h k)
 
--- two maps that are no identities: the map made of the composed list, under the composed mark
+-- Two maps, neither the identity: the map is built from the composed list, with the composed mark.
 pub composed-made : (outer inner : Map) (time : LayerOffset) (out : Text) (slots : List ℕ)
     → composed outer inner time out slots ≡ fromEnds (composedPairs outer inner) (outer .mark && inner .mark) time out slots
 unfolding composed
 composed-made outer inner time out slots = refl
 
--- `compose_in`: the list that was built, under the composed mark and time offset
+-- `compose_in`: the list that was built, with the composed mark and time offset.
 pub built-map : (outer inner : Map) (time : LayerOffset) (out : Text) (slots : List ℕ) (n at : ℕ) (bytes : Text) (own : List ℕ)
     → Holds (composedPairs outer inner) n at bytes own → (mark : Bool) → mark ≡ (outer .mark && inner .mark) → (t : LayerOffset) → t ≡ time
     → composed outer inner time out slots ≡ fromEnds (pairsIn bytes own n) mark t out slots
 built-map outer inner time out slots n at bytes own c mark e t f =
     rw (composed-made outer inner time out slots, holds-list (composedPairs outer inner) n at bytes own c, e, f)
 
--- .. whose ends are ends
+-- Every end of the built list is a prim path, `/` or empty.
 pub made-ends : (outer inner : Map) → allEnds (outer .pairs) ≡ true → allEnds (inner .pairs) ≡ true → (n at : ℕ) (bytes : Text) (own : List ℕ)
     → Holds (composedPairs outer inner) n at bytes own → allEnds (pairsIn bytes own n) ≡ true
 made-ends outer inner eo ei n at bytes own c = ap allEnds (holds-list (composedPairs outer inner) n at bytes own c) ∙ composed-ends outer inner eo ei
@@ -166,7 +166,7 @@ module _ (store : Text) (places : List ℕ) (outer : MapFunction) (istore : Text
         unfolding composing
         call-composed l = passed ∙ rw (identity-outer, g, identity-inner, l)
 
--- what comes out of composing is the composed map
+-- A map that the call returns is the composed map.
 pub composes-to : ComposesTo
 unfolding composing composed compose asItIs
 composes-to outer inner m time t out slots e = go (isPathIdentity outer) (isPathIdentity inner) e

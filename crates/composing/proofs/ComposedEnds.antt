@@ -1,4 +1,4 @@
--- Composing ends gives ends: nothing that it makes is illegal. Assumes nothing.
+-- Lemmas about composed ends: composing prim paths, `/` and empty ends yields only such ends, so nothing illegal is made.
 use mathlib.Core.Path.{_≡_, refl, sym, ap, _∙_}
 use mathlib.Core.Bool.{Bool, true, false, not, cond, _&&_, _||_}
 use mathlib.Core.List.{List, [], _∷_, _++_}
@@ -24,7 +24,7 @@ use Rattle.maps.proofs.EndLaws.{ends-source, ends-target}
 use Rattle.composing.specs.Calls.{ComposedEnds}
 use Rattle.building.proofs.EveryLaws.{composed-every}
 
--- a byte that is no slash and stands in neither text does not stand in their join
+-- A byte other than the slash that is in neither text is not in their join.
 slash-lacks : (b : ℕ) → eqb 47 b ≡ false → (c : Bool) → lacks b (slashUnless c) ≡ true
 unfolding lacks
 slash-lacks b h true = refl
@@ -49,13 +49,13 @@ unfolding joined
 joined-lacks b h s t r e f =
     lacks-join b t (separator s t r ++ body s r) e (lacks-join b (separator s t r) (body s r) (separator-lacks b h s t r) (body-lacks b s r f))
 
--- what follows a prefix of an end is no property and no selection
+-- The remainder after a prefix of an end begins with no property and no selection.
 no-hang : (r : Text) → lacks 123 r ≡ true → lacks 46 r ≡ true → hangs r ≡ false
 unfolding hangs
 no-hang [] e f = refl
 no-hang (a ∷ r) e f = rw (lacks-first 46 a r f, lacks-first 123 a r e)
 
--- the join of ends is an end
+-- The join of ends is an end.
 joined-end : (s t r : Text) → isEnd (s ++ r) ≡ true → isEnd s ≡ true → isNil s ≡ false → isEnd t ≡ true → follows s r ≡ true → isEnd (joined s t r) ≡ true
 unfolding isEnd spoils
 joined-end s t r ep es ns et f =
@@ -76,7 +76,7 @@ served : (p : Text) (key : ℕ → Text) (n i : ℕ) → best p key n ≡ some i
 unfolding best serves
 served p key n i e = (chosen-best (serves p) key n i e) .does-pass
 
--- plain mapping of an end by ends gives an end
+-- Plain mapping of an end through pairs of ends yields an end.
 by-end : (m : Map) (a b : ℕ → Text) (p q : Text) (n : ℕ) (o : Option ℕ) → best p a n ≡ o → ((i : ℕ) → isEnd (a i) ≡ true) → ((i : ℕ) → isEnd (b i) ≡ true)
     → isEnd p ≡ true → by m a b p o ≡ some q → isEnd q ≡ true
 by-end m a b p q n none c ea eb ep e = go (m .mark) e
@@ -112,7 +112,7 @@ unfolding allEnds
 composed-ends outer inner eo ei =
     composed-every isEnd isEnd (λ t e. e) no-end outer inner (λ t q e. out-end outer eo t q e) (λ s q e. home-end inner ei s q e) eo ei
 
--- and ends are legal
+-- Ends are legal.
 pub ends-legal : (l : List Pair) → allEnds l ≡ true → everyEnd legal l ≡ true
 unfolding allEnds everyEnd
 ends-legal [] e = refl

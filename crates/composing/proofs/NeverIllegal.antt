@@ -1,4 +1,4 @@
--- No call of `compose` answers that a path that it made is illegal. Assumes nothing.
+-- The proof that no `compose` call is refused because a path that it made is illegal (question 8).
 use mathlib.Core.Path.{_≡_, refl, ap}
 use mathlib.Core.Bool.{Bool, true, false, cond, _&&_}
 use mathlib.Core.List.{List, [], _∷_}
@@ -27,7 +27,7 @@ use Rattle.composing.specs.Calls.{timeOf, composed, composing, composeCa
 use Rattle.composing.proofs.ComposedEnds.{composed-ends, ends-legal}
 use Rattle.composing.proofs.CallWays.{composed-made}
 
--- an outcome that is not the refusal 8
+-- An outcome other than refusal 8.
 abbrev pub Never : MapOutcome → Type 0
 Never o = o ≡ refused MadeIllegal → ⊥
 
@@ -43,12 +43,12 @@ never-five e = let z : _≡_ {A = ℕ} 0 1 = cc in omega arith
 never-seven : Never (refused MadeTooLong)
 never-seven e = let z : _≡_ {A = ℕ} 0 1 = cc in omega arith
 
--- one of two such
+-- A choice between two such outcomes.
 pub never-either : (b : Bool) (x y : MapOutcome) → Never x → Never y → Never (cond b x y)
 never-either true x y f g = f
 never-either false x y f g = g
 
--- questions 4, 5 and 7 before it, and 8 itself where every end is legal
+-- Questions 4, 5 and 7 before it, and question 8 itself if every end is legal.
 pub never-many : (b : Bool) (o : MapOutcome) → Never o → Never (cond b o (refused TooMany))
 never-many b o f = never-either b o (refused TooMany) f never-four
 
@@ -60,7 +60,7 @@ pub never-made : (l : List Pair) (m : Map) (time : LayerOffset) → everyEnd leg
 unfolding madeShort madeLegal
 never-made l m time h = rw h (never-either (allShort l) (map m time) (refused MadeTooLong) (never-map m time) never-seven)
 
--- a map as it stands, and one made of ends
+-- A map returned unchanged, and one built from constructed ends.
 pub never-as-it-is : (l : List Pair) (mark : Bool) (time : LayerOffset) (out : Text) (slots : List ℕ) → Never (asItIs l mark time out slots)
 unfolding asItIs weighed
 never-as-it-is l mark time out slots =
@@ -73,7 +73,7 @@ never-ends l mark time out slots e =
     never-many (leb (length l) 64) (roomFor l out slots (madeShort l (madeLegal l (map (fromParts l mark) time))))
     (never-room l out slots (madeShort l (madeLegal l (map (fromParts l mark) time))) (never-made l (fromParts l mark) time (ends-legal l e)))
 
--- questions 1 to 4, as they are put to the lists of a call
+-- Questions 1 to 4, as they check the lists of a call.
 no-eight : (a b c d : Bool) → firstNo a b c d ≡ RefusedAsked MadeIllegal → ⊥
 unfolding firstNo
 no-eight true true true true e = let z : _≡_ {A = ℕ} 0 1 = cc in omega arith
@@ -87,7 +87,7 @@ unfolding asked
 never-asked lists texts ends =
     no-eight (every fits texts && every listFits lists) (every legal texts && every (listAll legal) lists) (every isEnd ends && every (listAll isEnd) lists) (every listCounts lists)
 
--- and what a call whose lists passed comes to
+-- The outcome of a call whose lists passed.
 pub never-unless : (lists : List Lent) (o : MapOutcome) → (asked lists [] [] ≡ Passed → Never o) → Never (unless (asked lists [] []) refused o)
 never-unless lists o f = go (asked lists [] []) (never-asked lists [] []) f
   where

@@ -1,4 +1,4 @@
--- `compose` as a call: the questions in their order, then the composed map.
+-- The `compose` call: validation, then the composed map.
 use mathlib.Core.Path.{_≡_}
 use mathlib.Core.Bool.{true, cond, _&&_}
 use mathlib.Core.List.{List, [], _∷_}
@@ -17,43 +17,44 @@ use Rattle.map_function.specs.Read.{listOf, mapOf}
 use Rattle.map_function.specs.Made.{MapOutcome, map, refused, asItIs}
 use Rattle.scratch.specs.Ends.{fromEnds}
 
--- "Two identity offsets compose to exactly (0, 1)."
+-- The time offset of a composed map. Requirements: "Two identity offsets compose to exactly (0, 1)."
 unfoldable pub composedTime : LayerOffset → LayerOffset → LayerOffset
 unfolding isIdentity
 composedTime outer inner = cond (isIdentity outer && isIdentity inner) identity (concatenated outer inner)
 
+-- The composed time offset of two maps.
 abbrev pub timeOf : MapFunction → MapFunction → LayerOffset
 timeOf outer inner = composedTime (outer .«time_offset») (inner .«time_offset»)
 
--- two maps that are no identities: questions 4, 5, 7 and 8 put to the composed list; "a None target becomes an empty one, so 6 never comes
--- there", and 8 never comes: `composed-ends` (proofs/ComposedEnds.antt)
+-- Two maps, neither of them the identity on paths: questions 4, 5, 7 and 8 for the composed list. Requirements: "a None target becomes an
+-- empty one, so 6 never comes there". Question 8 never fails: `composed-ends` (proofs/ComposedEnds.antt).
 unfoldable pub composed : Map → Map → LayerOffset → Text → List ℕ → MapOutcome
 unfolding composedPairs fromEnds
 composed outer inner time out slots = fromEnds (composedPairs outer inner) (outer .mark && inner .mark) time out slots
 
--- one that leaves every path as it is gives the other as it stands, with the composed time offset
+-- The composed map: if one map is the identity on paths, the other one unchanged; in each case with the composed time offset.
 unfoldable pub composing : Map → Map → LayerOffset → Text → List ℕ → MapOutcome
 unfolding asItIs composed
 composing outer inner time out slots =
     cond (isPathIdentity outer) (asItIs (inner .pairs) (inner .mark) time out slots)
     (cond (isPathIdentity inner) (asItIs (outer .pairs) (outer .mark) time out slots) (composed outer inner time out slots))
 
--- a map that comes out is the composed one (proved in proofs/CallWays.antt)
+-- If the call returns a map, it is the composed one (proved in proofs/CallWays.antt).
 abbrev pub ComposesTo : Type 0
 ComposesTo = (outer inner m : Map) (time t : LayerOffset) (out : Text) (slots : List ℕ) → composing outer inner time out slots ≡ map m t → m ≡ compose outer inner
 
--- Rust: compose, the outer map first
+-- The `compose` call; the outer map is given first. (Rust: compose)
 unfoldable pub composeCall : Text → List ℕ → MapFunction → Text → List ℕ → MapFunction → Text → List ℕ → MapOutcome
 unfolding asked composing composedTime
 composeCall store places outer istore iplaces inner out slots =
     unless (asked (listOf store places outer ∷ listOf istore iplaces inner ∷ []) [] []) refused
     (composing (mapOf store places outer) (mapOf istore iplaces inner) (timeOf outer inner) out slots)
 
--- every end that composing makes is a prim path, `/` or empty, so question 8 has nothing to refuse (proved in proofs/ComposedEnds.antt)
+-- Every end of a composed list is a prim path, `/` or empty, so question 8 never fails (proved in proofs/ComposedEnds.antt).
 abbrev pub ComposedEnds : Type 0
 ComposedEnds = (outer inner : Map) → allEnds (outer .pairs) ≡ true → allEnds (inner .pairs) ≡ true → allEnds (composedPairs outer inner) ≡ true
 
--- so no call of `compose` answers 8 (proved in proofs/NeverIllegal.antt)
+-- No `compose` call is refused with 8 (proved in proofs/NeverIllegal.antt).
 abbrev pub NeverIllegal : Type 0
 NeverIllegal = (store : Text) (places : List ℕ) (outer : MapFunction) (istore : Text) (iplaces : List ℕ) (inner : MapFunction) (out : Text) (slots : List ℕ)
     → composeCall store places outer istore iplaces inner out slots ≡ refused MadeIllegal → ⊥

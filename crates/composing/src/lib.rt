@@ -1,4 +1,4 @@
-// Document 01's `compose`: two maps as one, behind the questions.
+// Composes two maps into one, after validating both. Ports `MapFunction::compose` of pcp/mapping.rs.
 ghost use mathlib.Core.Path.{_≡_};
 ghost use mathlib.Core.Bool.{true};
 ghost use Prim.Native.Nat.{_+_, _*_, _≤_};
@@ -24,8 +24,8 @@ pub fn composed_time(
     outer.concatenate(inner)
 }
 
-// The map made of the first n pairs, which were made themselves: questions 4 and 5, then 7. They are ends,
-// so 8 is not asked.
+// Builds the map from the first n pairs of a composed list: validates them (questions 4, 5 and 7), then drops
+// redundant pairs. Every end is a prim path, `/` or empty, so question 8 needs no check.
 fn from_made(
     store: &[u8],
     places: &[usize],
@@ -54,7 +54,7 @@ fn from_made(
     map_function::MapReply::Refused(path::Refusal::MadeTooLong)
 }
 
-// Composes two maps that passed the questions and are no identities, with memory to build in.
+// Composes two validated maps, neither of them the identity on paths, in the given scratch buffers.
 fn compose_in(
     store: &[u8],
     places: &[usize],
@@ -93,7 +93,7 @@ fn compose_in(
     from_made(bytes, own, b.n, asking::both(mark, imark), time, out, slots)
 }
 
-// The same for at most four pairs together: a small piece of memory is quickly cleared.
+// Composes lists of at most four pairs together, in a small scratch buffer that is quickly cleared.
 fn compose_few(
     store: &[u8],
     places: &[usize],
@@ -127,7 +127,7 @@ fn compose_few(
     )
 }
 
-// The same for as many pairs as two lists have.
+// Composes lists of up to 64 pairs each.
 fn compose_many(
     store: &[u8],
     places: &[usize],
@@ -161,7 +161,7 @@ fn compose_many(
     )
 }
 
-// The outer map after the inner one, as one map.
+// Composes two maps: the result applies the inner map first, then the outer one.
 pub fn compose(
     store: &[u8],
     places: &[usize],

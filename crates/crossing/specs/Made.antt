@@ -1,5 +1,5 @@
--- What a call that makes a map or chains a path answers, as plain numbers: 256 times the value, and document 01's number (0 for an answer)
--- in the low byte.
+-- The reply of a call that builds a map or chains a path, encoded as one number for the C interface: the low byte is the refusal number (0
+-- if accepted), the remainder is 256 times the value.
 use mathlib.Core.Path.{_≡_}
 use Prim.Native.Nat.{ℕ, _+_, _*_, _%_}
 use mathlib.Core.Bool.{Bool, cond}
@@ -20,39 +20,42 @@ use Rattle.chaining.specs.declared.Chain.{Chain}
 use Rattle.chaining.specs.declared.Chain.the-variants.{Chained, Refused as RefusedChain}
 use Rattle.crossing.specs.Time.{floats}
 
--- a map's own numbers: how many pairs it has, its mark, and the two numbers of its time offset
+-- A map's header from plain numbers: the number of pairs, the mark, and offset and scale of the time offset.
 abbrev pub numbers : ℕ → Bool → Float → Float → MapFunction
 numbers count mark offset scale = record { count = count; «has_root_identity» = mark; «time_offset» = timed offset scale }
 
--- the value is twice the number of pairs, and one more with the mark; there are at most 64 pairs everywhere, so the remainder keeps them
+-- The encoded value of a map: twice the number of pairs, plus one if it has the mark. A map has at most 64 pairs, so the remainder changes
+-- nothing; it rules out overflow.
 unfoldable pub madeValue : ℕ → Bool → ℕ
 madeValue count mark = cond mark (512 * (count % 36028797018963968) + 256) (512 * (count % 36028797018963968))
 
+-- The encoded reply of a call that builds a map.
 unfoldable pub madeCode : MapReply → ℕ
 unfolding madeValue
 madeCode (Made f) = madeValue (f .count) (f .«has_root_identity»)
 madeCode (Refused x) = number x
 
--- its time offset, in two lent numbers; "A refused call writes nothing."
+-- The two lent floats after the call: the map's time offset. Requirements: "A refused call writes nothing."
 unfoldable pub madeTime : MapReply → List Float → List Float
 unfolding floats
 madeTime (Made f) time = floats (f .«time_offset»)
 madeTime (Refused x) time = time
 
--- a call gave what the outcome says, as plain numbers: the reply, both lent memories and the two lent numbers of the time offset
+-- The call returned the given outcome in encoded form: the reply, both lent buffers and the two lent floats of the time offset.
 abbrev pub GivesCode : MapOutcome → ℕ → Text → Text → List ℕ → List ℕ → List Float → List Float → Type 0
 GivesCode o r out out′ slots slots′ time time′ =
     (r ≡ madeCode (mapReply o)) × ((out′ ≡ mapBytes o out) × ((slots′ ≡ mapSlots o slots) × (time′ ≡ madeTime (mapReply o) time)))
 
--- the map with its time offset replaced; its list is not lent, so that only question 4 has something to ask
+-- The reply of replacing a map's time offset. The list of pairs is not lent, so only question 4 applies.
 unfoldable pub withTimeOffsetCall : MapFunction → LayerOffset → MapReply
 withTimeOffsetCall f time = cond (leb (f .count) 64) (Made (timedMap f time)) (Refused TooMany)
 
--- the value is 256 times the steps, and the length; a path has at most 255 bytes and there are at most 64 steps, so the remainders keep
--- both
+-- The encoded value of a chain: 256 times the number of steps, plus the length. A path has at most 255 bytes and there are at most 64
+-- steps, so the remainders change nothing; they rule out overflow.
 unfoldable pub chainValue : ℕ → ℕ → ℕ
 chainValue len steps = 65536 * (steps % 281474976710656) + 256 * (len % 256)
 
+-- The encoded reply of a chaining call.
 unfoldable pub chainCode : Chain → ℕ
 unfolding chainValue
 chainCode (Chained len steps) = chainValue len steps

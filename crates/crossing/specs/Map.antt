@@ -1,4 +1,4 @@
--- A map and a way through it, handed over as plain numbers.
+-- A map and a direction of mapping as plain numbers.
 use Prim.Native.Nat.{ℕ}
 use mathlib.Core.Bool.{Bool, cond}
 use lib.Dec.{eqb}
@@ -7,10 +7,10 @@ use Rattle.map_function.specs.declared.MapFunction.{MapFunction}
 use Rattle.mapping.specs.declared.Way.{Way}
 use Rattle.mapping.specs.declared.Way.the-variants.{Out, Home, Translated}
 
--- its number of pairs and its mark, with no time offset
+-- A map's header from its number of pairs and its mark, with the identity time offset.
 abbrev pub timeless : ℕ → Bool → MapFunction
 timeless count mark = record { count = count; «has_root_identity» = mark; «time_offset» = identity }
 
--- 0 and 1 are plain mapping out and home, any other number is translation
+-- The direction for a number: 0 is plain mapping from source to target, 1 from target to source, any other number is translation.
 unfoldable pub wayOf : ℕ → Way
 wayOf n = cond (eqb n 0) Out (cond (eqb n 1) Home Translated)

@@ -1,10 +1,11 @@
-// Maps, ways, chains and time offsets as the plain numbers that cross to Rust and C.
+// Conversions between maps, directions, chains and time offsets and the plain numbers that pass across the
+// C interface.
 ghost use mathlib.Core.Path.{_≡_};
 ghost use Rattle.crossing.specs.Map.{timeless, wayOf};
 ghost use Rattle.crossing.specs.Time.{floats, bitPatterns};
 ghost use Rattle.crossing.specs.Made.{numbers, madeValue, madeCode, madeTime, withTimeOffsetCall, chainValue, chainCode};
 
-// The map of a list, with no time offset.
+// A map's header with the identity time offset.
 pub fn map_of(count: usize, mark: bool) -> map_function::MapFunction
     ensures { λ r. ⌜ r ≡ timeless count mark ⌝ }
 {
@@ -16,7 +17,7 @@ pub fn map_of(count: usize, mark: bool) -> map_function::MapFunction
     }
 }
 
-// The map with these numbers.
+// A map's header from plain numbers.
 pub fn map_with(count: usize, mark: bool, offset: f64, scale: f64) -> map_function::MapFunction
     ensures { λ r. ⌜ r ≡ numbers count mark offset scale ⌝ }
 {
@@ -27,7 +28,7 @@ pub fn map_with(count: usize, mark: bool, offset: f64, scale: f64) -> map_functi
     }
 }
 
-// The way that a number stands for.
+// The direction for a number: 0 out, 1 home, any other number translation.
 pub fn way_of(way: usize) -> mapping::Way
     ensures { λ r. ⌜ r ≡ wayOf way ⌝ }
 {
@@ -40,21 +41,21 @@ pub fn way_of(way: usize) -> mapping::Way
     mapping::Way::Translated
 }
 
-// Writes offset and scale.
+// Writes the offset and the scale.
 pub fn put(made: layer_offset::LayerOffset, out: &mut [f64; 2])
     ensures { λ r. ⌜ now (out .exit) ≡ floats made ⌝ }
 {
     *out = [made.offset, made.scale];
 }
 
-// Writes the bits of offset and scale.
+// Writes the bit patterns of the offset and the scale.
 pub fn put_bits(bits: layer_offset::OffsetBits, out: &mut [u64; 2])
     ensures { λ r. ⌜ now (out .exit) ≡ bitPatterns bits ⌝ }
 {
     *out = [bits.0, bits.1];
 }
 
-// The number of pairs and the mark in one number.
+// Encodes the number of pairs and the mark in one number.
 fn made_value(count: usize, mark: bool) -> usize
     ensures { λ r. ⌜ r ≡ madeValue count mark ⌝ }
 {
@@ -64,7 +65,7 @@ fn made_value(count: usize, mark: bool) -> usize
     512 * (count % 36028797018963968)
 }
 
-// The reply as one number, and the time offset of a map that was made.
+// Encodes the reply as one number and writes the time offset of a map that was built.
 pub fn made_code(made: map_function::MapReply, time: &mut [f64; 2]) -> usize
     ensures { λ r. ⌜ r ≡ madeCode made ⌝ }
     ensures { λ r. ⌜ now (time .exit) ≡ madeTime made (now (time .entry)) ⌝ }
@@ -78,8 +79,7 @@ pub fn made_code(made: map_function::MapReply, time: &mut [f64; 2]) -> usize
     }
 }
 
-// The map with its time offset replaced; its pairs stay where they are. Question 4 is put to their
-// number.
+// Replaces the map's time offset; its pairs are not touched. Validates their number (question 4).
 pub fn with_time_offset(
     map: map_function::MapFunction,
     offset: layer_offset::LayerOffset,
@@ -92,14 +92,14 @@ pub fn with_time_offset(
     map_function::MapReply::Made(map.with_time_offset(offset))
 }
 
-// The length and the steps in one number.
+// Encodes the length and the number of steps in one number.
 fn chain_value(len: usize, steps: usize) -> usize
     ensures { λ r. ⌜ r ≡ chainValue len steps ⌝ }
 {
     65536 * (steps % 281474976710656) + 256 * (len % 256)
 }
 
-// The reply as one number.
+// Encodes the reply as one number.
 pub fn chain_code(c: chaining::Chain) -> usize
     ensures { λ r. ⌜ r ≡ chainCode c ⌝ }
 {

@@ -1,4 +1,4 @@
--- What each way through the functions of `deepen_to` gives. Assumes nothing.
+-- Lemmas about the branches of the functions of `deepen_to`.
 use mathlib.Core.Path.{_≡_, refl, sym, ap, _∙_}
 use mathlib.Core.Bool.{Bool, true, false, not, cond, false≢true}
 use mathlib.Core.List.{List, [], _∷_, _++_}
@@ -75,7 +75,7 @@ pub deepened-pair : (store : Text) (places : List ℕ) (i : ℕ) (node above bel
     ≡ pair ((deepened node above below (pair s t)) .source) ((deepened node above below (pair s t)) .target)
 deepened-pair store places i node above below s t e f = rw (e, f, ← (source-key store places i), ← (target-key store places i)) refl
 
--- `deepen_by`: where the class puts the node
+-- `deepen_by`: the node mapped by the class pair.
 module _ (q : Text) (k : ℕ) (made : Text) (e : k ≡ length q) (f : take k made ≡ q) where
   pub below-short : length q ≤ 511 → length (take k made) ≤ 511
   below-short l = omega (arith, ap length f)
@@ -104,7 +104,7 @@ module _ (f : Counted) (p k : Text) (i : ℕ) (b : Bool) (h : b ≡ hasPrefix p 
     unfolding consideredAbove
     above-first g = rw (told-true h l, g, ← e)
 
--- what the loop keeps: what was found is what `bestBy` chooses of the first i sources
+-- The loop invariant: the pair found is the one that `bestBy` selects among the first i sources.
 pub record Above (p : Text) (key : ℕ → Text) (i : ℕ) (f : Counted) : Type 0 where
   pub chosen : chosenAbove f ≡ bestBy (hasPrefix p) key i
   pub counted : f .found ≡ true → f .elements ≡ elements (key (f .at))
@@ -142,7 +142,7 @@ node-done p out f h e n k out′ w =
     let z : n ≡ length (strip p) = strip-length p out f h e n k in
     (z, (strip-back p out f h e n k out′ w, omega (arith, strip-shorter p)))
 
--- the second text and the second end of the question are empty
+-- The second text and the second end to validate are empty.
 ask-node : (l : Lent) (p e : Text) → asked (l ∷ []) (p ∷ [] ∷ []) (e ∷ [] ∷ []) ≡ asked (l ∷ []) (p ∷ []) (e ∷ [])
 unfolding asked every fits legal isEnd
 ask-node l p e = refl
@@ -235,12 +235,12 @@ module _ (store : Text) (places : List ℕ) (f : MapFunction) (p node : Text) (o
               ∙ ap (λ (y : Text). fromEnds (deepenedPairs node y (replaced node above (keyAt store places true (c .at))) (pairsIn store places (f .count)))
               (f .«has_root_identity») (f .«time_offset») out slots) (pairsIn-source store places (f .count) (c .at) deepen-inside)
 
--- `deepen_to`: "1" comes first
+-- `deepen_to`: question 1 is checked first.
 pub deepen-long : (store : Text) (places : List ℕ) (f : MapFunction) (p : Text) (out : Text) (slots : List ℕ) → 255 < length p → deepenToCall store places f p out slots ≡ refused TooLong
 unfolding deepenToCall asked every fits firstNo
 deepen-long store places f p out slots h = rw (lt-leb (length p) 255 h) refl
 
--- a map that comes out is the one that the definition gives
+-- A map that the call returns is the map of the definition.
 by-class : (m n : Map) (node : Text) (o : Option ℕ) (time t : LayerOffset) (out : Text) (slots : List ℕ) → deepeningBy m node o time out slots ≡ map n t → n ≡ deepenBy m node o
 unfolding deepeningBy asItIs equal replacePrefix fromParts
 by-class m n node none time t out slots e = weighed-map n t (m .pairs) m time out slots e

@@ -1,4 +1,4 @@
--- `deepen_to` as a call: the questions in their order, then the map.
+-- The `deepen_to` call: validation, then the map.
 use mathlib.Core.Path.{_≡_}
 use mathlib.Core.Bool.{cond}
 use mathlib.Core.List.{List, [], _∷_, map as mapped}
@@ -21,29 +21,31 @@ use Rattle.map_function.specs.Read.{listOf, mapOf}
 use Rattle.map_function.specs.Made.{MapOutcome, map, refused, asItIs}
 use Rattle.scratch.specs.Ends.{fromEnds}
 
--- every pair whose source is the class's becomes the node and where the class puts it
+-- The pairs with each pair whose source is `above` (the class) replaced by the pair `node`→`below`.
 abbrev pub deepenedPairs : Text → Text → Text → List Pair → List Pair
 deepenedPairs node above below l = mapped (λ (x : Pair). deepened node above below x) l
 
--- the class at i, where there is one; without one the map stays as it stands
+-- The deepened map for the class found at index i; without a class, the map unchanged.
 unfoldable pub deepeningBy : Map → Text → Option ℕ → LayerOffset → Text → List ℕ → MapOutcome
 unfolding asItIs fromEnds replacePrefix
 deepeningBy m node none time out slots = asItIs (m .pairs) (m .mark) time out slots
 deepeningBy m node (some i) time out slots =
     fromEnds (deepenedPairs node (source m i) (Option·getD (replacePrefix node (source m i) (target m i)) []) (m .pairs)) (m .mark) time out slots
 
--- so does a map that has the node for a source; the class has most elements of the sources above the node, "only `best_prefix` skips" an empty one
+-- The deepened map: unchanged if the node already is a source; otherwise deepened at the class, the pair whose source is a prefix of the
+-- node with most elements. An empty source counts here: "only `best_prefix` skips it".
 unfoldable pub deepening : Map → Text → LayerOffset → Text → List ℕ → MapOutcome
 unfolding asItIs deepeningBy hasSource bestBy hasPrefix
 deepening m node time out slots =
     cond (hasSource (m .pairs) node) (asItIs (m .pairs) (m .mark) time out slots)
     (deepeningBy m node (bestBy (hasPrefix node) (source m) (size m)) time out slots)
 
--- a map that comes out is the deepened one (proved in proofs/DeepenWays.antt)
+-- If the call returns a map, it is the deepened one (proved in proofs/DeepenWays.antt).
 abbrev pub DeepensTo : Type 0
 DeepensTo = (m n : Map) (path : Text) (time t : LayerOffset) (out : Text) (slots : List ℕ) → deepening m (strip path) time out slots ≡ map n t → n ≡ deepenTo m path
 
--- Rust: deepen_to, which keeps the map's time offset. "`deepen_to`'s node after stripping" counts as an end.
+-- The `deepen_to` call, which keeps the map's time offset. Requirements: "`deepen_to`'s node after stripping" counts as an end. (Rust:
+-- deepen_to)
 unfoldable pub deepenToCall : Text → List ℕ → MapFunction → Text → Text → List ℕ → MapOutcome
 unfolding asked deepening strip
 deepenToCall store places f path out slots =

@@ -1,4 +1,4 @@
--- How the code goes on when it looks for the class that `deepen_to` deepens.
+-- The intermediate values of the search for the class that `deepen_to` deepens.
 use Prim.Native.Nat.{ℕ}
 use mathlib.Core.Bool.{true, not, cond, _&&_, _||_}
 use mathlib.Core.Option.{Option, none, some}
@@ -8,10 +8,12 @@ use Rattle.prefix.specs.Prefix.{hasPrefix}
 use Rattle.prefix.specs.Elements.{count, elements}
 use Rattle.deepening.specs.declared.Counted.{Counted}
 
+-- The index of the pair found, if one was found.
 abbrev pub chosenAbove : Counted → Option ℕ
 chosenAbove f = cond (f .found) (some (f .at)) none
 
--- the better of what was found so far and the source k at i; an empty source is a prefix like any other
+-- The search result after the source k at i: pair i if k is a prefix of the node with at least as many elements as the source found so far.
+-- An empty source is a prefix like any other.
 unfoldable pub consideredAbove : Counted → Text → Text → ℕ → Counted
 unfolding hasPrefix count
 consideredAbove f node k i =

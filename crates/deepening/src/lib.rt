@@ -1,4 +1,5 @@
-// Document 01's `deepen_to`: a map with its class deepened to a path, behind the questions.
+// Deepens the class of a map to a path, after validation: the class pair is replaced by the node and its
+// image. Ports `MapFunction::deepen_to` of pcp/mapping.rs.
 ghost use mathlib.Core.Path.{_≡_};
 ghost use mathlib.Core.Bool.{true, false};
 ghost use mathlib.Core.List.{_++_};
@@ -17,7 +18,8 @@ ghost use Rattle.scratch.specs.Ends.{replaced, fromEnds};
 ghost use Rattle.deepening.specs.Class.{consideredAbove, chosenAbove};
 ghost use Rattle.deepening.specs.Calls.{deepenedPairs, deepenToCall};
 
-// One pair more: the pair itself, or where it is the class, the node and where the class puts it.
+// Appends a pair and returns the offset after it: the pair itself, or, if its source is the class's, the pair
+// `node`→`below`.
 fn deepen_pair(
     s: &[u8],
     t: &[u8],
@@ -45,7 +47,7 @@ fn deepen_pair(
     scratch::put_pair(s, t, n, at, bytes, slots)
 }
 
-// The first n pairs, the class put at the node; the place behind them.
+// Writes the first n pairs with the class moved to the node and returns the offset after them.
 fn deepen_all(
     store: &[u8],
     places: &[usize],
@@ -74,7 +76,7 @@ fn deepen_all(
     at
 }
 
-// Deepens a map that passed the questions, with memory to build in.
+// Deepens a validated map in the given scratch buffers.
 fn deepen_in(
     store: &[u8],
     places: &[usize],
@@ -102,7 +104,7 @@ fn deepen_in(
     scratch::from_ends(bytes, own, n, mark, time, out, slots)
 }
 
-// The same for at most four pairs.
+// Deepens a map of at most four pairs, in a small scratch buffer that is quickly cleared.
 fn deepen_few(
     store: &[u8],
     places: &[usize],
@@ -135,7 +137,7 @@ fn deepen_few(
     )
 }
 
-// The same for as many pairs as a list has.
+// Deepens a map of up to 64 pairs.
 fn deepen_many(
     store: &[u8],
     places: &[usize],
@@ -168,7 +170,7 @@ fn deepen_many(
     )
 }
 
-// Deepens by the class at i.
+// Deepens the map at the class with index i.
 fn deepen_by(
     store: &[u8],
     places: &[usize],
@@ -194,14 +196,14 @@ fn deepen_by(
     deepen_many(store, places, map, node, above, &made[..k], out, slots)
 }
 
-// What the search for a class has found so far: the pair, and how many elements its source has.
+// The result of the search for a class: the index of the pair and the number of elements of its source.
 struct Counted {
     found: bool,
     at: usize,
     elements: usize,
 }
 
-// The better class of what was found and the source at i. An empty source counts.
+// The search result after the source at i. An empty source counts.
 fn consider_above(f: Counted, node: &[u8], source: &[u8], i: usize) -> Counted
     ensures { λ r. ⌜ r ≡ consideredAbove f (now (node .entry)) (now (source .entry)) i ⌝ }
 {
@@ -221,7 +223,7 @@ fn consider_above(f: Counted, node: &[u8], source: &[u8], i: usize) -> Counted
     }
 }
 
-// The class: the pair above the node whose source has most elements, the later on a tie.
+// The class: the pair whose source is a prefix of the node with most elements, the later on a tie.
 fn best_above(store: &[u8], places: &[usize], n: usize, node: &[u8]) -> Counted
     ensures { λ r. ⌜ chosenAbove r ≡ bestBy (hasPrefix (now (node .entry))) (keyAt (now (store .entry)) (now (places .entry)) false) n ⌝ }
 {
@@ -268,7 +270,7 @@ fn deepen_node(
     deepen_by(store, places, map, node, f.at, out, slots)
 }
 
-// The path without its selections; its length.
+// Writes the path without its selections and returns its length.
 fn strip_node(path: &[u8], out: &mut [u8]) -> usize
     requires { ⌜ length (now path) ≤ length (now out) ⌝ }
     ensures { λ r. ⌜ r ≡ length (strip (now (path .entry))) ⌝ }
@@ -282,7 +284,7 @@ fn strip_node(path: &[u8], out: &mut [u8]) -> usize
     }
 }
 
-// The map with the class deepened to the path without its selections.
+// Returns the map with its class deepened to the path without its selections.
 pub fn deepen_to(
     store: &[u8],
     places: &[usize],

@@ -1,11 +1,12 @@
-// One line of the program `frames`. Between two calls the caller keeps five numbers, all 0 at first, and the
-// memory of the open list (32,640 bytes, 256 numbers) and of the legs (32,768 bytes, 4,096 numbers and 48).
+// The C interface of one line of the program `frames`. Between two calls the caller keeps five numbers, all 0
+// at first, and the buffers of the open list (32,640 bytes, 256 places) and of the leg store (32,768 bytes,
+// 4,096 places and a table of 48 numbers).
 ghost use mathlib.Core.Path.{_≡_};
 ghost use Rattle.codes.specs.Code.{replyCode};
 ghost use Rattle.memory.specs.Memory.{memory};
 ghost use Rattle.line_call.specs.Call.{keptOf, callAsked, wholeLine, callReply, callMemory, callOut, callKept};
 
-// Does what the line says, given without its newline, and writes the answer line, with its newline, to out.
+// Processes the line, given without its newline, and writes the reply line, with its newline, to out.
 #[no_mangle]
 pub extern "C" fn mudvizsor_frames_line(
     line: &[u8],

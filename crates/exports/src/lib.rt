@@ -1,6 +1,7 @@
-// The calls for Rust and C, over plain numbers and byte strings. A reply is one number: 256 times the
-// value, and document 01's number (0 for an answer) in the low byte. A slice passes as a pointer and
-// then a length.
+// The C interface: extern "C" functions over plain numbers and byte strings. A reply is one number: the low
+// byte is the refusal number (0 if accepted), the remainder is 256 times the value. A slice passes as a
+// pointer
+// followed by a length.
 ghost use mathlib.Core.Path.{_≡_};
 ghost use lib.ListN.{length};
 ghost use Rattle.parts.specs.Parent.{ancestorLens};
@@ -19,7 +20,7 @@ mod reads;
 mod routes;
 mod time;
 
-// Is the text a legal path of at most 255 bytes?
+// Validates that the text is a legal path of at most 255 bytes.
 #[no_mangle]
 pub extern "C" fn mudvizsor_path_new(path: &[u8]) -> usize
     ensures { λ r. ⌜ r ≡ askedCode (newCall (now (path .entry))) ⌝ }
@@ -27,7 +28,7 @@ pub extern "C" fn mudvizsor_path_new(path: &[u8]) -> usize
     codes::asked_code(path::new(path))
 }
 
-// Is the path a prim path, `/` or empty?
+// Returns whether the path is a prim path, `/` or empty.
 #[no_mangle]
 pub extern "C" fn mudvizsor_path_is_end(path: &[u8]) -> usize
     ensures { λ r. ⌜ r ≡ testCode (isEndCall (now (path .entry))) ⌝ }
@@ -35,7 +36,7 @@ pub extern "C" fn mudvizsor_path_is_end(path: &[u8]) -> usize
     codes::test_code(path::is_end(path))
 }
 
-// Does the path have a selection?
+// Returns whether the path has a variant selection.
 #[no_mangle]
 pub extern "C" fn mudvizsor_path_has_variant_selection(path: &[u8]) -> usize
     ensures { λ r. ⌜ r ≡ testCode (hasVariantSelectionCall (now (path .entry))) ⌝ }
@@ -43,7 +44,7 @@ pub extern "C" fn mudvizsor_path_has_variant_selection(path: &[u8]) -> usize
     codes::test_code(path::has_variant_selection(path))
 }
 
-// How many names and selections does the path have?
+// Returns the number of names and selections of the path.
 #[no_mangle]
 pub extern "C" fn mudvizsor_path_element_count(path: &[u8]) -> usize
     ensures { λ r. ⌜ r ≡ countCode (elementCountCall (now (path .entry))) ⌝ }
@@ -51,7 +52,7 @@ pub extern "C" fn mudvizsor_path_element_count(path: &[u8]) -> usize
     codes::count_code(path::element_count(path))
 }
 
-// How many names does the path have?
+// Returns the number of names of the path.
 #[no_mangle]
 pub extern "C" fn mudvizsor_path_prim_element_count(path: &[u8]) -> usize
     ensures { λ r. ⌜ r ≡ countCode (primElementCountCall (now (path .entry))) ⌝ }
@@ -59,7 +60,7 @@ pub extern "C" fn mudvizsor_path_prim_element_count(path: &[u8]) -> usize
     codes::count_code(path::prim_element_count(path))
 }
 
-// Is the prefix a prefix of the path?
+// Returns whether the prefix is a prefix of the path.
 #[no_mangle]
 pub extern "C" fn mudvizsor_path_has_prefix(path: &[u8], prefix: &[u8]) -> usize
     ensures { λ r. ⌜ r ≡ testCode (hasPrefixCall (now (path .entry)) (now (prefix .entry))) ⌝ }
@@ -67,7 +68,7 @@ pub extern "C" fn mudvizsor_path_has_prefix(path: &[u8], prefix: &[u8]) -> usize
     codes::test_code(path::has_prefix(path, prefix))
 }
 
-// The path with its old prefix replaced by the new one, written to out.
+// Writes the path with its old prefix replaced by the new one to out.
 #[no_mangle]
 pub extern "C" fn mudvizsor_path_replace_prefix(
     path: &[u8],
@@ -81,7 +82,7 @@ pub extern "C" fn mudvizsor_path_replace_prefix(
     codes::reply_code(deriving::replace_prefix(path, old, new, out))
 }
 
-// The path without its last element or its property, written to out.
+// Writes the parent to out: the path without its last element or its property.
 #[no_mangle]
 pub extern "C" fn mudvizsor_path_parent(path: &[u8], out: &mut [u8]) -> usize
     ensures { λ r. ⌜ r ≡ replyCode (reply (parentCall (now (path .entry)) (length (now (out .entry))))) ⌝ }
@@ -90,7 +91,7 @@ pub extern "C" fn mudvizsor_path_parent(path: &[u8], out: &mut [u8]) -> usize
     codes::reply_code(deriving::parent(path, out))
 }
 
-// The path without its property, or without the last selection where it ends in one, written to out.
+// Writes the path without its property, or without the last selection if it ends in one, to out.
 #[no_mangle]
 pub extern "C" fn mudvizsor_path_prim_path(path: &[u8], out: &mut [u8]) -> usize
     ensures { λ r. ⌜ r ≡ replyCode (reply (primPathCall (now (path .entry)) (length (now (out .entry))))) ⌝ }
@@ -99,7 +100,7 @@ pub extern "C" fn mudvizsor_path_prim_path(path: &[u8], out: &mut [u8]) -> usize
     codes::reply_code(deriving::prim_path(path, out))
 }
 
-// The prim path of a property, written to out; the name is the text behind the dot that follows it.
+// Writes the prim path of a property to out; the name is the text after the dot that follows it.
 #[no_mangle]
 pub extern "C" fn mudvizsor_path_split_property(path: &[u8], out: &mut [u8]) -> usize
     ensures { λ r. ⌜ r ≡ replyCode (reply (splitPropertyCall (now (path .entry)) (length (now (out .entry))))) ⌝ }
@@ -108,7 +109,7 @@ pub extern "C" fn mudvizsor_path_split_property(path: &[u8], out: &mut [u8]) -> 
     codes::reply_code(deriving::split_property(path, out))
 }
 
-// The path without its selections, written to out.
+// Writes the path without its selections to out.
 #[no_mangle]
 pub extern "C" fn mudvizsor_path_strip_variant_selections(path: &[u8], out: &mut [u8]) -> usize
     ensures { λ r. ⌜ r ≡ replyCode (reply (stripCall (now (path .entry)) (length (now (out .entry))))) ⌝ }
@@ -117,7 +118,7 @@ pub extern "C" fn mudvizsor_path_strip_variant_selections(path: &[u8], out: &mut
     codes::reply_code(deriving::strip_variant_selections(path, out))
 }
 
-// The lengths of the path and its ancestors, written to lengths.
+// Writes the lengths of the path and its ancestors to lengths.
 #[no_mangle]
 pub extern "C" fn mudvizsor_path_ancestors(path: &[u8], lengths: &mut [usize]) -> usize
     ensures { λ r. ⌜ r ≡ replyCode (ancestorsReply (now (path .entry)) (length (now (lengths .entry)))) ⌝ }
@@ -126,7 +127,7 @@ pub extern "C" fn mudvizsor_path_ancestors(path: &[u8], lengths: &mut [usize]) -
     codes::reply_code(deriving::ancestors(path, lengths))
 }
 
-// Where the map takes the path, written to out.
+// Maps the path from source to target and writes the result to out.
 #[no_mangle]
 pub extern "C" fn mudvizsor_map_source_to_target(
     store: &[u8],
@@ -143,7 +144,7 @@ pub extern "C" fn mudvizsor_map_source_to_target(
     codes::reply_code(mapping::map_source_to_target(store, places, map, path, out))
 }
 
-// Where the map takes the path back to, written to out.
+// Maps the path from target to source and writes the result to out.
 #[no_mangle]
 pub extern "C" fn mudvizsor_map_target_to_source(
     store: &[u8],
@@ -160,7 +161,8 @@ pub extern "C" fn mudvizsor_map_target_to_source(
     codes::reply_code(mapping::map_target_to_source(store, places, map, path, out))
 }
 
-// Where the map takes the path without its selections, if the same pair takes it back, written to out.
+// Translates the path: maps it without its selections and writes the result to out; refused with 6 if plain
+// mapping back would select another pair.
 #[no_mangle]
 pub extern "C" fn mudvizsor_translate_to_target(
     store: &[u8],
@@ -177,8 +179,9 @@ pub extern "C" fn mudvizsor_translate_to_target(
     codes::reply_code(mapping::translate_to_target(store, places, map, path, out))
 }
 
-// Where the map takes each of n paths, the list checked once. Path i is the text at spot i, its reply
-// goes to number i of replies and its bytes to the 255 bytes of out from 255 i on.
+// Maps n paths, validating the list once. `way` is 0 for source to target, 1 for target to source, any other
+// number for translation. Path i is the text at entry i of spots; its reply is entry i of replies, and its
+// result is written to the 255 bytes of out from offset 255 i.
 #[no_mangle]
 pub extern "C" fn mudvizsor_map_all(
     store: &[u8],

@@ -1,7 +1,7 @@
-// The calls that make a map. A list passes as its bytes, its places and its number of pairs, a map as
-// that, its mark and the two floats of its time offset. Of a map that is made the bytes go to out, the
-// places to slots and the time offset to two lent floats; the reply's value is twice the number of
-// its pairs, and one more with the mark.
+// The C interface of the functions that build a map. A list passes as its bytes, its places and its number of
+// pairs; a map as that, its mark and the two floats of its time offset. The bytes of a new map are written to
+// out, its places to slots and its time offset to two lent floats; the reply's value is twice the number of
+// its pairs, plus one if it has the mark.
 ghost use mathlib.Core.Path.{_≡_};
 ghost use Rattle.making.specs.Calls.{newCall, fromPairCall, fromPairIdentityCall};
 ghost use Rattle.altering.specs.Calls.{inverseCall, withRootIdentityCall, droppingSourceCall, isNoopCall};
@@ -12,7 +12,7 @@ ghost use Rattle.deepening.specs.Calls.{deepenToCall};
 ghost use Rattle.codes.specs.Code.{testCode};
 ghost use Rattle.crossing.specs.Made.{numbers, GivesCode};
 
-// The map of the pairs.
+// Builds the map of the pairs, dropping redundant ones.
 #[no_mangle]
 pub extern "C" fn mudvizsor_map_new(
     store: &[u8],
@@ -27,7 +27,7 @@ pub extern "C" fn mudvizsor_map_new(
     crossing::made_code(making::new(store, places, count, out, slots), time)
 }
 
-// The map with the mark put to it.
+// Adds the mark to the map.
 #[no_mangle]
 pub extern "C" fn mudvizsor_map_with_root_identity(
     store: &[u8],
@@ -49,7 +49,7 @@ pub extern "C" fn mudvizsor_map_with_root_identity(
     )
 }
 
-// The outer map after the inner one, as one map.
+// Composes two maps: the result applies the inner map first, then the outer one.
 #[no_mangle]
 pub extern "C" fn mudvizsor_map_compose(
     store: &[u8],
@@ -78,7 +78,7 @@ pub extern "C" fn mudvizsor_map_compose(
     )
 }
 
-// The map of one pair, which stays as it is.
+// Builds the map of one pair, which is kept unchanged.
 #[no_mangle]
 pub extern "C" fn mudvizsor_map_from_pair(
     source: &[u8],
@@ -92,7 +92,7 @@ pub extern "C" fn mudvizsor_map_from_pair(
     crossing::made_code(making::from_pair(source, target, out, slots), time)
 }
 
-// The map of one pair, with the mark.
+// Builds the map of one pair and the mark.
 #[no_mangle]
 pub extern "C" fn mudvizsor_map_from_pair_identity(
     source: &[u8],
@@ -106,7 +106,7 @@ pub extern "C" fn mudvizsor_map_from_pair_identity(
     crossing::made_code(making::from_pair_identity(source, target, out, slots), time)
 }
 
-// The map whose pairs are exchanged.
+// Builds the inverse: the map with the ends of each pair exchanged.
 #[no_mangle]
 pub extern "C" fn mudvizsor_map_inverse(
     store: &[u8],
@@ -125,7 +125,7 @@ pub extern "C" fn mudvizsor_map_inverse(
     crossing::made_code(altering::inverse(store, places, map, out, slots), time)
 }
 
-// The map without the pairs that have this source.
+// Removes the pairs with this source.
 #[no_mangle]
 pub extern "C" fn mudvizsor_map_dropping_source(
     store: &[u8],
@@ -148,7 +148,7 @@ pub extern "C" fn mudvizsor_map_dropping_source(
     )
 }
 
-// The map with every target below from put below to.
+// Moves every target at or below `from` to `to`.
 #[no_mangle]
 pub extern "C" fn mudvizsor_map_rebase_target(
     store: &[u8],
@@ -172,7 +172,7 @@ pub extern "C" fn mudvizsor_map_rebase_target(
     )
 }
 
-// The map of a class, deepened to the path.
+// Deepens the class of the map to the path.
 #[no_mangle]
 pub extern "C" fn mudvizsor_map_deepen_to(
     store: &[u8],
@@ -195,7 +195,7 @@ pub extern "C" fn mudvizsor_map_deepen_to(
     )
 }
 
-// The class's map across the transfer.
+// Computes the class's map across the transfer.
 #[no_mangle]
 pub extern "C" fn mudvizsor_map_implied_class(
     store: &[u8],
@@ -224,7 +224,7 @@ pub extern "C" fn mudvizsor_map_implied_class(
     )
 }
 
-// Does the map change neither path nor time?
+// Returns whether the map maps but changes neither path nor time.
 #[no_mangle]
 pub extern "C" fn mudvizsor_map_is_noop(
     store: &[u8],

@@ -1,4 +1,5 @@
-// The calls on relocate lists. A list passes as its bytes, its places and its number of pairs.
+// The C interface of the functions on relocate lists. A list passes as its bytes, its places and its number
+// of pairs.
 ghost use mathlib.Core.Path.{_≡_};
 ghost use lib.ListN.{length};
 ghost use Rattle.path.specs.Outcome.{reply, memory};
@@ -9,7 +10,7 @@ ghost use Rattle.chaining.specs.Calls.{shiftCall, chainCall, chainReply, chainM
 ghost use Rattle.codes.specs.Code.{replyCode};
 ghost use Rattle.crossing.specs.Made.{chainCode};
 
-// The status of each pair, a byte each, written to out.
+// Writes the status byte of each pair to out.
 #[no_mangle]
 pub extern "C" fn mudvizsor_analyze_relocate_occurrences(
     store: &[u8],
@@ -23,8 +24,9 @@ pub extern "C" fn mudvizsor_analyze_relocate_occurrences(
     codes::reply_code(relocates::analyze_relocate_occurrences(store, places, count, out))
 }
 
-// The end of the path's chain of replacements, written to out. Pairs with the skipped source are left
-// aside where `skips` is set. The reply's value is 256 times the replacements made, and the length.
+// Follows the path through the relocate list and writes the last path to out. Pairs with the skipped source
+// are ignored if `skips` is set. The reply's value is 256 times the number of replacements made, plus the
+// length.
 #[no_mangle]
 pub extern "C" fn mudvizsor_chain_through_relocates(
     store: &[u8],
@@ -49,7 +51,7 @@ pub extern "C" fn mudvizsor_chain_through_relocates(
     ))
 }
 
-// The endpoint under the nearest rename above it, or itself, written to out.
+// Moves the endpoint by the nearest rename above it, if there is one, and writes it to out.
 #[no_mangle]
 pub extern "C" fn mudvizsor_shift_through_nearest_ancestor(
     store: &[u8],

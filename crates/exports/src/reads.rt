@@ -1,5 +1,6 @@
-// The calls on a map's own numbers: how many pairs it has, its mark, and the two floats of its time
-// offset. No list is lent to them, and a map that is made has no bytes and no places to be written.
+// The C interface of the functions on a map's header: its number of pairs, its mark, and the two floats of
+// its time
+// offset. They are lent no list, and write no bytes and no places.
 ghost use mathlib.Core.Path.{_≡_};
 ghost use Rattle.layer_offset.specs.Offset.{timed, identity as noOffset};
 ghost use Rattle.maps.specs.New.{identity, null};
@@ -9,7 +10,7 @@ ghost use Rattle.map_function.specs.declared.MapReply.the-variants.{Made};
 ghost use Rattle.crossing.specs.Time.{floats};
 ghost use Rattle.crossing.specs.Made.{numbers, madeCode, madeTime, withTimeOffsetCall};
 
-// The map that leaves every path as it is.
+// Returns the identity map.
 #[no_mangle]
 pub extern "C" fn mudvizsor_map_identity(time: &mut [f64; 2]) -> usize
     ensures { λ r. ⌜ r ≡ madeCode (Made (numbersOf identity noOffset)) ⌝ }
@@ -19,7 +20,7 @@ pub extern "C" fn mudvizsor_map_identity(time: &mut [f64; 2]) -> usize
     crossing::made_code(map_function::MapReply::Made(map), time)
 }
 
-// The map that maps nothing.
+// Returns the null map, which maps nothing.
 #[no_mangle]
 pub extern "C" fn mudvizsor_map_null(time: &mut [f64; 2]) -> usize
     ensures { λ r. ⌜ r ≡ madeCode (Made (numbersOf null noOffset)) ⌝ }
@@ -29,7 +30,7 @@ pub extern "C" fn mudvizsor_map_null(time: &mut [f64; 2]) -> usize
     crossing::made_code(map_function::MapReply::Made(map), time)
 }
 
-// Does the map map nothing?
+// Returns whether the map maps nothing.
 #[no_mangle]
 pub extern "C" fn mudvizsor_map_is_null(count: usize, mark: bool, offset: f64, scale: f64) -> bool
     ensures { λ r. ⌜ r ≡ isNull (numbers count mark offset scale) ⌝ }
@@ -37,7 +38,7 @@ pub extern "C" fn mudvizsor_map_is_null(count: usize, mark: bool, offset: f64, s
     crossing::map_with(count, mark, offset, scale).is_null()
 }
 
-// Does it leave every path as it is?
+// Returns whether the map is the identity on paths.
 #[no_mangle]
 pub extern "C" fn mudvizsor_map_path_is_identity(
     count: usize,
@@ -50,7 +51,7 @@ pub extern "C" fn mudvizsor_map_path_is_identity(
     crossing::map_with(count, mark, offset, scale).path_is_identity()
 }
 
-// Does it leave every path and every time as it is?
+// Returns whether the map is the identity on paths and on times.
 #[no_mangle]
 pub extern "C" fn mudvizsor_map_is_identity(
     count: usize,
@@ -63,7 +64,7 @@ pub extern "C" fn mudvizsor_map_is_identity(
     crossing::map_with(count, mark, offset, scale).is_identity()
 }
 
-// Its mark.
+// Returns the mark.
 #[no_mangle]
 pub extern "C" fn mudvizsor_map_has_root_identity(
     count: usize,
@@ -76,7 +77,7 @@ pub extern "C" fn mudvizsor_map_has_root_identity(
     crossing::map_with(count, mark, offset, scale).has_root_identity()
 }
 
-// Its time offset.
+// Writes the time offset.
 #[no_mangle]
 pub extern "C" fn mudvizsor_map_time_offset(
     count: usize,
@@ -91,7 +92,7 @@ pub extern "C" fn mudvizsor_map_time_offset(
     crossing::put(map.time_offset(), time)
 }
 
-// The map with another time offset.
+// Replaces the time offset of the map.
 #[no_mangle]
 pub extern "C" fn mudvizsor_map_with_time_offset(
     count: usize,

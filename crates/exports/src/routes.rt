@@ -1,6 +1,7 @@
-// The route calls. A route is a list's store and places for all its legs, three numbers for each leg
-// (its kind: 0 a map, 1 a map with the mark, any other number a relocate list; the pair at which its
-// list begins; how many pairs it has), and how many legs there are.
+// The C interface of the route functions. A route is one store and one slice of places for all its legs,
+// three
+// numbers for each leg (its kind: 0 a map, 1 a map with the mark, any other number a relocate list; the index
+// of its first pair in the places; its number of pairs), and the number of legs.
 ghost use mathlib.Core.Path.{_≡_};
 ghost use mathlib.Core.Bool.{true, false};
 ghost use lib.ListN.{length};
@@ -10,7 +11,7 @@ ghost use Rattle.legs.specs.Lent.{lentRoute};
 ghost use Rattle.routing.specs.Calls.{routeCall};
 ghost use Rattle.batch.specs.Batch.{routedAt, enough, allAsked, allBytes, allReplies};
 
-// The path out over the legs, written to out.
+// Maps the path out over the legs and writes the result to out.
 #[no_mangle]
 pub extern "C" fn mudvizsor_route_out(
     store: &[u8],
@@ -26,7 +27,7 @@ pub extern "C" fn mudvizsor_route_out(
     codes::reply_code(routing::route_out(store, places, legs, count, path, out))
 }
 
-// The path home over the legs, written to out.
+// Maps the path home over the legs and writes the result to out.
 #[no_mangle]
 pub extern "C" fn mudvizsor_route_home(
     store: &[u8],
@@ -42,8 +43,8 @@ pub extern "C" fn mudvizsor_route_home(
     codes::reply_code(routing::route_home(store, places, legs, count, path, out))
 }
 
-// The n paths at the spots out over the legs, or home where `home` is set, each into its 255 bytes of
-// out and with its reply in replies.
+// Maps n paths out over the legs, or home if `home` is set, each into its 255 bytes of out, with its reply in
+// replies.
 #[no_mangle]
 pub extern "C" fn mudvizsor_route_all(
     store: &[u8],

@@ -1,11 +1,12 @@
-// The calls on time offsets. An offset passes as its two floats; one that is made is written to two lent
-// floats, offset and scale.
+// The C interface of the functions on time offsets. A time offset passes as two floats, offset and scale; a
+// new
+// one is written to two lent floats.
 ghost use mathlib.Core.Path.{_≡_};
 ghost use Rattle.layer_offset.specs.Number.{plusZero};
 ghost use Rattle.layer_offset.specs.Offset.{timed, isIdentity, isValid, isValidComposition, sanitized, applied, concatenated, inverted, patterns, isClose};
 ghost use Rattle.crossing.specs.Time.{floats, bitPatterns};
 
-// The offset with these two numbers.
+// Writes the time offset of these two numbers.
 #[no_mangle]
 pub extern "C" fn mudvizsor_layer_offset_new(offset: f64, scale: f64, out: &mut [f64; 2])
     ensures { λ r. ⌜ now (out .exit) ≡ floats (timed offset scale) ⌝ }
@@ -13,7 +14,7 @@ pub extern "C" fn mudvizsor_layer_offset_new(offset: f64, scale: f64, out: &mut 
     crossing::put(layer_offset::LayerOffset::new(offset, scale), out)
 }
 
-// A scale with no offset.
+// Writes the time offset (0, scale).
 #[no_mangle]
 pub extern "C" fn mudvizsor_layer_offset_scale_only(scale: f64, out: &mut [f64; 2])
     ensures { λ r. ⌜ now (out .exit) ≡ floats (timed plusZero scale) ⌝ }
@@ -21,7 +22,7 @@ pub extern "C" fn mudvizsor_layer_offset_scale_only(scale: f64, out: &mut [f64; 
     crossing::put(layer_offset::LayerOffset::scale_only(scale), out)
 }
 
-// Are both numbers finite?
+// Returns whether both numbers are finite.
 #[no_mangle]
 pub extern "C" fn mudvizsor_layer_offset_is_valid(offset: f64, scale: f64) -> bool
     ensures { λ r. ⌜ r ≡ isValid (timed offset scale) ⌝ }
@@ -30,7 +31,7 @@ pub extern "C" fn mudvizsor_layer_offset_is_valid(offset: f64, scale: f64) -> bo
     given.is_valid()
 }
 
-// Is it (0, 1)?
+// Returns whether the time offset is (0, 1).
 #[no_mangle]
 pub extern "C" fn mudvizsor_layer_offset_is_identity(offset: f64, scale: f64) -> bool
     ensures { λ r. ⌜ r ≡ isIdentity (timed offset scale) ⌝ }
@@ -39,7 +40,8 @@ pub extern "C" fn mudvizsor_layer_offset_is_identity(offset: f64, scale: f64) ->
     given.is_identity()
 }
 
-// Are both within 1e-6 of each other, or both invalid with the same bits?
+// Returns whether the two time offsets are both valid and differ by less than 1e-6 in both numbers, or are
+// both invalid with the same bits.
 #[no_mangle]
 pub extern "C" fn mudvizsor_layer_offset_is_close(
     offset: f64,
@@ -57,7 +59,7 @@ pub extern "C" fn mudvizsor_layer_offset_is_close(
     given.is_close(other)
 }
 
-// The bits of both numbers; of any NaN, 0x7ff8_0000_0000_0000.
+// Writes the bit patterns of both numbers; for any NaN, 0x7ff8_0000_0000_0000.
 #[no_mangle]
 pub extern "C" fn mudvizsor_layer_offset_to_bits(offset: f64, scale: f64, out: &mut [u64; 2])
     ensures { λ r. ⌜ now (out .exit) ≡ bitPatterns (patterns (timed offset scale)) ⌝ }
@@ -66,7 +68,7 @@ pub extern "C" fn mudvizsor_layer_offset_to_bits(offset: f64, scale: f64, out: &
     crossing::put_bits(given.to_bits(), out)
 }
 
-// The time that `time` becomes.
+// Returns the time to which `time` is mapped.
 #[no_mangle]
 pub extern "C" fn mudvizsor_layer_offset_apply(offset: f64, scale: f64, time: f64) -> f64
     ensures { λ r. ⌜ r ≡ applied (timed offset scale) time ⌝ }
@@ -75,7 +77,7 @@ pub extern "C" fn mudvizsor_layer_offset_apply(offset: f64, scale: f64, time: f6
     given.apply(time)
 }
 
-// The offset that undoes it; (0, 1) where the scale is zero.
+// Writes the inverse; (0, 1) if the scale is zero.
 #[no_mangle]
 pub extern "C" fn mudvizsor_layer_offset_inverse(offset: f64, scale: f64, out: &mut [f64; 2])
     ensures { λ r. ⌜ now (out .exit) ≡ floats (inverted (timed offset scale)) ⌝ }
@@ -84,7 +86,7 @@ pub extern "C" fn mudvizsor_layer_offset_inverse(offset: f64, scale: f64, out: &
     crossing::put(given.inverse(), out)
 }
 
-// Can it be composed?
+// Returns whether the time offset can be composed.
 #[no_mangle]
 pub extern "C" fn mudvizsor_layer_offset_is_valid_composition(offset: f64, scale: f64) -> bool
     ensures { λ r. ⌜ r ≡ isValidComposition (timed offset scale) ⌝ }
@@ -93,7 +95,7 @@ pub extern "C" fn mudvizsor_layer_offset_is_valid_composition(offset: f64, scale
     given.is_valid_composition()
 }
 
-// The offset itself, or (0, 1) where it cannot be composed.
+// Writes the time offset itself, or (0, 1) if it cannot be composed.
 #[no_mangle]
 pub extern "C" fn mudvizsor_layer_offset_sanitized(offset: f64, scale: f64, out: &mut [f64; 2])
     ensures { λ r. ⌜ now (out .exit) ≡ floats (sanitized (timed offset scale)) ⌝ }
@@ -102,7 +104,7 @@ pub extern "C" fn mudvizsor_layer_offset_sanitized(offset: f64, scale: f64, out:
     crossing::put(given.sanitized(), out)
 }
 
-// The outer offset after the inner one.
+// Writes the outer time offset applied after the inner one.
 #[no_mangle]
 pub extern "C" fn mudvizsor_layer_offset_concatenate(
     offset: f64,

@@ -1,4 +1,4 @@
--- Every answer line finds room where there is room for the longest. Assumes nothing.
+-- Lemmas about the length of a reply: every reply line fits if there is space for the longest.
 use mathlib.Core.Path.{_≡_, refl}
 use mathlib.Core.Bool.{true, false}
 use mathlib.Core.List.{[], _∷_}
@@ -29,7 +29,7 @@ use Rattle.protocol.specs.Input.{heard, answerLine}
 use Rattle.memory.specs.Memory.{Memory, openList, vaultOf, routeOf, addIn, statusesIn, closeIn, goesIn, turnIn}
 use Rattle.answering.specs.Answer.{longest}
 
--- the answer byte, and a path at most
+-- At most the answer byte and a path.
 abbrev Small : Answer → Type 0
 Small a = length (answerBytes a) ≤ 256
 
@@ -42,7 +42,7 @@ small-way (path q) h = omega (arith, h q refl)
 small-way (refused x) h = omega arith
 
 module _ (m : Memory) where
-  -- a list that passes its questions has at most 64 pairs
+  -- A validated list has at most 64 pairs.
   small-statuses : Small (statusesIn m)
   unfolding statusesIn statusesOf
   small-statuses = go (asked (openList m ∷ []) [] []) refl

@@ -1,4 +1,4 @@
--- Turns one after another: what `feed` comes to, and that the bytes it used went through the machine. Assumes nothing.
+-- Lemmas about consecutive steps: the result of `feed`, and that the machine processed the bytes it consumed.
 use mathlib.Core.Path.{_≡_, refl, sym, ap, subst, _∙_}
 use mathlib.Core.Bool.{Bool, true, false, cond}
 use mathlib.Core.List.{[], _++_}
@@ -24,11 +24,11 @@ use Rattle.feeding.specs.Feed.{At, turnOf, goesOn, feedFrom, feedOf}
 use Rattle.feeding.specs.Claims.{machine, mostOf, fedIn, saidIn, Feeds, again}
 use Rattle.feeding.proofs.TurnWays.{from, turn-from, Goes, turned}
 
--- the turn that comes next
+-- The next step.
 abbrev pub nextTurn : Text → At → At
 nextTurn block a = turnOf (drop (a .used) block) a
 
--- a byte is left, and there is room
+-- A byte is left, and there is space for a reply.
 module _ (block : Text) (a : At) where
   pub goes-on : a .used < length block → a .end + 515 ≤ length (a .out) → goesOn block a ≡ true
   goes-on h r = rw (lt-ltb (a .used) (length block) h) (le-leb (a .end + 515) (length (a .out)) r)
@@ -45,13 +45,13 @@ module _ (block : Text) (a : At) where
   pub room-left : goesOn block a ≡ true → a .end + 515 ≤ length (a .out)
   room-left e = leb-true (a .end + 515) (length (a .out)) (and-r (ltb (a .used) (length block)) (roomAt (a .end) (a .out)) e)
 
-  -- each turn uses a byte
+  -- Each step consumes a byte.
   pub uses-byte : goesOn block a ≡ true → a .used < (nextTurn block a) .used
   uses-byte e =
       let t = turned (drop (a .used) block) a in
       omega (arith, t .used, t .further (omega (arith, length-drop (a .used) block, byte-left e)))
 
--- so the number of turns never stops it
+-- The bound on the number of steps never stops the loop.
 more-turns : (block : Text) (n : ℕ) (a : At) → length block ≤ a .used + n → cond (goesOn block a) (feedFrom n block (nextTurn block a)) a ≡ feedFrom n block a
 unfolding feedFrom
 more-turns block zero a h = rw (stops-used block a (omega arith))
@@ -78,7 +78,7 @@ all-turns block (suc n) a h = go (goesOn block a) refl (all-turns block n (nextT
     go true e ih = ih (omega (arith, uses-byte block a e))
     go false e ih = e
 
--- `feed`: the loop goes on, ..
+-- `feed`: one iteration of the loop.
 pub record Stepped (block : Text) (a a′ : At) : Type 0 where
   pub same : feedOf block (from (a .used + a′ .used) a′) ≡ feedOf block a
   pub inside : a .used + a′ .used ≤ length block
@@ -102,7 +102,7 @@ feed-turn block a a′ h r e =
       fits = omega (arith, ap (λ (x : At). x .end) e′, t .fits);
     }
 
--- .. or ends
+-- `feed`: the end of the loop.
 module _ (block : Text) (a : At) where
   feed-stop : goesOn block a ≡ false → feedOf block a ≡ a
   feed-stop e = never-short block a ∙ ap (λ (v : Bool). cond v (feedOf block (nextTurn block a)) a) e
@@ -113,7 +113,7 @@ module _ (block : Text) (a : At) where
   pub feed-used : length block ≤ a .used → feedOf block a ≡ a
   feed-used h = feed-stop (stops-used block a h)
 
--- two parts of the bytes
+-- The bytes in two parts.
 module _ (a a₁ : At) (s s′ : Text) (l : length (a₁ .line) ≡ length (a .line)) (e : fedIn a s ≡ machine a₁) where
   on-machine : {A : Type 0} (f : ℕ → Line × Memory → A) → f (mostOf a) (fedIn a s) ≡ f (mostOf a₁) (machine a₁)
   on-machine f = ap (f (mostOf a)) e ∙ ap (λ (n : ℕ). f (mostIn n) (machine a₁)) (sym l)
@@ -128,7 +128,7 @@ module _ (a a₁ : At) (s s′ : Text) (l : length (a₁ .line) ≡ length (a .l
       said-append (mostOf a) (nextLine turnIn) (answerLine turnIn) (machine a) s s′
       ∙ on-machine (λ (n : ℕ) (c : Line × Memory). saidIn a s ++ said n (nextLine turnIn) (answerLine turnIn) c s′)
 
--- one text behind another
+-- A text written after another.
 over-length : (at : ℕ) (s out : Text) → at + length s ≤ length out → length (over at s out) ≡ length out
 over-length at s out h = simp (length-append, length-take, length-drop) (omega arith)
 
@@ -138,12 +138,12 @@ over-then at s t out h =
     let l : length (over at s out) ≡ length out = over-length at s out (omega arith) in
     rw (le-leb (at + length s) (length out) (omega arith), l, le-leb (at + length s + length t) (length out) (omega arith)) at (over-over at s t out h)
 
--- no bytes
+-- No bytes.
 goes-none : (a : At) → Goes [] a a
 unfolding fed said
 goes-none a = record { state = refl; wrote = over-none (a .end) (a .out); ends = omega arith; line = refl }
 
--- one part after another
+-- One part after another.
 goes-then : {a a₁ a₂ : At} {s s′ : Text} → a₂ .end ≤ length (a .out) → Goes s a a₁ → Goes s′ a₁ a₂ → Goes (s ++ s′) a a₂
 goes-then {a} {a₁} {a₂} {s} {s′} h g k =
     let t : Text = saidIn a s in
@@ -162,7 +162,7 @@ goes-then {a} {a₁} {a₂} {s} {s′} h g k =
 goes-room : {a a₁ : At} {s : Text} → a₁ .end ≤ length (a .out) → Goes s a a₁ → length (a₁ .out) ≡ length (a .out)
 goes-room {a} {a₁} {s} h g = ap length (g .wrote) ∙ over-length (a .end) (saidIn a s) (a .out) (omega (arith, g .ends))
 
--- what was reached from a in the block
+-- The state reached from a within the block.
 record Reached (block : Text) (a a₁ : At) : Type 0 where
   goes : Goes (take (a₁ .used) block) a a₁
   inside : a₁ .used ≤ length block
@@ -191,7 +191,7 @@ reach-from block (suc n) a a₁ r = go (goesOn block a₁) refl (reach-from bloc
 left-full : (block : Text) (a : At) → goesOn block a ≡ false → a .used < length block → length (a .out) < a .end + longest
 left-full block a e h = leb-false (a .end + 515) (length (a .out)) (rw (lt-ltb (a .used) (length block) h) at e)
 
--- a call
+-- One call.
 pub feeds : (block : Text) (a : At) → Feeds block (again a) (feedOf block (again a))
 unfolding feedOf
 feeds block a =
@@ -210,7 +210,7 @@ feeds block a =
       room = l;
     }
 
--- what a caller of `feed` knows of the two numbers
+-- The bounds on the two numbers for a caller of `feed`.
 pub feed-bounds : (block : Text) (a a′ : At) → a′ ≡ feedOf block (again a) → (a′ .used ≤ length block) × (a′ .end ≤ length (a .out))
 feed-bounds block a a′ e =
     let f = feeds block a in

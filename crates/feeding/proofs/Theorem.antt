@@ -1,4 +1,4 @@
--- The claims of specs/Claims.antt: calls until each block is used write out the protocol's output. Assumes nothing.
+-- The proofs of the theorems of specs/Claims.antt: calls until each block is consumed produce the protocol's output.
 use mathlib.Core.Path.{_≡_, refl, sym, ap, _∙_}
 use mathlib.Core.Bool.{Bool, true, false, cond}
 use mathlib.Core.List.{List, [], _∷_, _++_, flatten}
@@ -25,13 +25,13 @@ use Rattle.feeding.proofs.TurnWays.{line-new}
 use Rattle.feeding.proofs.FeedLaws.{never-short, feeds, fed-both, said-both}
 
 module _ (block : Text) (a a′ : At) (f : Feeds block a a′) where
-  -- what a caller writes out are the answers
+  -- The caller writes out the replies.
   feeds-said : answersIn a′ ≡ saidIn a (take (a′ .used) block)
   feeds-said =
       ap (λ (n : ℕ). take n (a′ .out)) (f .ends) ∙ ap (take (length (saidIn a (take (a′ .used) block)))) (f .wrote)
       ∙ read-back (saidIn a (take (a′ .used) block)) (a .out)
 
-  -- a caller with room for one answer gets on
+  -- A call with space for one reply consumes at least one byte.
   feeds-on : 0 < length block → longest ≤ length (a .out) → 0 < a′ .used
   unfolding said
   feeds-on b h = go (a′ .used) refl
@@ -42,7 +42,7 @@ module _ (block : Text) (a a′ : At) (f : Feeds block a a′) where
           absurd (omega (arith, f .further (omega (arith, e)), s))
       go (suc n) e = omega arith
 
-  -- what is left of the block is fed as a block of its own
+  -- The remainder of the block is processed as a block of its own.
   both : take (a′ .used) block ++ drop (a′ .used) block ≡ block
   both = take-append-drop (a′ .used) block
 
@@ -54,7 +54,7 @@ module _ (block : Text) (a a′ : At) (f : Feeds block a a′) where
       ap (saidIn a) (sym both) ∙ said-both a a′ (take (a′ .used) block) (drop (a′ .used) block) (f .line) (f .state)
       ∙ ap (λ (s : Text). s ++ saidIn a′ (drop (a′ .used) block)) (sym feeds-said)
 
--- calls until the block is used
+-- Calls until the block is consumed.
 record Called (n : ℕ) (block : Text) (a : At) : Type 0 where
   state : fedIn a block ≡ machine (afterCalls n block a)
   wrote : saidIn a block ≡ writtenOut n block a
@@ -95,7 +95,7 @@ called zero [] a h r = record { state = refl; wrote = refl; line = refl; room = 
 called zero (b ∷ s) a h r = absurd (omega arith)
 called (suc n) block a h r = called-on n block a h r (called n (rest n block a h r) (after-one n block a h r) (less n block a h r) (still-room n block a h r))
 
--- all blocks, and the end of the input
+-- All blocks, and the end of the input.
 runs-blocks : (bs : List Text) (a : At) → longest ≤ length (a .out)
     → runOf bs a ≡ blocks (mostOf a) (nextLine turnIn) (answerLine turnIn) (machine a) bs
 unfolding runOf blocks
@@ -117,7 +117,7 @@ unfolding AnyBlocks
 any-blocks-answered m large e bs =
     any-blocks Memory mostDigits (nextLine turnIn) (answerLine turnIn) m bs ∙ memory-claims .writes m large e (flatten bs)
 
--- a new line in memory for as many bytes as a line has
+-- A new line, in a line buffer of at least 4,096 bytes.
 most-digits : (room : ℕ) → mostDigits ≤ room → mostIn room ≡ mostDigits
 unfolding mostIn
 most-digits room h = go (leb room 4096) refl

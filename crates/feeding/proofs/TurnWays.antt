@@ -1,4 +1,4 @@
--- What each way through a turn gives: the turn of the definition, and the bytes that go through the machine in it. Assumes nothing.
+-- Lemmas about the branches of a step: it is the step of the definition, and the machine processes its bytes.
 use mathlib.Core.Path.{_≡_, refl, sym, ap, _∙_}
 use mathlib.Core.Bool.{Bool, true, false}
 use mathlib.Core.List.{[]}
@@ -31,12 +31,12 @@ module _ (block line line′ : Text) (len end : ℕ) (out : Text) (m : Memory) (
   abbrev first : At
   first = record { used = 0; len = len; line = line; mem = m; end = end; out = out }
 
-  -- the line does not end in the block
+  -- The line does not end in the block.
   pub turn-part : t .done ≡ false → record { used = t .used; len = t .len; line = line′; mem = m; end = end; out = out } ≡ turnOf block first
   unfolding turnOf
   turn-part d = rw (← e, ← w, d, zero-add)
 
-  -- it ends, and is answered
+  -- The line ends, and is processed.
   pub turn-line : end + 515 ≤ length out → t .done ≡ true → (m′ : Memory) (end′ : ℕ) (out′ : Text) → m′ ≡ answeredMemory end out m (lineAt (t .len) line′)
       → end′ ≡ endAfter end out m (lineAt (t .len) line′) → out′ ≡ outAfter end out m (lineAt (t .len) line′)
       → record { used = t .used; len = 0; line = line′; mem = m′; end = end′; out = out′ } ≡ turnOf block first
@@ -48,7 +48,7 @@ module _ (block line line′ : Text) (len end : ℕ) (out : Text) (m : Memory) (
       let h′ : out′ ≡ over end (answerLine turnIn m (lineAt (t .len) line′)) out = rw yes at h in
       rw (← e, ← w, d, zero-add, f′, g′, h′)
 
--- a turn in the middle of a block
+-- A step in the middle of a block.
 abbrev pub from : ℕ → At → At
 from u a = record { used = u; len = a .len; line = a .line; mem = a .mem; end = a .end; out = a .out }
 
@@ -63,19 +63,19 @@ turn-from rest a = go (takenOf rest (a .len) (length (a .line))) (takenMemory re
     go : (t : Taken) (line : Text) → from (a .used + (afterTaken t line (from 0 a)) .used) (afterTaken t line (from 0 a)) ≡ afterTaken t line a
     go t line = by t line (t .done) refl
 
--- a new line
+-- A new line.
 pub line-new : (mem : Text) → lineAt 0 mem ≡ text []
 unfolding lineAt
 line-new mem = rw (le-leb 0 (mostIn (length mem)) (omega arith))
 
--- the bytes s take the machine from one place to another, and their answers are written behind the others
+-- The bytes s take the machine from one state to another, and their replies are appended.
 pub record Goes (s : Text) (a a′ : At) : Type 0 where
   pub state : fedIn a s ≡ machine a′
   pub wrote : a′ .out ≡ over (a .end) (saidIn a s) (a .out)
   pub ends : a′ .end ≡ a .end + length (saidIn a s)
   pub line : length (a′ .line) ≡ length (a .line)
 
--- a turn: its bytes go through the machine, there is one where there is one left, and its answer is not longer than the longest
+-- One step: the machine processes its bytes, at least one if one is left, and its reply is at most as long as the longest.
 pub record Turned (rest : Text) (a a′ : At) : Type 0 where
   pub count : ℕ
   pub used : a′ .used ≡ a .used + count
@@ -104,7 +104,7 @@ module _ (rest : Text) (a : At) where
       let k : stop rest ≡ length part = sym (length-take-le (stop rest) rest (stop-le rest)) in
       ap (λ (n : ℕ). lineAt n line) (l ∙ ap (lengthAfter (mostOf a) (a .len)) k) ∙ line-grown (a .len) (a .line) part
 
-  -- a line with its newline
+  -- A line with its newline.
   by-line : stop rest < length rest → t ≡ record { used = stop rest + 1; done = true; len = lengthAfter (mostOf a) (a .len) (stop rest) } → Turned rest a (afterTaken t line a)
   by-line h e =
       let l : Line = lineAt (t .len) line in
@@ -132,7 +132,7 @@ module _ (rest : Text) (a : At) where
         fits = omega (arith, answer-fits (a .mem) l);
       })
 
-  -- a part of one
+  -- A part of a line.
   by-part : length rest ≤ stop rest → t ≡ record { used = length rest; done = false; len = lengthAfter (mostOf a) (a .len) (stop rest) } → Turned rest a (afterTaken t line a)
   by-part h e =
       let d : t .done ≡ false = ap (λ (x : Taken). x .done) e in

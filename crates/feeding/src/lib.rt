@@ -1,24 +1,24 @@
-// The program `frames` fed with blocks of bytes of any size. Nothing is assumed of the memory that is lent.
+// Processes input blocks of any size for the program `frames`. The lent buffers may hold anything.
 ghost use mathlib.Core.Path.{_≡_};
 ghost use Prim.Native.Nat.{_+_, _≤_};
 ghost use lib.ListN.{length};
 ghost use Rattle.answering.specs.Answer.{longest};
 ghost use Rattle.feeding.specs.Feed.{at, begun, turnOf, feedOf};
 
-// What was made of a block.
+// The result of processing a block.
 pub struct Fed {
-    // how many bytes of the block were used
+    // The number of bytes of the block consumed.
     pub used: usize,
-    // how many bytes the line so far has; more than a line has: it is overlong
+    // The length of the line so far; a length over the limit marks an overlong line.
     pub len: usize,
-    // the numbers that are kept beside lent memory
+    // The counters kept between two lines.
     pub kept: memory::Kept,
-    // where the answers end
+    // The end of the replies in the output buffer.
     pub end: usize,
 }
 
-// Takes the bytes of a block to the end of one line, or all of them where it does not end, and writes the
-// answer of a line at its end behind `end` bytes of out.
+// Consumes the bytes of a block up to the end of one line, or all of them if the line does not end. If it
+// ends, processes it and writes its reply at offset `end` of `out`.
 fn turn(
     block: &[u8],
     line: &mut [u8],
@@ -54,9 +54,9 @@ fn turn(
     }
 }
 
-// Does what the lines of a block say, and writes their answers over the beginning of out, until the block is
-// used or there is no room for the longest answer. `len` is what the call before returned, and 0 at first:
-// how many bytes the line so far has. The rest of the block is for the next call.
+// Processes the lines of a block and writes their replies to the beginning of `out`, until the block is
+// consumed or there is no space for the longest reply. `len` is the length of the line so far: 0 at first,
+// then the value that the last call returned. The caller passes the remainder of the block to the next call.
 pub fn feed(
     block: &[u8],
     line: &mut [u8],

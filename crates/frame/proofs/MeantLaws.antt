@@ -1,4 +1,4 @@
--- What was read in a frame stands for that frame, and lies within it. Assumes nothing.
+-- Lemmas about the parse result of a frame: it denotes that frame, and its parts lie within the bytes.
 use mathlib.Core.Path.{_≡_, refl, sym, ap, _∙_}
 use mathlib.Core.Bool.{Bool, true, false, cond}
 use mathlib.Core.List.{[], _∷_}
@@ -15,7 +15,7 @@ use Rattle.frame.specs.declared.Read.{Read}
 use Rattle.frame.specs.declared.Read.the-variants.{Pair, Statuses, CloseMap, CloseRelocates, Out, Home, Count, Bad}
 use Rattle.frame.specs.Read.{readOf, meant}
 
--- how far a frame reaches that was read
+-- The number of bytes that the parse result covers.
 abbrev reach : Read → ℕ
 reach (Pair n m) = 5 + n + m
 reach Statuses = 0
@@ -33,7 +33,7 @@ none-said : (b : Text) → Says b none
 unfolding meant
 none-said b = (refl, omega arith)
 
--- a pair whose source stands behind three bytes, and whose target behind the source and two more
+-- A pair whose source begins after three bytes, and whose target begins two bytes after the source.
 pair-said : (k h l : ℕ) (r : Text) (n m x y : ℕ) (v : Text) → n ≤ length r → drop n r ≡ x ∷ y ∷ v → m ≤ length v
     → Says (k ∷ h ∷ l ∷ r) (some (pair (take n r) (take m v)))
 unfolding meant
@@ -47,7 +47,7 @@ pair-said k h l r n m x y v a e c =
       omega (arith, ap length e, length-drop n r, a, c),
     )
 
--- what stands behind the source: nothing, too little, or a target that does or does not fill the frame
+-- The bytes after the source: none, too few, or a target that does or does not fill the frame.
 target-said : (k h l : ℕ) (r : Text) (n : ℕ) (z : Text) → n ≤ length r → drop n r ≡ z → Says (k ∷ h ∷ l ∷ r) (endsWith (take n r) (firstField z))
 target-said k h l r n [] a e = none-said (k ∷ h ∷ l ∷ r)
 target-said k h l r n (x ∷ []) a e = none-said (k ∷ h ∷ l ∷ r)
@@ -76,7 +76,7 @@ source-said k (h ∷ l ∷ r) = go (leb (256 * h + l) (length r)) refl
     go true c = target-said k h l r n (drop n r) (leb-true n (length r) c) refl
     go false c = none-said (k ∷ h ∷ l ∷ r)
 
--- a frame that has nothing behind its kind
+-- A frame that has no bytes after its kind.
 alone-said : (b : Text) (f : Frame) → Says b (some f) → (r : Text) → Says b (alone f r)
 alone-said b f h r = go (isNil r)
   where

@@ -1,4 +1,4 @@
--- What each way through the reading of a frame gives. Assumes nothing.
+-- Lemmas about the branches of the frame parser.
 use mathlib.Core.Path.{_≡_, refl, sym, ap, _∙_}
 use mathlib.Core.Logic.{_≢_}
 use mathlib.Core.Bool.{Bool, true, false, cond}
@@ -17,13 +17,13 @@ use Rattle.frame.specs.declared.Read.the-variants.{Pair, Statuses, Close
 use Rattle.frame.specs.Read.{readOf, aloneOf}
 use Rattle.text.proofs.TextLaws.{nil-length}
 
--- fewer than two bytes hold no length
+-- Fewer than two bytes contain no length.
 too-few : (x : Text) → length x < 2 → firstField x ≡ none
 too-few [] h = refl
 too-few (a ∷ []) h = refl
 too-few (a ∷ b ∷ x) h = absurd (omega arith)
 
--- two bytes at n, and what stands behind them
+-- Two bytes at n, and the bytes after them.
 two-at : (n : ℕ) (r : Text) → n + 2 ≤ length r → drop n r ≡ getD r n 0 ∷ getD r (n + 1) 0 ∷ drop (n + 2) r
 two-at zero [] h = absurd (omega arith)
 two-at zero (a ∷ []) h = absurd (omega arith)
@@ -34,7 +34,7 @@ two-at (suc n) (a ∷ r) h =
     let z : suc n + 2 ≡ suc (n + 2) = omega arith in
     rw (y, z) (two-at n r (omega arith))
 
--- a source that leaves no room for the target's length
+-- A source that leaves no space for the target's length.
 no-target : (h l : ℕ) (r : Text) → length r < 256 * h + l + 2 → none ≡ pairOf (firstField (h ∷ l ∷ r))
 no-target h l r k = go (leb (256 * h + l) (length r)) refl
   where
@@ -44,7 +44,7 @@ no-target h l r k = go (leb (256 * h + l) (length r)) refl
         sym (ap (endsWith (take (256 * h + l) r)) (too-few (drop (256 * h + l) r) (rw (length-drop (256 * h + l) r) (omega (arith, leb-true (256 * h + l) (length r) e, k)))))
     go false e = refl
 
--- a target behind the source
+-- A target after the source.
 with-target : (h l : ℕ) (r : Text) (n : ℕ) → n ≡ 256 * h + l → n + 2 ≤ length r
     → pairOf (firstField (h ∷ l ∷ r)) ≡ endsWith (take n r) (field (256 * getD r n 0 + getD r (n + 1) 0) (drop (n + 2) r))
 with-target h l r n e k =
@@ -54,7 +54,7 @@ not-nil : (x : Text) → 0 < length x → isNil x ≡ false
 not-nil [] h = absurd (omega arith)
 not-nil (a ∷ x) h = refl
 
--- a target that does not fill the frame, and one that does
+-- A target that does not fill the frame, and one that does.
 not-filled : (s : Text) (m : ℕ) (x : Text) → length x ≢ m → none ≡ endsWith s (field m x)
 not-filled s m x k = go (leb m (length x)) refl
   where
@@ -69,7 +69,7 @@ filled s m x k =
     rw (le-leb m (length x) (omega (arith, k)))
     (sym (ap (λ (b : Bool). cond b (some (pair s (take m x))) none) (nil-length (drop m x) (rw (length-drop m x) (omega (arith, k))))))
 
--- the number that two bytes of a frame stand for
+-- The number that two bytes of a frame encode.
 abbrev numberAt : Text → ℕ → ℕ
 numberAt b at = 256 * getD b at 0 + getD b (at + 1) 0
 
@@ -95,7 +95,7 @@ module _ (b : Text) where
         go (a ∷ x ∷ y ∷ r) k e h = no-target x y r (omega (arith, k, e, h))
 
     module _ (l : n ≤ length b - 5) (m : ℕ) (f : m ≡ numberAt b (3 + n)) where
-      -- what follows the kind, with the target's length and the target taken out
+      -- The bytes after the kind, split at the target's length and the target.
       opened : pairOf (firstField (drop 1 b)) ≡ endsWith (take n (drop 3 b)) (field m (drop (5 + n) b))
       opened = go b k e l f
         where
@@ -148,7 +148,7 @@ module _ (b : Text) (r : Read) where
       go (a ∷ []) h = refl
       go (a ∷ x ∷ b) h = absurd (omega arith)
 
-  -- it says its frame where nothing follows
+  -- The parse result denotes the frame if nothing follows the kind.
   alone-says : (f : Frame) → r ≡ readOf (some f) → (a : Read) → a ≡ aloneOf b r → a ≡ readOf (alone f (drop 1 b))
   alone-says f h a e = e ∙ go (isNil (drop 1 b))
     where

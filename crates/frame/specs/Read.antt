@@ -1,4 +1,4 @@
--- What the code finds in the bytes of a frame, and the frame that it stands for.
+-- The result of parsing the bytes of a frame, and the frame that it denotes.
 use Prim.Native.Nat.{_+_}
 use mathlib.Core.Bool.{cond}
 use mathlib.Core.Option.{Option, none, some}
@@ -8,7 +8,7 @@ use Rattle.protocol.specs.Frame.{Frame, pair, statuses, close-map, close-reloca
 use Rattle.frame.specs.declared.Read.{Read}
 use Rattle.frame.specs.declared.Read.the-variants.{Pair, Statuses, CloseMap, CloseRelocates, Out, Home, Count, Bad}
 
--- what a frame is read as: of a pair how many bytes its ends have
+-- The parse result for a frame; for a pair, the lengths of its ends.
 abbrev pub readOf : Option Frame → Read
 readOf none = Bad
 readOf (some (pair s t)) = Pair (length s) (length t)
@@ -19,7 +19,8 @@ readOf (some (out p)) = Out
 readOf (some (home p)) = Home
 readOf (some count) = Count
 
--- and back: the source stands behind the kind and its length, the target behind that and its own length; a path stands behind the kind
+-- The frame that a parse result denotes: the source follows the kind byte and its two-byte length, the target follows the source and its
+-- own two-byte length; a path follows the kind byte.
 unfoldable pub meant : Text → Read → Option Frame
 meant b (Pair n m) = some (pair (take n (drop 3 b)) (take m (drop (5 + n) b)))
 meant b Statuses = some statuses
@@ -30,6 +31,6 @@ meant b Home = some (home (drop 1 b))
 meant b Count = some count
 meant b Bad = none
 
--- the reading of a kind that has nothing behind it
+-- The parse result for a kind that has no bytes after the kind byte.
 abbrev pub aloneOf : Text → Read → Read
 aloneOf b r = cond (isNil (drop 1 b)) r Bad

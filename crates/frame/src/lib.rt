@@ -1,13 +1,13 @@
-// Reading a frame: what its bytes say, without moving them.
+// Parses the bytes of a frame in place, without copying them.
 ghost use mathlib.Core.Path.{_≡_};
 ghost use Prim.Native.Nat.{_+_, _*_, _≤_};
 ghost use lib.ListN.{length, getD, drop};
 ghost use Rattle.protocol.specs.Frame.{firstField, pairOf, ofKind, frameOf};
 ghost use Rattle.frame.specs.Read.{readOf, aloneOf};
 
-// What a frame says; specs/Read.antt has the frame of each case.
+// The parse result of a frame; specs/Read.antt defines the frame that each case denotes.
 pub enum Read {
-    // how many bytes the source and the target have
+    // The lengths of the source and the target.
     Pair(usize, usize),
     Statuses,
     CloseMap,
@@ -15,18 +15,18 @@ pub enum Read {
     Out,
     Home,
     Count,
-    // not well formed
+    // Not well formed.
     Bad,
 }
 
-// Two bytes as a number.
+// A number of two bytes.
 fn two_bytes(high: u8, low: u8) -> usize
     ensures { λ r. ⌜ r ≡ 256 * high + low ⌝ }
 {
     256 * (high as usize) + (low as usize)
 }
 
-// The number at a place, high byte first.
+// The two-byte number at an offset, high byte first.
 fn number_at(bytes: &[u8], at: usize) -> usize
     requires { ⌜ at + 2 ≤ length (now bytes) ⌝ }
     ensures { λ r. ⌜ r ≡ 256 * getD (now (bytes .entry)) at 0 + getD (now (bytes .entry)) (at + 1) 0 ⌝ }
@@ -34,7 +34,7 @@ fn number_at(bytes: &[u8], at: usize) -> usize
     two_bytes(bytes[at], bytes[at + 1])
 }
 
-// A pair's frame: the kind, and two texts behind their lengths that fill it exactly.
+// Parses a pair frame: the kind, and two texts with their lengths that fill it exactly.
 fn read_pair(bytes: &[u8]) -> Read
     ensures { λ r. ⌜ r ≡ readOf (pairOf (firstField (drop 1 (now (bytes .entry))))) ⌝ }
 {
@@ -53,7 +53,7 @@ fn read_pair(bytes: &[u8]) -> Read
     Read::Pair(n, m)
 }
 
-// A frame with nothing behind its kind.
+// Returns r if the frame has no bytes after its kind, otherwise `Bad`.
 fn alone(bytes: &[u8], r: Read) -> Read
     ensures { λ a. ⌜ a ≡ aloneOf (now (bytes .entry)) r ⌝ }
 {
@@ -63,7 +63,7 @@ fn alone(bytes: &[u8], r: Read) -> Read
     r
 }
 
-// What the bytes say by their kind.
+// Parses a frame by its kind.
 fn read_kind(bytes: &[u8], kind: u8) -> Read
     ensures { λ r. ⌜ r ≡ readOf (ofKind kind (drop 1 (now (bytes .entry)))) ⌝ }
 {
@@ -79,7 +79,7 @@ fn read_kind(bytes: &[u8], kind: u8) -> Read
     }
 }
 
-// What the bytes of a frame say.
+// Parses the bytes of a frame.
 pub fn read_frame(bytes: &[u8]) -> Read
     ensures { λ r. ⌜ r ≡ readOf (frameOf (now (bytes .entry))) ⌝ }
 {

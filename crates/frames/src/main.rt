@@ -1,13 +1,13 @@
-// The program `frames`: reads standard input, one frame of hexadecimal digits a line, and answers each line
-// on standard output before it reads on. Its memory is fixed: a block of input, the line so far, the open
-// list, the legs, and the answers to be written. It ends at the end of its input.
+// The program `frames`: reads standard input, one frame of hexadecimal digits a line, and writes the reply to
+// each line to standard output before it reads on. Its memory is fixed: the input block, the line buffer, the
+// open list, the leg store, and the output buffer. It ends at the end of its input.
 ghost use Prim.Native.Nat.{_≤_};
 ghost use lib.ListN.{length};
 use libc::STDIN_FILENO;
 use libc::STDOUT_FILENO;
 
-// What was made of some bytes: how many were used, how long the line so far is, what is kept, and whether
-// the answers were written.
+// The result of processing some bytes: the number of bytes consumed, the length of the line so far, the
+// counters, and whether the replies were written.
 struct Part {
     used: usize,
     len: usize,
@@ -15,8 +15,8 @@ struct Part {
     written: bool,
 }
 
-// Where the program is: what is left of the block, how long the line so far is, what is kept, and whether
-// there is more to do.
+// The state of the main loop: the remaining range of the input block, the length of the line so far, the
+// counters, and whether to continue.
 struct Now {
     at: usize,
     end: usize,
@@ -25,7 +25,7 @@ struct Now {
     more: bool,
 }
 
-// Answers what it can of some bytes, and writes the answers.
+// Processes as many of the bytes as the output buffer allows, and writes the replies.
 fn answer(
     part: &[u8],
     line: &mut [u8; 4096],
@@ -53,8 +53,8 @@ fn answer(
     }
 }
 
-// Goes on by one step: answers what is left of the block, or reads the next one. At the end of the input a
-// line that lacks its newline is answered.
+// Performs one step: processes the remainder of the input block, or reads the next one. At the end of the
+// input, a last line without a newline is processed.
 fn step(
     block: &mut [u8; 65536],
     at: usize,
@@ -96,7 +96,7 @@ fn step(
     }
 }
 
-// The input is at its end: answers a line that lacks its newline.
+// Processes a last line without a newline at the end of the input.
 fn finish(
     line: &mut [u8; 4096],
     len: usize,
@@ -113,6 +113,8 @@ fn finish(
     }
 }
 
+// Runs the main loop with fixed buffers until the input ends or a write fails; `steps` bounds it so that it
+// provably ends.
 fn main() {
     let mut block = [0u8; 65536];
     let mut line = [0u8; 4096];

@@ -1,4 +1,4 @@
--- What each way through `ask_add` and `add_pair` gives. Assumes nothing.
+-- Lemmas about the branches of `ask_add` and `add_pair`.
 use mathlib.Core.Path.{_≡_, refl, ap}
 use mathlib.Core.List.{List, [], _∷_}
 use Prim.Native.Nat.{ℕ, suc, _+_, _*_, _-_, _/_, _≤_, _<_}
@@ -23,7 +23,7 @@ module _ (k : Opened) (s t : Text) (room slots : ℕ) (q : Asked) (e : q ≡ ask
   abbrev Answers : Asked → Type 0
   Answers a = (a ≡ addAsked k s t room slots) × AddFits a k (length s) (length t) room slots
 
-  -- a refusal tells nothing of the lengths
+  -- A refusal implies nothing about the lengths.
   refuses : (x : Refusal) → RefusedAsked x ≡ addAsked k s t room slots → Answers (RefusedAsked x)
   unfolding AddFits
   refuses x h = (h, λ w. absurd (never x w))

@@ -1,4 +1,4 @@
--- What the memory of the open list means. Assumes nothing.
+-- The proofs of the lemmas about the open list's buffers.
 use mathlib.Core.Path.{_≡_, refl, sym, ap, _∙_}
 use mathlib.Core.Bool.{Bool, true, false, cond, _&&_}
 use mathlib.Core.List.{List, [], _∷_, _++_}
@@ -31,7 +31,7 @@ reads l k bytes places h =
     ∙ ap (λ (n : ℕ). pairsIn (written (listText l) bytes) (written (listPlaces 0 l) places) n) (h .pairs)
     ∙ read-back l bytes places
 
--- behind what is written, one text more
+-- One more text after the text written.
 module _ (t s out : Text) (h : length t + length s ≤ length out) (e : out ≡ written t out) where
   grown : over (length t) s out ≡ written (t ++ s) out
   unfolding placed
@@ -48,7 +48,7 @@ module _ (t s out : Text) (h : length t + length s ≤ length out) (e : out ≡ 
   still-written : over (length t) s out ≡ written (t ++ s) (over (length t) s out)
   still-written = rw grown (sym (written-twice (t ++ s)))
 
--- what a passed question says
+-- The bounds that follow from a passed validation.
 module _ (k : Opened) (s t : Text) (room slots : ℕ) (h : addAsked k s t room slots ≡ Passed) where
   fits : (4 * k .pairs + 4 ≤ slots) × (k .bytes + (length s + length t) ≤ room)
   unfolding addAsked

@@ -1,22 +1,22 @@
-// The open list of the program `frames` in lent memory. Nothing is assumed of the memory: what it means
-// is said in specs/Opened.antt.
+// The open list of the program `frames` in lent memory: adding a pair. The buffers may hold anything; their
+// invariant is specs/Opened.antt.
 ghost use mathlib.Core.Path.{_≡_};
 ghost use lib.ListN.{length};
 ghost use Rattle.holding.specs.Add.{addAsked, addReply, addBytes, addPlaces, AddFits};
 
-// The open list's own numbers: its pairs, and the bytes of their ends.
+// The size of the open list: its number of pairs, and the bytes of their ends.
 pub struct Opened {
     pub pairs: usize,
     pub bytes: usize,
 }
 
-// The answer of a call that adds a pair: the list's numbers afterwards.
+// The reply of adding a pair: the new size of the list, or the refusal.
 pub enum Added {
     Done(Opened),
     Refused(path::Refusal),
 }
 
-// Questions 1 to 5 of a pair that is to be added.
+// Validates a pair to be added (questions 1 to 5).
 fn ask_add(k: Opened, s: &[u8], t: &[u8], room: usize, slots: usize) -> path::Asked
     ensures { λ r. ⌜ r ≡ addAsked k (now (s .entry)) (now (t .entry)) room slots ⌝ }
     ensures { λ r. ⌜ AddFits r k (length (now (s .entry))) (length (now (t .entry))) room slots ⌝ }
@@ -46,7 +46,7 @@ fn ask_add(k: Opened, s: &[u8], t: &[u8], room: usize, slots: usize) -> path::As
     path::Asked::Passed
 }
 
-// Adds a pair to the open list.
+// Appends a pair to the open list.
 pub fn add_pair(
     k: Opened,
     source: &[u8],

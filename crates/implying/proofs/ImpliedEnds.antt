@@ -1,4 +1,4 @@
--- What an implied class is made of are ends, so all of it is legal. Assumes nothing.
+-- Lemmas about the ends of an implied class: they are all prim paths, `/` or empty, hence legal.
 use mathlib.Core.Path.{_≡_, refl, _∙_}
 use mathlib.Core.Bool.{Bool, true, false, cond, _&&_}
 use mathlib.Core.List.{List, [], _∷_, _++_}
@@ -13,7 +13,7 @@ use Rattle.maps.proofs.EndLaws.{fromParts-ends, inverse-ends}
 use Rattle.composing.proofs.ComposedEnds.{composed-ends, ends-legal}
 use Rattle.implying.specs.Implied.{composedFrom, classList, impliedList}
 
--- a test of two lists, one behind the other
+-- A test of a list appended to another.
 pub every-append : (passes : Text → Bool) (a b : List Pair) → everyEnd passes (a ++ b) ≡ (everyEnd passes a && everyEnd passes b)
 unfolding everyEnd
 every-append passes [] b = refl
@@ -24,7 +24,7 @@ every-append passes (x ∷ a) b = go (passes (x .source) && passes (x .target)) 
     go false ih = refl
 
 module _ (outer inner : Map) (eo : allEnds (outer .pairs) ≡ true) (ei : allEnds (inner .pairs) ≡ true) where
-  -- the list that composing two maps starts from ..
+  -- The list that composing two maps starts from.
   from-ends : allEnds (composedFrom outer inner) ≡ true
   unfolding composedFrom
   from-ends = go (isPathIdentity outer) (isPathIdentity inner)
@@ -34,7 +34,7 @@ module _ (outer inner : Map) (eo : allEnds (outer .pairs) ≡ true) (ei : allEnd
       go false true = eo
       go false false = composed-ends outer inner eo ei
 
-  -- .. and the composed map
+  -- The composed map.
   compose-ends : allEnds ((compose outer inner) .pairs) ≡ true
   unfolding compose
   compose-ends = go (isPathIdentity outer) (isPathIdentity inner)

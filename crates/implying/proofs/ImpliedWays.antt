@@ -1,4 +1,4 @@
--- What each way through `implied_class` gives. Assumes nothing.
+-- Lemmas about the branches of `implied_class`.
 use mathlib.Core.Path.{_≡_, refl, sym, ap, _∙_}
 use mathlib.Core.Bool.{Bool, true, false, not, cond, _&&_, _||_, false≢true}
 use mathlib.Core.List.{List, [], _∷_, _++_, map as mapped}
@@ -44,7 +44,7 @@ use Rattle.implying.specs.Implied.{exchangedPairs, composedFrom, inverse
 use Rattle.implying.specs.Settle.{settled, composedOf, madeOf, roomBeside, finished}
 use Rattle.implying.proofs.ImpliedEnds.{every-append, implied-legal}
 
--- the exchanged list has the lengths of the other
+-- The list with exchanged ends has the same lengths.
 exchanged-bytes : (l : List Pair) → endBytes (exchangedPairs l) ≡ endBytes l
 unfolding endBytes
 exchanged-bytes [] = refl
@@ -62,7 +62,7 @@ exchanged-short (x ∷ l) e =
     let t : fits (x .target) ≡ true = search (and-l, and-r) in
     rw (s, t) (exchanged-short l (search (and-l, and-r)))
 
--- `settle`: memory that is enough refuses nothing
+-- `settle`: with sufficient capacity nothing is refused.
 module _ (store : Text) (places : List ℕ) (n : ℕ) (mark : Bool) (out : Text) (slots : List ℕ) (few : n ≤ 64) (there : 4 * n ≤ length places)
     (room : listRoom (pairsIn store places n) out slots ≡ true) (whole : Bool) where
   settled-weighed : (m : Map) → held (lentList store places n) (weighed (pairsIn store places n) m identity out slots) ≡ map m identity
@@ -85,7 +85,7 @@ settle-done o m e reply r out out′ slots slots′ w f =
     let v : (reply ≡ mapReply (map m identity)) × ((out′ ≡ mapBytes (map m identity) out) × (slots′ ≡ mapSlots (map m identity) slots)) = rw e at w in
     (f ∙ ap madeOf (v .0), v .1)
 
--- a map that was written is read back
+-- A written map is read back.
 pub lent-back : (m : Map) (r : MapFunction) (out out′ : Text) (slots slots′ : List ℕ) → r ≡ numbersOf m identity → out′ ≡ mapBytes (map m identity) out
     → slots′ ≡ mapSlots (map m identity) slots → mapOf out′ slots′ r ≡ m
 unfolding mapBytes mapSlots
@@ -120,7 +120,7 @@ pub leaves-lent : (store : Text) (places : List ℕ) (f : MapFunction) → isPat
 unfolding leavesPaths
 leaves-lent store places f = identity-lent store places (f .count) (f .«has_root_identity»)
 
--- one that leaves every path as it is carries every pair to itself
+-- The identity on paths maps every pair to itself.
 abbrev mark-alone : Map
 mark-alone = record { pairs = []; mark = true }
 
@@ -199,7 +199,7 @@ leaves-mark : (f : MapFunction) → leavesPaths f ≡ true → f .«has_root_ide
 unfolding leavesPaths
 leaves-mark f e = and-r (eqb (f .count) 0) (f .«has_root_identity») e
 
--- the composed map is settled from the list that composing starts from
+-- The composed map is built from the list that composing starts from.
 composed-of : (store : Text) (places : List ℕ) (outer : MapFunction) (istore : Text) (iplaces : List ℕ) (inner : MapFunction)
     → compose (mapOf store places outer) (mapOf istore iplaces inner)
     ≡ composedOf outer inner (composedFrom (mapOf store places outer) (mapOf istore iplaces inner))
@@ -309,7 +309,7 @@ module _ (store : Text) (places : List ℕ) (transfer : MapFunction) (mid : Text
 pub time-twice : (t c a b : LayerOffset) → a ≡ composedTime c identity → b ≡ composedTime t a → b ≡ composedTime t (composedTime c identity)
 time-twice t c a b e f = f ∙ ap (λ (x : LayerOffset). composedTime t x) e
 
--- two lists, one behind the other
+-- A list appended to another.
 end-append : (a b : List Pair) → endBytes (a ++ b) ≡ endBytes a + endBytes b
 unfolding endBytes
 end-append [] b = omega arith
@@ -319,7 +319,7 @@ short-append : (a b : List Pair) → allShort (a ++ b) ≡ (allShort a && allSho
 unfolding allShort
 short-append = every-append fits
 
--- settling adds no pair and no end
+-- Building the map adds no pair and no end.
 settled-few : (whole : Bool) (l : List Pair) (mark : Bool) → length ((settled whole l mark) .pairs) ≤ length l
 unfolding settled
 settled-few true l mark = omega arith
@@ -501,7 +501,7 @@ module _ (store : Text) (places : List ℕ) (transfer : MapFunction) (cstore : T
       unfolding impliedClassCall
       implied-other g = rw (← h, k, ← e, g) refl
 
--- a map that comes out is the implied one
+-- A map that the call returns is the implied class map.
 pub implies-to : ImpliesTo
 unfolding implying roomFor madeShort madeLegal
 implies-to transfer class m time t out slots e =

@@ -1,4 +1,4 @@
--- No call of `implied_class` answers that a path that it made is illegal. Assumes nothing.
+-- The proof that no `implied_class` call is refused because a path that it made is illegal (question 8).
 use mathlib.Core.Path.{_≡_}
 use mathlib.Core.Bool.{true, cond}
 use mathlib.Core.List.{List, [], _∷_, _++_}

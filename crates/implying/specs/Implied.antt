@@ -1,4 +1,4 @@
--- `implied_class` as a call: three maps are made, each from the one before, and the questions are put to the lists of all three.
+-- The `implied_class` call: three maps are constructed, each from the one before, and the lists of all three are validated.
 use mathlib.Core.Path.{_≡_}
 use mathlib.Core.Bool.{Bool, cond, _&&_}
 use mathlib.Core.List.{List, [], _∷_, _++_, map as mapped}
@@ -22,34 +22,37 @@ use Rattle.map_function.specs.Made.{MapOutcome, map, refused, roomFor, asItIs}
 use Rattle.scratch.specs.Ends.{madeShort, madeLegal}
 use Rattle.composing.specs.Calls.{composedTime}
 
--- the list that dropping starts from: in `inverse` the pairs with their ends exchanged, ..
+-- The pairs with their ends exchanged: the list from which `inverse` starts dropping.
 abbrev pub exchangedPairs : List Pair → List Pair
 exchangedPairs l = mapped (λ (x : Pair). exchanged x) l
 
--- .. in `compose` the composed pairs; "where that isn't run, the list read or answered"
+-- The list from which `compose` starts dropping: the composed pairs, or, if one map is the identity on paths, the other's own list.
+-- Requirements: "where that isn't run, the list read or answered".
 unfoldable pub composedFrom : Map → Map → List Pair
 unfolding composedPairs
 composedFrom outer inner = cond (isPathIdentity outer) (inner .pairs) (cond (isPathIdentity inner) (outer .pairs) (composedPairs outer inner))
 
--- so the three lists are those of the inverse, of the class after it, and of the transfer after that
+-- The first list: that of the transfer's inverse.
 abbrev pub inverseList : Map → List Pair
 inverseList transfer = exchangedPairs (transfer .pairs)
 
+-- The second list: that of the class map composed with the inverse.
 unfoldable pub classList : Map → Map → List Pair
 unfolding composedFrom inverse
 classList transfer class = composedFrom class (inverse transfer)
 
+-- The third list: that of the transfer composed with the second map.
 unfoldable pub impliedList : Map → Map → List Pair
 unfolding composedFrom compose inverse
 impliedList transfer class = composedFrom transfer (compose class (inverse transfer))
 
--- question 4: each "at most 64 pairs"
+-- Question 4: each list has "at most 64 pairs".
 unfoldable pub allFew : Map → Map → Bool
 unfolding classList impliedList
 allFew transfer class = leb (length (inverseList transfer)) 64 && (leb (length (classList transfer class)) 64 && leb (length (impliedList transfer class)) 64)
 
--- across a transfer that is no identity: 4 of each list, 5 of the three together, then 7 and 8 of the ends that were made; 8 never comes:
--- `implied-legal` (proofs/ImpliedEnds.antt)
+-- The implied class across a transfer that is not the identity: question 4 for each list, question 5 for the three together, then questions
+-- 7 and 8 for the constructed ends. Question 8 never fails: `implied-legal` (proofs/ImpliedEnds.antt).
 unfoldable pub implying : Map → Map → LayerOffset → Text → List ℕ → MapOutcome
 unfolding allFew roomFor madeShort madeLegal impliedClass
 implying transfer class time out slots =
@@ -59,15 +62,16 @@ implying transfer class time out slots =
     (madeLegal (classList transfer class ++ impliedList transfer class) (map (impliedClass transfer class) time))))
     (refused TooMany)
 
--- a map that comes out is the implied one (proved in proofs/ImpliedWays.antt)
+-- If the call returns a map, it is the implied class map (proved in proofs/ImpliedWays.antt).
 abbrev pub ImpliesTo : Type 0
 ImpliesTo = (transfer class m : Map) (time t : LayerOffset) (out : Text) (slots : List ℕ) → implying transfer class time out slots ≡ map m t → m ≡ impliedClass transfer class
 
--- the composed time offset; that of the inverse is (0, 1)
+-- The composed time offset; the offset of the inverse is (0, 1).
 abbrev pub impliedTime : MapFunction → MapFunction → LayerOffset
 impliedTime transfer class = composedTime (transfer .«time_offset») (composedTime (class .«time_offset») identity)
 
--- Rust: implied_class, the transfer first; one that is the identity, time included, gives the class's map as it stands
+-- The `implied_class` call; the transfer is given first. If the transfer is the identity, time offset included, the class's map is returned
+-- unchanged. (Rust: implied_class)
 unfoldable pub impliedClassCall : Text → List ℕ → MapFunction → Text → List ℕ → MapFunction → Text → List ℕ → MapOutcome
 unfolding asked isIdentityMap asItIs implying composedTime
 impliedClassCall store places transfer cstore cplaces class out slots =
@@ -75,7 +79,7 @@ impliedClassCall store places transfer cstore cplaces class out slots =
     (cond (isIdentityMap transfer) (asItIs (pairsIn cstore cplaces (class .count)) (class .«has_root_identity») (class .«time_offset») out slots)
     (implying (mapOf store places transfer) (mapOf cstore cplaces class) (impliedTime transfer class) out slots))
 
--- no call of `implied_class` answers 8 (proved in proofs/NeverIllegal.antt)
+-- No `implied_class` call is refused with 8 (proved in proofs/NeverIllegal.antt).
 abbrev pub NeverIllegal : Type 0
 NeverIllegal = (store : Text) (places : List ℕ) (transfer : MapFunction) (cstore : Text) (cplaces : List ℕ) (class : MapFunction) (out : Text) (slots : List ℕ)
     → impliedClassCall store places transfer cstore cplaces class out slots ≡ refused MadeIllegal → ⊥

@@ -1,4 +1,4 @@
--- How the code comes to an implied class.
+-- The intermediate values of the code for `implied_class`.
 use mathlib.Core.Bool.{Bool, cond, _&&_, _||_}
 use mathlib.Core.List.{List}
 use Prim.Native.Nat.{ℕ, _+_, _/_}
@@ -21,27 +21,28 @@ use Rattle.map_function.specs.Read.{isPathIdentity as leavesPaths}
 use Rattle.map_function.specs.Made.{MapOutcome, map, refused, numbersOf}
 use Rattle.implying.specs.Implied.{composedFrom}
 
--- a list as a map, as it stands or by dropping
+-- The map of a list: unchanged if `whole` is set, otherwise after redundant pairs are dropped.
 unfoldable pub settled : Bool → List Pair → Bool → Map
 unfolding fromParts
 settled whole l mark = cond whole (record { pairs = l; mark = mark }) (fromParts l mark)
 
--- the composed map, from the list that composing starts from and the numbers of both sides
+-- The composed map, from the list that composing starts from, the mark and the number of pairs of each map.
 unfoldable pub composedOf : MapFunction → MapFunction → List Pair → Map
 unfolding settled leavesPaths
 composedOf outer inner l = settled (leavesPaths outer || leavesPaths inner) l (outer .«has_root_identity» && inner .«has_root_identity»)
 
--- the map of a reply that refuses nothing
+-- The map in a reply; the null map if the reply is a refusal.
 abbrev pub madeOf : MapReply → MapFunction
 madeOf (Made f) = f
 madeOf (Refused x) = numbersOf null identity
 
--- the room for k pairs of b bytes beside the transfer's
+-- Whether k more pairs of b bytes fit after the transfer's pairs.
 unfoldable pub roomBeside : List Pair → ℕ → ℕ → ℕ → ℕ → Bool
 unfolding endBytes
 roomBeside l k b room slots = leb (endBytes l + b) room && leb (length l + k) (slots / 4)
 
--- the questions that are left once the class after the inverse is there: its list had n pairs and `at` bytes, short or not; 8 never comes
+-- The remaining checks once the class map is composed with the inverse: its list had n pairs and `at` bytes, and `short` tells whether it
+-- passed question 7. Question 8 never fails.
 unfoldable pub finished : Map → Map → ℕ → ℕ → Bool → LayerOffset → Text → List ℕ → MapOutcome
 unfolding composedFrom compose withRootIdentity roomBeside allShort
 finished transfer middle n at short time out slots =

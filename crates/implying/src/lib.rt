@@ -1,5 +1,5 @@
-// A class's map across a transfer: the class after the transfer's inverse, then the transfer. Each list
-// is built in memory of the call's own.
+// Computes a class's map across a transfer: transfer ∘ class ∘ transfer⁻¹, with the root identity added.
+// Ports `MapFunction::implied_class` of pcp/mapping.rs. Each list is built in a scratch buffer.
 ghost use mathlib.Core.Path.{_≡_};
 ghost use mathlib.Core.Bool.{true, _||_};
 ghost use Prim.Native.Nat.{_+_, _*_, _≤_};
@@ -17,7 +17,7 @@ ghost use Rattle.building.specs.Build.{modest};
 ghost use Rattle.implying.specs.Implied.{composedFrom, implying, impliedTime, impliedClassCall};
 ghost use Rattle.implying.specs.Settle.{madeOf, settled, composedOf, roomBeside, finished};
 
-// The map of a reply that refuses nothing.
+// The map in a reply; the null map if the reply is a refusal.
 fn made_of(reply: map_function::MapReply) -> map_function::MapFunction
     ensures { λ r. ⌜ r ≡ madeOf reply ⌝ }
 {
@@ -27,7 +27,8 @@ fn made_of(reply: map_function::MapReply) -> map_function::MapFunction
     }
 }
 
-// The first n pairs as a map, as they stand or by dropping, in memory that is enough for them.
+// Builds a map from the first n pairs, unchanged if `whole` is set, otherwise by dropping redundant pairs.
+// The buffers must be large enough.
 fn settle(
     store: &[u8],
     places: &[usize],
@@ -50,7 +51,7 @@ fn settle(
     made_of(map_function::from_parts(store, places, n, mark, time, out, slots))
 }
 
-// The inverse of a map, in memory of the call's own.
+// Builds the inverse of a map in a scratch buffer.
 fn invert(
     store: &[u8],
     places: &[usize],
@@ -70,8 +71,8 @@ fn invert(
     settle(store, &own, n, false, mark, out, slots)
 }
 
-// The list that composing two maps starts from. Of a map and one that leaves every path as it is that is
-// the map's own list, as composing with the other first gives it.
+// Writes the list that composing two maps starts from. If one map is the identity on paths, that is the other
+// map's own list, which composing with the identity as the outer map yields.
 fn build(
     store: &[u8],
     places: &[usize],
@@ -120,7 +121,7 @@ fn build(
     )
 }
 
-// Does one of the two leave every path as it is?
+// Returns whether one of the two maps is the identity on paths.
 fn either_leaves(a: map_function::MapFunction, b: map_function::MapFunction) -> bool
     ensures { λ r. ⌜ r ≡ (isPathIdentity a || isPathIdentity b) ⌝ }
 {
@@ -130,7 +131,7 @@ fn either_leaves(a: map_function::MapFunction, b: map_function::MapFunction) -> 
     b.path_is_identity()
 }
 
-// The composed map, from the list that composing starts from.
+// Builds the composed map from the list that composing starts from.
 fn settle_composed(
     store: &[u8],
     places: &[usize],
@@ -151,7 +152,7 @@ fn settle_composed(
     settle(store, places, n, whole, mark, out, slots)
 }
 
-// Is there room for the lists b and d beside the first n pairs?
+// Returns whether the lists b and d fit in the capacity after the first n pairs.
 fn has_place(
     store: &[u8],
     places: &[usize],
@@ -177,7 +178,8 @@ fn has_place(
     listing::has_room(store, places, n, left - d.at)
 }
 
-// The transfer after the class's part, of which b tells the list and `short` its question 7.
+// Composes the transfer with the class's part; b is the size of that part's list, and `short` tells whether
+// it passed question 7.
 fn finish(
     store: &[u8],
     places: &[usize],
@@ -219,8 +221,8 @@ fn finish(
     })
 }
 
-// The same from the beginning, in memory of the call's own: the inverse and then the class's part stand
-// in `mid`. What is made of ends is legal, so question 8 is not asked.
+// Computes the implied class of validated maps in scratch buffers: `mid` holds first the inverse and then the
+// class's part. Ends made from legal ends are legal, so question 8 needs no check.
 fn implied_in(
     store: &[u8],
     places: &[usize],
@@ -279,7 +281,9 @@ fn implied_in(
     )
 }
 
-// The class's map across the transfer, which is to be followed the other way round.
+// Computes the class's map across the transfer: transfer ∘ class ∘ transfer⁻¹, with the root identity added so
+// that a class outside the transfer's domain still maps. A transfer that is the identity returns the class's
+// map unchanged.
 pub fn implied_class(
     store: &[u8],
     places: &[usize],

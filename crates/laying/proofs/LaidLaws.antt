@@ -1,4 +1,4 @@
--- When a route of maps stands for a route. Assumes nothing.
+-- Lemmas about when a route of maps is equivalent to a route.
 use mathlib.Core.Path.{_≡_, refl, sym, _∙_}
 use mathlib.Core.Bool.{Bool, true, false, false≢true}
 use mathlib.Core.List.{List}
@@ -34,14 +34,14 @@ module _ (legs : List ℕ) where
   pub relocates-end : (n k : ℕ) → n ≤ k → k ≤ n → hasRelocates legs k ≡ false → false ≡ hasRelocates legs n
   relocates-end n k h l e = let z : k ≡ n = omega arith in sym (rw z at e)
 
--- a leg that is a map is its own map
+-- The map of a leg that is a map is that map.
 pub plain-leg : (kind : ℕ) (l : List Pair) → kind < 2 → record { pairs = l; mark = eqb kind 1 } ≡ legMap (legOf kind l)
 unfolding legMap legOf
 plain-leg zero l h = refl
 plain-leg (suc zero) l h = refl
 plain-leg (suc (suc k)) l h = absurd (omega arith)
 
--- so a route without relocate lists stands for itself
+-- A route without relocate lists is its own prepared route.
 pub laid-itself : (r : LentRoute) (n : ℕ) → hasRelocates (r .legs) n ≡ false → Laid r r n
 unfolding Laid mapAt legAt hasRelocates
 laid-itself r n h k l = go (leb 2 (kindAt (r .legs) k)) refl

@@ -1,4 +1,4 @@
--- What each way through the functions that lay maps gives. Assumes nothing.
+-- Lemmas about the branches of the functions that prepare maps.
 use mathlib.Core.Path.{_≡_, refl, sym, ap, _∙_}
 use mathlib.Core.Logic.{_≢_}
 use mathlib.Core.Bool.{Bool, true, false, not}
@@ -84,8 +84,7 @@ module _ (kind : ℕ) where
   pub kind-other : kind ≢ 0 → _≡_ {A = ℕ} 1 (mapKind kind)
   kind-other h = rw (ne-eqb kind 0 h) refl
 
--- `lay_leg`
--- the block of leg k, as a part of the memory
+-- `lay_leg`: the block of leg k, as a slice of the buffer.
 pub part-room : (k : ℕ) (made : List ℕ) → k < 16 → length made ≡ 4096 → length (take (256 * k + 256 - 256 * k) (drop (256 * k) made)) ≡ 256
 part-room k made h g = let z : 256 * k + 256 - 256 * k ≡ 256 = omega arith in rw z (block-room k made h g)
 

@@ -1,4 +1,4 @@
--- What was laid is read as the maps of the legs. Assumes nothing.
+-- Lemmas about the prepared maps: they are read back as the maps of the legs.
 use mathlib.Core.Path.{_≡_, refl, sym, ap, _∙_}
 use mathlib.Core.Bool.{Bool, true, false, cond, _&&_, false≢true}
 use mathlib.Core.List.{List, [], _∷_, map-append}
@@ -36,17 +36,17 @@ use Rattle.laying.specs.Laying.{activeList, pickedFrom, legPicks, legBlo
 use Rattle.laying.proofs.LaidLaws.{plain-leg}
 use Rattle.text.proofs.WriteLaws.{over-length}
 
--- the map that is laid for leg k: none of its pairs where question 4 refuses its list
+-- The map that is prepared for leg k: without pairs if question 4 refuses its list.
 unfoldable pub laidMap : LentRoute → ℕ → Map
 unfolding madeOf listAt legAt legMap
 laidMap r k = record { pairs = madeOf (listAt r k) 256 ((legMap (legAt r k)) .pairs); mark = (legMap (legAt r k)) .mark }
 
--- the maps of the first n legs are laid, each in its block
+-- The maps of the first n legs are prepared, each in its block.
 unfoldable pub LaidTo : LentRoute → LentRoute → ℕ → Type 0
 unfolding mapAt laidMap
 LaidTo r s n = (k : ℕ) → k < n → (firstAt (s .legs) k ≡ 64 * k) × (sizeAt (s .legs) k ≤ 64) × (mapAt s k ≡ laidMap r k)
 
--- what is made of a list of at most 64 pairs has at most 64, and of none there is none
+-- The pairs made from a lent list: none from no pairs, and never more than 64.
 made-nothing : (l : Lent) (room : ℕ) → madeOf l room [] ≡ []
 unfolding madeOf
 made-nothing l room = go (canMake l room)
@@ -65,7 +65,7 @@ made-short l room x h = go (canMake l room) refl
         omega arith
     go false e = omega arith
 
--- a relocate list's map
+-- A relocate list's map.
 module _ (store : Text) (places : List ℕ) (n : ℕ) where
   abbrev list : List Pair
   list = pairsIn store places n
@@ -107,14 +107,14 @@ module _ (store : Text) (places : List ℕ) (n : ℕ) where
       let picks : List ℕ = canonicalPicks (lentList store act w) true room in
       canonical-read store act true w room block (picked act picks block) (length picks) (refl, refl) ∙ of-both act w e l room
 
--- a leg's map
+-- A leg's map.
 relocate-leg : (kind : ℕ) (l : List Pair) → 2 ≤ kind → legMap (legOf kind l) ≡ relocateMap l
 unfolding legMap legOf
 relocate-leg zero l h = absurd (omega arith)
 relocate-leg (suc zero) l h = absurd (omega arith)
 relocate-leg (suc (suc k)) l h = refl
 
--- all of the first n pairs
+-- All of the first n pairs.
 pub all-length : (n : ℕ) → length (passing (λ (i : ℕ). true) n) ≡ n
 unfolding passing
 all-length zero = refl
@@ -157,7 +157,7 @@ leg-mark zero l = refl
 leg-mark (suc zero) l = refl
 leg-mark (suc (suc k)) l = rw (ne-eqb (suc (suc k)) 0 (λ (z : suc (suc k) ≡ 0). omega arith)) (sym (ap (λ (m : Map). m .mark) (relocate-parts l)))
 
--- three numbers of leg k, in a table that has room for them
+-- The three numbers of leg k, in a table that has space for them.
 module _ (table : List ℕ) (k a b c : ℕ) (h : 3 * k + 3 ≤ length table) where
   abbrev told : List ℕ
   told = over (3 * k) (a ∷ b ∷ c ∷ []) table
@@ -174,7 +174,7 @@ module _ (table : List ℕ) (k a b c : ℕ) (h : 3 * k + 3 ≤ length table) whe
   told-size : sizeAt told k ≡ c
   told-size = over-inside (3 * k) (a ∷ b ∷ c ∷ []) table 2 (omega arith) (omega arith)
 
--- a block of the memory, and those before it
+-- A block of the buffer, and the blocks before it.
 module _ (made : List ℕ) (k : ℕ) (block : List ℕ) (h : 256 * k + 256 ≤ length made) where
   block-kept : (store : Text) (j n : ℕ) → j < k → n ≤ 64 → pairsIn store (drop (4 * (64 * j)) (over (256 * k) block made)) n ≡ pairsIn store (drop (4 * (64 * j)) made) n
   block-kept store j n m o =
@@ -194,7 +194,7 @@ module _ (made : List ℕ) (k : ℕ) (block : List ℕ) (h : 256 * k + 256 ≤ l
 pub block-room : (k : ℕ) (made : List ℕ) → k < 16 → length made ≡ 4096 → length (take 256 (drop (256 * k) made)) ≡ 256
 block-room k made h g = length-take-le 256 (drop (256 * k) made) (rw (length-drop (256 * k) made) (omega arith))
 
--- the map of leg k joins those before it
+-- The map of leg k is added to those before it.
 module _ (r : LentRoute) (k : ℕ) (made table : List ℕ) (h : k < 16) (g : length made ≡ 4096) (t : length table ≡ 48) where
   abbrev kind : ℕ
   kind = kindAt (r .legs) k
@@ -281,7 +281,7 @@ module _ (r : LentRoute) (k : ℕ) (made table : List ℕ) (h : k < 16) (g : len
             laid-before j p (q .0) (q .1) ∙ q .2,
           )
 
--- all of them
+-- All maps.
 module _ (r : LentRoute) (made table : List ℕ) (g : length made ≡ 4096) (t : length table ≡ 48) where
   laid-all : (n : ℕ) → n ≤ 16
       → (length (laidPlaces r n made) ≡ 4096) × (length (laidTable r n table) ≡ 48) × LaidTo r (lentRoute (r .store) (laidPlaces r n made) (laidTable r n table) (r .count)) n
@@ -293,7 +293,7 @@ module _ (r : LentRoute) (made table : List ℕ) (g : length made ≡ 4096) (t :
       let b : List ℕ = laidTable r n table in
       (made-length r n a b (omega arith) (s .0) (s .1), table-length r n a b (omega arith) (s .0) (s .1), laid-on r n a b (omega arith) (s .0) (s .1) (s .2))
 
--- what `lay_legs` leaves is read as the maps of the legs
+-- The buffers after `lay_legs` are read as the maps of the legs.
 module _ (r : LentRoute) (made table : List ℕ) where
   abbrev lays : Bool
   lays = canLay (r .count) made table

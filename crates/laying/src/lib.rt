@@ -1,5 +1,5 @@
-// The map of each leg of a route, made once for many paths. Every public function is defined for any bytes and
-// any numbers.
+// Prepares the map of each leg of a route once, before any path is mapped, so that a relocate list is
+// analysed once for many paths. Every public function is defined for all byte slices and all numbers.
 ghost use mathlib.Core.Path.{_≡_};
 ghost use mathlib.Core.Bool.{true};
 ghost use Prim.Native.Nat.{ℕ, _*_, _≤_, _<_};
@@ -12,7 +12,7 @@ ghost use Rattle.legs.specs.Lent.{lentRoute, kindAt, listAt};
 ghost use Rattle.laying.specs.Laid.{hasRelocates};
 ghost use Rattle.laying.specs.Laying.{activeList, legPicks, legBlock, mapKind, legNumbers, placesAfter, tableAfter};
 
-// Is one of the first n legs a relocate list?
+// Returns whether one of the first n legs is a relocate list.
 pub fn has_relocates(legs: &[usize], n: usize) -> bool
     ensures { λ r. ⌜ r ≡ hasRelocates (now (legs .entry)) n ⌝ }
 {
@@ -38,7 +38,7 @@ fn copy_pairs(places: &[usize], n: usize, block: &mut [usize])
     }
 }
 
-// The pairs of a relocate list's map.
+// Writes the places of the pairs of a relocate list's map and returns their number.
 fn lay_relocates(store: &[u8], places: &[usize], n: usize, block: &mut [usize]) -> usize
     ensures { λ r. ⌜ r ≡ length (canonicalPicks (activeList (lentList (now (store .entry)) (now (places .entry)) n)) true (length (now (block .entry)))) ⌝ }
     ensures { λ r. ⌜ now (block .exit) ≡ picked ((activeList (lentList (now (store .entry)) (now (places .entry)) n)) .places) (canonicalPicks (activeList (lentList (now (store .entry)) (now (places .entry)) n)) true (length (now (block .entry)))) (now (block .entry)) ⌝ }
@@ -48,7 +48,7 @@ fn lay_relocates(store: &[u8], places: &[usize], n: usize, block: &mut [usize]) 
     canonical::canonical_places(store, &active, w, true, block)
 }
 
-// The pairs of a leg's map.
+// Writes the places of the pairs of a leg's map and returns their number.
 fn lay_pairs(store: &[u8], places: &[usize], kind: usize, n: usize, block: &mut [usize]) -> usize
     ensures { λ r. ⌜ r ≡ length (legPicks kind (lentList (now (store .entry)) (now (places .entry)) n) (length (now (block .entry)))) ⌝ }
     ensures { λ r. ⌜ now (block .exit) ≡ legBlock kind (lentList (now (store .entry)) (now (places .entry)) n) (now (block .entry)) ⌝ }
@@ -63,7 +63,8 @@ fn lay_pairs(store: &[u8], places: &[usize], kind: usize, n: usize, block: &mut 
     n
 }
 
-// The kind of a leg that is the map of a leg of this kind: a relocate list's map has the mark.
+// The kind of the prepared leg: 0 for a map without the mark; 1 otherwise, since a relocate list's map has
+// the mark.
 fn map_kind(kind: usize) -> usize
     ensures { λ r. ⌜ r ≡ mapKind kind ⌝ }
 {
@@ -73,7 +74,7 @@ fn map_kind(kind: usize) -> usize
     1
 }
 
-// Lays the map of leg k behind those of the legs before it.
+// Writes the map of leg k to its block and its three numbers to the table.
 fn lay_leg(
     store: &[u8],
     places: &[usize],
@@ -104,8 +105,8 @@ fn lay_leg(
     table[j + 2] = w;
 }
 
-// Lays the maps of the first n legs: `made`, of 4,096 numbers, has the places of their pairs, `table`,
-// of 48, their numbers.
+// Prepares the maps of the first n legs: `made`, of 4,096 entries, receives the places of their pairs,
+// `table`, of 48, their numbers.
 pub fn lay_legs(
     store: &[u8],
     places: &[usize],

@@ -1,4 +1,4 @@
--- What each way through the functions that read and ask legs gives. Assumes nothing.
+-- Lemmas about the branches of the functions that read and validate legs.
 use mathlib.Core.Path.{_≡_, refl, sym, _∙_}
 use mathlib.Core.Bool.{cond}
 use mathlib.Core.List.{List, [], _∷_}

@@ -1,4 +1,4 @@
--- What a route that passed questions 1 to 4 is. Assumes nothing.
+-- Lemmas about a route that passed questions 1 to 4.
 use mathlib.Core.Path.{_≡_, refl, sym, ap, _∙_}
 use mathlib.Core.Bool.{Bool, true, false, cond, _&&_}
 use mathlib.Core.List.{List, [], _∷_}
@@ -25,7 +25,7 @@ use Rattle.route.specs.Route.{routeEnds}
 use Rattle.legs.specs.Lent.{LentRoute, kindAt, listAt, legOf, legAt, legsIn, listsIn, present, legsCount, routeAsked}
 use Rattle.route.proofs.RouteLaws.{legs-more}
 
--- the number of legs is asked last, as the number of pairs is
+-- The number of legs is checked last, like the number of pairs.
 counted-last : (a b c d t : Bool) → unless (firstNo a b c d) Refused (cond t Passed (Refused TooMany)) ≡ firstNo a b c (t && d)
 unfolding firstNo
 counted-last true true true true true = refl
@@ -36,7 +36,7 @@ counted-last true true false d t = refl
 counted-last true false c d t = refl
 counted-last false b c d t = refl
 
--- so the route's answer is the earlier refusal of its lists' and its number's
+-- The result of validating a route is the earlier refusal of its lists and of its number of legs.
 pub lists-then-count : (r : LentRoute) → earlierOf (asked (listsIn r (present r)) [] []) (cond (legsCount r) Passed (Refused TooMany)) ≡ routeAsked r []
 unfolding routeAsked asked every firstNo
 lists-then-count r =
@@ -44,7 +44,7 @@ lists-then-count r =
     each true true true (legsCount r) (every listFits ls) (every (listAll legal) ls) (every (listAll isEnd) ls) (every listCounts ls)
     ∙ sym (counted-last (every listFits ls) (every (listAll legal) ls) (every (listAll isEnd) ls) (every listCounts ls) (legsCount r))
 
--- and a path beside it may be asked by itself
+-- A path given beside the route may be validated separately.
 pub route-one-by-one : (r : LentRoute) (p : Text) → earlierOf (routeAsked r []) (newCall p) ≡ routeAsked r (p ∷ [])
 unfolding routeAsked asked newCall askedTexts allFit allLegal every firstNo
 route-one-by-one r p =
@@ -57,7 +57,7 @@ route-one-by-one r p =
     ∙ each (fits p && true) (legal p && true) true true f l e (legsCount r && c)
     ∙ sym (counted-last (fits p && true && f) (legal p && true && l) e c (legsCount r))
 
--- a passed route
+-- A route that passed.
 both-passed : (q : Asked) (t : Bool) → unless q Refused (cond t Passed (Refused TooMany)) ≡ Passed → (q ≡ Passed) × (t ≡ true)
 both-passed Passed true h = (refl, refl)
 both-passed Passed false h = absurd (never TooMany h)
@@ -90,7 +90,7 @@ module _ (r : LentRoute) (ts : List Text) (h : routeAsked r ts ≡ Passed) where
   pub route-sound : (k : ℕ) → k < r .count → Sound (listAt r k)
   route-sound = lists-sound r (r .count) (rw all-present at (lists-pass (listsIn r (present r)) ts [] (passed .0)))
 
--- the ends of its legs are ends
+-- The ends of its legs are prim paths, `/` or empty.
 leg-ends : (kind : ℕ) (l : List Pair) → allEnds l ≡ true → legEnds (legOf kind l) ≡ true
 unfolding legOf legEnds
 leg-ends zero l h = h
@@ -107,7 +107,7 @@ legs-end r (suc n) s =
 pub route-ends : (r : LentRoute) (ts : List Text) → routeAsked r ts ≡ Passed → routeEnds (legsIn r (r .count)) ≡ true
 route-ends r ts h = legs-end r (r .count) (route-sound r ts h)
 
--- and the path beside it is legal and short
+-- The path beside it is legal and has at most 255 bytes.
 module _ (r : LentRoute) (p : Text) (h : routeAsked r (p ∷ []) ≡ Passed) where
   pub route-short : length p ≤ 255
   route-short = text-short (listsIn r (present r)) p [] [] (passed r (p ∷ []) h .0)

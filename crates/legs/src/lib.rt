@@ -1,5 +1,5 @@
-// The legs of a route in lent memory, and document 01's questions 1 to 4 of them. Every public function is
-// defined for any bytes and any numbers.
+// The legs of a route in lent memory: reading a leg's kind, pairs and number of pairs, and validating the
+// route (questions 1 to 4). Every public function is defined for all byte slices and all numbers.
 ghost use mathlib.Core.Path.{_≡_};
 ghost use mathlib.Core.Bool.{cond};
 ghost use mathlib.Core.List.{[], _∷_};
@@ -10,7 +10,7 @@ ghost use Rattle.path.specs.declared.Refusal.the-variants.{TooMany};
 ghost use Rattle.asking.specs.Asking.{asked};
 ghost use Rattle.legs.specs.Lent.{lentRoute, kindAt, firstAt, sizeAt, listAt, listsIn, present, legsCount, routeAsked};
 
-// Number j of leg k's three.
+// Entry j of the three numbers of leg k; 0 outside the slice.
 fn number_at(legs: &[usize], k: usize, j: usize) -> usize
     requires { ⌜ j < 3 ⌝ }
     ensures { λ r. ⌜ r ≡ getD (now (legs .entry)) (3 * k + j) 0 ⌝ }
@@ -32,7 +32,7 @@ pub fn kind_at(legs: &[usize], k: usize) -> usize
     number_at(legs, k, 0)
 }
 
-// How many pairs leg k has.
+// The number of pairs of leg k.
 pub fn size_at(legs: &[usize], k: usize) -> usize
     ensures { λ r. ⌜ r ≡ sizeAt (now (legs .entry)) k ⌝ }
 {
@@ -51,7 +51,7 @@ pub fn leg_places<'a>(places: &'a [usize], legs: &[usize], k: usize) -> &'a [usi
     &places[at..]
 }
 
-// How many of the counted legs have their numbers in the slice.
+// The number of the counted legs whose numbers lie within the slice.
 fn present_legs(legs: &[usize], count: usize) -> usize
     ensures { λ r. ⌜ r ≡ present (lentRoute [] [] (now (legs .entry)) count) ⌝ }
 {
@@ -62,7 +62,7 @@ fn present_legs(legs: &[usize], count: usize) -> usize
     held
 }
 
-// Question 4 of the number of legs.
+// Validates the number of legs (question 4).
 fn ask_count(legs: &[usize], count: usize) -> path::Asked
     ensures { λ r. ⌜ r ≡ cond (legsCount (lentRoute [] [] (now (legs .entry)) count)) Passed (Refused TooMany) ⌝ }
 {
@@ -75,14 +75,14 @@ fn ask_count(legs: &[usize], count: usize) -> path::Asked
     path::Asked::Passed
 }
 
-// Questions 1 to 4 of leg k's list.
+// Validates the list of leg k (questions 1 to 4).
 fn ask_leg(store: &[u8], places: &[usize], legs: &[usize], k: usize) -> path::Asked
     ensures { λ r. ⌜ r ≡ asked (listAt (lentRoute (now (store .entry)) (now (places .entry)) (now (legs .entry)) k) k ∷ []) [] [] ⌝ }
 {
     asking::ask_pairs(store, leg_places(places, legs, k), size_at(legs, k))
 }
 
-// Questions 1 to 4 of the lists of the first n legs.
+// Validates the lists of the first n legs (questions 1 to 4).
 fn ask_lists(store: &[u8], places: &[usize], legs: &[usize], n: usize) -> path::Asked
     ensures { λ r. ⌜ r ≡ asked (listsIn (lentRoute (now (store .entry)) (now (places .entry)) (now (legs .entry)) n) n) [] [] ⌝ }
 {
@@ -95,7 +95,7 @@ fn ask_lists(store: &[u8], places: &[usize], legs: &[usize], n: usize) -> path::
     q
 }
 
-// Questions 1 to 4 of a route.
+// Validates a route (questions 1 to 4).
 pub fn ask_legs(store: &[u8], places: &[usize], legs: &[usize], count: usize) -> path::Asked
     ensures { λ r. ⌜ r ≡ routeAsked (lentRoute (now (store .entry)) (now (places .entry)) (now (legs .entry)) count) [] ⌝ }
 {

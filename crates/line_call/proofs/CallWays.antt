@@ -1,4 +1,4 @@
--- What each way through a line's call gives. Assumes nothing.
+-- Lemmas about the branches of the call for one line.
 use mathlib.Core.Path.{_≡_, refl, sym, ap, _∙_}
 use mathlib.Core.Bool.{Bool, true, false, cond, _&&_}
 use mathlib.Core.List.{List, [], _∷_, _++_}
@@ -41,7 +41,7 @@ module _ (kept : List ℕ) (out : Text) where
   unfolding callAsked
   enough h i = rw (le-leb 5 (length kept) h, le-leb 515 (length out) i)
 
-  -- what a passed question says
+  -- The bounds that follow from a passed validation.
   passed-room : callAsked kept out ≡ Passed → (5 ≤ length kept) × (515 ≤ length out)
   unfolding callAsked
   passed-room e = go (leb 5 (length kept)) refl (leb 515 (length out)) refl e
@@ -87,7 +87,7 @@ module _ (l : Line) (kept : List ℕ) (m : Memory) (out : Text) (q : Asked) (e :
           ),
         )
 
--- the same, where the numbers that were kept were read before
+-- The same, with the counters read from the number buffer before.
 module _ (l : Line) (kept : List ℕ) (bytes₀ : Text) (places₀ : List ℕ) (store₀ : Text) (slots₀ table₀ : List ℕ) (out : Text) (q : Asked) (e : q ≡ callAsked kept out)
     (h : q ≡ Passed) (k₀ : Kept) (w : k₀ ≡ keptOf kept) where
   abbrev from : Kept → Memory

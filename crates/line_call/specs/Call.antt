@@ -1,4 +1,4 @@
--- One line of `frames` as a call: the numbers that are kept between two lines cross as five plain numbers in lent memory.
+-- One line of `frames` as a call across the C interface: the counters kept between two lines are five plain numbers in a lent buffer.
 use Prim.Native.Nat.{ℕ}
 use mathlib.Core.Bool.{cond, _&&_}
 use mathlib.Core.List.{List, [], _∷_}
@@ -19,7 +19,8 @@ use Rattle.memory.specs.declared.Kept.{Kept}
 use Rattle.memory.specs.Memory.{Memory, turnIn}
 use Rattle.answering.specs.Answer.{longest}
 
--- the five numbers: pairs and bytes of the open list, legs and their bytes before dropping, 05 frames answered 00
+-- The counters from five numbers: pairs and bytes of the open list, legs and their bytes before redundant pairs are dropped, 05 frames
+-- answered 00.
 abbrev pub keptOf : List ℕ → Kept
 keptOf n = record {
   opened = record { pairs = getD n 0 0; bytes = getD n 1 0 };
@@ -27,32 +28,34 @@ keptOf n = record {
   answered = getD n 4 0;
 }
 
+-- The five numbers of the counters.
 abbrev pub fiveOf : Kept → List ℕ
 fiveOf k = k .opened .pairs ∷ k .opened .bytes ∷ k .legs .count ∷ k .legs .bytes ∷ k .answered ∷ []
 
--- question 5: five numbers, and room for the longest answer line
+-- Question 5: five numbers, and space for the longest reply line.
 unfoldable pub callAsked : List ℕ → Text → Asked
 callAsked kept out = cond (leb 5 (length kept) && leb longest (length out)) Passed (RefusedAsked NoRoom)
 
--- the line is the whole text; one of more than 4,096 bytes is overlong
+-- The line given as a whole text; one of more than 4,096 bytes is overlong.
 unfoldable pub wholeLine : Text → Line
 unfolding lineAt
 wholeLine t = lineAt (length t) t
 
--- how many bytes the answer line has
+-- The reply of the call: the length of the reply line.
 unfoldable pub callReply : Asked → Memory → Line → Reply
 unfolding answerLine
 callReply a m l = unless a Refused (Written (length (answerLine turnIn m l)))
 
--- the memory afterwards; a refused call changes nothing
+-- The memory after the call; unchanged if it was refused.
 unfoldable pub callMemory : Asked → Memory → Line → Memory
 unfolding heard turnIn
 callMemory a m l = unless a (λ (x : Refusal). m) (nextLine turnIn m l)
 
+-- The output buffer after the call: the reply line over its beginning; unchanged if it was refused.
 unfoldable pub callOut : Asked → Memory → Line → Text → Text
 unfolding answerLine
 callOut a m l out = unless a (λ (x : Refusal). out) (written (answerLine turnIn m l) out)
 
--- the five numbers afterwards, over the beginning of their memory
+-- The number buffer after the call: the five numbers over its beginning; unchanged if it was refused.
 abbrev pub callKept : Asked → Memory → Line → List ℕ → List ℕ
 callKept a m l kept = unless a (λ (x : Refusal). kept) (written (fiveOf ((callMemory a m l) .kept)) kept)

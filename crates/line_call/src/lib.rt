@@ -1,5 +1,5 @@
-// One line of the program `frames` as a call over plain numbers and bytes. Nothing is assumed of the memory
-// that is lent.
+// One line of the program `frames` as a call over plain numbers and bytes. The lent buffers may hold
+// anything.
 ghost use mathlib.Core.Path.{_≡_};
 ghost use Prim.Native.Nat.{_≤_};
 ghost use lib.ListN.{length};
@@ -7,7 +7,7 @@ ghost use Rattle.text.specs.Text.{written};
 ghost use Rattle.memory.specs.Memory.{memory};
 ghost use Rattle.line_call.specs.Call.{keptOf, fiveOf, callAsked, wholeLine, callReply, callMemory, callOut, callKept};
 
-// The numbers that are kept, from five plain ones.
+// The counters from five plain numbers.
 fn kept_of(kept: &[usize]) -> memory::Kept
     requires { ⌜ 5 ≤ length (now kept) ⌝ }
     ensures { λ r. ⌜ r ≡ keptOf (now (kept .entry)) ⌝ }
@@ -25,7 +25,7 @@ fn kept_of(kept: &[usize]) -> memory::Kept
     }
 }
 
-// Writes the numbers that are kept as five plain ones.
+// Writes the counters as five plain numbers.
 fn write_kept(k: memory::Kept, kept: &mut [usize])
     requires { ⌜ 5 ≤ length (now kept) ⌝ }
     ensures { λ _. ⌜ now (kept .exit) ≡ written (fiveOf k) (now (kept .entry)) ⌝ }
@@ -39,7 +39,7 @@ fn write_kept(k: memory::Kept, kept: &mut [usize])
     kept[4] = k.answered;
 }
 
-// Question 5.
+// Checks the capacity of the lent buffers (question 5).
 fn ask_room(kept: &[usize], out: &[u8]) -> path::Asked
     ensures { λ r. ⌜ r ≡ callAsked (now (kept .entry)) (now (out .entry)) ⌝ }
 {
@@ -52,10 +52,10 @@ fn ask_room(kept: &[usize], out: &[u8]) -> path::Asked
     path::Asked::Passed
 }
 
-// Answers a line, given whole and without its newline, and does what it says: the answer line stands at the
-// beginning of out. `kept` has five numbers, all 0 at first: the pairs and bytes of the open list, the legs
-// and their bytes before dropping, the 05 frames answered 00. The open list has the memory `bytes` and
-// `places`, the legs have `store`, `slots` and `table`.
+// Processes a line, given whole and without its newline, and writes the reply line to the beginning of `out`.
+// `kept` holds five numbers, all 0 at first: the pairs and bytes of the open list, the legs and their bytes
+// before redundant pairs are dropped, the 05 frames answered 00. The open list is stored in `bytes` and
+// `places`, the leg store in `store`, `slots` and `table`.
 pub fn answer_whole(
     line: &[u8],
     kept: &mut [usize],

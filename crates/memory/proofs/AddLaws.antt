@@ -1,4 +1,4 @@
--- One pair more, in memory as in the state. Assumes nothing.
+-- Lemmas about adding a pair: the buffers change as the state does.
 use mathlib.Core.Path.{_≡_, refl, sym, _∙_, subst}
 use mathlib.Core.Bool.{Bool, true, false, cond, _&&_}
 use mathlib.Core.List.{List, [], _∷_, _++_}
@@ -37,7 +37,7 @@ module _ (m : Memory) (st : State) (g : Means m st) (s t : Text) where
   abbrev two : List Text
   two = s ∷ t ∷ []
 
-  -- the ends are short, and there is room for 64 pairs of short ends
+  -- The ends have at most 255 bytes, and there is space for 64 pairs of such ends.
   module _ (e : asked [] two two ≡ Passed) (h : takesPair st ≡ true) where
     fewer : suc k ≤ 64
     fewer = omega (arith, g .opened .pairs, leb-true (suc (length (st .opened))) 64 h)
@@ -49,7 +49,7 @@ module _ (m : Memory) (st : State) (g : Means m st) (s t : Text) where
     bytes-fit =
         omega (arith, text-short [] s (t ∷ []) two e, second-short [] s t [] two e, g .opened .size, short-bytes (st .opened) (g .short), g .opened .pairs, fewer, g .large .bytes)
 
-  -- so the questions of memory are those of the protocol
+  -- The validation on the buffers agrees with that of the protocol.
   add-asked : addAsked (m .kept .opened) s t (length (m .bytes)) (length (m .places)) ≡ unless (asked [] two two) Refused (cond (takesPair st) Passed (Refused TooMany))
   unfolding addAsked
   add-asked = go (asked [] two two) refl (takesPair st) refl

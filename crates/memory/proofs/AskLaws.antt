@@ -1,4 +1,4 @@
--- The open list that memory holds passes questions 1 to 4. Assumes nothing.
+-- Lemmas about the open list in the buffers: it passes questions 1 to 4.
 use mathlib.Core.Path.{_≡_, refl, sym, ap, _∙_}
 use mathlib.Core.Bool.{Bool, true, _&&_}
 use mathlib.Core.List.{List, [], _∷_}
@@ -23,7 +23,7 @@ use Rattle.memory.specs.Means.{Means}
 use Rattle.memory.proofs.PieceLaws.{stands-at}
 use Rattle.memory.proofs.OpenLaws.{ends-at, short-bytes, end-at, four-at}
 
--- a test of each number below an even one
+-- A test of each index below an even number.
 by-twos : (all test : ℕ → Bool) → all 0 ≡ true → ((n : ℕ) → all (suc n) ≡ (all n && test n)) → (n : ℕ)
     → ((i : ℕ) → i < n → (test (2 * i) ≡ true) × (test (2 * i + 1) ≡ true)) → all (2 * n) ≡ true
 by-twos all test first next zero each = first
@@ -40,7 +40,7 @@ module _ (m : Memory) (st : State) (g : Means m st) where
   abbrev n : ℕ
   n = m .kept .opened .pairs
 
-  -- what is read is the open list
+  -- The list read from the buffers is the open list.
   pub opened-read : pairsOf (openList m) ≡ l
   opened-read = opened .reads l (m .kept .opened) (m .bytes) (m .places) (g .opened)
 
@@ -58,7 +58,7 @@ module _ (m : Memory) (st : State) (g : Means m st) where
   unfolding present
   all-present = rw (le-leb n (length (m .places) / 4) held)
 
-  -- the bytes of 64 pairs have room
+  -- The bytes of 64 pairs fit.
   pub in-bytes : endBytes l ≤ 510 * length l
   in-bytes = short-bytes l (g .short)
 
@@ -72,7 +72,7 @@ module _ (m : Memory) (st : State) (g : Means m st) where
     number-at : (j c : ℕ) → j ≡ 4 * i + c → c < 4 → getD (m .places) j 0 ≡ getD (fourOf (0 + endBytes (take i l)) (sourceAt l i) (targetAt l i)) c 0
     number-at j c e k = rw e (number c k)
 
-    -- a place with such numbers is short and in the store
+    -- A place with these numbers has at most 255 bytes and lies within the store.
     place-fits : (j start size : ℕ) → startAt (m .places) j ≡ start → lengthAt (m .places) j ≡ size → start + size ≤ endBytes l → size ≤ 255
         → fitsAt (m .bytes) (m .places) j ≡ true
     unfolding fitsAt inside
@@ -89,7 +89,7 @@ module _ (m : Memory) (st : State) (g : Means m st) where
               (number-at (2 * (2 * i + 1) + 1) 3 (omega arith) (omega arith)) (omega (arith, end-at l i h)) (w .1),
         )
 
-    -- the texts there are the pair's
+    -- The texts read there are the ends of the pair.
     source-there : textAt (m .bytes) (m .places) (2 * i) ≡ sourceAt l i
     source-there =
         let z : 2 * i ≡ 2 * i + 0 = omega arith in

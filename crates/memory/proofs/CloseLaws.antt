@@ -1,4 +1,4 @@
--- A leg more, in memory as in the state. Assumes nothing.
+-- Lemmas about closing a leg: the buffers change as the state does.
 use mathlib.Core.Path.{_≡_, refl, sym, ap, subst}
 use mathlib.Core.Bool.{Bool, true, false, cond, _&&_}
 use mathlib.Core.List.{List, [], _∷_, map, map-append}
@@ -28,7 +28,7 @@ use Rattle.memory.proofs.WayLaws.{in-store, legs-count}
 use Rattle.memory.proofs.AskLaws.{opened-read, list-counts}
 use Rattle.text.proofs.WriteLaws.{over-length}
 
--- the answer to questions 4 and 5
+-- The result of questions 4 and 5.
 abbrev replied : Bool → Bool → Asked
 replied leg bytes = cond leg (cond bytes Passed (Refused NoRoom)) (Refused TooMany)
 
@@ -36,7 +36,7 @@ module _ (m : Memory) (st : State) (g : Means m st) where
   abbrev k : ℕ
   k = m .kept .legs .count
 
-  -- memory has room for 16 legs and for 32,768 bytes, so its questions are those of the protocol
+  -- The buffers have space for 16 legs and 32,768 bytes, so the validation on them agrees with that of the protocol.
   leg-asked : takesLegIn (vaultOf m) ≡ takesLeg st
   leg-asked = go (takesLeg st) refl
     where
@@ -133,13 +133,13 @@ module _ (m : Memory) (st : State) (g : Means m st) where
   abbrev l : List Pair
   l = st .opened
 
-  -- as a map leg
+  -- Closing as a map leg.
   pub same-map : Alike (closeIn false m) (closes st (by-map (new l)) (endBytes l))
   unfolding legMap counted new allShort
   same-map =
       same-close false (by-map (new l)) refl (omega (arith, fromParts-length l false, g .within .pairs)) (new-ends l (g .ends)) (fromParts-every fits l false (g .short))
 
-  -- as a relocate leg
+  -- Closing as a relocate leg.
   pub same-relocates : Alike (closeIn true m) (closes st (by-relocates l) (endBytes (counted true l)))
   unfolding legMap counted
   same-relocates =

@@ -1,4 +1,4 @@
--- Memory with a leg more holds the legs that it held, and the new one. Assumes nothing.
+-- Lemmas about the leg store with one more leg: it holds the legs that it held, and the new one.
 use mathlib.Core.Path.{_≡_, sym, ap, _∙_, subst}
 use mathlib.Core.Bool.{true}
 use mathlib.Core.List.{List, [], _∷_, _++_}
@@ -16,7 +16,7 @@ use Rattle.closing.specs.Close.{Vault, three, withLeg}
 use Rattle.memory.specs.Means.{LegHeld, LegsHeld}
 use Rattle.memory.proofs.PieceLaws.{stands-still, stands-written}
 
--- there is room behind the legs
+-- There is space after the legs.
 pub record Room (v : Vault) : Type 0 where
   pub store : v .legs .bytes ≤ length (v .store)
   pub slots : 256 * v .legs .count ≤ length (v .slots)

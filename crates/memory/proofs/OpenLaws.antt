@@ -1,4 +1,4 @@
--- The ends and the numbers of a list, pair by pair. Assumes nothing.
+-- Lemmas about the ends and the place entries of a list, pair by pair.
 use mathlib.Core.Path.{_≡_, refl}
 use mathlib.Core.Bool.{Bool, true, _&&_}
 use mathlib.Core.List.{List, [], _∷_, _++_}
@@ -14,13 +14,13 @@ use Rattle.route.proofs.RelocateLaws.{every-at}
 use Rattle.memory.specs.Means.{Stands}
 use Rattle.pairs.proofs.PlaceLaws.{short-at}
 
--- a test that every end passes, and so does the empty text
+-- If every end and the empty text pass a test, the ends at each index pass it.
 pub ends-at : (passes : Text → Bool) → passes [] ≡ true → (l : List Pair) → everyEnd passes l ≡ true → (i : ℕ) → (passes (sourceAt l i) ≡ true) × (passes (targetAt l i) ≡ true)
 ends-at passes none l e i =
     let a : (passes (sourceAt l i) && passes (targetAt l i)) ≡ true = every-at passes none l e i in
     (and-l (passes (sourceAt l i)) (passes (targetAt l i)) a, and-r (passes (sourceAt l i)) (passes (targetAt l i)) a)
 
--- 510 bytes for each pair
+-- At most 510 bytes for each pair.
 pub short-bytes : (l : List Pair) → allShort l ≡ true → endBytes l ≤ 510 * length l
 unfolding allShort endBytes everyEnd
 short-bytes [] e = omega arith
@@ -28,14 +28,14 @@ short-bytes (x ∷ l) e =
     let a = short-at (x ∷ l) e 0 in
     omega (arith, a .0, a .1, short-bytes l (and-r (fits (x .source) && fits (x .target)) (allShort l) e))
 
--- pair i ends within the bytes of all
+-- Pair i ends within the bytes of the whole list.
 pub end-at : (l : List Pair) (i : ℕ) → i < length l → endBytes (take i l) + (length (sourceAt l i) + length (targetAt l i)) ≤ endBytes l
 unfolding endBytes
 end-at [] i h = absurd (omega arith)
 end-at (x ∷ l) zero h = omega arith
 end-at (x ∷ l) (suc i) h = omega (arith, end-at l i (omega arith))
 
--- its four numbers
+-- The four place entries of pair i.
 pub four-at : (l : List Pair) (at i : ℕ) (later : List ℕ) → i < length l
     → Stands (listPlaces at l ++ later) (4 * i) (fourOf (at + endBytes (take i l)) (sourceAt l i) (targetAt l i))
 unfolding listPlaces endBytes

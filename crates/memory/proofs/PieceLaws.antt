@@ -1,4 +1,4 @@
--- Numbers that stand in memory, and what is written from a later place on. Assumes nothing.
+-- Lemmas about entries in a buffer, and about writing at a later offset.
 use mathlib.Core.Path.{_≡_, sym, ap, _∙_}
 use mathlib.Core.List.{List, _++_}
 use Prim.Native.Nat.{ℕ, _+_, _-_, _≤_, _<_}
@@ -8,7 +8,7 @@ use lib.Seq.{length-take-le, take-append-seam, take-append-le, drop-append-le, d
 use Rattle.text.specs.Text.{over}
 use Rattle.memory.specs.Means.{Stands}
 
--- what stands below a place does not depend on what is behind it
+-- The entries below an offset do not depend on those after it.
 module _ (mem : List ℕ) (b n at : ℕ) (h : at + n ≤ b) (r : b ≤ length mem) where
   from-below : (behind : List ℕ) → take n (drop at (take b mem ++ behind)) ≡ take n (drop at (take b mem))
   from-below behind =
@@ -23,12 +23,12 @@ module _ (mem : List ℕ) (b n at : ℕ) (h : at + n ≤ b) (r : b ≤ length me
 pub stands-still : (mem s t : List ℕ) (at b : ℕ) → at + length s ≤ b → b ≤ length mem → Stands mem at s → Stands (over b t mem) at s
 stands-still mem s t at b h r e = below mem b (length s) at h r t ∙ e
 
--- what was written stands there
+-- Entries that were written are there.
 pub stands-written : (mem t : List ℕ) (b : ℕ) → b ≤ length mem → Stands (over b t mem) b t
 stands-written mem t b r =
     ap (take (length t)) (drop-at (take b mem) (t ++ drop (b + length t) mem) b (length-take-le b mem r)) ∙ take-append-seam t (drop (b + length t) mem)
 
--- memory in three pieces, and the numbers one by one
+-- The buffer in three pieces, and its entries one by one.
 module _ (mem s : List ℕ) (at : ℕ) (e : Stands mem at s) where
   pub stands-first : drop at mem ≡ s ++ drop (length s) (drop at mem)
   stands-first = sym (take-append-drop (length s) (drop at mem)) ∙ ap (λ (x : List ℕ). x ++ drop (length s) (drop at mem)) e

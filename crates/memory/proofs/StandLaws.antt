@@ -1,4 +1,4 @@
--- The legs' maps are read back from the memory that holds them. Assumes nothing.
+-- Lemmas about the leg store: the maps of the legs are read back from it.
 use mathlib.Core.Path.{_≡_, refl, sym, ap, _∙_}
 use mathlib.Core.Bool.{Bool, true, false, cond}
 use mathlib.Core.List.{List, [], _∷_, _++_}
@@ -24,7 +24,7 @@ use Rattle.closing.specs.Close.{Vault, three}
 use Rattle.memory.specs.Means.{Stands, LegHeld, LegsHeld}
 use Rattle.memory.proofs.PieceLaws.{stands-first, stands-split, stands-at}
 
--- a list whose bytes stand behind others, and whose places come first
+-- A list whose bytes follow others, and whose places come first.
 module _ (l : List Pair) (before after : Text) (later : List ℕ) where
   abbrev store : Text
   store = before ++ (listText l ++ after)
@@ -40,7 +40,7 @@ module _ (l : List Pair) (before after : Text) (later : List ℕ) where
       one : (i : ℕ) → i < length l → pairAt (pairsIn store places (length l)) i ≡ pairAt l i
       one i h = pairsIn-at store places (length l) i h ∙ rw (zero-add i) at (read-pairs l i 0 before after [] later refl h)
 
--- a list that stands in memory is read back
+-- A list held in the buffers is read back.
 read-standing : (l : List Pair) (store : Text) (slots : List ℕ) (at k : ℕ) → at ≤ length store → Stands store at (listText l)
     → Stands slots k (listPlaces at l) → pairsIn store (drop k slots) (length l) ≡ l
 read-standing l store slots at k h e f =

@@ -1,4 +1,5 @@
--- Memory that holds a state of the protocol is answered as the state is, and holds the state that follows. Assumes nothing.
+-- The proof of the theorem: a frame on buffers that hold a state of the protocol gets the reply of that state, and leaves buffers that hold
+-- the next state.
 use mathlib.Core.Path.{_≡_, refl, ap, _∙_}
 use mathlib.Core.Bool.{true, false}
 use mathlib.Core.List.{List, [], _∷_, _++_}
@@ -72,7 +73,7 @@ module _ (m : Memory) (st : State) (g : Means m st) where
   turns (home p) = record { answers = ap answerOf (same-goes m st g true p); holds = g }
   turns count = record { answers = ap (λ (n : ℕ). given (fourBytes n)) (g .answered); holds = g }
 
-  -- a frame that was heard, or none
+  -- A parsed frame, or a bad one.
   same-frame : (f : Option Frame) → (answer turnIn m f ≡ answer turn st f) × Means (next turnIn m f) (next turn st f)
   same-frame none = (refl, g)
   same-frame (some f) = (ap (λ (a : Answer). (kind f + 128) ∷ answerBytes a) (turns f .answers), turns f .holds)

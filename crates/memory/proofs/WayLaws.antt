@@ -1,4 +1,4 @@
--- A path over the legs that memory holds goes the way of the protocol. Assumes nothing.
+-- Lemmas about a path over the legs in the buffers: the result is that of the protocol.
 use mathlib.Core.Path.{_≡_, refl, sym, _∙_}
 use mathlib.Core.Bool.{Bool}
 use mathlib.Core.List.{map}

@@ -1,5 +1,5 @@
--- What `frames` keeps between two lines in lent memory, and what each frame makes of it: every byte and number, whatever the memory holds.
--- Memory that holds a state of the protocol keeps holding it (specs/Means.antt).
+-- What `frames` keeps between two lines in lent memory, and the effect of each frame on it: every byte and number, for any contents of the
+-- buffers. Buffers that hold a state of the protocol keep holding one (specs/Means.antt).
 use Prim.Native.Nat.{ℕ}
 use mathlib.Core.Bool.{Bool, true, false}
 use mathlib.Core.List.{List, [], _∷_}
@@ -21,36 +21,42 @@ use Rattle.protocol.specs.Frame.{Frame, pair, statuses, close-map, close-reloca
 use Rattle.protocol.specs.State.{Answer, given, refusal, answerOf, counts, fourBytes, Turn}
 use Rattle.memory.specs.declared.Kept.{Kept}
 
+-- The counters and buffers of `frames` between two lines.
 pub record Memory : Type 0 where
   pub kept : Kept
-  -- the open list: the bytes of its ends, and their places
+  -- The open list: the bytes of its ends, and their places.
   pub bytes : Text
   pub places : List ℕ
-  -- the legs' maps: the bytes of their ends, their places in blocks of 256, three numbers for each leg
+  -- The leg store: the bytes of the legs' ends, their places in blocks of 256, three numbers for each leg.
   pub store : Text
   pub slots : List ℕ
   pub table : List ℕ
 
+-- The memory from its parts.
 abbrev pub memory : Kept → Text → List ℕ → Text → List ℕ → List ℕ → Memory
 memory k bytes places store slots table = record { kept = k; bytes = bytes; places = places; store = store; slots = slots; table = table }
 
+-- The open list as a lent list of pairs.
 abbrev pub openList : Memory → Lent
 openList m = lentList (m .bytes) (m .places) (m .kept .opened .pairs)
 
+-- The leg store of the memory.
 abbrev pub vaultOf : Memory → Vault
 vaultOf m = vault (m .kept .legs) (m .store) (m .slots) (m .table)
 
+-- The legs as a lent route.
 abbrev pub routeOf : Memory → LentRoute
 routeOf m = lentRoute (m .store) (m .slots) (m .table) (m .kept .legs .count)
 
--- an accepted frame that has no payload
+-- The reply of a frame that has no payload.
 abbrev pub accepted : Asked → Answer
 accepted a = unless a refusal (given [])
 
--- 01, with the answer to its questions
+-- The size of the open list after an 01 frame, given the result of its validation.
 abbrev pub openedAfter : Asked → Opened → Text → Text → Opened
 openedAfter a k s t = unless a (λ (x : Refusal). k) (oneMore k s t)
 
+-- The step of an 01 frame, given the result of its validation.
 abbrev pub addAfter : Asked → Memory → Text → Text → Turn Memory
 addAfter a m s t = record {
   state = record {
@@ -64,19 +70,22 @@ addAfter a m s t = record {
   answer = accepted a;
 }
 
+-- The step of an 01 frame.
 unfoldable pub addIn : Memory → Text → Text → Turn Memory
 unfolding addAsked addBytes addPlaces
 addIn m s t = addAfter (addAsked (m .kept .opened) s t (length (m .bytes)) (length (m .places))) m s t
 
--- 02
+-- The reply to an 02 frame.
 unfoldable pub statusesIn : Memory → Answer
 unfolding asked statusesOf
 statusesIn m = unless (asked (openList m ∷ []) [] []) refusal (given (statusesOf (pairsOf (openList m)) (m .kept .opened .pairs)))
 
--- 03 and 04: "An accepted close empties the open list; a refused one changes nothing."
+-- The size of an empty open list.
 abbrev pub nothing : Opened
 nothing = record { pairs = 0; bytes = 0 }
 
+-- The step of an 03 or 04 frame, given the result of its validation and the leg store after it. Requirements: "An accepted close empties
+-- the open list; a refused one changes nothing."
 abbrev pub closeAfter : Asked → Memory → Vault → Turn Memory
 closeAfter a m v = record {
   state = record {
@@ -90,22 +99,24 @@ closeAfter a m v = record {
   answer = accepted a;
 }
 
+-- The step of an 03 or 04 frame.
 unfoldable pub closeIn : Bool → Memory → Turn Memory
 unfolding askedOf closeVault
 closeIn relocates m = closeAfter (askedOf relocates (openList m) (vaultOf m)) m (closeVault relocates (openList m) (vaultOf m))
 
--- 05 and 06: the way over the legs, which passed their questions when they were closed
+-- The outcome of an 05 or 06 frame: the route over the legs, which were validated when they were closed.
 unfoldable pub goesIn : Bool → Memory → Text → Outcome
 unfolding afterLegs
 goesIn back m p = afterLegs Passed back (routeOf m) p 255
 
+-- The step of an 05 frame with this outcome.
 abbrev pub countIn : Memory → Outcome → Turn Memory
 countIn m o = record {
   state = memory (record { opened = m .kept .opened; legs = m .kept .legs; answered = counts o (m .kept .answered) }) (m .bytes) (m .places) (m .store) (m .slots) (m .table);
   answer = answerOf o;
 }
 
--- what a frame comes to
+-- The step of each frame.
 unfoldable pub turnIn : Memory → Frame → Turn Memory
 unfolding addIn statusesIn closeIn goesIn
 turnIn m (pair s t) = addIn m s t

@@ -1,11 +1,12 @@
-// The numbers that the program `frames` keeps between two lines beside lent memory; specs/Memory.antt says
-// what each frame does to both.
+// The counters that the program `frames` keeps between two lines beside its lent buffers; specs/Memory.antt
+// defines the effect of each frame on both.
 
+// The counters kept between two lines.
 pub struct Kept {
-    // the open list's own numbers
+    // The size of the open list.
     pub opened: holding::Opened,
-    // the legs' own numbers
+    // The size of the leg store.
     pub legs: closing::Legs,
-    // how many 05 frames were answered 00
+    // The number of 05 frames answered 00.
     pub answered: usize,
 }

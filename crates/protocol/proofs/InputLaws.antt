@@ -1,4 +1,4 @@
--- What holds of the lines of every input. Assumes nothing.
+-- The proofs of the theorems about the lines of every input.
 use mathlib.Core.Path.{_≡_, refl, sym, ap, _∙_}
 use mathlib.Core.Bool.{true}
 use mathlib.Core.List.{List, [], _∷_, _++_, map, append-assoc, append-nil}
@@ -13,7 +13,7 @@ use Rattle.protocol.specs.Run.{next, answer, after}
 use Rattle.protocol.specs.Input.{heard, nextLine, answerLine, answersTo, stateAfter, accepts, InputClaims}
 use Rattle.protocol.proofs.RunLaws.{claims}
 
--- frames and one more
+-- A list of frames with one more.
 after-more : (st : State) (fs : List (Option Frame)) (f : Option Frame) → after st (fs ++ f ∷ []) ≡ next turn (after st fs) f
 unfolding after
 after-more st [] f = refl
@@ -27,7 +27,7 @@ state-more ls l = ap (after start) (map-more ls) ∙ after-more start (map heard
     map-more [] = refl
     map-more (x ∷ ls) = ap (λ (r : List (Option Frame)). heard x ∷ r) (map-more ls)
 
--- lines and one more
+-- A list of lines with one more.
 answers-more : (st : State) (ls : List Line) (l : Line)
     → answers (nextLine turn) (answerLine turn) st (ls ++ l ∷ []) ≡ answers (nextLine turn) (answerLine turn) st ls ++ answerLine turn (after st (map heard ls)) l
 unfolding answers after
@@ -36,7 +36,7 @@ answers-more st (x ∷ ls) l =
     ap (λ (r : Text). answerLine turn st x ++ r) (answers-more (nextLine turn st x) ls l)
     ∙ sym (append-assoc (answerLine turn st x) (answers (nextLine turn) (answerLine turn) (nextLine turn st x) ls) (answerLine turn (after (nextLine turn st x) (map heard ls)) l))
 
--- a line that says a frame is answered as the frame is
+-- The reply to a line is the reply to its frame.
 says : (st : State) (l : Line) (f : Frame) (k : ℕ) (q : Text) → heard l ≡ some f → answer turn st (some f) ≡ k ∷ 0 ∷ q → answerLine turn st l ≡ accepts k q
 unfolding answerLine
 says st l f k q h e = ap (λ (o : Option Frame). encoded (answer turn st o) ++ 10 ∷ []) h ∙ ap (λ (b : Text). encoded b ++ 10 ∷ []) e

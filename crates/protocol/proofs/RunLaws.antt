@@ -1,4 +1,4 @@
--- What holds of every run. Assumes nothing.
+-- The proofs of the theorems about every run.
 use mathlib.Core.Path.{_≡_, refl, sym, ap, _∙_}
 use mathlib.Core.Bool.{Bool, true, false, cond, _&&_}
 use mathlib.Core.List.{List, [], _∷_, _++_}
@@ -35,7 +35,7 @@ use Rattle.protocol.specs.Run.{next, after, isPath, outs, allOuts, held,
 use Rattle.route.proofs.RouteLaws.{legs-more}
 use Rattle.path.proofs.CallWays.{new-passed}
 
--- what every state of a run keeps
+-- The invariant of the states of a run.
 record Kept (st : State) : Type 0 where
   ends : allEnds (st .opened) ≡ true
   leg-ends : routeEnds (st .legs) ≡ true
@@ -46,7 +46,7 @@ begins : Kept start
 unfolding allEnds routeEnds
 begins = record { ends = refl; leg-ends = refl; few = omega arith; within = record { pairs = omega arith; legs = omega arith; bytes = omega arith } }
 
--- one pair, one leg more
+-- One more pair, and one more leg.
 ends-more : (l : List Pair) (x : Pair) → allEnds l ≡ true → isEnd (x .source) ≡ true → isEnd (x .target) ≡ true → allEnds (l ++ x ∷ []) ≡ true
 unfolding allEnds
 ends-more = every-snoc isEnd
@@ -88,7 +88,7 @@ closes-keeps st x n e k = go (takesLeg st) refl (takesBytes st n) refl
     go true h false i = k
     go false h b i = k
 
--- the counter holds what the input so far says
+-- The counter equals the count from the input so far.
 held-few : (n : ℕ) → n ≤ 4294967295 → held n ≡ n
 held-few n h = rw (le-leb n 4294967295 h)
 
@@ -185,7 +185,7 @@ after-counts st (f ∷ fs) k =
     ∙ held-plus (st .answered + outs st f) (allOuts (next turn st f) fs)
     ∙ ap held z
 
--- a path that gets out over the legs comes home
+-- A path that is mapped out over the legs is mapped home.
 pub passed-whole : (p : Text) → newCall p ≡ Passed → (fits p ≡ true) × (legal p ≡ true)
 unfolding newCall askedTexts allFit allLegal
 passed-whole p h = go (fits p) (legal p) h
@@ -223,7 +223,7 @@ module _ (st : State) (k : Kept st) (p q : Text) (plain : lacks 123 p ≡ true) 
       ∙ ap (λ (l : List Leg). wayOver true l q) same
       ∙ (demand-3 (st .legs) p (k .leg-ends) c) .home-again q (w .1) .0
 
--- a refused frame leaves the state
+-- A refused frame leaves the state unchanged.
 given-refused : (q : Text) (x : Refusal) → given q ≡ refusal x → ⊥
 given-refused q x e = let z : _≡_ {A = ℕ} 0 1 = cc in omega arith
 

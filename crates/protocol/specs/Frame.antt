@@ -1,5 +1,5 @@
--- A frame: the bytes that the digits of one line stand for. "The first byte is the kind". Question 9: "Is the frame well formed (.. known
--- kind, lengths filling it exactly ..)?"
+-- A frame: the bytes that one line encodes in hexadecimal. Requirements: "The first byte is the kind". Question 9: "Is the frame well
+-- formed (.. known kind, lengths filling it exactly ..)?"
 use Prim.Native.Nat.{ℕ, _+_, _*_}
 use mathlib.Core.Bool.{cond}
 use mathlib.Core.List.{[], _∷_}
@@ -8,6 +8,7 @@ use lib.Dec.{eqb, leb}
 use lib.ListN.{length, take, drop}
 use Rattle.text.specs.Text.{Text, isNil}
 
+-- A well-formed frame.
 pub data Frame : Type 0 where
   -- 01: "pair, being source length (2 bytes, high first), source, target length, target"
   pair : Text → Text → Frame
@@ -24,7 +25,7 @@ pub data Frame : Type 0 where
   -- 07: "count of 05 frames answered 00"
   count : Frame
 
--- its first byte
+-- The first byte of a frame.
 abbrev pub kind : Frame → ℕ
 kind (pair s t) = 1
 kind statuses = 2
@@ -34,38 +35,42 @@ kind (out p) = 5
 kind (home p) = 6
 kind count = 7
 
--- a text behind its length, and what follows it; none where the bytes do not reach so far
+-- A text preceded by its length, and the bytes after it.
 pub record Field : Type 0 where
   pub text : Text
   pub rest : Text
 
+-- The field of n bytes at the beginning of r; none if r is shorter.
 abbrev pub field : ℕ → Text → Option Field
 field n r = cond (leb n (length r)) (some (record { text = take n r; rest = drop n r })) none
 
+-- The field at the beginning of the bytes, its length in two bytes, high first; none if the bytes are too few.
 abbrev pub firstField : Text → Option Field
 firstField [] = none
 firstField (h ∷ []) = none
 firstField (h ∷ l ∷ r) = field (256 * h + l) r
 
--- the frame of one or two fields that fill it exactly
+-- The pair frame whose target field fills the remaining bytes exactly.
 abbrev pub endsWith : Text → Option Field → Option Frame
 endsWith s none = none
 endsWith s (some f) = cond (isNil (f .rest)) (some (pair s (f .text))) none
 
+-- The pair frame whose source is the given field and whose target field follows it.
 abbrev pub pairOf : Option Field → Option Frame
 pairOf none = none
 pairOf (some f) = endsWith (f .text) (firstField (f .rest))
 
--- a kind with nothing behind it
+-- The frame of a kind that has no bytes after the kind byte.
 abbrev pub alone : Frame → Text → Option Frame
 alone f r = cond (isNil r) (some f) none
 
--- the frame that bytes of a kind stand for; none where they are not well formed
+-- The frame of a kind and the bytes after the kind byte; none if they are not well formed.
 abbrev pub ofKind : ℕ → Text → Option Frame
 ofKind k r =
     cond (eqb k 1) (pairOf (firstField r)) (cond (eqb k 2) (alone statuses r) (cond (eqb k 3) (alone close-map r) (cond (eqb k 4) (alone close-relocates r)
     (cond (eqb k 5) (some (out r)) (cond (eqb k 6) (some (home r)) (cond (eqb k 7) (alone count r) none))))))
 
+-- The frame that the bytes encode; none if they are not well formed.
 unfoldable pub frameOf : Text → Option Frame
 frameOf [] = none
 frameOf (k ∷ r) = ofKind k r

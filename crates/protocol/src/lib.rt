@@ -1,1 +1,2 @@
-// What the program `frames` does with a line: definitions and theorems only (specs/, proofs/).
+// The frame protocol of the program `frames`: this crate has only definitions (specs/) and theorems
+// (proofs/).

@@ -1,4 +1,4 @@
--- What each way through the functions that build the list gives. Assumes nothing.
+-- Lemmas about the branches of the functions that build the list.
 use mathlib.Core.Path.{_≡_, refl, sym, ap, _∙_}
 use mathlib.Core.Bool.{Bool, true, false, _||_}
 use mathlib.Core.List.{List, [], _∷_, _++_}
@@ -17,7 +17,7 @@ use Rattle.listing.proofs.WriteWays.{source-key, target-key}
 use Rattle.maps.specs.Derive.{rebased, anyTarget}
 use Rattle.scratch.specs.Ends.{replaced}
 
--- `rebase_pair`: the target made is the part of the memory that it lies in
+-- `rebase_pair`: the target made is a part of the buffer.
 module _ (q : Text) (k : ℕ) (made : Text) (e : k ≡ length q) (f : take k made ≡ q) (l : length q ≤ 511) (s : Text) (h : length s ≤ 255) (at : ℕ) where
   pub part-room : (room : ℕ) → at + 766 ≤ room → at + (length s + length (take k made)) ≤ room
   part-room room g = omega (arith, ap length f)

@@ -1,4 +1,4 @@
--- What each way through the call gives. Assumes nothing.
+-- Lemmas about the branches of the call.
 use mathlib.Core.Path.{_≡_, refl, sym, _∙_}
 use mathlib.Core.Bool.{Bool, true, false, not, cond, _&&_}
 use mathlib.Core.List.{List, [], _∷_, _++_}
@@ -29,7 +29,7 @@ use Rattle.scratch.proofs.ScratchLaws.{holds-none, holds-more, holds-list}
 use Rattle.scratch.proofs.MapLaws.{identity-lent, held-all, weighed-map, fromEnds-map}
 use Rattle.rebasing.specs.Calls.{rebasedPairs, rebasing, RebasesTo, rebaseTargetCall}
 
--- `from_pair_identity`: the one pair in memory
+-- `from_pair_identity`: the single pair in a buffer.
 pub one-pair : (s t : Text) (time : LayerOffset) (out : Text) (slots : List ℕ) (bytes bytes′ : Text) (own own′ : List ℕ) → length own ≡ 4
     → bytes′ ≡ over 0 (s ++ t) bytes → own′ ≡ over (4 * 0) (fourOf 0 s t) own
     → weighed (pair s t ∷ []) (fromPairIdentity (pair s t)) time out slots
@@ -95,7 +95,7 @@ module _ (store : Text) (places : List ℕ) (f : MapFunction) (from to : Text) (
         unfolding rebasing
         rebase-made o = passed ∙ rw (identity-is, l, told-true i o)
 
--- a map that comes out is the rebased one
+-- A map that the call returns is the rebased one.
 pub rebases-to : RebasesTo
 unfolding rebasing rebaseTarget asItIs
 rebases-to m n from to time t out slots e = go (isPathIdentity m) (anyTarget from (m .pairs)) e

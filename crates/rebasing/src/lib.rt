@@ -1,4 +1,5 @@
-// Document 01's `rebase_target`: a map with the targets below one path put below another, behind the questions.
+// Re-anchors the targets of a map from one path to another, after validation. Ports
+// `MapFunction::rebase_target` of pcp/mapping.rs.
 ghost use mathlib.Core.Path.{_≡_};
 ghost use mathlib.Core.Bool.{true};
 ghost use mathlib.Core.List.{[], _∷_, _++_};
@@ -14,7 +15,7 @@ ghost use Rattle.scratch.specs.Scratch.{Holds};
 ghost use Rattle.scratch.specs.Ends.{replaced, fromEnds};
 ghost use Rattle.rebasing.specs.Calls.{rebasedPairs, rebaseTargetCall};
 
-// One pair more: the source as it is, the target put elsewhere.
+// Appends a pair with its target re-anchored and returns the offset after it.
 fn rebase_pair(
     s: &[u8],
     t: &[u8],
@@ -39,7 +40,7 @@ fn rebase_pair(
     scratch::put_pair(s, &made[..k], n, at, bytes, slots)
 }
 
-// Has one of the first n pairs a target below `from`?
+// Returns whether one of the first n pairs has a target at or below `from`.
 fn any_target(store: &[u8], places: &[usize], n: usize, from: &[u8]) -> bool
     ensures { λ r. ⌜ r ≡ anyTarget (now (from .entry)) (pairsIn (now (store .entry)) (now (places .entry)) n) ⌝ }
 {
@@ -53,7 +54,7 @@ fn any_target(store: &[u8], places: &[usize], n: usize, from: &[u8]) -> bool
     false
 }
 
-// The first n pairs with their targets put elsewhere; the place behind them.
+// Writes the first n pairs with their targets re-anchored and returns the offset after them.
 fn rebase_all(
     store: &[u8],
     places: &[usize],
@@ -80,7 +81,7 @@ fn rebase_all(
     at
 }
 
-// Rebases a map that passed the questions, with memory to build in.
+// Rebases a validated map in the given scratch buffers.
 fn rebase_in(
     store: &[u8],
     places: &[usize],
@@ -106,7 +107,7 @@ fn rebase_in(
     scratch::from_ends(bytes, own, n, mark, time, out, slots)
 }
 
-// The same for at most four pairs: a small piece of memory is quickly cleared.
+// Rebases a map of at most four pairs, in a small scratch buffer that is quickly cleared.
 fn rebase_few(
     store: &[u8],
     places: &[usize],
@@ -136,7 +137,7 @@ fn rebase_few(
     )
 }
 
-// The same for as many pairs as a list has.
+// Rebases a map of up to 64 pairs.
 fn rebase_many(
     store: &[u8],
     places: &[usize],
@@ -166,7 +167,7 @@ fn rebase_many(
     )
 }
 
-// The map of one pair beside the mark.
+// Builds the map of one pair and the mark.
 fn from_pair_identity(
     s: &[u8],
     t: &[u8],
@@ -184,7 +185,8 @@ fn from_pair_identity(
     map_function::from_parts(&bytes, &own, 1, true, time, out, slots)
 }
 
-// The map with every target below `from` put below `to`.
+// Returns the map with every target at or below `from` moved to `to`; the identity on paths becomes the pair
+// `from`→`to` beside the mark.
 pub fn rebase_target(
     store: &[u8],
     places: &[usize],

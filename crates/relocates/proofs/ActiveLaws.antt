@@ -1,4 +1,4 @@
--- The Active pairs, by their numbers, are those that the definition has. Assumes nothing.
+-- Lemmas about the Active pairs: the indices that the code selects are those of the pairs of `active`.
 use mathlib.Core.Path.{_≡_, refl, _∙_}
 use mathlib.Core.Bool.{Bool, true, false, cond}
 use mathlib.Core.List.{List, [], _∷_, _++_, map-append}
@@ -32,7 +32,7 @@ module _ (store : Text) (places : List ℕ) (n : ℕ) where
       go true ih = map-append (pairIn store places) before (i ∷ []) ∙ rw (ih, pairsIn-at store places n i (omega arith)) refl
       go false ih = ih
 
-  -- what `active_pairs` leaves is read as the Active pairs
+  -- The places that `active_pairs` writes are read as the Active pairs.
   pub active-read : (room : ℕ) (kept kept′ : List ℕ) (w : ℕ) → Holds places (activePicks (lentList store places n) room) kept kept′ w
       → pairsIn store kept′ w ≡ madeOf (lentList store places n) room (active list n)
   unfolding activePicks madeOf

@@ -1,4 +1,4 @@
--- What each way through `active_pairs` gives. Assumes nothing.
+-- Lemmas about the branches of `keep_active` and `active_pairs`.
 use mathlib.Core.Path.{_≡_, refl}
 use mathlib.Core.Logic.{_≢_}
 use mathlib.Core.Bool.{Bool, true, false, not, cond}

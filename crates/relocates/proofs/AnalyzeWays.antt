@@ -1,4 +1,4 @@
--- What each way through `analyze_relocate_occurrences` gives. Assumes nothing.
+-- Lemmas about the branches of `analyze_relocate_occurrences`.
 use mathlib.Core.Path.{_≡_, refl, sym, _∙_}
 use mathlib.Core.List.{[], _∷_}
 use Prim.Native.Nat.{ℕ, _≤_, _<_}

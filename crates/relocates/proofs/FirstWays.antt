@@ -1,4 +1,4 @@
--- What each way through the functions that write statuses gives. Assumes nothing.
+-- Lemmas about the branches of the functions that write statuses.
 use mathlib.Core.Path.{_≡_, refl, sym, ap, _∙_}
 use mathlib.Core.Logic.{_≢_}
 use mathlib.Core.Bool.{Bool, true, false, not, cond, _&&_}
@@ -42,7 +42,7 @@ module _ (store : Text) (places : List ℕ) (i : ℕ) (s t : Text) (hs : s ≡ k
 
 pub ruleset firsts = (first-structural, first-duplicate, first-active)
 
--- status bytes one behind the other
+-- Status bytes in sequence.
 pub bytes-length : (f : ℕ → RelocateOccurrence) (n : ℕ) → length (bytesOf f n) ≡ n
 bytes-length f zero = refl
 bytes-length f (suc n) = rw (length-append (bytesOf f n) (statusByte (f n) ∷ []), bytes-length f n) (omega arith)
@@ -72,7 +72,7 @@ by-tests l i a b ea eb = rw (ea, eb)
 
 -- `write_first`
 module _ (store : Text) (places : List ℕ) where
-  -- the list's length does not matter
+  -- Lengthening the list does not change the first status of an earlier pair.
   pub first-same : (n i : ℕ) → i < n → occurrenceOr Active (pairsIn store places (i + 1)) i ≡ occurrenceOr Active (pairsIn store places n) i
   first-same n i h =
       let a : Bool = structural (pairIn store places i) in
@@ -98,14 +98,14 @@ module _ (store : Text) (places : List ℕ) where
 
 pub ruleset writing-first = (first-begin, first-on, first-end)
 
--- what the first statuses say
+-- The buffer of first statuses has the property `HasFirst`.
 pub has-first : (store : Text) (places : List ℕ) (n : ℕ) (buf mem : Text) → mem ≡ written (firstStatuses (pairsIn store places n) n) buf → HasFirst (pairsIn store places n) mem
 unfolding firstStatuses HasFirst
 has-first store places n buf mem e =
     λ i h. rw e (bytes-at (occurrenceOr Active (pairsIn store places n)) buf n i (rw (pairsIn-length store places n) at h))
 
 module _ (l : List Pair) (i : ℕ) where
-  -- a first status that is not 0 is the status; where it is 0 conflicts decide
+  -- A first status other than 0 is the final status; if it is 0, the conflicts decide.
   kept : (a b : Bool) (m : ℕ) → structural (pairAt l i) ≡ a → duplicate l i ≡ b → m ≡ statusByte (occurrenceOr Active l i) → m ≢ 0 → m ≡ statusByte (occurrence l i)
   unfolding occurrenceOr occurrence
   kept true b m ea eb e d = rw ea (rw ea at e)
@@ -128,7 +128,7 @@ conflict-is : (l : List Pair) (i : ℕ) → conflict l i ≡ someBelow (length l
 unfolding conflict
 conflict-is l i = refl
 
--- pair j is a reason to drop pair i
+-- Pair j is a reason to drop pair i.
 abbrev pub reason : Text → List ℕ → List ℕ → ℕ → ℕ → Bool
 reason store places first i j = not (eqb i j) && eqb (getD first j 0) 0 && against (pairIn store places i) (pairIn store places j)
 
@@ -158,7 +158,7 @@ module _ (store : Text) (places : List ℕ) (n : ℕ) (out₀ : Text) where
         ∙ some-same (λ (j : ℕ). not (eqb i j) && canConflict l j && against (pairAt l i) (pairAt l j)) (reason store places first i) n
         (λ j k. rw (pairsIn-at store places n i h, pairsIn-at store places n j k, at-first j k, conflicting l j (structural (pairAt l j)) (duplicate l j) refl refl))
 
-    -- at pair i, with the statuses before it written
+    -- At pair i, with the statuses before it written.
     module _ (i : ℕ) (h : i < n) (out : Text) (e : out ≡ written (statuses (pairsIn store places n) i) out₀) (g : n ≤ length out₀) where
       pub settle-dropped : getD first i 0 ≢ 0 → set out i (getD first i 0) ≡ written (statuses (pairsIn store places n) (i + 1)) out₀
       settle-dropped d =

@@ -1,4 +1,4 @@
--- What each way through the tests of pairs gives. Assumes nothing.
+-- Lemmas about the branches of the tests on pairs.
 use mathlib.Core.Path.{_≡_, refl, sym, ap, _∙_}
 use mathlib.Core.Logic.{_≢_}
 use mathlib.Core.Bool.{Bool, true, false, not, _&&_}
@@ -61,7 +61,7 @@ module _ (store : Text) (places : List ℕ) (k : ℕ) (u s : Text) (h : s ≡ ke
 
 pub ruleset reserving = (reserves-other, reserves-same)
 
--- a test of each number below n
+-- Lemmas about a test of each index below n.
 pub some-same : (f g : ℕ → Bool) (n : ℕ) → ((k : ℕ) → k < n → f k ≡ g k) → someBelow n f ≡ someBelow n g
 unfolding someBelow
 some-same f g zero h = refl
@@ -81,7 +81,7 @@ pub some-on : (f : ℕ → Bool) (k : ℕ) → someBelow k f ≡ false → f k �
 unfolding someBelow
 some-on f k h e = rw (add-one k, h, e)
 
--- `is_duplicate`: the sources are those of the list in lent memory
+-- `is_duplicate`: the sources are those of the list in lent memory.
 module _ (store : Text) (places : List ℕ) (n i : ℕ) (h : i < n) where
   pub duplicate-in : duplicate (pairsIn store places n) i ≡ someBelow i (λ (k : ℕ). reserves (pairIn store places k) ((pairIn store places i) .source))
   unfolding duplicate
@@ -90,7 +90,7 @@ module _ (store : Text) (places : List ℕ) (n i : ℕ) (h : i < n) where
       (λ (k : ℕ). reserves (pairIn store places k) ((pairIn store places i) .source)) i
       (λ k l. rw (pairsIn-at store places n k (omega arith), pairsIn-at store places n i h))
 
--- no pair before k reserves the source of pair i
+-- No pair before k reserves the source of pair i.
 abbrev pub NoneBefore : Text → List ℕ → ℕ → Text → ℕ → Type 0
 NoneBefore store places i s k = someBelow k (λ (j : ℕ). reserves (pairIn store places j) s) ≡ false
 

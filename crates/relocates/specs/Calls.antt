@@ -1,4 +1,4 @@
--- Document 01's call on a relocate list's statuses: the questions in their order, then the meaning.
+-- The call that returns the statuses of a relocate list: validation (questions 1 to 5), then the result.
 use Prim.Native.Nat.{ℕ}
 use mathlib.Core.Bool.{cond}
 use mathlib.Core.List.{[], _∷_}
@@ -12,11 +12,12 @@ use Rattle.path.specs.Calls.{listed}
 use Rattle.asking.specs.Asking.{Lent, pairsOf, asked}
 use Rattle.relocates.specs.Status.{statuses}
 
--- "`analyze_relocate_occurrences` gives a status byte" for each pair. Question 5: "a byte per status".
+-- The reply of the call. Requirements: "`analyze_relocate_occurrences` gives a status byte" for each pair. Question 5: the lent buffer
+-- holds "a byte per status".
 unfoldable pub analyzeReply : Lent → ℕ → Reply
 unfolding asked
 analyzeReply l room = unless (asked (l ∷ []) [] []) RefusedReply (cond (leb (l .count) room) (Written (l .count)) (RefusedReply NoRoom))
 
--- the status bytes over the beginning of lent memory; a refused call writes nothing
+-- The lent buffer after the call: the status bytes over its beginning, or, if the call was refused, unchanged.
 abbrev pub analyzeMemory : Reply → Lent → Text → Text
 analyzeMemory r l out = listed r (statuses (pairsOf l) (l .count)) out

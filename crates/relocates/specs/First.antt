@@ -1,4 +1,4 @@
--- How the code comes to the status bytes: first the statuses without conflicts, in memory of its own.
+-- An intermediate result of the code: the statuses before the search for conflicts, in a scratch buffer.
 use mathlib.Core.Path.{_≡_}
 use Prim.Native.Nat.{ℕ, _<_}
 use mathlib.Core.List.{List}
@@ -7,12 +7,12 @@ use Rattle.pairs.specs.Pair.{Pair}
 use Rattle.relocates.specs.declared.RelocateOccurrence.the-variants.{Active}
 use Rattle.relocates.specs.Status.{statusByte, occurrenceOr, bytesOf}
 
--- the status bytes of the first n pairs before conflicts are sought
+-- The status bytes of the first n pairs before the search for conflicts: 0, 1 or 2.
 unfoldable pub firstStatuses : List Pair → ℕ → List ℕ
 unfolding occurrenceOr
 firstStatuses l n = bytesOf (occurrenceOr Active l) n
 
--- memory holds those of all pairs
+-- The buffer `first` holds these status bytes for every pair of the list.
 unfoldable pub HasFirst : List Pair → List ℕ → Type 0
 unfolding occurrenceOr
 HasFirst l first = (i : ℕ) → i < length l → getD first i 0 ≡ statusByte (occurrenceOr Active l i)

@@ -1,4 +1,4 @@
--- The Active pairs of a lent list, by their numbers in the list. That they are read as `active` says is proved in proofs/ActiveLaws.antt.
+-- The Active pairs of a lent list, as indices into the list. proofs/ActiveLaws.antt proves that they select the pairs of `active`.
 use Prim.Native.Nat.{ℕ}
 use mathlib.Core.Bool.{cond}
 use mathlib.Core.List.{List, []}
@@ -9,12 +9,12 @@ use Rattle.asking.specs.Asking.{Lent, pairsOf}
 use Rattle.asking.specs.Made.{canMake}
 use Rattle.relocates.specs.Status.{statusByte, occurrence}
 
--- those of the first n pairs whose status is Active
+-- The indices of the Active pairs among the first n.
 unfoldable pub activeAt : List Pair → ℕ → List ℕ
 unfolding passing occurrence
 activeAt l n = passing (λ (i : ℕ). eqb (statusByte (occurrence l i)) 0) n
 
--- those of a lent list; none where question 4 refuses it, or where the room is not enough for 64 pairs
+-- The indices of the Active pairs of a lent list; none if question 4 refuses the list or the capacity is less than 64 pairs.
 unfoldable pub activePicks : Lent → ℕ → List ℕ
 unfolding canMake activeAt
 activePicks l room = cond (canMake l room) (activeAt (pairsOf l) (l .count)) []

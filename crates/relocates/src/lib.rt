@@ -1,5 +1,7 @@
-// Relocates: which pairs of a list take part. Document 01's call puts the questions in their order; a refused
-// call writes nothing.
+// Relocates: analyses which (source, target) pairs of a relocate list take part in composition. Ports
+// `analyze_relocate_occurrences`, `relocate_pair_conflicts` and `relocate_invalid_reason` of
+// pcp/relocates.rs.
+// The call validates its input first (questions 1 to 5); a refused call writes nothing.
 pub mod status;
 
 ghost use mathlib.Core.Path.{_≡_};
@@ -7,7 +9,8 @@ ghost use lib.ListN.{length};
 ghost use Rattle.asking.specs.Asking.{lentList};
 ghost use Rattle.relocates.specs.Calls.{analyzeReply, analyzeMemory};
 
-// What becomes of a pair of a relocate list; specs/Status.antt gives document 01's status byte of each.
+// Whether a pair of a relocate list takes part, or why it is dropped; specs/Status.antt defines the status
+// byte of each case.
 pub enum RelocateOccurrence {
     Active,
     DroppedStructural,
@@ -15,7 +18,7 @@ pub enum RelocateOccurrence {
     DroppedConflict,
 }
 
-// The status byte of each pair.
+// Writes the status byte of each pair; the reply holds their number.
 pub fn analyze_relocate_occurrences(
     store: &[u8],
     places: &[usize],

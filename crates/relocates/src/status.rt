@@ -1,5 +1,4 @@
-// Which pairs of a relocate list take part. Every public function is defined for any bytes and any
-// numbers.
+// The analysis of a relocate list. Every public function is defined for all byte slices and all indices.
 ghost use mathlib.Core.Path.{_≡_};
 ghost use mathlib.Core.Bool.{not, cond, _&&_};
 ghost use Prim.Native.Nat.{_+_, _≤_, _<_};
@@ -17,7 +16,8 @@ ghost use Rattle.relocates.specs.Status.{structural, reserves, duplicate
 ghost use Rattle.relocates.specs.First.{firstStatuses, HasFirst};
 ghost use Rattle.relocates.specs.Picks.{activePicks};
 
-// Is the pair dropped whatever stands beside it? (Rust: relocate_invalid_reason)
+// Returns whether the pair is structurally invalid, and so dropped whatever the other pairs are. (Rust:
+// relocate_invalid_reason)
 pub fn is_structural(source: &[u8], target: &[u8]) -> bool
     ensures { λ r. ⌜ r ≡ structural (pair (now (source .entry)) (now (target .entry))) ⌝ }
 {
@@ -37,7 +37,7 @@ pub fn is_structural(source: &[u8], target: &[u8]) -> bool
     prefix::has_prefix(target, source)
 }
 
-// Is pair k one with this source, and not structural?
+// Returns whether pair k has this source and is not structural.
 fn does_reserve(store: &[u8], places: &[usize], k: usize, source: &[u8]) -> bool
     ensures { λ r. ⌜ r ≡ reserves (pairIn (now (store .entry)) (now (places .entry)) k) (now (source .entry)) ⌝ }
 {
@@ -49,7 +49,7 @@ fn does_reserve(store: &[u8], places: &[usize], k: usize, source: &[u8]) -> bool
     !is_structural(s, t)
 }
 
-// Has an earlier pair, which is not structural, the source of pair i? (Rust: duplicate_source_mask)
+// Returns whether an earlier non-structural pair has the source of pair i. (Rust: duplicate_source_mask)
 pub fn is_duplicate(store: &[u8], places: &[usize], i: usize) -> bool
     ensures { λ r. ⌜ r ≡ duplicate (pairsIn (now (store .entry)) (now (places .entry)) (i + 1)) i ⌝ }
 {
@@ -64,7 +64,7 @@ pub fn is_duplicate(store: &[u8], places: &[usize], i: usize) -> bool
     false
 }
 
-// Are the texts the same, and not empty?
+// Returns whether the texts are equal and not empty.
 fn is_alike(a: &[u8], b: &[u8]) -> bool
     ensures { λ r. ⌜ r ≡ alike (now (a .entry)) (now (b .entry)) ⌝ }
 {
@@ -74,7 +74,7 @@ fn is_alike(a: &[u8], b: &[u8]) -> bool
     text::is_equal(a, b)
 }
 
-// Is the target, not empty, the other source or below it?
+// Returns whether the target is not empty and is the other source or lies below it.
 fn is_target_below(target: &[u8], other: &[u8]) -> bool
     ensures { λ r. ⌜ r ≡ (not (isNil (now (target .entry))) && hasPrefix (now (target .entry)) (now (other .entry))) ⌝ }
 {
@@ -84,7 +84,7 @@ fn is_target_below(target: &[u8], other: &[u8]) -> bool
     prefix::has_prefix(target, other)
 }
 
-// Is the source below the other source?
+// Returns whether the source lies strictly below the other source.
 fn is_source_below(source: &[u8], other: &[u8]) -> bool
     ensures { λ r. ⌜ r ≡ (not (equal (now (source .entry)) (now (other .entry))) && hasPrefix (now (source .entry)) (now (other .entry))) ⌝ }
 {
@@ -94,7 +94,7 @@ fn is_source_below(source: &[u8], other: &[u8]) -> bool
     prefix::has_prefix(source, other)
 }
 
-// Does the pair of sa and ta have a reason to be dropped in that of sb and tb?
+// Returns whether the pair (sa, ta) conflicts with the pair (sb, tb).
 pub fn relocate_pair_conflicts(sa: &[u8], ta: &[u8], sb: &[u8], tb: &[u8]) -> bool
     ensures { λ r. ⌜ r ≡ pairConflicts (pair (now (sa .entry)) (now (ta .entry))) (pair (now (sb .entry)) (now (tb .entry))) ⌝ }
 {
@@ -107,8 +107,8 @@ pub fn relocate_pair_conflicts(sa: &[u8], ta: &[u8], sb: &[u8], tb: &[u8]) -> bo
     is_source_below(sa, sb)
 }
 
-// The same of pair i and pair j, or the same target. The first status of pair j is 0 where it is neither
-// structural nor a duplicate.
+// Returns whether pair i conflicts with another pair j, or has the same non-empty target. `first` is the
+// status of pair j before the search for conflicts: 0 if j is neither structural nor a duplicate.
 fn conflicts_with(store: &[u8], places: &[usize], i: usize, j: usize, first: u8) -> bool
     ensures { λ r. ⌜ r ≡ (not (eqb i j) && eqb first 0 && against (pairIn (now (store .entry)) (now (places .entry)) i) (pairIn (now (store .entry)) (now (places .entry)) j)) ⌝ }
 {
@@ -128,7 +128,7 @@ fn conflicts_with(store: &[u8], places: &[usize], i: usize, j: usize, first: u8)
     relocate_pair_conflicts(sa, ta, sb, tb)
 }
 
-// What becomes of pair i before conflicts are sought.
+// The status of pair i before the search for conflicts.
 fn first_occurrence(store: &[u8], places: &[usize], i: usize) -> crate::RelocateOccurrence
     ensures { λ r. ⌜ r ≡ occurrenceOr Active (pairsIn (now (store .entry)) (now (places .entry)) (i + 1)) i ⌝ }
 {
@@ -143,7 +143,7 @@ fn first_occurrence(store: &[u8], places: &[usize], i: usize) -> crate::Relocate
     crate::RelocateOccurrence::Active
 }
 
-// Document 01's byte of a status.
+// The status byte of an occurrence: 0 Active, 1 structural, 2 duplicate source, 3 conflict.
 pub fn status_byte(o: crate::RelocateOccurrence) -> u8
     ensures { λ r. ⌜ r ≡ statusByte o ⌝ }
 {
@@ -155,7 +155,7 @@ pub fn status_byte(o: crate::RelocateOccurrence) -> u8
     }
 }
 
-// Writes the statuses of the first n pairs before conflicts are sought.
+// Writes the status bytes of the first n pairs before the search for conflicts.
 fn write_first(store: &[u8], places: &[usize], n: usize, out: &mut [u8])
     requires { ⌜ n ≤ length (now out) ⌝ }
     ensures { λ _. ⌜ now (out .exit) ≡ written (firstStatuses (pairsIn (now (store .entry)) (now (places .entry)) n) n) (now (out .entry)) ⌝ }
@@ -167,8 +167,8 @@ fn write_first(store: &[u8], places: &[usize], n: usize, out: &mut [u8])
     }
 }
 
-// Writes the statuses of the first n pairs. The search over the other pairs stops at the first reason
-// found.
+// Writes the final status bytes of the first n pairs. The search over the other pairs stops at the first
+// conflict found.
 fn settle_pairs(store: &[u8], places: &[usize], n: usize, first: &[u8; 64], out: &mut [u8])
     requires { ⌜ (n ≤ 64) × (n ≤ length (now out)) ⌝ }
     requires { ⌜ HasFirst (pairsIn (now store) (now places) n) (now first) ⌝ }
@@ -196,7 +196,7 @@ fn settle_pairs(store: &[u8], places: &[usize], n: usize, first: &[u8; 64], out:
     }
 }
 
-// Writes the statuses of the first n pairs.
+// Writes the status bytes of the first n pairs. Requires n ≤ 64.
 pub(crate) fn write_statuses(store: &[u8], places: &[usize], n: usize, out: &mut [u8])
     requires { ⌜ (n ≤ 64) × (n ≤ length (now out)) ⌝ }
     ensures { λ _. ⌜ now (out .exit) ≡ written (statuses (pairsIn (now (store .entry)) (now (places .entry)) n) n) (now (out .entry)) ⌝ }
@@ -206,7 +206,8 @@ pub(crate) fn write_statuses(store: &[u8], places: &[usize], n: usize, out: &mut
     settle_pairs(store, places, n, &first, out);
 }
 
-// Keeps pair i behind the w pairs that are kept, where its status is Active.
+// Appends the places of pair i to the w pairs already kept if its status is Active; returns the new number of
+// kept pairs.
 fn keep_active(places: &[usize], i: usize, status: u8, kept: &mut [usize], w: usize) -> usize
     requires { ⌜ w < length (now kept) ⌝ }
     ensures { λ r. ⌜ r ≡ cond (eqb status 0) (w + 1) w ⌝ }
@@ -219,7 +220,8 @@ fn keep_active(places: &[usize], i: usize, status: u8, kept: &mut [usize], w: us
     w + 1
 }
 
-// The places of the Active ones of the first n pairs.
+// Writes the places of the Active pairs among the first n and returns their number; 0, with nothing written,
+// if question 4 refuses the list or `kept` cannot hold 64 pairs.
 pub fn active_pairs(store: &[u8], places: &[usize], n: usize, kept: &mut [usize]) -> usize
     ensures { λ r. ⌜ r ≡ length (activePicks (lentList (now (store .entry)) (now (places .entry)) n) (length (now (kept .entry)))) ⌝ }
     ensures { λ r. ⌜ now (kept .exit) ≡ picked (now (places .entry)) (activePicks (lentList (now (store .entry)) (now (places .entry)) n) (length (now (kept .entry)))) (now (kept .entry)) ⌝ }

@@ -1,17 +1,17 @@
-// Replays a recorded sample of the original Rust's answers: the files stdin and stdout beside src/.
-// `cargo run -p compare -- --record IN OUT`, in rust/, made both, from the original's own functions
-// and document 01's questions, without asking this library.
+// Replays a recorded sample of the original Rust's results: the files stdin and stdout beside src/.
+// `cargo run -p compare -- --record IN OUT`, in rust/, recorded both from the original's own functions and
+// the validation questions of docs/REQUIREMENTS.md, independently of this library.
 //
-// A line of the input is `PATH OLD NEW`, separated by one space each; a missing text is empty. Its
-// answers are one line of thirteen fields, separated by one space: a refusal as `!` and its number, a
-// test as `yes` or `no`, a path as its text, the empty path as `-`.
+// An input line is `PATH OLD NEW`, separated by single spaces; a missing text is empty. Its result is one
+// line of thirteen fields, separated by single spaces: a refusal as `!` and its number, a test as `yes` or
+// `no`, a path as its text, the empty path as `-`.
 ghost use Prim.Native.Nat.{_≤_};
 ghost use lib.ListN.{length};
 use libc::STDIN_FILENO;
 use libc::STDOUT_FILENO;
 
-// Puts the text into the line at a place, and answers the place behind it. A text that does not fit
-// is left out.
+// Writes the text at an offset of the line and returns the offset after it. A text that does not fit is left
+// out.
 fn put(text: &[u8], at: usize, line: &mut [u8]) -> usize {
     if line.len() < at {
         return at;
@@ -23,12 +23,14 @@ fn put(text: &[u8], at: usize, line: &mut [u8]) -> usize {
     at + text.len()
 }
 
+// Writes a number in decimal.
 fn put_number(n: usize, at: usize, line: &mut [u8]) -> usize {
     let mut digits = [0u8; 20];
     let k = io::decimal(n as u64, &mut digits);
     put(&digits[..k], at, line)
 }
 
+// The number of a refusal.
 fn number_of(x: path::Refusal) -> usize {
     match x {
         path::Refusal::TooLong => 1,
@@ -42,11 +44,13 @@ fn number_of(x: path::Refusal) -> usize {
     }
 }
 
+// Writes a refusal as `!` and its number.
 fn put_refusal(x: path::Refusal, at: usize, line: &mut [u8]) -> usize {
     let behind = put(b"!", at, line);
     put_number(number_of(x), behind, line)
 }
 
+// Writes the result of a validation.
 fn put_asked(q: path::Asked, at: usize, line: &mut [u8]) -> usize {
     match q {
         path::Asked::Passed => put(b"ok", at, line),
@@ -54,6 +58,7 @@ fn put_asked(q: path::Asked, at: usize, line: &mut [u8]) -> usize {
     }
 }
 
+// Writes the result of a test.
 fn put_test(t: path::Test, at: usize, line: &mut [u8]) -> usize {
     let start = put(b" ", at, line);
     match t {
@@ -67,6 +72,7 @@ fn put_test(t: path::Test, at: usize, line: &mut [u8]) -> usize {
     }
 }
 
+// Writes a count.
 fn put_count(n: path::Count, at: usize, line: &mut [u8]) -> usize {
     let start = put(b" ", at, line);
     match n {
@@ -75,7 +81,8 @@ fn put_count(n: path::Count, at: usize, line: &mut [u8]) -> usize {
     }
 }
 
-// The path that a call wrote to the beginning of the memory. No call answers more than the memory has.
+// Writes the path that a call wrote to the beginning of the buffer. No call returns a length beyond the
+// buffer.
 fn put_path(r: path::Reply, memory: &[u8], at: usize, line: &mut [u8]) -> usize {
     let start = put(b" ", at, line);
     match r {
@@ -92,7 +99,7 @@ fn put_path(r: path::Reply, memory: &[u8], at: usize, line: &mut [u8]) -> usize 
     }
 }
 
-// The property's name: what stands behind the dot that follows the prim path.
+// Writes the property's name: the text after the dot that follows the prim path.
 fn put_name(r: path::Reply, path: &[u8], at: usize, line: &mut [u8]) -> usize {
     let start = put(b" ", at, line);
     match r {
@@ -107,7 +114,7 @@ fn put_name(r: path::Reply, path: &[u8], at: usize, line: &mut [u8]) -> usize {
     }
 }
 
-// The lengths in decimal, with a comma between two.
+// Writes the lengths in decimal, separated by commas.
 fn put_lengths(lengths: &[usize], at: usize, line: &mut [u8]) -> usize {
     if lengths.len() == 0 {
         return at;
@@ -122,7 +129,7 @@ fn put_lengths(lengths: &[usize], at: usize, line: &mut [u8]) -> usize {
     behind
 }
 
-// The lengths of the path and its ancestors, at most 128.
+// Writes the lengths of the path and its ancestors, at most 128.
 fn put_ancestors(path: &[u8], at: usize, line: &mut [u8]) -> usize {
     let start = put(b" ", at, line);
     let mut lengths = [0usize; 128];
@@ -137,7 +144,7 @@ fn put_ancestors(path: &[u8], at: usize, line: &mut [u8]) -> usize {
     }
 }
 
-// The answers of the calls that write no path, from the line's beginning on.
+// Writes the results of the calls that write no path, from the beginning of the line.
 fn put_tests(path: &[u8], old: &[u8], line: &mut [u8]) -> usize {
     let a = put_asked(path::new(path), 0, line);
     let b = put_test(path::is_end(path), a, line);
@@ -147,25 +154,28 @@ fn put_tests(path: &[u8], old: &[u8], line: &mut [u8]) -> usize {
     put_test(path::has_prefix(path, old), e, line)
 }
 
+// Writes the path with its prefix replaced.
 fn put_replaced(path: &[u8], old: &[u8], new: &[u8], at: usize, line: &mut [u8]) -> usize {
     let mut memory = [0u8; 255];
     let r = deriving::replace_prefix(path, old, new, &mut memory);
     put_path(r, &memory, at, line)
 }
 
+// Writes the parent.
 fn put_parent(path: &[u8], at: usize, line: &mut [u8]) -> usize {
     let mut memory = [0u8; 255];
     let r = deriving::parent(path, &mut memory);
     put_path(r, &memory, at, line)
 }
 
+// Writes the prim path.
 fn put_prim_path(path: &[u8], at: usize, line: &mut [u8]) -> usize {
     let mut memory = [0u8; 255];
     let r = deriving::prim_path(path, &mut memory);
     put_path(r, &memory, at, line)
 }
 
-// The prim path of a property, and its name.
+// Writes the prim path of a property, and its name.
 fn put_split(path: &[u8], at: usize, line: &mut [u8]) -> usize {
     let mut memory = [0u8; 255];
     let r = deriving::split_property(path, &mut memory);
@@ -173,13 +183,14 @@ fn put_split(path: &[u8], at: usize, line: &mut [u8]) -> usize {
     put_name(r, path, behind, line)
 }
 
+// Writes the path without its selections.
 fn put_stripped(path: &[u8], at: usize, line: &mut [u8]) -> usize {
     let mut memory = [0u8; 255];
     let r = deriving::strip_variant_selections(path, &mut memory);
     put_path(r, &memory, at, line)
 }
 
-// The whole line of answers, from the line's beginning on.
+// Writes the whole result line, from the beginning of the line.
 fn put_answers(path: &[u8], old: &[u8], new: &[u8], line: &mut [u8]) -> usize {
     let a = put_tests(path, old, line);
     let b = put_replaced(path, old, new, a, line);
@@ -191,7 +202,7 @@ fn put_answers(path: &[u8], old: &[u8], new: &[u8], line: &mut [u8]) -> usize {
     put(b"\n", g, line)
 }
 
-// The place of the first byte b, or the text's length where there is none.
+// The index of the first byte b, or the text's length if there is none.
 fn place_of(b: u8, text: &[u8]) -> usize
     ensures { λ r. ⌜ r ≤ length (now (text .entry)) ⌝ }
 {
@@ -205,7 +216,7 @@ fn place_of(b: u8, text: &[u8]) -> usize
     i
 }
 
-// The place behind place n, or the text's length where n is beyond its last byte.
+// The index after n, or the text's length if n is beyond the last byte.
 fn place_behind(n: usize, text: &[u8]) -> usize
     ensures { λ r. ⌜ r ≤ length (now (text .entry)) ⌝ }
 {
@@ -215,8 +226,8 @@ fn place_behind(n: usize, text: &[u8]) -> usize
     text.len()
 }
 
-// Answers a line of the input, and says whether the answers were written. They fit: six texts of at
-// most 255 bytes, at most 128 lengths, and a few short ones.
+// Processes an input line and returns whether the results were written. They fit: six texts of at most 255
+// bytes, at most 128 lengths, and a few short fields.
 fn answer(asked: &[u8]) -> bool {
     let a = place_of(b' ', asked);
     let from = place_behind(a, asked);
@@ -231,8 +242,8 @@ fn answer(asked: &[u8]) -> bool {
     io::write_all(STDOUT_FILENO, &line[0..n])
 }
 
-// Answers the first line of the input, which may lack its newline, and says how many bytes it took:
-// none where the answers were not written.
+// Processes the first input line, which may lack its newline, and returns the number of bytes consumed: 0 if
+// the results were not written.
 fn answer_first(input: &[u8]) -> usize
     ensures { λ r. ⌜ r ≤ length (now (input .entry)) ⌝ }
 {
@@ -243,6 +254,7 @@ fn answer_first(input: &[u8]) -> usize
     place_behind(n, input)
 }
 
+// Processes all input lines.
 fn answer_all(input: &[u8]) {
     let mut at = 0;
     while at < input.len() {

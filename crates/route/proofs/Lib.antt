@@ -1,4 +1,4 @@
--- The laws of this crate; the proof of each function stands in a folder of its name.
+-- The lemmas and theorems of this crate.
 pub mod RelocateLaws
 pub mod Theorem
 pub mod Sharp

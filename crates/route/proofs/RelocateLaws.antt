@@ -1,4 +1,4 @@
--- The map of a relocate list: its ends are ends that were given, and no source of it is empty. Assumes nothing.
+-- Lemmas about the map of a relocate list: its ends are ends of the list, and none of its sources is empty.
 use mathlib.Core.Path.{_≡_, refl, sym, _∙_}
 use mathlib.Core.Bool.{Bool, true, false, not, cond, _&&_, _||_, false≢true}
 use mathlib.Core.List.{List, [], _∷_, _++_}
@@ -27,7 +27,7 @@ module _ (ok : Pair → Bool) where
   all-more [] x e h = rw h
   all-more (y ∷ l) x e h = rw (and-l (ok y) (all ok l) e) (all-more l x (and-r (ok y) (all ok l) e) h)
 
-  -- a test that each Active pair passes, and `/`→`/`, every pair of the map passes
+  -- A test that each Active pair and `/`→`/` pass is passed by every pair of the map.
   active-keeps : (l : List Pair) → ((n : ℕ) → eqb (statusByte (occurrence l n)) 0 ≡ true → ok (pairAt l n) ≡ true)
       → (n : ℕ) → all ok (active l n) ≡ true
   unfolding active all
@@ -45,7 +45,7 @@ module _ (ok : Pair → Bool) where
   relocate-keeps l each h =
       fromParts-keeps ok (active l (length l) ++ roots ∷ []) false (all-more (active l (length l)) roots (active-keeps l each (length l)) h)
 
--- a test of texts that the empty text, `/` and every end of the list pass, every end of the map passes
+-- A test of texts that the empty text, `/` and every end of the list pass is passed by every end of the map.
 module _ (passes : Text → Bool) (none-passes : passes [] ≡ true) where
   abbrev both : Pair → Bool
   both x = passes (x .source) && passes (x .target)
@@ -67,7 +67,7 @@ pub relocate-short : (l : List Pair) → allShort l ≡ true → allShort ((relo
 unfolding allShort fits
 relocate-short l = relocate-every fits refl l refl
 
--- an Active pair has an empty target beside an empty source: otherwise it is structural
+-- An Active pair with an empty source has an empty target: otherwise it would be structural.
 abbrev fullOrGone : Pair → Bool
 fullOrGone x = isFull x || isNil (x .target)
 
@@ -88,7 +88,7 @@ active-loose l e n h = go (structural (pairAt l n)) refl
     go true k = absurd (false≢true (rw k at h))
     go false k = loose (pairAt l n) (ends-target l e n) k
 
--- under the mark a pair of two empty ends is dropped
+-- With the mark, a pair of two empty ends is dropped.
 abbrev isThere : Pair → Bool
 isThere x = not (isNil (x .source) && isNil (x .target))
 
@@ -153,12 +153,12 @@ unfolding noRoots
 not-roots [] = refl
 not-roots (x ∷ l) = rw (not-roots l) refl
 
--- so the map is that of the Active pairs and the mark
+-- The map is that of the Active pairs, with the mark.
 pub relocate-parts : (l : List Pair) → relocateMap l ≡ fromParts (active l (length l)) true
 unfolding relocateMap new fromParts
 relocate-parts l = rw (marked-by-roots (active l (length l)), not-roots (active l (length l))) refl
 
--- it has no more pairs than the list
+-- It has at most as many pairs as the list.
 pub active-few : (l : List Pair) (n : ℕ) → length (active l n) ≤ n
 unfolding active
 active-few l zero = omega arith
@@ -187,7 +187,7 @@ both-full (x ∷ l) h k =
     go true true h k = k
     go true false h k = h
 
--- no source of a relocate list's map is empty
+-- No source of a relocate list's map is empty.
 pub relocate-full : (l : List Pair) → allEnds l ≡ true → noEmptySource ((relocateMap l) .pairs) ≡ true
 relocate-full l e =
     full-all ((relocateMap l) .pairs)

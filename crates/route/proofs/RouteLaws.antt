@@ -1,4 +1,4 @@
--- A route with one leg more. Assumes nothing.
+-- Lemmas about a route with one more leg.
 use mathlib.Core.Path.{_≡_}
 use mathlib.Core.Bool.{true}
 use mathlib.Core.List.{List, [], _∷_, _++_}

@@ -1,4 +1,5 @@
--- The second half of demand 3 needs its hypothesis: it does not hold of every route of one leg. Assumes nothing.
+-- A counterexample: the second half of the round-trip requirement (demand 3) needs its hypothesis; without it, it fails for a route of one
+-- leg.
 use mathlib.Core.Path.{_≡_, refl}
 use mathlib.Core.Logic.{_↔_}
 use mathlib.Core.Bool.{true}
@@ -15,7 +16,7 @@ use Rattle.maps.proofs.Sharp.{full-needed}
 use Rattle.route.specs.Leg.{Leg, by-map, legMap, legEnds, outward}
 use Rattle.route.specs.Route.{routeEnds, met}
 
--- the second half without "whose map has no empty source"
+-- The second half without the condition that the leg's map has no empty source.
 abbrev Unguarded : Type 0
 Unguarded =
     (legs : List Leg) (p : Text) → routeEnds legs ≡ true → PlainPath p

@@ -1,4 +1,4 @@
--- Demand 3, over a whole list of legs. Assumes nothing.
+-- The proof of the round-trip theorem (demand 3), over a whole list of legs.
 use mathlib.Core.Path.{_≡_, refl, sym, _∙_}
 use mathlib.Core.Logic.{_↔_}
 use mathlib.Core.Bool.{true}
@@ -20,13 +20,13 @@ use Rattle.route.specs.Leg.{Leg, by-map, by-relocates, legMap, legEnds, 
 use Rattle.route.specs.Route.{routeEnds, along, met, Demand3, RelocatesExact, wayOver}
 use Rattle.route.proofs.RelocateLaws.{relocate-ends, relocate-full}
 
--- a leg's map has such ends as the leg
+-- The ends of a leg's map are prim paths, `/` or empty if those of the leg are.
 pub map-ends : (x : Leg) → legEnds x ≡ true → allEnds ((legMap x) .pairs) ≡ true
 unfolding legEnds legMap
 map-ends (by-map m) e = e
 map-ends (by-relocates l) e = relocate-ends l e
 
--- one leg
+-- One leg.
 module _ (x : Leg) (e : legEnds x ≡ true) (p q : Text) (c : PlainPath p) where
   step-next : outward x p ≡ path q → PlainPath q
   unfolding outward
@@ -40,7 +40,7 @@ module _ (x : Leg) (e : legEnds x ≡ true) (p q : Text) (c : PlainPath p) where
   unfolding outward
   step-exact = leg-exact (legMap x) (map-ends x e) p q c
 
--- how a way goes on
+-- The steps of a route.
 module _ (go : Leg → Text → Outcome) (p : Text) where
   along-nil : along go [] p ≡ path p
   unfolding along
@@ -74,7 +74,7 @@ module _ (go : Leg → Text → Outcome) (x : Leg) (xs : List Leg) (p : Text) wh
 no-leg : {x : Leg} → none ≡ some x → ⊥
 no-leg {x} e = let z : _≡_ {A = ℕ} 0 1 = cc in omega arith
 
--- one leg more at the end of a way
+-- One more leg at the end of a route.
 one-more : (go : Leg → Text → Outcome) (xs : List Leg) (x : Leg) (q p1 p0 : Text) → along go xs q ≡ path p1 → go x p1 ≡ path p0
     → (along go (xs ++ x ∷ []) q ≡ path p0) × (met go (xs ++ x ∷ []) q ≡ met go xs q ++ p0 ∷ [])
 one-more go [] x q p1 p0 e h =
@@ -91,7 +91,7 @@ one-more go (y ∷ ys) x q p1 p0 e h = by (go y q) refl (λ r. one-more go ys x 
         (along-path go y (ys ++ x ∷ []) q r k ∙ z .0, rw (met-path go y (ys ++ x ∷ []) q r k, met-path go y ys q r k, z .1))
     by (refused n) k ih = absurd (no-path (sym (along-refused go y ys q n k) ∙ e))
 
--- the ends of a route's first leg, and of the others
+-- The ends of a route's first leg, and of the other legs.
 first-ends : (x : Leg) (xs : List Leg) → routeEnds (x ∷ xs) ≡ true → legEnds x ≡ true
 unfolding routeEnds
 first-ends x xs e = and-l (legEnds x) (routeEnds xs) e
@@ -100,7 +100,7 @@ rest-ends : (x : Leg) (xs : List Leg) → routeEnds (x ∷ xs) ≡ true → rout
 unfolding routeEnds
 rest-ends x xs e = and-r (legEnds x) (routeEnds xs) e
 
--- the whole way home
+-- The whole route home.
 way-home : (xs : List Leg) (p q : Text) → routeEnds xs ≡ true → PlainPath p → along outward xs p ≡ path q
     → (along homeward (reverse xs) q ≡ path p) × (met homeward (reverse xs) q ≡ reverse (met outward xs p))
 way-home [] p q ends c e = let z : p ≡ q = cc (along-nil outward p) in rw z (along-nil homeward q, simp met-nil)
@@ -116,7 +116,7 @@ way-home (x ∷ xs) p q ends c e = by (outward x p) refl (λ y. way-home xs y q 
         rw (reverse-cons x xs, met-path outward x xs p y k, reverse-cons p (met outward xs y), ← (z .1)) s
     by (refused n) k ih = absurd (no-path (sym (along-refused outward x xs p n k) ∙ e))
 
--- what the whole way out gives
+-- The result of the whole route out has the properties of its starting path.
 pub way-next : (xs : List Leg) (p q : Text) → routeEnds xs ≡ true → PlainPath p → along outward xs p ≡ path q → PlainPath q
 way-next [] p q ends c e = let z : p ≡ q = cc (along-nil outward p) in rw z at c
 way-next (x ∷ xs) p q ends c e = by (outward x p) refl (λ y. way-next xs y q (rest-ends x xs ends))
@@ -125,7 +125,7 @@ way-next (x ∷ xs) p q ends c e = by (outward x p) refl (λ y. way-next xs y q 
     by (path y) k ih = ih y (step-next x (first-ends x xs ends) p y c k) (sym (along-path outward x xs p y k) ∙ e)
     by (refused n) k ih = absurd (no-path (sym (along-refused outward x xs p n k) ∙ e))
 
--- what reaches a leg, whether or not the way is stopped further on
+-- The path that reaches a leg has these properties, whether or not a later leg refuses.
 reached : (xs : List Leg) (p : Text) → routeEnds xs ≡ true → PlainPath p → (k : ℕ) (x : Leg) (r : Text) → getElem? xs k ≡ some x
     → getElem? (met outward xs p) k ≡ some r → (legEnds x ≡ true) × PlainPath r
 reached [] p ends c k x r h g = absurd (no-leg h)
@@ -148,7 +148,7 @@ demand-3 legs p ends c = record {
   exact = λ k x r h g full q. let d = reached legs p ends c k x r h g in step-exact x (d .0) r q (d .1) full;
 }
 
--- of a relocate list the second half holds with no hypothesis: its map has no empty source
+-- For a relocate list the second half holds without a hypothesis: its map has no empty source.
 pub relocates-exact : RelocatesExact
 unfolding legEnds legMap
 relocates-exact legs p ends c k l r h g q =

@@ -1,4 +1,4 @@
--- One leg of a route. "A leg" is document 01's word: "A leg is a map, or a relocate list".
+-- One leg of a route. Requirements: "A leg is a map, or a relocate list".
 use mathlib.Core.Bool.{Bool}
 use mathlib.Core.List.{List}
 use Rattle.text.specs.Text.{Text}
@@ -8,28 +8,29 @@ use Rattle.maps.specs.Map.{Map}
 use Rattle.maps.specs.Leg.{translate, home}
 use Rattle.relocates.specs.Status.{relocateMap}
 
+-- A leg: a map or a relocate list.
 pub data Leg : Type 0 where
   by-map : Map → Leg
   by-relocates : List Pair → Leg
 
--- "A leg's map is that map, or what that `new` gives."
+-- The map of a leg. Requirements: "A leg's map is that map, or what that `new` gives."
 unfoldable pub legMap : Leg → Map
 unfolding relocateMap
 legMap (by-map m) = m
 legMap (by-relocates l) = relocateMap l
 
--- each end of each pair of the leg is a prim path, `/` or empty
+-- Whether each end of each pair of the leg is a prim path, `/` or empty.
 unfoldable pub legEnds : Leg → Bool
 unfolding allEnds
 legEnds (by-map m) = allEnds (m .pairs)
 legEnds (by-relocates l) = allEnds l
 
--- "Out: `translate_to_target`"
+-- The leg in the direction out. Requirements: "Out: `translate_to_target`".
 unfoldable pub outward : Leg → Text → Outcome
 unfolding legMap translate
 outward x p = translate (legMap x) p
 
--- "Home: `map_target_to_source`"
+-- The leg in the direction home. Requirements: "Home: `map_target_to_source`".
 unfoldable pub homeward : Leg → Text → Outcome
 unfolding legMap home
 homeward x q = home (legMap x) q

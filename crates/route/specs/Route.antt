@@ -1,4 +1,5 @@
--- A route of legs, out and home, and what is claimed of it (demand 3): "one claim about the whole list of legs, not one for each leg".
+-- A route of legs, out and home, and the round-trip theorem about it (demand 3): "one claim about the whole list of legs, not one for each
+-- leg".
 use mathlib.Core.Path.{_≡_}
 use mathlib.Core.Logic.{_↔_}
 use mathlib.Core.Bool.{Bool, true, false, _&&_}
@@ -13,52 +14,56 @@ use Rattle.maps.specs.Leg.{PlainPath, ThereAndBack}
 use Rattle.relocates.specs.Status.{relocateMap}
 use Rattle.route.specs.Leg.{Leg, by-relocates, legMap, legEnds, outward, homeward}
 
--- the ends of all pairs of all legs are ends
+-- Whether every end of every pair of every leg is a prim path, `/` or empty.
 unfoldable pub routeEnds : List Leg → Bool
 unfolding legEnds
 routeEnds [] = true
 routeEnds (x ∷ xs) = legEnds x && routeEnds xs
 
--- "leg after leg, the first given the starting path, each later one what the leg before gave"; a leg that gives no path ends the way
+-- Passes the path that a leg yields to the remainder of the route; a refusal ends the route.
 abbrev pub onward : (Text → Outcome) → Outcome → Outcome
 onward rest (path q) = rest q
 onward rest (refused x) = refused x
 
+-- A path mapped over legs one after another: "leg after leg, the first given the starting path, each later one what the leg before gave".
 unfoldable pub along : {A : Type 0} → (A → Text → Outcome) → List A → Text → Outcome
 along go [] p = path p
 along go (x ∷ xs) p = onward (along go xs) (go x p)
 
--- the paths met on that way: the one that reaches each leg, and what the last leg gives
+-- Continues the trace with the path that a leg yields; a refusal ends the trace.
 abbrev pub metFrom : (Text → List Text) → Outcome → List Text
 metFrom rest (path q) = rest q
 metFrom rest (refused x) = []
 
+-- The trace of a route: the path that reaches each leg, and the result of the last leg.
 unfoldable pub met : (Leg → Text → Outcome) → List Leg → Text → List Text
 met go [] p = p ∷ []
 met go (x ∷ xs) p = p ∷ metFrom (met go xs) (go x p)
 
--- a route, out or home: "Out: `translate_to_target` leg after leg .. Home: `map_target_to_source` in reverse."
+-- A route in one direction, home if the flag is set. Requirements: "Out: `translate_to_target` leg after leg .. Home:
+-- `map_target_to_source` in reverse."
 unfoldable pub wayOver : Bool → List Leg → Text → Outcome
 unfolding along
 wayOver false legs p = along outward legs p
 wayOver true legs p = along homeward (reverse legs) p
 
+-- The round-trip property of a list of legs and a path.
 pub record Returns (legs : List Leg) (p : Text) : Type 0 where
-  -- Whenever every leg gives a path, the legs taken in reverse give back at each leg exactly the path that had reached it, and at the end
-  -- the very path we began with.
+  -- If every leg yields a path, the legs in reverse order yield at each leg exactly the path that had reached it, and at the end the
+  -- starting path.
   pub home-again : (q : Text) → wayOver false legs p ≡ path q
       → (wayOver true legs q ≡ path p) × (met homeward (reverse legs) q ≡ reverse (met outward legs p))
-  -- And whether or not the way out is stopped further on: each leg reached whose map has no empty source gives a path exactly when plain
-  -- mapping over that map takes what reached it to a legal path of at most 255 bytes which goes plainly back to what reached it; the leg
-  -- then gives that path.
+  -- Whether or not a later leg refuses: each leg reached whose map has no empty source yields a path exactly if plain mapping through that
+  -- map takes the path that reached it to a legal path of at most 255 bytes that maps plainly back to it; the leg then yields that path.
   pub exact : (k : ℕ) (x : Leg) (r : Text) → getElem? legs k ≡ some x → getElem? (met outward legs p) k ≡ some r
       → noEmptySource ((legMap x) .pairs) ≡ true → (q : Text) → (outward x r ≡ path q) ↔ ThereAndBack (legMap x) r q
 
--- for every list of legs, maps and relocate lists in any order, and every legal path free of variant selections
+-- The round-trip theorem: the property holds for every list of legs, maps and relocate lists in any order, and every legal path without
+-- variant selections.
 abbrev pub Demand3 : Type 0
 Demand3 = (legs : List Leg) (p : Text) → routeEnds legs ≡ true → PlainPath p → Returns legs p
 
--- A relocate list's map never has an empty source, so there the second half holds without that condition.
+-- A relocate list's map never has an empty source, so for such a leg the second half holds without that condition.
 abbrev pub RelocatesExact : Type 0
 RelocatesExact =
     (legs : List Leg) (p : Text) → routeEnds legs ≡ true → PlainPath p

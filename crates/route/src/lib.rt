@@ -1,1 +1,2 @@
-// Routes: a path out over a list of legs and home again, definitions and the theorem only (specs/, proofs/).
+// Routes: a path mapped out over a list of legs and home again. This crate has only definitions (specs/) and
+// the round-trip theorem (proofs/).

@@ -1,4 +1,4 @@
--- What each way through `way`, `enter`, `travel` and the calls gives. Assumes nothing.
+-- Lemmas about the branches of `way`, `enter`, `travel` and the calls.
 use mathlib.Core.Path.{_≡_, refl, sym, ap, _∙_}
 use mathlib.Core.Logic.{_≢_}
 use mathlib.Core.Bool.{Bool, true, false, not, cond}
@@ -134,7 +134,8 @@ module _ (list : Asked) (legs : List ℕ) (n : ℕ) where
 
 pub ruleset needing = (needs-refused, needs-relocates)
 
--- `route_call`: with the legs' own answer, and maps that stand for the legs where they passed, the rest is the call
+-- `route_call`: with the result of the route's validation, and, if it passed, with prepared maps that are those of the legs, the remainder
+-- is the call.
 module _ (home : Bool) (r : LentRoute) (p : Text) (room : ℕ) (list : Asked) (e : list ≡ routeAsked r []) where
   asked-same : earlierOf list (newCall p) ≡ routeAsked r (p ∷ [])
   asked-same = ap (λ (a : Asked). earlierOf a (newCall p)) e ∙ route-one-by-one r p
@@ -155,12 +156,12 @@ module _ (home : Bool) (r : LentRoute) (p : Text) (room : ℕ) (list : Asked) (e
         answered-same (routeAsked r (p ∷ [])) room (wayOver home (legsIn r (r .count)) p) (quickOver home s (s .count) (entering home (s .count) p)) way-same
         ∙ ap (λ (a : Asked). answered a room (quickOver home s (s .count) (entering home (s .count) p))) (sym asked-same)
 
-  -- a route without relocate lists goes as it is ..
+  -- A route without relocate lists is used unchanged.
   pub call-as-it-is : (b : Bool) → b ≡ needsMaps list (r .legs) (r .count) → not b ≡ true → routeCall home r p room ≡ afterLegs list home r p room
   unfolding needsMaps
   call-as-it-is b h k = call-is-after r refl (λ w. laid-itself r (r .count) (sym (rw w at h) ∙ not-true b k))
 
-  -- .. and another with its maps laid
+  -- A route with relocate lists is used with its prepared maps.
   pub call-laid : (s : LentRoute) → s .count ≡ r .count → length (s .places) ≡ 4096 → length (s .legs) ≡ 48 → LaidIfPassed r s (r .count) → routeCall home r p room ≡ afterLegs list home s p room
   unfolding LaidIfPassed
   call-laid s k l m laid = call-is-after s k (λ w. laid (sym e ∙ w) l m)

@@ -1,4 +1,4 @@
--- Demand 3 of the calls. Assumes nothing.
+-- The proof of the round-trip requirement (demand 3) for the calls.
 use mathlib.Core.Path.{_≡_, refl, sym, ap, _∙_}
 use mathlib.Core.Logic.{_↔_}
 use mathlib.Core.Bool.{Bool, true, false, cond}
@@ -33,7 +33,7 @@ use Rattle.routing.specs.Claims.{firstLegs, CallsReturnAlways}
 use Rattle.routing.proofs.OverWays.{along-snoc}
 use Rattle.path.proofs.CallWays.{new-passed}
 
--- a call that gives a path: the questions passed, and the way gives it
+-- If a call yields a path, validation passed and the route yields that path.
 answered-path : (a : Asked) (room : ℕ) (o : Outcome) (q : Text) → answered a room o ≡ path q → (a ≡ Passed) × (255 ≤ room) × (o ≡ path q)
 unfolding answered lent
 answered-path Passed room o q e = go (leb 255 room) refl e
@@ -47,7 +47,7 @@ path-answered : (a : Asked) (room : ℕ) (o : Outcome) → a ≡ Passed → 255 
 unfolding answered lent
 path-answered a room o e h = rw (e, le-leb 255 room h)
 
--- an answer of n bytes is a path of n bytes, which stands in memory
+-- A reply of n bytes is a path of n bytes at the beginning of the buffer.
 written-path : (o : Outcome) (n : ℕ) (mem : Text) → reply o ≡ Written n → o ≡ path (take n (memory o mem))
 unfolding reply memory
 written-path (path q) n mem e = let z : length q ≡ n = cc in ap path (rw (← z) (sym (read-back q mem)))
@@ -70,7 +70,7 @@ module _ (r : LentRoute) (p : Text) (plain : lacks 123 p ≡ true) where
     legs-passed : (routeAsked r [] ≡ Passed) × (newCall p ≡ Passed)
     legs-passed = none-earlier (routeAsked r []) (newCall p) (route-one-by-one r p ∙ h)
 
-  -- the call home from what the call out gave
+  -- The call home on the result of the call out.
   returns : (q : Text) (room behind : ℕ) → routeCall false r p room ≡ path q → 255 ≤ behind → routeCall true r q behind ≡ path p
   unfolding routeCall wayOver
   returns q room behind e l =
@@ -80,7 +80,7 @@ module _ (r : LentRoute) (p : Text) (plain : lacks 123 p ≡ true) where
       (sym (route-one-by-one r q) ∙ rw (legs-passed (w .0) .0, new-passed q (c .is-short) (c .is-legal)) passes) l
       ∙ (demand-3 (legsIn r (r .count)) p (route-ends r (p ∷ []) (w .0)) (plain-path (w .0))) .home-again q (w .2) .0
 
--- the first legs of a route are its legs
+-- The first legs of a route are its legs.
 first-legs : (r : LentRoute) (k n : ℕ) → legsIn (firstLegs r k) n ≡ legsIn r n
 unfolding legsIn legAt listAt
 first-legs r k zero = refl

@@ -1,4 +1,4 @@
--- What each way over the legs gives. Assumes nothing.
+-- Lemmas about the branches of the functions that map a path over legs.
 use mathlib.Core.Path.{_≡_, refl, sym, ap, _∙_}
 use mathlib.Core.Bool.{Bool, true, false}
 use mathlib.Core.List.{List, [], _∷_, _++_, reverse, reverse-append}
@@ -22,7 +22,7 @@ use Rattle.legs.specs.Lent.{LentRoute, lentRoute, kindAt, firstAt, sizeAt, list
 use Rattle.laying.specs.Laid.{mapAt}
 use Rattle.routing.specs.Quick.{quickLeg, mapsIn, quickOver, Holds}
 
--- a reply is no refusal where it is an answer
+-- An accepted reply is not a refusal.
 written-refused : (n : ℕ) (x : Refusal) → Written n ≡ Refused x → ⊥
 written-refused n x e = let z : _≡_ {A = ℕ} 0 1 = cc in omega arith
 
@@ -37,7 +37,7 @@ unfolding Holds reply
 over-refused (path q) r mem e x h = absurd (written-refused (length q) x (sym e ∙ h))
 over-refused (refused y) r mem e x h = e
 
--- what was made is the path, and it goes over the path before it
+-- The text made is the path, and it is written over the path before it.
 module _ (buf made : Text) (n : ℕ) where
   made-inside : (o : Outcome) → Written n ≡ reply o → made ≡ memory o buf → n ≤ length made
   unfolding reply memory
@@ -59,7 +59,7 @@ module _ (home : Bool) (m : Map) (p buf made : Text) (r : Reply) (w : (r ≡ rep
   pub over-written : (here here′ : Text) → length here ≡ 255 → here′ ≡ placed 0 (take n made) here → Holds (quickLeg home m p) (Written n) here′
   over-written = made-holds buf made n (quickLeg home m p) (sym k ∙ w .0) (w .1) (short-leg home m p)
 
--- what an answer in memory tells
+-- The properties that follow from an outcome held in a buffer.
 module _ (o : Outcome) (r : Reply) (mem : Text) (h : Holds o r mem) where
   pub holds-path : (n : ℕ) → r ≡ Written n → o ≡ path (take n mem)
   unfolding Holds
@@ -91,7 +91,7 @@ module _ (o : Outcome) (r : Reply) (mem : Text) (h : Holds o r mem) where
       go (path q) w = absurd (written-refused (length q) x (sym (w .0) ∙ e))
       go (refused y) w = let v : Refused y ≡ Refused x = sym w ∙ e in cc
 
--- a way that is known stands in memory as it is answered
+-- A known outcome is held by the buffer and the reply.
 pub holds-given : (o : Outcome) (n : ℕ) (mem : Text) → o ≡ path (take n mem) → n ≤ 255 → length mem ≡ 255 → Holds o (Written n) mem
 unfolding Holds
 holds-given o n mem e l k =
@@ -102,7 +102,7 @@ pub holds-stopped : (o : Outcome) (r : Reply) (mem : Text) (x : Refusal) → o �
 unfolding Holds
 holds-stopped o r mem x e h = rw e h
 
--- one leg more at the end of a way, and a way that was stopped
+-- One more leg at the end of a route, and a route that was refused earlier.
 pub along-snoc : {A : Type 0} (go : A → Text → Outcome) (xs : List A) (x : A) (p q : Text) → along go xs p ≡ path q → along go (xs ++ x ∷ []) p ≡ go x q
 unfolding along
 along-snoc go [] x p q e = let z : p ≡ q = cc in rw z (last (go x q))
@@ -127,7 +127,7 @@ along-stopped {A} go (y ∷ xs) x p n e = by (go y p) e (λ t. along-stopped go 
     by (path t) h ih = ih t h
     by (refused m) h ih = h
 
--- the way out over one map more
+-- The route out over one more map.
 module _ (s : LentRoute) (go : Map → Text → Outcome) where
   maps-on : (k : ℕ) (p q : Text) → along go (mapsIn s k) p ≡ path q → along go (mapsIn s (suc k)) p ≡ go (mapAt s k) q
   unfolding mapsIn
@@ -143,7 +143,7 @@ module _ (s : LentRoute) (go : Map → Text → Outcome) where
       by true t ih = along-stopped go (mapsIn s n) (mapAt s n) p x (ih (leb-true k n t) e)
       by false t ih = let z : k ≡ suc n = omega (arith, leb-false k n t) in rw z at e
 
-  -- the way home over one map less
+  -- The route home over one map fewer.
   maps-back : (k : ℕ) (p : Text) → along go (reverse (mapsIn s (suc k))) p ≡ onward (along go (reverse (mapsIn s k))) (go (mapAt s k) p)
   unfolding mapsIn along
   maps-back k p = rw (reverse-append (mapsIn s k) (mapAt s k ∷ []))
@@ -178,7 +178,7 @@ module _ (store : Text) (places legs : List ℕ) (n : ℕ) where
     unfolding quickOver
     out-end k at here a b e l w = let z : k ≡ n = omega arith in holds-given (along (quickLeg false) (mapsIn (route n) n) p) at here (rw z at e) l w
 
-  -- `way_home`: what is left of the way gives what the whole gives
+  -- `way_home`: the remainder of the route yields the result of the whole route.
   module _ (p : Text) (k at : ℕ) (here : Text) (l : 0 < k) (e : along (quickLeg true) (reverse (mapsIn (route n) k)) (take at here) ≡ quickOver true (route n) n p)
       (r : Reply) (here′ : Text) (h : Holds (quickLeg true (mapAt (route (k - 1)) (k - 1)) (take at here)) r here′) where
     abbrev leg : Outcome

@@ -1,4 +1,4 @@
--- The way as the code goes it is the way of the definitions, for legs that passed the questions. Assumes nothing.
+-- Lemmas about the route as the code computes it: for validated legs it is the route of the definitions.
 use mathlib.Core.Path.{_≡_, refl, sym, ap, _∙_}
 use mathlib.Core.Bool.{Bool, true, false, _&&_}
 use mathlib.Core.List.{List, [], _∷_, _++_, map, map-append, reverse, reverse-cons}
@@ -28,7 +28,7 @@ use Rattle.laying.specs.Laid.{Laid}
 use Rattle.routing.specs.Quick.{quickLeg, mapsIn, quickOver, entering}
 use Rattle.grammar.proofs.LegalLaws.{fits-short}
 
--- a way over legs is the way over their maps
+-- A route over legs is the route over their maps.
 along-map : {A B : Type 0} (go : B → Text → Outcome) (f : A → B) (xs : List A) (p : Text) → along (λ (x : A). go (f x)) xs p ≡ along go (map f xs) p
 unfolding along
 along-map go f [] p = refl
@@ -39,7 +39,7 @@ along-map {A} go f (x ∷ xs) p = by (go (f x) p) (along-map go f xs)
     by (path q) ih = ih q
     by (refused x) ih = refl
 
--- two ways are the same where each leg gives the same for what reaches it
+-- Two routes are equal if each leg yields the same for the path that reaches it.
 along-same : {A : Type 0} (C : Text → Type 0) (good : A → Bool) (f g : A → Text → Outcome)
     → ((x : A) (p : Text) → good x ≡ true → C p → f x p ≡ g x p) → ((x : A) (p q : Text) → good x ≡ true → C p → f x p ≡ path q → C q)
     → (xs : List A) (p : Text) → every good xs ≡ true → C p → along f xs p ≡ along g xs p
@@ -55,7 +55,7 @@ along-same C good f g same next (x ∷ xs) p e c =
     by (path q) h ih = ih q (and-r (good x) (every good xs) e) (next x p q first c h)
     by (refused n) h ih = refl
 
--- ends are ends, and short
+-- Every end is a prim path, `/` or empty, and has at most 255 bytes.
 abbrev pub soundMap : Map → Bool
 soundMap m = allEnds (m .pairs) && allShort (m .pairs)
 
@@ -66,7 +66,7 @@ module _ (m : Map) (s : soundMap m ≡ true) where
   its-shorts : allShort (m .pairs) ≡ true
   its-shorts = and-r (allEnds (m .pairs)) (allShort (m .pairs)) s
 
--- the way out, of a path without selections
+-- The direction out, for a path without selections.
 out-leg : (m : Map) (p : Text) → soundMap m ≡ true → PlainPath p → translate m p ≡ quickLeg false m p
 unfolding translate translated quickLeg
 out-leg m p s c =
@@ -78,7 +78,7 @@ out-next m p q s c = leg-next m (its-ends m s) p q c
 quick-out-way : (ms : List Map) (p : Text) → every soundMap ms ≡ true → PlainPath p → along translate ms p ≡ along (quickLeg false) ms p
 quick-out-way = along-same PlainPath soundMap translate (quickLeg false) out-leg out-next
 
--- the way home, of any path
+-- The direction home, for any path.
 pub record Whole (p : Text) : Type 0 where
   pub is-legal : legal p ≡ true
   pub is-short : fits p ≡ true
@@ -94,7 +94,7 @@ home-next m p q s c h = let w = given-path (plainHome m p) q h in record { is-le
 quick-home-way : (ms : List Map) (p : Text) → every soundMap ms ≡ true → Whole p → along home ms p ≡ along (quickLeg true) ms p
 quick-home-way = along-same Whole soundMap home (quickLeg true) home-leg home-next
 
--- the first leg strips the selections, so they may be stripped before it
+-- The first leg strips the selections, so they may be stripped before it.
 strip-first : (m : Map) (ms : List Map) (p : Text) → along translate (m ∷ ms) p ≡ along translate (m ∷ ms) (strip p)
 unfolding along translate translated
 strip-first m ms p = rw (strip-same (strip p) (strip-lacks p))
@@ -107,7 +107,7 @@ strip-plain p c = record {
   is-plain = strip-lacks p;
 }
 
--- the maps of legs whose lists are sound
+-- The maps of legs whose lists passed validation.
 sound-leg : (k : ℕ) (l : List Pair) → allEnds l ≡ true → allShort l ≡ true → soundMap (legMap (legOf k l)) ≡ true
 unfolding legOf legMap
 sound-leg zero l e s = rw (e, s)
@@ -130,7 +130,7 @@ map-reverse f [] = refl
 map-reverse f (x ∷ xs) =
     rw (reverse-cons x xs, reverse-cons (f x) (map f xs), map-append f (reverse xs) (x ∷ []), map-reverse f xs)
 
--- the way over legs whose maps are those of a route of maps
+-- The route over legs whose maps are those of a route of maps.
 module _ (s : LentRoute) where
   no-legs : (p : Text) → wayOver false [] p ≡ quickOver false s 0 (entering false 0 p)
   unfolding wayOver quickOver entering mapsIn along
@@ -175,7 +175,7 @@ module _ (r : LentRoute) where
       (every-snoc soundMap (map legMap (legsIn r n)) (legMap (legAt r n)) (sound-legs n (λ k h. s k (omega arith)))
       (sound-leg (kindAt (r .legs) n) (pairsOf (listAt r n)) (s n (omega arith) .ends) (s n (omega arith) .shorts)))
 
-  -- a route that stands for this one has the maps of its legs
+  -- A prepared route has the maps of the legs.
   laid-maps : (s : LentRoute) (n : ℕ) → Laid r s n → mapsIn s n ≡ map legMap (legsIn r n)
   unfolding mapsIn legsIn Laid
   laid-maps s zero h = refl

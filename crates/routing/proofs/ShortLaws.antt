@@ -1,4 +1,4 @@
--- Every path that a way over legs gives has at most 255 bytes. Assumes nothing.
+-- Lemmas about the length of the result: every path that a route yields has at most 255 bytes.
 use mathlib.Core.Path.{_≡_, refl}
 use mathlib.Core.Bool.{Bool, true, false}
 use mathlib.Core.List.{List, [], _∷_, reverse}
@@ -35,7 +35,7 @@ short-along go s (x ∷ xs) p h = by (go x p) (s x p) (short-along go s xs)
     by (path t) k ih = ih t (k t refl)
     by (refused n) k ih = short-refused n
 
--- of a route whose legs passed before
+-- For a route that was validated before.
 short-over : (back : Bool) (s : LentRoute) (n : ℕ) (p : Text) → length p ≤ 255 → Short (quickOver back s n p)
 unfolding quickOver
 short-over false s n p = short-along (quickLeg false) (short-leg false) (mapsIn s n) p
@@ -53,7 +53,7 @@ short-after list back s p room =
     short-answered (earlierOf list (newCall p)) room (quickOver back s (s .count) (entering back (s .count) p))
     (λ h. short-over back s (s .count) (entering back (s .count) p) (enters-short back (s .count) p (after-length list p (newCall p) (earlierOf list (newCall p)) refl refl h)))
 
--- of the call
+-- For the call.
 short-outward : (x : Leg) (p : Text) → Short (outward x p)
 unfolding outward translate fits
 short-outward x p q e = leb-true (length q) 255 (given-path (translated (legMap x) p) q e .1)

@@ -1,5 +1,5 @@
--- The way as the code goes it, over a route of maps alone: each leg by the quick answers of crate carry. That this is the way of the
--- definitions is proved in proofs/QuickLaws.antt.
+-- The route as the code computes it, over legs that are all maps: each leg by the fast mapping of crates/carry. proofs/QuickLaws.antt
+-- proves that the result is that of the definitions.
 use mathlib.Core.Path.{_≡_}
 use Prim.Native.Nat.{ℕ, zero, suc, _≤_}
 use mathlib.Core.Bool.{Bool, true, false, cond}
@@ -20,52 +20,52 @@ use Rattle.route.specs.Route.{along}
 use Rattle.legs.specs.Lent.{LentRoute}
 use Rattle.laying.specs.Laid.{mapAt, hasRelocates}
 
--- one leg; on the way out for a path without selections
+-- One leg; in the direction out for a path without selections.
 unfoldable pub quickLeg : Bool → Map → Text → Outcome
 unfolding quick quickTranslate
 quickLeg false m p = quickTranslate m p
 quickLeg true m p = quick true m p
 
--- the first n maps
+-- The maps of the first n legs.
 unfoldable pub mapsIn : LentRoute → ℕ → List Map
 unfolding mapAt
 mapsIn s zero = []
 mapsIn s (suc n) = mapsIn s n ++ mapAt s n ∷ []
 
--- the way over them
+-- The route over the first n legs in one direction.
 unfoldable pub quickOver : Bool → LentRoute → ℕ → Text → Outcome
 unfolding along quickLeg mapsIn
 quickOver false s n p = along (quickLeg false) (mapsIn s n) p
 quickOver true s n p = along (quickLeg true) (reverse (mapsIn s n)) p
 
--- the path as the first leg takes it: on the way out without its selections, where there is a leg at all
+-- The path as the first leg receives it: on the way out, if there is a leg, without its selections.
 unfoldable pub entering : Bool → ℕ → Text → Text
 unfolding strip
 entering false zero p = p
 entering false (suc n) p = strip p
 entering true n p = p
 
--- .. which is the path itself where `kept` is set
+-- `kept` tells whether the path enters the first leg unchanged; otherwise it enters without its selections.
 unfoldable pub Keeps : Bool → Bool → ℕ → Text → Type 0
 unfolding entering
 Keeps kept home n p = entering home n p ≡ cond kept p (strip p)
 
--- a text of at most 255 bytes stands at the beginning of memory, with its length k
+-- The first k bytes of the buffer are the text t of at most 255 bytes.
 unfoldable pub Entered : Text → ℕ → Text → Type 0
 Entered t k mem = (take k mem ≡ t) × (k ≤ 255)
 
--- what is known of memory in which the answer of a way stands
+-- The reply and the buffer hold the outcome of a route: the path at the beginning of the buffer, or the refusal.
 unfoldable pub Holds : Outcome → Reply → Text → Type 0
 Holds (path q) r mem = (r ≡ Written (length q)) × (take (length q) mem ≡ q)
 Holds (refused x) r mem = r ≡ Refused x
 
--- the maps of a route that passed its questions are to be made where there is a relocate list
+-- Whether the legs' maps must be prepared: the route passed validation and has a relocate list.
 unfoldable pub needsMaps : Asked → List ℕ → ℕ → Bool
 unfolding hasRelocates
 needsMaps Passed legs n = hasRelocates legs n
 needsMaps (RefusedAsked x) legs n = false
 
--- a path over a route whose own questions were answered before: only those of the path are left
+-- The outcome for a path over a route that was validated before, with the result `list`: only the path remains to be validated.
 unfoldable pub afterLegs : Asked → Bool → LentRoute → Text → ℕ → Outcome
 unfolding earlierOf newCall answered quickOver entering
 afterLegs list home s p room = answered (earlierOf list (newCall p)) room (quickOver home s (s .count) (entering home (s .count) p))

@@ -1,5 +1,5 @@
-// Document 01's route: a path out over the legs in lent memory, and a path home. The legs' maps are
-// made once for a call, and a route that has passed its questions is not asked again for each path.
+// Routes: maps a path out over the legs in lent memory, or home. The maps of relocate legs are prepared
+// once per call, and a validated route is not validated again for each path.
 ghost use mathlib.Core.Path.{_≡_};
 ghost use mathlib.Core.Bool.{true, false};
 ghost use Prim.Native.Nat.{_≤_};
@@ -10,7 +10,7 @@ ghost use Rattle.laying.specs.Laid.{mapAt};
 ghost use Rattle.routing.specs.Calls.{routeCall};
 ghost use Rattle.routing.specs.Quick.{quickLeg, quickOver, entering, Keeps, Entered, Holds, needsMaps, afterLegs};
 
-// What the map at leg k makes of a path: home, or out for a path without selections.
+// Maps a path through the map of leg k: home, or out for a path without selections.
 fn carry_leg(
     store: &[u8],
     places: &[usize],
@@ -32,7 +32,7 @@ fn carry_leg(
     carry::translate_text(store, list, n, mark, path, made)
 }
 
-// One leg: the path in the first `len` bytes becomes what the leg gives; a refusal leaves it.
+// Maps the path in the first `len` bytes over leg k in place; a refusal leaves it unchanged.
 fn go_over(
     store: &[u8],
     places: &[usize],
@@ -54,7 +54,7 @@ fn go_over(
     r
 }
 
-// The way out over the first n legs.
+// Maps the path out over the first n legs.
 fn way_out(
     store: &[u8],
     places: &[usize],
@@ -79,7 +79,7 @@ fn way_out(
     path::Reply::Written(at)
 }
 
-// The way home over the first n legs, the last one first.
+// Maps the path home over the first n legs, the last one first.
 fn way_home(
     store: &[u8],
     places: &[usize],
@@ -104,7 +104,7 @@ fn way_home(
     path::Reply::Written(at)
 }
 
-// The way over the first n legs, home or out.
+// Maps the path over the first n legs, home or out.
 fn way(
     store: &[u8],
     places: &[usize],
@@ -123,7 +123,7 @@ fn way(
     way_out(store, places, legs, n, here, len)
 }
 
-// Is the path taken with its selections? Only the first leg of a way out strips them.
+// Returns whether the path keeps its selections; only the first leg of a way out strips them.
 fn keeps_selections(home: bool, n: usize, path: &[u8]) -> bool
     ensures { λ r. ⌜ Keeps r home n (now (path .entry)) ⌝ }
 {
@@ -136,7 +136,7 @@ fn keeps_selections(home: bool, n: usize, path: &[u8]) -> bool
     text::lacks_byte(path, b'{')
 }
 
-// The path as the first leg takes it, into memory of the call's own; and its length.
+// Writes the path as the first leg receives it to the scratch buffer and returns its length.
 fn enter(home: bool, n: usize, path: &[u8], here: &mut [u8]) -> usize
     requires { ⌜ (length (now path) ≤ 255) × (length (now here) ≡ 255) ⌝ }
     ensures { λ r. ⌜ Entered (entering home n (now (path .entry))) r (now (here .exit)) ⌝ }
@@ -152,7 +152,7 @@ fn enter(home: bool, n: usize, path: &[u8], here: &mut [u8]) -> usize
     k
 }
 
-// The whole way, from the path to lent memory.
+// Maps the path over the whole route and writes the result to the lent buffer.
 fn travel(
     store: &[u8],
     places: &[usize],
@@ -176,8 +176,8 @@ fn travel(
     r
 }
 
-// A path over a route of maps, where `list` is the answer that the legs' own questions have got: only
-// those of the path are put here.
+// Maps a path over a route of maps. `list` is the result of the route's own validation, so only the path is
+// validated here.
 pub fn route_after(
     list: path::Asked,
     store: &[u8],
@@ -201,7 +201,8 @@ pub fn route_after(
     travel(store, places, legs, n, home, path, out)
 }
 
-// Has a route that passed its questions a relocate list, whose map is to be made first?
+// Returns whether the route passed validation and has a relocate list, so that the legs' maps must be
+// prepared first.
 pub fn needs_maps(list: path::Asked, legs: &[usize], n: usize) -> bool
     ensures { λ r. ⌜ r ≡ needsMaps list (now (legs .entry)) n ⌝ }
 {
@@ -211,7 +212,7 @@ pub fn needs_maps(list: path::Asked, legs: &[usize], n: usize) -> bool
     laying::has_relocates(legs, n)
 }
 
-// A path over a route, home or out.
+// Maps a path over a route, home or out.
 fn route_call(
     store: &[u8],
     places: &[usize],
@@ -234,7 +235,7 @@ fn route_call(
     route_after(list, store, &made, &table, n, home, path, out)
 }
 
-// The path out over the n legs.
+// Maps the path out over the n legs and writes the result to the lent buffer.
 pub fn route_out(
     store: &[u8],
     places: &[usize],
@@ -249,7 +250,7 @@ pub fn route_out(
     route_call(store, places, legs, n, false, path, out)
 }
 
-// The path home over the n legs.
+// Maps the path home over the n legs and writes the result to the lent buffer.
 pub fn route_home(
     store: &[u8],
     places: &[usize],

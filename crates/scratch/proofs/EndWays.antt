@@ -1,4 +1,4 @@
--- What each way through `replace_into` and `from_ends` gives. Assumes nothing.
+-- Lemmas about the branches of `replace_into` and `from_ends`.
 use mathlib.Core.Path.{_≡_, refl, sym, ap, _∙_}
 use mathlib.Core.Bool.{Bool, true, false, not, cond}
 use mathlib.Core.List.{List}

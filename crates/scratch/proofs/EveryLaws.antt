@@ -1,4 +1,4 @@
--- A test of every end, pair after pair. Assumes nothing.
+-- Lemmas about a test of every end, pair by pair.
 use mathlib.Core.Path.{_≡_, refl}
 use mathlib.Core.Bool.{Bool, true, false, _&&_}
 use mathlib.Core.List.{List, [], _∷_, _++_}
@@ -20,7 +20,7 @@ module _ (passes : Text → Bool) where
       go true ih = ih
       go false ih = refl
 
-  -- the ends of the first n pairs are the texts at the first 2 n places
+  -- The ends of the first n pairs are the texts at the first 2 n places.
   pub every-places : (store : Text) (places : List ℕ) (n : ℕ) → placesAll passes store places (2 * n) ≡ everyEnd passes (pairsIn store places n)
   unfolding pairsIn pairIn placesAll everyEnd
   every-places store places zero = refl

@@ -1,4 +1,4 @@
--- How long ends are, and what is made of them. Assumes nothing.
+-- Lemmas about the lengths of ends and of the texts made from them.
 use mathlib.Core.Path.{_≡_, refl, ap}
 use mathlib.Core.Bool.{Bool, true, false, _&&_}
 use mathlib.Core.List.{List, [], _∷_, _++_}
@@ -35,7 +35,7 @@ within-keys k store places n i e h =
     let z = within-ends k (pairsIn store places n) e i in
     (omega (arith, z .0, ap length (pairsIn-source store places n i h)), omega (arith, z .1, ap length (pairsIn-target store places n i h)))
 
--- the ends of a list that passed question 1
+-- The ends of a list that passed question 1.
 module _ (store : Text) (places : List ℕ) (n i : ℕ) (h : i < n) (e : allShort (pairsIn store places n) ≡ true) where
   pub short-source : (s : Text) → s ≡ keyAt store places false i → length s ≤ 255
   unfolding allShort fits
@@ -45,7 +45,7 @@ module _ (store : Text) (places : List ℕ) (n i : ℕ) (h : i < n) (e : allShor
   unfolding allShort fits
   short-target t f = omega (arith, within-keys 255 store places n i e h .1, ap length f)
 
--- a path with its prefix replaced: no longer than both and a slash
+-- A path with its prefix replaced is at most as long as the path, the new prefix and a slash together.
 pub joined-within : (p s t r : Text) → p ≡ s ++ r → length (joined s t r) ≤ length t + 1 + length p
 joined-within p s t r e = omega (arith, joined-length s t r, separator-short s t r, body-short s r, ap length e, length-append s r)
 
@@ -61,14 +61,14 @@ replaced-short p s t lp lt = go (hasPrefix p s) refl
         )
     go false h = omega (arith, ap (λ (o : Option Text). length (Option·getD o p)) (replace-other p s t h))
 
--- a text that was written where it fits: how much was written is its length, and it can be read back
+-- A text written to a buffer that it fits in: the amount written is its length, and the text is read back.
 pub placed-back : (q out : Text) (k : ℕ) (out′ : Text) → (k ≡ amount (fitted q out)) × (out′ ≡ placed 0 q out) → length q ≤ length out → (k ≡ length q) × (take k out′ ≡ q)
 unfolding fitted
 placed-back q out k out′ w l =
     let z : k ≡ length q = rw (le-leb (length q) (length out) l) at (w .0) in
     (z, rw (z, w .1, placed-first q out l) (read-back q out))
 
--- the text made is the part of the memory that it lies in
+-- The text made is a part of the buffer.
 module _ (q : Text) (k : ℕ) (e : k ≡ length q) where
   pub part-within : (most : ℕ) → length q ≤ most → k ≤ most
   part-within most l = omega arith

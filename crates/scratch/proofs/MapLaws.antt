@@ -1,4 +1,4 @@
--- What is known of a map and of the list that it is made of. Assumes nothing.
+-- Lemmas about a map and the list that it is built from.
 use mathlib.Core.Path.{_≡_, refl}
 use mathlib.Core.Bool.{Bool, true, false, cond, _&&_}
 use mathlib.Core.List.{List, [], _∷_, _++_}
@@ -24,7 +24,7 @@ use Rattle.scratch.specs.Scratch.{Holds}
 use Rattle.scratch.specs.Ends.{madeShort, madeLegal, fromEnds}
 use Rattle.scratch.proofs.ScratchLaws.{holds-list, built-held}
 
--- a map in lent memory is no more than the mark where it has no pair
+-- A map in lent memory is the identity on paths exactly if it has the mark and no pair.
 snoc-full : (l : List Pair) (x : Pair) → isEmpty (l ++ x ∷ []) ≡ false
 snoc-full [] x = refl
 snoc-full (y ∷ l) x = refl
@@ -35,18 +35,18 @@ identity-lent store places zero mark = refl
 identity-lent store places (suc n) mark =
     rw (snoc-full (pairsIn store places n) (pairIn store places n), ne-eqb (suc n) 0 (λ e. omega arith))
 
--- a list that its slice holds
+-- A list that lies within its slice.
 pub held-all : (store : Text) (places : List ℕ) (n : ℕ) (o : MapOutcome) → n ≤ length places / 4 → held (lentList store places n) o ≡ o
 unfolding held
 held-all store places n o h = rw (le-leb n (length places / 4) h)
 
--- a list that was built is held by its memory
+-- A list that was built lies within its buffer.
 pub built-ends : (l : List Pair) (n at : ℕ) (bytes : Text) (own : List ℕ) → Holds l n at bytes own → (mark : Bool) (time : LayerOffset) (out : Text) (slots : List ℕ)
     → fromEnds l mark time out slots ≡ held (lentList bytes own n) (fromEnds (pairsIn bytes own n) mark time out slots)
 built-ends l n at bytes own c mark time out slots =
     rw (held-all bytes own n (fromEnds (pairsIn bytes own n) mark time out slots) (omega (arith, built-held l n at bytes own c)), holds-list l n at bytes own c) refl
 
--- a map that comes out is the one that the definition gives
+-- A map that the call returns is the map of the definition.
 module _ (m : Map) (t : LayerOffset) where
   pub no-map : (x : Refusal) → refused x ≡ map m t → ⊥
   no-map x e = let z : _≡_ {A = ℕ} 0 1 = cc in omega arith

@@ -1,4 +1,4 @@
--- The list in the call's own memory, and one pair more. Assumes nothing.
+-- Lemmas about the list in a scratch buffer, and about appending a pair.
 use mathlib.Core.Path.{_≡_, refl, sym, ap, _∙_}
 use mathlib.Core.Bool.{true, false}
 use mathlib.Core.List.{List, [], _∷_, _++_, append-assoc, map as mapped}
@@ -18,19 +18,19 @@ use Rattle.pairs.proofs.ListLaws.{list-length, places-length, read-back}
 use Rattle.listing.proofs.WriteWays.{over-over, list-snoc, places-snoc}
 use Rattle.scratch.specs.Scratch.{Holds, pairFits, pairEnd, pairBytes, pairSlots}
 
--- nothing is held by any memory
+-- Every buffer holds the empty list.
 pub holds-none : (bytes : Text) (slots : List ℕ) → Holds [] 0 0 bytes slots
 unfolding listText listPlaces endBytes
 holds-none bytes slots = record { number = refl; end = refl; behind = bytes; text = refl; later = slots; places = refl }
 
 module _ (l : List Pair) (n at : ℕ) (bytes : Text) (slots : List ℕ) (c : Holds l n at bytes slots) where
-  -- the list is read back
+  -- The list is read back.
   pub holds-list : pairsIn bytes slots n ≡ l
   holds-list =
       rw (c .number, c .text, c .places)
       (rw (drop-append-seam (listText l) (c .behind), drop-append-seam (listPlaces 0 l) (c .later)) at (read-back l (listText l ++ c .behind) (listPlaces 0 l ++ c .later)))
 
-  -- one pair more behind it
+  -- One more pair appended to the list.
   pub holds-more : (s t : Text) (end : ℕ) (bytes′ : Text) (slots′ : List ℕ) → end ≡ at + (length s + length t) → bytes′ ≡ over at (s ++ t) bytes
       → slots′ ≡ over (4 * n) (fourOf at s t) slots → Holds (l ++ record { source = s; target = t } ∷ []) (n + 1) end bytes′ slots′
   holds-more s t end bytes′ slots′ e f g = record {
@@ -63,7 +63,7 @@ pub built-held : (l : List Pair) (n at : ℕ) (bytes : Text) (own : List ℕ) �
 built-held l n at bytes own c =
     omega (arith, c .number, places-length 0 l, ap length (c .places), length-append (listPlaces 0 l) (c .later))
 
--- two texts written one behind the other, and the four numbers of the pair that they are
+-- Two texts written consecutively, and the four place entries of their pair.
 pub pair-done : (s t : Text) (at n k : ℕ) (out once twice : Text) (slots slots′ : List ℕ) → at + (length s + length t) ≤ length out → 4 * n + 4 ≤ length slots
     → k ≡ length t → once ≡ placed at s out → twice ≡ placed (at + length s) t once → slots′ ≡ placed (4 * n) (at ∷ length s ∷ (at + length s) ∷ k ∷ []) slots
     → (at + length s + k ≡ at + (length s + length t)) × ((twice ≡ over at (s ++ t) out) × (slots′ ≡ over (4 * n) (fourOf at s t) slots))
@@ -103,13 +103,13 @@ module _ (s t : Text) (n at : ℕ) (bytes : Text) (slots : List ℕ) where
   unfolding pairEnd pairBytes pairSlots
   put-done k once twice slots′ h g e o w f = rw (fits h g) (pair-done s t at n k bytes once twice slots slots′ h g e o w f)
 
-  -- where it fits, the pair is there
+  -- If the pair fits, it is appended.
   pub put-there : (r : ℕ) (bytes′ : Text) (slots′ : List ℕ) → Put r bytes′ slots′ → at + (length s + length t) ≤ length bytes → 4 * n + 4 ≤ length slots
       → (r ≡ at + (length s + length t)) × ((bytes′ ≡ over at (s ++ t) bytes) × (slots′ ≡ over (4 * n) (fourOf at s t) slots))
   unfolding pairEnd pairBytes pairSlots
   put-there r bytes′ slots′ w h g = rw (fits h g) at w
 
--- a list built pair after pair
+-- A list built pair by pair.
 pub map-snoc : (f : Pair → Pair) (l : List Pair) (x : Pair) → mapped f (l ++ x ∷ []) ≡ mapped f l ++ f x ∷ []
 map-snoc f [] x = refl
 map-snoc f (y ∷ l) x = ap (λ (k : List Pair). f y ∷ k) (map-snoc f l x)

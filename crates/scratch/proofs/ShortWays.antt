@@ -1,4 +1,4 @@
--- What each way through `are_within` and `are_short` gives. Assumes nothing.
+-- Lemmas about the branches of `are_within` and `are_short`.
 use mathlib.Core.Path.{_≡_, refl, sym, _∙_}
 use mathlib.Core.Bool.{Bool, true, false, _&&_}
 use mathlib.Core.List.{List}

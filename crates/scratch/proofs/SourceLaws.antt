@@ -1,4 +1,4 @@
--- What each way through `has_source` gives. Assumes nothing.
+-- Lemmas about the branches of `has_source`.
 use mathlib.Core.Path.{_≡_, refl, sym, _∙_}
 use mathlib.Core.Bool.{Bool, true, false, _||_}
 use mathlib.Core.List.{List, [], _∷_, _++_}

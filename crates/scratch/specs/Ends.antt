@@ -1,4 +1,4 @@
--- Ends that were made, and the questions that are put to a list of them.
+-- Ends that a call has constructed, and the validation of a list of them.
 use mathlib.Core.Bool.{Bool, cond}
 use mathlib.Core.List.{List}
 use mathlib.Core.Option.{Option·getD}
@@ -16,30 +16,31 @@ use Rattle.path.specs.declared.Refusal.the-variants.{TooMany, MadeTooLong, Made
 use Rattle.maps.specs.New.{fromParts}
 use Rattle.map_function.specs.Made.{MapOutcome, map, refused, roomFor}
 
--- a text of at most k bytes
+-- A text of at most k bytes.
 abbrev pub within : ℕ → Text → Bool
 within k t = leb (length t) k
 
--- the path p with its prefix s replaced by t; p itself where it has no such prefix
+-- The path p with its prefix s replaced by t; p itself if it does not have that prefix.
 abbrev pub replaced : Text → Text → Text → Text
 replaced p s t = Option·getD (replacePrefix p s t) p
 
--- how much was written, as a number: 0 where the memory was too short
+-- The number of bytes written; 0 if the buffer was too short.
 abbrev pub amount : Fit → ℕ
 amount (Written n) = n
 amount Over = 0
 
--- question 7: "Is every path made at most 255 bytes?"
+-- Question 7: "Is every path made at most 255 bytes?"
 unfoldable pub madeShort : List Pair → MapOutcome → MapOutcome
 unfolding allShort
 madeShort l o = cond (allShort l) o (refused MadeTooLong)
 
--- question 8: "Is every path made legal?" Ends that were not made are legal already.
+-- Question 8: "Is every path made legal?" Ends taken over unchanged are legal already.
 unfoldable pub madeLegal : List Pair → MapOutcome → MapOutcome
 unfolding everyEnd legal
 madeLegal l o = cond (everyEnd legal l) o (refused MadeIllegal)
 
--- the map made of a list whose ends were made: questions 4 and 5 put to "the list that the dropping in `new` starts from", then 7 and 8
+-- The map built from a list whose ends were constructed: questions 4 and 5 for "the list that the dropping in `new` starts from", then
+-- questions 7 and 8.
 unfoldable pub fromEnds : List Pair → Bool → LayerOffset → Text → List ℕ → MapOutcome
 unfolding roomFor madeShort madeLegal fromParts
 fromEnds l mark time out slots = cond (leb (length l) 64) (roomFor l out slots (madeShort l (madeLegal l (map (fromParts l mark) time)))) (refused TooMany)

@@ -1,5 +1,5 @@
-// Lists of pairs that a call builds in memory of its own, source then target, pair after pair, and how
-// such a list becomes a map.
+// Lists of pairs built in a scratch buffer (source then target, pair after pair), and the construction of
+// a map from such a list.
 ghost use mathlib.Core.Path.{_≡_};
 ghost use Rattle.text.specs.Text.{fitted, placed};
 ghost use Rattle.pairs.specs.Pair.{everyEnd, allShort};
@@ -10,7 +10,8 @@ ghost use Rattle.map_function.specs.Made.{GivesMap, held};
 ghost use Rattle.scratch.specs.Scratch.{pairEnd, pairBytes, pairSlots};
 ghost use Rattle.scratch.specs.Ends.{within, replaced, amount, fromEnds};
 
-// One pair more behind the first n, and the place behind it; nothing is written where there is no room.
+// Appends a pair to the first n pairs and returns the offset after it; writes nothing and returns `at` if it
+// does not fit.
 pub fn put_pair(
     s: &[u8],
     t: &[u8],
@@ -43,8 +44,8 @@ pub fn put_pair(
     m + t.len()
 }
 
-// The path with its prefix replaced, or the path itself, and its length; where there is no room, nothing
-// and 0.
+// Writes the path with its prefix replaced, or the path itself if it does not have that prefix, and returns
+// its length; writes nothing and returns 0 if it does not fit.
 pub fn replace_into(path: &[u8], old: &[u8], new: &[u8], out: &mut [u8]) -> usize
     ensures { λ r. ⌜ r ≡ amount (fitted (replaced (now (path .entry)) (now (old .entry)) (now (new .entry))) (now (out .entry))) ⌝ }
     ensures { λ r. ⌜ now (out .exit) ≡ placed 0 (replaced (now (path .entry)) (now (old .entry)) (now (new .entry))) (now (out .entry)) ⌝ }
@@ -64,7 +65,7 @@ pub fn replace_into(path: &[u8], old: &[u8], new: &[u8], out: &mut [u8]) -> usiz
     }
 }
 
-// Has one of the first n pairs this source?
+// Returns whether one of the first n pairs has this source.
 pub fn has_source(store: &[u8], places: &[usize], n: usize, source: &[u8]) -> bool
     ensures { λ r. ⌜ r ≡ hasSource (pairsIn (now (store .entry)) (now (places .entry)) n) (now (source .entry)) ⌝ }
 {
@@ -78,7 +79,7 @@ pub fn has_source(store: &[u8], places: &[usize], n: usize, source: &[u8]) -> bo
     false
 }
 
-// Has no end of the first n pairs more than `most` bytes?
+// Returns whether every end of the first n pairs has at most `most` bytes.
 pub fn are_within(store: &[u8], places: &[usize], n: usize, most: usize) -> bool
     ensures { λ r. ⌜ r ≡ everyEnd (within most) (pairsIn (now (store .entry)) (now (places .entry)) n) ⌝ }
 {
@@ -95,14 +96,15 @@ pub fn are_within(store: &[u8], places: &[usize], n: usize, most: usize) -> bool
     true
 }
 
-// Question 7 of the first n pairs.
+// Checks question 7 for the first n pairs: every end has at most 255 bytes.
 pub fn are_short(store: &[u8], places: &[usize], n: usize) -> bool
     ensures { λ r. ⌜ r ≡ allShort (pairsIn (now (store .entry)) (now (places .entry)) n) ⌝ }
 {
     are_within(store, places, n, 255)
 }
 
-// The map of the first n pairs, whose ends were made: questions 4, 5, 7 and 8, then dropping.
+// Builds a map from the first n pairs, whose ends were constructed: validates them (questions 4, 5, 7 and 8),
+// then drops redundant pairs.
 pub fn from_ends(
     store: &[u8],
     places: &[usize],
