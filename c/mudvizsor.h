@@ -424,7 +424,7 @@ bool mudvizsor_layer_offset_is_valid(double offset, double scale);
 /* Returns whether it is (0, 1). Minus zero counts as 0. */
 bool mudvizsor_layer_offset_is_identity(double offset, double scale);
 
-/* Returns whether both are valid and differ by at most 1e-6 in each number, or both are not valid and have the same bits
+/* Returns whether both are valid and differ by less than 1e-6 in each number, or both are not valid and have the same bits
    (where all NaNs count as the same). */
 bool mudvizsor_layer_offset_is_close(double offset, double scale, double other_offset, double other_scale);
 

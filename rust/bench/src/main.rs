@@ -1,5 +1,5 @@
-//! Times the library beside the original on the same texts, and the program `frames` beside the Rust program of the same
-//! protocol on the same inputs, and prints tables of the ratios.
+//! `bench`: times the library and the original Rust code on the same texts, and the program `frames` and a Rust program of
+//! the same protocol on the same inputs, and prints tables of the ratios. `bench --help` describes the options.
 
 mod calls;
 mod clock;
@@ -20,6 +20,10 @@ fn main() -> ExitCode {
     if arguments == [frames::AS_THE_RUST_PROGRAM] {
         return ended(frames_original::serve(io::stdin().lock(), io::stdout().lock()));
     }
+    if arguments.iter().any(|argument| argument == "--help" || argument == "-h") {
+        println!("{}", options::USAGE);
+        return ExitCode::SUCCESS;
+    }
     match Options::read(arguments.into_iter()) {
         Ok(options) => ended(print_tables(&options)),
         Err(message) => {
@@ -29,7 +33,7 @@ fn main() -> ExitCode {
     }
 }
 
-/// Each table behind its name.
+/// Prints each table under its name.
 fn print_tables(options: &Options) -> io::Result<()> {
     for part in &options.parts {
         println!("\n{}\n", part.name());
