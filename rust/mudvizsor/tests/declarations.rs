@@ -11,7 +11,7 @@ type Declarations = BTreeMap<String, Vec<String>>;
 #[test]
 fn the_binding_declares_every_entry_as_the_source_has_it() {
     let here = Path::new(env!("CARGO_MANIFEST_DIR"));
-    let expected = in_source(&sources(&here.join("../../crates/exports/src"), "rt"));
+    let expected = in_source(&sources(&here.join("../../crates/mudvizsor/src"), "rt"));
     let binding = sources(&here.join("src/ffi"), "rs");
     let mut declared = by_macro(&binding);
     declared.extend(by_name(&binding));
