@@ -6,7 +6,7 @@ use crate::table::{head, nanoseconds, ratio, row};
 use mudvizsor::ffi;
 use original::sdf::Path;
 use std::hint::black_box;
-use texts::LONGEST;
+use texts::MAX_PATH_LEN;
 
 pub fn print() {
     head(&["call", "texts", "mean bytes", "original, ns", "library, ns", "library / original"]);
@@ -40,7 +40,7 @@ fn time_new(names: Names, length: usize) {
 fn time_replace_prefix(length: usize) {
     let replacements = inputs::replacements(length, COUNT);
     assert!(replacements.iter().all(sides_agree));
-    let (mut out, mut other_out) = ([0; LONGEST], [0; LONGEST]);
+    let (mut out, mut other_out) = ([0; MAX_PATH_LEN], [0; MAX_PATH_LEN]);
     let original = || {
         for each in &replacements {
             black_box(original_replace(black_box(each), &mut out));
@@ -69,7 +69,7 @@ fn library_replace(each: &Replacement, out: &mut [u8]) -> usize {
 }
 
 fn sides_agree(each: &Replacement) -> bool {
-    let (mut expected, mut found) = ([0; LONGEST], [0; LONGEST]);
+    let (mut expected, mut found) = ([0; MAX_PATH_LEN], [0; MAX_PATH_LEN]);
     original_replace(each, &mut expected) == library_replace(each, &mut found) && expected == found
 }
 

@@ -4,9 +4,9 @@
 use crate::clock::{Times, best_times};
 use crate::inputs::{self, COUNT, packed, parsed_pairs};
 use crate::table::{head, ratio, row};
-use mudvizsor::ffi::makes::{Map, Room};
+use mudvizsor::ffi::map_build::{Map, MapBuffers};
 use mudvizsor::ffi::maps::List;
-use mudvizsor::ffi::{makes, relocates};
+use mudvizsor::ffi::{map_build, relocates};
 use original::pcp::MapFunction;
 use original::sdf::Path;
 use std::hint::black_box;
@@ -54,8 +54,8 @@ impl Memory {
         Memory { out: vec![0; 1 << 16], slots: vec![0; 512], time: IDENTITY }
     }
 
-    fn room(&mut self) -> Room<'_> {
-        Room { out: &mut self.out, slots: &mut self.slots, time: &mut self.time }
+    fn room(&mut self) -> MapBuffers<'_> {
+        MapBuffers { out: &mut self.out, slots: &mut self.slots, time: &mut self.time }
     }
 
     /// Copies a map of the original, as the library writes its own, and gives the library's value.
@@ -97,10 +97,10 @@ fn time_new(pairs: usize) -> [Times; 2] {
     let (mut memory, mut other) = (Memory::new(), Memory::new());
     for each in &lists {
         let expected = memory.copy(&MapFunction::new(each.paths.clone()));
-        assert_eq!(makes::new(each.list(), other.room()).0, 256 * expected);
+        assert_eq!(map_build::new(each.list(), other.room()).0, 256 * expected);
         assert!(memory.out == other.out && memory.slots == other.slots);
     }
-    let mut library = || for_all(pairs, &lists, |each| makes::new(black_box(each.list()), other.room()));
+    let mut library = || for_all(pairs, &lists, |each| map_build::new(black_box(each.list()), other.room()));
     let parsed_before = || for_all(pairs, &lists, |each| MapFunction::new(black_box(&each.paths).clone()));
     let from_texts = || {
         for_all(pairs, &lists, |each| memory.copy(&MapFunction::new(parsed_pairs(black_box(&each.texts)))))
@@ -117,12 +117,12 @@ fn time_compose(pairs: usize) -> [Times; 2] {
     let (mut memory, mut other) = (Memory::new(), Memory::new());
     for (outer, inner) in &both {
         let expected = memory.copy(&outer.map.compose(&inner.map));
-        assert_eq!(makes::compose(outer.as_map(), inner.as_map(), other.room()).0, 256 * expected);
+        assert_eq!(map_build::compose(outer.as_map(), inner.as_map(), other.room()).0, 256 * expected);
         assert!(memory.out == other.out && memory.slots == other.slots);
     }
     let mut library = || {
         for_all(pairs, &both, |(outer, inner)| {
-            makes::compose(black_box(outer.as_map()), black_box(inner.as_map()), other.room())
+            map_build::compose(black_box(outer.as_map()), black_box(inner.as_map()), other.room())
         });
     };
     let made_before =

@@ -4,11 +4,11 @@
 use crate::clock::{Times, best_times};
 use crate::inputs::{self, COUNT, Carried, packed, parsed, parsed_pairs};
 use crate::table::{head, nanoseconds, ratio, row};
-use mudvizsor::ffi::maps::{List, Paths, Way, carry, carry_all};
+use mudvizsor::ffi::maps::{List, Paths, Way, apply, apply_all};
 use original::pcp::MapFunction;
 use original::sdf::Path;
 use std::hint::black_box;
-use texts::LONGEST;
+use texts::MAX_PATH_LEN;
 
 /// A call on both sides.
 struct MapCall {
@@ -86,10 +86,10 @@ pub fn print() {
 fn print_row(call: &MapCall, setting: &Setting) {
     assert!(setting.texts.iter().all(|text| sides_agree(call, setting, text)));
     assert!(all_agree(call, setting));
-    let mut out = [0; LONGEST];
+    let mut out = [0; MAX_PATH_LEN];
     let from_texts = || {
         for text in &setting.texts {
-            black_box(original_carry(call, setting, black_box(text), &mut out));
+            black_box(map_by_original(call, setting, black_box(text), &mut out));
         }
     };
     let [text_each, text_once] = each_and_once(call, setting, from_texts);
@@ -107,55 +107,55 @@ fn print_row(call: &MapCall, setting: &Setting) {
 
 /// The original beside the library's call on one path, then beside that on many.
 fn each_and_once(call: &MapCall, setting: &Setting, mut original: impl FnMut()) -> [Times; 2] {
-    let mut out = [0; LONGEST];
+    let mut out = [0; MAX_PATH_LEN];
     let each = || {
         for text in &setting.texts {
-            black_box(library_carry(call, setting, black_box(text), &mut out));
+            black_box(map_by_library(call, setting, black_box(text), &mut out));
         }
     };
     let each = best_times(COUNT, &mut original, each);
     let (mut out, mut replies) = room_for_all();
     let once = || {
-        black_box(library_carry_all(call, setting, &mut out, &mut replies));
+        black_box(map_all_by_library(call, setting, &mut out, &mut replies));
         black_box((&out, &replies));
     };
     [each, best_times(COUNT, original, once)]
 }
 
 /// The path is read, mapped, and the bytes of the result are copied.
-fn original_carry(call: &MapCall, setting: &Setting, text: &str, out: &mut [u8]) -> usize {
+fn map_by_original(call: &MapCall, setting: &Setting, text: &str, out: &mut [u8]) -> usize {
     let made = (call.original)(&setting.map, &parsed(text)).expect("a path that the map carries");
     let text = made.as_str().as_bytes();
     out[..text.len()].copy_from_slice(text);
     text.len()
 }
 
-fn library_carry(call: &MapCall, setting: &Setting, text: &str, out: &mut [u8]) -> usize {
-    carry(call.way, setting.list(), text.as_bytes(), out).0
+fn map_by_library(call: &MapCall, setting: &Setting, text: &str, out: &mut [u8]) -> usize {
+    apply(call.way, setting.list(), text.as_bytes(), out).0
 }
 
 /// Memory for the bytes and the replies of all paths.
 fn room_for_all() -> (Vec<u8>, Vec<usize>) {
-    (vec![0; LONGEST * COUNT], vec![0; COUNT])
+    (vec![0; MAX_PATH_LEN * COUNT], vec![0; COUNT])
 }
 
-fn library_carry_all(call: &MapCall, setting: &Setting, out: &mut [u8], replies: &mut [usize]) -> usize {
-    carry_all(call.way, setting.list(), black_box(setting.all()), out, replies).0
+fn map_all_by_library(call: &MapCall, setting: &Setting, out: &mut [u8], replies: &mut [usize]) -> usize {
+    apply_all(call.way, setting.list(), black_box(setting.all()), out, replies).0
 }
 
 fn all_agree(call: &MapCall, setting: &Setting) -> bool {
     let (mut out, mut replies) = room_for_all();
-    assert_eq!(library_carry_all(call, setting, &mut out, &mut replies), 0);
-    let blocks = out.chunks_exact(LONGEST).zip(replies);
+    assert_eq!(map_all_by_library(call, setting, &mut out, &mut replies), 0);
+    let blocks = out.chunks_exact(MAX_PATH_LEN).zip(replies);
     setting.texts.iter().zip(blocks).all(|(text, (block, reply))| {
-        let mut expected = [0; LONGEST];
-        let length = original_carry(call, setting, text, &mut expected);
+        let mut expected = [0; MAX_PATH_LEN];
+        let length = map_by_original(call, setting, text, &mut expected);
         reply == 256 * length && block == expected
     })
 }
 
 fn sides_agree(call: &MapCall, setting: &Setting, text: &str) -> bool {
-    let (mut expected, mut found) = ([0; LONGEST], [0; LONGEST]);
-    let length = original_carry(call, setting, text, &mut expected);
-    library_carry(call, setting, text, &mut found) == 256 * length && expected == found
+    let (mut expected, mut found) = ([0; MAX_PATH_LEN], [0; MAX_PATH_LEN]);
+    let length = map_by_original(call, setting, text, &mut expected);
+    map_by_library(call, setting, text, &mut found) == 256 * length && expected == found
 }

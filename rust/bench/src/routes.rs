@@ -9,7 +9,7 @@ use mudvizsor::ffi::routes::{Route, route_all};
 use original::pcp::MapFunction;
 use original::sdf::Path;
 use std::hint::black_box;
-use texts::LONGEST;
+use texts::MAX_PATH_LEN;
 
 /// Paths timed together.
 const PATHS: usize = 1_000;
@@ -84,7 +84,7 @@ impl Sides {
 
     /// Where the paths come to on the way out.
     fn come_out(&self, texts: &[String]) -> Vec<String> {
-        let mut out = [0; LONGEST];
+        let mut out = [0; MAX_PATH_LEN];
         let end = |text: &String| {
             let length = self.original(false, text, &mut out);
             String::from_utf8(out[..length].to_vec()).expect("a path is ASCII")
@@ -114,12 +114,12 @@ fn time(kind: Kind, legs: usize, pairs: usize) -> [String; 2] {
 fn time_way(sides: &Sides, home: bool, texts: &[String]) -> String {
     let (together, spots) = packed(texts);
     let paths = Paths { texts: &together, spots: &spots, count: PATHS };
-    let (mut out, mut replies) = (vec![0; LONGEST * PATHS], vec![0; PATHS]);
-    let mut one = [0; LONGEST];
+    let (mut out, mut replies) = (vec![0; MAX_PATH_LEN * PATHS], vec![0; PATHS]);
+    let mut one = [0; MAX_PATH_LEN];
     assert_eq!(route_all(sides.route(), home, paths, &mut out, &mut replies).0, 0);
     for (i, text) in texts.iter().enumerate() {
         let length = sides.original(home, text, &mut one);
-        assert!(replies[i] == 256 * length && out[LONGEST * i..].starts_with(&one[..length]));
+        assert!(replies[i] == 256 * length && out[MAX_PATH_LEN * i..].starts_with(&one[..length]));
     }
     let original = || {
         for text in texts {

@@ -3,7 +3,7 @@
 use crate::text::{Answer, MADE_NOT_LEGAL, MADE_TOO_LONG, NO_PATH, TOO_LITTLE_MEMORY, Text, paths};
 use mudvizsor::ffi::{Reply, paths};
 use original::sdf::Path;
-use texts::LONGEST;
+use texts::MAX_PATH_LEN;
 use texts::legal::is_legal;
 
 /// A call that answers one number about one text.
@@ -95,7 +95,7 @@ pub fn ancestors(text: &Text) -> Answer<Vec<usize>> {
 /// Questions 6, 7 and 8 put to what the definition gives.
 pub fn accept(made: Option<Path>) -> Answer<Path> {
     let path = made.ok_or(NO_PATH)?;
-    if path.as_str().len() > LONGEST {
+    if path.as_str().len() > MAX_PATH_LEN {
         return Err(MADE_TOO_LONG);
     }
     if !is_legal(path.as_str().as_bytes()) {

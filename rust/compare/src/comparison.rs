@@ -8,7 +8,7 @@ use crate::text::{Answer, Text, Texts};
 use mudvizsor::ffi::{Reply, paths};
 use original::sdf::Path;
 use std::collections::BTreeSet;
-use texts::LONGEST;
+use texts::MAX_PATH_LEN;
 
 const NUMBER_CALLS: [NumberCall; 5] = [
     calls::NEW,
@@ -22,10 +22,10 @@ const PATH_CALLS: [PathCall; 4] =
     [calls::PARENT, calls::PRIM_PATH, calls::SPLIT_PROPERTY, calls::STRIP_VARIANT_SELECTIONS];
 
 /// Bytes lent for a path.
-const ROOMS: [usize; 5] = [0, LONGEST - 1, LONGEST, LONGEST + 1, 300];
+const ROOMS: [usize; 5] = [0, MAX_PATH_LEN - 1, MAX_PATH_LEN, MAX_PATH_LEN + 1, 300];
 
 /// Numbers lent for the lengths of ancestors, at most: one for each length, and three more.
-const NUMBERS: usize = LONGEST + 1 + 3;
+const NUMBERS: usize = MAX_PATH_LEN + 1 + 3;
 
 pub struct Comparison {
     pub tally: Tally,
@@ -91,7 +91,7 @@ impl Comparison {
     ) {
         let full = expected.as_ref().map(|path| path.as_str().as_bytes()).map_err(|number| *number);
         for &room in rooms {
-            let expected = calls::within(room, LONGEST, full);
+            let expected = calls::within(room, MAX_PATH_LEN, full);
             let found = entry(self.bytes.lend(room));
             let wrong = self.bytes.first_wrong(expected.unwrap_or_default());
             let call = Call { name, given, room: Some(room) };

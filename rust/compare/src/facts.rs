@@ -5,7 +5,7 @@ use crate::text::{Text, Texts, parsed};
 use original::sdf::Path;
 
 /// A legal path of at most 255 bytes has at most so many ancestors, itself counted.
-const MOST_ANCESTORS: usize = 128;
+const MAX_ANCESTORS: usize = 128;
 
 impl Comparison {
     /// The facts about one legal path.
@@ -19,7 +19,7 @@ impl Comparison {
         }
         let mut fact = |name, holds| self.tally.fact(name, &Texts(&[text]), holds);
         fact("Path::new refuses no legal text but the empty one", refused == text.bytes.is_empty());
-        fact("a path has at most 128 ancestors", path.ancestors().count() <= MOST_ANCESTORS);
+        fact("a path has at most 128 ancestors", path.ancestors().count() <= MAX_ANCESTORS);
         fact("an ancestor is a beginning of the path", path.ancestors().all(|up| begins(path, &up)));
         fact("the prim path is a beginning of the path", begins(path, &path.prim_path()));
         fact("the property's name is the text after the dot", splits_at_dot(path));

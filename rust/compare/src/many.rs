@@ -8,7 +8,7 @@ use crate::text::{Answer, TOO_LITTLE_MEMORY, TOO_LONG, Text};
 use mudvizsor::ffi::Reply;
 use mudvizsor::ffi::maps::Paths;
 use original::sdf::Path;
-use texts::LONGEST;
+use texts::MAX_PATH_LEN;
 
 /// Bytes and numbers lent beyond those needed.
 const MORE: usize = 7;
@@ -64,7 +64,7 @@ impl Comparison {
         expected.push(Err(TOO_LONG));
         let lent = &LentPaths::new(texts);
         let count = lent.count;
-        let needed = Room { spots: 2 * count, bytes: LONGEST * count, replies: count };
+        let needed = Room { spots: 2 * count, bytes: MAX_PATH_LEN * count, replies: count };
         let more = Room { bytes: needed.bytes + MORE, replies: needed.replies + MORE, ..needed };
         for room in [needed, more] {
             self.all_carried(call, texts, lent, room, &expected);
@@ -119,7 +119,7 @@ fn memory_after(before: &[u8], expected: &[Answer<Path>]) -> Vec<u8> {
     for (i, path) in expected.iter().enumerate() {
         if let Ok(path) = path {
             let text = path.as_str().as_bytes();
-            memory[LONGEST * i..][..text.len()].copy_from_slice(text);
+            memory[MAX_PATH_LEN * i..][..text.len()].copy_from_slice(text);
         }
     }
     memory

@@ -7,7 +7,7 @@ use crate::cases;
 use crate::text::{Answer, Text};
 use original::sdf::Path;
 use std::{fs, io};
-use texts::LONGEST;
+use texts::MAX_PATH_LEN;
 use texts::random::Random;
 
 type Case = [Vec<u8>; 3];
@@ -39,7 +39,7 @@ fn sample(seed: u64) -> Vec<Case> {
 
 /// Mostly short, so that the sample stays small.
 fn recorded_length(random: &mut Random) -> usize {
-    if random.one_in(5) { random.within(LONGEST - 3..=LONGEST + 2) } else { random.below(30) }
+    if random.one_in(5) { random.within(MAX_PATH_LEN - 3..=MAX_PATH_LEN + 2) } else { random.below(30) }
 }
 
 /// Document 01's cases on paths, and each turn of the definitions.
@@ -134,7 +134,7 @@ fn chosen_cases() -> Vec<Case> {
 /// Paths, joined paths and numbers of ancestors at their limits and one beyond.
 fn cases_at_the_limit() -> Vec<Case> {
     let mut cases = Vec::new();
-    for length in LONGEST - 1..=LONGEST + 1 {
+    for length in MAX_PATH_LEN - 1..=MAX_PATH_LEN + 1 {
         for shape in ["/", "/A/", "/A{v=p}", "/A.b:", "/A.b"] {
             let path = padded(shape, length);
             cases.push([path.clone(), b"/A".to_vec(), b"/C".to_vec()]);
@@ -151,8 +151,8 @@ fn cases_at_the_limit() -> Vec<Case> {
         cases.push([padded(&("/A".repeat(126) + ".b"), length), b"/A/A".to_vec(), b"/C".to_vec()]);
     }
     // An illegal text beside one that is too long: 1 comes before 2.
-    cases.push([b"A".to_vec(), padded("/", LONGEST + 1), b"/C".to_vec()]);
-    cases.push([b"/A".to_vec(), b"A".to_vec(), padded("/", LONGEST + 1)]);
+    cases.push([b"A".to_vec(), padded("/", MAX_PATH_LEN + 1), b"/C".to_vec()]);
+    cases.push([b"/A".to_vec(), b"A".to_vec(), padded("/", MAX_PATH_LEN + 1)]);
     cases
 }
 

@@ -3,7 +3,7 @@
 use crate::tally::Given;
 use original::sdf::Path;
 use std::fmt::{self, Display};
-use texts::LONGEST;
+use texts::MAX_PATH_LEN;
 use texts::legal::is_legal;
 
 /// What a call answers, or document 01's number of its refusal.
@@ -53,7 +53,7 @@ impl Display for Texts<'_> {
 
 /// Questions 1 and 2 put to one text.
 pub fn path_of(bytes: &[u8]) -> Answer<Path> {
-    if bytes.len() > LONGEST {
+    if bytes.len() > MAX_PATH_LEN {
         return Err(TOO_LONG);
     }
     if !is_legal(bytes) {

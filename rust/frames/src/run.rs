@@ -6,7 +6,7 @@ use crate::state::State;
 use std::io::{self, ErrorKind, Read, Write};
 
 /// "A line of at most 4,096 digits".
-pub const LONGEST_LINE: usize = 4_096;
+pub const MAX_LINE_LEN: usize = 4_096;
 
 /// Bytes asked for at once.
 const BLOCK: usize = 65_536;
@@ -40,7 +40,7 @@ impl Run {
     }
 
     fn keep(&mut self, part: &[u8]) {
-        let room = LONGEST_LINE + 1 - self.line.len();
+        let room = MAX_LINE_LEN + 1 - self.line.len();
         self.line.extend_from_slice(&part[..part.len().min(room)]);
     }
 
@@ -52,7 +52,7 @@ impl Run {
 
 /// Appends the answer line, in capitals, and its newline.
 fn answer(state: &mut State, line: &[u8], answers: &mut Vec<u8>) {
-    let bytes = if line.len() > LONGEST_LINE { None } else { digits::read(line) };
+    let bytes = if line.len() > MAX_LINE_LEN { None } else { digits::read(line) };
     match bytes.as_deref().and_then(Frame::read) {
         None => digits::write(&BAD_FRAME, answers),
         Some(frame) => {

@@ -3,14 +3,14 @@
 use crate::frame::Frame;
 use original::pcp::{MapFunction, relocates};
 use original::sdf::Path;
-use texts::LONGEST;
+use texts::MAX_PATH_LEN;
 use texts::legal::is_legal;
 
-pub const MOST_PAIRS: usize = 64;
-pub const MOST_LEGS: usize = 16;
+pub const MAX_PAIRS: usize = 64;
+pub const MAX_LEGS: usize = 16;
 
 /// "In `frames` 32,768 over all legs": the bytes of the ends of all legs, before pairs are dropped.
-pub const MOST_BYTES: usize = 32_768;
+pub const MAX_BYTES: usize = 32_768;
 
 /// Document 01's number of a question that is answered "no".
 #[derive(Clone, Copy, Debug, PartialEq, Eq, PartialOrd, Ord)]
@@ -75,7 +75,7 @@ impl State {
             (Err(one), Err(other)) => return Err(one.min(other)),
             (Err(refusal), Ok(_)) | (Ok(_), Err(refusal)) => return Err(refusal),
         };
-        if self.open.len() == MOST_PAIRS {
+        if self.open.len() == MAX_PAIRS {
             return Err(Refusal::TooMany);
         }
         self.open.push(pair);
@@ -91,12 +91,12 @@ impl State {
 
     /// Makes a leg of `new` of the pairs, with `/`→`/` beside them where it is asked for, and empties the open list.
     fn close(&mut self, mut pairs: Vec<(Path, Path)>, with_root: bool) -> Result<Payload, Refusal> {
-        if self.legs.len() == MOST_LEGS {
+        if self.legs.len() == MAX_LEGS {
             return Err(Refusal::TooMany);
         }
         let bytes = |(source, target): &(Path, Path)| source.as_str().len() + target.as_str().len();
         let used = self.used + pairs.iter().map(bytes).sum::<usize>();
-        if used > MOST_BYTES {
+        if used > MAX_BYTES {
             return Err(Refusal::NoRoom);
         }
         if with_root {
@@ -123,7 +123,7 @@ impl State {
 
 /// Questions 1 and 2.
 fn path(text: &[u8]) -> Result<Path, Refusal> {
-    if text.len() > LONGEST {
+    if text.len() > MAX_PATH_LEN {
         return Err(Refusal::TooLong);
     }
     match str::from_utf8(text) {
@@ -144,7 +144,7 @@ fn end(text: &[u8]) -> Result<Path, Refusal> {
 fn made(path: Option<Path>) -> Result<Path, Refusal> {
     let path = path.ok_or(Refusal::NoPath)?;
     let text = path.as_str().as_bytes();
-    if text.len() > LONGEST {
+    if text.len() > MAX_PATH_LEN {
         Err(Refusal::MadeTooLong)
     } else if !is_legal(text) {
         Err(Refusal::MadeNotLegal)

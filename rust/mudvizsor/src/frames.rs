@@ -1,7 +1,7 @@
 //! The protocol of the program `frames`, line by line.
 
-use crate::ffi::frames::{LONGEST_ANSWER, Memory, line};
-use crate::refusal::sure;
+use crate::ffi::frames::{MAX_ANSWER_LEN, OwnedState, line};
+use crate::refusal::accepted;
 
 /// A run of the protocol: frames of hexadecimal digits, each answered by a line.
 ///
@@ -17,7 +17,7 @@ use crate::refusal::sure;
 /// ```
 #[derive(Debug, Clone, Default)]
 pub struct Frames {
-    memory: Memory,
+    memory: OwnedState,
 }
 
 impl Frames {
@@ -38,8 +38,8 @@ impl Frames {
     /// assert_eq!(frames.answer("052f41"), "85002F41");
     /// ```
     pub fn answer(&mut self, frame: &str) -> String {
-        let mut out = [0; LONGEST_ANSWER];
-        let length = sure(line(frame.as_bytes(), self.memory.lend(), &mut out));
+        let mut out = [0; MAX_ANSWER_LEN];
+        let length = accepted(line(frame.as_bytes(), self.memory.lend(), &mut out));
         String::from_utf8_lossy(&out[..length - 1]).into_owned()
     }
 }

@@ -42,7 +42,7 @@ impl LayerOffset {
     /// assert_eq!(LayerOffset::new(0.0, 1.0), LayerOffset::IDENTITY);
     /// ```
     pub fn new(offset: f64, scale: f64) -> Self {
-        made(|out| times::new(offset, scale, out))
+        read_offset(|out| times::new(offset, scale, out))
     }
 
     /// A scale with the offset 0.
@@ -52,7 +52,7 @@ impl LayerOffset {
     /// assert_eq!(LayerOffset::scale_only(2.0).apply(3.0), 6.0);
     /// ```
     pub fn scale_only(scale: f64) -> Self {
-        made(|out| times::scale_only(scale, out))
+        read_offset(|out| times::scale_only(scale, out))
     }
 
     /// Whether both numbers are finite.
@@ -117,7 +117,7 @@ impl LayerOffset {
     /// assert_eq!(LayerOffset::new(10.0, -0.0).inverse(), LayerOffset::IDENTITY);
     /// ```
     pub fn inverse(self) -> Self {
-        made(|out| times::inverse(self.offset, self.scale, out))
+        read_offset(|out| times::inverse(self.offset, self.scale, out))
     }
 
     /// Whether it can be composed: both numbers finite, the scale above zero.
@@ -137,7 +137,7 @@ impl LayerOffset {
     /// assert_eq!(LayerOffset::new(3.0, -1.0).sanitized(), LayerOffset::IDENTITY);
     /// ```
     pub fn sanitized(self) -> Self {
-        made(|out| times::sanitized(self.offset, self.scale, out))
+        read_offset(|out| times::sanitized(self.offset, self.scale, out))
     }
 
     /// This offset, the outer one, after `inner`.
@@ -148,12 +148,12 @@ impl LayerOffset {
     /// assert_eq!(outer.concatenate(inner), LayerOffset::new(12.0, 6.0));
     /// ```
     pub fn concatenate(self, inner: LayerOffset) -> Self {
-        made(|out| times::concatenate(self.offset, self.scale, inner.offset, inner.scale, out))
+        read_offset(|out| times::concatenate(self.offset, self.scale, inner.offset, inner.scale, out))
     }
 }
 
 /// The offset that a call writes.
-pub(crate) fn made(call: impl FnOnce(&mut [f64; 2])) -> LayerOffset {
+pub(crate) fn read_offset(call: impl FnOnce(&mut [f64; 2])) -> LayerOffset {
     let mut out = [0.0; 2];
     call(&mut out);
     LayerOffset::from(out)

@@ -40,10 +40,10 @@
 //! of the repository, where `rt staticlib exports` builds it; it runs that where the file is missing.
 #![deny(unsafe_op_in_unsafe_fn, unsafe_code, missing_docs)]
 
+mod batch;
 pub mod ffi;
 mod frames;
 mod layer_offset;
-mod many;
 mod map_function;
 mod pair_list;
 mod path;
@@ -56,13 +56,13 @@ pub use frames::Frames;
 pub use layer_offset::LayerOffset;
 pub use map_function::MapFunction;
 pub use pair_list::Pairs;
-pub use path::{Ancestors, LONGEST, Path};
+pub use path::{Ancestors, MAX_PATH_LEN, Path};
 pub use refusal::{Refusal, Result};
 pub use relocates::{Chain, Relocates, Status};
 pub use route::{Leg, Route, Steps};
 
 /// The most pairs of a list.
-pub const MOST_PAIRS: usize = 64;
+pub const MAX_PAIRS: usize = 64;
 
 /// The most legs of a route.
-pub const MOST_LEGS: usize = 16;
+pub const MAX_LEGS: usize = 16;

@@ -1,25 +1,26 @@
 //! Maps: a list of pairs, a root-identity mark and a time offset, over the entries for maps.
 
+use crate::batch::map_in_batches;
 use crate::ffi::Reply;
-use crate::ffi::makes::{self, Map, Room};
+use crate::ffi::map_build::{self, Map, MapBuffers};
+use crate::ffi::map_info;
 use crate::ffi::maps::{self, List, Way};
-use crate::ffi::reads;
 use crate::layer_offset;
-use crate::many::carried;
 use crate::pair_list::{Packed, PairList, Pairs};
-use crate::path::made;
-use crate::refusal::{Result, read, settled, sure};
-use crate::{LONGEST, LayerOffset, MOST_PAIRS, Path};
+use crate::path::read_path;
+use crate::refusal::{Result, accepted, never_refused, read};
+use crate::{LayerOffset, MAX_PAIRS, MAX_PATH_LEN, Path};
 
 /// The most bytes of a pair that is composed, rebased or deepened; they are counted before an end is refused for its
 /// length. One end was given, and has at most 255. The other is a path of at most 255 bytes with its prefix replaced by at
 /// most 255: an empty prefix or `/` goes without the path getting shorter, as a slash stands behind the new prefix.
-const PAIR_MADE: usize = LONGEST + 2 * LONGEST;
+const COMPOSED_PAIR_BYTES: usize = MAX_PATH_LEN + 2 * MAX_PATH_LEN;
 
 /// The most bytes of a pair in each of the three lists of `implied_class`. The ends of the inverse were given. The class
 /// after it is composed. In the transfer after that a composed pair's target gets another prefix of at most 255 bytes, or
 /// its source, of at most 510, becomes the prefix of a source given, beside a target given.
-const PAIRS_IMPLIED: [usize; 3] = [2 * LONGEST, PAIR_MADE, PAIR_MADE + LONGEST];
+const IMPLIED_PAIR_BYTES: [usize; 3] =
+    [2 * MAX_PATH_LEN, COMPOSED_PAIR_BYTES, COMPOSED_PAIR_BYTES + MAX_PATH_LEN];
 
 /// A map of paths: pairs of a source and a target, each a prim path, `/` or empty; the root-identity mark, with which a
 /// path that no pair takes stays where it is; and a time offset.
@@ -62,7 +63,7 @@ impl MapFunction {
     /// ```
     pub fn new<S: AsRef<str>, T: AsRef<str>>(pairs: impl IntoIterator<Item = (S, T)>) -> Result<Self> {
         let lent = Packed::new(pairs);
-        make(lent.store.len(), lent.count(), |room| makes::new(lent.list(false), room))
+        build(lent.store.len(), lent.count(), |buffers| map_build::new(lent.list(false), buffers))
     }
 
     /// The map of one pair, which stays as it is, without the mark. Refused with 1, 2 or 3 for its ends.
@@ -75,7 +76,7 @@ impl MapFunction {
     /// ```
     pub fn from_pair(source: impl AsRef<str>, target: impl AsRef<str>) -> Result<Self> {
         let (source, target) = (source.as_ref().as_bytes(), target.as_ref().as_bytes());
-        make(source.len() + target.len(), 1, |room| makes::from_pair(source, target, room))
+        build(source.len() + target.len(), 1, |buffers| map_build::from_pair(source, target, buffers))
     }
 
     /// The map of one pair, with the mark. Refused with 1, 2 or 3 for its ends.
@@ -88,7 +89,9 @@ impl MapFunction {
     /// ```
     pub fn from_pair_identity(source: impl AsRef<str>, target: impl AsRef<str>) -> Result<Self> {
         let (source, target) = (source.as_ref().as_bytes(), target.as_ref().as_bytes());
-        make(source.len() + target.len(), 1, |room| makes::from_pair_identity(source, target, room))
+        build(source.len() + target.len(), 1, |buffers| {
+            map_build::from_pair_identity(source, target, buffers)
+        })
     }
 
     /// The map that leaves every path and every time as it is: the mark, and no pairs.
@@ -100,7 +103,7 @@ impl MapFunction {
     /// # Ok::<(), mudvizsor::Refusal>(())
     /// ```
     pub fn identity() -> Self {
-        settled(make(0, 0, |room| reads::identity(room.time)))
+        never_refused(build(0, 0, |buffers| map_info::identity(buffers.time)))
     }
 
     /// The map that maps nothing.
@@ -110,7 +113,7 @@ impl MapFunction {
     /// assert_eq!(MapFunction::null().map_source_to_target(&Path::root()), Err(Refusal::NoPath));
     /// ```
     pub fn null() -> Self {
-        settled(make(0, 0, |room| reads::null(room.time)))
+        never_refused(build(0, 0, |buffers| map_info::null(buffers.time)))
     }
 }
 
@@ -136,7 +139,7 @@ impl MapFunction {
     /// assert!(MapFunction::identity().has_root_identity());
     /// ```
     pub fn has_root_identity(&self) -> bool {
-        self.tells(reads::has_root_identity)
+        self.query(map_info::has_root_identity)
     }
 
     /// Its time offset.
@@ -147,7 +150,9 @@ impl MapFunction {
     /// ```
     pub fn time_offset(&self) -> LayerOffset {
         let LayerOffset { offset, scale } = self.time;
-        layer_offset::made(|out| reads::time_offset(self.pairs().len(), self.mark, offset, scale, out))
+        layer_offset::read_offset(|out| {
+            map_info::time_offset(self.pairs().len(), self.mark, offset, scale, out)
+        })
     }
 
     /// Whether it maps nothing: no pairs, no mark.
@@ -157,7 +162,7 @@ impl MapFunction {
     /// assert!(MapFunction::null().is_null() && !MapFunction::identity().is_null());
     /// ```
     pub fn is_null(&self) -> bool {
-        self.tells(reads::is_null)
+        self.query(map_info::is_null)
     }
 
     /// Whether it leaves every path as it is: no pairs, but the mark.
@@ -168,7 +173,7 @@ impl MapFunction {
     /// assert!(late.path_is_identity() && !late.is_identity());
     /// ```
     pub fn path_is_identity(&self) -> bool {
-        self.tells(reads::path_is_identity)
+        self.query(map_info::path_is_identity)
     }
 
     /// Whether it leaves every path and every time as it is: no pairs, but the mark, and the offset (0, 1).
@@ -178,7 +183,7 @@ impl MapFunction {
     /// assert!(MapFunction::identity().is_identity());
     /// ```
     pub fn is_identity(&self) -> bool {
-        self.tells(reads::is_identity)
+        self.query(map_info::is_identity)
     }
 
     /// Whether it maps and changes nothing: it is not null, every pair has equal ends, and the offset is (0, 1).
@@ -190,11 +195,11 @@ impl MapFunction {
     /// # Ok::<(), mudvizsor::Refusal>(())
     /// ```
     pub fn is_noop(&self) -> bool {
-        sure(makes::is_noop(self.lent())) != 0
+        accepted(map_build::is_noop(self.lent())) != 0
     }
 
     /// What an entry tells of its own numbers.
-    fn tells(&self, entry: extern "C" fn(usize, bool, f64, f64) -> bool) -> bool {
+    fn query(&self, entry: extern "C" fn(usize, bool, f64, f64) -> bool) -> bool {
         entry(self.pairs().len(), self.mark, self.time.offset, self.time.scale)
     }
 }
@@ -211,7 +216,7 @@ impl MapFunction {
     /// # Ok::<(), mudvizsor::Refusal>(())
     /// ```
     pub fn map_source_to_target(&self, path: &Path) -> Result<Path> {
-        self.carry(Way::Out, path)
+        self.map_path(Way::Out, path)
     }
 
     /// Where the map takes the path back to, its targets being the keys: 6, 7 or 8 as on the way out.
@@ -223,7 +228,7 @@ impl MapFunction {
     /// # Ok::<(), mudvizsor::Refusal>(())
     /// ```
     pub fn map_target_to_source(&self, path: &Path) -> Result<Path> {
-        self.carry(Way::Home, path)
+        self.map_path(Way::Home, path)
     }
 
     /// Where the map takes the path without its selections; 6 also where the way back would take another pair.
@@ -237,7 +242,7 @@ impl MapFunction {
     /// # Ok::<(), Refusal>(())
     /// ```
     pub fn translate_to_target(&self, path: &Path) -> Result<Path> {
-        self.carry(Way::Translated, path)
+        self.map_path(Way::Translated, path)
     }
 
     /// Where the map takes each of many paths, in their order. The library checks the list once, not for each path.
@@ -250,11 +255,13 @@ impl MapFunction {
     /// # Ok::<(), Refusal>(())
     /// ```
     pub fn map_all<'a>(&self, way: Way, paths: impl IntoIterator<Item = &'a Path>) -> Vec<Result<Path>> {
-        carried(paths, |paths, out, replies| maps::carry_all(way, self.lent_list(), paths, out, replies))
+        map_in_batches(paths, |paths, out, replies| {
+            maps::apply_all(way, self.lent_list(), paths, out, replies)
+        })
     }
 
-    fn carry(&self, way: Way, path: &Path) -> Result<Path> {
-        made(|out| maps::carry(way, self.lent_list(), path.as_bytes(), out))
+    fn map_path(&self, way: Way, path: &Path) -> Result<Path> {
+        read_path(|out| maps::apply(way, self.lent_list(), path.as_bytes(), out))
     }
 }
 
@@ -272,8 +279,8 @@ impl MapFunction {
         let LayerOffset { offset, scale } = self.time;
         let (count, mut made) = (self.pairs().len(), [0.0; 2]);
         let reply =
-            reads::with_time_offset(count, self.mark, offset, scale, time.offset, time.scale, &mut made);
-        MapFunction { list: self.list, mark: sure(reply) % 2 == 1, time: made.into() }
+            map_info::with_time_offset(count, self.mark, offset, scale, time.offset, time.scale, &mut made);
+        MapFunction { list: self.list, mark: accepted(reply) % 2 == 1, time: made.into() }
     }
 
     /// The map with the mark put to it. Nothing is dropped.
@@ -285,7 +292,7 @@ impl MapFunction {
     /// # Ok::<(), mudvizsor::Refusal>(())
     /// ```
     pub fn with_root_identity(&self) -> Self {
-        settled(self.rearranged(makes::with_root_identity))
+        never_refused(self.derive(map_build::with_root_identity))
     }
 
     /// The map with the ends of each pair exchanged, and the time offset (0, 1).
@@ -296,7 +303,7 @@ impl MapFunction {
     /// # Ok::<(), mudvizsor::Refusal>(())
     /// ```
     pub fn inverse(&self) -> Self {
-        settled(self.rearranged(makes::inverse))
+        never_refused(self.derive(map_build::inverse))
     }
 
     /// The map without the pairs that have this source: 3 where that is no end.
@@ -308,7 +315,7 @@ impl MapFunction {
     /// # Ok::<(), mudvizsor::Refusal>(())
     /// ```
     pub fn dropping_source(&self, source: &Path) -> Result<Self> {
-        self.rearranged(|map, room| makes::dropping_source(map, source.as_bytes(), room))
+        self.derive(|map, buffers| map_build::dropping_source(map, source.as_bytes(), buffers))
     }
 
     /// This map after `inner`, as one map: 4 where it would have more than 64 pairs before dropping, 7 for an end that is
@@ -325,7 +332,7 @@ impl MapFunction {
     /// # Ok::<(), mudvizsor::Refusal>(())
     /// ```
     pub fn compose(&self, inner: &MapFunction) -> Result<Self> {
-        make_longer(&[PAIR_MADE], |room| makes::compose(self.lent(), inner.lent(), room))
+        build_longer(&[COMPOSED_PAIR_BYTES], |buffers| map_build::compose(self.lent(), inner.lent(), buffers))
     }
 
     /// The map with every target below `from` put below `to`; the identity becomes the pair of the two. Refused with 3
@@ -339,8 +346,8 @@ impl MapFunction {
     /// # Ok::<(), mudvizsor::Refusal>(())
     /// ```
     pub fn rebase_target(&self, from: &Path, to: &Path) -> Result<Self> {
-        make_longer(&[PAIR_MADE], |room| {
-            makes::rebase_target(self.lent(), from.as_bytes(), to.as_bytes(), room)
+        build_longer(&[COMPOSED_PAIR_BYTES], |buffers| {
+            map_build::rebase_target(self.lent(), from.as_bytes(), to.as_bytes(), buffers)
         })
     }
 
@@ -354,7 +361,9 @@ impl MapFunction {
     /// # Ok::<(), mudvizsor::Refusal>(())
     /// ```
     pub fn deepen_to(&self, node: &Path) -> Result<Self> {
-        make_longer(&[PAIR_MADE], |room| makes::deepen_to(self.lent(), node.as_bytes(), room))
+        build_longer(&[COMPOSED_PAIR_BYTES], |buffers| {
+            map_build::deepen_to(self.lent(), node.as_bytes(), buffers)
+        })
     }
 
     /// The map of the class across this transfer: the transfer after the class after the transfer's inverse, with the
@@ -370,12 +379,14 @@ impl MapFunction {
     /// # Ok::<(), mudvizsor::Refusal>(())
     /// ```
     pub fn implied_class(&self, class: &MapFunction) -> Result<Self> {
-        make_longer(&PAIRS_IMPLIED, |room| makes::implied_class(self.lent(), class.lent(), room))
+        build_longer(&IMPLIED_PAIR_BYTES, |buffers| {
+            map_build::implied_class(self.lent(), class.lent(), buffers)
+        })
     }
 
     /// A map whose ends are all among this map's.
-    fn rearranged(&self, call: impl FnOnce(Map, Room) -> Reply) -> Result<Self> {
-        make(self.list.bytes(), self.list.pairs.len(), |room| call(self.lent(), room))
+    fn derive(&self, call: impl FnOnce(Map, MapBuffers) -> Reply) -> Result<Self> {
+        build(self.list.bytes(), self.list.pairs.len(), |buffers| call(self.lent(), buffers))
     }
 }
 
@@ -392,18 +403,18 @@ impl MapFunction {
 }
 
 /// The map that a call makes, with so many bytes and pairs lent.
-fn make(bytes: usize, pairs: usize, call: impl FnOnce(Room) -> Reply) -> Result<MapFunction> {
-    let mut room = Packed::room(bytes, pairs);
+fn build(bytes: usize, pairs: usize, call: impl FnOnce(MapBuffers) -> Reply) -> Result<MapFunction> {
+    let mut buffers = Packed::zeroed(bytes, pairs);
     let mut time = [0.0; 2];
-    let reply = call(Room { out: &mut room.store, slots: &mut room.places, time: &mut time });
+    let reply = call(MapBuffers { out: &mut buffers.store, slots: &mut buffers.places, time: &mut time });
     let value = read(reply)?;
-    Ok(MapFunction { list: PairList::read(room, value / 2), mark: value % 2 == 1, time: time.into() })
+    Ok(MapFunction { list: PairList::read(buffers, value / 2), mark: value % 2 == 1, time: time.into() })
 }
 
 /// The map that a call makes which may lengthen ends. Memory is lent for 64 pairs of each of its lists, with so many
 /// bytes for a pair of each: more pairs are refused with 4 before 5 is asked.
-fn make_longer(lists: &[usize], call: impl FnOnce(Room) -> Reply) -> Result<MapFunction> {
-    make(MOST_PAIRS * lists.iter().sum::<usize>(), MOST_PAIRS * lists.len(), call)
+fn build_longer(lists: &[usize], call: impl FnOnce(MapBuffers) -> Reply) -> Result<MapFunction> {
+    build(MAX_PAIRS * lists.iter().sum::<usize>(), MAX_PAIRS * lists.len(), call)
 }
 
 #[cfg(test)]

@@ -68,7 +68,7 @@ impl Packed {
     }
 
     /// Empty memory for a list of so many bytes and pairs.
-    pub fn room(bytes: usize, pairs: usize) -> Self {
+    pub fn zeroed(bytes: usize, pairs: usize) -> Self {
         Packed { store: vec![0; bytes], places: vec![0; 4 * pairs] }
     }
 

@@ -1,16 +1,16 @@
 //! Path texts, over the entries for paths.
 
 use crate::ffi::{Reply, paths};
-use crate::refusal::{Refusal, Result, read, sure};
+use crate::refusal::{Refusal, Result, accepted, read};
 use std::borrow::Borrow;
 use std::fmt;
 use std::str::FromStr;
 
 /// The most bytes of a path.
-pub const LONGEST: usize = 255;
+pub const MAX_PATH_LEN: usize = 255;
 
 /// The most ancestors of a path, itself included.
-const MOST_ANCESTORS: usize = 128;
+const MAX_ANCESTORS: usize = 128;
 
 /// A legal scene path of at most 255 bytes, such as `/Line{season=winter}Stop/Signal.aspect:state`.
 ///
@@ -108,7 +108,7 @@ impl Path {
     /// # Ok::<(), mudvizsor::Refusal>(())
     /// ```
     pub fn is_end(&self) -> bool {
-        sure(paths::is_end(self.as_bytes())) != 0
+        accepted(paths::is_end(self.as_bytes())) != 0
     }
 
     /// Whether it has a selection.
@@ -119,7 +119,7 @@ impl Path {
     /// # Ok::<(), mudvizsor::Refusal>(())
     /// ```
     pub fn has_variant_selection(&self) -> bool {
-        sure(paths::has_variant_selection(self.as_bytes())) != 0
+        accepted(paths::has_variant_selection(self.as_bytes())) != 0
     }
 
     /// How many names and selections it has. A property counts for nothing.
@@ -130,7 +130,7 @@ impl Path {
     /// # Ok::<(), mudvizsor::Refusal>(())
     /// ```
     pub fn element_count(&self) -> usize {
-        sure(paths::element_count(self.as_bytes()))
+        accepted(paths::element_count(self.as_bytes()))
     }
 
     /// How many names it has.
@@ -141,7 +141,7 @@ impl Path {
     /// # Ok::<(), mudvizsor::Refusal>(())
     /// ```
     pub fn prim_element_count(&self) -> usize {
-        sure(paths::prim_element_count(self.as_bytes()))
+        accepted(paths::prim_element_count(self.as_bytes()))
     }
 
     /// Whether it is `prefix` or lies below it. The empty path is a prefix of every path.
@@ -154,7 +154,7 @@ impl Path {
     /// # Ok::<(), mudvizsor::Refusal>(())
     /// ```
     pub fn has_prefix(&self, prefix: &Path) -> bool {
-        sure(paths::has_prefix(self.as_bytes(), prefix.as_bytes())) != 0
+        accepted(paths::has_prefix(self.as_bytes(), prefix.as_bytes())) != 0
     }
 
     /// The path with `new` in place of its prefix `old`: 6 where `old` is no prefix, 7 or 8 where the path made is too
@@ -169,7 +169,7 @@ impl Path {
     /// # Ok::<(), Refusal>(())
     /// ```
     pub fn replace_prefix(&self, old: &Path, new: &Path) -> Result<Path> {
-        made(|out| paths::replace_prefix(self.as_bytes(), old.as_bytes(), new.as_bytes(), out))
+        read_path(|out| paths::replace_prefix(self.as_bytes(), old.as_bytes(), new.as_bytes(), out))
     }
 
     /// The path without its property or its last element: 6 for `/` and the empty path, which have none.
@@ -182,7 +182,7 @@ impl Path {
     /// # Ok::<(), Refusal>(())
     /// ```
     pub fn parent(&self) -> Result<Path> {
-        made(|out| paths::parent(self.as_bytes(), out))
+        read_path(|out| paths::parent(self.as_bytes(), out))
     }
 
     /// The path without its property, or, where it has none, without one selection at its end.
@@ -194,8 +194,8 @@ impl Path {
     /// # Ok::<(), mudvizsor::Refusal>(())
     /// ```
     pub fn prim_path(&self) -> Path {
-        let mut out = [0; LONGEST];
-        let length = sure(paths::prim_path(self.as_bytes(), &mut out));
+        let mut out = [0; MAX_PATH_LEN];
+        let length = accepted(paths::prim_path(self.as_bytes(), &mut out));
         Path::written(&out[..length])
     }
 
@@ -210,7 +210,7 @@ impl Path {
     /// # Ok::<(), Refusal>(())
     /// ```
     pub fn split_property(&self) -> Result<(Path, &str)> {
-        let prim = made(|out| paths::split_property(self.as_bytes(), out))?;
+        let prim = read_path(|out| paths::split_property(self.as_bytes(), out))?;
         let name = &self.0[prim.0.len() + 1..];
         Ok((prim, name))
     }
@@ -224,8 +224,8 @@ impl Path {
     /// # Ok::<(), mudvizsor::Refusal>(())
     /// ```
     pub fn strip_variant_selections(&self) -> Path {
-        let mut out = [0; LONGEST];
-        let length = sure(paths::strip_variant_selections(self.as_bytes(), &mut out));
+        let mut out = [0; MAX_PATH_LEN];
+        let length = accepted(paths::strip_variant_selections(self.as_bytes(), &mut out));
         Path::written(&out[..length])
     }
 
@@ -240,16 +240,16 @@ impl Path {
     /// # Ok::<(), mudvizsor::Refusal>(())
     /// ```
     pub fn ancestors(&self) -> Ancestors<'_> {
-        let mut lengths = vec![0; MOST_ANCESTORS];
-        let count = sure(paths::ancestors(self.as_bytes(), &mut lengths));
+        let mut lengths = vec![0; MAX_ANCESTORS];
+        let count = accepted(paths::ancestors(self.as_bytes(), &mut lengths));
         lengths.truncate(count);
         Ancestors { path: self, lengths: lengths.into_iter() }
     }
 }
 
 /// The path that a call writes to the memory lent to it.
-pub(crate) fn made(call: impl FnOnce(&mut [u8]) -> Reply) -> Result<Path> {
-    let mut out = [0; LONGEST];
+pub(crate) fn read_path(call: impl FnOnce(&mut [u8]) -> Reply) -> Result<Path> {
+    let mut out = [0; MAX_PATH_LEN];
     let length = read(call(&mut out))?;
     Ok(Path::written(&out[..length]))
 }
@@ -264,7 +264,7 @@ pub struct Ancestors<'a> {
 
 impl Ancestors<'_> {
     /// The beginning of the path with this length.
-    fn beginning(&self, length: usize) -> Path {
+    fn ancestor(&self, length: usize) -> Path {
         Path(self.path.0[..length].into())
     }
 }
@@ -273,7 +273,7 @@ impl Iterator for Ancestors<'_> {
     type Item = Path;
 
     fn next(&mut self) -> Option<Path> {
-        self.lengths.next().map(|length| self.beginning(length))
+        self.lengths.next().map(|length| self.ancestor(length))
     }
 
     fn size_hint(&self) -> (usize, Option<usize>) {
@@ -283,7 +283,7 @@ impl Iterator for Ancestors<'_> {
 
 impl DoubleEndedIterator for Ancestors<'_> {
     fn next_back(&mut self) -> Option<Path> {
-        self.lengths.next_back().map(|length| self.beginning(length))
+        self.lengths.next_back().map(|length| self.ancestor(length))
     }
 }
 

@@ -112,22 +112,22 @@ impl Error for Refusal {}
 pub(crate) fn read(reply: Reply) -> Result<usize> {
     match reply.number() {
         0 => Ok(reply.value()),
-        number => Err(known(number)),
+        number => Err(refusal_of(number)),
     }
 }
 
 /// The value of a reply that is proved to be an answer, since all texts have been checked.
-pub(crate) fn sure(reply: Reply) -> usize {
-    settled(read(reply))
+pub(crate) fn accepted(reply: Reply) -> usize {
+    never_refused(read(reply))
 }
 
 /// The answer of a call that is proved never to be refused here.
-pub(crate) fn settled<T>(answer: Result<T>) -> T {
+pub(crate) fn never_refused<T>(answer: Result<T>) -> T {
     answer.unwrap_or_else(|refusal| unreachable!("checked texts were refused: {refusal}"))
 }
 
 /// The refusal with a number that the library gave.
-fn known(number: usize) -> Refusal {
+fn refusal_of(number: usize) -> Refusal {
     let refusal = u8::try_from(number).ok().and_then(Refusal::from_number);
     refusal.unwrap_or_else(|| unreachable!("the library gave the number {number}"))
 }
@@ -150,13 +150,13 @@ mod tests {
         assert_eq!(read(Reply::answer(0)), Ok(0));
         assert_eq!(read(Reply::answer(255)), Ok(255));
         assert_eq!(read(Reply::refusal(7)), Err(Refusal::MadeTooLong));
-        assert_eq!(sure(Reply::answer(3)), 3);
+        assert_eq!(accepted(Reply::answer(3)), 3);
     }
 
     #[test]
     #[should_panic(expected = "checked texts were refused")]
     fn a_refusal_is_not_sure() {
-        sure(Reply::refusal(2));
+        accepted(Reply::refusal(2));
     }
 
     #[test]

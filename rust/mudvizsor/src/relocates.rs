@@ -4,7 +4,7 @@ use crate::Path;
 use crate::ffi::maps::List;
 use crate::ffi::relocates;
 use crate::pair_list::{Packed, PairList, Pairs};
-use crate::path::{LONGEST, made};
+use crate::path::{MAX_PATH_LEN, read_path};
 use crate::refusal::{Result, read};
 use std::fmt;
 
@@ -160,7 +160,7 @@ impl Relocates {
     /// # Ok::<(), mudvizsor::Refusal>(())
     /// ```
     pub fn chain(&self, path: &Path) -> Result<Chain> {
-        self.chained(false, &Path::empty(), path)
+        self.chain_with(false, &Path::empty(), path)
     }
 
     /// The end of the path's chain without the pairs that have the source `skipped`.
@@ -173,7 +173,7 @@ impl Relocates {
     /// # Ok::<(), mudvizsor::Refusal>(())
     /// ```
     pub fn chain_skipping(&self, skipped: &Path, path: &Path) -> Result<Chain> {
-        self.chained(true, skipped, path)
+        self.chain_with(true, skipped, path)
     }
 
     /// The endpoint under the nearest rename above it, or itself. Refused with 7 or 8 where the path made is too long or
@@ -187,11 +187,11 @@ impl Relocates {
     /// # Ok::<(), mudvizsor::Refusal>(())
     /// ```
     pub fn shift(&self, endpoint: &Path) -> Result<Path> {
-        made(|out| relocates::shift_through_nearest_ancestor(self.lent_list(), endpoint.as_bytes(), out))
+        read_path(|out| relocates::shift_through_nearest_ancestor(self.lent_list(), endpoint.as_bytes(), out))
     }
 
-    fn chained(&self, skips: bool, skipped: &Path, path: &Path) -> Result<Chain> {
-        let mut out = [0; LONGEST];
+    fn chain_with(&self, skips: bool, skipped: &Path, path: &Path) -> Result<Chain> {
+        let mut out = [0; MAX_PATH_LEN];
         let (skipped, path) = (skipped.as_bytes(), path.as_bytes());
         let reply = relocates::chain_through_relocates(self.lent_list(), skips, skipped, path, &mut out);
         let value = read(reply)?;

@@ -1,9 +1,9 @@
 //! Routes of maps and relocate lists.
 
+use crate::batch::map_in_batches;
 use crate::ffi::routes::{self, Route as Lent};
-use crate::many::carried;
 use crate::pair_list::{Packed, Pairs};
-use crate::path::{LONGEST, made};
+use crate::path::{MAX_PATH_LEN, read_path};
 use crate::refusal::{Refusal, Result, read};
 use crate::{MapFunction, Path, Relocates};
 use std::ops::Range;
@@ -109,13 +109,13 @@ impl Route {
             first += count;
         }
         let route = Route { legs, packed, numbers };
-        route.checked()?;
+        route.validate()?;
         Ok(route)
     }
 
     /// Puts the questions about the legs, which come before any about where a path goes.
-    fn checked(&self) -> Result<()> {
-        let reply = routes::route_out(self.lent(0..self.legs.len()), b"", &mut [0; LONGEST]);
+    fn validate(&self) -> Result<()> {
+        let reply = routes::route_out(self.lent(0..self.legs.len()), b"", &mut [0; MAX_PATH_LEN]);
         match read(reply) {
             Err(refusal) if refusal < Refusal::NoPath => Err(refusal),
             _ => Ok(()),
@@ -145,7 +145,7 @@ impl Route {
     /// # Ok::<(), Refusal>(())
     /// ```
     pub fn out(&self, path: &Path) -> Result<Path> {
-        self.over(0..self.legs.len(), false, path)
+        self.map_over(0..self.legs.len(), false, path)
     }
 
     /// Where the path comes to on the way home, the last leg first: 6, 7 or 8 as on the way out.
@@ -157,7 +157,7 @@ impl Route {
     /// # Ok::<(), mudvizsor::Refusal>(())
     /// ```
     pub fn home(&self, path: &Path) -> Result<Path> {
-        self.over(0..self.legs.len(), true, path)
+        self.map_over(0..self.legs.len(), true, path)
     }
 
     /// Where each of many paths comes to on the way out, in their order. The library checks the legs once for all.
@@ -170,7 +170,7 @@ impl Route {
     /// # Ok::<(), Refusal>(())
     /// ```
     pub fn out_all<'a>(&self, paths: impl IntoIterator<Item = &'a Path>) -> Vec<Result<Path>> {
-        self.all_over(false, paths)
+        self.map_all_over(false, paths)
     }
 
     /// Where each of many paths comes to on the way home, in their order.
@@ -182,7 +182,7 @@ impl Route {
     /// # Ok::<(), mudvizsor::Refusal>(())
     /// ```
     pub fn home_all<'a>(&self, paths: impl IntoIterator<Item = &'a Path>) -> Vec<Result<Path>> {
-        self.all_over(true, paths)
+        self.map_all_over(true, paths)
     }
 
     /// What each leg gives on the way out, one after the other. A refusal is the last item.
@@ -198,7 +198,7 @@ impl Route {
     /// # Ok::<(), Refusal>(())
     /// ```
     pub fn steps_out(&self, path: &Path) -> Steps<'_> {
-        Steps { route: self, home: false, left: 0..self.legs.len(), at: Some(path.clone()) }
+        Steps { route: self, home: false, remaining: 0..self.legs.len(), current: Some(path.clone()) }
     }
 
     /// What each leg gives on the way home, the last leg first. A refusal is the last item.
@@ -212,7 +212,7 @@ impl Route {
     /// # Ok::<(), mudvizsor::Refusal>(())
     /// ```
     pub fn steps_home(&self, path: &Path) -> Steps<'_> {
-        Steps { route: self, home: true, left: 0..self.legs.len(), at: Some(path.clone()) }
+        Steps { route: self, home: true, remaining: 0..self.legs.len(), current: Some(path.clone()) }
     }
 
     /// Some of the legs as they are lent.
@@ -222,17 +222,17 @@ impl Route {
     }
 
     /// The path over some of the legs.
-    fn over(&self, legs: Range<usize>, home: bool, path: &Path) -> Result<Path> {
+    fn map_over(&self, legs: Range<usize>, home: bool, path: &Path) -> Result<Path> {
         let route = self.lent(legs);
         match home {
-            false => made(|out| routes::route_out(route, path.as_bytes(), out)),
-            true => made(|out| routes::route_home(route, path.as_bytes(), out)),
+            false => read_path(|out| routes::route_out(route, path.as_bytes(), out)),
+            true => read_path(|out| routes::route_home(route, path.as_bytes(), out)),
         }
     }
 
-    fn all_over<'a>(&self, home: bool, paths: impl IntoIterator<Item = &'a Path>) -> Vec<Result<Path>> {
+    fn map_all_over<'a>(&self, home: bool, paths: impl IntoIterator<Item = &'a Path>) -> Vec<Result<Path>> {
         let route = self.lent(0..self.legs.len());
-        carried(paths, |paths, out, replies| routes::route_all(route, home, paths, out, replies))
+        map_in_batches(paths, |paths, out, replies| routes::route_all(route, home, paths, out, replies))
     }
 }
 
@@ -242,18 +242,18 @@ pub struct Steps<'a> {
     route: &'a Route,
     home: bool,
     /// The legs that are left.
-    left: Range<usize>,
+    remaining: Range<usize>,
     /// Where the path has come to, unless its way has ended.
-    at: Option<Path>,
+    current: Option<Path>,
 }
 
 impl Iterator for Steps<'_> {
     type Item = Result<Path>;
 
     fn next(&mut self) -> Option<Self::Item> {
-        let leg = if self.home { self.left.next_back() } else { self.left.next() }?;
-        let step = self.route.over(leg..leg + 1, self.home, self.at.as_ref()?);
-        self.at = step.as_ref().ok().cloned();
+        let leg = if self.home { self.remaining.next_back() } else { self.remaining.next() }?;
+        let step = self.route.map_over(leg..leg + 1, self.home, self.current.as_ref()?);
+        self.current = step.as_ref().ok().cloned();
         Some(step)
     }
 }

@@ -1,6 +1,6 @@
 //! Reading a scenario. `help.txt` says how one is written.
 
-use mudvizsor::{Leg, MOST_LEGS, MOST_PAIRS, MapFunction, Path, Refusal, Relocates};
+use mudvizsor::{Leg, MAX_LEGS, MAX_PAIRS, MapFunction, Path, Refusal, Relocates};
 
 /// Legs, and the signals that go over them.
 #[derive(Debug, Default)]
@@ -119,8 +119,8 @@ impl Reader {
         }
         self.close();
         self.legs_begun += 1;
-        if self.legs_begun == MOST_LEGS + 1 {
-            self.problem(line, format!("more than {MOST_LEGS} legs (4)"));
+        if self.legs_begun == MAX_LEGS + 1 {
+            self.problem(line, format!("more than {MAX_LEGS} legs (4)"));
         }
         self.place = Place::Leg(Open { line, relocates, title, pairs: Vec::new(), lines: Vec::new() });
     }
@@ -155,8 +155,8 @@ impl Reader {
         if let [Ok(source), Ok(target)] = ends {
             open.pairs.push((source, target));
         }
-        if open.lines.len() == MOST_PAIRS + 1 {
-            self.problem(number, format!("more than {MOST_PAIRS} pairs in this leg (4)"));
+        if open.lines.len() == MAX_PAIRS + 1 {
+            self.problem(number, format!("more than {MAX_PAIRS} pairs in this leg (4)"));
         }
     }
 

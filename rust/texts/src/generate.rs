@@ -1,6 +1,6 @@
 //! Random legal texts, and texts that stand in some relation to a given one.
 
-use crate::LONGEST;
+use crate::MAX_PATH_LEN;
 use crate::damage::{damaged, with_byte_inserted};
 use crate::random::Random;
 
@@ -14,7 +14,7 @@ const SHORTEST_SELECTION: usize = 5;
 pub fn length(random: &mut Random) -> usize {
     match random.below(5) {
         0 | 1 => random.below(25),
-        2 | 3 => random.within(LONGEST - 5..=LONGEST + 5),
+        2 | 3 => random.within(MAX_PATH_LEN - 5..=MAX_PATH_LEN + 5),
         _ => random.below(300),
     }
 }
@@ -167,7 +167,7 @@ pub fn new_prefix_for(random: &mut Random, text: &[u8], old: &[u8]) -> Vec<u8> {
 /// A length that brings the joined text to 253 to 258 bytes, where that is possible.
 fn joining_length(random: &mut Random, text: &[u8], old: &[u8]) -> usize {
     let rest = text.len().saturating_sub(old.len());
-    random.within(LONGEST - 2..=LONGEST + 3).saturating_sub(rest)
+    random.within(MAX_PATH_LEN - 2..=MAX_PATH_LEN + 3).saturating_sub(rest)
 }
 
 #[cfg(test)]

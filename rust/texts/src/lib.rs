@@ -11,4 +11,4 @@ pub mod legal;
 pub mod random;
 
 /// The longest path text that is accepted, in bytes.
-pub const LONGEST: usize = 255;
+pub const MAX_PATH_LEN: usize = 255;

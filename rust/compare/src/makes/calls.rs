@@ -5,16 +5,16 @@ use crate::comparison::Comparison;
 use crate::lent::Lent;
 use crate::makes::before::{self, Pairs};
 use crate::maps::calls::both;
-use crate::maps::list::{List, MOST_PAIRS, NOT_AN_END, TOO_MANY_PAIRS};
+use crate::maps::list::{List, MAX_PAIRS, NOT_AN_END, TOO_MANY_PAIRS};
 use crate::tally::{Call, Given};
 use crate::text::{Answer, MADE_NOT_LEGAL, MADE_TOO_LONG, TOO_LITTLE_MEMORY, Text};
 use crate::times::calls::is_same;
 use mudvizsor::ffi::Reply;
-use mudvizsor::ffi::makes::{self, Room};
+use mudvizsor::ffi::map_build::{self, MapBuffers};
 use original::pcp::MapFunction;
 use original::sdf::{LayerOffset, Path};
 use std::fmt::{self, Display};
-use texts::LONGEST;
+use texts::MAX_PATH_LEN;
 use texts::legal::is_legal;
 
 /// A list with a time offset.
@@ -24,8 +24,8 @@ pub struct Map {
 }
 
 impl Map {
-    fn for_library(&self) -> makes::Map<'_> {
-        makes::Map { list: self.list.for_library(), time: self.time }
+    fn for_library(&self) -> map_build::Map<'_> {
+        map_build::Map { list: self.list.for_library(), time: self.time }
     }
 
     /// The original's map, or the first "no" of questions 1 to 4.
@@ -75,13 +75,13 @@ impl Making {
 
     /// Questions 4, 5, 7 and 8.
     fn within(&self, bytes: usize, slots: usize) -> Answer<&MapFunction> {
-        if self.before.iter().any(|list| list.len() > MOST_PAIRS) {
+        if self.before.iter().any(|list| list.len() > MAX_PAIRS) {
             return Err(TOO_MANY_PAIRS);
         }
         if bytes < self.bytes_needed() || slots / 4 < self.pairs_needed() {
             return Err(TOO_LITTLE_MEMORY);
         }
-        if self.ends().any(|end| end.as_str().len() > LONGEST) {
+        if self.ends().any(|end| end.as_str().len() > MAX_PATH_LEN) {
             return Err(MADE_TOO_LONG);
         }
         if !self.ends().all(|end| is_legal(end.as_str().as_bytes())) {
@@ -183,15 +183,15 @@ impl Comparison {
     pub fn one_map(&mut self, map: &Map) {
         let given = &Inputs { maps: &[map], texts: &[] };
         let list = map.list.for_library();
-        self.made("MapFunction::new", given, &new(&map.list), |room| makes::new(list, room));
+        self.made("MapFunction::new", given, &new(&map.list), |room| map_build::new(list, room));
         let expected = map.original().map(|map| Making::as_it_is(map.with_root_identity()));
         self.made("with_root_identity", given, &expected, |room| {
-            makes::with_root_identity(map.for_library(), room)
+            map_build::with_root_identity(map.for_library(), room)
         });
-        self.made("inverse", given, &inverse(map), |room| makes::inverse(map.for_library(), room));
+        self.made("inverse", given, &inverse(map), |room| map_build::inverse(map.for_library(), room));
         let expected = map.original().map(|map| usize::from(map.is_noop()));
         let call = Call { name: "is_noop", given, room: None };
-        self.tally.compare(call, expected, makes::is_noop(map.for_library()), None);
+        self.tally.compare(call, expected, map_build::is_noop(map.for_library()), None);
         if let Ok(map) = map.original() {
             self.own_numbers(&map);
         }
@@ -200,21 +200,21 @@ impl Comparison {
     pub fn dropping_source(&mut self, map: &Map, source: &Text) {
         let given = &Inputs { maps: &[map], texts: &[source] };
         self.made("dropping_source", given, &dropping_source(map, source), |room| {
-            makes::dropping_source(map.for_library(), &source.bytes, room)
+            map_build::dropping_source(map.for_library(), &source.bytes, room)
         });
     }
 
     pub fn rebase_target(&mut self, map: &Map, from: &Text, to: &Text) {
         let given = &Inputs { maps: &[map], texts: &[from, to] };
         self.made("rebase_target", given, &rebase_target(map, from, to), |room| {
-            makes::rebase_target(map.for_library(), &from.bytes, &to.bytes, room)
+            map_build::rebase_target(map.for_library(), &from.bytes, &to.bytes, room)
         });
     }
 
     pub fn deepen_to(&mut self, map: &Map, path: &Text) {
         let given = &Inputs { maps: &[map], texts: &[path] };
         self.made("deepen_to", given, &deepen_to(map, path), |room| {
-            makes::deepen_to(map.for_library(), &path.bytes, room)
+            map_build::deepen_to(map.for_library(), &path.bytes, room)
         });
     }
 
@@ -222,10 +222,12 @@ impl Comparison {
     pub fn one_pair(&mut self, source: &Text, target: &Text) {
         let given = &Inputs { maps: &[], texts: &[source, target] };
         let expected = from_pair(source, target, MapFunction::from_pair);
-        self.made("from_pair", given, &expected, |room| makes::from_pair(&source.bytes, &target.bytes, room));
+        self.made("from_pair", given, &expected, |room| {
+            map_build::from_pair(&source.bytes, &target.bytes, room)
+        });
         let expected = from_pair(source, target, MapFunction::from_pair_identity);
         self.made("from_pair_identity", given, &expected, |room| {
-            makes::from_pair_identity(&source.bytes, &target.bytes, room)
+            map_build::from_pair_identity(&source.bytes, &target.bytes, room)
         });
     }
 
@@ -233,10 +235,10 @@ impl Comparison {
     pub fn two_maps(&mut self, outer: &Map, inner: &Map) {
         let given = &Inputs { maps: &[outer, inner], texts: &[] };
         self.made("implied_class", given, &implied_class(outer, inner), |room| {
-            makes::implied_class(outer.for_library(), inner.for_library(), room)
+            map_build::implied_class(outer.for_library(), inner.for_library(), room)
         });
         self.made("compose", given, &compose(outer, inner), |room| {
-            makes::compose(outer.for_library(), inner.for_library(), room)
+            map_build::compose(outer.for_library(), inner.for_library(), room)
         });
     }
 
@@ -246,7 +248,7 @@ impl Comparison {
         name: &'static str,
         given: &dyn Given,
         expected: &Answer<Making>,
-        entry: impl Fn(Room) -> Reply,
+        entry: impl Fn(MapBuffers) -> Reply,
     ) {
         let (bytes, slots) = match expected {
             Ok(making) => (making.bytes_needed(), 4 * making.pairs_needed()),
@@ -268,13 +270,13 @@ impl Comparison {
         given: &dyn Given,
         expected: &Answer<Making>,
         [bytes, slots]: [usize; 2],
-        entry: impl Fn(Room) -> Reply,
+        entry: impl Fn(MapBuffers) -> Reply,
     ) {
         let expected = expected.as_ref().map_err(|number| *number);
         let expected = expected.and_then(|making| making.within(bytes, slots));
         let (mut out, mut numbers) = (Lent::bytes(bytes), Lent::numbers(slots));
         let (found, time) =
-            left(|time| entry(Room { out: out.lend(bytes), slots: numbers.lend(slots), time }));
+            left(|time| entry(MapBuffers { out: out.lend(bytes), slots: numbers.lend(slots), time }));
         let (text, places) = expected.map_or_else(|_| Default::default(), written);
         let wrong = out.first_wrong(&text).or(numbers.first_wrong(&places));
         let call = Call { name, given, room: Some(bytes) };

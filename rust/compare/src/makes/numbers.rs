@@ -2,17 +2,17 @@
 
 use crate::comparison::Comparison;
 use crate::makes::calls::{left, time_of, value};
-use crate::maps::list::{MOST_PAIRS, TOO_MANY_PAIRS};
+use crate::maps::list::{MAX_PAIRS, TOO_MANY_PAIRS};
 use crate::tally::{Call, Given};
 use crate::text::Answer;
 use crate::times::special::FLOATS;
-use mudvizsor::ffi::{Reply, reads};
+use mudvizsor::ffi::{Reply, map_info};
 use original::pcp::MapFunction;
 use original::sdf::{LayerOffset, Path};
 use std::fmt::{self, Display};
 
 /// How many pairs a map has: none, some, the most, and one more.
-const COUNTS: [usize; 5] = [0, 1, 2, MOST_PAIRS, MOST_PAIRS + 1];
+const COUNTS: [usize; 5] = [0, 1, 2, MAX_PAIRS, MAX_PAIRS + 1];
 
 /// A question to a map's own numbers.
 struct Question {
@@ -22,16 +22,16 @@ struct Question {
 }
 
 const QUESTIONS: [Question; 4] = [
-    Question { name: "is_null", entry: reads::is_null, original: MapFunction::is_null },
+    Question { name: "is_null", entry: map_info::is_null, original: MapFunction::is_null },
     Question {
         name: "path_is_identity",
-        entry: reads::path_is_identity,
+        entry: map_info::path_is_identity,
         original: MapFunction::leaves_every_path,
     },
-    Question { name: "is_identity", entry: reads::is_identity, original: MapFunction::is_identity },
+    Question { name: "is_identity", entry: map_info::is_identity, original: MapFunction::is_identity },
     Question {
         name: "has_root_identity",
-        entry: reads::has_root_identity,
+        entry: map_info::has_root_identity,
         original: MapFunction::has_root_identity,
     },
 ];
@@ -39,8 +39,8 @@ const QUESTIONS: [Question; 4] = [
 /// Every number of pairs with either mark and every offset of special floats.
 pub fn run(comparison: &mut Comparison) {
     let (identity, null) = (MapFunction::identity(), MapFunction::null());
-    comparison.numbers_made("identity", &Own(&identity), Ok(&identity), |time| reads::identity(time));
-    comparison.numbers_made("null", &Own(&null), Ok(&null), |time| reads::null(time));
+    comparison.numbers_made("identity", &Own(&identity), Ok(&identity), |time| map_info::identity(time));
+    comparison.numbers_made("null", &Own(&null), Ok(&null), |time| map_info::null(time));
     let pair = ["/A", "/B"].map(|end| Path::new(end).expect("a path"));
     for count in COUNTS {
         for mark in [false, true] {
@@ -65,12 +65,12 @@ impl Comparison {
             let call = Call { name: question.name, given, room: None };
             self.tally.values(call, expected == found, expected, found);
         }
-        let ((), time) = left(|time| reads::time_offset(count, mark, offset, scale, time));
+        let ((), time) = left(|time| map_info::time_offset(count, mark, offset, scale, time));
         self.time(Call { name: "time_offset", given, room: None }, Ok(map), time);
         let made = map.clone().with_time_offset(LayerOffset::new(scale, offset));
-        let expected = if count > MOST_PAIRS { Err(TOO_MANY_PAIRS) } else { Ok(&made) };
+        let expected = if count > MAX_PAIRS { Err(TOO_MANY_PAIRS) } else { Ok(&made) };
         self.numbers_made("with_time_offset", given, expected, |time| {
-            reads::with_time_offset(count, mark, offset, scale, scale, offset, time)
+            map_info::with_time_offset(count, mark, offset, scale, scale, offset, time)
         });
     }
 

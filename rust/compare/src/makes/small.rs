@@ -6,7 +6,7 @@ use crate::makes::calls::Map;
 use crate::maps::list::List;
 use crate::maps::small::{ENDS, FEW_ENDS, pairs};
 use crate::text::Text;
-use texts::LONGEST;
+use texts::MAX_PATH_LEN;
 
 const IDENTITY: [f64; 2] = [0.0, 1.0];
 
@@ -45,7 +45,7 @@ pub fn three_pairs(comparison: &mut Comparison) {
 /// Every list of at most two pairs, its targets rebased from each text to each, and deepened to each.
 pub fn moved(comparison: &mut Comparison) {
     let ends = ENDS.iter().map(|end| Text::new(end.as_bytes()));
-    let long = [b"/A/", [b'B'; LONGEST].as_slice()].concat();
+    let long = [b"/A/", [b'B'; MAX_PATH_LEN].as_slice()].concat();
     let others = [b"/A{v=p}B".as_slice(), b"/A/B.a", b"/A/", &long].map(Text::new);
     let texts: Vec<Text> = ends.chain(others).collect();
     for map in maps(&lists(&ENDS)) {

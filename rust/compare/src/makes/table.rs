@@ -4,7 +4,7 @@ use crate::comparison::Comparison;
 use crate::makes::calls::Map;
 use crate::maps::list::List;
 use crate::text::Text;
-use texts::LONGEST;
+use texts::MAX_PATH_LEN;
 
 const IDENTITY: [f64; 2] = [0.0, 1.0];
 
@@ -30,7 +30,7 @@ pub fn run(comparison: &mut Comparison) {
         comparison.two_maps(&map_with_mark(&[["/X", "/Y"]]), &map_with_mark(&numbered(count - 1)));
         comparison.two_maps(&map_with_mark(&numbered(count - 1)), &map_with_mark(&[["/X", "/Y"]]));
     }
-    for length in LONGEST - 3..=LONGEST {
+    for length in MAX_PATH_LEN - 3..=MAX_PATH_LEN {
         long_ends(comparison, length);
     }
 }

@@ -6,11 +6,11 @@ use crate::many::Many;
 use crate::maps::list::List;
 use crate::tally::Given;
 use crate::text::{Answer, Text};
-use mudvizsor::ffi::maps::{Paths, Way, carry, carry_all};
+use mudvizsor::ffi::maps::{Paths, Way, apply, apply_all};
 use original::pcp::MapFunction;
 use original::sdf::Path;
 use std::fmt::{self, Display};
-use texts::LONGEST;
+use texts::MAX_PATH_LEN;
 
 /// A call that makes one path of another by a map.
 pub struct MapCall {
@@ -31,7 +31,7 @@ pub const TRANSLATED: MapCall =
 pub const CALLS: [MapCall; 3] = [OUT, BACK, TRANSLATED];
 
 /// Bytes lent for the path.
-const ROOMS: [usize; 3] = [LONGEST - 1, LONGEST, 300];
+const ROOMS: [usize; 3] = [MAX_PATH_LEN - 1, MAX_PATH_LEN, 300];
 
 impl MapCall {
     pub fn expected(&self, list: &List, text: &Text) -> Answer<Path> {
@@ -72,7 +72,7 @@ impl Comparison {
     pub fn map(&mut self, list: &List, text: &Text) {
         for call in &CALLS {
             let expected = call.expected(list, text);
-            let entry = |out: &mut [u8]| carry(call.way, list.for_library(), &text.bytes, out);
+            let entry = |out: &mut [u8]| apply(call.way, list.for_library(), &text.bytes, out);
             self.path(call.name, &WithText { given: list, text }, &ROOMS, &expected, entry);
         }
     }
@@ -82,7 +82,7 @@ impl Comparison {
         for call in &CALLS {
             let expected = texts.iter().map(|text| call.expected(list, text)).collect();
             let entry = |paths: Paths, out: &mut [u8], replies: &mut [usize]| {
-                carry_all(call.way, list.for_library(), paths, out, replies)
+                apply_all(call.way, list.for_library(), paths, out, replies)
             };
             self.many(&Many { name: "map_all", given: list, entry: &entry }, texts, expected);
         }

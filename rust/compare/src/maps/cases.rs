@@ -2,7 +2,7 @@
 
 use crate::comparison::Comparison;
 use crate::maps::flaws::FLAWS;
-use crate::maps::list::{LentList, List, MOST_PAIRS};
+use crate::maps::list::{LentList, List, MAX_PAIRS};
 use crate::text::Text;
 use texts::damage::damaged;
 use texts::ends::{family, path_under};
@@ -55,7 +55,7 @@ pub fn count(random: &mut Random) -> usize {
     match random.below(10) {
         0..=6 => random.within(0..=5),
         7 | 8 => random.within(6..=20),
-        _ => random.within(MOST_PAIRS - 3..=MOST_PAIRS),
+        _ => random.within(MAX_PAIRS - 3..=MAX_PAIRS),
     }
 }
 

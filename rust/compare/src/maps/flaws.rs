@@ -2,9 +2,9 @@
 //! one that is asked for first is answered.
 
 use crate::comparison::Comparison;
-use crate::maps::list::{LentList, List, MOST_PAIRS};
+use crate::maps::list::{LentList, List, MAX_PAIRS};
 use crate::text::Text;
-use texts::LONGEST;
+use texts::MAX_PATH_LEN;
 use texts::damage::damaged;
 use texts::generate::{end_text, legal_text};
 use texts::random::Random;
@@ -43,7 +43,7 @@ pub fn every_set(comparison: &mut Comparison, random: &mut Random) {
 
 /// A call whose flaws are those at the bits of `set`.
 fn with_flaws(comparison: &mut Comparison, random: &mut Random, set: usize) {
-    let count = *random.pick(&[1, 2, 5, MOST_PAIRS]);
+    let count = *random.pick(&[1, 2, 5, MAX_PAIRS]);
     let mut list = LentList::packed(&vec![["/A", "/B"]; count], random.one_in(2));
     let mut path = b"/A/C".to_vec();
     for (at, flaw) in FLAWS.iter().enumerate() {
@@ -57,7 +57,7 @@ fn with_flaws(comparison: &mut Comparison, random: &mut Random, set: usize) {
 }
 
 pub fn long_path(random: &mut Random, _: &mut LentList, path: &mut Vec<u8>) {
-    let length = random.within(LONGEST + 1..=2 * LONGEST);
+    let length = random.within(MAX_PATH_LEN + 1..=2 * MAX_PATH_LEN);
     *path = legal_text(random, length);
 }
 
@@ -66,7 +66,7 @@ pub fn illegal_path(random: &mut Random, _: &mut LentList, path: &mut Vec<u8>) {
 }
 
 pub fn long_end(random: &mut Random, list: &mut LentList, _: &mut Vec<u8>) {
-    let length = random.within(LONGEST + 1..=2 * LONGEST);
+    let length = random.within(MAX_PATH_LEN + 1..=2 * MAX_PATH_LEN);
     let end = end_text(random, length);
     replace_an_end(random, list, &end);
 }
@@ -118,7 +118,7 @@ pub fn place_outside(random: &mut Random, list: &mut LentList, _: &mut Vec<u8>) 
 
 /// The list repeated beyond its limit.
 fn too_many_pairs(random: &mut Random, list: &mut LentList, _: &mut Vec<u8>) {
-    let pairs = random.within(MOST_PAIRS + 1..=MOST_PAIRS + 3);
+    let pairs = random.within(MAX_PAIRS + 1..=MAX_PAIRS + 3);
     list.places = list.places.iter().copied().cycle().take(4 * pairs).collect();
     list.count = list.places.len() / 4;
 }
@@ -138,6 +138,6 @@ fn count_beyond_the_slice(random: &mut Random, list: &mut LentList, _: &mut Vec<
 /// the slice is sometimes made good by rubbish.
 pub fn rubbish_behind_the_list(random: &mut Random, list: &mut LentList, _: &mut Vec<u8>) {
     for _ in 0..random.within(1..=9) {
-        list.places.push(random.within(0..=2 * LONGEST));
+        list.places.push(random.within(0..=2 * MAX_PATH_LEN));
     }
 }

@@ -12,7 +12,7 @@ pub const NOT_AN_END: u8 = 3;
 pub const TOO_MANY_PAIRS: u8 = 4;
 
 /// The most pairs that a list may have.
-pub const MOST_PAIRS: usize = 64;
+pub const MAX_PAIRS: usize = 64;
 
 /// The memory of a list: the bytes of its ends, and where each of them stands.
 #[derive(Clone, Default)]
@@ -131,7 +131,7 @@ pub fn map_of(list: ffi::maps::List) -> Answer<MapFunction> {
     if let Some(number) = ends.iter().filter_map(|end| end.as_ref().err()).min() {
         return Err(*number);
     }
-    if held(list) < list.count || list.count > MOST_PAIRS {
+    if held(list) < list.count || list.count > MAX_PAIRS {
         return Err(TOO_MANY_PAIRS);
     }
     let paths: Vec<Path> = ends.into_iter().flatten().collect();

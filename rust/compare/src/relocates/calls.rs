@@ -11,10 +11,10 @@ use mudvizsor::ffi::relocates as entries;
 use original::pcp::relocates;
 use original::sdf::Path;
 use std::fmt::{self, Display};
-use texts::LONGEST;
+use texts::MAX_PATH_LEN;
 
 /// Bytes lent for a path.
-const ROOMS: [usize; 3] = [LONGEST - 1, LONGEST, 300];
+const ROOMS: [usize; 3] = [MAX_PATH_LEN - 1, MAX_PATH_LEN, 300];
 
 /// Where a chain ends, and how many replacements were made.
 pub type Chained = (Path, usize);
@@ -121,7 +121,7 @@ impl Comparison {
         for room in ROOMS {
             let expected = match &full {
                 Err(number) if *number < TOO_LITTLE_MEMORY => Err(*number),
-                _ if room < LONGEST => Err(TOO_LITTLE_MEMORY),
+                _ if room < MAX_PATH_LEN => Err(TOO_LITTLE_MEMORY),
                 full => full.as_ref().map_err(|number| *number),
             };
             let mut bytes = Lent::bytes(room);

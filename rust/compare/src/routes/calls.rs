@@ -13,7 +13,7 @@ use mudvizsor::ffi::maps::Paths;
 use mudvizsor::ffi::routes::{self, route_all, route_home, route_out};
 use original::pcp::MapFunction;
 use original::sdf::Path;
-use texts::LONGEST;
+use texts::MAX_PATH_LEN;
 
 /// A call that takes a path over a route.
 pub struct RouteCall {
@@ -29,7 +29,7 @@ pub const HOME: RouteCall = RouteCall { name: "route_home", home: true, entry: r
 pub const CALLS: [RouteCall; 2] = [OUT, HOME];
 
 /// Bytes lent for the path.
-pub const ROOMS: [usize; 3] = [LONGEST - 1, LONGEST, 300];
+pub const ROOMS: [usize; 3] = [MAX_PATH_LEN - 1, MAX_PATH_LEN, 300];
 
 impl RouteCall {
     pub fn expected(&self, route: &Route, text: &Text) -> Answer<Path> {
@@ -123,7 +123,7 @@ impl Comparison {
 
 /// Where the library comes to on its way home from where it came out.
 fn library_back(route: &Route, path: &[u8]) -> Result<Vec<u8>, Reply> {
-    let (mut out, mut home) = ([0; LONGEST], [0; LONGEST]);
+    let (mut out, mut home) = ([0; MAX_PATH_LEN], [0; MAX_PATH_LEN]);
     let written = |reply: Reply| if reply.number() == 0 { Ok(reply.value()) } else { Err(reply) };
     let length = written(route_out(route.for_library(), path, &mut out))?;
     let length = written(route_home(route.for_library(), &out[..length], &mut home))?;

@@ -4,10 +4,10 @@ use crate::comparison::Comparison;
 use crate::maps::cases::{Pair, count, lay_out, path_for};
 use crate::routes::calls::{OUT, ROOMS};
 use crate::routes::flaws::FLAWS;
-use crate::routes::lent_route::{LentRoute, MOST_LEGS, Route};
+use crate::routes::lent_route::{LentRoute, MAX_LEGS, Route};
 use crate::text::Text;
 use original::sdf::Path;
-use texts::LONGEST;
+use texts::MAX_PATH_LEN;
 use texts::ends::family;
 use texts::generate::{beginnings, continued};
 use texts::random::Random;
@@ -68,8 +68,8 @@ fn leg_count(random: &mut Random) -> usize {
     match random.below(10) {
         0 => random.within(0..=1),
         1..=6 => random.within(2..=5),
-        7 | 8 => random.within(6..=MOST_LEGS - 1),
-        _ => MOST_LEGS,
+        7 | 8 => random.within(6..=MAX_LEGS - 1),
+        _ => MAX_LEGS,
     }
 }
 
@@ -135,7 +135,7 @@ fn other_path(random: &mut Random, legs: &[Leg], path: &[u8]) -> Vec<u8> {
         1 => path_for(random, &last.pairs),
         _ => {
             let end = end_above(random, path);
-            let length = (end.len() + random.below(30)).min(LONGEST);
+            let length = (end.len() + random.below(30)).min(MAX_PATH_LEN);
             continued(random, &end, length)
         }
     }

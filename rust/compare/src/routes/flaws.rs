@@ -3,9 +3,9 @@
 
 use crate::comparison::Comparison;
 use crate::maps::flaws;
-use crate::maps::list::MOST_PAIRS;
+use crate::maps::list::MAX_PAIRS;
 use crate::routes::calls::ROOMS;
-use crate::routes::lent_route::{LentRoute, MOST_LEGS, Route};
+use crate::routes::lent_route::{LentRoute, MAX_LEGS, Route};
 use crate::text::Text;
 use texts::random::Random;
 
@@ -45,7 +45,7 @@ pub fn every_set(comparison: &mut Comparison, random: &mut Random) {
 fn with_flaws(comparison: &mut Comparison, random: &mut Random, set: usize) {
     let size = *random.pick(&[1, 2, 5]);
     let (there, back) = (vec![["/A/B", "/A/C"]; size], vec![["/A/C", "/A/B"]; size]);
-    let count = *random.pick(&[1, 2, 3, MOST_LEGS]);
+    let count = *random.pick(&[1, 2, 3, MAX_LEGS]);
     let legs: Vec<(usize, &[_])> =
         [&there, &back].into_iter().cycle().take(count).map(|list| (random.below(3), &list[..])).collect();
     let mut route = LentRoute::packed(&legs);
@@ -70,11 +70,11 @@ fn too_many_pairs(random: &mut Random, route: &mut LentRoute, _: &mut Vec<u8>) {
     let (Some(leg), false) = (a_leg(random, route), route.list.places.is_empty()) else {
         return;
     };
-    let pairs = random.within(MOST_PAIRS + 1..=MOST_PAIRS + 3);
-    let numbers = 4 * (route.legs[leg + 1] % MOST_PAIRS + pairs);
+    let pairs = random.within(MAX_PAIRS + 1..=MAX_PAIRS + 3);
+    let numbers = 4 * (route.legs[leg + 1] % MAX_PAIRS + pairs);
     let places = route.list.places.iter().copied().cycle();
     route.list.places = places.take(numbers.max(route.list.places.len())).collect();
-    route.legs[leg + 1] %= MOST_PAIRS;
+    route.legs[leg + 1] %= MAX_PAIRS;
     route.legs[leg + 2] = pairs;
 }
 
@@ -98,7 +98,7 @@ fn list_beyond_the_places(random: &mut Random, route: &mut LentRoute, _: &mut Ve
 
 /// The legs repeated beyond their limit.
 fn too_many_legs(random: &mut Random, route: &mut LentRoute, _: &mut Vec<u8>) {
-    let legs = random.within(MOST_LEGS + 1..=MOST_LEGS + 3);
+    let legs = random.within(MAX_LEGS + 1..=MAX_LEGS + 3);
     route.legs = route.legs.iter().copied().cycle().take(3 * legs).collect();
     route.count = route.legs.len() / 3;
 }
@@ -125,6 +125,6 @@ fn any_kind(random: &mut Random, route: &mut LentRoute, _: &mut Vec<u8>) {
 fn rubbish_behind(random: &mut Random, route: &mut LentRoute, path: &mut Vec<u8>) {
     flaws::rubbish_behind_the_list(random, &mut route.list, path);
     for _ in 0..random.within(1..=7) {
-        route.legs.push(random.within(0..=2 * MOST_PAIRS));
+        route.legs.push(random.within(0..=2 * MAX_PAIRS));
     }
 }

@@ -9,7 +9,7 @@ use original::sdf::Path;
 use std::fmt::{self, Display};
 
 /// The most legs that a route may have. More count as too many pairs do.
-pub const MOST_LEGS: usize = 16;
+pub const MAX_LEGS: usize = 16;
 
 /// The memory of a route: one list with the pairs of all legs, and three numbers for each leg.
 #[derive(Clone, Default)]
@@ -110,7 +110,7 @@ fn maps_of(lent: &LentRoute) -> Answer<Vec<MapFunction>> {
     if let Some(number) = maps.iter().filter_map(|map| map.as_ref().err()).min() {
         return Err(*number);
     }
-    if lent.held() < lent.count || lent.count > MOST_LEGS {
+    if lent.held() < lent.count || lent.count > MAX_LEGS {
         return Err(TOO_MANY_PAIRS);
     }
     maps.into_iter().collect()

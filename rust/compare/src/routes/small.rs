@@ -4,7 +4,7 @@ use crate::comparison::Comparison;
 use crate::maps::small::{ENDS, pairs};
 use crate::routes::lent_route::Route;
 use crate::text::Text;
-use texts::LONGEST;
+use texts::MAX_PATH_LEN;
 
 /// A map, a map with the mark, and a relocate list.
 const KINDS: [usize; 3] = [0, 1, 2];
@@ -49,7 +49,7 @@ fn every_two(comparison: &mut Comparison, lists: &[List], texts: &[Text]) {
 
 fn every_path(comparison: &mut Comparison, route: &Route, texts: &[Text]) {
     for text in texts {
-        comparison.route(route, text, &[LONGEST]);
+        comparison.route(route, text, &[MAX_PATH_LEN]);
     }
     comparison.route_all(route, texts);
 }

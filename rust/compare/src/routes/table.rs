@@ -7,7 +7,7 @@ use crate::maps::list::TOO_MANY_PAIRS;
 use crate::routes::calls::{HOME, OUT, ROOMS, RouteCall};
 use crate::routes::lent_route::Route;
 use crate::text::{Answer, MADE_NOT_LEGAL, MADE_TOO_LONG, NO_PATH, TOO_LONG, Text};
-use texts::LONGEST;
+use texts::MAX_PATH_LEN;
 
 type Leg = (usize, &'static [[&'static str; 2]]);
 
@@ -69,7 +69,7 @@ pub fn run(comparison: &mut Comparison) {
         let (route, text) = (Route::packed(legs), Text::new(path.as_bytes()));
         one_case(comparison, &route, &text, call, answer);
     }
-    for length in LONGEST - 3..=LONGEST + 1 {
+    for length in MAX_PATH_LEN - 3..=MAX_PATH_LEN + 1 {
         long_path(comparison, length);
     }
 }
@@ -95,8 +95,8 @@ fn long_path(comparison: &mut Comparison, length: usize) {
     let route = Route::packed(&[A_TO_B, (MAP, &[["/B", "/B/C"]])]);
     let longer = path("/B/C");
     let answer = match length {
-        ..=LONGEST if longer.len() <= LONGEST => Ok(longer.as_str()),
-        ..=LONGEST => Err(MADE_TOO_LONG),
+        ..=MAX_PATH_LEN if longer.len() <= MAX_PATH_LEN => Ok(longer.as_str()),
+        ..=MAX_PATH_LEN => Err(MADE_TOO_LONG),
         _ => Err(TOO_LONG),
     };
     one_case(comparison, &route, &Text::new(path("/A").as_bytes()), &OUT, &answer);

@@ -3,11 +3,11 @@
 use super::{Reply, entry};
 
 /// The bytes of the longest answer line: two bytes and a path of 255, two digits each, and the newline.
-pub const LONGEST_ANSWER: usize = 515;
+pub const MAX_ANSWER_LEN: usize = 515;
 
 /// What is kept between two lines, as it is lent. All of it is 0 before the first line, and has the lengths that are
 /// named here; an entry that finds less answers with document 01's numbers 4 and 5.
-pub struct Kept<'a> {
+pub struct LentState<'a> {
     /// Five numbers: the pairs and bytes of the open list, the legs and their bytes before dropping, the 05 frames
     /// answered 00.
     pub numbers: &'a mut [usize],
@@ -23,9 +23,9 @@ pub struct Kept<'a> {
     pub table: &'a mut [usize],
 }
 
-/// Memory of one's own for [`Kept`], with the lengths that are named there.
+/// OwnedState of one's own for [`LentState`], with the lengths that are named there.
 #[derive(Debug, Clone)]
-pub struct Memory {
+pub struct OwnedState {
     numbers: [usize; 5],
     bytes: Vec<u8>,
     places: Vec<usize>,
@@ -34,10 +34,10 @@ pub struct Memory {
     table: Vec<usize>,
 }
 
-impl Memory {
+impl OwnedState {
     /// The memory before the first line.
     pub fn new() -> Self {
-        Memory {
+        OwnedState {
             numbers: [0; 5],
             bytes: vec![0; 32_640],
             places: vec![0; 256],
@@ -48,21 +48,21 @@ impl Memory {
     }
 
     /// The memory, lent to a call.
-    pub fn lend(&mut self) -> Kept<'_> {
-        let Memory { numbers, bytes, places, store, slots, table } = self;
-        Kept { numbers, bytes, places, store, slots, table }
+    pub fn lend(&mut self) -> LentState<'_> {
+        let OwnedState { numbers, bytes, places, store, slots, table } = self;
+        LentState { numbers, bytes, places, store, slots, table }
     }
 }
 
-impl Default for Memory {
+impl Default for OwnedState {
     fn default() -> Self {
         Self::new()
     }
 }
 
 /// Does what a line says, which is given without its newline, writes the answer line with its newline to `out`, which
-/// has at least [`LONGEST_ANSWER`] bytes, and gives its length.
-pub fn line(line: &[u8], kept: Kept, out: &mut [u8]) -> Reply {
+/// has at least [`MAX_ANSWER_LEN`] bytes, and gives its length.
+pub fn line(line: &[u8], kept: LentState, out: &mut [u8]) -> Reply {
     entry!(mudvizsor_frames_line:
         text line, slots kept.numbers, out kept.bytes, slots kept.places, out kept.store, slots kept.slots,
         slots kept.table, out out,)

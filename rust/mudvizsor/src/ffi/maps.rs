@@ -38,7 +38,7 @@ impl Way {
 }
 
 /// Writes what the map makes of `path` and gives its length.
-pub fn carry(way: Way, list: List, path: &[u8], out: &mut [u8]) -> Reply {
+pub fn apply(way: Way, list: List, path: &[u8], out: &mut [u8]) -> Reply {
     match way {
         Way::Out => entry!(mudvizsor_map_source_to_target: list list, text path, out out,),
         Way::Home => entry!(mudvizsor_map_target_to_source: list list, text path, out out,),
@@ -57,8 +57,8 @@ pub struct Paths<'a> {
     pub count: usize,
 }
 
-/// Writes what the map makes of each path to 255 bytes of its own in `out`, and the reply of `carry` for it, as
+/// Writes what the map makes of each path to 255 bytes of its own in `out`, and the reply of `apply` for it, as
 /// one number, to `replies`.
-pub fn carry_all(way: Way, list: List, paths: Paths, out: &mut [u8], replies: &mut [usize]) -> Reply {
+pub fn apply_all(way: Way, list: List, paths: Paths, out: &mut [u8], replies: &mut [usize]) -> Reply {
     entry!(mudvizsor_map_all: list list, number way.number(), paths paths, out out, slots replies,)
 }

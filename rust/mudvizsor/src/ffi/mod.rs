@@ -2,7 +2,7 @@
 //!
 //! This is the crate's only binding, and the only place with `unsafe`. The types of the crate stand on it; it is
 //! public for programs that lend their own memory, such as the comparison with the original. A list, a map or a route
-//! passes as the bytes of its ends and the places of these ([`maps::List`], [`makes::Map`], [`routes::Route`]). An entry
+//! passes as the bytes of its ends and the places of these ([`maps::List`], [`map_build::Map`], [`routes::Route`]). An entry
 //! trusts nothing that it is lent: a place outside its bytes, an illegal text or a count beyond its slice is refused. A
 //! refused call writes nothing.
 //!
@@ -24,10 +24,10 @@
 
 mod entry;
 pub mod frames;
-pub mod makes;
+pub mod map_build;
+pub mod map_info;
 pub mod maps;
 pub mod paths;
-pub mod reads;
 pub mod relocates;
 pub mod routes;
 pub mod times;

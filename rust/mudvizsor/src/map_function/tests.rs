@@ -71,9 +71,9 @@ fn questions_in_order() {
 #[test]
 fn at_most_64_pairs() {
     let pairs = |count: usize| (0..count).map(|i| (format!("/A{i}"), format!("/B{i}")));
-    let most = MapFunction::new(pairs(MOST_PAIRS)).unwrap();
-    assert_eq!(most.pairs().len(), MOST_PAIRS);
-    assert_eq!(MapFunction::new(pairs(MOST_PAIRS + 1)), Err(Refusal::TooMany));
+    let most = MapFunction::new(pairs(MAX_PAIRS)).unwrap();
+    assert_eq!(most.pairs().len(), MAX_PAIRS);
+    assert_eq!(MapFunction::new(pairs(MAX_PAIRS + 1)), Err(Refusal::TooMany));
     assert_eq!(most.inverse().inverse(), most);
     assert_eq!(most.clone().with_time_offset(LayerOffset::IDENTITY), most);
     let one_more = MapFunction::from_pair_identity("/Q", "/R").unwrap();
@@ -136,7 +136,7 @@ fn many_paths_go_as_one_does() {
     let some = map(&[("/A", "/X"), ("/A/B", ""), ("/C", "/X/C"), ("/", "/")]);
     let paths: Vec<Path> = ["", "/", "/A/b.c", "/A/B/C", "/C", "/X/C", "/A{v=p}", "/D"].map(path).into();
     for way in [Way::Out, Way::Home, Way::Translated] {
-        let singly: Vec<_> = paths.iter().map(|path| some.carry(way, path)).collect();
+        let singly: Vec<_> = paths.iter().map(|path| some.map_path(way, path)).collect();
         assert_eq!(some.map_all(way, &paths), singly);
     }
 }

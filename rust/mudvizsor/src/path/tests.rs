@@ -25,9 +25,9 @@ fn legal_and_illegal_texts() {
 
 #[test]
 fn the_longest_path() {
-    assert!(Path::new(&named(LONGEST)).is_ok());
-    assert_eq!(Path::new(&named(LONGEST + 1)), Err(Refusal::TooLong));
-    let (one, longest) = (path("/A"), path(&named(LONGEST)));
+    assert!(Path::new(&named(MAX_PATH_LEN)).is_ok());
+    assert_eq!(Path::new(&named(MAX_PATH_LEN + 1)), Err(Refusal::TooLong));
+    let (one, longest) = (path("/A"), path(&named(MAX_PATH_LEN)));
     assert_eq!(path("/A/b").replace_prefix(&one, &longest), Err(Refusal::MadeTooLong));
 }
 
@@ -86,7 +86,7 @@ fn ancestors_from_both_sides() {
     let backwards: Vec<_> = path(all[0]).ancestors().rev().map(String::from).collect();
     assert_eq!(backwards, Vec::from_iter(all.into_iter().rev()));
     let deepest = path(&"/n".repeat(127));
-    assert_eq!(deepest.ancestors().len(), MOST_ANCESTORS);
+    assert_eq!(deepest.ancestors().len(), MAX_ANCESTORS);
     assert!(deepest.ancestors().zip(deepest.ancestors().skip(1)).all(|(one, next)| one.parent() == Ok(next)));
 }
 

@@ -1,7 +1,7 @@
 //! Tests of routes.
 
 use super::*;
-use crate::MOST_LEGS;
+use crate::MAX_LEGS;
 
 fn path(text: &str) -> Path {
     Path::new(text).unwrap()
@@ -96,11 +96,11 @@ fn no_legs() {
 #[test]
 fn limits() {
     let most = relocates(&[]);
-    assert!(Route::new(vec![most.clone(); MOST_LEGS]).is_ok());
-    assert_eq!(Route::new(vec![most; MOST_LEGS + 1]).unwrap_err(), Refusal::TooMany);
+    assert!(Route::new(vec![most.clone(); MAX_LEGS]).is_ok());
+    assert_eq!(Route::new(vec![most; MAX_LEGS + 1]).unwrap_err(), Refusal::TooMany);
     // The `/` to `/` that a relocate leg adds is not counted.
     let pairs = (0..64).map(|i| (format!("/A/s{i}"), format!("/A/t{i}")));
-    let full = Route::new(vec![Relocates::new(pairs).unwrap().into(); MOST_LEGS]).unwrap();
+    let full = Route::new(vec![Relocates::new(pairs).unwrap().into(); MAX_LEGS]).unwrap();
     assert_eq!(full.out(&path("/A/s63.p")), Err(Refusal::NoPath));
     assert_eq!(full.out(&path("/B")), Path::new("/B"));
 }

@@ -2,13 +2,13 @@
 
 use crate::frames::generate::writer::Writer;
 use frames_original::Frame;
-use texts::LONGEST;
+use texts::MAX_PATH_LEN;
 use texts::damage::damaged;
 use texts::generate::{legal_text, length};
 use texts::random::Random;
 
 /// The most bytes of both ends of a pair within a line.
-const MOST_BOTH: usize = 2_048 - 5;
+const MAX_PAIR_BYTES: usize = 2_048 - 5;
 
 /// A pair or a path to be refused, mostly.
 pub fn frame(writer: &mut Writer) {
@@ -29,7 +29,7 @@ pub fn frame(writer: &mut Writer) {
         }
         _ => {
             let other = self::text(writer.random);
-            let room = MOST_BOTH.saturating_sub(text.len());
+            let room = MAX_PAIR_BYTES.saturating_sub(text.len());
             writer.frame(Frame::Pair { source: &text, target: &other[..other.len().min(room)] });
         }
     }
@@ -39,11 +39,11 @@ pub fn frame(writer: &mut Writer) {
 fn text(random: &mut Random) -> Vec<u8> {
     match random.below(6) {
         0 => {
-            let length = random.within(LONGEST - 1..=LONGEST + 2);
+            let length = random.within(MAX_PATH_LEN - 1..=MAX_PATH_LEN + 2);
             legal_text(random, length)
         }
         1 => {
-            let length = random.within(LONGEST + 1..=MOST_BOTH);
+            let length = random.within(MAX_PATH_LEN + 1..=MAX_PAIR_BYTES);
             legal_text(random, length)
         }
         2 => (0..random.below(20)).map(|_| random.below(256) as u8).collect(),

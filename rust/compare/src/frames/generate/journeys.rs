@@ -142,7 +142,7 @@ fn path_for(writer: &mut Writer, start: &[u8]) -> Vec<u8> {
         }
         None => {
             let end = end_above(writer.random, start);
-            let length = (end.len() + writer.random.below(30)).min(texts::LONGEST);
+            let length = (end.len() + writer.random.below(30)).min(texts::MAX_PATH_LEN);
             continued(writer.random, &end, length)
         }
     }

@@ -3,7 +3,7 @@
 use crate::frames::generate::journeys::any_frame;
 use crate::frames::generate::writer::Writer;
 use frames_original::Frame;
-use frames_original::run::LONGEST_LINE;
+use frames_original::run::MAX_LINE_LEN;
 use texts::random::Random;
 
 /// Makes a bad line of a good one.
@@ -119,8 +119,8 @@ fn empty(_: &mut Random, _: Vec<u8>) -> Vec<u8> {
 /// The line goes on beyond the limit, sometimes beyond any block. A part of what is added would be a frame.
 fn overlong(random: &mut Random, mut line: Vec<u8>) -> Vec<u8> {
     let length = match random.below(8) {
-        0..=3 => LONGEST_LINE + random.within(1..=3),
-        4..=6 => LONGEST_LINE + random.below(10_000),
+        0..=3 => MAX_LINE_LEN + random.within(1..=3),
+        4..=6 => MAX_LINE_LEN + random.below(10_000),
         _ => random.within(60_000..=140_000),
     };
     let more = length.saturating_sub(line.len());
