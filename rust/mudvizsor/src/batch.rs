@@ -1,4 +1,4 @@
-//! Many paths in one call.
+//! Calls that map many paths at once.
 
 use crate::Path;
 use crate::ffi::Reply;
@@ -6,11 +6,11 @@ use crate::ffi::maps::Paths;
 use crate::path::MAX_PATH_LEN;
 use crate::refusal::{Result, accepted, read};
 
-/// So many paths are given to the library at once; more are given in several calls.
+/// The number of paths that are passed to the library in one call; more paths are passed in several calls.
 const BATCH: usize = 4_096;
 
-/// What a call on many paths makes of each, in their order. The call gets the paths, 255 bytes for each, and a number for
-/// each reply.
+/// Maps each path and returns the results in the order of the paths. `call` is passed a batch of paths, an output buffer with
+/// 255 bytes for each, and a buffer with one number for each reply.
 pub(crate) fn map_in_batches<'a>(
     paths: impl IntoIterator<Item = &'a Path>,
     mut call: impl FnMut(Paths, &mut [u8], &mut [usize]) -> Reply,
@@ -30,7 +30,7 @@ pub(crate) fn map_in_batches<'a>(
     answers
 }
 
-/// The texts one after the other, and start and length of each.
+/// Concatenates the texts; returns them with the start and length of each.
 fn pack(paths: &[&Path]) -> (Vec<u8>, Vec<usize>) {
     let (mut texts, mut spots) = (Vec::new(), Vec::with_capacity(2 * paths.len()));
     for path in paths {
@@ -40,7 +40,7 @@ fn pack(paths: &[&Path]) -> (Vec<u8>, Vec<usize>) {
     (texts, spots)
 }
 
-/// The path that a reply stands for, in the bytes written for it.
+/// Converts a reply, and the bytes written for it, to the resulting path.
 fn read_reply(reply: usize, bytes: &[u8]) -> Result<Path> {
     read(Reply(reply)).map(|length| Path::written(&bytes[..length]))
 }

@@ -7,7 +7,7 @@ fn path(text: &str) -> Path {
     Path::new(text).unwrap()
 }
 
-/// A path of one name with so many bytes.
+/// A path of one name with this many bytes.
 fn named(length: usize) -> String {
     format!("/{}", "n".repeat(length - 1))
 }
@@ -31,7 +31,7 @@ fn the_longest_path() {
     assert_eq!(path("/A/b").replace_prefix(&one, &longest), Err(Refusal::MadeTooLong));
 }
 
-/// Document 01's cases.
+/// Cases of docs/REQUIREMENTS.md.
 #[test]
 fn replacing_prefixes() {
     let replaced = |text: &str, old: &str, new: &str| path(text).replace_prefix(&path(old), &path(new));
@@ -42,7 +42,7 @@ fn replacing_prefixes() {
     assert_eq!(replaced("/B", "/", "/C{v=p}"), Err(Refusal::MadeNotLegal));
 }
 
-/// Document 01's cases.
+/// Cases of docs/REQUIREMENTS.md.
 #[test]
 fn parts() {
     for (text, parent) in [("/A.b", "/A"), ("/A{v=p}B", "/A{v=p}"), ("/A", "/")] {

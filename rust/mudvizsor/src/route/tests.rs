@@ -51,7 +51,7 @@ fn out_and_home() {
     }
 }
 
-/// The steps of each leg end where the whole route does, and the way home meets the same paths in reverse.
+/// The last step has the result of the whole route, and the way home visits the same paths in reverse.
 #[test]
 fn steps_are_the_route() {
     let route = tram_line();
@@ -61,9 +61,9 @@ fn steps_are_the_route() {
         assert_eq!(*out.last().unwrap(), route.out(&start), "{text}");
         let Ok(there) = route.out(&start) else { continue };
         let home: Vec<_> = route.steps_home(&there).collect();
-        let mut met: Vec<_> = out.into_iter().rev().skip(1).collect();
-        met.push(Ok(start));
-        assert_eq!(home, met, "{text}");
+        let mut expected: Vec<_> = out.into_iter().rev().skip(1).collect();
+        expected.push(Ok(start));
+        assert_eq!(home, expected, "{text}");
     }
 }
 
@@ -77,7 +77,7 @@ fn steps_end_at_a_refusal() {
 }
 
 #[test]
-fn many_paths_go_as_one_does() {
+fn many_paths_map_like_single_ones() {
     let route = tram_line();
     let paths: Vec<Path> =
         ["/Mast/x", "/Mast/Spare", "/Switch", "/", "/Town/Trams/Line7/Quay/Signal_12"].map(path).into();

@@ -1,13 +1,13 @@
-//! Calls whose lists before dropping are as long as they can be: the memory that the crate lends is enough for them.
+//! Calls whose lists before dropping are as long as possible: the buffers that the crate lends are large enough for them.
 
 use super::*;
 
-/// So many pairs of ends of 255 bytes, from one letter to another.
+/// Pairs of ends of 255 bytes; the sources start with one letter, the targets with another.
 fn longest(count: usize, source: char, target: char) -> Vec<(String, String)> {
     (0..count).map(|i| (end(source, i), end(target, i))).collect()
 }
 
-/// An end of 255 bytes, a prefix of no other.
+/// An end of 255 bytes that is not a prefix of another one.
 fn end(first: char, i: usize) -> String {
     format!("{}{i:02}", named(first, MAX_PATH_LEN - 2))
 }
@@ -19,13 +19,13 @@ fn made(pairs: Vec<(String, String)>) -> MapFunction {
     map
 }
 
-/// Whether a call needs just so many bytes and pairs: with one fewer of either it is refused with 5, and only then.
+/// Whether a call needs exactly this many bytes and pairs: with one fewer of either it is refused with 5, and only then.
 fn needs(bytes: usize, pairs: usize, call: impl Fn(MapBuffers) -> Reply) -> bool {
     let is_short = |bytes, pairs| build(bytes, pairs, &call) == Err(Refusal::NoRoom);
     is_short(bytes - 1, pairs) && is_short(bytes, pairs - 1) && !is_short(bytes, pairs)
 }
 
-/// Each target gets the outer map's one target as a prefix: 64 pairs, each as long as can be.
+/// Each target gets the only target of the outer map as a prefix: 64 pairs, each as long as possible.
 #[test]
 fn targets_composed() {
     let outer = MapFunction::from_pair("/", end('T', 0)).unwrap();
@@ -36,7 +36,8 @@ fn targets_composed() {
     assert_eq!(outer.compose(&inner), Err(Refusal::MadeTooLong));
 }
 
-/// Each source gets the inner map's one source as a prefix; that pair stands before them, and its target has no path.
+/// Each source gets the only source of the inner map as a prefix; the pair of that source comes first, and its target is
+/// empty.
 #[test]
 fn sources_composed() {
     let outer = made(longest(MAX_PAIRS - 1, 'M', 'T'));
@@ -58,7 +59,7 @@ fn targets_rebased() {
     }
 }
 
-/// All pairs have the source that is nearest above the node, so each becomes the node and where the last one takes it.
+/// All pairs have the selected source, so each becomes the pair of the node and the image of the node under the last pair.
 #[test]
 fn sources_deepened() {
     let node = path(&end('N', 0));
@@ -71,8 +72,8 @@ fn sources_deepened() {
     }
 }
 
-/// Each target gets the class's one target as a prefix, and then the target of the transfer's pair with the source `/`.
-/// That pair has fewer bytes than the others, 254, 255 and 255 in the three lists; nothing else is left of what is lent.
+/// Each target gets the only target of the class as a prefix, and then the target of the transfer's pair with the source `/`.
+/// That pair needs fewer bytes than the others, by 254, 255 and 255 in the three lists; all other bytes are used.
 #[test]
 fn targets_implied() {
     let pairs = longest(MAX_PAIRS - 1, 'S', 'T').into_iter().chain([("/".to_string(), end('U', 0))]);
