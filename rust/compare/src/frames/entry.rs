@@ -14,7 +14,7 @@ impl Comparison {
         let (mut run, before) = (Run::default(), self.tally.differences());
         for (at, text) in script.lines.iter().enumerate() {
             let mut answer = Vec::new();
-            run.feed(&[text, &b"\n"[..]].concat(), &mut answer);
+            run.process(&[text, &b"\n"[..]].concat(), &mut answer);
             let found = line(text, memory.lend(), out.lend(MAX_ANSWER_LEN));
             let call = Call {
                 name: "frames_line",

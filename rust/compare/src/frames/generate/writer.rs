@@ -1,7 +1,7 @@
 //! Writes a script line by line, and knows the answers so far.
 
 use crate::frames::script::Script;
-use frames_original::{Frame, Run, digits};
+use frames_original::{Frame, Run, hex};
 use texts::ends::family;
 use texts::random::Random;
 
@@ -37,10 +37,10 @@ impl<'a> Writer<'a> {
     /// Adds a line and gives the bytes of its answer.
     pub fn line(&mut self, line: Vec<u8>) -> Vec<u8> {
         let mut answer = Vec::new();
-        self.run.feed(&line, &mut answer);
-        self.run.feed(b"\n", &mut answer);
+        self.run.process(&line, &mut answer);
+        self.run.process(b"\n", &mut answer);
         self.lines.push(line);
-        digits::read(answer.trim_ascii_end()).expect("an answer of digits")
+        hex::read(answer.trim_ascii_end()).expect("an answer of digits")
     }
 
     /// Adds a frame, one in six in small or mixed letters, and gives the bytes of its answer.
