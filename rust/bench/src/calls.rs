@@ -1,4 +1,4 @@
-//! Calls on paths: the legality check, and a prefix replaced from text to text.
+//! Times `new` and `replace_prefix` on path texts.
 
 use crate::clock::{Times, best_times};
 use crate::inputs::{self, COUNT, Names, Replacement, parsed};
@@ -55,11 +55,11 @@ fn time_replace_prefix(length: usize) {
     print_row("`replace_prefix`", Names::Mixed, replacements.iter().map(|each| each.path.len()), times);
 }
 
-/// From text to text: three paths are read, the prefix is replaced, the bytes of the result are copied.
+/// From text to text: three paths are parsed, the prefix is replaced, and the bytes of the result are copied.
 fn original_replace(each: &Replacement, out: &mut [u8]) -> usize {
     let [path, old, new] = [&each.path, &each.old, &each.new].map(|text| parsed(text));
-    let made = path.replace_prefix(&old, &new).expect("a path with this prefix");
-    let text = made.as_str().as_bytes();
+    let result = path.replace_prefix(&old, &new).expect("a path with this prefix");
+    let text = result.as_str().as_bytes();
     out[..text.len()].copy_from_slice(text);
     text.len()
 }

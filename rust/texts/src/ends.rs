@@ -1,13 +1,13 @@
-//! Ends of pairs that stand in some relation to one another, and paths that have them as prefixes.
+//! Related ends of pairs (sources and targets), and paths that have them as prefixes.
 
 use crate::MAX_PATH_LEN;
 use crate::generate::{continued, end_text, length};
 use crate::random::Random;
 
-/// Few, so that ends are often nested or equal.
+/// There are only a few names, so that ends are often nested or equal.
 const NAMES: [&[u8]; 4] = [b"A", b"B", b"AB", b"c1"];
 
-/// `size` ends, of which the first is `/`: nested, equal, nearly equal, empty, some around the limit.
+/// Generates `size` ends, of which the first is `/`: nested, equal, nearly equal, empty, some near the length limit.
 pub fn family(random: &mut Random, size: usize) -> Vec<Vec<u8>> {
     let with_long_ends = random.one_in(2);
     let mut family = vec![b"/".to_vec()];
@@ -37,7 +37,7 @@ fn above(end: &[u8]) -> &[u8] {
     &end[..slash.max(1).min(end.len())]
 }
 
-/// The end with one name more.
+/// The end with one more name.
 fn below(end: &[u8], name: &[u8]) -> Vec<u8> {
     let separator: &[u8] = if end == b"/" { b"" } else { b"/" };
     fitting([end, separator, name].concat(), end)
@@ -49,13 +49,13 @@ fn long_end(random: &mut Random) -> Vec<u8> {
     end_text(random, length)
 }
 
-/// `longer`, where that is an end within the limit, else `end`.
+/// `longer` if that is an end within the length limit, else `end`.
 fn fitting(longer: Vec<u8>, end: &[u8]) -> Vec<u8> {
     if longer.len() <= MAX_PATH_LEN && longer.starts_with(b"/") { longer } else { end.to_vec() }
 }
 
-/// A path for a list that has the pair `from`, `to`: mostly `from` or a path under it. Often its own length, or
-/// that of the path with `to` in place of `from`, comes to about the limit.
+/// A path for a list that has the pair `from`, `to`: mostly `from` or a path below it. Often its length, or the length after
+/// `from` is replaced by `to`, is near the limit.
 pub fn path_under(random: &mut Random, from: &[u8], to: &[u8]) -> Vec<u8> {
     let length = match random.below(6) {
         0 => from.len(),
@@ -68,15 +68,15 @@ pub fn path_under(random: &mut Random, from: &[u8], to: &[u8]) -> Vec<u8> {
     if random.one_in(4) { with_selections(random, &path) } else { path }
 }
 
-/// `path` with a selection in place of some of its slashes, within the limit.
+/// `path` with some of its slashes replaced by a selection, within the length limit.
 fn with_selections(random: &mut Random, path: &[u8]) -> Vec<u8> {
-    let mut dressed = path.to_vec();
+    let mut selected = path.to_vec();
     for at in (1..path.len()).rev() {
-        if path[at] == b'/' && dressed.len() + 4 <= MAX_PATH_LEN && random.one_in(2) {
-            dressed.splice(at..=at, *b"{v=p}");
+        if path[at] == b'/' && selected.len() + 4 <= MAX_PATH_LEN && random.one_in(2) {
+            selected.splice(at..=at, *b"{v=p}");
         }
     }
-    dressed
+    selected
 }
 
 #[cfg(test)]
@@ -111,7 +111,7 @@ mod tests {
     }
 
     #[test]
-    fn above_takes_one_name_off() {
+    fn above_removes_one_name() {
         for (end, expected) in [("", ""), ("/", "/"), ("/A", "/"), ("/A/B", "/A")] {
             assert_eq!(above(end.as_bytes()), expected.as_bytes());
         }

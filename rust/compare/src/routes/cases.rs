@@ -9,7 +9,7 @@ use crate::text::Text;
 use original::sdf::Path;
 use texts::MAX_PATH_LEN;
 use texts::ends::family;
-use texts::generate::{beginnings, continued};
+use texts::generate::{continued, prefixes};
 use texts::random::Random;
 
 /// Paths for each route beside the one that its legs are made for.
@@ -122,7 +122,7 @@ fn end_above(random: &mut Random, path: &[u8]) -> Vec<u8> {
         return Vec::new();
     };
     let prim = path.prim_path();
-    random.pick(&beginnings(prim.as_str().as_bytes())).to_vec()
+    random.pick(&prefixes(prim.as_str().as_bytes())).to_vec()
 }
 
 /// A path that begins as the one that the legs are made for, or one for the first or the last leg.

@@ -4,7 +4,7 @@ use crate::frames::generate::flawed;
 use crate::frames::generate::writer::{Pair, Writer};
 use frames_original::{Frame, State};
 use texts::ends::path_under;
-use texts::generate::{beginnings, continued};
+use texts::generate::{continued, prefixes};
 use texts::random::Random;
 
 /// So many lists are tried for a leg.
@@ -89,7 +89,7 @@ fn list(writer: &mut Writer, reached: &[u8]) -> Vec<Pair> {
 /// A beginning of the path that is an end.
 fn end_above(random: &mut Random, path: &[u8]) -> Vec<u8> {
     let names = path.split(|byte| b"{.".contains(byte)).next().unwrap_or_default();
-    random.pick(&beginnings(names)).to_vec()
+    random.pick(&prefixes(names)).to_vec()
 }
 
 /// A target that often lies beside all others, so that the way back is clear.
