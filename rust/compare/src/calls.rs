@@ -1,6 +1,6 @@
 //! The calls on paths: the library's entry beside the original's function, and the answer that is expected.
 
-use crate::text::{Answer, MADE_NOT_LEGAL, MADE_TOO_LONG, NO_PATH, TOO_LITTLE_MEMORY, Text, paths};
+use crate::text::{Answer, BUFFER_TOO_SMALL, MADE_NOT_LEGAL, MADE_TOO_LONG, NO_PATH, Text, paths};
 use mudvizsor::ffi::{Reply, paths};
 use original::sdf::Path;
 use texts::MAX_PATH_LEN;
@@ -104,11 +104,11 @@ pub fn accept(made: Option<Path>) -> Answer<Path> {
     Ok(path)
 }
 
-/// `answer` where `room` is lent and `needed` is asked for: question 5 comes before 6, 7 and 8.
-pub fn within<T: Copy>(room: usize, needed: usize, answer: Answer<T>) -> Answer<T> {
+/// `answer` where `capacity` is lent and `needed` is asked for: question 5 comes before 6, 7 and 8.
+pub fn within<T: Copy>(capacity: usize, needed: usize, answer: Answer<T>) -> Answer<T> {
     match answer {
-        Err(number) if number < TOO_LITTLE_MEMORY => answer,
-        _ if room < needed => Err(TOO_LITTLE_MEMORY),
+        Err(number) if number < BUFFER_TOO_SMALL => answer,
+        _ if capacity < needed => Err(BUFFER_TOO_SMALL),
         _ => answer,
     }
 }

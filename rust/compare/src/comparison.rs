@@ -22,7 +22,7 @@ const PATH_CALLS: [PathCall; 4] =
     [calls::PARENT, calls::PRIM_PATH, calls::SPLIT_PROPERTY, calls::STRIP_VARIANT_SELECTIONS];
 
 /// Bytes lent for a path.
-const ROOMS: [usize; 5] = [0, MAX_PATH_LEN - 1, MAX_PATH_LEN, MAX_PATH_LEN + 1, 300];
+const CAPACITIES: [usize; 5] = [0, MAX_PATH_LEN - 1, MAX_PATH_LEN, MAX_PATH_LEN + 1, 300];
 
 /// Numbers lent for the lengths of ancestors, at most: one for each length, and three more.
 const NUMBERS: usize = MAX_PATH_LEN + 1 + 3;
@@ -43,7 +43,7 @@ impl Comparison {
             tally: Tally::default(),
             refused_by_original: BTreeSet::new(),
             reach: Reach::default(),
-            bytes: Lent::bytes(ROOMS[ROOMS.len() - 1]),
+            bytes: Lent::bytes(CAPACITIES[CAPACITIES.len() - 1]),
             numbers: Lent::numbers(NUMBERS),
         }
     }
@@ -57,7 +57,7 @@ impl Comparison {
         for call in &PATH_CALLS {
             let expected = call.expected(text);
             let entry = |out: &mut [u8]| (call.entry)(&text.bytes, out);
-            self.path(call.name, &Texts(&[text]), &ROOMS, &expected, entry);
+            self.path(call.name, &Texts(&[text]), &CAPACITIES, &expected, entry);
         }
         self.ancestors(text);
     }
@@ -71,30 +71,30 @@ impl Comparison {
     pub fn replace_prefix(&mut self, text: &Text, old: &Text, new: &Text) {
         let expected = calls::replace_prefix(text, old, new);
         let entry = |out: &mut [u8]| paths::replace_prefix(&text.bytes, &old.bytes, &new.bytes, out);
-        self.path("replace_prefix", &Texts(&[text, old, new]), &ROOMS, &expected, entry);
+        self.path("replace_prefix", &Texts(&[text, old, new]), &CAPACITIES, &expected, entry);
     }
 
     fn number(&mut self, name: &'static str, given: &dyn Given, expected: Answer<usize>, found: Reply) {
-        let call = Call { name, given, room: None };
+        let call = Call { name, given, capacity: None };
         self.tally.compare(call, expected, found, None);
     }
 
     /// A call that writes a path, with each size of lent memory, of which none is above the greatest of
-    /// `ROOMS`.
+    /// `CAPACITIES`.
     pub fn path(
         &mut self,
         name: &'static str,
         given: &dyn Given,
-        rooms: &[usize],
+        capacities: &[usize],
         expected: &Answer<Path>,
         entry: impl Fn(&mut [u8]) -> Reply,
     ) {
         let full = expected.as_ref().map(|path| path.as_str().as_bytes()).map_err(|number| *number);
-        for &room in rooms {
-            let expected = calls::within(room, MAX_PATH_LEN, full);
-            let found = entry(self.bytes.lend(room));
+        for &capacity in capacities {
+            let expected = calls::within(capacity, MAX_PATH_LEN, full);
+            let found = entry(self.bytes.lend(capacity));
             let wrong = self.bytes.first_wrong(expected.unwrap_or_default());
-            let call = Call { name, given, room: Some(room) };
+            let call = Call { name, given, capacity: Some(capacity) };
             self.tally.compare(call, expected.map(<[u8]>::len), found, wrong);
         }
     }
@@ -104,11 +104,11 @@ impl Comparison {
         let full = calls::ancestors(text);
         let full = full.as_ref().map(Vec::as_slice).map_err(|number| *number);
         let needed = full.map_or(1, <[usize]>::len);
-        for room in [needed - 1, needed, needed + 3] {
-            let expected = calls::within(room, needed, full);
-            let found = paths::ancestors(&text.bytes, self.numbers.lend(room));
+        for capacity in [needed - 1, needed, needed + 3] {
+            let expected = calls::within(capacity, needed, full);
+            let found = paths::ancestors(&text.bytes, self.numbers.lend(capacity));
             let wrong = self.numbers.first_wrong(expected.unwrap_or_default());
-            let call = Call { name: "ancestors", given: &Texts(&[text]), room: Some(room) };
+            let call = Call { name: "ancestors", given: &Texts(&[text]), capacity: Some(capacity) };
             self.tally.compare(call, expected.map(<[usize]>::len), found, wrong);
         }
     }

@@ -32,7 +32,10 @@ impl Comparison {
         };
         let has_prefix = path.has_prefix(old);
         let mut fact = |name, holds| self.tally.fact(name, &Texts(&[text, prefix]), holds);
-        fact("has_prefix is as document 01 says", has_prefix == is_prefix(&text.bytes, &prefix.bytes));
+        fact(
+            "has_prefix is as stated in the requirements",
+            has_prefix == is_prefix(&text.bytes, &prefix.bytes),
+        );
         fact(
             "a prefix can be replaced, and nothing else",
             has_prefix == path.replace_prefix(old, old).is_some(),

@@ -27,15 +27,15 @@ impl<T: Copy + PartialEq> Lent<T> {
         Lent { memory: pattern.clone(), pattern }
     }
 
-    /// `room` items that hold the pattern.
-    pub fn lend(&mut self, room: usize) -> &mut [T] {
+    /// `capacity` items that hold the pattern.
+    pub fn lend(&mut self, capacity: usize) -> &mut [T] {
         self.memory.copy_from_slice(&self.pattern);
-        &mut self.memory[MARGIN..MARGIN + room]
+        &mut self.memory[MARGIN..MARGIN + capacity]
     }
 
-    /// What `room` lent items hold before the call.
-    pub fn before(&self, room: usize) -> &[T] {
-        &self.pattern[MARGIN..MARGIN + room]
+    /// What `capacity` lent items hold before the call.
+    pub fn before(&self, capacity: usize) -> &[T] {
+        &self.pattern[MARGIN..MARGIN + capacity]
     }
 
     /// The first place that is not as it should be where `written` was written to the beginning of what was

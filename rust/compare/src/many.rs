@@ -4,7 +4,7 @@ use crate::comparison::Comparison;
 use crate::lent::Lent;
 use crate::maps::calls::WithText;
 use crate::tally::{Call, Given};
-use crate::text::{Answer, TOO_LITTLE_MEMORY, TOO_LONG, Text};
+use crate::text::{Answer, BUFFER_TOO_SMALL, TOO_LONG, Text};
 use mudvizsor::ffi::Reply;
 use mudvizsor::ffi::maps::Paths;
 use original::sdf::Path;
@@ -51,7 +51,7 @@ impl LentPaths {
 
 /// So many spots, bytes and replies are lent.
 #[derive(Clone, Copy)]
-struct Room {
+struct Lengths {
     spots: usize,
     bytes: usize,
     replies: usize,
@@ -64,52 +64,52 @@ impl Comparison {
         expected.push(Err(TOO_LONG));
         let lent = &LentPaths::new(texts);
         let count = lent.count;
-        let needed = Room { spots: 2 * count, bytes: MAX_PATH_LEN * count, replies: count };
-        let more = Room { bytes: needed.bytes + MORE, replies: needed.replies + MORE, ..needed };
-        for room in [needed, more] {
-            self.all_carried(call, texts, lent, room, &expected);
+        let needed = Lengths { spots: 2 * count, bytes: MAX_PATH_LEN * count, replies: count };
+        let more = Lengths { bytes: needed.bytes + MORE, replies: needed.replies + MORE, ..needed };
+        for lengths in [needed, more] {
+            self.all_mapped(call, texts, lent, lengths, &expected);
         }
         let short = [
-            Room { spots: needed.spots - 1, ..needed },
-            Room { bytes: needed.bytes - 1, ..needed },
-            Room { replies: needed.replies - 1, ..needed },
+            Lengths { spots: needed.spots - 1, ..needed },
+            Lengths { bytes: needed.bytes - 1, ..needed },
+            Lengths { replies: needed.replies - 1, ..needed },
         ];
-        for room in short {
-            self.all_refused(call, lent, room);
+        for lengths in short {
+            self.all_refused(call, lent, lengths);
         }
     }
 
-    fn all_carried(
+    fn all_mapped(
         &mut self,
         call: &Many,
         texts: &[Text],
         lent: &LentPaths,
-        room: Room,
+        lengths: Lengths,
         expected: &[Answer<Path>],
     ) {
         let Many { name, given, entry } = *call;
-        let (mut bytes, mut numbers) = (Lent::bytes(room.bytes), Lent::numbers(room.replies));
-        let replies = numbers.lend(room.replies);
-        let found = entry(lent.lend(room.spots), bytes.lend(room.bytes), replies);
+        let (mut bytes, mut numbers) = (Lent::bytes(lengths.bytes), Lent::numbers(lengths.replies));
+        let replies = numbers.lend(lengths.replies);
+        let found = entry(lent.lend(lengths.spots), bytes.lend(lengths.bytes), replies);
         let replies = replies.to_vec();
         let nowhere = Text::new(b"");
         for (i, text) in texts.iter().chain([&nowhere]).enumerate() {
             let answer = expected[i].as_ref().map(|path| path.as_str().len()).map_err(|number| *number);
-            let of_one = Call { name, given: &WithText { given, text }, room: Some(room.bytes) };
+            let of_one = Call { name, given: &WithText { given, text }, capacity: Some(lengths.bytes) };
             self.tally.compare(of_one, answer, Reply(replies[i]), None);
         }
-        let memory = memory_after(bytes.before(room.bytes), expected);
+        let memory = memory_after(bytes.before(lengths.bytes), expected);
         let wrong = bytes.first_wrong(&memory).or(numbers.first_wrong(&replies[..lent.count]));
-        self.tally.compare(Call { name, given, room: Some(room.bytes) }, Ok(0), found, wrong);
+        self.tally.compare(Call { name, given, capacity: Some(lengths.bytes) }, Ok(0), found, wrong);
     }
 
-    fn all_refused(&mut self, call: &Many, lent: &LentPaths, room: Room) {
+    fn all_refused(&mut self, call: &Many, lent: &LentPaths, lengths: Lengths) {
         let Many { name, given, entry } = *call;
-        let (mut bytes, mut numbers) = (Lent::bytes(room.bytes), Lent::numbers(room.replies));
-        let found = entry(lent.lend(room.spots), bytes.lend(room.bytes), numbers.lend(room.replies));
+        let (mut bytes, mut numbers) = (Lent::bytes(lengths.bytes), Lent::numbers(lengths.replies));
+        let found = entry(lent.lend(lengths.spots), bytes.lend(lengths.bytes), numbers.lend(lengths.replies));
         let wrong = bytes.first_wrong(&[]).or(numbers.first_wrong(&[]));
-        let of_all = Call { name, given, room: Some(room.bytes) };
-        self.tally.compare(of_all, Err(TOO_LITTLE_MEMORY), found, wrong);
+        let of_all = Call { name, given, capacity: Some(lengths.bytes) };
+        self.tally.compare(of_all, Err(BUFFER_TOO_SMALL), found, wrong);
     }
 }
 

@@ -9,7 +9,7 @@ use crate::comparison::Comparison;
 use crate::phase::phase;
 
 pub fn run(comparison: &mut Comparison) {
-    phase(comparison, "document 01's cases on relocates", table::run);
+    phase(comparison, "cases of the requirements on relocates", table::run);
     phase(comparison, "relocate lists of at most two pairs", small::lists_of_at_most_two);
     phase(comparison, "relocate lists of three pairs", small::lists_of_three);
 }

@@ -45,7 +45,7 @@ pub trait Given: Display {
 pub struct Call<'a> {
     pub name: &'static str,
     pub given: &'a dyn Given,
-    pub room: Option<usize>,
+    pub capacity: Option<usize>,
 }
 
 impl Tally {
@@ -62,7 +62,7 @@ impl Tally {
     }
 
     /// Whether a difference in this call was seen.
-    pub fn knows(&self, name: &str) -> bool {
+    pub fn has_difference(&self, name: &str) -> bool {
         self.smallest.keys().any(|kind| kind.call == name)
     }
 
@@ -101,7 +101,7 @@ impl Tally {
     pub fn fact(&mut self, name: &'static str, given: &dyn Given, holds: bool) {
         self.facts += 1;
         if !holds {
-            let call = Call { name, given, room: None };
+            let call = Call { name, given, capacity: None };
             self.note(call, What::Fact, String::from("does not hold"));
         }
     }
@@ -112,8 +112,8 @@ impl Tally {
         let size = call.given.size();
         let known = self.smallest.get(&kind);
         if known.is_none_or(|known| size < known.size) {
-            let room = call.room.map_or(String::new(), |room| format!(" room {room}:"));
-            let shown = format!("{}{room} {details}", call.given);
+            let capacity = call.capacity.map_or(String::new(), |capacity| format!(" capacity {capacity}:"));
+            let shown = format!("{}{capacity} {details}", call.given);
             self.smallest.insert(kind, Input { size, shown });
         }
     }

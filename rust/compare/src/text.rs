@@ -11,7 +11,7 @@ pub type Answer<T> = Result<T, u8>;
 
 pub const TOO_LONG: u8 = 1;
 pub const NOT_LEGAL: u8 = 2;
-pub const TOO_LITTLE_MEMORY: u8 = 5;
+pub const BUFFER_TOO_SMALL: u8 = 5;
 pub const NO_PATH: u8 = 6;
 pub const MADE_TOO_LONG: u8 = 7;
 pub const MADE_NOT_LEGAL: u8 = 8;

@@ -13,7 +13,12 @@ pub fn run(comparison: &mut Comparison, program: &Program) {
         phase(comparison, &name, |comparison| {
             for place in places {
                 let text = format!("an input of {bytes} bytes, cut behind byte {place}");
-                if !comparison.sent(program, &Described { text, lines }, &input, Sending::InTwo(place)) {
+                if !comparison.send_and_compare(
+                    program,
+                    &Described { text, lines },
+                    &input,
+                    Sending::InTwo(place),
+                ) {
                     return;
                 }
             }

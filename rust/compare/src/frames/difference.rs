@@ -9,7 +9,7 @@ use std::fmt::{self, Display};
 pub struct Difference {
     /// So many answers agree before it.
     pub at: usize,
-    /// What is answered otherwise.
+    /// What is count_answers otherwise.
     pub name: &'static str,
     expected: String,
     found: String,
@@ -32,7 +32,7 @@ impl Run {
         Some(Difference { at, name, expected: shown(expected), found })
     }
 
-    /// Whether the program answered all and ended as it should, so that it can be asked on.
+    /// Whether the program count_answers all and ended as it should, so that it can be asked on.
     pub fn is_whole(&self) -> bool {
         self.output.failure.is_none()
     }
@@ -62,18 +62,18 @@ fn name(expected: Option<&[u8]>) -> &'static str {
 }
 
 /// What the program was given, and which of its answers is wrong.
-struct Asked<'a> {
+struct WrongAnswer<'a> {
     given: &'a dyn Given,
     answer: usize,
 }
 
-impl Given for Asked<'_> {
+impl Given for WrongAnswer<'_> {
     fn size(&self) -> usize {
         self.given.size()
     }
 }
 
-impl Display for Asked<'_> {
+impl Display for WrongAnswer<'_> {
     fn fmt(&self, f: &mut fmt::Formatter<'_>) -> fmt::Result {
         write!(f, "{} answer {}:", self.given, self.answer)
     }
@@ -81,19 +81,25 @@ impl Display for Asked<'_> {
 
 impl Comparison {
     /// Sends an input to the program and compares what it answers. Gives whether the program can be asked on.
-    pub fn sent(&mut self, program: &Program, given: &dyn Given, input: &[u8], sending: Sending) -> bool {
+    pub fn send_and_compare(
+        &mut self,
+        program: &Program,
+        given: &dyn Given,
+        input: &[u8],
+        sending: Sending,
+    ) -> bool {
         let run = sending.run(program, input);
-        self.answered(&run, given, run.difference());
+        self.count_answers(&run, given, run.difference());
         run.is_whole()
     }
 
     /// Counts a comparison for each answer up to the difference, or for all of them and the end of the run.
-    pub fn answered(&mut self, run: &Run, given: &dyn Given, difference: Option<Difference>) {
+    pub fn count_answers(&mut self, run: &Run, given: &dyn Given, difference: Option<Difference>) {
         let Some(Difference { at, name, expected, found }) = difference else {
             return self.tally.agree(lines(&run.expected).count() + 1);
         };
         self.tally.agree(at);
-        let call = Call { name, given: &Asked { given, answer: at + 1 }, room: None };
+        let call = Call { name, given: &WrongAnswer { given, answer: at + 1 }, capacity: None };
         self.tally.values(call, false, format_args!("{expected}"), format_args!("{found}"));
     }
 }
@@ -125,7 +131,7 @@ mod tests {
 
     #[test]
     fn a_failure_is_a_difference() {
-        let wrong = first("8100\n8500\n", "8100\n85", Some(Failure::Silent));
+        let wrong = first("8100\n8500\n", "8100\n85", Some(Failure::Timeout));
         assert_eq!(wrong, Some((1, "frames 05", "8500\\n / 85, no answer in time".into())));
         let (at, name, _) = first("8100\n", "8100\n", Some(Failure::Ended)).expect("a difference");
         assert_eq!((at, name), (1, "frames, the end of a run"));

@@ -1,7 +1,7 @@
 //! The library's entry for a line, beside the protocol over the original's functions.
 
 use crate::comparison::Comparison;
-use crate::frames::script::{Beginning, Script};
+use crate::frames::script::{FirstLines, Script};
 use crate::lent::Lent;
 use crate::tally::Call;
 use frames_original::Run;
@@ -18,8 +18,8 @@ impl Comparison {
             let found = line(text, memory.lend(), out.lend(MAX_ANSWER_LEN));
             let call = Call {
                 name: "frames_line",
-                given: &Beginning(&script.lines[..=at]),
-                room: Some(MAX_ANSWER_LEN),
+                given: &FirstLines(&script.lines[..=at]),
+                capacity: Some(MAX_ANSWER_LEN),
             };
             self.tally.compare(call, Ok(answer.len()), found, out.first_wrong(&answer));
             if self.tally.differences() > before {

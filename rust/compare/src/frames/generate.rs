@@ -1,9 +1,9 @@
 //! Random scripts: the same seed gives the same ones.
 
 mod flawed;
-mod journeys;
 mod limits;
 mod malformed;
+mod well_formed;
 mod writer;
 
 use crate::frames::script::Script;
@@ -15,9 +15,9 @@ pub fn script(random: &mut Random) -> Script {
     let sort = random.below(20);
     let writer = &mut Writer::new(random);
     match sort {
-        0..=9 => journeys::journey(writer),
-        10 | 11 => journeys::medley(writer),
-        12..=15 => malformed::noise(writer),
+        0..=9 => well_formed::route(writer),
+        10 | 11 => well_formed::any_order(writer),
+        12..=15 => malformed::bad_lines(writer),
         _ => limits::at_a_limit(writer),
     }
     writer.script()

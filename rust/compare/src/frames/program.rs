@@ -11,7 +11,7 @@ use std::time::{Duration, Instant};
 /// Where the program is, and how long an answer is waited for.
 pub struct Program {
     pub path: PathBuf,
-    pub patience: Duration,
+    pub timeout: Duration,
 }
 
 /// What a run wrote, and what was wrong with it beside that.
@@ -25,7 +25,7 @@ pub enum Failure {
     /// The system did not start the program, or lost it.
     System(io::Error),
     /// No answer came in time.
-    Silent,
+    Timeout,
     /// The output ended before the input.
     Ended,
     Status(ExitStatus),
@@ -35,7 +35,7 @@ impl Display for Failure {
     fn fmt(&self, f: &mut fmt::Formatter<'_>) -> fmt::Result {
         match self {
             Failure::System(error) => write!(f, "the program cannot be run: {error}"),
-            Failure::Silent => f.write_str("no answer in time"),
+            Failure::Timeout => f.write_str("no answer in time"),
             Failure::Ended => f.write_str("the output ended too early"),
             Failure::Status(status) => write!(f, "the program ended with {status}"),
         }
@@ -61,7 +61,7 @@ impl Program {
         let (blocks, output) = mpsc::channel();
         thread::spawn(move || write_pieces(stdin.expect("a pipe"), &pieces));
         thread::spawn(move || read_blocks(stdout.expect("a pipe"), &blocks));
-        let patience = self.patience;
+        let timeout = self.timeout;
         Ok(Client {
             child,
             input: Some(input),
@@ -69,7 +69,7 @@ impl Program {
             received: Vec::new(),
             lines: 0,
             failure: None,
-            patience,
+            timeout,
         })
     }
 }
@@ -101,7 +101,7 @@ pub struct Client {
     /// The lines that have been received.
     lines: usize,
     failure: Option<Failure>,
-    patience: Duration,
+    timeout: Duration,
 }
 
 impl Client {
@@ -114,11 +114,11 @@ impl Client {
 
     /// Waits until so many lines have been received in all, and gives whether they have.
     pub fn wait_for(&mut self, lines: usize) -> bool {
-        let deadline = Instant::now() + self.patience;
+        let deadline = Instant::now() + self.timeout;
         while self.failure.is_none() && self.lines < lines {
             self.failure = match self.receive(deadline) {
                 Ok(()) => None,
-                Err(RecvTimeoutError::Timeout) => Some(Failure::Silent),
+                Err(RecvTimeoutError::Timeout) => Some(Failure::Timeout),
                 Err(RecvTimeoutError::Disconnected) => Some(Failure::Ended),
             };
         }
@@ -135,11 +135,11 @@ impl Client {
     }
 
     fn receive_rest(&mut self) -> Result<(), Failure> {
-        let deadline = Instant::now() + self.patience;
+        let deadline = Instant::now() + self.timeout;
         loop {
             match self.receive(deadline) {
                 Ok(()) => {}
-                Err(RecvTimeoutError::Timeout) => return Err(Failure::Silent),
+                Err(RecvTimeoutError::Timeout) => return Err(Failure::Timeout),
                 Err(RecvTimeoutError::Disconnected) => break,
             }
         }

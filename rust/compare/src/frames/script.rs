@@ -63,15 +63,15 @@ impl Display for Script {
 }
 
 /// The lines of a script up to one of them.
-pub struct Beginning<'a>(pub &'a [Vec<u8>]);
+pub struct FirstLines<'a>(pub &'a [Vec<u8>]);
 
-impl Given for Beginning<'_> {
+impl Given for FirstLines<'_> {
     fn size(&self) -> usize {
         self.0.len()
     }
 }
 
-impl Display for Beginning<'_> {
+impl Display for FirstLines<'_> {
     fn fmt(&self, f: &mut fmt::Formatter<'_>) -> fmt::Result {
         write_lines(f, self.0)
     }

@@ -63,7 +63,7 @@ mod tests {
     const INPUT: &[u8] = b"07\n0G\n07";
 
     fn output(program: &str, sending: Sending) -> Output {
-        let program = Program { path: program.into(), patience: Duration::from_secs(1) };
+        let program = Program { path: program.into(), timeout: Duration::from_secs(1) };
         sending.run(&program, INPUT).output
     }
 
@@ -82,7 +82,7 @@ mod tests {
         assert_eq!(output("tail", Sending::Whole).answers, INPUT);
         for sending in [Sending::LineByLine, Sending::InTwo(3)] {
             let Output { answers, failure } = output("tail", sending);
-            assert!(answers.is_empty() && matches!(failure, Some(Failure::Silent)));
+            assert!(answers.is_empty() && matches!(failure, Some(Failure::Timeout)));
         }
     }
 

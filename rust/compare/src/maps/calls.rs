@@ -31,7 +31,7 @@ pub const TRANSLATED: MapCall =
 pub const CALLS: [MapCall; 3] = [OUT, BACK, TRANSLATED];
 
 /// Bytes lent for the path.
-const ROOMS: [usize; 3] = [MAX_PATH_LEN - 1, MAX_PATH_LEN, 300];
+const CAPACITIES: [usize; 3] = [MAX_PATH_LEN - 1, MAX_PATH_LEN, 300];
 
 impl MapCall {
     pub fn expected(&self, list: &List, text: &Text) -> Answer<Path> {
@@ -73,7 +73,7 @@ impl Comparison {
         for call in &CALLS {
             let expected = call.expected(list, text);
             let entry = |out: &mut [u8]| apply(call.way, list.for_library(), &text.bytes, out);
-            self.path(call.name, &WithText { given: list, text }, &ROOMS, &expected, entry);
+            self.path(call.name, &WithText { given: list, text }, &CAPACITIES, &expected, entry);
         }
     }
 

@@ -21,7 +21,7 @@ pub const FLAWS: [Flaw; 9] = [
     property_or_selection,
     too_many_pairs,
     count_beyond_the_slice,
-    rubbish_behind_the_list,
+    garbage_after_the_list,
 ];
 
 /// So many calls for each set of flaws.
@@ -94,8 +94,8 @@ fn replace_an_end(random: &mut Random, list: &mut LentList, text: &[u8]) {
 
 /// Sets the place of one end, where there is any.
 fn set_a_place(random: &mut Random, list: &mut LentList, place: [usize; 2]) {
-    if list.held() > 0 {
-        let at = 2 * random.below(2 * list.held());
+    if list.present() > 0 {
+        let at = 2 * random.below(2 * list.present());
         list.places[at..at + 2].copy_from_slice(&place);
     }
 }
@@ -125,18 +125,18 @@ fn too_many_pairs(random: &mut Random, list: &mut LentList, _: &mut Vec<u8>) {
 
 /// More pairs counted than the slice has places for; four times the greatest counts overflow.
 fn count_beyond_the_slice(random: &mut Random, list: &mut LentList, _: &mut Vec<u8>) {
-    let held = list.held();
+    let present = list.present();
     let quarter = 1 << (usize::BITS - 2);
     match random.below(3) {
-        0 => list.places.truncate((4 * held).saturating_sub(random.within(1..=4))),
-        1 => list.count = held + random.within(1..=3),
-        _ => list.count = *random.pick(&[quarter, quarter + held, 2 * quarter + held, usize::MAX]),
+        0 => list.places.truncate((4 * present).saturating_sub(random.within(1..=4))),
+        1 => list.count = present + random.within(1..=3),
+        _ => list.count = *random.pick(&[quarter, quarter + present, 2 * quarter + present, usize::MAX]),
     }
 }
 
 /// No flaw: places behind those of the pairs counted are not looked at. It comes last, so that a count beyond
-/// the slice is sometimes made good by rubbish.
-pub fn rubbish_behind_the_list(random: &mut Random, list: &mut LentList, _: &mut Vec<u8>) {
+/// the slice is sometimes made good by garbage.
+pub fn garbage_after_the_list(random: &mut Random, list: &mut LentList, _: &mut Vec<u8>) {
     for _ in 0..random.within(1..=9) {
         list.places.push(random.within(0..=2 * MAX_PATH_LEN));
     }

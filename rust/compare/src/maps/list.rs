@@ -41,8 +41,8 @@ impl LentList {
         [start, text.len()]
     }
 
-    pub fn held(&self) -> usize {
-        held(self.for_library())
+    pub fn present(&self) -> usize {
+        present(self.for_library())
     }
 
     fn for_library(&self) -> ffi::maps::List<'_> {
@@ -52,13 +52,13 @@ impl LentList {
 }
 
 /// How many of the pairs counted have their places in the slice.
-pub fn held(list: ffi::maps::List) -> usize {
+pub fn present(list: ffi::maps::List) -> usize {
     list.count.min(list.places.len() / 4)
 }
 
-/// The places of the ends of the pairs held.
+/// The places of the ends of the pairs present.
 fn ends<'a>(list: ffi::maps::List<'a>) -> impl Iterator<Item = Place<'a>> {
-    let numbers = list.places[..4 * held(list)].chunks_exact(2);
+    let numbers = list.places[..4 * present(list)].chunks_exact(2);
     numbers.map(move |place| Place { store: list.store, start: place[0], length: place[1] })
 }
 
@@ -131,7 +131,7 @@ pub fn map_of(list: ffi::maps::List) -> Answer<MapFunction> {
     if let Some(number) = ends.iter().filter_map(|end| end.as_ref().err()).min() {
         return Err(*number);
     }
-    if held(list) < list.count || list.count > MAX_PAIRS {
+    if present(list) < list.count || list.count > MAX_PAIRS {
         return Err(TOO_MANY_PAIRS);
     }
     let paths: Vec<Path> = ends.into_iter().flatten().collect();
@@ -156,7 +156,7 @@ impl Display for List {
 /// A pair counts as one byte more than its ends.
 pub fn size(list: ffi::maps::List) -> usize {
     let bytes: usize = ends(list).filter_map(|end| end.bytes()).map(<[u8]>::len).sum();
-    bytes + held(list)
+    bytes + present(list)
 }
 
 pub fn show_pairs(list: ffi::maps::List, f: &mut fmt::Formatter<'_>) -> fmt::Result {
@@ -164,7 +164,7 @@ pub fn show_pairs(list: ffi::maps::List, f: &mut fmt::Formatter<'_>) -> fmt::Res
     for pair in ends.chunks_exact(2) {
         write!(f, ", {} -> {}", pair[0], pair[1])?;
     }
-    if held(list) < list.count {
+    if present(list) < list.count {
         write!(f, ", {} counted", list.count)?;
     }
     Ok(())

@@ -49,7 +49,7 @@ pub fn run(comparison: &mut Comparison) {
         let expected = row.call.expected(&list, &text);
         let agrees = expected.as_ref().map(|path| path.as_str()) == row.answer.as_ref().map(|text| *text);
         let given = WithText { given: &list, text: &text };
-        comparison.tally.fact("document 01's case is answered as it says", &given, agrees);
+        comparison.tally.fact("a case of the requirements is answered as stated there", &given, agrees);
         comparison.map(&list, &text);
     }
 }

@@ -6,7 +6,7 @@ use crate::lent::Lent;
 use crate::maps::calls::{WithText, both};
 use crate::maps::list::List;
 use crate::tally::{Call, Given};
-use crate::text::{Answer, TOO_LITTLE_MEMORY, Text};
+use crate::text::{Answer, BUFFER_TOO_SMALL, Text};
 use mudvizsor::ffi::relocates as entries;
 use original::pcp::relocates;
 use original::sdf::Path;
@@ -14,7 +14,7 @@ use std::fmt::{self, Display};
 use texts::MAX_PATH_LEN;
 
 /// Bytes lent for a path.
-const ROOMS: [usize; 3] = [MAX_PATH_LEN - 1, MAX_PATH_LEN, 300];
+const CAPACITIES: [usize; 3] = [MAX_PATH_LEN - 1, MAX_PATH_LEN, 300];
 
 /// Where a chain ends, and how many replacements were made.
 pub type Chained = (Path, usize);
@@ -90,12 +90,12 @@ impl Comparison {
         let full = statuses(list);
         let full = full.as_ref().map(Vec::as_slice).map_err(|number| *number);
         let needed = full.map_or(1, <[u8]>::len);
-        for room in [needed.saturating_sub(1), needed, needed + 3] {
-            let expected = within(room, needed, full);
-            let mut bytes = Lent::bytes(room);
-            let found = entries::analyze_relocate_occurrences(list.for_library(), bytes.lend(room));
+        for capacity in [needed.saturating_sub(1), needed, needed + 3] {
+            let expected = within(capacity, needed, full);
+            let mut bytes = Lent::bytes(capacity);
+            let found = entries::analyze_relocate_occurrences(list.for_library(), bytes.lend(capacity));
             let wrong = bytes.first_wrong(expected.unwrap_or_default());
-            let call = Call { name: "analyze_relocate_occurrences", given: list, room: Some(room) };
+            let call = Call { name: "analyze_relocate_occurrences", given: list, capacity: Some(capacity) };
             self.tally.compare(call, expected.map(<[u8]>::len), found, wrong);
         }
     }
@@ -104,7 +104,7 @@ impl Comparison {
         let given = &WithText { given: list, text };
         let expected = both(list.map(), text.answer())
             .and_then(|(map, path)| accept(Some(relocates::shifted(path, map.path_pairs()))));
-        self.path("shift_through_nearest_ancestor", given, &ROOMS, &expected, |out| {
+        self.path("shift_through_nearest_ancestor", given, &CAPACITIES, &expected, |out| {
             entries::shift_through_nearest_ancestor(list.for_library(), &text.bytes, out)
         });
     }
@@ -118,18 +118,18 @@ impl Comparison {
         }
         // What is not skipped is not looked at.
         let lent = skipped.map_or(&b"no path"[..], |text| &text.bytes);
-        for room in ROOMS {
+        for capacity in CAPACITIES {
             let expected = match &full {
-                Err(number) if *number < TOO_LITTLE_MEMORY => Err(*number),
-                _ if room < MAX_PATH_LEN => Err(TOO_LITTLE_MEMORY),
+                Err(number) if *number < BUFFER_TOO_SMALL => Err(*number),
+                _ if capacity < MAX_PATH_LEN => Err(BUFFER_TOO_SMALL),
                 full => full.as_ref().map_err(|number| *number),
             };
-            let mut bytes = Lent::bytes(room);
-            let (library, out) = (list.for_library(), bytes.lend(room));
+            let mut bytes = Lent::bytes(capacity);
+            let (library, out) = (list.for_library(), bytes.lend(capacity));
             let found = entries::chain_through_relocates(library, skipped.is_some(), lent, &text.bytes, out);
             let end = expected.map_or(&[][..], |(end, _)| end.as_str().as_bytes());
             let wrong = bytes.first_wrong(end);
-            let call = Call { name: "chain_through_relocates", given, room: Some(room) };
+            let call = Call { name: "chain_through_relocates", given, capacity: Some(capacity) };
             let value = expected.map(|(end, steps)| 256 * steps + end.as_str().len());
             self.tally.compare(call, value, found, wrong);
         }

@@ -29,17 +29,17 @@ pub const HOME: RouteCall = RouteCall { name: "route_home", home: true, entry: r
 pub const CALLS: [RouteCall; 2] = [OUT, HOME];
 
 /// Bytes lent for the path.
-pub const ROOMS: [usize; 3] = [MAX_PATH_LEN - 1, MAX_PATH_LEN, 300];
+pub const CAPACITIES: [usize; 3] = [MAX_PATH_LEN - 1, MAX_PATH_LEN, 300];
 
 impl RouteCall {
     pub fn expected(&self, route: &Route, text: &Text) -> Answer<Path> {
         let (maps, path) = both(route.maps(), text.answer())?;
-        self.along(maps, path)
+        self.map_over(maps, path)
     }
 
     /// "Leg after leg, the first given the starting path, each later one what the leg before gave; a leg that
     /// answers 6, 7 or 8 ends the way." Home goes "in reverse".
-    fn along(&self, maps: &[MapFunction], path: &Path) -> Answer<Path> {
+    fn map_over(&self, maps: &[MapFunction], path: &Path) -> Answer<Path> {
         if self.home {
             maps.iter().rev().try_fold(path.clone(), |path, map| accept(map.map_target_to_source(&path)))
         } else {
@@ -49,7 +49,7 @@ impl RouteCall {
 }
 
 /// The paths met on the way out: the one that reaches each leg, and what the last leg gives.
-pub fn met(maps: &[MapFunction], path: &Path) -> Vec<Path> {
+pub fn trace(maps: &[MapFunction], path: &Path) -> Vec<Path> {
     let mut paths = vec![path.clone()];
     for map in maps {
         match accept(map.translate_to_target(&paths[paths.len() - 1])) {
@@ -63,7 +63,7 @@ pub fn met(maps: &[MapFunction], path: &Path) -> Vec<Path> {
 /// Whether each leg reached, unless its map has an empty source, gives a path exactly when plain mapping takes what reached
 /// it to a path that passes questions 7 and 8 and goes plainly back, and gives that path.
 fn is_exact(maps: &[MapFunction], path: &Path) -> bool {
-    maps.iter().zip(met(maps, path)).all(|(map, reached)| {
+    maps.iter().zip(trace(maps, path)).all(|(map, reached)| {
         let there = accept(map.map_source_to_target(&reached)).ok();
         let there_and_back = there.filter(|made| map.map_target_to_source(made).as_ref() == Some(&reached));
         let has_empty_source = map.path_pairs().iter().any(|(source, _)| source.is_empty());
@@ -73,25 +73,25 @@ fn is_exact(maps: &[MapFunction], path: &Path) -> bool {
 
 impl Comparison {
     /// A path out and home, and, where it comes out, home again, with each size of lent memory.
-    pub fn route(&mut self, route: &Route, text: &Text, rooms: &[usize]) {
+    pub fn route(&mut self, route: &Route, text: &Text, capacities: &[usize]) {
         for call in &CALLS {
-            self.one_way(call, route, text, rooms);
+            self.one_direction(call, route, text, capacities);
         }
         if let Ok(out) = OUT.expected(route, text) {
-            self.one_way(&HOME, route, &Text::new(out.as_str().as_bytes()), rooms);
+            self.one_direction(&HOME, route, &Text::new(out.as_str().as_bytes()), capacities);
         }
-        self.demand_3(route, text);
+        self.round_trip(route, text);
     }
 
-    fn one_way(&mut self, call: &RouteCall, route: &Route, text: &Text, rooms: &[usize]) {
+    fn one_direction(&mut self, call: &RouteCall, route: &Route, text: &Text, capacities: &[usize]) {
         let expected = call.expected(route, text);
         let entry = |out: &mut [u8]| (call.entry)(route.for_library(), &text.bytes, out);
-        self.path(call.name, &WithText { given: route, text }, rooms, &expected, entry);
+        self.path(call.name, &WithText { given: route, text }, capacities, &expected, entry);
     }
 
     /// A path free of selections that comes out comes home: of the original, and of the library, which goes home from
     /// the bytes that it wrote.
-    fn demand_3(&mut self, route: &Route, text: &Text) {
+    fn round_trip(&mut self, route: &Route, text: &Text) {
         let (Ok(maps), Ok(path)) = (route.maps(), text.answer()) else {
             return;
         };
@@ -99,12 +99,16 @@ impl Comparison {
             return;
         }
         let given = &WithText { given: route, text };
-        self.tally.fact("demand 3: a leg gives a path exactly when it should", given, is_exact(maps, path));
-        if let Ok(out) = OUT.along(maps, path) {
-            let returns = HOME.along(maps, &out).as_ref() == Ok(path);
-            self.tally.fact("demand 3: a path that comes out comes home", given, returns);
-            let found = library_back(route, &text.bytes);
-            let call = Call { name: "route_out, then route_home", given, room: None };
+        self.tally.fact(
+            "round trip: a leg maps a path exactly when it maps back",
+            given,
+            is_exact(maps, path),
+        );
+        if let Ok(out) = OUT.map_over(maps, path) {
+            let returns = HOME.map_over(maps, &out).as_ref() == Ok(path);
+            self.tally.fact("round trip: a path that comes out comes home", given, returns);
+            let found = library_round_trip(route, &text.bytes);
+            let call = Call { name: "route_out, then route_home", given, capacity: None };
             self.tally.values(call, found.as_deref() == Ok(&text.bytes[..]), &text.bytes, &found);
         }
     }
@@ -122,7 +126,7 @@ impl Comparison {
 }
 
 /// Where the library comes to on its way home from where it came out.
-fn library_back(route: &Route, path: &[u8]) -> Result<Vec<u8>, Reply> {
+fn library_round_trip(route: &Route, path: &[u8]) -> Result<Vec<u8>, Reply> {
     let (mut out, mut home) = ([0; MAX_PATH_LEN], [0; MAX_PATH_LEN]);
     let written = |reply: Reply| if reply.number() == 0 { Ok(reply.value()) } else { Err(reply) };
     let length = written(route_out(route.for_library(), path, &mut out))?;

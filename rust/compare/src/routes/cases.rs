@@ -2,7 +2,7 @@
 
 use crate::comparison::Comparison;
 use crate::maps::cases::{Pair, count, lay_out, path_for};
-use crate::routes::calls::{OUT, ROOMS};
+use crate::routes::calls::{CAPACITIES, OUT};
 use crate::routes::flaws::FLAWS;
 use crate::routes::lent_route::{LentRoute, MAX_LEGS, Route};
 use crate::text::Text;
@@ -44,7 +44,7 @@ pub fn case(comparison: &mut Comparison, random: &mut Random) {
     let route = Route::new(lent);
     for text in &texts {
         comparison.reach.count(&route, text);
-        comparison.route(&route, text, &ROOMS);
+        comparison.route(&route, text, &CAPACITIES);
     }
     comparison.route_all(&route, &texts);
 }

@@ -4,7 +4,7 @@
 use crate::comparison::Comparison;
 use crate::maps::flaws;
 use crate::maps::list::MAX_PAIRS;
-use crate::routes::calls::ROOMS;
+use crate::routes::calls::CAPACITIES;
 use crate::routes::lent_route::{LentRoute, MAX_LEGS, Route};
 use crate::text::Text;
 use texts::random::Random;
@@ -24,7 +24,7 @@ pub const FLAWS: [Flaw; 12] = [
     too_many_legs,
     count_beyond_the_legs,
     any_kind,
-    rubbish_behind,
+    garbage_after,
 ];
 
 /// So many calls for each set of flaws.
@@ -56,13 +56,13 @@ fn with_flaws(comparison: &mut Comparison, random: &mut Random, set: usize) {
         }
     }
     let (route, text) = (Route::new(route), Text::new(&path));
-    comparison.route(&route, &text, &ROOMS);
+    comparison.route(&route, &text, &CAPACITIES);
     comparison.route_all(&route, &[text, Text::new(b"/A/B/C")]);
 }
 
-/// Where one of the legs held has its numbers.
+/// Where one of the legs present has its numbers.
 fn a_leg(random: &mut Random, route: &LentRoute) -> Option<usize> {
-    (route.held() > 0).then(|| 3 * random.below(route.held()))
+    (route.present() > 0).then(|| 3 * random.below(route.present()))
 }
 
 /// One leg's list goes on beyond its limit; there are pairs enough.
@@ -105,11 +105,11 @@ fn too_many_legs(random: &mut Random, route: &mut LentRoute, _: &mut Vec<u8>) {
 
 /// More legs counted than the slice has numbers for; three times the greatest counts overflow.
 fn count_beyond_the_legs(random: &mut Random, route: &mut LentRoute, _: &mut Vec<u8>) {
-    let held = route.held();
+    let present = route.present();
     match random.below(3) {
-        0 => route.legs.truncate((3 * held).saturating_sub(random.within(1..=3))),
-        1 => route.count = held + random.within(1..=3),
-        _ => route.count = random.pick(&FAR).saturating_add(held),
+        0 => route.legs.truncate((3 * present).saturating_sub(random.within(1..=3))),
+        1 => route.count = present + random.within(1..=3),
+        _ => route.count = random.pick(&FAR).saturating_add(present),
     }
 }
 
@@ -121,9 +121,9 @@ fn any_kind(random: &mut Random, route: &mut LentRoute, _: &mut Vec<u8>) {
 }
 
 /// No flaw: numbers behind those of the legs counted, and places behind those of the pairs, are not looked at. It
-/// comes last, so that a count beyond its slice is sometimes made good by rubbish.
-fn rubbish_behind(random: &mut Random, route: &mut LentRoute, path: &mut Vec<u8>) {
-    flaws::rubbish_behind_the_list(random, &mut route.list, path);
+/// comes last, so that a count beyond its slice is sometimes made good by garbage.
+fn garbage_after(random: &mut Random, route: &mut LentRoute, path: &mut Vec<u8>) {
+    flaws::garbage_after_the_list(random, &mut route.list, path);
     for _ in 0..random.within(1..=7) {
         route.legs.push(random.within(0..=2 * MAX_PAIRS));
     }

@@ -35,13 +35,13 @@ impl LentRoute {
     }
 
     /// How many of the legs counted have their numbers in the slice.
-    pub fn held(&self) -> usize {
+    pub fn present(&self) -> usize {
         self.count.min(self.legs.len() / 3)
     }
 
-    /// The legs held.
+    /// The legs present.
     fn legs(&self) -> impl Iterator<Item = LentLeg<'_>> {
-        self.legs[..3 * self.held()].chunks_exact(3).map(|leg| self.leg(leg[0], leg[1], leg[2]))
+        self.legs[..3 * self.present()].chunks_exact(3).map(|leg| self.leg(leg[0], leg[1], leg[2]))
     }
 
     /// A list that begins behind all places has none.
@@ -110,7 +110,7 @@ fn maps_of(lent: &LentRoute) -> Answer<Vec<MapFunction>> {
     if let Some(number) = maps.iter().filter_map(|map| map.as_ref().err()).min() {
         return Err(*number);
     }
-    if lent.held() < lent.count || lent.count > MAX_LEGS {
+    if lent.present() < lent.count || lent.count > MAX_LEGS {
         return Err(TOO_MANY_PAIRS);
     }
     maps.into_iter().collect()
@@ -134,7 +134,7 @@ impl Display for Route {
             show_pairs(leg.list, f)?;
             f.write_str(";")?;
         }
-        if self.lent.held() < self.lent.count {
+        if self.lent.present() < self.lent.count {
             write!(f, " {} legs counted;", self.lent.count)?;
         }
         Ok(())

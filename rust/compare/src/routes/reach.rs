@@ -1,6 +1,6 @@
 //! How far paths get on their way out, which shows that the random routes are not mostly stopped at their first leg.
 
-use crate::routes::calls::met;
+use crate::routes::calls::trace;
 use crate::routes::lent_route::Route;
 use crate::text::Text;
 use std::fmt::{self, Display};
@@ -26,7 +26,7 @@ impl Reach {
         if maps.len() < 2 {
             return;
         }
-        let paths = met(maps, path);
+        let paths = trace(maps, path);
         let passed = paths.len() - 1;
         self.ways += 1;
         self.stopped_at_first += usize::from(passed == 0);

@@ -4,7 +4,7 @@
 use crate::comparison::Comparison;
 use crate::maps::calls::WithText;
 use crate::maps::list::TOO_MANY_PAIRS;
-use crate::routes::calls::{HOME, OUT, ROOMS, RouteCall};
+use crate::routes::calls::{CAPACITIES, HOME, OUT, RouteCall};
 use crate::routes::lent_route::Route;
 use crate::text::{Answer, MADE_NOT_LEGAL, MADE_TOO_LONG, NO_PATH, TOO_LONG, Text};
 use texts::MAX_PATH_LEN;
@@ -84,8 +84,8 @@ fn one_case(
     let expected = call.expected(route, text);
     let agrees = expected.as_ref().map(|path| path.as_str()) == answer.as_ref().map(|text| *text);
     let given = &WithText { given: route, text };
-    comparison.tally.fact("document 01's route is answered as it says", given, agrees);
-    comparison.route(route, text, &ROOMS);
+    comparison.tally.fact("a route of the requirements is answered as stated there", given, agrees);
+    comparison.route(route, text, &CAPACITIES);
     comparison.route_all(route, &[Text::new(b"/A"), Text::new(&text.bytes)]);
 }
 

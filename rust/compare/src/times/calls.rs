@@ -28,16 +28,16 @@ const TESTS: [Test; 3] = [
 ];
 
 /// A call that makes one offset of another.
-struct Making {
+struct OffsetCall {
     name: &'static str,
     entry: extern "C" fn(f64, f64, &mut [f64; 2]),
     original: fn(LayerOffset) -> LayerOffset,
 }
 
-const MAKINGS: [Making; 3] = [
-    Making { name: "LayerOffset::new", entry: times::new, original: |given| given },
-    Making { name: "LayerOffset::inverse", entry: times::inverse, original: |given| given.inverse() },
-    Making { name: "LayerOffset::sanitized", entry: times::sanitized, original: LayerOffset::sanitized },
+const OFFSET_CALLS: [OffsetCall; 3] = [
+    OffsetCall { name: "LayerOffset::new", entry: times::new, original: |given| given },
+    OffsetCall { name: "LayerOffset::inverse", entry: times::inverse, original: |given| given.inverse() },
+    OffsetCall { name: "LayerOffset::sanitized", entry: times::sanitized, original: LayerOffset::sanitized },
 ];
 
 impl Comparison {
@@ -53,9 +53,9 @@ impl Comparison {
         for test in &TESTS {
             self.test(test.name, &one, (test.original)(&given), (test.entry)(offset, scale));
         }
-        for making in &MAKINGS {
-            let found = written(|out| (making.entry)(offset, scale, out));
-            self.offset(making.name, &one, (making.original)(given), found);
+        for call in &OFFSET_CALLS {
+            let found = written(|out| (call.entry)(offset, scale, out));
+            self.offset(call.name, &one, (call.original)(given), found);
         }
         let mut bits = [0; 2];
         times::to_bits(offset, scale, &mut bits);
@@ -92,11 +92,11 @@ impl Comparison {
         found: [f64; N],
     ) {
         let agree = expected.into_iter().zip(found).all(|(expected, found)| is_same(expected, found));
-        self.tally.values(Call { name, given: &Floats(given), room: None }, agree, expected, found);
+        self.tally.values(Call { name, given: &Floats(given), capacity: None }, agree, expected, found);
     }
 
     fn test(&mut self, name: &'static str, given: &[f64], expected: bool, found: bool) {
-        let call = Call { name, given: &Floats(given), room: None };
+        let call = Call { name, given: &Floats(given), capacity: None };
         self.tally.values(call, expected == found, expected, found);
     }
 }

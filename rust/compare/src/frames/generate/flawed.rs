@@ -29,8 +29,8 @@ pub fn frame(writer: &mut Writer) {
         }
         _ => {
             let other = self::text(writer.random);
-            let room = MAX_PAIR_BYTES.saturating_sub(text.len());
-            writer.frame(Frame::Pair { source: &text, target: &other[..other.len().min(room)] });
+            let capacity = MAX_PAIR_BYTES.saturating_sub(text.len());
+            writer.frame(Frame::Pair { source: &text, target: &other[..other.len().min(capacity)] });
         }
     }
 }

@@ -1,7 +1,7 @@
 //! Scripts at each limit: what just passes, and what is just too much.
 
 use crate::frames::generate::flawed;
-use crate::frames::generate::journeys::any_frame;
+use crate::frames::generate::well_formed::any_frame;
 use crate::frames::generate::writer::Writer;
 use frames_original::Frame;
 use frames_original::run::MAX_LINE_LEN;
@@ -16,7 +16,7 @@ pub fn at_a_limit(writer: &mut Writer) {
         1 => legs(writer),
         2 => bytes_of_maps(writer),
         3 => bytes_of_relocates(writer),
-        4 => paths_made(writer),
+        4 => resulting_paths(writer),
         _ => lines(writer),
     }
     for _ in 0..writer.random.below(10) {
@@ -33,7 +33,7 @@ fn pairs(writer: &mut Writer) {
         flawed::frame(writer);
     }
     writer.frame(Frame::Statuses);
-    writer.close_in_any_way();
+    writer.close_as_any();
 }
 
 fn legs(writer: &mut Writer) {
@@ -42,19 +42,19 @@ fn legs(writer: &mut Writer) {
             let pair = writer.any_pair();
             writer.pair(pair);
         }
-        writer.close_in_any_way();
+        writer.close_as_any();
     }
     writer.frame(Frame::Statuses);
 }
 
 /// About as many bytes as all legs may have.
-fn about_most_bytes(writer: &mut Writer) -> usize {
+fn about_max_bytes(writer: &mut Writer) -> usize {
     MAX_BYTES - 2 + writer.random.below(5)
 }
 
 /// Map legs of long ends, whose last list brings the bytes to about the limit.
 fn bytes_of_maps(writer: &mut Writer) {
-    let mut left = about_most_bytes(writer);
+    let mut left = about_max_bytes(writer);
     while left > 0 {
         let source = left.min(writer.random.within(MAX_PATH_LEN - 20..=MAX_PATH_LEN));
         let target = (left - source).min(writer.random.within(MAX_PATH_LEN - 20..=MAX_PATH_LEN));
@@ -65,7 +65,7 @@ fn bytes_of_maps(writer: &mut Writer) {
             writer.close(Frame::CloseMap);
         }
     }
-    writer.close_in_any_way();
+    writer.close_as_any();
     if writer.random.one_in(3) {
         legs_and_bytes(writer);
     }
@@ -76,12 +76,12 @@ fn legs_and_bytes(writer: &mut Writer) {
     while writer.legs.len() < MAX_LEGS && writer.close(Frame::CloseMap) {}
     let pair = [end_text(writer.random, MAX_PATH_LEN), Vec::new()];
     writer.pair(pair);
-    writer.close_in_any_way();
+    writer.close_as_any();
 }
 
 /// Relocate legs of Active pairs beside structural ones, which do not count.
 fn bytes_of_relocates(writer: &mut Writer) {
-    let mut left = about_most_bytes(writer);
+    let mut left = about_max_bytes(writer);
     let mut number = 0;
     while left > 0 {
         // Room is left for one more source that can be made.
@@ -96,7 +96,7 @@ fn bytes_of_relocates(writer: &mut Writer) {
             writer.close(Frame::CloseRelocates);
         }
     }
-    writer.close_in_any_way();
+    writer.close_as_any();
 }
 
 /// A source of so many bytes, which are at least 6, or as many as it takes to be no other one's prefix.
@@ -108,14 +108,14 @@ fn active_source(number: usize, length: usize) -> Vec<u8> {
 }
 
 /// Pairs that make paths of about the longest length, out and home.
-fn paths_made(writer: &mut Writer) {
+fn resulting_paths(writer: &mut Writer) {
     let long = writer.random.within(MAX_PATH_LEN - 8..=MAX_PATH_LEN);
     let mut pair = [b"/A".to_vec(), end_text(writer.random, long)];
     if writer.random.one_in(2) {
         pair.reverse();
     }
     writer.pair(pair.clone());
-    writer.close_in_any_way();
+    writer.close_as_any();
     let [source, target] = &pair;
     for end in [source, target] {
         for more in 0..=10 {

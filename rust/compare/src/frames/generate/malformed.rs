@@ -1,6 +1,6 @@
 //! Lines that are no frame, in every way.
 
-use crate::frames::generate::journeys::any_frame;
+use crate::frames::generate::well_formed::any_frame;
 use crate::frames::generate::writer::Writer;
 use frames_original::Frame;
 use frames_original::run::MAX_LINE_LEN;
@@ -27,7 +27,7 @@ const FLAWS: [Flaw; 14] = [
 ];
 
 /// Bad lines among others. Nothing of what went before may be changed by them.
-pub fn noise(writer: &mut Writer) {
+pub fn bad_lines(writer: &mut Writer) {
     for _ in 0..writer.random.within(1..=30) {
         any_frame(writer);
         if writer.random.one_in(2) {

@@ -69,26 +69,26 @@ impl<'a> Writer<'a> {
         [self.any_end(), self.any_end()]
     }
 
-    /// A way to close the open list, two times in three as a map.
-    pub fn any_way(&mut self) -> Frame<'static> {
+    /// A kind to close the open list, two times in three as a map.
+    pub fn any_close(&mut self) -> Frame<'static> {
         if self.random.one_in(3) { Frame::CloseRelocates } else { Frame::CloseMap }
     }
 
-    pub fn close_in_any_way(&mut self) {
-        let way = self.any_way();
-        self.close_or_else(way);
+    pub fn close_as_any(&mut self) {
+        let kind = self.any_close();
+        self.close_or_else(kind);
     }
 
-    /// Closes the open list. Where that is refused, one time in two it is tried in the other way.
-    pub fn close_or_else(&mut self, way: Frame) {
-        if !self.close(way) && self.random.one_in(2) {
-            self.close(if way == Frame::CloseMap { Frame::CloseRelocates } else { Frame::CloseMap });
+    /// Closes the open list. Where that is refused, one time in two it is tried in the other kind.
+    pub fn close_or_else(&mut self, kind: Frame) {
+        if !self.close(kind) && self.random.one_in(2) {
+            self.close(if kind == Frame::CloseMap { Frame::CloseRelocates } else { Frame::CloseMap });
         }
     }
 
     /// Closes the open list, and gives whether that is accepted.
-    pub fn close(&mut self, way: Frame) -> bool {
-        let accepted = self.frame(way)[1] == 0;
+    pub fn close(&mut self, kind: Frame) -> bool {
+        let accepted = self.frame(kind)[1] == 0;
         if accepted {
             self.legs.push(std::mem::take(&mut self.open));
         }

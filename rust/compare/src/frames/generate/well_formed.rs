@@ -11,7 +11,7 @@ use texts::random::Random;
 const TRIES: usize = 10;
 
 /// Legs one after the other. A path is asked out between them, and paths are asked out and home at the end.
-pub fn journey(writer: &mut Writer) {
+pub fn route(writer: &mut Writer) {
     let pair = writer.any_pair();
     let start = path_under(writer.random, &pair[0], &pair[1]);
     let mut reached = start.clone();
@@ -22,7 +22,7 @@ pub fn journey(writer: &mut Writer) {
         }
     }
     for _ in 0..writer.random.within(2..=10) {
-        ask(writer, &start);
+        query(writer, &start);
     }
     writer.frame(Frame::Count);
 }
@@ -39,8 +39,8 @@ fn leg_count(random: &mut Random) -> usize {
 
 /// The pairs of a list, now and then its statuses, and a close.
 fn leg(writer: &mut Writer, reached: &[u8]) {
-    let way = writer.any_way();
-    for pair in list_for(writer, way, reached) {
+    let close = writer.any_close();
+    for pair in list_for(writer, close, reached) {
         writer.pair(pair);
         if writer.random.one_in(12) {
             writer.frame(Frame::Statuses);
@@ -49,15 +49,15 @@ fn leg(writer: &mut Writer, reached: &[u8]) {
     if writer.random.one_in(3) {
         writer.frame(Frame::Statuses);
     }
-    writer.close_or_else(way);
+    writer.close_or_else(close);
 }
 
 /// The first list of some that lets the path by, or, one time in twelve, any.
-fn list_for(writer: &mut Writer, way: Frame, reached: &[u8]) -> Vec<Pair> {
+fn list_for(writer: &mut Writer, close: Frame, reached: &[u8]) -> Vec<Pair> {
     let tries = if writer.random.one_in(12) { 1 } else { TRIES };
     let mut pairs = list(writer, reached);
     for _ in 1..tries {
-        if lets_by(&pairs, way, reached) {
+        if maps_over(&pairs, close, reached) {
             break;
         }
         pairs = list(writer, reached);
@@ -66,10 +66,10 @@ fn list_for(writer: &mut Writer, way: Frame, reached: &[u8]) -> Vec<Pair> {
 }
 
 /// Whether a path comes out over a leg of these pairs.
-fn lets_by(pairs: &[Pair], way: Frame, path: &[u8]) -> bool {
+fn maps_over(pairs: &[Pair], close: Frame, path: &[u8]) -> bool {
     let mut state = State::default();
     let added = |[source, target]: &Pair| state.answer(Frame::Pair { source, target }).is_ok();
-    pairs.iter().all(added) && state.answer(way).is_ok() && state.answer(Frame::Out(path)).is_ok()
+    pairs.iter().all(added) && state.answer(close).is_ok() && state.answer(Frame::Out(path)).is_ok()
 }
 
 /// Pairs over the writer's ends, among them mostly one whose source is a beginning of the path that came so far.
@@ -92,7 +92,7 @@ fn end_above(random: &mut Random, path: &[u8]) -> Vec<u8> {
     random.pick(&prefixes(names)).to_vec()
 }
 
-/// A target that often lies beside all others, so that the way back is clear.
+/// A target that often lies beside all others, so that the close back is clear.
 fn target(random: &mut Random, source: &[u8], other: Vec<u8>) -> Vec<u8> {
     let names = |end: &[u8]| if end == b"/" { Vec::new() } else { end.to_vec() };
     match random.below(3) {
@@ -103,7 +103,7 @@ fn target(random: &mut Random, source: &[u8], other: Vec<u8>) -> Vec<u8> {
 }
 
 /// Asks one thing of the legs closed so far.
-fn ask(writer: &mut Writer, start: &[u8]) {
+fn query(writer: &mut Writer, start: &[u8]) {
     match writer.random.below(12) {
         0..=4 => {
             let path = path_for(writer, start);
@@ -160,7 +160,7 @@ fn path_home(writer: &mut Writer, start: &[u8]) -> Vec<u8> {
 }
 
 /// Frames of any kind in any order.
-pub fn medley(writer: &mut Writer) {
+pub fn any_order(writer: &mut Writer) {
     for _ in 0..writer.random.within(1..=40) {
         any_frame(writer);
     }
@@ -172,11 +172,11 @@ pub fn any_frame(writer: &mut Writer) {
             let pair = writer.any_pair();
             writer.pair(pair);
         }
-        4 => writer.close_in_any_way(),
+        4 => writer.close_as_any(),
         5 => flawed::frame(writer),
         _ => {
             let end = writer.any_end();
-            ask(writer, &end);
+            query(writer, &end);
         }
     }
 }
