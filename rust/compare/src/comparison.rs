@@ -1,4 +1,4 @@
-//! Calls both sides with the same texts and compares what they give.
+//! Calls both sides with the same texts and compares the results.
 
 use crate::calls::{self, NumberCall, PathCall};
 use crate::lent::Lent;
@@ -21,17 +21,17 @@ const NUMBER_CALLS: [NumberCall; 5] = [
 const PATH_CALLS: [PathCall; 4] =
     [calls::PARENT, calls::PRIM_PATH, calls::SPLIT_PROPERTY, calls::STRIP_VARIANT_SELECTIONS];
 
-/// Bytes lent for a path.
+/// The sizes of the buffers lent for a path, in bytes.
 const CAPACITIES: [usize; 5] = [0, MAX_PATH_LEN - 1, MAX_PATH_LEN, MAX_PATH_LEN + 1, 300];
 
-/// Numbers lent for the lengths of ancestors, at most: one for each length, and three more.
+/// The maximum size of the buffer lent for the lengths of ancestors: one number for each length, and three more.
 const NUMBERS: usize = MAX_PATH_LEN + 1 + 3;
 
 pub struct Comparison {
     pub tally: Tally,
     /// The legal texts that `Path::new` refuses.
     pub refused_by_original: BTreeSet<Vec<u8>>,
-    /// How far the paths of random routes get.
+    /// Statistics on how far the paths of random routes get.
     pub reach: Reach,
     bytes: Lent<u8>,
     numbers: Lent<usize>,
@@ -48,7 +48,7 @@ impl Comparison {
         }
     }
 
-    /// Every call that takes one text.
+    /// Compares every call that takes one text.
     pub fn one_text(&mut self, text: &Text) {
         for call in &NUMBER_CALLS {
             let found = (call.entry)(&text.bytes);
@@ -79,7 +79,7 @@ impl Comparison {
         self.tally.compare(call, expected, found, None);
     }
 
-    /// A call that writes a path, with each size of lent memory, of which none is above the greatest of
+    /// Compares a call that writes a path, with a buffer of each capacity. No capacity may exceed the largest of
     /// `CAPACITIES`.
     pub fn path(
         &mut self,
@@ -99,7 +99,7 @@ impl Comparison {
         }
     }
 
-    /// With one number too few, with just enough, and with more.
+    /// Compares `ancestors` with a buffer of one number too few, of just enough, and of more.
     fn ancestors(&mut self, text: &Text) {
         let full = calls::ancestors(text);
         let full = full.as_ref().map(Vec::as_slice).map_err(|number| *number);

@@ -1,14 +1,14 @@
-//! What must hold of the original's answers, because the library's calls rest on it.
+//! Properties of the original on which the definitions of the library depend.
 
 use crate::comparison::Comparison;
 use crate::text::{Text, Texts, parsed};
 use original::sdf::Path;
 
-/// A legal path of at most 255 bytes has at most so many ancestors, itself counted.
+/// The maximum number of ancestors of a legal path of at most 255 bytes, including the path itself.
 const MAX_ANCESTORS: usize = 128;
 
 impl Comparison {
-    /// The facts about one legal path.
+    /// Checks the properties of one legal path.
     pub fn facts(&mut self, text: &Text) {
         let Some(path) = text.path() else {
             return;
@@ -25,7 +25,7 @@ impl Comparison {
         fact("the property's name is the text after the dot", splits_at_dot(path));
     }
 
-    /// The facts about one legal path and a prefix.
+    /// Checks the properties of one legal path and a prefix.
     pub fn prefix_facts(&mut self, text: &Text, prefix: &Text) {
         let (Some(path), Some(old)) = (text.path(), prefix.path()) else {
             return;

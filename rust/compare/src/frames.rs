@@ -1,6 +1,6 @@
-//! The program `frames`, and the library's entry for a line of it, beside the protocol over the original's functions: random
-//! scripts, each in a process of its own and through the entry, then, of the program, one long input, inputs in two pieces,
-//! and lines sent one by one.
+//! Compares the program `frames`, and the entry of the library for one line of it, with the Rust program of the protocol:
+//! random scripts, each in its own process and through the entry; then, for the program only, one long input, inputs in two
+//! pieces, and lines sent one by one.
 
 mod answers;
 mod cuts;
@@ -24,16 +24,16 @@ use std::path::Path;
 use std::time::Duration;
 use texts::random::Random;
 
-/// So long an answer is waited for.
+/// How long to wait for an answer.
 const TIMEOUT: Duration = Duration::from_secs(20);
 
-/// Frames of the one long input, which the program reads in many blocks. More than 65,535 of them come out.
+/// The number of frames of the long input, which the program reads in many blocks. More than 65,535 paths come out.
 const LONG: usize = 150_000;
 
-/// Lines that are sent one by one, at least.
+/// The minimum number of lines that are sent one by one.
 const SINGLE_LINES: usize = 5_000;
 
-/// Every phase goes on after a wrong answer, and ends where the program does not answer or ends as it should not.
+/// Every phase continues after a wrong answer, and ends if the program does not answer or does not exit as it should.
 pub fn run(comparison: &mut Comparison, program: &Path, seed: u64, limit: &Limit) {
     let program = &Program { path: program.to_path_buf(), timeout: TIMEOUT };
     let mut answers = Answers::default();
@@ -54,7 +54,7 @@ fn long_input(comparison: &mut Comparison, program: &Program) {
     comparison.send_and_compare(program, given, &input, Sending::Whole);
 }
 
-/// Lines of many scripts in one process, each sent when the one before has been answered.
+/// Sends the lines of many scripts to one process, each one when the one before has been answered.
 fn single_lines(comparison: &mut Comparison, program: &Program, seed: u64) {
     let random = &mut Random::new(seed);
     let mut lines: Vec<Vec<u8>> = Vec::new();

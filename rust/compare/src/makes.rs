@@ -1,4 +1,4 @@
-//! The calls that make maps: all small lists and maps, with flaws, and at random.
+//! Compares the calls that build maps: on all small lists and maps, with flaws, and on random ones.
 
 mod before;
 mod calls;

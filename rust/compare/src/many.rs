@@ -1,4 +1,4 @@
-//! Calls on many paths: each path must get what the single call gives it with 255 bytes lent.
+//! Calls for many paths: each path must have the result of the single call with a buffer of 255 bytes.
 
 use crate::comparison::Comparison;
 use crate::lent::Lent;
@@ -10,20 +10,20 @@ use mudvizsor::ffi::maps::Paths;
 use original::sdf::Path;
 use texts::MAX_PATH_LEN;
 
-/// Bytes and numbers lent beyond those needed.
+/// The number of bytes and numbers lent beyond those needed.
 const MORE: usize = 7;
 
-/// The library's entry, which gets the paths and the memory for their bytes and replies.
+/// The entry of the library, which gets the paths and the buffers for their results and replies.
 type Entry<'a> = &'a dyn Fn(Paths, &mut [u8], &mut [usize]) -> Reply;
 
-/// A call on many paths, and what it is given beside them.
+/// A call for many paths, and its other input.
 pub struct Many<'a> {
     pub name: &'static str,
     pub given: &'a dyn Given,
     pub entry: Entry<'a>,
 }
 
-/// Paths as they are lent: the texts one after the other, then one path whose spot lies outside them.
+/// Paths as they are lent: the concatenated texts, and one more path whose spot lies outside them.
 struct LentPaths {
     texts: Vec<u8>,
     spots: Vec<usize>,
@@ -43,13 +43,13 @@ impl LentPaths {
         lent
     }
 
-    /// All paths, with so many of the numbers that say where they are.
+    /// Lends all paths, with this many of the numbers of their spots.
     fn lend(&self, spots: usize) -> Paths<'_> {
         Paths { texts: &self.texts, spots: &self.spots[..spots], count: self.count }
     }
 }
 
-/// So many spots, bytes and replies are lent.
+/// The lengths of the lent slices.
 #[derive(Clone, Copy)]
 struct Lengths {
     spots: usize,
@@ -58,8 +58,8 @@ struct Lengths {
 }
 
 impl Comparison {
-    /// All paths in one call: with what is needed, with more, and with one too few of each kind. The answers
-    /// expected are those of the single calls.
+    /// Compares one call for all paths: with just what is needed, with more, and with one too few in each slice. The expected
+    /// answers are those of the single calls.
     pub fn many(&mut self, call: &Many, texts: &[Text], mut expected: Vec<Answer<Path>>) {
         expected.push(Err(TOO_LONG));
         let lent = &LentPaths::new(texts);
@@ -92,8 +92,8 @@ impl Comparison {
         let replies = numbers.lend(lengths.replies);
         let found = entry(lent.lend(lengths.spots), bytes.lend(lengths.bytes), replies);
         let replies = replies.to_vec();
-        let nowhere = Text::new(b"");
-        for (i, text) in texts.iter().chain([&nowhere]).enumerate() {
+        let outside = Text::new(b"");
+        for (i, text) in texts.iter().chain([&outside]).enumerate() {
             let answer = expected[i].as_ref().map(|path| path.as_str().len()).map_err(|number| *number);
             let of_one = Call { name, given: &WithText { given, text }, capacity: Some(lengths.bytes) };
             self.tally.compare(of_one, answer, Reply(replies[i]), None);
@@ -113,7 +113,7 @@ impl Comparison {
     }
 }
 
-/// Lent memory with each path at the beginning of its 255 bytes.
+/// The expected contents of the buffer: each path at the start of its 255 bytes.
 fn memory_after(before: &[u8], expected: &[Answer<Path>]) -> Vec<u8> {
     let mut memory = before.to_vec();
     for (i, path) in expected.iter().enumerate() {

@@ -1,4 +1,4 @@
-//! The calls on maps: lists of pairs, in all small sets, with flaws, and at random.
+//! Compares the calls that map a path: on all small lists of pairs, with flaws, and on random lists.
 
 pub mod calls;
 pub mod cases;

@@ -1,4 +1,5 @@
-//! The calls on relocate lists: all small lists, document 01's cases, and at random with flaws.
+//! Compares the calls for relocate lists: on the cases of the requirements, on all small lists, and on random lists with
+//! flaws.
 
 mod calls;
 pub mod cases;

@@ -1,4 +1,4 @@
-//! The calls on routes: legs in all small sets, with flaws, and at random.
+//! Compares the calls for routes: on all small routes, with flaws, and on random routes.
 
 mod calls;
 pub mod cases;

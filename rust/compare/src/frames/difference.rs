@@ -1,4 +1,4 @@
-//! Where a run of the program first leaves what is expected.
+//! The first difference between a run of the program and the expected answers.
 
 use crate::comparison::Comparison;
 use crate::frames::program::{Output, Program};
@@ -7,16 +7,16 @@ use crate::tally::{Call, Given};
 use std::fmt::{self, Display};
 
 pub struct Difference {
-    /// So many answers agree before it.
+    /// The number of answers before it that agree.
     pub at: usize,
-    /// What is count_answers otherwise.
+    /// The kind of difference.
     pub name: &'static str,
     expected: String,
     found: String,
 }
 
 impl Run {
-    /// The first difference, where there is one: in an answer line, or in how the run ends.
+    /// Returns the first difference, in an answer line or in how the run ends; `None` if there is none.
     pub fn difference(&self) -> Option<Difference> {
         let Run { expected, output: Output { answers, failure } } = self;
         let at = lines(expected).zip(lines(answers)).take_while(|(one, other)| one == other).count();
@@ -32,7 +32,7 @@ impl Run {
         Some(Difference { at, name, expected: shown(expected), found })
     }
 
-    /// Whether the program count_answers all and ended as it should, so that it can be asked on.
+    /// Returns whether the program answered everything and exited as it should, so that it can be tested further.
     pub fn is_whole(&self) -> bool {
         self.output.failure.is_none()
     }
@@ -46,7 +46,7 @@ fn lines(text: &[u8]) -> impl Iterator<Item = &[u8]> {
     text.split_inclusive(|byte| *byte == b'\n')
 }
 
-/// The kind of difference, by the answer that is expected.
+/// The kind of difference, by the expected answer.
 fn name(expected: Option<&[u8]>) -> &'static str {
     match expected.and_then(<[u8]>::first_chunk) {
         Some(b"81") => "frames 01",
@@ -61,7 +61,7 @@ fn name(expected: Option<&[u8]>) -> &'static str {
     }
 }
 
-/// What the program was given, and which of its answers is wrong.
+/// The input of the program, and the number of the wrong answer.
 struct WrongAnswer<'a> {
     given: &'a dyn Given,
     answer: usize,
@@ -80,7 +80,7 @@ impl Display for WrongAnswer<'_> {
 }
 
 impl Comparison {
-    /// Sends an input to the program and compares what it answers. Gives whether the program can be asked on.
+    /// Sends an input to the program and compares the answers. Returns whether the program can be tested further.
     pub fn send_and_compare(
         &mut self,
         program: &Program,
@@ -93,7 +93,7 @@ impl Comparison {
         run.is_whole()
     }
 
-    /// Counts a comparison for each answer up to the difference, or for all of them and the end of the run.
+    /// Counts a comparison for each answer up to the difference or, if there is none, for all answers and the end of the run.
     pub fn count_answers(&mut self, run: &Run, given: &dyn Given, difference: Option<Difference>) {
         let Some(Difference { at, name, expected, found }) = difference else {
             return self.tally.agree(lines(&run.expected).count() + 1);
@@ -110,7 +110,7 @@ mod tests {
     use crate::frames::program::{Failure, Output};
     use crate::frames::sending::Run;
 
-    /// The place, the name, and what is expected and found.
+    /// The position and the kind of the first difference, and what is expected and found.
     fn first(expected: &str, found: &str, failure: Option<Failure>) -> Option<(usize, &'static str, String)> {
         let output = Output { answers: found.into(), failure };
         let difference = Run { expected: expected.into(), output }.difference()?;

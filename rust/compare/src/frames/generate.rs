@@ -1,4 +1,4 @@
-//! Random scripts: the same seed gives the same ones.
+//! Random scripts; the same seed yields the same scripts.
 
 mod flawed;
 mod limits;
@@ -39,7 +39,7 @@ mod tests {
     }
 
     #[test]
-    fn every_answer_comes() {
+    fn every_answer_occurs() {
         let (random, answers) = (&mut Random::new(1), &mut Answers::default());
         for _ in 0..500 {
             answers.count(&frames_original::answers(&script(random).input()));
@@ -51,7 +51,7 @@ mod tests {
     }
 
     #[test]
-    fn scripts_end_in_either_way() {
+    fn some_scripts_lack_the_last_newline() {
         let random = &mut Random::new(1);
         let open_ends = (0..200).filter(|_| script(random).open_end).count();
         assert!((1..100).contains(&open_ends));

@@ -1,4 +1,4 @@
-//! The program under test as a process, with pipes to and from it.
+//! The program under test as a process, connected by pipes.
 
 use std::fmt::{self, Display};
 use std::io::{self, Read, Write};
@@ -8,13 +8,13 @@ use std::sync::mpsc::{self, Receiver, RecvTimeoutError, Sender};
 use std::thread;
 use std::time::{Duration, Instant};
 
-/// Where the program is, and how long an answer is waited for.
+/// The path of the program, and how long to wait for an answer.
 pub struct Program {
     pub path: PathBuf,
     pub timeout: Duration,
 }
 
-/// What a run wrote, and what was wrong with it beside that.
+/// The output of a run, and how it failed, if it did.
 pub struct Output {
     pub answers: Vec<u8>,
     pub failure: Option<Failure>,
@@ -22,9 +22,9 @@ pub struct Output {
 
 #[derive(Debug)]
 pub enum Failure {
-    /// The system did not start the program, or lost it.
+    /// The program could not be started or waited for.
     System(io::Error),
-    /// No answer came in time.
+    /// There was no answer in time.
     Timeout,
     /// The output ended before the input.
     Ended,
@@ -43,7 +43,7 @@ impl Display for Failure {
 }
 
 impl Program {
-    /// A run of the program with what it is sent, up to its end.
+    /// Runs the program, sends its input with `send`, and waits for its end.
     pub fn run(&self, send: impl FnOnce(&mut Client)) -> Output {
         match self.start() {
             Ok(mut client) => {
@@ -74,7 +74,7 @@ impl Program {
     }
 }
 
-/// Each piece is written at once. A program that no longer reads is noticed by its answers.
+/// Writes each piece at once. A program that stops reading is detected by its answers.
 fn write_pieces(mut stdin: ChildStdin, pieces: &Receiver<Vec<u8>>) {
     for piece in pieces {
         if stdin.write_all(&piece).is_err() {
@@ -92,13 +92,13 @@ fn read_blocks(mut stdout: ChildStdout, blocks: &Sender<Vec<u8>>) {
     }
 }
 
-/// A run of the program. A process that still runs when its client goes is ended.
+/// A run of the program. A process that is still running when its client is dropped is killed.
 pub struct Client {
     child: Child,
     input: Option<Sender<Vec<u8>>>,
     output: Receiver<Vec<u8>>,
     received: Vec<u8>,
-    /// The lines that have been received.
+    /// The number of lines received.
     lines: usize,
     failure: Option<Failure>,
     timeout: Duration,
@@ -107,12 +107,12 @@ pub struct Client {
 impl Client {
     pub fn send(&mut self, piece: &[u8]) {
         if let Some(input) = &self.input {
-            // The writer is gone where the program no longer reads; its answers will tell.
+            // The writer has ended if the program no longer reads, which is detected by its answers.
             let _ = input.send(piece.to_vec());
         }
     }
 
-    /// Waits until so many lines have been received in all, and gives whether they have.
+    /// Waits until this many lines have been received in total, and returns whether they have.
     pub fn wait_for(&mut self, lines: usize) -> bool {
         let deadline = Instant::now() + self.timeout;
         while self.failure.is_none() && self.lines < lines {
@@ -125,7 +125,7 @@ impl Client {
         self.failure.is_none()
     }
 
-    /// Ends the input and gives all that was received.
+    /// Ends the input and returns everything that was received.
     fn finish(mut self) -> Output {
         self.input = None;
         if self.failure.is_none() {
@@ -158,7 +158,7 @@ impl Client {
 
 impl Drop for Client {
     fn drop(&mut self) {
-        // Both fail only where the process has ended already.
+        // Both fail only if the process has ended already.
         let _ = self.child.kill();
         let _ = self.child.wait();
     }

@@ -1,4 +1,4 @@
-//! The calls that make maps: the library's entry beside the original's function, and the answer that is expected.
+//! The calls that build maps: the entry of the library, the function of the original, and the expected answer.
 
 use crate::calls::is_end;
 use crate::comparison::Comparison;
@@ -28,7 +28,7 @@ impl Map {
         map_build::Map { list: self.list.for_library(), time: self.time }
     }
 
-    /// The original's map, or the first "no" of questions 1 to 4.
+    /// The map of the original, or the first failed check of questions 1 to 4.
     fn original(&self) -> Answer<MapFunction> {
         let [offset, scale] = self.time;
         let map = self.list.map()?;
@@ -36,16 +36,16 @@ impl Map {
     }
 }
 
-/// What a call that makes a map is to give, where enough memory is lent.
+/// The expected result of a call that builds a map, with large enough buffers.
 struct ExpectedMap {
-    /// The list that dropping starts from, or, where that is not run, the list answered; of several maps made on
-    /// the way, each one's.
+    /// The list before redundant pairs are dropped or, if no dropping takes place, the resulting list. There are several for
+    /// a call that builds several maps.
     before: Vec<Pairs>,
     map: MapFunction,
 }
 
 impl ExpectedMap {
-    /// The map's own pairs are what is counted.
+    /// No dropping takes place: the list is that of the map.
     fn as_it_is(map: MapFunction) -> Self {
         ExpectedMap::from(map.path_pairs().to_vec(), map)
     }
@@ -59,9 +59,9 @@ impl ExpectedMap {
         self.before.iter().flat_map(|list| ends(list))
     }
 
-    /// The same, of a call that can only make ends: question 8 refuses none.
+    /// Asserts that all ends are ends, for a call to which question 8 never applies.
     fn with_ends(self) -> Self {
-        assert!(self.ends().all(is_end), "an end that is made is an end");
+        assert!(self.ends().all(is_end), "a resulting end is an end");
         self
     }
 
@@ -73,7 +73,7 @@ impl ExpectedMap {
         self.before.iter().map(Vec::len).sum()
     }
 
-    /// Questions 4, 5, 7 and 8.
+    /// The expected answer with buffers of these sizes (questions 4, 5, 7 and 8).
     fn within(&self, bytes: usize, slots: usize) -> Answer<&MapFunction> {
         if self.before.iter().any(|list| list.len() > MAX_PAIRS) {
             return Err(TOO_MANY_PAIRS);
@@ -87,7 +87,7 @@ impl ExpectedMap {
         if !self.ends().all(|end| is_legal(end.as_str().as_bytes())) {
             return Err(MADE_NOT_LEGAL);
         }
-        assert!(self.ends().all(is_end), "a legal end that is made is an end");
+        assert!(self.ends().all(is_end), "a legal resulting end is an end");
         Ok(&self.map)
     }
 }
@@ -96,7 +96,7 @@ fn ends(pairs: &[(Path, Path)]) -> impl Iterator<Item = &Path> {
     pairs.iter().flat_map(|(source, target)| [source, target])
 }
 
-/// The path of a text, with questions 1, 2 and 3.
+/// The path of a text that must be an end (questions 1, 2 and 3).
 fn end(text: &Text) -> Answer<&Path> {
     let path = text.answer()?;
     if is_end(path) { Ok(path) } else { Err(NOT_AN_END) }
@@ -150,13 +150,13 @@ fn deepen_to(map: &Map, path: &Text) -> Answer<ExpectedMap> {
     Ok(ExpectedMap::from(before::deepened(&map, &node), map.deepened_to(path)))
 }
 
-/// The path of a text without its selections: questions 1 and 2 put to the text, 3 to what is left.
+/// The path of a text without its selections: questions 1 and 2 apply to the text, 3 to the result.
 fn stripped_end(text: &Text) -> Answer<Path> {
     let node = text.answer()?.strip_variant_selections();
     if is_end(&node) { Ok(node) } else { Err(NOT_AN_END) }
 }
 
-/// What one of these calls is given.
+/// The input of one of these calls.
 struct Inputs<'a> {
     maps: &'a [&'a Map],
     texts: &'a [&'a Text],
@@ -179,7 +179,7 @@ impl Display for Inputs<'_> {
 }
 
 impl Comparison {
-    /// Every call that takes one map.
+    /// Compares every call that takes one map.
     pub fn one_map(&mut self, map: &Map) {
         let given = &Inputs { maps: &[map], texts: &[] };
         let list = map.list.for_library();
@@ -220,7 +220,7 @@ impl Comparison {
         });
     }
 
-    /// The two calls that take one pair.
+    /// Compares the two calls that take one pair.
     pub fn one_pair(&mut self, source: &Text, target: &Text) {
         let given = &Inputs { maps: &[], texts: &[source, target] };
         let expected = from_pair(source, target, MapFunction::from_pair);
@@ -233,7 +233,7 @@ impl Comparison {
         });
     }
 
-    /// The two calls that take two maps.
+    /// Compares the two calls that take two maps.
     pub fn two_maps(&mut self, outer: &Map, inner: &Map) {
         let given = &Inputs { maps: &[outer, inner], texts: &[] };
         self.build("implied_class", given, &implied_class(outer, inner), |capacity| {
@@ -244,7 +244,8 @@ impl Comparison {
         });
     }
 
-    /// A call that makes a map: with just what is needed, with more, and with one byte or number too few.
+    /// Compares a call that builds a map: with just the buffers that are needed, with larger ones, and with one byte or number
+    /// too few.
     fn build(
         &mut self,
         name: &'static str,
@@ -295,10 +296,10 @@ impl Comparison {
     }
 }
 
-/// The two floats lent for the time offset, between two that are not.
+/// The two floats lent for the time offset, between two that are not lent.
 const TIME_BEFORE: [f64; 4] = [12345.678, -2.5e-300, 7.25e300, 87654.321];
 
-/// What a call gives, and what it leaves in the two lent floats. Those on either side of them stay as they were.
+/// Makes a call with two lent floats; returns its result and the floats. The floats on either side must not change.
 pub fn with_time_buffer<T>(call: impl FnOnce(&mut [f64; 2]) -> T) -> (T, [f64; 2]) {
     let mut floats = TIME_BEFORE;
     let [before, time @ .., after] = &mut floats;
@@ -306,12 +307,12 @@ pub fn with_time_buffer<T>(call: impl FnOnce(&mut [f64; 2]) -> T) -> (T, [f64; 2
     assert_eq!(
         [*before, *after],
         [TIME_BEFORE[0], TIME_BEFORE[3]],
-        "memory beside the lent floats was written"
+        "memory next to the lent floats was written"
     );
     (given, *time)
 }
 
-/// Twice the number of pairs, and one more with the mark.
+/// The value of the reply: twice the number of pairs, plus one with the mark.
 pub fn value(map: &MapFunction) -> usize {
     2 * map.path_pairs().len() + usize::from(map.has_root_identity())
 }
@@ -321,7 +322,7 @@ pub fn time_of(map: &MapFunction) -> [f64; 2] {
     [offset, scale]
 }
 
-/// The bytes and the numbers of a map: its ends one after the other.
+/// The bytes and the places of a map as the library writes them.
 fn written(map: &MapFunction) -> (Vec<u8>, Vec<usize>) {
     let (mut bytes, mut places) = (Vec::new(), Vec::new());
     for end in ends(map.path_pairs()) {

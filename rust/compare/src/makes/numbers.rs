@@ -1,4 +1,5 @@
-//! The calls on a map's own numbers: the library's entry beside the original's function.
+//! The calls that need only the number of pairs, the mark and the time offset of a map: the entry of the library and the
+//! function of the original.
 
 use crate::comparison::Comparison;
 use crate::makes::calls::{time_of, value, with_time_buffer};
@@ -11,10 +12,10 @@ use original::pcp::MapFunction;
 use original::sdf::{LayerOffset, Path};
 use std::fmt::{self, Display};
 
-/// How many pairs a map has: none, some, the most, and one more.
+/// The numbers of pairs: none, some, the maximum, and one more.
 const COUNTS: [usize; 5] = [0, 1, 2, MAX_PAIRS, MAX_PAIRS + 1];
 
-/// A info to a map's own numbers.
+/// A call that returns a property of a map.
 struct InfoCall {
     name: &'static str,
     entry: extern "C" fn(usize, bool, f64, f64) -> bool,
@@ -36,7 +37,7 @@ const INFO_CALLS: [InfoCall; 4] = [
     },
 ];
 
-/// Every number of pairs with either mark and every offset of special floats.
+/// Tries every number of pairs with and without the mark and with every time offset of special floats.
 pub fn run(comparison: &mut Comparison) {
     let (identity, null) = (MapFunction::identity(), MapFunction::null());
     comparison
@@ -57,7 +58,7 @@ pub fn run(comparison: &mut Comparison) {
 }
 
 impl Comparison {
-    /// Every call that takes a map's own numbers. The new time offset is the old one with its numbers exchanged.
+    /// Compares each of these calls. The new time offset is the old one with its two numbers exchanged.
     pub fn map_info(&mut self, map: &MapFunction) {
         let given = &MapInfo(map);
         let (count, mark, [offset, scale]) = (map.path_pairs().len(), map.has_root_identity(), time_of(map));
@@ -75,7 +76,7 @@ impl Comparison {
         });
     }
 
-    /// A call that makes a map and writes no list.
+    /// Compares a call that builds a map and writes no list.
     fn build_without_list(
         &mut self,
         name: &'static str,
@@ -90,7 +91,7 @@ impl Comparison {
     }
 }
 
-/// A map of which only its own numbers are given.
+/// A map of which only the number of pairs, the mark and the time offset are passed.
 struct MapInfo<'a>(&'a MapFunction);
 
 impl Given for MapInfo<'_> {

@@ -1,4 +1,4 @@
-//! Document 01's cases on making maps, and lists and ends at the limit.
+//! The cases of the requirements for building maps, and lists and ends at the limits.
 
 use crate::comparison::Comparison;
 use crate::makes::calls::Map;
@@ -47,12 +47,12 @@ fn many_pairs(comparison: &mut Comparison, count: usize) {
     comparison.two_maps(&map(&[["/A", "/B"], ["/D", "/E"]]), &map(&vec![["/C", "/A"]; count - 1]));
 }
 
-/// Pairs with sources and targets of their own.
+/// Pairs with different sources and targets.
 fn numbered(count: usize) -> Vec<[String; 2]> {
     (0..count).map(|number| [format!("/A{number}"), format!("/B{number}")]).collect()
 }
 
-/// Ends of which some come to just the limit, or over it, and some are not legal.
+/// Resulting ends of which some are at the length limit, some beyond it, and some are not legal.
 fn long_ends(comparison: &mut Comparison, length: usize) {
     let long = format!("/{}", "L".repeat(length - 1));
     for [source, target] in [["/A", "/B"], ["/A/B", "/A"], ["", "/B"], ["/", "/"], ["/A", "/"]] {

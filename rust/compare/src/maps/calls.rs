@@ -1,4 +1,4 @@
-//! The calls on maps: the library's entry beside the original's function, and the answer that is expected.
+//! The calls that map a path: the entry of the library, the function of the original, and the expected answer.
 
 use crate::calls::accept;
 use crate::comparison::Comparison;
@@ -12,7 +12,7 @@ use original::sdf::Path;
 use std::fmt::{self, Display};
 use texts::MAX_PATH_LEN;
 
-/// A call that makes one path of another by a map.
+/// A call that maps a path.
 pub struct MapCall {
     name: &'static str,
     way: Way,
@@ -30,7 +30,7 @@ pub const TRANSLATED: MapCall =
 
 pub const CALLS: [MapCall; 3] = [OUT, BACK, TRANSLATED];
 
-/// Bytes lent for the path.
+/// The sizes of the buffers lent for the path, in bytes.
 const CAPACITIES: [usize; 3] = [MAX_PATH_LEN - 1, MAX_PATH_LEN, 300];
 
 impl MapCall {
@@ -40,7 +40,7 @@ impl MapCall {
     }
 }
 
-/// Each question is put to both before the next, so of two refusals the smaller number is the answer.
+/// Each question is checked for both before the next question, so of two refusals the smaller number decides.
 pub fn both<T, U>(one: Answer<T>, other: Answer<U>) -> Answer<(T, U)> {
     match (one, other) {
         (Ok(one), Ok(other)) => Ok((one, other)),
@@ -49,7 +49,7 @@ pub fn both<T, U>(one: Answer<T>, other: Answer<U>) -> Answer<(T, U)> {
     }
 }
 
-/// What a call on a path is given: something else, such as a list, and the path.
+/// The input of a call for a path: another input, such as a list, and the path.
 pub struct WithText<'a> {
     pub given: &'a dyn Given,
     pub text: &'a Text,
@@ -68,7 +68,7 @@ impl Display for WithText<'_> {
 }
 
 impl Comparison {
-    /// Every call on maps.
+    /// Compares every call that maps one path.
     pub fn map(&mut self, list: &List, text: &Text) {
         for call in &CALLS {
             let expected = call.expected(list, text);
@@ -77,7 +77,7 @@ impl Comparison {
         }
     }
 
-    /// Each way for all paths in one call.
+    /// Compares each of the calls for all paths at once.
     pub fn map_all(&mut self, list: &List, texts: &[Text]) {
         for call in &CALLS {
             let expected = texts.iter().map(|text| call.expected(list, text)).collect();

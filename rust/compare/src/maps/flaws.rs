@@ -1,5 +1,5 @@
-//! What can be wrong with a call on maps before it is asked for a path, alone and together: of several flaws the
-//! one that is asked for first is answered.
+//! The flaws of the input that a call that maps a path checks first, alone and together: of several flaws the one that is
+//! checked first decides.
 
 use crate::comparison::Comparison;
 use crate::maps::list::{LentList, List, MAX_PAIRS};
@@ -9,7 +9,7 @@ use texts::damage::damaged;
 use texts::generate::{end_text, legal_text};
 use texts::random::Random;
 
-/// A flaw, put into the list and the path of a call.
+/// Puts a flaw into the list or the path of a call.
 type Flaw = fn(&mut Random, &mut LentList, &mut Vec<u8>);
 
 pub const FLAWS: [Flaw; 9] = [
@@ -24,14 +24,14 @@ pub const FLAWS: [Flaw; 9] = [
     garbage_after_the_list,
 ];
 
-/// So many calls for each set of flaws.
+/// The number of calls for each set of flaws.
 const ROUNDS: usize = 150;
 
-/// Illegal wherever they stand.
+/// Illegal texts.
 const ILLEGAL: [&[u8]; 9] = [b"A", b".", b"//", b"/A/", b"/A//B", b"/1", b"/A b", b"/\xC3\xA9", b"/A.b[/C]"];
 
-/// Legal, but no ends.
-const NO_ENDS: [&[u8]; 5] = [b"/A.b", b"/A/B.c:d", b"/A{v=p}", b"/A{v=p}B", b"/A{v=p}.b"];
+/// Legal texts that are not ends.
+const NOT_ENDS: [&[u8]; 5] = [b"/A.b", b"/A/B.c:d", b"/A{v=p}", b"/A{v=p}B", b"/A{v=p}.b"];
 
 pub fn every_set(comparison: &mut Comparison, random: &mut Random) {
     for set in 0..1 << FLAWS.len() {
@@ -41,7 +41,7 @@ pub fn every_set(comparison: &mut Comparison, random: &mut Random) {
     }
 }
 
-/// A call whose flaws are those at the bits of `set`.
+/// Tries a call with the flaws given by the bits of `set`.
 fn with_flaws(comparison: &mut Comparison, random: &mut Random, set: usize) {
     let count = *random.pick(&[1, 2, 5, MAX_PAIRS]);
     let mut list = LentList::packed(&vec![["/A", "/B"]; count], random.one_in(2));
@@ -77,22 +77,22 @@ pub fn illegal_end(random: &mut Random, list: &mut LentList, _: &mut Vec<u8>) {
 }
 
 pub fn property_or_selection(random: &mut Random, list: &mut LentList, _: &mut Vec<u8>) {
-    let end = *random.pick(&NO_ENDS);
+    let end = *random.pick(&NOT_ENDS);
     replace_an_end(random, list, end);
 }
 
-/// An illegal text, or `text` with one byte gone wrong, which now and then is legal.
+/// An illegal text, or `text` with one wrong byte, which sometimes is legal.
 fn illegal(random: &mut Random, text: &[u8]) -> Vec<u8> {
     if random.one_in(2) { random.pick(&ILLEGAL).to_vec() } else { damaged(random, text) }
 }
 
-/// Puts the text at the end of the store and lets one end stand there.
+/// Appends the text to the store and sets the place of one end to it.
 fn replace_an_end(random: &mut Random, list: &mut LentList, text: &[u8]) {
     let place = list.stored(text);
     set_a_place(random, list, place);
 }
 
-/// Sets the place of one end, where there is any.
+/// Sets the place of one end, if there is any.
 fn set_a_place(random: &mut Random, list: &mut LentList, place: [usize; 2]) {
     if list.present() > 0 {
         let at = 2 * random.below(2 * list.present());
@@ -100,7 +100,7 @@ fn set_a_place(random: &mut Random, list: &mut LentList, place: [usize; 2]) {
     }
 }
 
-/// Just outside the store, far outside, or so far that start and length together overflow into it.
+/// A place just outside the store, far outside, or so far that the sum of start and length overflows.
 pub fn place_outside(random: &mut Random, list: &mut LentList, _: &mut Vec<u8>) {
     let end = list.store.len();
     let back = random.below(4);
@@ -116,14 +116,14 @@ pub fn place_outside(random: &mut Random, list: &mut LentList, _: &mut Vec<u8>) 
     set_a_place(random, list, place);
 }
 
-/// The list repeated beyond its limit.
+/// Repeats the list beyond the maximum number of pairs.
 fn too_many_pairs(random: &mut Random, list: &mut LentList, _: &mut Vec<u8>) {
     let pairs = random.within(MAX_PAIRS + 1..=MAX_PAIRS + 3);
     list.places = list.places.iter().copied().cycle().take(4 * pairs).collect();
     list.count = list.places.len() / 4;
 }
 
-/// More pairs counted than the slice has places for; four times the greatest counts overflow.
+/// The count exceeds the places; four times the largest counts overflows.
 fn count_beyond_the_slice(random: &mut Random, list: &mut LentList, _: &mut Vec<u8>) {
     let present = list.present();
     let quarter = 1 << (usize::BITS - 2);
@@ -134,8 +134,8 @@ fn count_beyond_the_slice(random: &mut Random, list: &mut LentList, _: &mut Vec<
     }
 }
 
-/// No flaw: places behind those of the pairs counted are not looked at. It comes last, so that a count beyond
-/// the slice is sometimes made good by garbage.
+/// Not a flaw: places after those of the counted pairs are ignored. It is applied last, so that a count that exceeds the
+/// slice is sometimes made valid by garbage.
 pub fn garbage_after_the_list(random: &mut Random, list: &mut LentList, _: &mut Vec<u8>) {
     for _ in 0..random.within(1..=9) {
         list.places.push(random.within(0..=2 * MAX_PATH_LEN));

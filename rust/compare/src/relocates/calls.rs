@@ -1,4 +1,4 @@
-//! The calls on relocate lists: the library's entry beside the original's function, and the answer that is expected.
+//! The calls for relocate lists: the entry of the library, the function of the original, and the expected answer.
 
 use crate::calls::{accept, within};
 use crate::comparison::Comparison;
@@ -13,10 +13,10 @@ use original::sdf::Path;
 use std::fmt::{self, Display};
 use texts::MAX_PATH_LEN;
 
-/// Bytes lent for a path.
+/// The sizes of the buffers lent for a path, in bytes.
 const CAPACITIES: [usize; 3] = [MAX_PATH_LEN - 1, MAX_PATH_LEN, 300];
 
-/// Where a chain ends, and how many replacements were made.
+/// The resulting path of a chain, and the number of replacements.
 pub type Chained = (Path, usize);
 
 pub fn statuses(list: &List) -> Answer<Vec<u8>> {
@@ -29,7 +29,7 @@ pub fn chain(list: &List, skipped: Option<&Text>, text: &Text) -> Answer<Chained
     chained(map.path_pairs(), skipped, path)
 }
 
-/// Document 01's chain, replacement by replacement, with questions 7 and 8 put to each.
+/// The chain as the requirements define it, with questions 7 and 8 checked after each replacement.
 fn chained(pairs: &[(Path, Path)], skipped: Option<&Path>, path: &Path) -> Answer<Chained> {
     let mut current = path.clone();
     let mut steps = 0;
@@ -60,7 +60,7 @@ fn next(pairs: &[(Path, Path)], skipped: Option<&Path>, path: &Path) -> Option<P
     best
 }
 
-/// What chaining is given.
+/// The input of chaining.
 pub struct Chaining<'a> {
     pub list: &'a List,
     pub skipped: Option<&'a Text>,
@@ -85,7 +85,7 @@ impl Display for Chaining<'_> {
 }
 
 impl Comparison {
-    /// With one byte too few, with just enough, and with more.
+    /// Compares the statuses with a buffer of one byte too few, of just enough, and of more.
     pub fn statuses(&mut self, list: &List) {
         let full = statuses(list);
         let full = full.as_ref().map(Vec::as_slice).map_err(|number| *number);
@@ -116,7 +116,7 @@ impl Comparison {
             let agrees = *end == original_end(list, skipped, text);
             self.tally.fact("the chain ends where the original's does", given, agrees);
         }
-        // What is not skipped is not looked at.
+        // Without a skipped source the text must be ignored, so an illegal one is passed.
         let lent = skipped.map_or(&b"no path"[..], |text| &text.bytes);
         for capacity in CAPACITIES {
             let expected = match &full {
@@ -136,9 +136,9 @@ impl Comparison {
     }
 }
 
-/// The original's chain, of texts that passed the questions.
+/// The result of the chain of the original, for valid texts.
 fn original_end(list: &List, skipped: Option<&Text>, text: &Text) -> Path {
-    let pairs = list.map().expect("a list that passed the questions").path_pairs();
-    let path = text.path().expect("a path that passed the questions");
+    let pairs = list.map().expect("a valid list").path_pairs();
+    let path = text.path().expect("a valid path");
     relocates::chained(path, pairs, skipped.and_then(Text::path))
 }

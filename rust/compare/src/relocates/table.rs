@@ -1,4 +1,4 @@
-//! Document 01's cases on relocates: the answers expected are those that it names.
+//! The cases of the requirements for relocates, with the answers stated there.
 
 use crate::comparison::Comparison;
 use crate::maps::list::{List, TOO_MANY_PAIRS};

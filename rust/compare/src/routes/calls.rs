@@ -1,5 +1,4 @@
-//! The calls on routes: the library's entry beside the original's functions leg after leg, and the answer that is
-//! expected.
+//! The calls for routes: the entry of the library, the functions of the original leg by leg, and the expected answer.
 
 use crate::calls::accept;
 use crate::comparison::Comparison;
@@ -15,7 +14,7 @@ use original::pcp::MapFunction;
 use original::sdf::Path;
 use texts::MAX_PATH_LEN;
 
-/// A call that takes a path over a route.
+/// A call that maps a path over a route.
 pub struct RouteCall {
     name: &'static str,
     home: bool,
@@ -28,7 +27,7 @@ pub const HOME: RouteCall = RouteCall { name: "route_home", home: true, entry: r
 
 pub const CALLS: [RouteCall; 2] = [OUT, HOME];
 
-/// Bytes lent for the path.
+/// The sizes of the buffers lent for the path, in bytes.
 pub const CAPACITIES: [usize; 3] = [MAX_PATH_LEN - 1, MAX_PATH_LEN, 300];
 
 impl RouteCall {
@@ -48,7 +47,7 @@ impl RouteCall {
     }
 }
 
-/// The paths met on the way out: the one that reaches each leg, and what the last leg gives.
+/// The trace of a path on the way out: the path at each leg that it reaches, and the result of the last leg.
 pub fn trace(maps: &[MapFunction], path: &Path) -> Vec<Path> {
     let mut paths = vec![path.clone()];
     for map in maps {
@@ -60,19 +59,19 @@ pub fn trace(maps: &[MapFunction], path: &Path) -> Vec<Path> {
     paths
 }
 
-/// Whether each leg reached, unless its map has an empty source, gives a path exactly when plain mapping takes what reached
-/// it to a path that passes questions 7 and 8 and goes plainly back, and gives that path.
+/// Returns whether each leg that is reached, unless its map has an empty source, has a result exactly if plain mapping yields
+/// a path that passes questions 7 and 8 and maps back to the start, and the result is that path.
 fn is_exact(maps: &[MapFunction], path: &Path) -> bool {
     maps.iter().zip(trace(maps, path)).all(|(map, reached)| {
-        let there = accept(map.map_source_to_target(&reached)).ok();
-        let there_and_back = there.filter(|made| map.map_target_to_source(made).as_ref() == Some(&reached));
+        let result = accept(map.map_source_to_target(&reached)).ok();
+        let expected = result.filter(|made| map.map_target_to_source(made).as_ref() == Some(&reached));
         let has_empty_source = map.path_pairs().iter().any(|(source, _)| source.is_empty());
-        has_empty_source || accept(map.translate_to_target(&reached)).ok() == there_and_back
+        has_empty_source || accept(map.translate_to_target(&reached)).ok() == expected
     })
 }
 
 impl Comparison {
-    /// A path out and home, and, where it comes out, home again, with each size of lent memory.
+    /// Compares a path out and home and, if it comes out, home from there, with a buffer of each capacity.
     pub fn route(&mut self, route: &Route, text: &Text, capacities: &[usize]) {
         for call in &CALLS {
             self.one_direction(call, route, text, capacities);
@@ -89,8 +88,8 @@ impl Comparison {
         self.path(call.name, &WithText { given: route, text }, capacities, &expected, entry);
     }
 
-    /// A path free of selections that comes out comes home: of the original, and of the library, which goes home from
-    /// the bytes that it wrote.
+    /// Checks the round-trip requirement (demand 3): a path without selections that comes out comes home. It is checked for the
+    /// original and for the library, which maps home the bytes that it wrote itself.
     fn round_trip(&mut self, route: &Route, text: &Text) {
         let (Ok(maps), Ok(path)) = (route.maps(), text.answer()) else {
             return;
@@ -113,7 +112,7 @@ impl Comparison {
         }
     }
 
-    /// Both ways for all paths in one call.
+    /// Compares both directions for all paths at once.
     pub fn route_all(&mut self, route: &Route, texts: &[Text]) {
         for call in &CALLS {
             let expected = texts.iter().map(|text| call.expected(route, text)).collect();
@@ -125,7 +124,7 @@ impl Comparison {
     }
 }
 
-/// Where the library comes to on its way home from where it came out.
+/// Maps a path out and home with the library.
 fn library_round_trip(route: &Route, path: &[u8]) -> Result<Vec<u8>, Reply> {
     let (mut out, mut home) = ([0; MAX_PATH_LEN], [0; MAX_PATH_LEN]);
     let written = |reply: Reply| if reply.number() == 0 { Ok(reply.value()) } else { Err(reply) };

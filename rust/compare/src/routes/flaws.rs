@@ -1,5 +1,5 @@
-//! What can be wrong with a call on a route before it is asked for a path, alone and together: of several flaws the
-//! one that is asked for first is answered.
+//! The flaws of the input that a call for a route checks first, alone and together: of several flaws the one that is checked
+//! first decides.
 
 use crate::comparison::Comparison;
 use crate::maps::flaws;
@@ -9,7 +9,7 @@ use crate::routes::lent_route::{LentRoute, MAX_LEGS, Route};
 use crate::text::Text;
 use texts::random::Random;
 
-/// A flaw, put into the route and the path of a call.
+/// Puts a flaw into the route or the path of a call.
 type Flaw = fn(&mut Random, &mut LentRoute, &mut Vec<u8>);
 
 pub const FLAWS: [Flaw; 12] = [
@@ -27,10 +27,10 @@ pub const FLAWS: [Flaw; 12] = [
     garbage_after,
 ];
 
-/// So many calls for each set of flaws.
+/// The number of calls for each set of flaws.
 const ROUNDS: usize = 15;
 
-/// Three or four times such a number is more than a number holds, and would come round to a small one.
+/// Numbers that overflow when multiplied by three or four, and would then wrap to a small number.
 const FAR: [usize; 4] = [usize::MAX / 4 + 1, usize::MAX / 3 + 1, usize::MAX / 2 + 1, usize::MAX];
 
 pub fn every_set(comparison: &mut Comparison, random: &mut Random) {
@@ -41,7 +41,7 @@ pub fn every_set(comparison: &mut Comparison, random: &mut Random) {
     }
 }
 
-/// A call whose flaws are those at the bits of `set`.
+/// Tries a call with the flaws given by the bits of `set`.
 fn with_flaws(comparison: &mut Comparison, random: &mut Random, set: usize) {
     let size = *random.pick(&[1, 2, 5]);
     let (there, back) = (vec![["/A/B", "/A/C"]; size], vec![["/A/C", "/A/B"]; size]);
@@ -60,12 +60,12 @@ fn with_flaws(comparison: &mut Comparison, random: &mut Random, set: usize) {
     comparison.route_all(&route, &[text, Text::new(b"/A/B/C")]);
 }
 
-/// Where one of the legs present has its numbers.
+/// The index of the numbers of one of the present legs.
 fn a_leg(random: &mut Random, route: &LentRoute) -> Option<usize> {
     (route.present() > 0).then(|| 3 * random.below(route.present()))
 }
 
-/// One leg's list goes on beyond its limit; there are pairs enough.
+/// The list of one leg has more pairs than allowed, and all of them exist.
 fn too_many_pairs(random: &mut Random, route: &mut LentRoute, _: &mut Vec<u8>) {
     let (Some(leg), false) = (a_leg(random, route), route.list.places.is_empty()) else {
         return;
@@ -78,7 +78,7 @@ fn too_many_pairs(random: &mut Random, route: &mut LentRoute, _: &mut Vec<u8>) {
     route.legs[leg + 2] = pairs;
 }
 
-/// One leg's list begins or ends behind the places, just or far. Without pairs this is no flaw.
+/// The list of one leg starts or ends after the places, just or far. For an empty list this is not a flaw.
 fn list_beyond_the_places(random: &mut Random, route: &mut LentRoute, _: &mut Vec<u8>) {
     let Some(leg) = a_leg(random, route) else {
         return;
@@ -96,14 +96,14 @@ fn list_beyond_the_places(random: &mut Random, route: &mut LentRoute, _: &mut Ve
     }
 }
 
-/// The legs repeated beyond their limit.
+/// Repeats the legs beyond the maximum number of legs.
 fn too_many_legs(random: &mut Random, route: &mut LentRoute, _: &mut Vec<u8>) {
     let legs = random.within(MAX_LEGS + 1..=MAX_LEGS + 3);
     route.legs = route.legs.iter().copied().cycle().take(3 * legs).collect();
     route.count = route.legs.len() / 3;
 }
 
-/// More legs counted than the slice has numbers for; three times the greatest counts overflow.
+/// The count exceeds the numbers of the legs; three times the largest counts overflows.
 fn count_beyond_the_legs(random: &mut Random, route: &mut LentRoute, _: &mut Vec<u8>) {
     let present = route.present();
     match random.below(3) {
@@ -113,15 +113,15 @@ fn count_beyond_the_legs(random: &mut Random, route: &mut LentRoute, _: &mut Vec
     }
 }
 
-/// No flaw: one leg is of another kind.
+/// Not a flaw: one leg gets another kind.
 fn any_kind(random: &mut Random, route: &mut LentRoute, _: &mut Vec<u8>) {
     if let Some(leg) = a_leg(random, route) {
         route.legs[leg] = *random.pick(&[0, 1, 2, 3, 255, 256, usize::MAX]);
     }
 }
 
-/// No flaw: numbers behind those of the legs counted, and places behind those of the pairs, are not looked at. It
-/// comes last, so that a count beyond its slice is sometimes made good by garbage.
+/// Not a flaw: numbers after those of the counted legs, and places after those of the pairs, are ignored. It is applied last,
+/// so that a count that exceeds its slice is sometimes made valid by garbage.
 fn garbage_after(random: &mut Random, route: &mut LentRoute, path: &mut Vec<u8>) {
     flaws::garbage_after_the_list(random, &mut route.list, path);
     for _ in 0..random.within(1..=7) {

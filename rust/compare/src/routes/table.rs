@@ -1,5 +1,4 @@
-//! Document 01's cases on routes, and routes, lists and paths at the limit: the answers expected are those that it
-//! names.
+//! The cases of the requirements for routes, and routes, lists and paths at the limits, with the answers stated there.
 
 use crate::comparison::Comparison;
 use crate::maps::calls::WithText;
@@ -24,8 +23,7 @@ const RELOCATES: usize = 2;
 
 const A_TO_B: Leg = (MAP, &[["/A", "/B"]]);
 const A_TO_A: Leg = (MAP, &[["/A", "/A"]]);
-const ONE_AFTER_THE_OTHER: &[Leg] =
-    &[(MAP, &[["/A", "/X"], ["/A/B", "/Y"]]), (MAP, &[["/X/B/C", "/Z"], ["/Y", "/W"]])];
+const TWO_MAPS: &[Leg] = &[(MAP, &[["/A", "/X"], ["/A/B", "/Y"]]), (MAP, &[["/X/B/C", "/Z"], ["/Y", "/W"]])];
 const CONFLICTS: Leg = (RELOCATES, &[["/R/a", "/R/b"], ["/R/c", "/R/b"], ["/R/b", "/R/d"]]);
 const CROSSED: Leg = (RELOCATES, &[["/R/a/b", "/R/c"], ["/R/c/d", "/R/a"]]);
 const MOVED: Leg = (RELOCATES, &[["/R/a", "/R/b"]]);
@@ -40,14 +38,14 @@ const ROWS: &[Row] = &[
     Row { legs: &[], path: "/A{v=p}B.c", call: OUT, answer: Ok("/A{v=p}B.c") },
     Row { legs: &[], path: "/A{v=p}B.c", call: HOME, answer: Ok("/A{v=p}B.c") },
     Row { legs: &[], path: "", call: OUT, answer: Ok("") },
-    Row { legs: ONE_AFTER_THE_OTHER, path: "/A/B/C", call: OUT, answer: Ok("/W/C") },
-    Row { legs: ONE_AFTER_THE_OTHER, path: "/W/C", call: HOME, answer: Ok("/A/B/C") },
+    Row { legs: TWO_MAPS, path: "/A/B/C", call: OUT, answer: Ok("/W/C") },
+    Row { legs: TWO_MAPS, path: "/W/C", call: HOME, answer: Ok("/A/B/C") },
     Row { legs: &[MARKED], path: "/X/y", call: OUT, answer: Err(NO_PATH) },
     Row { legs: &[MARKED, MARKED], path: "/A/y", call: OUT, answer: Err(NO_PATH) },
     Row { legs: &[MARKED, MARKED], path: "/X/y", call: HOME, answer: Ok("/A/y") },
     Row { legs: &[(MAP_WITH_MARK, &[["", "/"]])], path: "/A", call: OUT, answer: Err(NO_PATH) },
     Row { legs: &[(MAP, &[["/A", "/"]])], path: "/A.b", call: OUT, answer: Err(MADE_NOT_LEGAL) },
-    // Statuses 0, 1, 3 and 0: only Active pairs are in the leg's map, and `/`→`/`.
+    // Statuses 0, 1, 3 and 0: the map of the leg has only the Active pairs and `/`→`/`.
     Row { legs: &[(RELOCATES, &[["/R", ""]])], path: "/R/a", call: OUT, answer: Err(NO_PATH) },
     Row { legs: &[(RELOCATES, &[["/R", "/S"]])], path: "/R/a", call: OUT, answer: Ok("/R/a") },
     Row { legs: &[CONFLICTS], path: "/R/c", call: OUT, answer: Ok("/R/c") },
@@ -89,7 +87,7 @@ fn one_case(
     comparison.route_all(route, &[Text::new(b"/A"), Text::new(&text.bytes)]);
 }
 
-/// A path of `length` bytes that one leg leaves as long and the next makes two bytes longer.
+/// A path of `length` bytes whose length one leg keeps and the next one increases by two.
 fn long_path(comparison: &mut Comparison, length: usize) {
     let path = |first: &str| format!("{first}/{}", "L".repeat(length - 3));
     let route = Route::packed(&[A_TO_B, (MAP, &[["/B", "/B/C"]])]);

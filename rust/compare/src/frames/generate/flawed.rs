@@ -1,4 +1,4 @@
-//! Well-formed frames whose texts are too long, not legal, or no ends.
+//! Well-formed frames whose texts are too long, not legal, or not ends.
 
 use crate::frames::generate::writer::Writer;
 use frames_original::Frame;
@@ -7,10 +7,10 @@ use texts::damage::damaged;
 use texts::generate::{legal_text, length};
 use texts::random::Random;
 
-/// The most bytes of both ends of a pair within a line.
+/// The maximum number of bytes of both ends of a pair that fit in a line.
 const MAX_PAIR_BYTES: usize = 2_048 - 5;
 
-/// A pair or a path to be refused, mostly.
+/// Adds a frame with a pair or a path that is mostly refused.
 pub fn frame(writer: &mut Writer) {
     let text = text(writer.random);
     match writer.random.below(4) {
@@ -35,7 +35,7 @@ pub fn frame(writer: &mut Writer) {
     }
 }
 
-/// A text of a kind that some question refuses, or nearly.
+/// A text that fails some check, or nearly does.
 fn text(random: &mut Random) -> Vec<u8> {
     match random.below(6) {
         0 => {

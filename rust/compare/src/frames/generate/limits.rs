@@ -1,4 +1,4 @@
-//! Scripts at each limit: what just passes, and what is just too much.
+//! Scripts at each limit: values that are just accepted, and values just beyond the limit.
 
 use crate::frames::generate::flawed;
 use crate::frames::generate::well_formed::any_frame;
@@ -47,12 +47,12 @@ fn legs(writer: &mut Writer) {
     writer.frame(Frame::Statuses);
 }
 
-/// About as many bytes as all legs may have.
+/// Approximately the maximum number of bytes of all legs.
 fn about_max_bytes(writer: &mut Writer) -> usize {
     MAX_BYTES - 2 + writer.random.below(5)
 }
 
-/// Map legs of long ends, whose last list brings the bytes to about the limit.
+/// Map legs with long ends; with the last list the number of bytes is near the limit.
 fn bytes_of_maps(writer: &mut Writer) {
     let mut left = about_max_bytes(writer);
     while left > 0 {
@@ -71,7 +71,7 @@ fn bytes_of_maps(writer: &mut Writer) {
     }
 }
 
-/// Empty legs to their limit, then a list for which neither a leg nor bytes are left.
+/// Empty legs up to the limit, then a list for which there are neither legs nor bytes left.
 fn legs_and_bytes(writer: &mut Writer) {
     while writer.legs.len() < MAX_LEGS && writer.close(Frame::CloseMap) {}
     let pair = [end_text(writer.random, MAX_PATH_LEN), Vec::new()];
@@ -79,12 +79,12 @@ fn legs_and_bytes(writer: &mut Writer) {
     writer.close_as_any();
 }
 
-/// Relocate legs of Active pairs beside structural ones, which do not count.
+/// Relocate legs of Active pairs and of structural ones, whose bytes do not count.
 fn bytes_of_relocates(writer: &mut Writer) {
     let mut left = about_max_bytes(writer);
     let mut number = 0;
     while left > 0 {
-        // Room is left for one more source that can be made.
+        // Enough bytes are left for one more source.
         let length = if left <= MAX_PATH_LEN { left } else { MAX_PATH_LEN - 20 };
         writer.pair([active_source(number, length), Vec::new()]);
         left -= length;
@@ -99,7 +99,7 @@ fn bytes_of_relocates(writer: &mut Writer) {
     writer.close_as_any();
 }
 
-/// A source of so many bytes, which are at least 6, or as many as it takes to be no other one's prefix.
+/// A source of this many bytes (at least 6), or of as many as it takes not to be a prefix of another source.
 fn active_source(number: usize, length: usize) -> Vec<u8> {
     let mut source = format!("/R/{}", char::from(b'a' + (number % 26) as u8)).into_bytes();
     source.extend(format!("{number}").into_bytes());
@@ -107,7 +107,7 @@ fn active_source(number: usize, length: usize) -> Vec<u8> {
     source
 }
 
-/// Pairs that make paths of about the longest length, out and home.
+/// Pairs whose resulting paths have about the maximum length, out and home.
 fn resulting_paths(writer: &mut Writer) {
     let long = writer.random.within(MAX_PATH_LEN - 8..=MAX_PATH_LEN);
     let mut pair = [b"/A".to_vec(), end_text(writer.random, long)];
@@ -129,7 +129,7 @@ fn resulting_paths(writer: &mut Writer) {
     }
 }
 
-/// Paths and pairs whose lines are of about the longest length.
+/// Paths and pairs whose lines have about the maximum length.
 fn lines(writer: &mut Writer) {
     for _ in 0..writer.random.within(1..=6) {
         let bytes = MAX_LINE_LEN / 2 - 2 + writer.random.below(4);

@@ -1,4 +1,4 @@
-//! Well-formed scripts: legs that go on where the leg before came to, and paths asked out over them and home.
+//! Well-formed scripts: legs that map the result of the leg before, and paths out over them and home.
 
 use crate::frames::generate::flawed;
 use crate::frames::generate::writer::{Pair, Writer};
@@ -7,10 +7,10 @@ use texts::ends::path_under;
 use texts::generate::{continued, prefixes};
 use texts::random::Random;
 
-/// So many lists are tried for a leg.
+/// The number of lists that are tried for a leg.
 const TRIES: usize = 10;
 
-/// Legs one after the other. A path is asked out between them, and paths are asked out and home at the end.
+/// Adds the legs of a route, with a path out after most of them, and at the end paths out and home.
 pub fn route(writer: &mut Writer) {
     let pair = writer.any_pair();
     let start = path_under(writer.random, &pair[0], &pair[1]);
@@ -27,7 +27,7 @@ pub fn route(writer: &mut Writer) {
     writer.frame(Frame::Count);
 }
 
-/// Mostly few.
+/// A number of legs, mostly small.
 fn leg_count(random: &mut Random) -> usize {
     match random.below(10) {
         0 => 0,
@@ -37,7 +37,7 @@ fn leg_count(random: &mut Random) -> usize {
     }
 }
 
-/// The pairs of a list, now and then its statuses, and a close.
+/// Adds the pairs of a list, sometimes a frame for its statuses, and the frame that closes it.
 fn leg(writer: &mut Writer, reached: &[u8]) {
     let close = writer.any_close();
     for pair in list_for(writer, close, reached) {
@@ -52,7 +52,7 @@ fn leg(writer: &mut Writer, reached: &[u8]) {
     writer.close_or_else(close);
 }
 
-/// The first list of some that lets the path by, or, one time in twelve, any.
+/// The first of some lists that maps the path, or, one time in twelve, any list.
 fn list_for(writer: &mut Writer, close: Frame, reached: &[u8]) -> Vec<Pair> {
     let tries = if writer.random.one_in(12) { 1 } else { TRIES };
     let mut pairs = list(writer, reached);
@@ -65,14 +65,14 @@ fn list_for(writer: &mut Writer, close: Frame, reached: &[u8]) -> Vec<Pair> {
     pairs
 }
 
-/// Whether a path comes out over a leg of these pairs.
+/// Returns whether a path comes out over a leg of these pairs.
 fn maps_over(pairs: &[Pair], close: Frame, path: &[u8]) -> bool {
     let mut state = State::default();
     let added = |[source, target]: &Pair| state.answer(Frame::Pair { source, target }).is_ok();
     pairs.iter().all(added) && state.answer(close).is_ok() && state.answer(Frame::Out(path)).is_ok()
 }
 
-/// Pairs over the writer's ends, among them mostly one whose source is a beginning of the path that came so far.
+/// Pairs of the writer's ends; mostly one of them has a source that is a prefix of the path so far.
 fn list(writer: &mut Writer, reached: &[u8]) -> Vec<Pair> {
     let count = if writer.random.one_in(15) { writer.random.within(20..=66) } else { writer.random.below(6) };
     let mut pairs: Vec<Pair> = (0..count).map(|_| writer.any_pair()).collect();
@@ -86,13 +86,13 @@ fn list(writer: &mut Writer, reached: &[u8]) -> Vec<Pair> {
     pairs
 }
 
-/// A beginning of the path that is an end.
+/// A prefix of the path that is an end.
 fn end_above(random: &mut Random, path: &[u8]) -> Vec<u8> {
     let names = path.split(|byte| b"{.".contains(byte)).next().unwrap_or_default();
     random.pick(&prefixes(names)).to_vec()
 }
 
-/// A target that often lies beside all others, so that the close back is clear.
+/// A target that often has no relation to other targets, so that paths map back through the same pair.
 fn target(random: &mut Random, source: &[u8], other: Vec<u8>) -> Vec<u8> {
     let names = |end: &[u8]| if end == b"/" { Vec::new() } else { end.to_vec() };
     match random.below(3) {
@@ -102,7 +102,7 @@ fn target(random: &mut Random, source: &[u8], other: Vec<u8>) -> Vec<u8> {
     }
 }
 
-/// Asks one thing of the legs closed so far.
+/// Adds a random frame that uses the legs closed so far.
 fn query(writer: &mut Writer, start: &[u8]) {
     match writer.random.below(12) {
         0..=4 => {
@@ -133,7 +133,7 @@ fn query(writer: &mut Writer, start: &[u8]) {
     }
 }
 
-/// A path that begins as the first one, or lies under a source of the first leg.
+/// A path that starts like the first one, or lies below a source of the first leg.
 fn path_for(writer: &mut Writer, start: &[u8]) -> Vec<u8> {
     match writer.legs.first().filter(|leg| !leg.is_empty() && writer.random.one_in(2)) {
         Some(leg) => {
@@ -148,7 +148,7 @@ fn path_for(writer: &mut Writer, start: &[u8]) -> Vec<u8> {
     }
 }
 
-/// A path that lies under a target of the last leg, or under the start.
+/// A path that lies below a target of the last leg, or the start if there are no legs.
 fn path_home(writer: &mut Writer, start: &[u8]) -> Vec<u8> {
     match writer.legs.last().filter(|leg| !leg.is_empty()) {
         Some(leg) => {
@@ -159,7 +159,7 @@ fn path_home(writer: &mut Writer, start: &[u8]) -> Vec<u8> {
     }
 }
 
-/// Frames of any kind in any order.
+/// Adds frames of any kind in any order.
 pub fn any_order(writer: &mut Writer) {
     for _ in 0..writer.random.within(1..=40) {
         any_frame(writer);
