@@ -10,8 +10,8 @@
    its length, which counts bytes for a `char *` and elements for a `size_t *`. Every slice must be valid for its whole
    length, and a slice that is written must not overlap any other slice of the same call. A slice of length 0 is never
    dereferenced, so its pointer may be NULL. There are no other preconditions: texts, places, counts and floats may have
-   any value, and bad ones are refused. A text needs no terminating 0, and none is written after a result. A `bool` is
-   false or true. A call uses up to about 300 KiB of stack.
+   any value. Bad texts, places and counts are refused; every float is accepted. A text needs no terminating 0, and none
+   is written after a result. A `bool` is false or true. A call uses up to about 300 KiB of stack.
 
    A REPLY is one number: 256 times a value, plus a status in the low byte. The status is 0 for success and one of the
    numbers below for a refusal. The value of a refusal is 0. A refused call writes nothing. A successful call writes its
@@ -81,7 +81,7 @@ extern "C" {
 /* The status in the low byte of a reply. The numbers are those of the checks in docs/REQUIREMENTS.md (Validation and
    refusals). The checks are made in this order, and the first one that fails decides. */
 enum {
-    MUDVIZSOR_ANSWER = 0,
+    MUDVIZSOR_ANSWER = 0,        /* success */
     MUDVIZSOR_TOO_LONG = 1,      /* a text is longer than 255 bytes, or its place reaches outside its store */
     MUDVIZSOR_ILLEGAL = 2,       /* a text is not a legal path */
     MUDVIZSOR_NOT_AN_END = 3,    /* an end is neither a prim path nor `/` nor empty */
@@ -103,13 +103,13 @@ enum {
 
 /* The lengths of the buffers that mudvizsor_frames_line is lent, in bytes or numbers. */
 enum {
-    MUDVIZSOR_FRAMES_KEPT = 5,
-    MUDVIZSOR_FRAMES_BYTES = 32640,
-    MUDVIZSOR_FRAMES_PLACES = 256,
-    MUDVIZSOR_FRAMES_STORE = 32768,
-    MUDVIZSOR_FRAMES_SLOTS = 4096,
-    MUDVIZSOR_FRAMES_TABLE = 48,
-    MUDVIZSOR_FRAMES_OUT = 515
+    MUDVIZSOR_FRAMES_KEPT = 5,      /* kept: the counters of the protocol */
+    MUDVIZSOR_FRAMES_BYTES = 32640, /* bytes: the ends of the open list, 64 pairs of two ends of 255 bytes */
+    MUDVIZSOR_FRAMES_PLACES = 256,  /* places: the places of the open list, 64 pairs of four numbers */
+    MUDVIZSOR_FRAMES_STORE = 32768, /* store: the ends of the closed legs */
+    MUDVIZSOR_FRAMES_SLOTS = 4096,  /* slots: the places of the closed legs, 16 legs of 64 pairs of four numbers */
+    MUDVIZSOR_FRAMES_TABLE = 48,    /* table: the closed legs, 16 legs of three numbers */
+    MUDVIZSOR_FRAMES_OUT = 515      /* out: the longest answer line */
 };
 
 /* The status of a reply: 0 for success, else the number of the refusal. */
@@ -210,12 +210,14 @@ size_t mudvizsor_map_all(
 
 /* ---- Building maps ----
 
-   Each of these calls writes a map to `out`, `slots` and `time`, as described at the top. */
+   Each of these calls writes a map to `out`, `slots` and `time`, as described at the top.
 
-/* Builds the map of the pairs in canonical form. Each pair `/` -> `/` becomes the mark. A single remaining pair is kept,
-   unless its ends are equal and there is the mark. Several are sorted by the number of elements of their sources
-   (stably), and a pair is dropped if the pairs kept before it and the mark already map its source to its target. The
-   time offset is (0, 1). Refusals: 1 to 5. */
+   Most of them put the map in CANONICAL FORM: Each pair `/` -> `/` is removed and sets the mark. A single remaining pair
+   is kept, unless its ends are equal and the mark is set. Several are sorted by the number of elements of their sources
+   (stably), and a pair is dropped as redundant if the pairs kept before it and the mark already map its source to its
+   target. In that test an empty target is joined as text: after /A -> empty the pair /A/B -> /B is redundant. */
+
+/* Builds the map of the pairs, in canonical form, with the time offset (0, 1). Refusals: 1 to 5. */
 size_t mudvizsor_map_new(
     const char *store, size_t store_length, const size_t *places, size_t places_length, size_t count, char *out,
     size_t out_length, size_t *slots, size_t slots_length, double time[2]);
@@ -227,8 +229,8 @@ size_t mudvizsor_map_with_root_identity(
 
 /* Builds the composition: the inner map (the parameters that begin with i) followed by the outer map (the others). Each
    inner pair gets its target mapped by the outer map; a target that does not map becomes empty. Each outer pair gets its
-   source mapped back by the inner map, and is left out if that yields no path or a source that is already there. The list
-   is then put in canonical form; the mark is set if both maps have it. If one of the maps is the identity on paths, the
+   source mapped back by the inner map, and is left out if that yields no path or a source that is already there. The map
+   has the mark if both maps have it, and is then put in canonical form. If one of the maps is the identity on paths, the
    pairs and the mark of the other are kept unchanged. The time offset is the concatenation of both, or (0, 1) if both are
    the identity. The result may map a path differently from the two maps applied in turn, since the longest match is
    taken over the composed list. Refusals: 1 to 5, where 4 also means more than 64 pairs before pairs are dropped, 7. */
@@ -250,24 +252,24 @@ size_t mudvizsor_map_from_pair_identity(
     const char *source, size_t source_length, const char *target, size_t target_length, char *out, size_t out_length,
     size_t *slots, size_t slots_length, double time[2]);
 
-/* Builds the map with the source and target of each pair exchanged, in canonical form. The mark is kept; the time offset
+/* Builds the map with the source and target of each pair exchanged, with the same mark, in canonical form. The time offset
    is always (0, 1). Refusals: 1 to 5. */
 size_t mudvizsor_map_inverse(
     const char *store, size_t store_length, const size_t *places, size_t places_length, size_t count, bool mark,
     double offset, double scale, char *out, size_t out_length, size_t *slots, size_t slots_length, double time[2]);
 
-/* Builds the map without the pairs whose source is `source`, in canonical form; a map that has no such pair is kept
-   unchanged. The mark and the time offset are kept. `source` must be an end, else 3. The buffers need not hold the removed
-   pairs. Refusals: 1 to 5. */
+/* Builds the map without the pairs whose source is `source`, with the same mark and time offset, in canonical form; a map
+   that has no such pair is kept unchanged. `source` must be an end, else 3. The buffers need not hold the removed pairs.
+   Refusals: 1 to 5. */
 size_t mudvizsor_map_dropping_source(
     const char *store, size_t store_length, const size_t *places, size_t places_length, size_t count, bool mark,
     double offset, double scale, const char *source, size_t source_length, char *out, size_t out_length, size_t *slots,
     size_t slots_length, double time[2]);
 
-/* Builds the map in which every target that has the prefix `from` has it replaced by `to`, in canonical form. A map in
-   which no target has that prefix is kept unchanged. A map that is the identity on paths (no pairs, but the mark) becomes
-   the single pair `from` -> `to` with the mark, as from mudvizsor_map_from_pair_identity. The time offset is kept. `from`
-   and `to` must be ends, else 3. Refusals: 1 to 5, 7, 8. */
+/* Builds the map in which every target that has the prefix `from` has it replaced by `to`, with the same mark and time
+   offset, in canonical form. A map in which no target has that prefix is kept unchanged. A map that is the identity on
+   paths (no pairs, but the mark) becomes the single pair `from` -> `to` with the mark, in canonical form; its time offset
+   is kept. `from` and `to` must be ends, else 3. Refusals: 1 to 5, 7, 8. */
 size_t mudvizsor_map_rebase_target(
     const char *store, size_t store_length, const size_t *places, size_t places_length, size_t count, bool mark,
     double offset, double scale, const char *from, size_t from_length, const char *to, size_t to_length, char *out,
@@ -276,9 +278,9 @@ size_t mudvizsor_map_rebase_target(
 /* Builds the map of a class arc moved down to a deeper path, the node, which is `path` without its variant selections.
    Among the sources that are a prefix of the node, the one with the most elements is selected, the last one on a tie; an
    empty source counts too. Every pair with that source gets the node as its source, and as its target the node with the
-   selected source replaced by the target of the selected pair. The list is then put in canonical form. The map is kept
-   unchanged if it has a pair whose source is the node, or if no source is a prefix of the node. The mark and the time
-   offset are kept. The node must be an end, else 3. Refusals: 1 to 5, 7, 8. */
+   selected source replaced by the target of the selected pair. The map, with the same mark and time offset, is then put in
+   canonical form. It is kept unchanged if it has a pair whose source is the node, or if no source is a prefix of the node.
+   The node must be an end, else 3. Refusals: 1 to 5, 7, 8. */
 size_t mudvizsor_map_deepen_to(
     const char *store, size_t store_length, const size_t *places, size_t places_length, size_t count, bool mark,
     double offset, double scale, const char *path, size_t path_length, char *out, size_t out_length, size_t *slots,
