@@ -338,9 +338,14 @@ size_t mudvizsor_map_with_time_offset(
 
 /* ---- Relocate lists ---- */
 
-/* Writes the status of each pair, one byte each: 0 active, 1 structural (the pair is not a valid relocate on its own), 2
-   duplicate source (an earlier pair that is not structural has the same source), 3 conflict with another pair. The value
-   is the number of pairs; `out` needs that many bytes. Refusals: 1 to 5. */
+/* Writes the status of each pair, one byte each. The value is the number of pairs; `out` needs that many bytes.
+       0  active: none of the following
+       1  structural: the target is not empty, and the source has one name, the ends are equal, or one end is a prefix
+          of the other
+       2  duplicate source: an earlier pair that is not structural has the same source
+       3  conflict: another pair with neither status 1 nor 2 has the same nonempty target, or overlaps with this pair in
+          another way (docs/REQUIREMENTS.md, Relocates)
+   Refusals: 1 to 5. */
 size_t mudvizsor_analyze_relocate_occurrences(
     const char *store, size_t store_length, const size_t *places, size_t places_length, size_t count, char *out,
     size_t out_length);
@@ -356,7 +361,7 @@ size_t mudvizsor_chain_through_relocates(
     const char *skipped, size_t skipped_length, const char *path, size_t path_length, char *out, size_t out_length);
 
 /* Applies to the endpoint the relocate of its nearest ancestor: of the pairs that have a nonempty target and whose source
-   is a prefix of the endpoint but not the endpoint itself, the one whose source is the longest in bytes, the last one on
+   is a prefix of the endpoint, but not the endpoint itself, the one whose source is the longest in bytes, the last one on
    a tie. Writes the endpoint with that source replaced by the target, or unchanged if there is no such pair. The value is
    the length written. `out` needs 255 bytes. Refusals: 1 to 5, 7, 8. */
 size_t mudvizsor_shift_through_nearest_ancestor(
@@ -365,16 +370,17 @@ size_t mudvizsor_shift_through_nearest_ancestor(
 
 /* ---- Routes ---- */
 
-/* Takes the path out over the legs, the first one first: each leg does mudvizsor_translate_to_target with what the leg
-   before it wrote. A relocate list stands for the map that mudvizsor_map_new builds of its active pairs and `/` -> `/`.
+/* Maps the path out over the legs, the first one first: each leg does mudvizsor_translate_to_target with the result of the
+   leg before it. A relocate list stands for the map that mudvizsor_map_new builds of its active pairs and `/` -> `/`.
    With no legs the result is the path itself. The value is the length written. `out` needs 255 bytes. Refusals: 1 to 5;
    6, 7 and 8, which are checked for each leg before the next one. */
 size_t mudvizsor_route_out(
     const char *store, size_t store_length, const size_t *places, size_t places_length, const size_t *legs,
     size_t legs_length, size_t count, const char *path, size_t path_length, char *out, size_t out_length);
 
-/* Takes the path home over the legs, the last one first: each leg does mudvizsor_map_target_to_source. A path without
-   selections that comes out over a route is taken home to itself. Refusals: as in mudvizsor_route_out. */
+/* Maps the path home over the legs, the last one first: each leg does mudvizsor_map_target_to_source with the result of the
+   leg after it. It maps the result of mudvizsor_route_out back to the path that was mapped out, if that has no selections.
+   Refusals: as in mudvizsor_route_out. */
 size_t mudvizsor_route_home(
     const char *store, size_t store_length, const size_t *places, size_t places_length, const size_t *legs,
     size_t legs_length, size_t count, const char *path, size_t path_length, char *out, size_t out_length);

@@ -55,7 +55,8 @@ impl MapFunction {
     ///
     /// Each pair `/` to `/` becomes the mark. A single remaining pair is kept, unless its ends are equal and there is the
     /// mark. Several are sorted by the number of elements of their sources, and a pair is dropped as redundant if the pairs
-    /// kept before it and the mark already map its source to its target.
+    /// kept before it and the mark already map its source to its target. In that test an empty target is joined as text:
+    /// after `/A` to empty, the pair `/A/B` to `/B` is redundant.
     ///
     /// # Errors
     ///
