@@ -340,7 +340,8 @@ impl MapFunction {
         never_refused(self.derive(map_build::with_root_identity))
     }
 
-    /// Returns the map with the source and target of each pair exchanged, in canonical form, with the time offset (0, 1).
+    /// Returns the map with the source and target of each pair exchanged, in the canonical form of [`new`](Self::new), with the
+    /// time offset (0, 1).
     ///
     /// ```
     /// # use mudvizsor::MapFunction;
@@ -351,7 +352,8 @@ impl MapFunction {
         never_refused(self.derive(map_build::inverse))
     }
 
-    /// Returns the map without the pairs that have this source.
+    /// Returns the map without the pairs that have this source, in the canonical form of [`new`](Self::new). A map that has no
+    /// such pair is returned unchanged.
     ///
     /// # Errors
     ///
@@ -370,9 +372,13 @@ impl MapFunction {
     /// Composes two maps: `inner` followed by this map, which is the outer one.
     ///
     /// Each pair of `inner` gets its target mapped by this map; a target that does not map becomes empty. Each pair of this
-    /// map gets its source mapped back by `inner`, unless there is no result or a pair with that source already. The result
-    /// may map a path differently from the two maps applied in turn, since the longest match is taken over the composed
-    /// pairs.
+    /// map gets its source mapped back by `inner`, and is left out if there is no result or a pair with that source already.
+    /// The map has the mark if both maps have it, and is put in the canonical form of [`new`](Self::new). If one of the maps
+    /// is the [identity on paths](Self::path_is_identity), the pairs and the mark of the other are kept unchanged. The time
+    /// offsets are concatenated.
+    ///
+    /// The result may map a path differently from the two maps applied in turn, since the longest match is taken over the
+    /// composed pairs.
     ///
     /// # Errors
     ///
@@ -393,7 +399,8 @@ impl MapFunction {
         build_longer(&[COMPOSED_PAIR_BYTES], |buffers| map_build::compose(self.lent(), inner.lent(), buffers))
     }
 
-    /// Returns the map with the prefix `from` replaced by `to` in every target that has it.
+    /// Returns the map with the prefix `from` replaced by `to` in every target that has it, in the canonical form of
+    /// [`new`](Self::new). A map in which no target has that prefix is returned unchanged.
     ///
     /// A map that is the [identity on paths](Self::path_is_identity) becomes the pair `from` to `to`, with the mark.
     ///
@@ -420,8 +427,9 @@ impl MapFunction {
     ///
     /// Of the sources that are a prefix of the node, the one with the most elements is selected, the last one on a tie; an
     /// empty source counts here. Every pair with that source gets the node as its source and, as its target, the node with
-    /// the selected source replaced by the target of the selected pair. The map is returned unchanged if it has a pair whose
-    /// source is the node, or if no source is a prefix of the node.
+    /// the selected source replaced by the target of the selected pair. The result is put in the canonical form of
+    /// [`new`](Self::new). The map is returned unchanged if it has a pair whose source is the node, or if no source is a
+    /// prefix of the node.
     ///
     /// # Errors
     ///
