@@ -12,8 +12,9 @@ mod routes;
 mod table;
 
 use options::{Options, Part};
+use std::env;
+use std::io::{self, Write};
 use std::process::ExitCode;
-use std::{env, io};
 
 fn main() -> ExitCode {
     let arguments: Vec<String> = env::args().skip(1).collect();
@@ -21,7 +22,8 @@ fn main() -> ExitCode {
         return ended(frames_original::serve(io::stdin().lock(), io::stdout().lock()));
     }
     if arguments.iter().any(|argument| argument == "--help" || argument == "-h") {
-        println!("{}", options::USAGE);
+        // A reader that closes the pipe early is not an error.
+        let _ = writeln!(io::stdout(), "{}", options::USAGE);
         return ExitCode::SUCCESS;
     }
     match Options::read(arguments.into_iter()) {

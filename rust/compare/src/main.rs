@@ -24,11 +24,13 @@ mod times;
 use comparison::Comparison;
 use options::Options;
 use std::env;
+use std::io::{self, Write};
 use std::process::ExitCode;
 
 fn main() -> ExitCode {
     if env::args().skip(1).any(|argument| argument == "--help" || argument == "-h") {
-        println!("{}", options::help());
+        // A reader that closes the pipe early is not an error.
+        let _ = writeln!(io::stdout(), "{}", options::help());
         return ExitCode::SUCCESS;
     }
     let options = match Options::read(env::args().skip(1)) {

@@ -1,8 +1,9 @@
 //! A Rust program of the protocol of the program `frames`: reads frames from standard input, one per line, and writes an
 //! answer line for each to standard output.
 
+use std::env;
+use std::io::{self, Write};
 use std::process::ExitCode;
-use std::{env, io};
 
 const HELP: &str = "frames-original: answers the frames of the protocol `frames` with the original Rust code
 
@@ -26,7 +27,8 @@ arguments are bad.
 fn main() -> ExitCode {
     let arguments: Vec<_> = env::args_os().skip(1).collect();
     if arguments.iter().any(|argument| argument == "--help" || argument == "-h") {
-        print!("{HELP}");
+        // A reader that closes the pipe early is not an error.
+        let _ = io::stdout().write_all(HELP.as_bytes());
         return ExitCode::SUCCESS;
     }
     if !arguments.is_empty() {
