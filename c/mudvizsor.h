@@ -13,7 +13,7 @@
    any value. Bad texts, places and counts are refused; every float is accepted. A text needs no terminating 0, and none
    is written after a result. A `bool` is false or true. A call uses up to about 300 KiB of stack.
 
-   A REPLY is one number: 256 times a value, plus a status in the low byte. The status is 0 for success and one of the
+   A REPLY is one number: 256 times a value, plus the refusal number in the low byte, which is 0 for success and one of the
    numbers below for a refusal. The value of a refusal is 0. A refused call writes nothing. A successful call writes its
    result to the beginning of the lent buffers and leaves the rest of them unchanged.
 
@@ -78,8 +78,8 @@ extern "C" {
 
 /* ---- Replies ---- */
 
-/* The status in the low byte of a reply. The numbers are those of the checks in docs/REQUIREMENTS.md (Validation and
-   refusals). The checks are made in this order, and the first one that fails decides. */
+/* The refusal number in the low byte of a reply. The numbers are those of the questions in docs/REQUIREMENTS.md (Validation
+   and refusals), which are checked in this order; the first one that fails decides. */
 enum {
     MUDVIZSOR_ANSWER = 0,        /* success */
     MUDVIZSOR_TOO_LONG = 1,      /* a text is longer than 255 bytes, or its place reaches outside its store */
@@ -112,7 +112,7 @@ enum {
     MUDVIZSOR_FRAMES_OUT = 515      /* out: the longest answer line */
 };
 
-/* The status of a reply: 0 for success, else the number of the refusal. */
+/* The refusal number of a reply; 0 for success. */
 static inline int mudvizsor_number(size_t reply) { return (int)(reply % 256); }
 
 /* The value of a successful reply: a length, a count, or 1 for true and 0 for false. */

@@ -700,7 +700,7 @@ static void check_frames(size_t reply) {
     size_t length = mudvizsor_value(reply);
     bool enough = numbers_in(KEPT) >= 5 && contents[OUT].length >= 515;
     bool bad = length == 5 && memcmp(lent[OUT].at, "FF09\n", 5) == 0;
-    check(mudvizsor_number(reply) == (enough ? 0 : MUDVIZSOR_NO_ROOM), "wrong status for the sizes of the buffers");
+    check(mudvizsor_number(reply) == (enough ? 0 : MUDVIZSOR_NO_ROOM), "a wrong refusal number for the sizes of the buffers");
     check(enough ? length >= 5 && length <= 515 && length % 2 == 1 : length == 0, "the length of the answer");
     check(unchanged(OUT, length, contents[OUT].length), "a byte after the result changed");
     check(length == 0 || lent[OUT].at[length - 1] == '\n', "no newline at the end");

@@ -40,7 +40,7 @@ static struct coverage *coverage_of(const char *entry) {
     return &coverage[entry_count++];
 }
 
-/* Checks a reply: its status and its value. */
+/* Checks a reply: its refusal number and its value. */
 static void check_reply(const char *entry, const char *input, size_t reply, int number, size_t value) {
     if (number == 0) coverage_of(entry)->accepted = true;
     else coverage_of(entry)->refused = true;
