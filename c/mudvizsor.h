@@ -1,60 +1,66 @@
-/* Scene paths, maps, relocates, routes and time offsets: the entries of the static library libexports.a.
+/* Scene paths, path maps, relocates, routes and time offsets: the C interface of the static library libmudvizsor.a.
 
-   Document 01 says what each call means; this header says how a C or C++ program calls it. The library is made for
-   x86-64 Linux by `rt staticlib exports`, which writes target/staticlib/libexports.a:
+   docs/REQUIREMENTS.md defines what each call computes; this header describes how a C or C++ program calls it. The
+   library is built for x86-64 Linux by `rt staticlib mudvizsor`, which writes target/staticlib/libmudvizsor.a:
 
-       cc -std=c11 -Ic program.c target/staticlib/libexports.a
+       cc -std=c11 -Ic program.c target/staticlib/libmudvizsor.a
 
-   LENT MEMORY. The caller lends all memory, and the library keeps no pointer, allocates nothing and has no state, so that
-   any number of threads may call it. A slice passes as a
-   pointer and then its length, which counts bytes for a `char *` and numbers for a `size_t *`. What is lent must be there
-   for its whole length, and what is written must not overlap anything else that is lent to the same call; with length 0
-   the pointer is not followed and may be NULL. Nothing else is asked of the caller: every text, place, count and float may
-   have any value. A text needs no 0 at its end, and none is written behind an answer. A `bool` is false or true. Working
-   memory of its own a call takes from the stack, up to about 300 KiB.
+   LENT MEMORY. The caller lends all memory for the duration of a call. The library keeps no pointers, allocates nothing
+   and has no state, so any number of threads may call it at the same time. A slice is passed as a pointer followed by
+   its length, which counts bytes for a `char *` and elements for a `size_t *`. Every slice must be valid for its whole
+   length, and a slice that is written must not overlap any other slice of the same call. A slice of length 0 is never
+   dereferenced, so its pointer may be NULL. There are no other preconditions: texts, places, counts and floats may have
+   any value. Bad texts, places and counts are refused; every float is accepted. A text needs no terminating 0, and none
+   is written after a result. A `bool` is false or true. A call uses up to about 300 KiB of stack.
 
-   A REPLY is one number: 256 times a value, and document 01's number in its low byte, which is 0 for an answer and one of
-   the numbers below for a refusal. The value of a refusal is 0. A refused call writes nothing. An accepted one writes the
-   answer's own bytes and numbers from the beginning of what is lent; the rest keeps its old values.
+   A REPLY is one number: 256 times a value, plus the refusal number in the low byte, which is 0 for success and one of the
+   numbers below for a refusal. The value of a refusal is 0. A refused call writes nothing. A successful call writes its
+   result to the beginning of the lent buffers and leaves the rest of them unchanged.
 
-   A PATH that is written needs 255 lent bytes even where it is short, else the call is refused with 5.
+   A PATH that is written needs a buffer of at least 255 bytes, however short the path is; else the call is refused
+   with 5.
 
-   A LIST of pairs passes as
-       store    the bytes of the ends, in any order, with gaps or shared
-       places   four numbers for each pair: where its source starts in the store and how long it is, then the same two
-                numbers of its target
-       count    how many pairs; at most 64, and no more than the places hold, else 4
-   The list /A -> /X, /B -> / is, for example, the store "/A/X/B/" with the places 0,2, 2,2, 4,2, 6,1 and the count 2. A
-   place that reaches outside the store is refused with 1. Each end is a prim path, `/` or empty, else 3.
+   A LIST of pairs is passed as
+       store    the bytes of the ends (the sources and targets), in any order; they may overlap or have gaps
+       places   four numbers for each pair: start and length of its source in the store, start and length of its target
+       count    the number of pairs: at most 64, and no more than `places` holds, else the call is refused with 4
+   For example, the list /A -> /X, /B -> / is the store "/A/X/B/" with the places 0,2, 2,2, 4,2, 6,1 and the count 2. A
+   place that reaches outside the store is refused with 1. Each end must be a prim path (names only), `/` or empty, else
+   the call is refused with 3.
 
-   A MAP passes as a list and
-       mark            the root-identity mark
-       offset, scale   its time offset; (0, 1) changes no time
-   Only the calls that make a map or tell what it is take a time offset, for where a path goes does not depend on it.
+   A MAP is passed as a list and
+       mark            the root-identity mark: a path that no pair matches maps to itself
+       offset, scale   its time offset; (0, 1) is the identity
+   Calls that map a path take no time offset, since where a path goes does not depend on it.
 
-   A MAP THAT IS MADE is written as such a list, so that it can be lent to the next call:
-       out     the bytes of its ends, source, target, pair after pair
+   A MAP THAT IS BUILT is written in the same form, so that it can be passed to the next call:
+       out     the bytes of its ends: source, target, source, target, ..
        slots   their places, four numbers for each pair
        time    its offset and scale
-   mudvizsor_pairs and mudvizsor_mark read its number of pairs and its mark from the reply. The memory must be enough for
-   the list before pairs are dropped: the sum of the lengths of its ends in bytes, and four numbers for each of its pairs,
-   else 5. 32,640 bytes and 256 numbers are enough for every map that a list can become.
+   mudvizsor_pairs and mudvizsor_mark extract its number of pairs and its mark from the reply. The buffers must hold the
+   list as it is before redundant pairs are dropped: the sum of the lengths of its ends, and four numbers for each pair;
+   else the call is refused with 5. MUDVIZSOR_MAP_BYTES and MUDVIZSOR_MAP_SLOTS are enough for every map that can be
+   built, except in mudvizsor_map_implied_class (see there). But mudvizsor_map_compose, mudvizsor_map_rebase_target,
+   mudvizsor_map_deepen_to and mudvizsor_map_implied_class check the buffers (5) before they check the lengths of the
+   ends that they made (7), and such an end may be longer than 255 bytes. With MUDVIZSOR_MAP_BYTES, a call that has to be
+   refused with 7 may therefore be refused with 5. With 48,960 bytes (146,880 for mudvizsor_map_implied_class) it is
+   always refused with 7.
 
-   A ROUTE passes as
-       store, places   as of a list, for the pairs of all its legs
-       legs            three numbers for each leg: its kind (0 a map, 1 a map with the mark, any other number a relocate
-                       list), the pair of the places at which its list begins (0 is the first), and how many pairs it has;
-                       legs may share pairs
-       count           how many legs; at most 16, and no more than the numbers hold, else 4
+   A ROUTE is passed as
+       store, places   as for a list, holding the pairs of all its legs
+       legs            three numbers for each leg: its kind (0 a map without the mark, 1 a map with the mark, any other
+                       number a relocate list), the index in `places` of its first pair (the first pair has index 0),
+                       and its number of pairs; legs may share pairs
+       count           the number of legs: at most 16, and no more than `legs` holds, else the call is refused with 4
 
-   MANY PATHS pass as
-       texts    their bytes, in any order, with gaps or shared
-       spots    two numbers for each path: where it starts in the texts and how long it is
-       n        how many paths; any number
-       out      255 bytes for each: path i is written from byte 255 * i on
-       replies  one number for each: the reply of the call on path i alone goes to number i
-   The reply of the call itself is 0, or 5 where there are fewer than 2 * n spots, 255 * n bytes or n replies, and then
-   nothing is written. All other refusals stand in the replies; a spot that reaches outside the texts is 1. */
+   MANY PATHS are passed as
+       texts    their bytes, in any order; they may overlap or have gaps
+       spots    two numbers for each path: its start in `texts` and its length
+       n        the number of paths, which is not limited
+       out      255 bytes for each path: the result for path i is written at byte 255 * i
+       replies  one number for each path: element i is set to the reply that the call for path i alone would return
+   The reply of the whole call is 0, or 5 if there are fewer than 2 * n spots, 255 * n bytes or n replies; then nothing
+   is written. Every other refusal is reported in `replies`, a spot that reaches outside `texts` as 1. */
 #ifndef MUDVIZSOR_H
 #define MUDVIZSOR_H
 
@@ -63,7 +69,7 @@
 #include <stdint.h>
 
 #if SIZE_MAX != UINT64_MAX
-#error "the library is made for machines with 64-bit numbers"
+#error "the library needs a 64-bit size_t"
 #endif
 
 #ifdef __cplusplus
@@ -72,275 +78,338 @@ extern "C" {
 
 /* ---- Replies ---- */
 
-/* Document 01's numbers, in the order of its questions: the first "no" gives its number. */
+/* The refusal number in the low byte of a reply. The numbers are those of the questions in docs/REQUIREMENTS.md (Validation
+   and refusals), which are checked in this order; the first one that fails decides. */
 enum {
-    MUDVIZSOR_ANSWER = 0,
-    MUDVIZSOR_TOO_LONG = 1,      /* a text has more than 255 bytes, or its place reaches outside its store */
+    MUDVIZSOR_ANSWER = 0,        /* success */
+    MUDVIZSOR_TOO_LONG = 1,      /* a text is longer than 255 bytes, or its place reaches outside its store */
     MUDVIZSOR_ILLEGAL = 2,       /* a text is not a legal path */
-    MUDVIZSOR_NOT_AN_END = 3,    /* an end is no prim path, not `/` and not empty */
-    MUDVIZSOR_TOO_MANY = 4,      /* more than 64 pairs or 16 legs, or a count beyond its slice */
-    MUDVIZSOR_NO_ROOM = 5,       /* too little lent memory */
-    MUDVIZSOR_NO_PATH = 6,       /* there is no path to answer with */
-    MUDVIZSOR_MADE_TOO_LONG = 7, /* a path that was made has more than 255 bytes */
-    MUDVIZSOR_MADE_ILLEGAL = 8   /* a path that was made is not legal */
+    MUDVIZSOR_NOT_AN_END = 3,    /* an end is neither a prim path nor `/` nor empty */
+    MUDVIZSOR_TOO_MANY = 4,      /* more than 64 pairs or 16 legs, or a count that exceeds its slice */
+    MUDVIZSOR_NO_ROOM = 5,       /* a lent buffer is too small */
+    MUDVIZSOR_NO_PATH = 6,       /* there is no resulting path */
+    MUDVIZSOR_MADE_TOO_LONG = 7, /* a resulting path is longer than 255 bytes */
+    MUDVIZSOR_MADE_ILLEGAL = 8   /* a resulting path is not legal */
 };
 
-/* Enough lent memory for every path, for every path's ancestors, and for every map that is made but that of
-   mudvizsor_map_implied_class, which needs three times as much. */
+/* Buffer sizes that are always enough for a result. mudvizsor_map_implied_class needs three times MUDVIZSOR_MAP_BYTES and
+   MUDVIZSOR_MAP_SLOTS. */
 enum {
-    MUDVIZSOR_PATH_BYTES = 255,
-    MUDVIZSOR_ANCESTORS = 128,
-    MUDVIZSOR_MAP_BYTES = 32640,
-    MUDVIZSOR_MAP_SLOTS = 256
+    MUDVIZSOR_PATH_BYTES = 255,  /* a path */
+    MUDVIZSOR_ANCESTORS = 128,   /* the lengths that mudvizsor_path_ancestors writes */
+    MUDVIZSOR_MAP_BYTES = 32640, /* the ends of a map: 64 pairs of two ends of 255 bytes */
+    MUDVIZSOR_MAP_SLOTS = 256    /* the places of a map: 64 pairs of four numbers */
 };
 
-/* What mudvizsor_frames_line is lent: as many bytes or numbers in each. */
+/* The lengths of the buffers that mudvizsor_frames_line is lent, in bytes or numbers. */
 enum {
-    MUDVIZSOR_FRAMES_KEPT = 5,
-    MUDVIZSOR_FRAMES_BYTES = 32640,
-    MUDVIZSOR_FRAMES_PLACES = 256,
-    MUDVIZSOR_FRAMES_STORE = 32768,
-    MUDVIZSOR_FRAMES_SLOTS = 4096,
-    MUDVIZSOR_FRAMES_TABLE = 48,
-    MUDVIZSOR_FRAMES_OUT = 515
+    MUDVIZSOR_FRAMES_KEPT = 5,      /* kept: the counters of the protocol */
+    MUDVIZSOR_FRAMES_BYTES = 32640, /* bytes: the ends of the open list, 64 pairs of two ends of 255 bytes */
+    MUDVIZSOR_FRAMES_PLACES = 256,  /* places: the places of the open list, 64 pairs of four numbers */
+    MUDVIZSOR_FRAMES_STORE = 32768, /* store: the ends of the closed legs */
+    MUDVIZSOR_FRAMES_SLOTS = 4096,  /* slots: the places of the closed legs, 16 legs of 64 pairs of four numbers */
+    MUDVIZSOR_FRAMES_TABLE = 48,    /* table: the closed legs, 16 legs of three numbers */
+    MUDVIZSOR_FRAMES_OUT = 515      /* out: the longest answer line */
 };
 
-/* Document 01's number: 0 for an answer. */
+/* The refusal number of a reply; 0 for success. */
 static inline int mudvizsor_number(size_t reply) { return (int)(reply % 256); }
 
-/* The value of an answer: a length, a count, or 1 for yes and 0 for no. */
+/* The value of a successful reply: a length, a count, or 1 for true and 0 for false. */
 static inline size_t mudvizsor_value(size_t reply) { return reply / 256; }
 
-/* Of a map that was made: how many pairs it has, and its mark. */
+/* For the reply of a call that builds a map: its number of pairs, and its mark. */
 static inline size_t mudvizsor_pairs(size_t reply) { return reply / 512; }
 static inline bool mudvizsor_mark(size_t reply) { return reply / 256 % 2 == 1; }
 
-/* Of a chain: the length of the path at its end, and the replacements made. */
+/* For the reply of mudvizsor_chain_through_relocates: the length of the resulting path, and the number of replacements. */
 static inline size_t mudvizsor_chain_length(size_t reply) { return reply / 256 % 256; }
 static inline size_t mudvizsor_chain_steps(size_t reply) { return reply / 65536; }
 
 /* ---- Paths ---- */
 
-/* Is the text a legal path of at most 255 bytes? The value is 0: a legal path has the reply 0, another 1 or 2. */
+/* Checks that the text is a legal path of at most 255 bytes. The reply is 0 if it is, else a refusal: 1, 2. */
 size_t mudvizsor_path_new(const char *path, size_t path_length);
 
-/* The value is 1 for a prim path, `/` and the empty path, else 0. Refusals: 1, 2. */
+/* The value is 1 if the path can be an end of a pair, which a prim path, `/` and the empty path can; else 0.
+   Refusals: 1, 2. */
 size_t mudvizsor_path_is_end(const char *path, size_t path_length);
 
-/* The value is 1 where the path has a selection, else 0. Refusals: 1, 2. */
+/* The value is 1 if the path contains a variant selection, else 0. Refusals: 1, 2. */
 size_t mudvizsor_path_has_variant_selection(const char *path, size_t path_length);
 
-/* The value is the number of its names and selections. Refusals: 1, 2. */
+/* The value is the number of names and selections in the path. A property is not counted. Refusals: 1, 2. */
 size_t mudvizsor_path_element_count(const char *path, size_t path_length);
 
-/* The value is the number of its names. Refusals: 1, 2. */
+/* The value is the number of names in the path. A property is not counted. Refusals: 1, 2. */
 size_t mudvizsor_path_prim_element_count(const char *path, size_t path_length);
 
-/* The value is 1 where the prefix is a prefix of the path, else 0; the empty path is a prefix of every path.
-   Refusals: 1, 2. */
+/* The value is 1 if `prefix` is the path itself or one of its ancestors, else 0. The empty path is a prefix of every
+   path. Refusals: 1, 2. */
 size_t mudvizsor_path_has_prefix(const char *path, size_t path_length, const char *prefix, size_t prefix_length);
 
-/* Writes the path with its old prefix replaced by the new one; the value is its length. Out: 255 bytes.
-   Refusals: 1, 2, 5, 6 where the path does not have the prefix, 7, 8. */
+/* Writes the path with its prefix `old_prefix` replaced by `new_prefix`. The value is the length written.
+   `out` needs 255 bytes. Refusals: 1, 2, 5, 6 if the path does not have the prefix, 7, 8. */
 size_t mudvizsor_path_replace_prefix(
     const char *path, size_t path_length, const char *old_prefix, size_t old_prefix_length, const char *new_prefix,
     size_t new_prefix_length, char *out, size_t out_length);
 
-/* Writes the path without its last element or its property; the value is its length. Out: 255 bytes.
-   Refusals: 1, 2, 5, 6 for `/` and the empty path. */
+/* Writes the path without its property or, if it has none, without its last element. The value is the length written.
+   `out` needs 255 bytes. Refusals: 1, 2, 5, 6 for `/` and the empty path, which have no parent. */
 size_t mudvizsor_path_parent(const char *path, size_t path_length, char *out, size_t out_length);
 
-/* Writes the path without its property or, where it has none and ends in a selection, without that selection; the value
-   is its length. Out: 255 bytes. Refusals: 1, 2, 5. */
+/* Writes the path without its property or, if it has none and ends in a selection, without that one selection. The value
+   is the length written. `out` needs 255 bytes. Refusals: 1, 2, 5. */
 size_t mudvizsor_path_prim_path(const char *path, size_t path_length, char *out, size_t out_length);
 
-/* Writes what stands before the property's dot; the value n is its length, and the property's name begins at n + 1 of
-   the path handed in. Out: 255 bytes. Refusals: 1, 2, 5, 6 where there is no property. */
+/* Writes the part of the path before the dot of its property. The value n is the length written; the name of the property
+   starts at byte n + 1 of `path`. `out` needs 255 bytes. Refusals: 1, 2, 5, 6 if the path has no property. */
 size_t mudvizsor_path_split_property(const char *path, size_t path_length, char *out, size_t out_length);
 
-/* Writes the path without its selections; the value is its length. Out: 255 bytes. Refusals: 1, 2, 5. */
+/* Writes the path without its variant selections. The value is the length written. `out` needs 255 bytes.
+   Refusals: 1, 2, 5. */
 size_t mudvizsor_path_strip_variant_selections(const char *path, size_t path_length, char *out, size_t out_length);
 
-/* Writes the length of the path and of each of its ancestors, which are all beginnings of it; the value is their number,
-   at most 128. Lengths: that many numbers. Refusals: 1, 2, 5. */
+/* Writes the length of the path and then of each of its ancestors, nearest first. Each ancestor is the initial part of
+   `path` with that length. The value is how many lengths were written, at most 128; `lengths` needs that many numbers.
+   Refusals: 1, 2, 5. */
 size_t mudvizsor_path_ancestors(const char *path, size_t path_length, size_t *lengths, size_t lengths_length);
 
-/* ---- A path through a map ---- */
+/* ---- Mapping a path ---- */
 
-/* Writes where the map takes the path; the value is its length. Out: 255 bytes. Refusals: 1 to 5, 6 where no pair serves
-   the path and there is no mark, or the target is empty, 7, 8. */
+/* Maps the path from sources to targets. Of the pairs whose source is a prefix of the path, the one whose source has the
+   most elements is used, the last one on a tie; an empty source never matches. The result is the path with that source
+   replaced by the target, or the path itself if no pair matches and the map has the mark. The value is the length
+   written. `out` needs 255 bytes. Refusals: 1 to 5, 6 if the target is empty or if no pair matches and there is no mark,
+   7, 8. */
 size_t mudvizsor_map_source_to_target(
     const char *store, size_t store_length, const size_t *places, size_t places_length, size_t count, bool mark,
     const char *path, size_t path_length, char *out, size_t out_length);
 
-/* The same backwards, from targets to sources. */
+/* Maps the path from targets to sources: the same with the targets as keys. An empty target never matches. Refusals: 1 to
+   5, 6 if no pair matches and there is no mark, 7, 8. */
 size_t mudvizsor_map_target_to_source(
     const char *store, size_t store_length, const size_t *places, size_t places_length, size_t count, bool mark,
     const char *path, size_t path_length, char *out, size_t out_length);
 
-/* Writes where the map takes the path without its selections, if the same pair takes it back, else 6; the value is its
-   length. Out: 255 bytes. Refusals: 1 to 8. */
+/* Removes the variant selections from the path and maps it from sources to targets, but refuses a result that would not
+   map back through the same pair: the refusal is 6 if mudvizsor_map_target_to_source would use another pair for the
+   result, or any pair if none was used. The value is the length written. `out` needs 255 bytes. Refusals: 1 to 5, 6 also
+   as in mudvizsor_map_source_to_target, 7, 8. */
 size_t mudvizsor_translate_to_target(
     const char *store, size_t store_length, const size_t *places, size_t places_length, size_t count, bool mark,
     const char *path, size_t path_length, char *out, size_t out_length);
 
-/* One of the three calls above on each of many paths, the list being checked once. The way is 0 for source to target, 1
-   for target to source, any other number for translation. */
+/* Makes one of the three calls above for each of many paths, but validates the list only once. `way` selects the call: 0
+   for mudvizsor_map_source_to_target, 1 for mudvizsor_map_target_to_source, any other number for
+   mudvizsor_translate_to_target. Refusals of the whole call: 5. */
 size_t mudvizsor_map_all(
     const char *store, size_t store_length, const size_t *places, size_t places_length, size_t count, bool mark,
     size_t way, const char *texts, size_t texts_length, const size_t *spots, size_t spots_length, size_t n, char *out,
     size_t out_length, size_t *replies, size_t replies_length);
 
-/* ---- Making maps ---- */
+/* ---- Building maps ----
 
-/* The map of the pairs: a pair `/` -> `/` becomes the mark, the others are sorted by the elements of their sources, and a
-   pair that the ones before it make needless is dropped. Its time offset is (0, 1). Refusals: 1 to 5. */
+   Each of these calls writes a map to `out`, `slots` and `time`, as described at the top.
+
+   Most of them put the map in CANONICAL FORM: Each pair `/` -> `/` is removed and sets the mark. A single remaining pair
+   is kept, unless its ends are equal and the mark is set. Several are sorted by the number of elements of their sources
+   (stably), and a pair is dropped as redundant if the pairs kept before it and the mark already map its source to its
+   target. In that test an empty target is joined as text: after /A -> empty the pair /A/B -> /B is redundant. */
+
+/* Builds the map of the pairs, in canonical form, with the time offset (0, 1). Refusals: 1 to 5. */
 size_t mudvizsor_map_new(
     const char *store, size_t store_length, const size_t *places, size_t places_length, size_t count, char *out,
     size_t out_length, size_t *slots, size_t slots_length, double time[2]);
 
-/* The map with the mark put to it; nothing is dropped. Refusals: 1 to 5. */
+/* Builds the map with its mark set. No pair is dropped, and the time offset is kept. Refusals: 1 to 5. */
 size_t mudvizsor_map_with_root_identity(
     const char *store, size_t store_length, const size_t *places, size_t places_length, size_t count, bool mark,
     double offset, double scale, char *out, size_t out_length, size_t *slots, size_t slots_length, double time[2]);
 
-/* The outer map after the inner one (the parameters that begin with i), as one map. Its list before dropping has pairs of
-   both maps, and more than 64 of them are refused with 4. Refusals: 1 to 5, 7. */
+/* Builds the composition: the inner map (the parameters that begin with i) followed by the outer map (the others). Each
+   inner pair gets its target mapped by the outer map; a target that does not map becomes empty. Each outer pair gets its
+   source mapped back by the inner map, and is left out if that yields no path or a source that is already there. The map
+   has the mark if both maps have it, and is then put in canonical form. If one of the maps is the identity on paths, the
+   pairs and the mark of the other are kept unchanged. The time offset is the concatenation of both, or (0, 1) if both are
+   the identity. The result may map a path differently from the two maps applied in turn, since the longest match is
+   taken over the composed list. Refusals: 1 to 5, where 4 also means more than 64 pairs before pairs are dropped, 7. */
 size_t mudvizsor_map_compose(
     const char *store, size_t store_length, const size_t *places, size_t places_length, size_t count, bool mark,
     double offset, double scale, const char *istore, size_t istore_length, const size_t *iplaces,
     size_t iplaces_length, size_t icount, bool imark, double ioffset, double iscale, char *out, size_t out_length,
     size_t *slots, size_t slots_length, double time[2]);
 
-/* The map of one pair, which stays as it is, with the time offset (0, 1). Refusals: 1, 2, 3, 5. */
+/* Builds the map of this one pair, without the mark, with the time offset (0, 1). The pair is kept as it is, even
+   `/` -> `/`. Refusals: 1, 2, 3, 5. */
 size_t mudvizsor_map_from_pair(
     const char *source, size_t source_length, const char *target, size_t target_length, char *out, size_t out_length,
     size_t *slots, size_t slots_length, double time[2]);
 
-/* The map of one pair beside the mark, with the time offset (0, 1); a pair of equal ends is dropped.
+/* Builds the map of this one pair, with the mark, with the time offset (0, 1). A pair with equal ends is dropped.
    Refusals: 1, 2, 3, 5. */
 size_t mudvizsor_map_from_pair_identity(
     const char *source, size_t source_length, const char *target, size_t target_length, char *out, size_t out_length,
     size_t *slots, size_t slots_length, double time[2]);
 
-/* The map with source and target of each pair exchanged; its time offset is always (0, 1). Refusals: 1 to 5. */
+/* Builds the map with the source and target of each pair exchanged, with the same mark, in canonical form. The time offset
+   is always (0, 1). Refusals: 1 to 5. */
 size_t mudvizsor_map_inverse(
     const char *store, size_t store_length, const size_t *places, size_t places_length, size_t count, bool mark,
     double offset, double scale, char *out, size_t out_length, size_t *slots, size_t slots_length, double time[2]);
 
-/* The map without the pairs that have this source, which is an end; memory is counted without them. Refusals: 1 to 5. */
+/* Builds the map without the pairs whose source is `source`, with the same mark and time offset, in canonical form; a map
+   that has no such pair is kept unchanged. `source` must be an end, else 3. The buffers need not hold the removed pairs.
+   Refusals: 1 to 5. */
 size_t mudvizsor_map_dropping_source(
     const char *store, size_t store_length, const size_t *places, size_t places_length, size_t count, bool mark,
     double offset, double scale, const char *source, size_t source_length, char *out, size_t out_length, size_t *slots,
     size_t slots_length, double time[2]);
 
-/* The map with every target that has the prefix `from` put below `to`; both are ends. Refusals: 1 to 5, 7, 8. */
+/* Builds the map in which every target that has the prefix `from` has it replaced by `to`, with the same mark and time
+   offset, in canonical form. A map in which no target has that prefix is kept unchanged. A map that is the identity on
+   paths (no pairs, but the mark) becomes the single pair `from` -> `to` with the mark, in canonical form; its time offset
+   is kept. `from` and `to` must be ends, else 3. Refusals: 1 to 5, 7, 8. */
 size_t mudvizsor_map_rebase_target(
     const char *store, size_t store_length, const size_t *places, size_t places_length, size_t count, bool mark,
     double offset, double scale, const char *from, size_t from_length, const char *to, size_t to_length, char *out,
     size_t out_length, size_t *slots, size_t slots_length, double time[2]);
 
-/* The map with the pairs of the source nearest above the path put at the path. The path without its selections is an
-   end. Refusals: 1 to 5, 7, 8. */
+/* Builds the map of a class arc moved down to a deeper path, the node, which is `path` without its variant selections.
+   Among the sources that are a prefix of the node, the one with the most elements is selected, the last one on a tie; an
+   empty source counts too. Every pair with that source gets the node as its source, and as its target the node with the
+   selected source replaced by the target of the selected pair. The map, with the same mark and time offset, is then put in
+   canonical form. It is kept unchanged if it has a pair whose source is the node, or if no source is a prefix of the node.
+   The node must be an end, else 3. Refusals: 1 to 5, 7, 8. */
 size_t mudvizsor_map_deepen_to(
     const char *store, size_t store_length, const size_t *places, size_t places_length, size_t count, bool mark,
     double offset, double scale, const char *path, size_t path_length, char *out, size_t out_length, size_t *slots,
     size_t slots_length, double time[2]);
 
-/* The map of a class (the parameters that begin with i) across a transfer: the transfer after the class after the
-   transfer's inverse, with the mark; the class itself where the transfer is the identity, its time included. Memory is
-   counted over the three lists on the way; 97,920 bytes and 768 numbers are enough for every map that is made. Refusals: 1 to 5, 7. */
+/* Builds the implied class: the map of a class arc (the parameters that begin with i) propagated across a transfer map
+   (the others). It is the composition transfer after class after inverse of the transfer, with the mark set. If the
+   transfer is the identity, time offset included, it is the class unchanged. The buffers must hold three lists together,
+   each before pairs are dropped: the inverse of the transfer, the class after that, and the transfer after that. 97,920
+   bytes and 768 numbers are enough for every map that can be built. Refusals: 1 to 5, where 4 also means more than 64
+   pairs in one of the three lists, 7. */
 size_t mudvizsor_map_implied_class(
     const char *store, size_t store_length, const size_t *places, size_t places_length, size_t count, bool mark,
     double offset, double scale, const char *istore, size_t istore_length, const size_t *iplaces,
     size_t iplaces_length, size_t icount, bool imark, double ioffset, double iscale, char *out, size_t out_length,
     size_t *slots, size_t slots_length, double time[2]);
 
-/* The value is 1 where the map takes every path that it takes to itself and changes no time, else 0; a map with neither
-   pair nor mark has 0. Refusals: 1 to 4. */
+/* The value is 1 if the map is not null, both ends of every pair are equal, and the time offset is (0, 1); else 0. A null
+   map has neither pairs nor the mark. The pairs are compared, not what they do: with /A -> /B and /A -> /A the value is 0,
+   although the second pair shadows the first. Minus zero counts as 0. Refusals: 1 to 4. */
 size_t mudvizsor_map_is_noop(
     const char *store, size_t store_length, const size_t *places, size_t places_length, size_t count, bool mark,
     double offset, double scale);
 
-/* ---- A map's own numbers ----
+/* ---- Maps without their pairs ----
 
-   These calls take how many pairs a map has, its mark and its time offset, and no list. Of a map that is made the reply has
-   the first two and `time` the third; its list is the caller's, or empty. */
+   These calls take only the number of pairs of a map, its mark and its time offset, not its list. A map that they build
+   has its number of pairs and its mark in the reply and its time offset in `time`; its list is the one that the caller
+   has, or empty. */
 
-/* The map that leaves every path and every time as it is: no pairs, the mark, the time offset (0, 1). Nothing is refused. */
+/* Builds the identity: no pairs, the mark, the time offset (0, 1). It is never refused. */
 size_t mudvizsor_map_identity(double time[2]);
 
-/* The map that maps nothing: no pairs, no mark, the time offset (0, 1). Nothing is refused. */
+/* Builds the null map, which maps no path: no pairs, no mark, the time offset (0, 1). It is never refused. */
 size_t mudvizsor_map_null(double time[2]);
 
-/* Has it neither pair nor mark? */
+/* Returns whether the map is null: neither pairs nor the mark. */
 bool mudvizsor_map_is_null(size_t count, bool mark, double offset, double scale);
 
-/* Does it leave every path as it is: has it no pairs, but the mark? */
+/* Returns whether the map is the identity on paths: no pairs, but the mark. */
 bool mudvizsor_map_path_is_identity(size_t count, bool mark, double offset, double scale);
 
-/* Does it leave every path and every time as it is: is its time offset (0, 1) too? Minus zero counts as 0. */
+/* Returns whether the map is the identity: no pairs, but the mark, and the time offset (0, 1). Minus zero counts as 0. */
 bool mudvizsor_map_is_identity(size_t count, bool mark, double offset, double scale);
 
-/* Has it the mark? */
+/* Returns whether the map has the mark. */
 bool mudvizsor_map_has_root_identity(size_t count, bool mark, double offset, double scale);
 
-/* Writes its time offset. */
+/* Writes the time offset of the map. */
 void mudvizsor_map_time_offset(size_t count, bool mark, double offset, double scale, double time[2]);
 
-/* The map with the new time offset. Refusals: 4 for more than 64 pairs. */
+/* Builds the map with its time offset replaced by the new one. Refusals: 4 if `count` is more than 64. */
 size_t mudvizsor_map_with_time_offset(
     size_t count, bool mark, double offset, double scale, double new_offset, double new_scale, double time[2]);
 
 /* ---- Relocate lists ---- */
 
-/* Writes the status of each pair, a byte each: 0 active, 1 structural, 2 duplicate source, 3 conflict; the value is the
-   number of pairs. Out: that many bytes. Refusals: 1 to 5. */
+/* Writes the status of each pair, one byte each. The value is the number of pairs; `out` needs that many bytes.
+       0  active: none of the following
+       1  structural: the target is not empty, and the source has one name, the ends are equal, or one end is a prefix
+          of the other
+       2  duplicate source: an earlier pair that is not structural has the same source
+       3  conflict: another pair with neither status 1 nor 2 has the same nonempty target, or overlaps with this pair in
+          another way (docs/REQUIREMENTS.md, Relocates)
+   Refusals: 1 to 5. */
 size_t mudvizsor_analyze_relocate_occurrences(
     const char *store, size_t store_length, const size_t *places, size_t places_length, size_t count, char *out,
     size_t out_length);
 
-/* Writes the end of the path's chain of replacements; mudvizsor_chain_length and mudvizsor_chain_steps read the reply.
-   Pairs with the skipped source are left aside where `skips` is set, else the skipped text is not looked at.
-   Out: 255 bytes. Refusals: 1 to 5, 7, 8. */
+/* Follows the path through the relocates and writes where it ends. Each step uses, of the pairs that have a nonempty
+   target and alter the path, the one whose source is the longest in bytes, the last one on a tie, and replaces that
+   source by the target. The steps end when no pair is left to use, or after as many steps as there are pairs. All pairs
+   take part, whatever their status, except that pairs with the source `skipped` are ignored if `skips` is true; if it is
+   false, `skipped` is not read. mudvizsor_chain_length and mudvizsor_chain_steps extract the length written and the
+   number of steps from the reply. `out` needs 255 bytes. Refusals: 1 to 5; 7 and 8, which are checked after each step. */
 size_t mudvizsor_chain_through_relocates(
     const char *store, size_t store_length, const size_t *places, size_t places_length, size_t count, bool skips,
     const char *skipped, size_t skipped_length, const char *path, size_t path_length, char *out, size_t out_length);
 
-/* Writes the endpoint under the nearest rename above it, or itself; the value is its length. Out: 255 bytes.
-   Refusals: 1 to 5, 7, 8. */
+/* Applies to the endpoint the relocate of its nearest ancestor: of the pairs that have a nonempty target and whose source
+   is a prefix of the endpoint, but not the endpoint itself, the one whose source is the longest in bytes, the last one on
+   a tie. Writes the endpoint with that source replaced by the target, or unchanged if there is no such pair. The value is
+   the length written. `out` needs 255 bytes. Refusals: 1 to 5, 7, 8. */
 size_t mudvizsor_shift_through_nearest_ancestor(
     const char *store, size_t store_length, const size_t *places, size_t places_length, size_t count,
     const char *endpoint, size_t endpoint_length, char *out, size_t out_length);
 
 /* ---- Routes ---- */
 
-/* Writes where the legs, one after the other, take the path; the value is its length. Out: 255 bytes.
-   Refusals: 1 to 8. */
+/* Maps the path out over the legs, the first one first: each leg does mudvizsor_translate_to_target with the result of the
+   leg before it. A relocate list stands for the map that mudvizsor_map_new builds of its active pairs and `/` -> `/`.
+   With no legs the result is the path itself. The value is the length written. `out` needs 255 bytes. Refusals: 1 to 5;
+   6, 7 and 8, which are checked for each leg before the next one. */
 size_t mudvizsor_route_out(
     const char *store, size_t store_length, const size_t *places, size_t places_length, const size_t *legs,
     size_t legs_length, size_t count, const char *path, size_t path_length, char *out, size_t out_length);
 
-/* The same backwards, the last leg first. */
+/* Maps the path home over the legs, the last one first: each leg does mudvizsor_map_target_to_source with the result of the
+   leg after it. It maps the result of mudvizsor_route_out back to the path that was mapped out, if that has no selections.
+   Refusals: as in mudvizsor_route_out. */
 size_t mudvizsor_route_home(
     const char *store, size_t store_length, const size_t *places, size_t places_length, const size_t *legs,
     size_t legs_length, size_t count, const char *path, size_t path_length, char *out, size_t out_length);
 
-/* One of the two calls above on each of many paths, home where `home` is set, the legs being checked once. */
+/* Makes one of the two calls above for each of many paths, mudvizsor_route_home if `home` is true, but validates the legs
+   only once. Refusals of the whole call: 5. */
 size_t mudvizsor_route_all(
     const char *store, size_t store_length, const size_t *places, size_t places_length, const size_t *legs,
     size_t legs_length, size_t count, bool home, const char *texts, size_t texts_length, const size_t *spots,
     size_t spots_length, size_t n, char *out, size_t out_length, size_t *replies, size_t replies_length);
 
-/* ---- A line of the program `frames` ---- */
+/* ---- One line of the program `frames` ---- */
 
-/* Does what a line of hexadecimal digits says, given without its newline, and writes the answer line with its newline to
-   out; the value is its length. Bad frames are answered too, with FF09. Between two calls the caller keeps, unaltered, the
-   five numbers of `kept`, all 0 at first (pairs and bytes of the open list, legs and their bytes, 05 frames answered 00), the
-   open list in `bytes` and `places`, and the legs in `store`, `slots` and `table`, whose first contents do not matter. The
-   constants above have enough of each; a frame for which `bytes` or `store` is too short is answered with 05, one whose list
-   or leg would reach beyond `places`, `slots` or `table` with 04, and memory that was altered changes the answers and nothing
-   else. Kept: 5 numbers. Out: 515 bytes. Refusals: 5. */
+/* Processes one line of the protocol of the program `frames` (docs/REQUIREMENTS.md, Frames): executes the frame in `line`,
+   which is given without its newline, and writes the answer line with its newline to `out`. The value is the length
+   written. A bad frame is not refused; its answer line is FF09.
+
+   Between two calls the caller keeps the state of the protocol unaltered:
+       kept              five numbers, all 0 before the first call: pairs and bytes of the open list, legs and their
+                         bytes, number of 05 frames that were answered with 00
+       bytes, places     the open list
+       store, slots      the pairs of the closed legs
+       table             three numbers for each closed leg
+   The initial contents of the last five do not matter. If `bytes` or `store` is too short for a frame, the frame is
+   answered with 05; if its list or leg would exceed `places`, `slots` or `table`, it is answered with 04. Altering the
+   state between two calls changes the answers, but has no other effect.
+
+   `kept` needs 5 numbers, `out` 515 bytes; the constants MUDVIZSOR_FRAMES_.. are enough for the other buffers.
+   Refusals: 5 if `kept` or `out` is too short. */
 size_t mudvizsor_frames_line(
     const char *line, size_t line_length, size_t *kept, size_t kept_length, char *bytes, size_t bytes_length,
     size_t *places, size_t places_length, char *store, size_t store_length, size_t *slots, size_t slots_length,
@@ -348,40 +417,42 @@ size_t mudvizsor_frames_line(
 
 /* ---- Time offsets ----
 
-   A time offset passes as its two numbers. One that is made is written to out, offset and then scale. These calls take
-   every float, NaN and infinities too, and refuse nothing. */
+   A time offset maps the time t to offset + scale * t. It is passed as these two numbers, and a resulting one is written
+   to `out`, offset first. These calls accept every float, including NaN and infinities, and are never refused. */
 
-/* Writes the offset with these two numbers. */
+/* Writes (offset, scale). */
 void mudvizsor_layer_offset_new(double offset, double scale, double out[2]);
 
 /* Writes (0, scale). */
 void mudvizsor_layer_offset_scale_only(double scale, double out[2]);
 
-/* Are both numbers finite? */
+/* Returns whether both numbers are finite. */
 bool mudvizsor_layer_offset_is_valid(double offset, double scale);
 
-/* Is it (0, 1)? Minus zero counts as 0. */
+/* Returns whether it is (0, 1). Minus zero counts as 0. */
 bool mudvizsor_layer_offset_is_identity(double offset, double scale);
 
-/* Are both valid and within 1e-6 of each other, or both invalid with the same bits (all NaNs being the same)? */
+/* Returns whether both are valid and differ by less than 1e-6 in each number, or both are not valid and have the same bits
+   (where all NaNs count as the same). */
 bool mudvizsor_layer_offset_is_close(double offset, double scale, double other_offset, double other_scale);
 
-/* Writes the bits of both numbers; of any NaN 0x7ff8000000000000. */
+/* Writes the bit patterns of both numbers; that of every NaN is 0x7ff8000000000000. */
 void mudvizsor_layer_offset_to_bits(double offset, double scale, uint64_t out[2]);
 
-/* The time that `time` becomes: offset + scale * time, the product rounded before the sum. */
+/* Returns offset + scale * time, the product being rounded before the sum. */
 double mudvizsor_layer_offset_apply(double offset, double scale, double time);
 
-/* Writes the offset that undoes it: (-offset / scale, 1 / scale), or (0, 1) where the scale is 0 of either sign. */
+/* Writes the inverse: (-offset / scale, 1 / scale), or (0, 1) if the scale is 0 of either sign. */
 void mudvizsor_layer_offset_inverse(double offset, double scale, double out[2]);
 
-/* Can it be composed: are both numbers finite, and the scale above 0? */
+/* Returns whether it can be composed: both numbers are finite and the scale is greater than 0. */
 bool mudvizsor_layer_offset_is_valid_composition(double offset, double scale);
 
-/* Writes the offset itself, or (0, 1) where it cannot be composed. */
+/* Writes it unchanged, or (0, 1) if it cannot be composed. */
 void mudvizsor_layer_offset_sanitized(double offset, double scale, double out[2]);
 
-/* Writes the outer offset, given first, after the inner one: (offset + scale * inner_offset, scale * inner_scale). */
+/* Writes the inner time offset followed by the outer one, which is given first:
+   (offset + scale * inner_offset, scale * inner_scale), the product being rounded before the sum. */
 void mudvizsor_layer_offset_concatenate(
     double offset, double scale, double inner_offset, double inner_scale, double out[2]);
 

@@ -1,10 +1,10 @@
-/* Calls every entry of the library on random and damaged input: noise, near paths, places outside their store, counts beyond
-   their slices, overlapping places, short memory, the largest numbers, NaN and infinities. All lent memory is of the exact
-   length: it ends at a page that nobody may touch, or begins behind one, so that one byte too many is a fault; or it comes
-   from malloc, where valgrind watches. After each call the driver checks that the reply is well formed, that a refused call
-   has changed nothing, that an accepted one has changed its answer only, that what was lent to be read and the bytes around
-   what was lent are as before, that a written path is legal, and that the same call on other memory with other old bytes
-   gives the same.
+/* Calls every entry of the library with random and damaged input: random bytes, almost legal paths, places outside their store,
+   counts that exceed their slices, overlapping places, short buffers, the largest numbers, NaN and infinities. All lent slices
+   have exactly the stated length: they end just before an inaccessible page or start just after one, so that accessing one
+   byte too many is a fault; or they are allocated with malloc, so that valgrind checks them. After each call the program
+   checks that the reply is well formed, that a refused call has changed nothing, that an accepted one has changed only its
+   result, that its input and the bytes around the lent slices are unchanged, that a written path is legal, and that the same
+   call with other buffers and other old contents has the same result.
 
        robust [--calls N | --seconds N] [--seed N] [--table] */
 #define _GNU_SOURCE
@@ -19,18 +19,18 @@
 #include <time.h>
 #include <unistd.h>
 
-/* ---- Numbers by chance ---- */
+/* ---- Random numbers ---- */
 
-static uint64_t chance_state;
+static uint64_t random_state;
 
-static uint64_t chance(void) {
-    uint64_t z = chance_state += UINT64_C(0x9e3779b97f4a7c15);
+static uint64_t random_bits(void) {
+    uint64_t z = random_state += UINT64_C(0x9e3779b97f4a7c15);
     z = (z ^ (z >> 30)) * UINT64_C(0xbf58476d1ce4e5b9);
     z = (z ^ (z >> 27)) * UINT64_C(0x94d049bb133111eb);
     return z ^ (z >> 31);
 }
 
-static size_t below(size_t n) { return n == 0 ? 0 : chance() % n; }
+static size_t below(size_t n) { return n == 0 ? 0 : random_bits() % n; }
 static bool percent(size_t n) { return below(100) < n; }
 
 static size_t huge_number(void) {
@@ -42,22 +42,22 @@ static size_t huge_number(void) {
 static double some_float(void) {
     const double floats[] = {0, -0.0, 1, -1, 2, 0.5, 1e-6, 1e300, -1e300, 5e-324, INFINITY, -INFINITY, NAN, 24, -10};
     if (percent(70)) return floats[below(sizeof floats / sizeof *floats)];
-    uint64_t bits = chance();
+    uint64_t bits = random_bits();
     double made;
     memcpy(&made, &bits, sizeof made);
     return made;
 }
 
-/* ---- What is lent: its contents, and where they lie ---- */
+/* ---- The lent slices: their contents and their location ---- */
 
 enum {
     STORE, PLACES, ISTORE, IPLACES, LEGS, PATH, SECOND, THIRD, TEXTS, SPOTS, OUT, SLOTS, TIME,
     KEPT, OPEN_BYTES, OPEN_PLACES, LEG_STORE, LEG_SLOTS, LEG_TABLE, LENT
 };
 enum { CAPACITY = 1 << 18, ZONE = 64 };
-enum where { BEFORE_GUARD, BEHIND_GUARD, HEAP };
+enum where { BEFORE_GUARD, AFTER_GUARD, HEAP };
 
-/* The contents are kept apart, so that what lies in lent memory can be held against them. */
+/* A copy of the contents, with which the lent slice is compared after the call. */
 static struct contents {
     unsigned char bytes[CAPACITY];
     size_t length;
@@ -82,7 +82,7 @@ static void make_arenas(void) {
     }
 }
 
-/* The bytes on the open side of what is lent. */
+/* The bytes on the side of the slice that is not next to a guard page. */
 static unsigned char *zone_of(size_t i) {
     if (lent[i].where == BEFORE_GUARD) return lent[i].at - ZONE;
     return lent[i].at + contents[i].length;
@@ -97,23 +97,23 @@ static void lend(size_t i) {
     else lent[i].at = lent[i].where == BEFORE_GUARD ? lent[i].arena + CAPACITY - length : lent[i].arena;
     if (length > 0) memcpy(lent[i].at, contents[i].bytes, length);
     if (!has_zone(i)) return;
-    for (size_t k = 0; k < ZONE; k += 8) memcpy(lent[i].zone + k, &(uint64_t){chance()}, 8);
+    for (size_t k = 0; k < ZONE; k += 8) memcpy(lent[i].zone + k, &(uint64_t){random_bits()}, 8);
     memcpy(zone_of(i), lent[i].zone, ZONE);
 }
 
-static void give_back(size_t i) {
+static void release(size_t i) {
     if (lent[i].where == HEAP) free(lent[i].at);
 }
 
-/* Does lent memory hold its old contents from byte `from` to byte `to`? */
-static bool kept(size_t i, size_t from, size_t to) {
+/* Returns whether the slice has its old contents from byte `from` to byte `to`. */
+static bool unchanged(size_t i, size_t from, size_t to) {
     return from >= to || memcmp(lent[i].at + from, contents[i].bytes + from, to - from) == 0;
 }
 
-static bool all_kept(size_t i) { return kept(i, 0, contents[i].length); }
+static bool all_unchanged(size_t i) { return unchanged(i, 0, contents[i].length); }
 static size_t numbers_in(size_t i) { return contents[i].length / sizeof(size_t); }
 
-static void put_number(size_t i, size_t k, size_t number) {
+static void set_number(size_t i, size_t k, size_t number) {
     memcpy(contents[i].bytes + k * sizeof number, &number, sizeof number);
 }
 
@@ -123,39 +123,39 @@ static size_t number_at(size_t i, size_t k) {
     return number;
 }
 
-/* Memory to be written: its length, and old bytes by chance. */
-static void make_room(size_t i, size_t length) {
+/* Makes a buffer of this length with random old contents. */
+static void make_buffer(size_t i, size_t length) {
     contents[i].length = length > CAPACITY ? CAPACITY : length;
-    for (size_t k = 0; k < contents[i].length; k += 8) memcpy(contents[i].bytes + k, &(uint64_t){chance()}, 8);
+    for (size_t k = 0; k < contents[i].length; k += 8) memcpy(contents[i].bytes + k, &(uint64_t){random_bits()}, 8);
 }
 
-/* ---- Texts by chance ---- */
+/* ---- Random texts ---- */
 
-enum { TEXT_MOST = 1200 };
+enum { MAX_TEXT = 1200 };
 
-static size_t put(char *text, size_t at, const char *more) {
+static size_t append(char *text, size_t at, const char *more) {
     size_t length = strlen(more);
     memcpy(text + at, more, length);
     return at + length;
 }
 
-static size_t put_name(char *text, size_t at) {
+static size_t append_name(char *text, size_t at) {
     const char *const names[] = {"A", "B", "C", "Ab", "_1", "Stop"};
-    return put(text, at, names[below(percent(80) ? 3 : 6)]);
+    return append(text, at, names[below(percent(80) ? 3 : 6)]);
 }
 
-/* A path of that many names, with selections and a property if wanted. */
+/* A path of this many names, with selections and a property if `rich` is true. */
 static size_t legal_text(char *text, size_t names, bool rich) {
     size_t at = 0;
     bool slash = true;
     for (size_t i = 0; i < names; i++) {
         if (slash) text[at++] = '/';
-        at = put_name(text, at);
+        at = append_name(text, at);
         slash = !(rich && percent(15));
-        if (!slash) at = put(text, at, percent(50) ? "{v=p}" : "{w=q}{v=1}");
+        if (!slash) at = append(text, at, percent(50) ? "{v=p}" : "{w=q}{v=1}");
     }
     if (names == 0 && percent(50)) text[at++] = '/';
-    if (names > 0 && rich && percent(20)) at = put(text, at, percent(70) ? ".b" : ".c:d");
+    if (names > 0 && rich && percent(20)) at = append(text, at, percent(70) ? ".b" : ".c:d");
     return at;
 }
 
@@ -164,14 +164,14 @@ static size_t long_text(char *text) {
     size_t length = 245 + below(15);
     memset(text, 'A', length);
     text[0] = '/';
-    return percent(50) ? length : put(text, length, percent(50) ? ".b" : "/B");
+    return percent(50) ? length : append(text, length, percent(50) ? ".b" : "/B");
 }
 
 static size_t noise(char *text) {
     const char letters[] = "/A/B{v=p}.:_1";
-    size_t length = percent(90) ? below(12) : below(TEXT_MOST);
+    size_t length = percent(90) ? below(12) : below(MAX_TEXT);
     bool any = percent(30);
-    for (size_t i = 0; i < length; i++) text[i] = any ? (char)chance() : letters[below(sizeof letters - 1)];
+    for (size_t i = 0; i < length; i++) text[i] = any ? (char)random_bits() : letters[below(sizeof letters - 1)];
     return length;
 }
 
@@ -180,44 +180,45 @@ static size_t some_text(char *text) {
     if (kind < 6) return noise(text);
     if (kind < 10) return long_text(text);
     size_t length = legal_text(text, below(5), true);
-    if (kind < 16 && length > 0) text[below(length)] = (char)chance();
+    if (kind < 16 && length > 0) text[below(length)] = (char)random_bits();
     return length;
 }
 
-/* An end of a pair; one that is no end now and then where `dirty` is set. */
-static size_t some_end(char *text, bool dirty) {
-    if (dirty && percent(10)) return some_text(text);
+/* An end of a pair; if `flawed` is true, sometimes a text that is not an end. */
+static size_t some_end(char *text, bool flawed) {
+    if (flawed && percent(10)) return some_text(text);
     if (percent(2)) return long_text(text) % 256;
     return legal_text(text, percent(8) ? 0 : 1 + below(3), false);
 }
 
 static void make_text(size_t i) {
-    char text[TEXT_MOST + 16];
+    char text[MAX_TEXT + 16];
     contents[i].length = percent(40) ? some_end(text, false) : some_text(text);
     memcpy(contents[i].bytes, text, contents[i].length);
 }
 
-/* ---- Lists, routes and many paths by chance ---- */
+/* ---- Random lists, routes and many paths ---- */
 
-/* Puts a text behind those in i and its place in number k of j; now and then the place of an earlier one, or a part of it. */
-static void put_text(size_t i, size_t j, size_t k, const char *text, size_t length) {
+/* Appends a text to slice i and stores its place at number k of slice j; sometimes uses the place of an earlier text, or a part
+   of it, instead. */
+static void append_text(size_t i, size_t j, size_t k, const char *text, size_t length) {
     if (k >= 2 && percent(15)) {
         size_t other = 2 * below(k / 2), whole = number_at(j, other + 1);
-        put_number(j, k, number_at(j, other));
-        put_number(j, k + 1, percent(80) ? whole : below(whole + 1));
+        set_number(j, k, number_at(j, other));
+        set_number(j, k + 1, percent(80) ? whole : below(whole + 1));
         return;
     }
     memcpy(contents[i].bytes + contents[i].length, text, length);
-    put_number(j, k, contents[i].length);
-    put_number(j, k + 1, length);
+    set_number(j, k, contents[i].length);
+    set_number(j, k + 1, length);
     contents[i].length += length;
 }
 
-/* Damages places: one out of its store, one huge, the slice or the store a little short. */
+/* Damages places: one outside its store, one huge, or the places or the store a little too short. */
 static void damage(size_t store, size_t places) {
     size_t numbers = numbers_in(places), length = contents[store].length;
     const size_t values[] = {length, length + 1, SIZE_MAX - length, SIZE_MAX - length + 1, huge_number(), 256};
-    if (numbers > 0 && percent(70)) put_number(places, below(numbers), values[below(6)]);
+    if (numbers > 0 && percent(70)) set_number(places, below(numbers), values[below(6)]);
     if (numbers > 0 && percent(15)) contents[places].length -= sizeof(size_t) * (1 + below(numbers < 4 ? numbers : 4));
     if (length > 0 && percent(15)) contents[store].length -= 1 + below(length < 4 ? length : 4);
 }
@@ -227,39 +228,39 @@ static size_t some_count(void) {
     return percent(70) ? below(20) : 60 + below(8);
 }
 
-/* A list of pairs, and how many it says it has. */
+/* Makes a list of pairs and returns its stated count. */
 static size_t make_list(size_t store, size_t places) {
-    char text[TEXT_MOST + 16];
-    size_t pairs = some_count(), said = pairs;
-    bool dirty = percent(10);
+    char text[MAX_TEXT + 16];
+    size_t pairs = some_count(), stated = pairs;
+    bool flawed = percent(10);
     contents[store].length = 0;
-    for (size_t k = 0; k < 4 * pairs; k += 2) put_text(store, places, k, text, some_end(text, dirty));
+    for (size_t k = 0; k < 4 * pairs; k += 2) append_text(store, places, k, text, some_end(text, flawed));
     contents[places].length = 4 * pairs * sizeof(size_t);
     if (percent(8)) damage(store, places);
-    if (percent(3)) said = percent(50) ? huge_number() : pairs + 1;
-    return said;
+    if (percent(3)) stated = percent(50) ? huge_number() : pairs + 1;
+    return stated;
 }
 
-/* The legs of a route over the pairs that are there. */
+/* Makes the legs of a route from the existing pairs. */
 static void make_legs(void) {
     size_t pairs = count > 70 ? 70 : count, legs = percent(85) ? below(4) : below(19);
     for (size_t k = 0; k < legs; k++) {
         size_t first = below(pairs + 1), left = pairs - first;
-        put_number(LEGS, 3 * k, percent(95) ? below(3) : huge_number());
-        put_number(LEGS, 3 * k + 1, first);
-        put_number(LEGS, 3 * k + 2, percent(50) ? left : below(left + 1));
+        set_number(LEGS, 3 * k, percent(95) ? below(3) : huge_number());
+        set_number(LEGS, 3 * k + 1, first);
+        set_number(LEGS, 3 * k + 2, percent(50) ? left : below(left + 1));
     }
     contents[LEGS].length = 3 * legs * sizeof(size_t);
-    if (legs > 0 && percent(5)) put_number(LEGS, below(3 * legs), huge_number());
+    if (legs > 0 && percent(5)) set_number(LEGS, below(3 * legs), huge_number());
     if (legs > 0 && percent(3)) contents[LEGS].length -= sizeof(size_t);
     count = percent(97) ? legs : percent(50) ? huge_number() : legs + 1;
 }
 
 static void make_many(void) {
-    char text[TEXT_MOST + 16];
+    char text[MAX_TEXT + 16];
     paths = below(5);
     contents[TEXTS].length = 0;
-    for (size_t k = 0; k < 2 * paths; k += 2) put_text(TEXTS, SPOTS, k, text, some_text(text));
+    for (size_t k = 0; k < 2 * paths; k += 2) append_text(TEXTS, SPOTS, k, text, some_text(text));
     contents[SPOTS].length = 2 * paths * sizeof(size_t);
     if (percent(10)) damage(TEXTS, SPOTS);
 }
@@ -268,61 +269,61 @@ static void make_many(void) {
 
 #define BYTES(i) (const char *)lent[i].at, contents[i].length
 #define NUMBERS(i) (const size_t *)lent[i].at, numbers_in(i)
-#define ROOM (char *)lent[OUT].at, contents[OUT].length
-#define SLOTS_ROOM (size_t *)lent[SLOTS].at, numbers_in(SLOTS)
-#define MAP_ROOM ROOM, SLOTS_ROOM, (double *)lent[TIME].at
+#define OUT_BUFFER (char *)lent[OUT].at, contents[OUT].length
+#define SLOTS_BUFFER (size_t *)lent[SLOTS].at, numbers_in(SLOTS)
+#define MAP_BUFFERS OUT_BUFFER, SLOTS_BUFFER, (double *)lent[TIME].at
 #define PAIRS BYTES(STORE), NUMBERS(PLACES), count
 #define MAP PAIRS, mark, floats[0], floats[1]
 #define IMAP BYTES(ISTORE), NUMBERS(IPLACES), icount, imark, floats[2], floats[3]
 #define ROUTE BYTES(STORE), NUMBERS(PLACES), NUMBERS(LEGS), count
-#define MANY BYTES(TEXTS), NUMBERS(SPOTS), paths, ROOM, SLOTS_ROOM
+#define MANY BYTES(TEXTS), NUMBERS(SPOTS), paths, OUT_BUFFER, SLOTS_BUFFER
 
 #define BIT(i) (1u << (i))
 #define A_LIST (BIT(STORE) | BIT(PLACES))
 #define A_SECOND_LIST (BIT(ISTORE) | BIT(IPLACES))
 #define MANY_PATHS (BIT(TEXTS) | BIT(SPOTS) | BIT(OUT) | BIT(SLOTS))
-#define A_MAP_ROOM (BIT(OUT) | BIT(SLOTS) | BIT(TIME))
+#define A_MAP_BUFFERS (BIT(OUT) | BIT(SLOTS) | BIT(TIME))
 
-/* What an entry answers. */
+/* The kind of result of an entry. */
 enum kind { A_TEST, A_COUNT, A_PATH, LENGTHS, STATUSES, A_MAP, A_CHAIN, MANY_REPLIES };
 
-/* Each entry: its name, what it answers, what is lent to it, and how it is called. */
-#define ENTRIES(E)                                                                                                     \
-    E(path_new, A_TEST, BIT(PATH), BYTES(PATH))                                                                        \
-    E(path_is_end, A_TEST, BIT(PATH), BYTES(PATH))                                                                     \
-    E(path_has_variant_selection, A_TEST, BIT(PATH), BYTES(PATH))                                                      \
-    E(path_element_count, A_COUNT, BIT(PATH), BYTES(PATH))                                                             \
-    E(path_prim_element_count, A_COUNT, BIT(PATH), BYTES(PATH))                                                        \
-    E(path_has_prefix, A_TEST, BIT(PATH) | BIT(SECOND), BYTES(PATH), BYTES(SECOND))                                    \
-    E(path_replace_prefix, A_PATH, BIT(PATH) | BIT(SECOND) | BIT(THIRD) | BIT(OUT), BYTES(PATH), BYTES(SECOND),        \
-      BYTES(THIRD), ROOM)                                                                                              \
-    E(path_parent, A_PATH, BIT(PATH) | BIT(OUT), BYTES(PATH), ROOM)                                                    \
-    E(path_prim_path, A_PATH, BIT(PATH) | BIT(OUT), BYTES(PATH), ROOM)                                                 \
-    E(path_split_property, A_PATH, BIT(PATH) | BIT(OUT), BYTES(PATH), ROOM)                                            \
-    E(path_strip_variant_selections, A_PATH, BIT(PATH) | BIT(OUT), BYTES(PATH), ROOM)                                  \
-    E(path_ancestors, LENGTHS, BIT(PATH) | BIT(SLOTS), BYTES(PATH), SLOTS_ROOM)                                        \
-    E(map_source_to_target, A_PATH, A_LIST | BIT(PATH) | BIT(OUT), PAIRS, mark, BYTES(PATH), ROOM)                     \
-    E(map_target_to_source, A_PATH, A_LIST | BIT(PATH) | BIT(OUT), PAIRS, mark, BYTES(PATH), ROOM)                     \
-    E(translate_to_target, A_PATH, A_LIST | BIT(PATH) | BIT(OUT), PAIRS, mark, BYTES(PATH), ROOM)                      \
-    E(map_all, MANY_REPLIES, A_LIST | MANY_PATHS, PAIRS, mark, way, MANY)                                              \
-    E(map_new, A_MAP, A_LIST | A_MAP_ROOM, PAIRS, MAP_ROOM)                                                            \
-    E(map_with_root_identity, A_MAP, A_LIST | A_MAP_ROOM, MAP, MAP_ROOM)                                               \
-    E(map_compose, A_MAP, A_LIST | A_SECOND_LIST | A_MAP_ROOM, MAP, IMAP, MAP_ROOM)                                    \
-    E(map_from_pair, A_MAP, BIT(PATH) | BIT(SECOND) | A_MAP_ROOM, BYTES(PATH), BYTES(SECOND), MAP_ROOM)                \
-    E(map_from_pair_identity, A_MAP, BIT(PATH) | BIT(SECOND) | A_MAP_ROOM, BYTES(PATH), BYTES(SECOND), MAP_ROOM)       \
-    E(map_inverse, A_MAP, A_LIST | A_MAP_ROOM, MAP, MAP_ROOM)                                                          \
-    E(map_dropping_source, A_MAP, A_LIST | BIT(PATH) | A_MAP_ROOM, MAP, BYTES(PATH), MAP_ROOM)                         \
-    E(map_rebase_target, A_MAP, A_LIST | BIT(PATH) | BIT(SECOND) | A_MAP_ROOM, MAP, BYTES(PATH), BYTES(SECOND),        \
-      MAP_ROOM)                                                                                                        \
-    E(map_deepen_to, A_MAP, A_LIST | BIT(PATH) | A_MAP_ROOM, MAP, BYTES(PATH), MAP_ROOM)                               \
-    E(map_implied_class, A_MAP, A_LIST | A_SECOND_LIST | A_MAP_ROOM, MAP, IMAP, MAP_ROOM)                              \
-    E(map_is_noop, A_TEST, A_LIST, MAP)                                                                                \
-    E(analyze_relocate_occurrences, STATUSES, A_LIST | BIT(OUT), PAIRS, ROOM)                                          \
-    E(chain_through_relocates, A_CHAIN, A_LIST | BIT(PATH) | BIT(SECOND) | BIT(OUT), PAIRS, flag, BYTES(SECOND),       \
-      BYTES(PATH), ROOM)                                                                                               \
-    E(shift_through_nearest_ancestor, A_PATH, A_LIST | BIT(PATH) | BIT(OUT), PAIRS, BYTES(PATH), ROOM)                 \
-    E(route_out, A_PATH, A_LIST | BIT(LEGS) | BIT(PATH) | BIT(OUT), ROUTE, BYTES(PATH), ROOM)                          \
-    E(route_home, A_PATH, A_LIST | BIT(LEGS) | BIT(PATH) | BIT(OUT), ROUTE, BYTES(PATH), ROOM)                         \
+/* Each entry: its name, its kind of result, the slices that it is lent, and its arguments. */
+#define ENTRIES(E)                                                                                                            \
+    E(path_new, A_TEST, BIT(PATH), BYTES(PATH))                                                                               \
+    E(path_is_end, A_TEST, BIT(PATH), BYTES(PATH))                                                                            \
+    E(path_has_variant_selection, A_TEST, BIT(PATH), BYTES(PATH))                                                             \
+    E(path_element_count, A_COUNT, BIT(PATH), BYTES(PATH))                                                                    \
+    E(path_prim_element_count, A_COUNT, BIT(PATH), BYTES(PATH))                                                               \
+    E(path_has_prefix, A_TEST, BIT(PATH) | BIT(SECOND), BYTES(PATH), BYTES(SECOND))                                           \
+    E(path_replace_prefix, A_PATH, BIT(PATH) | BIT(SECOND) | BIT(THIRD) | BIT(OUT), BYTES(PATH), BYTES(SECOND),               \
+      BYTES(THIRD), OUT_BUFFER)                                                                                               \
+    E(path_parent, A_PATH, BIT(PATH) | BIT(OUT), BYTES(PATH), OUT_BUFFER)                                                     \
+    E(path_prim_path, A_PATH, BIT(PATH) | BIT(OUT), BYTES(PATH), OUT_BUFFER)                                                  \
+    E(path_split_property, A_PATH, BIT(PATH) | BIT(OUT), BYTES(PATH), OUT_BUFFER)                                             \
+    E(path_strip_variant_selections, A_PATH, BIT(PATH) | BIT(OUT), BYTES(PATH), OUT_BUFFER)                                   \
+    E(path_ancestors, LENGTHS, BIT(PATH) | BIT(SLOTS), BYTES(PATH), SLOTS_BUFFER)                                             \
+    E(map_source_to_target, A_PATH, A_LIST | BIT(PATH) | BIT(OUT), PAIRS, mark, BYTES(PATH), OUT_BUFFER)                      \
+    E(map_target_to_source, A_PATH, A_LIST | BIT(PATH) | BIT(OUT), PAIRS, mark, BYTES(PATH), OUT_BUFFER)                      \
+    E(translate_to_target, A_PATH, A_LIST | BIT(PATH) | BIT(OUT), PAIRS, mark, BYTES(PATH), OUT_BUFFER)                       \
+    E(map_all, MANY_REPLIES, A_LIST | MANY_PATHS, PAIRS, mark, way, MANY)                                                     \
+    E(map_new, A_MAP, A_LIST | A_MAP_BUFFERS, PAIRS, MAP_BUFFERS)                                                             \
+    E(map_with_root_identity, A_MAP, A_LIST | A_MAP_BUFFERS, MAP, MAP_BUFFERS)                                                \
+    E(map_compose, A_MAP, A_LIST | A_SECOND_LIST | A_MAP_BUFFERS, MAP, IMAP, MAP_BUFFERS)                                     \
+    E(map_from_pair, A_MAP, BIT(PATH) | BIT(SECOND) | A_MAP_BUFFERS, BYTES(PATH), BYTES(SECOND), MAP_BUFFERS)                 \
+    E(map_from_pair_identity, A_MAP, BIT(PATH) | BIT(SECOND) | A_MAP_BUFFERS, BYTES(PATH), BYTES(SECOND), MAP_BUFFERS)        \
+    E(map_inverse, A_MAP, A_LIST | A_MAP_BUFFERS, MAP, MAP_BUFFERS)                                                           \
+    E(map_dropping_source, A_MAP, A_LIST | BIT(PATH) | A_MAP_BUFFERS, MAP, BYTES(PATH), MAP_BUFFERS)                          \
+    E(map_rebase_target, A_MAP, A_LIST | BIT(PATH) | BIT(SECOND) | A_MAP_BUFFERS, MAP, BYTES(PATH), BYTES(SECOND),            \
+      MAP_BUFFERS)                                                                                                            \
+    E(map_deepen_to, A_MAP, A_LIST | BIT(PATH) | A_MAP_BUFFERS, MAP, BYTES(PATH), MAP_BUFFERS)                                \
+    E(map_implied_class, A_MAP, A_LIST | A_SECOND_LIST | A_MAP_BUFFERS, MAP, IMAP, MAP_BUFFERS)                               \
+    E(map_is_noop, A_TEST, A_LIST, MAP)                                                                                       \
+    E(analyze_relocate_occurrences, STATUSES, A_LIST | BIT(OUT), PAIRS, OUT_BUFFER)                                           \
+    E(chain_through_relocates, A_CHAIN, A_LIST | BIT(PATH) | BIT(SECOND) | BIT(OUT), PAIRS, flag, BYTES(SECOND),              \
+      BYTES(PATH), OUT_BUFFER)                                                                                                \
+    E(shift_through_nearest_ancestor, A_PATH, A_LIST | BIT(PATH) | BIT(OUT), PAIRS, BYTES(PATH), OUT_BUFFER)                  \
+    E(route_out, A_PATH, A_LIST | BIT(LEGS) | BIT(PATH) | BIT(OUT), ROUTE, BYTES(PATH), OUT_BUFFER)                           \
+    E(route_home, A_PATH, A_LIST | BIT(LEGS) | BIT(PATH) | BIT(OUT), ROUTE, BYTES(PATH), OUT_BUFFER)                          \
     E(route_all, MANY_REPLIES, A_LIST | BIT(LEGS) | MANY_PATHS, ROUTE, flag, MANY)
 
 #define CALL(name, kind, uses, ...) \
@@ -352,7 +353,7 @@ static void check(bool good, const char *what) {
     if (++wrong_count == 20) exit(1);
 }
 
-/* A fault at a guard page. */
+/* Handles the signal of an access to a guard page. */
 static void fault(int signal) {
     char text[200];
     int length = snprintf(text, sizeof text, "signal %d: %s, call %zu\n", signal, entry_name, call_count);
@@ -366,55 +367,55 @@ static bool legal_at(size_t from, size_t length) {
     return mudvizsor_path_new((const char *)lent[OUT].at + from, length) == 0;
 }
 
-/* Only the first `bytes` of OUT and `numbers` of SLOTS may have changed. */
+/* Checks that only the first `bytes` bytes of OUT and `numbers` numbers of SLOTS have changed. */
 static void check_rest(unsigned uses, size_t bytes, size_t numbers) {
-    if (uses & BIT(OUT)) check(kept(OUT, bytes, contents[OUT].length), "a byte behind the answer changed");
-    if (uses & BIT(SLOTS)) check(kept(SLOTS, numbers * sizeof(size_t), contents[SLOTS].length), "a number changed");
+    if (uses & BIT(OUT)) check(unchanged(OUT, bytes, contents[OUT].length), "a byte after the result changed");
+    if (uses & BIT(SLOTS)) check(unchanged(SLOTS, numbers * sizeof(size_t), contents[SLOTS].length), "a number changed");
 }
 
 static void check_path(unsigned uses, size_t length) {
-    check(length <= 255 && contents[OUT].length >= 255, "a path in too little memory");
+    check(length <= 255 && contents[OUT].length >= 255, "a path in a buffer that is too small");
     check(legal_at(0, length), "an illegal path");
     check_rest(uses, length, 0);
 }
 
 static void check_lengths(unsigned uses, size_t value) {
-    check(value >= 1 && value <= 128 && value <= numbers_in(SLOTS), "how many ancestors");
+    check(value >= 1 && value <= 128 && value <= numbers_in(SLOTS), "the number of ancestors");
     check(slot_at(0) == contents[PATH].length, "the first ancestor");
     for (size_t k = 1; k < value; k++) check(slot_at(k) < slot_at(k - 1), "an ancestor that is not shorter");
     check_rest(uses, 0, value);
 }
 
 static void check_statuses(unsigned uses, size_t value) {
-    check(value == count && value <= contents[OUT].length, "how many statuses");
+    check(value == count && value <= contents[OUT].length, "the number of statuses");
     for (size_t k = 0; k < value; k++) check(lent[OUT].at[k] <= 3, "a status above 3");
     check_rest(uses, value, 0);
 }
 
-/* A map that was made is packed, and its ends are ends. */
+/* Checks that a map that was built is stored consecutively, and that its ends are ends. */
 static void check_map(unsigned uses, size_t reply) {
     size_t pairs = mudvizsor_pairs(reply), at = 0;
-    check(pairs <= 64 && 4 * pairs <= numbers_in(SLOTS), "how many pairs");
+    check(pairs <= 64 && 4 * pairs <= numbers_in(SLOTS), "the number of pairs");
     for (size_t k = 0; k < 2 * pairs; k++) {
         size_t length = slot_at(2 * k + 1);
-        check(slot_at(2 * k) == at, "a list that is not packed");
-        check(length <= 255 && at + length <= contents[OUT].length, "an end outside its memory");
-        check(mudvizsor_path_is_end((const char *)lent[OUT].at + at, length) == 256, "no end");
+        check(slot_at(2 * k) == at, "a list that is not stored consecutively");
+        check(length <= 255 && at + length <= contents[OUT].length, "an end outside its buffer");
+        check(mudvizsor_path_is_end((const char *)lent[OUT].at + at, length) == 256, "not an end");
         at += length;
     }
     check_rest(uses, at, 4 * pairs);
 }
 
-/* Each path's own bytes and reply. */
+/* Checks the bytes and the reply of each path. */
 static void check_many(unsigned uses) {
-    check(paths <= numbers_in(SLOTS) && 255 * paths <= contents[OUT].length, "many paths in too little memory");
+    check(paths <= numbers_in(SLOTS) && 255 * paths <= contents[OUT].length, "many paths in a buffer that is too small");
     check(paths <= numbers_in(SPOTS) / 2, "more paths than spots");
     for (size_t k = 0; k < paths; k++) {
         size_t reply = slot_at(k), length = mudvizsor_number(reply) == 0 ? mudvizsor_value(reply) : 0;
         check(mudvizsor_number(reply) <= 8 && mudvizsor_value(reply) <= 255, "a reply");
         check(mudvizsor_number(reply) == 0 || mudvizsor_value(reply) == 0, "a refusal with a value");
-        check(legal_at(255 * k, length), "an illegal path among many");
-        check(kept(OUT, 255 * k + length, 255 * k + 255), "a byte behind a path among many changed");
+        check(legal_at(255 * k, length), "an illegal path of many");
+        check(unchanged(OUT, 255 * k + length, 255 * k + 255), "a byte after a path of many changed");
     }
     check_rest(uses, 255 * paths, paths);
 }
@@ -422,14 +423,14 @@ static void check_many(unsigned uses) {
 static void check_answer(const struct entry *entry, size_t reply) {
     size_t value = mudvizsor_value(reply);
     switch (entry->kind) {
-    case A_TEST: check(value <= 1, "neither yes nor no"); break;
+    case A_TEST: check(value <= 1, "neither 0 nor 1"); break;
     case A_COUNT: check(value <= 255, "a count"); break;
     case A_PATH: check_path(entry->uses, value); break;
     case LENGTHS: check_lengths(entry->uses, value); break;
     case STATUSES: check_statuses(entry->uses, value); break;
     case A_MAP: check_map(entry->uses, reply); break;
     case A_CHAIN:
-        check(mudvizsor_chain_steps(reply) <= count && count <= 64, "how many steps");
+        check(mudvizsor_chain_steps(reply) <= count && count <= 64, "the number of steps");
         check_path(entry->uses, mudvizsor_chain_length(reply));
         break;
     case MANY_REPLIES: check(value == 0, "a value"), check_many(entry->uses); break;
@@ -439,22 +440,22 @@ static void check_answer(const struct entry *entry, size_t reply) {
 static void check_refusal(const struct entry *entry, size_t reply) {
     check(reply <= 8, "an unknown refusal");
     check_rest(entry->uses, 0, 0);
-    if (entry->uses & BIT(TIME)) check(all_kept(TIME), "a refused call wrote a time");
+    if (entry->uses & BIT(TIME)) check(all_unchanged(TIME), "a refused call wrote a time");
 }
 
-/* What was lent to be read, and the bytes around. */
+/* Checks that the input and the bytes around the slices are unchanged. */
 static void check_around(const struct entry *entry) {
     for (size_t i = 0; i < LENT; i++) {
         if (!(entry->uses & BIT(i))) continue;
-        if (i < OUT) check(all_kept(i), "memory that was lent to be read changed");
-        if (has_zone(i)) check(memcmp(zone_of(i), lent[i].zone, ZONE) == 0, "memory beside what was lent changed");
+        if (i < OUT) check(all_unchanged(i), "the input changed");
+        if (has_zone(i)) check(memcmp(zone_of(i), lent[i].zone, ZONE) == 0, "memory next to a lent slice changed");
     }
 }
 
 /* ---- Calls ---- */
 
-/* Memory to be written: enough, just enough, one too few, or any. */
-static size_t some_room(size_t needed) {
+/* A capacity of a buffer: just enough, more, one too few, or any. */
+static size_t some_capacity(size_t needed) {
     size_t kind = below(100);
     if (kind < 55) return needed;
     if (kind < 80) return 3 * needed + 16;
@@ -462,30 +463,30 @@ static size_t some_room(size_t needed) {
     return below(2 * needed + 8);
 }
 
-static size_t some_path_room(void) {
+static size_t some_path_capacity(void) {
     size_t kind = below(100);
     if (kind < 85) return 255;
     return kind < 90 ? 254 : below(400);
 }
 
-static void make_rooms(const struct entry *entry) {
+static void make_buffers(const struct entry *entry) {
     size_t bytes = contents[STORE].length, slots = numbers_in(PLACES);
     if (entry->uses & BIT(ISTORE)) bytes += contents[ISTORE].length, slots += numbers_in(IPLACES);
     if (!(entry->uses & BIT(STORE))) bytes = contents[PATH].length + contents[SECOND].length, slots = 4;
     switch (entry->kind) {
-    case LENGTHS: slots = some_room(1 + below(8)); break;
-    case STATUSES: bytes = some_room(count > 70 ? 70 : count); break;
-    case A_MAP: bytes = some_room(bytes), slots = some_room(slots); break;
+    case LENGTHS: slots = some_capacity(1 + below(8)); break;
+    case STATUSES: bytes = some_capacity(count > 70 ? 70 : count); break;
+    case A_MAP: bytes = some_capacity(bytes), slots = some_capacity(slots); break;
     case MANY_REPLIES:
         bytes = percent(90) ? 255 * paths : below(256 * paths + 1);
         slots = percent(90) ? paths : below(paths + 2);
         if (percent(3)) paths = huge_number();
         break;
-    default: bytes = some_path_room(); break;
+    default: bytes = some_path_capacity(); break;
     }
-    make_room(OUT, bytes);
-    make_room(SLOTS, slots * sizeof(size_t));
-    make_room(TIME, 2 * sizeof(double));
+    make_buffer(OUT, bytes);
+    make_buffer(SLOTS, slots * sizeof(size_t));
+    make_buffer(TIME, 2 * sizeof(double));
 }
 
 static void make_input(const struct entry *entry) {
@@ -512,12 +513,12 @@ static size_t call_once(struct entry *entry) {
     return reply;
 }
 
-static void give_all_back(const struct entry *entry) {
+static void release_all(const struct entry *entry) {
     for (size_t i = 0; i < LENT; i++)
-        if (entry->uses & BIT(i)) give_back(i);
+        if (entry->uses & BIT(i)) release(i);
 }
 
-/* How many bytes from the beginning of lent memory the answer fills. */
+/* The number of bytes at the start of the buffer that the result fills. */
 static size_t filled(const struct entry *entry, size_t i, size_t reply) {
     size_t value = mudvizsor_value(reply), bytes = 0;
     if (mudvizsor_number(reply) != 0) return 0;
@@ -531,28 +532,28 @@ static size_t filled(const struct entry *entry, size_t i, size_t reply) {
     return bytes;
 }
 
-/* The same call again on other memory with other old bytes: the same reply and the same answer. */
+/* Makes the same call twice, with other buffers and other old contents: the reply and the result must be the same. */
 static void call_twice(struct entry *entry) {
     static unsigned char answers[LENT][CAPACITY];
     entry_name = entry->name;
     make_input(entry);
-    make_rooms(entry);
+    make_buffers(entry);
     size_t lengths[LENT] = {0}, first = call_once(entry);
     for (size_t i = OUT; i <= TIME; i++) {
         if (!(entry->uses & BIT(i))) continue;
         lengths[i] = filled(entry, i, first);
         if (lengths[i] > 0) memcpy(answers[i], lent[i].at, lengths[i]);
     }
-    give_all_back(entry);
-    for (size_t i = OUT; i <= TIME; i++) make_room(i, contents[i].length);
+    release_all(entry);
+    for (size_t i = OUT; i <= TIME; i++) make_buffer(i, contents[i].length);
     size_t second = call_once(entry);
     check(first == second, "another reply to the same call");
     for (size_t i = OUT; i <= TIME; i++)
-        if (lengths[i] > 0) check(memcmp(answers[i], lent[i].at, lengths[i]) == 0, "another answer to the same call");
-    give_all_back(entry);
+        if (lengths[i] > 0) check(memcmp(answers[i], lent[i].at, lengths[i]) == 0, "another result of the same call");
+    release_all(entry);
 }
 
-/* ---- Time offsets, and a map's own numbers ---- */
+/* ---- Time offsets, and maps without their pairs ---- */
 
 static bool same_float(double a, double b) { return (isnan(a) && isnan(b)) || memcmp(&a, &b, sizeof a) == 0; }
 
@@ -561,7 +562,7 @@ static void check_time(const char *name, double offset, double scale) {
     memcpy(made, lent[TIME].at, sizeof made);
     entry_name = name;
     check(same_float(made[0], offset) && same_float(made[1], scale), "a time offset");
-    if (has_zone(TIME)) check(memcmp(zone_of(TIME), lent[TIME].zone, ZONE) == 0, "memory beside a time changed");
+    if (has_zone(TIME)) check(memcmp(zone_of(TIME), lent[TIME].zone, ZONE) == 0, "memory next to a time changed");
 }
 
 static uint64_t bits_of(double x) {
@@ -570,7 +571,7 @@ static uint64_t bits_of(double x) {
     return isnan(x) ? UINT64_C(0x7ff8000000000000) : bits;
 }
 
-static void check_made_times(double o, double s, double io, double is) {
+static void check_resulting_times(double o, double s, double io, double is) {
     double *out = (double *)(void *)lent[TIME].at;
     bool fit = isfinite(o) && isfinite(s) && s > 0;
     mudvizsor_layer_offset_new(o, s, out), check_time("layer_offset_new", o, s);
@@ -599,8 +600,8 @@ static void check_time_tests(double o, double s, double io, double is) {
     call_count += 5;
 }
 
-/* A map's own numbers. A refused call leaves the time that the one before it wrote. */
-static void check_own_numbers(size_t pairs, bool marked, double o, double s, double io, double is) {
+/* Checks the calls for maps without their pairs. After a refused call the time is still that of the call before. */
+static void check_map_info(size_t pairs, bool marked, double o, double s, double io, double is) {
     double *out = (double *)(void *)lent[TIME].at;
     bool same = pairs == 0 && marked, few = pairs <= 64;
     entry_name = "map_is_..";
@@ -620,19 +621,19 @@ static void check_own_numbers(size_t pairs, bool marked, double o, double s, dou
 static void call_times(void) {
     double o = some_float(), s = some_float(), io = some_float(), is = some_float();
     if (percent(20)) io = o, is = s;
-    make_room(TIME, 2 * sizeof(double));
+    make_buffer(TIME, 2 * sizeof(double));
     lend(TIME);
-    check_made_times(o, s, io, is);
+    check_resulting_times(o, s, io, is);
     check_time_tests(o, s, io, is);
-    check_own_numbers(percent(90) ? some_count() : huge_number(), percent(50), o, s, io, is);
-    give_back(TIME);
+    check_map_info(percent(90) ? some_count() : huge_number(), percent(50), o, s, io, is);
+    release(TIME);
 }
 
 /* ---- Lines of frames ---- */
 
 static size_t frames_answered, frames_refused;
 
-static void put_digits(size_t byte) {
+static void append_digits(size_t byte) {
     const char digits[] = "0123456789ABCDEF0123456789abcdef";
     size_t lower = percent(50) ? 16 : 0, at = contents[PATH].length;
     contents[PATH].bytes[at] = (unsigned char)digits[lower + byte / 16 % 16];
@@ -640,39 +641,40 @@ static void put_digits(size_t byte) {
     contents[PATH].length = at + 2;
 }
 
-static void put_frame_text(const char *text, size_t length, bool counted) {
-    if (counted) put_digits(length / 256), put_digits(length);
-    for (size_t i = 0; i < length; i++) put_digits((unsigned char)text[i]);
+static void append_frame_text(const char *text, size_t length, bool counted) {
+    if (counted) append_digits(length / 256), append_digits(length);
+    for (size_t i = 0; i < length; i++) append_digits((unsigned char)text[i]);
 }
 
-/* A frame by chance, mostly well formed; now and then noise or an overlong line. */
+/* A random frame, mostly well formed; sometimes random bytes or an overlong line. */
 static void make_line(void) {
-    char text[TEXT_MOST + 16];
+    char text[MAX_TEXT + 16];
     size_t kind = percent(97) ? 1 + below(7) : below(256);
     contents[PATH].length = 0;
     if (kind > 2 && kind < 5 && percent(60)) kind = 1;
-    put_digits(kind);
-    for (size_t i = 0; i < 2 && kind == 1; i++) put_frame_text(text, some_end(text, percent(10)), true);
-    if (kind == 5 || kind == 6) put_frame_text(text, some_text(text), false);
-    if (percent(4)) contents[PATH].bytes[below(contents[PATH].length)] = (unsigned char)chance();
+    append_digits(kind);
+    for (size_t i = 0; i < 2 && kind == 1; i++) append_frame_text(text, some_end(text, percent(10)), true);
+    if (kind == 5 || kind == 6) append_frame_text(text, some_text(text), false);
+    if (percent(4)) contents[PATH].bytes[below(contents[PATH].length)] = (unsigned char)random_bits();
     if (percent(2)) contents[PATH].length -= 1;
     if (percent(1)) contents[PATH].length += 4090 + below(10);
 }
 
-/* Memory of a new run, of any length; or one number of what is there altered. */
+/* Makes the state of a new run, with buffers of any length. */
 static void make_frames_memory(void) {
     const size_t enough[] = {5 * 8, 32640, 256 * 8, 32768, 4096 * 8, 48 * 8};
     for (size_t i = KEPT; i < LENT; i++) {
         size_t whole = enough[i - KEPT] / 8;
-        make_room(i, 8 * (percent(80) ? (percent(30) ? whole : whole / 16 + 5) : below(whole + 2)));
+        make_buffer(i, 8 * (percent(80) ? (percent(30) ? whole : whole / 16 + 5) : below(whole + 2)));
     }
     memset(contents[KEPT].bytes, 0, contents[KEPT].length);
 }
 
+/* Alters one number of the state. */
 static void alter_frames_memory(void) {
     const size_t which[] = {KEPT, OPEN_PLACES, LEG_SLOTS, LEG_TABLE};
     size_t i = which[below(4)], numbers = numbers_in(i) < 40 ? numbers_in(i) : 40;
-    if (numbers > 0) put_number(i, below(numbers), percent(50) ? huge_number() : below(70));
+    if (numbers > 0) set_number(i, below(numbers), percent(50) ? huge_number() : below(70));
 }
 
 static bool used_by_frames(size_t i) { return i == PATH || i == OUT || i >= KEPT; }
@@ -683,56 +685,56 @@ static size_t call_frames_once(void) {
     size_t reply = mudvizsor_frames_line(
         BYTES(PATH), (size_t *)lent[KEPT].at, numbers_in(KEPT), (char *)lent[OPEN_BYTES].at, contents[OPEN_BYTES].length,
         (size_t *)lent[OPEN_PLACES].at, numbers_in(OPEN_PLACES), (char *)lent[LEG_STORE].at, contents[LEG_STORE].length,
-        (size_t *)lent[LEG_SLOTS].at, numbers_in(LEG_SLOTS), (size_t *)lent[LEG_TABLE].at, numbers_in(LEG_TABLE), ROOM);
+        (size_t *)lent[LEG_SLOTS].at, numbers_in(LEG_SLOTS), (size_t *)lent[LEG_TABLE].at, numbers_in(LEG_TABLE), OUT_BUFFER);
     call_count++;
     for (size_t i = 0; i < LENT; i++)
         if (used_by_frames(i) && has_zone(i))
-            check(memcmp(zone_of(i), lent[i].zone, ZONE) == 0, "memory beside what was lent changed");
-    check(all_kept(PATH), "the line changed");
-    check(kept(KEPT, 5 * sizeof(size_t), contents[KEPT].length), "a number behind the five changed");
+            check(memcmp(zone_of(i), lent[i].zone, ZONE) == 0, "memory next to a lent slice changed");
+    check(all_unchanged(PATH), "the line changed");
+    check(unchanged(KEPT, 5 * sizeof(size_t), contents[KEPT].length), "a number after the five changed");
     return reply;
 }
 
-/* The answer is a line of capital digits; a refused call, and one that answers FF09, changes nothing. */
+/* The answer must be a line of capital digits. A refused call, and one that is answered FF09, must not change the state. */
 static void check_frames(size_t reply) {
     size_t length = mudvizsor_value(reply);
-    bool room = numbers_in(KEPT) >= 5 && contents[OUT].length >= 515;
+    bool enough = numbers_in(KEPT) >= 5 && contents[OUT].length >= 515;
     bool bad = length == 5 && memcmp(lent[OUT].at, "FF09\n", 5) == 0;
-    check(mudvizsor_number(reply) == (room ? 0 : MUDVIZSOR_NO_ROOM), "refused with enough, or not without");
-    check(room ? length >= 5 && length <= 515 && length % 2 == 1 : length == 0, "the length of the answer");
-    check(kept(OUT, length, contents[OUT].length), "a byte behind the answer changed");
-    check(length == 0 || lent[OUT].at[length - 1] == '\n', "no newline");
-    for (size_t k = 0; k + 1 < length; k++) check(strchr("0123456789ABCDEF", lent[OUT].at[k]) != NULL, "no digit");
-    for (size_t i = KEPT; i < LENT && (!room || bad); i++) check(all_kept(i), "memory changed though nothing was done");
-    if (room) frames_answered++;
+    check(mudvizsor_number(reply) == (enough ? 0 : MUDVIZSOR_NO_ROOM), "a wrong refusal number for the sizes of the buffers");
+    check(enough ? length >= 5 && length <= 515 && length % 2 == 1 : length == 0, "the length of the answer");
+    check(unchanged(OUT, length, contents[OUT].length), "a byte after the result changed");
+    check(length == 0 || lent[OUT].at[length - 1] == '\n', "no newline at the end");
+    for (size_t k = 0; k + 1 < length; k++) check(strchr("0123456789ABCDEF", lent[OUT].at[k]) != NULL, "not a digit");
+    for (size_t i = KEPT; i < LENT && (!enough || bad); i++) check(all_unchanged(i), "the state changed though nothing was done");
+    if (enough) frames_answered++;
     else frames_refused++;
 }
 
-static void give_frames_back(void) {
+static void release_frames(void) {
     for (size_t i = 0; i < LENT; i++)
-        if (used_by_frames(i)) give_back(i);
+        if (used_by_frames(i)) release(i);
 }
 
-/* A line twice on the same memory in two places; what it leaves is the memory of the next line. */
+/* Processes a line twice with equal states in different buffers; the resulting state is used for the next line. */
 static void call_frames(void) {
     static unsigned char after[LENT][CAPACITY];
     entry_name = "mudvizsor_frames_line";
     if (contents[KEPT].length == 0 || percent(2)) make_frames_memory();
     if (percent(3)) alter_frames_memory();
     make_line();
-    make_room(OUT, percent(95) ? 515 : below(600));
+    make_buffer(OUT, percent(95) ? 515 : below(600));
     size_t first = call_frames_once(), length = mudvizsor_value(first);
     check_frames(first);
     for (size_t i = OUT; i < LENT; i++)
         if (used_by_frames(i) && contents[i].length > 0) memcpy(after[i], lent[i].at, contents[i].length);
-    give_frames_back();
-    make_room(OUT, contents[OUT].length);
+    release_frames();
+    make_buffer(OUT, contents[OUT].length);
     size_t second = call_frames_once();
     check_frames(second);
     check(first == second && (length == 0 || memcmp(after[OUT], lent[OUT].at, length) == 0), "another answer to a line");
     for (size_t i = KEPT; i < LENT; i++)
-        check(contents[i].length == 0 || memcmp(after[i], lent[i].at, contents[i].length) == 0, "another memory");
-    give_frames_back();
+        check(contents[i].length == 0 || memcmp(after[i], lent[i].at, contents[i].length) == 0, "another state");
+    release_frames();
     for (size_t i = KEPT; i < LENT; i++) memcpy(contents[i].bytes, after[i], contents[i].length);
 }
 
@@ -755,8 +757,8 @@ static void print_table(void) {
            frames_answered, frames_refused);
 }
 
-/* A run that is long enough must have met answers and refusals of every entry. */
-static void check_met(void) {
+/* Checks that a long run had accepted and refused calls of every entry. */
+static void check_coverage(void) {
     if (call_count < 100000) return;
     for (size_t i = 0; i < ENTRY_COUNT; i++) {
         entry_name = entries[i].name;
@@ -764,29 +766,34 @@ static void check_met(void) {
     }
 }
 
+static int usage(void) {
+    fputs("usage: robust [--calls N | --seconds N] [--seed N] [--table]\n", stderr);
+    return 2;
+}
+
 int main(int argc, char **argv) {
-    double seconds = 0, begun = seconds_now();
+    double seconds = 0, start = seconds_now();
     size_t calls = 1000000;
     bool table = false;
     for (int i = 1; i < argc; i++) {
         if (strcmp(argv[i], "--table") == 0) table = true;
-        else if (i + 1 == argc) return 2;
+        else if (i + 1 == argc) return usage();
         else if (strcmp(argv[i], "--seconds") == 0) seconds = strtod(argv[++i], NULL);
         else if (strcmp(argv[i], "--calls") == 0) calls = strtoull(argv[++i], NULL, 10);
         else if (strcmp(argv[i], "--seed") == 0) seed = strtoull(argv[++i], NULL, 10);
-        else return 2;
+        else return usage();
     }
-    chance_state = seed;
+    random_state = seed;
     make_arenas();
     signal(SIGSEGV, fault), signal(SIGBUS, fault);
-    while (seconds > 0 ? seconds_now() - begun < seconds : call_count < calls) {
+    while (seconds > 0 ? seconds_now() - start < seconds : call_count < calls) {
         for (size_t i = 0; i < ENTRY_COUNT; i++) call_twice(&entries[i]);
         call_times();
         call_frames();
     }
-    check_met();
+    check_coverage();
     if (table) print_table();
     printf("%zu calls of %d entries, seed %llu, %.1f s, %zu wrong\n", call_count, ENTRY_COUNT + 20,
-           (unsigned long long)seed, seconds_now() - begun, wrong_count);
+           (unsigned long long)seed, seconds_now() - start, wrong_count);
     return wrong_count == 0 ? 0 : 1;
 }

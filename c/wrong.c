@@ -1,5 +1,5 @@
-/* Wrong entries that the driver must find: linked in the place of two of the library's (ld's --wrap), each calls the entry and
-   does one thing wrong, chosen by WRONG. */
+/* Faulty entries that robust.c must detect. They are linked in place of two entries of the library (with --wrap of ld); each
+   calls the real entry and makes one fault, selected by WRONG. */
 #include "mudvizsor.h"
 
 size_t __real_mudvizsor_path_parent(const char *path, size_t path_length, char *out, size_t out_length);
@@ -18,15 +18,15 @@ size_t __wrap_mudvizsor_path_parent(const char *path, size_t path_length, char *
     size_t reply = __real_mudvizsor_path_parent(path, path_length, out, out_length), length = mudvizsor_value(reply);
     bool answered = mudvizsor_number(reply) == MUDVIZSOR_ANSWER;
     if (path_length == 0 || out_length == 0) return reply;
-    if (WRONG == 1) seen = path[path_length];                                     /* reads behind what is lent */
-    if (WRONG == 2) seen = path[-1];                                              /* reads before it */
-    if (WRONG == 3) out[out_length] = 0;                                          /* writes behind it */
-    if (WRONG == 4) out[-1] = 0;                                                  /* writes before it */
-    if (WRONG == 5 && answered && length < out_length) out[length] = 0;           /* writes behind the answer */
+    if (WRONG == 1) seen = path[path_length];                                     /* reads after the slice */
+    if (WRONG == 2) seen = path[-1];                                              /* reads before the slice */
+    if (WRONG == 3) out[out_length] = 0;                                          /* writes after the buffer */
+    if (WRONG == 4) out[-1] = 0;                                                  /* writes before the buffer */
+    if (WRONG == 5 && answered && length < out_length) out[length] = 0;           /* writes after the result */
     if (WRONG == 6 && !answered) out[0] ^= 1;                                     /* writes in a refused call */
-    if (WRONG == 7 && answered && length > 1 && last < 0) return 256;             /* depends on old bytes */
+    if (WRONG == 7 && answered && length > 1 && last < 0) return 256;             /* depends on the old contents */
     if (WRONG == 8 && !answered) return reply + 256;                              /* a refusal with a value */
-    if (WRONG == 9) ((char *)path)[0] = 'x';                                      /* writes what is lent to be read */
+    if (WRONG == 9) ((char *)path)[0] = 'x';                                      /* writes to its input */
     return reply;
 }
 

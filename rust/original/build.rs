@@ -1,12 +1,12 @@
-//! Finds the original's source tree and writes, for each of its folders, a file that declares the modules
-//! taken from it and holds the items cut from its `mod.rs`. A module is compiled where it lies, or, where
-//! something is added to it, from a copy that ends with the addition. Of a file that needs more than is here
-//! only the items named are taken. The original's text is never changed.
+//! Locates the source tree of the original and writes, for each of its folders, a file that declares the modules used from
+//! it and contains the items extracted from its `mod.rs`. A module is compiled in place or, if something is added to it, from
+//! a copy that ends with the addition. From a file that depends on more than is available here, only the named items are
+//! extracted. The text of the original is never changed.
 
 use std::path::{Path, PathBuf};
 use std::{env, fs};
 
-/// A folder of the original and what is taken from it.
+/// A folder of the original and what is used from it.
 struct Folder {
     name: &'static str,
     files: &'static [File],
@@ -15,16 +15,16 @@ struct Folder {
     cuts: &'static [Cut],
 }
 
-/// A file of which some items are taken, into a file of the build's own folder that has its name.
+/// A file from which some items are extracted, into a file of the same name in the build folder.
 struct Cut {
     file: &'static str,
-    /// As those of a folder.
+    /// The first lines of the items, as for a folder.
     items: &'static [&'static str],
 }
 
 struct File {
     name: &'static str,
-    /// A file of ours whose text is added at the end.
+    /// A file of this crate whose text is appended.
     addition: Option<&'static str>,
 }
 
@@ -54,10 +54,10 @@ const RELOCATES: &[&str] = &[
     "fn relocate_invalid_reason(source: &Path, target: &Path) -> Option<InvalidRelocateReason> {",
 ];
 
-/// Where the sources lie in the tree.
+/// The folder of the sources in the tree.
 const SOURCES: &str = "crates/openusd/src";
 
-/// The tree beside the repository.
+/// A tree in a folder that contains the repository.
 const BESIDE: &str = "shared/docs/src";
 
 fn main() {
@@ -97,7 +97,7 @@ fn tree_beside_the_repository() -> PathBuf {
         })
 }
 
-/// Writes `folder.rs` with one module for each file, and the items.
+/// Writes `folder.rs`, with one module for each file and the extracted items.
 fn write_folder(from: &Path, folder: &Folder) {
     let modules: String = folder.files.iter().map(|file| module(from, file)).collect();
     write(&format!("{}.rs", folder.name), &(modules + &items(&from.join("mod.rs"), folder.items)));
@@ -107,7 +107,7 @@ fn write_folder(from: &Path, folder: &Folder) {
     }
 }
 
-/// The declaration of one module. Much of an original file is not called here.
+/// The declaration of one module. Much of it is not called here, hence `dead_code`.
 fn module(from: &Path, file: &File) -> String {
     let name = file.name;
     let path = from.join(format!("{name}.rs"));
@@ -120,14 +120,14 @@ fn module(from: &Path, file: &File) -> String {
     format!("#[allow(dead_code)]\n#[path = {path:?}]\npub mod {name};\n")
 }
 
-/// A copy of the original's file in the build's own folder, with the addition at its end.
+/// Writes a copy of a file of the original to the build folder, with the addition appended.
 fn with_addition(original: &Path, name: &str, addition: &str) -> PathBuf {
     let addition = here().join(addition);
     println!("cargo::rerun-if-changed={}", addition.display());
     write(&format!("{name}_and_addition.rs"), &(read(original) + "\n" + &read(&addition)))
 }
 
-/// The text of the items whose first lines are given.
+/// The text of the items with these first lines.
 fn items(file: &Path, first_lines: &[&str]) -> String {
     if first_lines.is_empty() {
         return String::new();
@@ -155,7 +155,7 @@ fn read(file: &Path) -> String {
     fs::read_to_string(file).unwrap_or_else(|error| panic!("{}: {error}", file.display()))
 }
 
-/// Writes a file of the build's own folder and gives its path.
+/// Writes a file in the build folder and returns its path.
 fn write(name: &str, text: &str) -> PathBuf {
     let path = PathBuf::from(variable("OUT_DIR")).join(name);
     fs::write(&path, text).expect("the build's own folder can be written");

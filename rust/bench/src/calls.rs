@@ -1,4 +1,4 @@
-//! Calls on paths: the legality check, and a prefix replaced from text to text.
+//! Times `new` and `replace_prefix` on path texts.
 
 use crate::clock::{Times, best_times};
 use crate::inputs::{self, COUNT, Names, Replacement, parsed};
@@ -6,7 +6,7 @@ use crate::table::{head, nanoseconds, ratio, row};
 use mudvizsor::ffi;
 use original::sdf::Path;
 use std::hint::black_box;
-use texts::LONGEST;
+use texts::MAX_PATH_LEN;
 
 pub fn print() {
     head(&["call", "texts", "mean bytes", "original, ns", "library, ns", "library / original"]);
@@ -40,7 +40,7 @@ fn time_new(names: Names, length: usize) {
 fn time_replace_prefix(length: usize) {
     let replacements = inputs::replacements(length, COUNT);
     assert!(replacements.iter().all(sides_agree));
-    let (mut out, mut other_out) = ([0; LONGEST], [0; LONGEST]);
+    let (mut out, mut other_out) = ([0; MAX_PATH_LEN], [0; MAX_PATH_LEN]);
     let original = || {
         for each in &replacements {
             black_box(original_replace(black_box(each), &mut out));
@@ -55,11 +55,11 @@ fn time_replace_prefix(length: usize) {
     print_row("`replace_prefix`", Names::Mixed, replacements.iter().map(|each| each.path.len()), times);
 }
 
-/// From text to text: three paths are read, the prefix is replaced, the bytes of the result are copied.
+/// From text to text: three paths are parsed, the prefix is replaced, and the bytes of the result are copied.
 fn original_replace(each: &Replacement, out: &mut [u8]) -> usize {
     let [path, old, new] = [&each.path, &each.old, &each.new].map(|text| parsed(text));
-    let made = path.replace_prefix(&old, &new).expect("a path with this prefix");
-    let text = made.as_str().as_bytes();
+    let result = path.replace_prefix(&old, &new).expect("a path with this prefix");
+    let text = result.as_str().as_bytes();
     out[..text.len()].copy_from_slice(text);
     text.len()
 }
@@ -69,7 +69,7 @@ fn library_replace(each: &Replacement, out: &mut [u8]) -> usize {
 }
 
 fn sides_agree(each: &Replacement) -> bool {
-    let (mut expected, mut found) = ([0; LONGEST], [0; LONGEST]);
+    let (mut expected, mut found) = ([0; MAX_PATH_LEN], [0; MAX_PATH_LEN]);
     original_replace(each, &mut expected) == library_replace(each, &mut found) && expected == found
 }
 

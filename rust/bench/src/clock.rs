@@ -1,14 +1,14 @@
-//! Times both sides in turn.
+//! Times both sides alternately.
 
 use std::time::Instant;
 
-/// The best of so many rounds counts.
+/// The number of rounds, of which the best counts.
 const ROUNDS: usize = 15;
 
-/// Each side is run so many times in a round.
+/// The number of runs of each side in a round.
 const REPEATS: usize = 5;
 
-/// Nanoseconds of one call on either side.
+/// The nanoseconds of one call on each side.
 #[derive(Clone, Copy)]
 pub struct Times {
     pub original: f64,
@@ -21,7 +21,7 @@ impl Times {
     }
 }
 
-/// The times of a call, of which either side makes so many when it is run: the best of all rounds.
+/// Returns the best times of all rounds for one call, where each run makes the given number of calls.
 pub fn best_times(calls: usize, mut original: impl FnMut(), mut library: impl FnMut()) -> Times {
     let mut best = Times { original: f64::MAX, library: f64::MAX };
     for _ in 0..ROUNDS {

@@ -1,4 +1,4 @@
-//! The program `frames` beside the Rust program of the same protocol: whole processes, from a file to a file.
+//! Times the program `frames` and the Rust program of the same protocol, as whole processes that read and write files.
 
 use crate::options::Options;
 use crate::table::{head, ratio, row};
@@ -9,20 +9,20 @@ use std::path::PathBuf;
 use std::process::Command;
 use std::time::Instant;
 
-/// With this argument alone this program is the Rust program of the protocol.
+/// With this as its only argument, `bench` acts as the Rust program of the protocol.
 pub const AS_THE_RUST_PROGRAM: &str = "--as-the-rust-program";
 
-/// Legs of a route, and pairs of each.
+/// The number of legs of each route, and the number of pairs of each leg.
 const ROUTES: [(usize, usize); 4] = [(1, 8), (4, 8), (16, 8), (4, 64)];
 
-/// A program, and where its output goes.
+/// A program and its output file.
 struct Side {
     program: PathBuf,
     argument: Option<&'static str>,
     output: PathBuf,
 }
 
-/// The Rust program first, and the file that both read.
+/// Both programs, the Rust program first, and their input file.
 struct Sides {
     sides: [Side; 2],
     input: PathBuf,
@@ -51,7 +51,7 @@ pub fn print(options: &Options) -> io::Result<()> {
 }
 
 impl Sides {
-    /// Prints the best of so many rounds. The programs take turns, and what they write must be equal.
+    /// Times the programs alternately and prints the best round. Their outputs must be equal.
     fn time_route(&self, load: Load, rounds: usize) -> io::Result<()> {
         let input = load.input();
         fs::write(&self.input, &input)?;
@@ -82,7 +82,7 @@ impl Sides {
 }
 
 impl Side {
-    /// The seconds of one run.
+    /// Runs the program once and returns the seconds it took.
     fn seconds(&self, input: File) -> io::Result<f64> {
         let output = File::create(&self.output)?;
         let start = Instant::now();

@@ -1,17 +1,17 @@
-//! Texts to be timed, the same in every run.
+//! The texts that are timed, the same in every run.
 
 use frames_original::load::signal;
 use original::sdf::Path;
 use texts::random::Random;
 
-/// Texts timed together.
+/// The number of texts that are timed together.
 pub const COUNT: usize = 2_000;
 
 const LOWER: &[u8] = b"abcdefghijklmnopqrstuvwxyz";
-/// The first 53 may begin a name.
+/// Name bytes; the first 53 may start a name.
 const MIXED: &[u8] = b"abcdefghijklmnopqrstuvwxyzABCDEFGHIJKLMNOPQRSTUVWXYZ_0123456789";
 
-/// The bytes that names are made of.
+/// The alphabet of the names.
 #[derive(Clone, Copy)]
 pub enum Names {
     Mixed,
@@ -41,49 +41,49 @@ impl Names {
     }
 }
 
-/// A path to be replaced with its old and new prefix.
+/// A path, its old prefix and the new one.
 pub struct Replacement {
     pub path: String,
     pub old: String,
     pub new: String,
 }
 
-/// A map as a list of pairs, and paths that it carries out.
-pub struct Carried {
+/// A map as a list of pairs, and paths that it maps.
+pub struct MapInput {
     pub pairs: Vec<[String; 2]>,
     pub paths: Vec<String>,
 }
 
-/// A route as lists of pairs, and paths that get over all its legs.
-pub struct Routed {
+/// A route as lists of pairs, and paths that it maps over all its legs.
+pub struct RouteInput {
     pub legs: Vec<Vec<[String; 2]>>,
     pub paths: Vec<String>,
 }
 
-/// So many paths of about `length` bytes.
+/// Paths of about `length` bytes.
 pub fn paths(names: Names, length: usize, count: usize) -> Vec<String> {
     let random = &mut Random::new(length as u64);
     (0..count).map(|_| path(random, names, length)).collect()
 }
 
-/// Paths of about `length` bytes, of which about a third is replaced by as much.
+/// Paths of about `length` bytes, with a prefix of about a third of them and a new prefix of that length.
 pub fn replacements(length: usize, count: usize) -> Vec<Replacement> {
     let random = &mut Random::new(length as u64);
     (0..count).map(|_| replacement(random, length)).collect()
 }
 
-/// A map of so many pairs, and paths of about `length` bytes, of which about a third is the source of one of them.
-pub fn carried(pairs: usize, length: usize, count: usize) -> Carried {
+/// A map, and paths of about `length` bytes, of which about a third is the source of a pair.
+pub fn map_input(pairs: usize, length: usize, count: usize) -> MapInput {
     let random = &mut Random::new(pairs as u64);
     let pairs: Vec<_> =
         (0..pairs).map(|_| [(); 2].map(|_| prim_path(random, Names::Mixed, length / 3))).collect();
     let paths = (0..count).map(|_| path_of_one(random, &pairs, length)).collect();
-    Carried { pairs, paths }
+    MapInput { pairs, paths }
 }
 
-/// A route of so many legs, each of so many pairs whose sources are the targets of the leg before, and paths of about 40
-/// bytes under the sources of the first.
-pub fn routed(legs: usize, pairs: usize, count: usize) -> Routed {
+/// A route whose legs have the given number of pairs each, where the sources of a leg are the targets of the leg before, and
+/// paths of about 40 bytes below the sources of the first leg.
+pub fn route_input(legs: usize, pairs: usize, count: usize) -> RouteInput {
     let random = &mut Random::new(pairs as u64);
     let leg = |leg| (0..pairs).map(|pair| [signal(leg, pair), signal(leg + 1, pair)]).collect();
     let path = |_| {
@@ -91,22 +91,22 @@ pub fn routed(legs: usize, pairs: usize, count: usize) -> Routed {
             (random.below(pairs), random.pick(&["/Head/Lens.color", "/Mast/Lamp_2", "/Head_1.state"]));
         format!("{}{rest}", signal(0, pair))
     };
-    Routed { legs: (0..legs).map(leg).collect(), paths: (0..count).map(path).collect() }
+    RouteInput { legs: (0..legs).map(leg).collect(), paths: (0..count).map(path).collect() }
 }
 
-/// So many pairs of prim paths of two or three names.
+/// Pairs of prim paths of two or three names.
 pub fn list(pairs: usize, seed: usize) -> Vec<[String; 2]> {
     let random = &mut Random::new(seed as u64);
     (0..pairs).map(|_| [(); 2].map(|()| prim_path(random, Names::Mixed, 24))).collect()
 }
 
-/// Pairs whose sources are the targets of the pairs given.
+/// Pairs whose sources are the targets of the given pairs.
 pub fn list_after(pairs: &[[String; 2]]) -> Vec<[String; 2]> {
     let random = &mut Random::new(pairs.len() as u64);
     pairs.iter().map(|[_, target]| [target.clone(), prim_path(random, Names::Mixed, 24)]).collect()
 }
 
-/// Texts as the library has them: their bytes one after the other, and the start and length of each.
+/// Texts as the library takes them: their concatenated bytes, and the start and length of each.
 pub fn packed<'a>(texts: impl IntoIterator<Item = &'a String>) -> (Vec<u8>, Vec<usize>) {
     let (mut bytes, mut places) = (Vec::new(), Vec::new());
     for text in texts {
@@ -116,7 +116,7 @@ pub fn packed<'a>(texts: impl IntoIterator<Item = &'a String>) -> (Vec<u8>, Vec<
     (bytes, places)
 }
 
-/// A text as the original has it.
+/// A text as the original takes it.
 pub fn parsed(text: &str) -> Path {
     Path::new(text).expect("a legal text")
 }
@@ -138,7 +138,7 @@ fn replacement(random: &mut Random, length: usize) -> Replacement {
     Replacement { path: format!("{old}{rest}"), old, new }
 }
 
-/// A path of names with a selection here and there, one in two with a property.
+/// A path of names and some selections, one in two with a property.
 fn path(random: &mut Random, names: Names, length: usize) -> String {
     let mut text = String::new();
     append_child(random, names, &mut text);

@@ -1,5 +1,5 @@
-//! Times the library beside the original on the same texts, and the program `frames` beside the Rust program of the same
-//! protocol on the same inputs, and prints tables of the ratios.
+//! `bench`: times the library and the original Rust code on the same texts, and the program `frames` and a Rust program of
+//! the same protocol on the same inputs, and prints tables of the ratios. `bench --help` describes the options.
 
 mod calls;
 mod clock;
@@ -12,13 +12,19 @@ mod routes;
 mod table;
 
 use options::{Options, Part};
+use std::env;
+use std::io::{self, Write};
 use std::process::ExitCode;
-use std::{env, io};
 
 fn main() -> ExitCode {
     let arguments: Vec<String> = env::args().skip(1).collect();
     if arguments == [frames::AS_THE_RUST_PROGRAM] {
         return ended(frames_original::serve(io::stdin().lock(), io::stdout().lock()));
+    }
+    if arguments.iter().any(|argument| argument == "--help" || argument == "-h") {
+        // A reader that closes the pipe early is not an error.
+        let _ = writeln!(io::stdout(), "{}", options::USAGE);
+        return ExitCode::SUCCESS;
     }
     match Options::read(arguments.into_iter()) {
         Ok(options) => ended(print_tables(&options)),
@@ -29,7 +35,7 @@ fn main() -> ExitCode {
     }
 }
 
-/// Each table behind its name.
+/// Prints each table under its name.
 fn print_tables(options: &Options) -> io::Result<()> {
     for part in &options.parts {
         println!("\n{}\n", part.name());

@@ -1,22 +1,22 @@
-//! Maps made of lists, two maps composed, and statuses of relocate lists. The library reads and checks its lists at
-//! each call; the original's paths are parsed before the clock starts, or within.
+//! Times building maps from lists, composing two maps, and the statuses of relocate lists. The library validates its lists in
+//! each call; the paths of the original are parsed either before the time is taken or within it.
 
 use crate::clock::{Times, best_times};
 use crate::inputs::{self, COUNT, packed, parsed_pairs};
 use crate::table::{head, ratio, row};
-use mudvizsor::ffi::makes::{Map, Room};
+use mudvizsor::ffi::map_build::{Map, MapBuffers};
 use mudvizsor::ffi::maps::List;
-use mudvizsor::ffi::{makes, relocates};
+use mudvizsor::ffi::{map_build, relocates};
 use original::pcp::MapFunction;
 use original::sdf::Path;
 use std::hint::black_box;
 
-/// Different lists, each taken so often that there are as many calls as are timed together.
+/// The number of different lists; they are used repeatedly to make the number of calls that are timed together.
 const LISTS: usize = 50;
 
 const IDENTITY: [f64; 2] = [0.0, 1.0];
 
-/// One list on both sides.
+/// One list in the forms of both sides.
 struct Sides {
     texts: Vec<[String; 2]>,
     paths: Vec<(Path, Path)>,
@@ -42,23 +42,23 @@ impl Sides {
     }
 }
 
-/// Memory for a map that is made.
-struct Memory {
+/// Buffers for a map that is built.
+struct Buffers {
     out: Vec<u8>,
     slots: Vec<usize>,
     time: [f64; 2],
 }
 
-impl Memory {
+impl Buffers {
     fn new() -> Self {
-        Memory { out: vec![0; 1 << 16], slots: vec![0; 512], time: IDENTITY }
+        Buffers { out: vec![0; 1 << 16], slots: vec![0; 512], time: IDENTITY }
     }
 
-    fn room(&mut self) -> Room<'_> {
-        Room { out: &mut self.out, slots: &mut self.slots, time: &mut self.time }
+    fn lend(&mut self) -> MapBuffers<'_> {
+        MapBuffers { out: &mut self.out, slots: &mut self.slots, time: &mut self.time }
     }
 
-    /// Copies a map of the original, as the library writes its own, and gives the library's value.
+    /// Copies a map of the original in the form in which the library writes a map, and returns the value of its reply.
     fn copy(&mut self, map: &MapFunction) -> usize {
         let (mut at, mut slot) = (0, 0);
         for end in map.path_pairs().iter().flat_map(|(source, target)| [source, target]) {
@@ -72,7 +72,7 @@ impl Memory {
     }
 }
 
-/// A row for each call and number of pairs.
+/// Prints a row for each call and number of pairs.
 pub fn print() {
     head(&["call", "pairs", "text to text", "parsed or made before"]);
     for pairs in [1, 8, 64] {
@@ -87,57 +87,57 @@ pub fn print() {
 }
 
 fn print_row(call: &str, pairs: &str, times: [Times; 2]) {
-    let [from_texts, made_before] = times.map(|times| ratio(times.ratio()));
-    row(&[call, pairs, &from_texts, &made_before]);
+    let [from_texts, built_before] = times.map(|times| ratio(times.ratio()));
+    row(&[call, pairs, &from_texts, &built_before]);
 }
 
-/// Maps made of lists of so many pairs, from text to text and with the paths parsed before.
+/// Times `new` for lists of this many pairs: from text to text, and with the paths parsed before.
 fn time_new(pairs: usize) -> [Times; 2] {
     let lists = lists(pairs);
-    let (mut memory, mut other) = (Memory::new(), Memory::new());
+    let (mut buffers, mut other) = (Buffers::new(), Buffers::new());
     for each in &lists {
-        let expected = memory.copy(&MapFunction::new(each.paths.clone()));
-        assert_eq!(makes::new(each.list(), other.room()).0, 256 * expected);
-        assert!(memory.out == other.out && memory.slots == other.slots);
+        let expected = buffers.copy(&MapFunction::new(each.paths.clone()));
+        assert_eq!(map_build::new(each.list(), other.lend()).0, 256 * expected);
+        assert!(buffers.out == other.out && buffers.slots == other.slots);
     }
-    let mut library = || for_all(pairs, &lists, |each| makes::new(black_box(each.list()), other.room()));
+    let mut library = || for_all(pairs, &lists, |each| map_build::new(black_box(each.list()), other.lend()));
     let parsed_before = || for_all(pairs, &lists, |each| MapFunction::new(black_box(&each.paths).clone()));
     let from_texts = || {
-        for_all(pairs, &lists, |each| memory.copy(&MapFunction::new(parsed_pairs(black_box(&each.texts)))))
+        for_all(pairs, &lists, |each| buffers.copy(&MapFunction::new(parsed_pairs(black_box(&each.texts)))))
     };
     [best(pairs, from_texts, &mut library), best(pairs, parsed_before, library)]
 }
 
-/// Two maps of so many pairs, the outer's sources being the inner's targets, from text to text and with the maps made
-/// before.
+/// Times `compose` for two maps of this many pairs, where the sources of the outer map are the targets of the inner one: from
+/// text to text, and with the maps built before.
 fn time_compose(pairs: usize) -> [Times; 2] {
     let inner = lists(pairs);
     let outer: Vec<Sides> = inner.iter().map(|inner| Sides::new(inputs::list_after(&inner.texts))).collect();
     let both: Vec<(&Sides, &Sides)> = outer.iter().zip(&inner).collect();
-    let (mut memory, mut other) = (Memory::new(), Memory::new());
+    let (mut buffers, mut other) = (Buffers::new(), Buffers::new());
     for (outer, inner) in &both {
-        let expected = memory.copy(&outer.map.compose(&inner.map));
-        assert_eq!(makes::compose(outer.as_map(), inner.as_map(), other.room()).0, 256 * expected);
-        assert!(memory.out == other.out && memory.slots == other.slots);
+        let expected = buffers.copy(&outer.map.compose(&inner.map));
+        assert_eq!(map_build::compose(outer.as_map(), inner.as_map(), other.lend()).0, 256 * expected);
+        assert!(buffers.out == other.out && buffers.slots == other.slots);
     }
     let mut library = || {
         for_all(pairs, &both, |(outer, inner)| {
-            makes::compose(black_box(outer.as_map()), black_box(inner.as_map()), other.room())
+            map_build::compose(black_box(outer.as_map()), black_box(inner.as_map()), other.lend())
         });
     };
-    let made_before =
+    let built_before =
         || for_all(pairs, &both, |(outer, inner)| black_box(&outer.map).compose(black_box(&inner.map)));
     let from_texts = || {
         for_all(pairs, &both, |(outer, inner)| {
             let [outer, inner] = [outer, inner]
                 .map(|each| MapFunction::with_exactly(parsed_pairs(black_box(&each.texts)), false));
-            memory.copy(&outer.compose(&inner))
+            buffers.copy(&outer.compose(&inner))
         });
     };
-    [best(pairs, from_texts, &mut library), best(pairs, made_before, library)]
+    [best(pairs, from_texts, &mut library), best(pairs, built_before, library)]
 }
 
-/// Statuses of lists of so many pairs, from text to text and with the paths parsed before.
+/// Times the statuses of lists of this many pairs: from text to text, and with the paths parsed before.
 fn time_statuses(pairs: usize) -> [Times; 2] {
     let lists = lists(pairs);
     let mut out = vec![0; pairs];
@@ -164,7 +164,7 @@ fn lists(pairs: usize) -> Vec<Sides> {
     (0..LISTS).map(|seed| Sides::new(inputs::list(pairs, seed))).collect()
 }
 
-/// So many calls are timed together, for lists of so many pairs.
+/// The number of calls that are timed together, for lists of this many pairs.
 fn calls(pairs: usize) -> usize {
     COUNT / pairs
 }

@@ -1,14 +1,14 @@
-//! Paths through a map, whose list the library checks at each call or once for all paths. The original's map is
-//! made once, before.
+//! Times mapping paths. The library validates the list of the map in each call, or once for all paths. The map of the original
+//! is built before the time is taken.
 
 use crate::clock::{Times, best_times};
-use crate::inputs::{self, COUNT, Carried, packed, parsed, parsed_pairs};
+use crate::inputs::{self, COUNT, MapInput, packed, parsed, parsed_pairs};
 use crate::table::{head, nanoseconds, ratio, row};
-use mudvizsor::ffi::maps::{List, Paths, Way, carry, carry_all};
+use mudvizsor::ffi::maps::{List, Paths, Way, apply, apply_all};
 use original::pcp::MapFunction;
 use original::sdf::Path;
 use std::hint::black_box;
-use texts::LONGEST;
+use texts::MAX_PATH_LEN;
 
 /// A call on both sides.
 struct MapCall {
@@ -26,30 +26,30 @@ const CALLS: [MapCall; 2] = [
     },
 ];
 
-/// One map on both sides, and paths that it carries.
+/// One map in the forms of both sides, and paths that it maps.
 struct Setting {
     map: MapFunction,
     store: Vec<u8>,
     places: Vec<usize>,
     count: usize,
     texts: Vec<String>,
-    /// The texts one after the other, and where each of them is.
+    /// The concatenated texts, and the start and length of each.
     together: Vec<u8>,
     spots: Vec<usize>,
     paths: Vec<Path>,
 }
 
 impl Setting {
-    fn new(carried: Carried) -> Self {
-        let (store, places) = packed(carried.pairs.iter().flatten());
-        let (together, spots) = packed(&carried.paths);
+    fn new(input: MapInput) -> Self {
+        let (store, places) = packed(input.pairs.iter().flatten());
+        let (together, spots) = packed(&input.paths);
         Setting {
-            map: MapFunction::with_exactly(parsed_pairs(&carried.pairs), false),
+            map: MapFunction::with_exactly(parsed_pairs(&input.pairs), false),
             store,
             places,
-            count: carried.pairs.len(),
-            paths: carried.paths.iter().map(|text| parsed(text)).collect(),
-            texts: carried.paths,
+            count: input.pairs.len(),
+            paths: input.paths.iter().map(|text| parsed(text)).collect(),
+            texts: input.paths,
             together,
             spots,
         }
@@ -64,8 +64,8 @@ impl Setting {
     }
 }
 
-/// A row for each call and number of pairs, on paths of about 40 bytes. "Each" is the call on one path, "once" that on
-/// many, which checks the list once.
+/// Prints a row for each call and number of pairs, for paths of about 40 bytes. "Each" is the call for one path, "once" the
+/// call for many paths, which validates the list once.
 pub fn print() {
     head(&[
         "call",
@@ -78,7 +78,7 @@ pub fn print() {
     ]);
     for call in &CALLS {
         for pairs in [1, 8, 64] {
-            print_row(call, &Setting::new(inputs::carried(pairs, 40, COUNT)));
+            print_row(call, &Setting::new(inputs::map_input(pairs, 40, COUNT)));
         }
     }
 }
@@ -86,10 +86,10 @@ pub fn print() {
 fn print_row(call: &MapCall, setting: &Setting) {
     assert!(setting.texts.iter().all(|text| sides_agree(call, setting, text)));
     assert!(all_agree(call, setting));
-    let mut out = [0; LONGEST];
+    let mut out = [0; MAX_PATH_LEN];
     let from_texts = || {
         for text in &setting.texts {
-            black_box(original_carry(call, setting, black_box(text), &mut out));
+            black_box(map_by_original(call, setting, black_box(text), &mut out));
         }
     };
     let [text_each, text_once] = each_and_once(call, setting, from_texts);
@@ -105,57 +105,57 @@ fn print_row(call: &MapCall, setting: &Setting) {
     row(&[call.name, &setting.count.to_string(), a, b, c, d, &once]);
 }
 
-/// The original beside the library's call on one path, then beside that on many.
+/// Times the original and the call of the library for one path, then the original and the call for many paths.
 fn each_and_once(call: &MapCall, setting: &Setting, mut original: impl FnMut()) -> [Times; 2] {
-    let mut out = [0; LONGEST];
+    let mut out = [0; MAX_PATH_LEN];
     let each = || {
         for text in &setting.texts {
-            black_box(library_carry(call, setting, black_box(text), &mut out));
+            black_box(map_by_library(call, setting, black_box(text), &mut out));
         }
     };
     let each = best_times(COUNT, &mut original, each);
-    let (mut out, mut replies) = room_for_all();
+    let (mut out, mut replies) = buffers_for_all();
     let once = || {
-        black_box(library_carry_all(call, setting, &mut out, &mut replies));
+        black_box(map_all_by_library(call, setting, &mut out, &mut replies));
         black_box((&out, &replies));
     };
     [each, best_times(COUNT, original, once)]
 }
 
-/// The path is read, mapped, and the bytes of the result are copied.
-fn original_carry(call: &MapCall, setting: &Setting, text: &str, out: &mut [u8]) -> usize {
-    let made = (call.original)(&setting.map, &parsed(text)).expect("a path that the map carries");
-    let text = made.as_str().as_bytes();
+/// Parses the path, maps it, and copies the bytes of the result.
+fn map_by_original(call: &MapCall, setting: &Setting, text: &str, out: &mut [u8]) -> usize {
+    let result = (call.original)(&setting.map, &parsed(text)).expect("a path that the map maps");
+    let text = result.as_str().as_bytes();
     out[..text.len()].copy_from_slice(text);
     text.len()
 }
 
-fn library_carry(call: &MapCall, setting: &Setting, text: &str, out: &mut [u8]) -> usize {
-    carry(call.way, setting.list(), text.as_bytes(), out).0
+fn map_by_library(call: &MapCall, setting: &Setting, text: &str, out: &mut [u8]) -> usize {
+    apply(call.way, setting.list(), text.as_bytes(), out).0
 }
 
-/// Memory for the bytes and the replies of all paths.
-fn room_for_all() -> (Vec<u8>, Vec<usize>) {
-    (vec![0; LONGEST * COUNT], vec![0; COUNT])
+/// Buffers for the bytes and the replies of all paths.
+fn buffers_for_all() -> (Vec<u8>, Vec<usize>) {
+    (vec![0; MAX_PATH_LEN * COUNT], vec![0; COUNT])
 }
 
-fn library_carry_all(call: &MapCall, setting: &Setting, out: &mut [u8], replies: &mut [usize]) -> usize {
-    carry_all(call.way, setting.list(), black_box(setting.all()), out, replies).0
+fn map_all_by_library(call: &MapCall, setting: &Setting, out: &mut [u8], replies: &mut [usize]) -> usize {
+    apply_all(call.way, setting.list(), black_box(setting.all()), out, replies).0
 }
 
 fn all_agree(call: &MapCall, setting: &Setting) -> bool {
-    let (mut out, mut replies) = room_for_all();
-    assert_eq!(library_carry_all(call, setting, &mut out, &mut replies), 0);
-    let blocks = out.chunks_exact(LONGEST).zip(replies);
+    let (mut out, mut replies) = buffers_for_all();
+    assert_eq!(map_all_by_library(call, setting, &mut out, &mut replies), 0);
+    let blocks = out.chunks_exact(MAX_PATH_LEN).zip(replies);
     setting.texts.iter().zip(blocks).all(|(text, (block, reply))| {
-        let mut expected = [0; LONGEST];
-        let length = original_carry(call, setting, text, &mut expected);
+        let mut expected = [0; MAX_PATH_LEN];
+        let length = map_by_original(call, setting, text, &mut expected);
         reply == 256 * length && block == expected
     })
 }
 
 fn sides_agree(call: &MapCall, setting: &Setting, text: &str) -> bool {
-    let (mut expected, mut found) = ([0; LONGEST], [0; LONGEST]);
-    let length = original_carry(call, setting, text, &mut expected);
-    library_carry(call, setting, text, &mut found) == 256 * length && expected == found
+    let (mut expected, mut found) = ([0; MAX_PATH_LEN], [0; MAX_PATH_LEN]);
+    let length = map_by_original(call, setting, text, &mut expected);
+    map_by_library(call, setting, text, &mut found) == 256 * length && expected == found
 }

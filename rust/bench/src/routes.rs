@@ -1,20 +1,20 @@
-//! Paths over a route, all in one call, whose legs the library checks, and makes of relocate lists, once for all paths.
-//! The original's legs are made once, before; it takes its paths from text to text.
+//! Times mapping paths over a route, all in one call. The library validates the legs, and builds the maps of relocate lists,
+//! once for all paths. The legs of the original are built before the time is taken; its paths are parsed within it.
 
 use crate::clock::best_times;
-use crate::inputs::{self, Routed, packed, parsed, parsed_pairs};
+use crate::inputs::{self, RouteInput, packed, parsed, parsed_pairs};
 use crate::table::{head, ratio, row};
 use mudvizsor::ffi::maps::Paths;
 use mudvizsor::ffi::routes::{Route, route_all};
 use original::pcp::MapFunction;
 use original::sdf::Path;
 use std::hint::black_box;
-use texts::LONGEST;
+use texts::MAX_PATH_LEN;
 
-/// Paths timed together.
+/// The number of paths that are timed together.
 const PATHS: usize = 1_000;
 
-/// What the legs are.
+/// The kind of the legs.
 #[derive(Clone, Copy)]
 enum Kind {
     Maps,
@@ -22,7 +22,7 @@ enum Kind {
 }
 
 impl Kind {
-    /// The number that stands for it in a route.
+    /// Its number in a lent route.
     fn number(self) -> usize {
         match self {
             Kind::Maps => 0,
@@ -30,7 +30,7 @@ impl Kind {
         }
     }
 
-    /// The original's map of a leg, all of whose pairs are Active.
+    /// The map of a leg as the original builds it. All pairs are Active.
     fn map(self, mut pairs: Vec<(Path, Path)>) -> MapFunction {
         match self {
             Kind::Maps => MapFunction::with_exactly(pairs, false),
@@ -43,7 +43,7 @@ impl Kind {
     }
 }
 
-/// One route on both sides.
+/// One route in the forms of both sides.
 struct Sides {
     maps: Vec<MapFunction>,
     store: Vec<u8>,
@@ -68,23 +68,23 @@ impl Sides {
         Route { store: &self.store, places: &self.places, legs: &self.legs, count: self.maps.len() }
     }
 
-    /// The path is read, goes over the legs, and the bytes of where it comes to are copied.
+    /// Parses the path, maps it over the legs, and copies the bytes of the result.
     fn original(&self, home: bool, text: &str, out: &mut [u8]) -> usize {
         let (path, maps) = (parsed(text), &self.maps);
-        let made = if home {
+        let result = if home {
             maps.iter().rev().try_fold(path, |path, map| map.map_target_to_source(&path))
         } else {
             maps.iter().try_fold(path, |path, map| map.translate_to_target(&path))
         };
-        let made = made.expect("a path that gets over all legs");
-        let text = made.as_str().as_bytes();
+        let result = result.expect("a path that maps over all legs");
+        let text = result.as_str().as_bytes();
         out[..text.len()].copy_from_slice(text);
         text.len()
     }
 
-    /// Where the paths come to on the way out.
-    fn come_out(&self, texts: &[String]) -> Vec<String> {
-        let mut out = [0; LONGEST];
+    /// Maps the paths out.
+    fn map_out(&self, texts: &[String]) -> Vec<String> {
+        let mut out = [0; MAX_PATH_LEN];
         let end = |text: &String| {
             let length = self.original(false, text, &mut out);
             String::from_utf8(out[..length].to_vec()).expect("a path is ASCII")
@@ -93,7 +93,7 @@ impl Sides {
     }
 }
 
-/// A row for each number of legs and of pairs of a leg, with the ratio and the library's nanoseconds a path.
+/// Prints a row for each number of legs and of pairs per leg, with the ratio and the nanoseconds of the library per path.
 pub fn print() {
     head(&["legs", "pairs a leg", "maps, out", "maps, home", "relocate lists, out", "relocate lists, home"]);
     for legs in [1, 4, 16] {
@@ -104,22 +104,22 @@ pub fn print() {
     }
 }
 
-/// The ways out and home over so many legs of so many pairs, on paths that get over all of them.
+/// Times mapping out and home over this many legs and pairs, for paths that map over all legs.
 fn time(kind: Kind, legs: usize, pairs: usize) -> [String; 2] {
-    let Routed { legs, paths } = inputs::routed(legs, pairs, PATHS);
+    let RouteInput { legs, paths } = inputs::route_input(legs, pairs, PATHS);
     let sides = &Sides::new(kind, &legs);
-    [time_way(sides, false, &paths), time_way(sides, true, &sides.come_out(&paths))]
+    [time_direction(sides, false, &paths), time_direction(sides, true, &sides.map_out(&paths))]
 }
 
-fn time_way(sides: &Sides, home: bool, texts: &[String]) -> String {
+fn time_direction(sides: &Sides, home: bool, texts: &[String]) -> String {
     let (together, spots) = packed(texts);
     let paths = Paths { texts: &together, spots: &spots, count: PATHS };
-    let (mut out, mut replies) = (vec![0; LONGEST * PATHS], vec![0; PATHS]);
-    let mut one = [0; LONGEST];
+    let (mut out, mut replies) = (vec![0; MAX_PATH_LEN * PATHS], vec![0; PATHS]);
+    let mut one = [0; MAX_PATH_LEN];
     assert_eq!(route_all(sides.route(), home, paths, &mut out, &mut replies).0, 0);
     for (i, text) in texts.iter().enumerate() {
         let length = sides.original(home, text, &mut one);
-        assert!(replies[i] == 256 * length && out[LONGEST * i..].starts_with(&one[..length]));
+        assert!(replies[i] == 256 * length && out[MAX_PATH_LEN * i..].starts_with(&one[..length]));
     }
     let original = || {
         for text in texts {

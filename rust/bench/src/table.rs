@@ -1,13 +1,14 @@
-//! Tables as docs/BENCHMARKS.md has them.
+//! Prints tables in the format of docs/BENCHMARKS.md.
 
 use std::fmt::Display;
 
-/// Begins a table.
+/// Prints the head of a table.
 pub fn head(columns: &[&str]) {
     row(columns);
     println!("|{}", "---|".repeat(columns.len()));
 }
 
+/// Prints a row.
 pub fn row<T: Display>(cells: &[T]) {
     for cell in cells {
         print!("| {cell} ");
@@ -15,12 +16,12 @@ pub fn row<T: Display>(cells: &[T]) {
     println!("|");
 }
 
-/// A ratio as it is printed.
+/// Formats a ratio.
 pub fn ratio(ratio: f64) -> String {
     format!("{ratio:.2}")
 }
 
-/// Nanoseconds as they are printed.
+/// Formats nanoseconds.
 pub fn nanoseconds(time: f64) -> String {
     format!("{time:.1}")
 }

@@ -1,12 +1,12 @@
-//! The calls on paths: the library's entry beside the original's function, and the answer that is expected.
+//! The calls for paths: the entry of the library, the function of the original, and the expected answer.
 
-use crate::text::{Answer, MADE_NOT_LEGAL, MADE_TOO_LONG, NO_PATH, TOO_LITTLE_MEMORY, Text, paths};
+use crate::text::{Answer, BUFFER_TOO_SMALL, MADE_NOT_LEGAL, MADE_TOO_LONG, NO_PATH, Text, paths};
 use mudvizsor::ffi::{Reply, paths};
 use original::sdf::Path;
-use texts::LONGEST;
+use texts::MAX_PATH_LEN;
 use texts::legal::is_legal;
 
-/// A call that answers one number about one text.
+/// A call that returns a number for one text.
 pub struct NumberCall {
     pub name: &'static str,
     pub entry: fn(&[u8]) -> Reply,
@@ -19,7 +19,7 @@ impl NumberCall {
     }
 }
 
-/// A call that makes one path of another.
+/// A call that maps one path to another.
 pub struct PathCall {
     pub name: &'static str,
     pub entry: fn(&[u8], &mut [u8]) -> Reply,
@@ -33,7 +33,7 @@ impl PathCall {
     }
 }
 
-/// The original gives a path or an error, and no value beside the path.
+/// The value of an accepted path is 0, since the original returns only a path or an error.
 pub const NEW: NumberCall = NumberCall { name: "new", entry: paths::new, original: |_| 0 };
 
 pub const IS_END: NumberCall =
@@ -92,10 +92,10 @@ pub fn ancestors(text: &Text) -> Answer<Vec<usize>> {
     Ok(path.ancestors().map(|path| path.as_str().len()).collect())
 }
 
-/// Questions 6, 7 and 8 put to what the definition gives.
+/// Checks the result of the original (questions 6, 7 and 8).
 pub fn accept(made: Option<Path>) -> Answer<Path> {
     let path = made.ok_or(NO_PATH)?;
-    if path.as_str().len() > LONGEST {
+    if path.as_str().len() > MAX_PATH_LEN {
         return Err(MADE_TOO_LONG);
     }
     if !is_legal(path.as_str().as_bytes()) {
@@ -104,11 +104,11 @@ pub fn accept(made: Option<Path>) -> Answer<Path> {
     Ok(path)
 }
 
-/// `answer` where `room` is lent and `needed` is asked for: question 5 comes before 6, 7 and 8.
-pub fn within<T: Copy>(room: usize, needed: usize, answer: Answer<T>) -> Answer<T> {
+/// The expected answer with a buffer of `capacity` items if `needed` are needed: question 5 comes before 6, 7 and 8.
+pub fn within<T: Copy>(capacity: usize, needed: usize, answer: Answer<T>) -> Answer<T> {
     match answer {
-        Err(number) if number < TOO_LITTLE_MEMORY => answer,
-        _ if room < needed => Err(TOO_LITTLE_MEMORY),
+        Err(number) if number < BUFFER_TOO_SMALL => answer,
+        _ if capacity < needed => Err(BUFFER_TOO_SMALL),
         _ => answer,
     }
 }

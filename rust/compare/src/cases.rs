@@ -1,4 +1,4 @@
-//! Random cases: a path, a prefix that often is one of it, and a new prefix.
+//! Random cases for paths: a path, a text that often is a prefix of it, and a new prefix.
 
 use crate::comparison::Comparison;
 use crate::text::Text;
@@ -16,7 +16,7 @@ pub fn case(comparison: &mut Comparison, random: &mut Random) {
     comparison.replace_prefix(&path, &old, &new);
 }
 
-/// A path of `length` bytes, one in five damaged, with an old and a new prefix for it.
+/// A path of `length` bytes, one in five with a wrong byte, and an old and a new prefix for it.
 pub fn texts(random: &mut Random, length: usize) -> [Vec<u8>; 3] {
     let legal = legal_text(random, length);
     let path = if random.one_in(5) { damaged(random, &legal) } else { legal };

@@ -1,4 +1,4 @@
-//! Calls both sides with the same texts and compares what they give.
+//! Calls both sides with the same texts and compares the results.
 
 use crate::calls::{self, NumberCall, PathCall};
 use crate::lent::Lent;
@@ -8,7 +8,7 @@ use crate::text::{Answer, Text, Texts};
 use mudvizsor::ffi::{Reply, paths};
 use original::sdf::Path;
 use std::collections::BTreeSet;
-use texts::LONGEST;
+use texts::MAX_PATH_LEN;
 
 const NUMBER_CALLS: [NumberCall; 5] = [
     calls::NEW,
@@ -21,17 +21,17 @@ const NUMBER_CALLS: [NumberCall; 5] = [
 const PATH_CALLS: [PathCall; 4] =
     [calls::PARENT, calls::PRIM_PATH, calls::SPLIT_PROPERTY, calls::STRIP_VARIANT_SELECTIONS];
 
-/// Bytes lent for a path.
-const ROOMS: [usize; 5] = [0, LONGEST - 1, LONGEST, LONGEST + 1, 300];
+/// The sizes of the buffers lent for a path, in bytes.
+const CAPACITIES: [usize; 5] = [0, MAX_PATH_LEN - 1, MAX_PATH_LEN, MAX_PATH_LEN + 1, 300];
 
-/// Numbers lent for the lengths of ancestors, at most: one for each length, and three more.
-const NUMBERS: usize = LONGEST + 1 + 3;
+/// The maximum size of the buffer lent for the lengths of ancestors: one number for each length, and three more.
+const NUMBERS: usize = MAX_PATH_LEN + 1 + 3;
 
 pub struct Comparison {
     pub tally: Tally,
     /// The legal texts that `Path::new` refuses.
     pub refused_by_original: BTreeSet<Vec<u8>>,
-    /// How far the paths of random routes get.
+    /// Statistics on how far the paths of random routes get.
     pub reach: Reach,
     bytes: Lent<u8>,
     numbers: Lent<usize>,
@@ -43,12 +43,12 @@ impl Comparison {
             tally: Tally::default(),
             refused_by_original: BTreeSet::new(),
             reach: Reach::default(),
-            bytes: Lent::bytes(ROOMS[ROOMS.len() - 1]),
+            bytes: Lent::bytes(CAPACITIES[CAPACITIES.len() - 1]),
             numbers: Lent::numbers(NUMBERS),
         }
     }
 
-    /// Every call that takes one text.
+    /// Compares every call that takes one text.
     pub fn one_text(&mut self, text: &Text) {
         for call in &NUMBER_CALLS {
             let found = (call.entry)(&text.bytes);
@@ -57,7 +57,7 @@ impl Comparison {
         for call in &PATH_CALLS {
             let expected = call.expected(text);
             let entry = |out: &mut [u8]| (call.entry)(&text.bytes, out);
-            self.path(call.name, &Texts(&[text]), &ROOMS, &expected, entry);
+            self.path(call.name, &Texts(&[text]), &CAPACITIES, &expected, entry);
         }
         self.ancestors(text);
     }
@@ -71,44 +71,44 @@ impl Comparison {
     pub fn replace_prefix(&mut self, text: &Text, old: &Text, new: &Text) {
         let expected = calls::replace_prefix(text, old, new);
         let entry = |out: &mut [u8]| paths::replace_prefix(&text.bytes, &old.bytes, &new.bytes, out);
-        self.path("replace_prefix", &Texts(&[text, old, new]), &ROOMS, &expected, entry);
+        self.path("replace_prefix", &Texts(&[text, old, new]), &CAPACITIES, &expected, entry);
     }
 
     fn number(&mut self, name: &'static str, given: &dyn Given, expected: Answer<usize>, found: Reply) {
-        let call = Call { name, given, room: None };
+        let call = Call { name, given, capacity: None };
         self.tally.compare(call, expected, found, None);
     }
 
-    /// A call that writes a path, with each size of lent memory, of which none is above the greatest of
-    /// `ROOMS`.
+    /// Compares a call that writes a path, with a buffer of each capacity. No capacity may exceed the largest of
+    /// `CAPACITIES`.
     pub fn path(
         &mut self,
         name: &'static str,
         given: &dyn Given,
-        rooms: &[usize],
+        capacities: &[usize],
         expected: &Answer<Path>,
         entry: impl Fn(&mut [u8]) -> Reply,
     ) {
         let full = expected.as_ref().map(|path| path.as_str().as_bytes()).map_err(|number| *number);
-        for &room in rooms {
-            let expected = calls::within(room, LONGEST, full);
-            let found = entry(self.bytes.lend(room));
+        for &capacity in capacities {
+            let expected = calls::within(capacity, MAX_PATH_LEN, full);
+            let found = entry(self.bytes.lend(capacity));
             let wrong = self.bytes.first_wrong(expected.unwrap_or_default());
-            let call = Call { name, given, room: Some(room) };
+            let call = Call { name, given, capacity: Some(capacity) };
             self.tally.compare(call, expected.map(<[u8]>::len), found, wrong);
         }
     }
 
-    /// With one number too few, with just enough, and with more.
+    /// Compares `ancestors` with a buffer of one number too few, of just enough, and of more.
     fn ancestors(&mut self, text: &Text) {
         let full = calls::ancestors(text);
         let full = full.as_ref().map(Vec::as_slice).map_err(|number| *number);
         let needed = full.map_or(1, <[usize]>::len);
-        for room in [needed - 1, needed, needed + 3] {
-            let expected = calls::within(room, needed, full);
-            let found = paths::ancestors(&text.bytes, self.numbers.lend(room));
+        for capacity in [needed - 1, needed, needed + 3] {
+            let expected = calls::within(capacity, needed, full);
+            let found = paths::ancestors(&text.bytes, self.numbers.lend(capacity));
             let wrong = self.numbers.first_wrong(expected.unwrap_or_default());
-            let call = Call { name: "ancestors", given: &Texts(&[text]), room: Some(room) };
+            let call = Call { name: "ancestors", given: &Texts(&[text]), capacity: Some(capacity) };
             self.tally.compare(call, expected.map(<[usize]>::len), found, wrong);
         }
     }

@@ -1,4 +1,4 @@
-//! All texts of small sets, and all pairs and triples of smaller ones.
+//! Compares the calls for paths on all texts of small sets, and on all pairs and triples of smaller sets.
 
 use crate::comparison::Comparison;
 use crate::phase::phase;
@@ -34,7 +34,7 @@ fn one_text(comparison: &mut Comparison, bytes: &[u8]) {
     comparison.facts(&text);
 }
 
-/// Any byte in place of each byte of `text`, and before each, and after the last.
+/// Tries every byte in place of each byte of `text`, before each byte, and after the last one.
 fn every_byte_everywhere(comparison: &mut Comparison, text: &[u8]) {
     for byte in 0..=u8::MAX {
         for at in 0..text.len() {

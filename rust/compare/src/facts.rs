@@ -1,14 +1,14 @@
-//! What must hold of the original's answers, because the library's calls rest on it.
+//! Properties of the original on which the definitions of the library depend.
 
 use crate::comparison::Comparison;
 use crate::text::{Text, Texts, parsed};
 use original::sdf::Path;
 
-/// A legal path of at most 255 bytes has at most so many ancestors, itself counted.
-const MOST_ANCESTORS: usize = 128;
+/// The maximum number of ancestors of a legal path of at most 255 bytes, including the path itself.
+const MAX_ANCESTORS: usize = 128;
 
 impl Comparison {
-    /// The facts about one legal path.
+    /// Checks the properties of one legal path.
     pub fn facts(&mut self, text: &Text) {
         let Some(path) = text.path() else {
             return;
@@ -19,20 +19,23 @@ impl Comparison {
         }
         let mut fact = |name, holds| self.tally.fact(name, &Texts(&[text]), holds);
         fact("Path::new refuses no legal text but the empty one", refused == text.bytes.is_empty());
-        fact("a path has at most 128 ancestors", path.ancestors().count() <= MOST_ANCESTORS);
+        fact("a path has at most 128 ancestors", path.ancestors().count() <= MAX_ANCESTORS);
         fact("an ancestor is a beginning of the path", path.ancestors().all(|up| begins(path, &up)));
         fact("the prim path is a beginning of the path", begins(path, &path.prim_path()));
         fact("the property's name is the text after the dot", splits_at_dot(path));
     }
 
-    /// The facts about one legal path and a prefix.
+    /// Checks the properties of one legal path and a prefix.
     pub fn prefix_facts(&mut self, text: &Text, prefix: &Text) {
         let (Some(path), Some(old)) = (text.path(), prefix.path()) else {
             return;
         };
         let has_prefix = path.has_prefix(old);
         let mut fact = |name, holds| self.tally.fact(name, &Texts(&[text, prefix]), holds);
-        fact("has_prefix is as document 01 says", has_prefix == is_prefix(&text.bytes, &prefix.bytes));
+        fact(
+            "has_prefix is as stated in the requirements",
+            has_prefix == is_prefix(&text.bytes, &prefix.bytes),
+        );
         fact(
             "a prefix can be replaced, and nothing else",
             has_prefix == path.replace_prefix(old, old).is_some(),

@@ -1,6 +1,6 @@
-//! Memory lent to a call, with a pattern in it that shows afterwards what was written.
+//! A buffer lent to a call, filled with a pattern that shows afterwards what was written.
 
-/// So many items on either side of the lent ones are watched too.
+/// The number of items on either side of the lent ones that are checked too.
 const MARGIN: usize = 16;
 
 pub struct Lent<T> {
@@ -9,14 +9,14 @@ pub struct Lent<T> {
 }
 
 impl Lent<u8> {
-    /// No byte of the pattern is ASCII, so none is a byte of a path.
+    /// A buffer of bytes. No byte of the pattern is ASCII, so none can be a byte of a path.
     pub fn bytes(most: usize) -> Self {
         Lent::new((0..most + 2 * MARGIN).map(|at| 0x80 | at as u8).collect())
     }
 }
 
 impl Lent<usize> {
-    /// No number of the pattern is the length of a path.
+    /// A buffer of numbers. No number of the pattern can be the length of a path.
     pub fn numbers(most: usize) -> Self {
         Lent::new((0..most + 2 * MARGIN).map(|at| usize::MAX - at).collect())
     }
@@ -27,19 +27,19 @@ impl<T: Copy + PartialEq> Lent<T> {
         Lent { memory: pattern.clone(), pattern }
     }
 
-    /// `room` items that hold the pattern.
-    pub fn lend(&mut self, room: usize) -> &mut [T] {
+    /// Lends `capacity` items, filled with the pattern.
+    pub fn lend(&mut self, capacity: usize) -> &mut [T] {
         self.memory.copy_from_slice(&self.pattern);
-        &mut self.memory[MARGIN..MARGIN + room]
+        &mut self.memory[MARGIN..MARGIN + capacity]
     }
 
-    /// What `room` lent items hold before the call.
-    pub fn before(&self, room: usize) -> &[T] {
-        &self.pattern[MARGIN..MARGIN + room]
+    /// The contents of `capacity` lent items before the call.
+    pub fn before(&self, capacity: usize) -> &[T] {
+        &self.pattern[MARGIN..MARGIN + capacity]
     }
 
-    /// The first place that is not as it should be where `written` was written to the beginning of what was
-    /// lent, and nothing else anywhere. A place before the lent memory is negative.
+    /// Returns the first wrong index, if `written` was to be written to the start of the lent items and nothing else
+    /// anywhere. An index before the lent items is negative.
     pub fn first_wrong(&self, written: &[T]) -> Option<isize> {
         let end = MARGIN + written.len();
         let agrees = self.memory[..MARGIN] == self.pattern[..MARGIN]

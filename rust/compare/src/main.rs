@@ -1,4 +1,5 @@
-//! Compares the library and the program `frames` with the original, call by call, line by line and byte by byte.
+//! `compare`: compares the library and the program `frames` with the original Rust code, call by call, line by line and
+//! byte by byte. `compare --help` describes the options.
 
 mod calls;
 mod cases;
@@ -23,9 +24,15 @@ mod times;
 use comparison::Comparison;
 use options::Options;
 use std::env;
+use std::io::{self, Write};
 use std::process::ExitCode;
 
 fn main() -> ExitCode {
+    if env::args().skip(1).any(|argument| argument == "--help" || argument == "-h") {
+        // A reader that closes the pipe early is not an error.
+        let _ = writeln!(io::stdout(), "{}", options::help());
+        return ExitCode::SUCCESS;
+    }
     let options = match Options::read(env::args().skip(1)) {
         Ok(options) => options,
         Err(message) => {

@@ -1,4 +1,4 @@
-//! The calls that make maps: all small lists and maps, with flaws, and at random.
+//! Compares the calls that build maps: on all small lists and maps, with flaws, and on random ones.
 
 mod before;
 mod calls;
@@ -11,7 +11,7 @@ use crate::comparison::Comparison;
 use crate::phase::phase;
 
 pub fn run(comparison: &mut Comparison) {
-    phase(comparison, "document 01's cases on making maps", table::run);
+    phase(comparison, "cases of the requirements on building maps", table::run);
     phase(comparison, "maps made of at most two pairs", small::at_most_two_pairs);
     phase(comparison, "maps made of three pairs", small::three_pairs);
     phase(comparison, "two small maps composed", small::composed);

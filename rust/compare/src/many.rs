@@ -1,29 +1,29 @@
-//! Calls on many paths: each path must get what the single call gives it with 255 bytes lent.
+//! Calls for many paths: each path must have the result of the single call with a buffer of 255 bytes.
 
 use crate::comparison::Comparison;
 use crate::lent::Lent;
 use crate::maps::calls::WithText;
 use crate::tally::{Call, Given};
-use crate::text::{Answer, TOO_LITTLE_MEMORY, TOO_LONG, Text};
+use crate::text::{Answer, BUFFER_TOO_SMALL, TOO_LONG, Text};
 use mudvizsor::ffi::Reply;
 use mudvizsor::ffi::maps::Paths;
 use original::sdf::Path;
-use texts::LONGEST;
+use texts::MAX_PATH_LEN;
 
-/// Bytes and numbers lent beyond those needed.
+/// The number of bytes and numbers lent beyond those needed.
 const MORE: usize = 7;
 
-/// The library's entry, which gets the paths and the memory for their bytes and replies.
+/// The entry of the library, which gets the paths and the buffers for their results and replies.
 type Entry<'a> = &'a dyn Fn(Paths, &mut [u8], &mut [usize]) -> Reply;
 
-/// A call on many paths, and what it is given beside them.
+/// A call for many paths, and its other input.
 pub struct Many<'a> {
     pub name: &'static str,
     pub given: &'a dyn Given,
     pub entry: Entry<'a>,
 }
 
-/// Paths as they are lent: the texts one after the other, then one path whose spot lies outside them.
+/// Paths as they are lent: the concatenated texts, and one more path whose spot lies outside them.
 struct LentPaths {
     texts: Vec<u8>,
     spots: Vec<usize>,
@@ -43,83 +43,83 @@ impl LentPaths {
         lent
     }
 
-    /// All paths, with so many of the numbers that say where they are.
+    /// Lends all paths, with this many of the numbers of their spots.
     fn lend(&self, spots: usize) -> Paths<'_> {
         Paths { texts: &self.texts, spots: &self.spots[..spots], count: self.count }
     }
 }
 
-/// So many spots, bytes and replies are lent.
+/// The lengths of the lent slices.
 #[derive(Clone, Copy)]
-struct Room {
+struct Lengths {
     spots: usize,
     bytes: usize,
     replies: usize,
 }
 
 impl Comparison {
-    /// All paths in one call: with what is needed, with more, and with one too few of each kind. The answers
-    /// expected are those of the single calls.
+    /// Compares one call for all paths: with just what is needed, with more, and with one too few in each slice. The expected
+    /// answers are those of the single calls.
     pub fn many(&mut self, call: &Many, texts: &[Text], mut expected: Vec<Answer<Path>>) {
         expected.push(Err(TOO_LONG));
         let lent = &LentPaths::new(texts);
         let count = lent.count;
-        let needed = Room { spots: 2 * count, bytes: LONGEST * count, replies: count };
-        let more = Room { bytes: needed.bytes + MORE, replies: needed.replies + MORE, ..needed };
-        for room in [needed, more] {
-            self.all_carried(call, texts, lent, room, &expected);
+        let needed = Lengths { spots: 2 * count, bytes: MAX_PATH_LEN * count, replies: count };
+        let more = Lengths { bytes: needed.bytes + MORE, replies: needed.replies + MORE, ..needed };
+        for lengths in [needed, more] {
+            self.all_mapped(call, texts, lent, lengths, &expected);
         }
         let short = [
-            Room { spots: needed.spots - 1, ..needed },
-            Room { bytes: needed.bytes - 1, ..needed },
-            Room { replies: needed.replies - 1, ..needed },
+            Lengths { spots: needed.spots - 1, ..needed },
+            Lengths { bytes: needed.bytes - 1, ..needed },
+            Lengths { replies: needed.replies - 1, ..needed },
         ];
-        for room in short {
-            self.all_refused(call, lent, room);
+        for lengths in short {
+            self.all_refused(call, lent, lengths);
         }
     }
 
-    fn all_carried(
+    fn all_mapped(
         &mut self,
         call: &Many,
         texts: &[Text],
         lent: &LentPaths,
-        room: Room,
+        lengths: Lengths,
         expected: &[Answer<Path>],
     ) {
         let Many { name, given, entry } = *call;
-        let (mut bytes, mut numbers) = (Lent::bytes(room.bytes), Lent::numbers(room.replies));
-        let replies = numbers.lend(room.replies);
-        let found = entry(lent.lend(room.spots), bytes.lend(room.bytes), replies);
+        let (mut bytes, mut numbers) = (Lent::bytes(lengths.bytes), Lent::numbers(lengths.replies));
+        let replies = numbers.lend(lengths.replies);
+        let found = entry(lent.lend(lengths.spots), bytes.lend(lengths.bytes), replies);
         let replies = replies.to_vec();
-        let nowhere = Text::new(b"");
-        for (i, text) in texts.iter().chain([&nowhere]).enumerate() {
+        let outside = Text::new(b"");
+        for (i, text) in texts.iter().chain([&outside]).enumerate() {
             let answer = expected[i].as_ref().map(|path| path.as_str().len()).map_err(|number| *number);
-            let of_one = Call { name, given: &WithText { given, text }, room: Some(room.bytes) };
+            let of_one = Call { name, given: &WithText { given, text }, capacity: Some(lengths.bytes) };
             self.tally.compare(of_one, answer, Reply(replies[i]), None);
         }
-        let memory = memory_after(bytes.before(room.bytes), expected);
+        let memory = memory_after(bytes.before(lengths.bytes), expected);
         let wrong = bytes.first_wrong(&memory).or(numbers.first_wrong(&replies[..lent.count]));
-        self.tally.compare(Call { name, given, room: Some(room.bytes) }, Ok(0), found, wrong);
+        self.tally.compare(Call { name, given, capacity: Some(lengths.bytes) }, Ok(0), found, wrong);
     }
 
-    fn all_refused(&mut self, call: &Many, lent: &LentPaths, room: Room) {
+    fn all_refused(&mut self, call: &Many, lent: &LentPaths, lengths: Lengths) {
         let Many { name, given, entry } = *call;
-        let (mut bytes, mut numbers) = (Lent::bytes(room.bytes), Lent::numbers(room.replies));
-        let found = entry(lent.lend(room.spots), bytes.lend(room.bytes), numbers.lend(room.replies));
+        let (mut bytes, mut numbers) = (Lent::bytes(lengths.bytes), Lent::numbers(lengths.replies));
+        let found = entry(lent.lend(lengths.spots), bytes.lend(lengths.bytes), numbers.lend(lengths.replies));
         let wrong = bytes.first_wrong(&[]).or(numbers.first_wrong(&[]));
-        let of_all = Call { name, given, room: Some(room.bytes) };
-        self.tally.compare(of_all, Err(TOO_LITTLE_MEMORY), found, wrong);
+        let of_all = Call { name, given, capacity: Some(lengths.bytes) };
+        self.tally.compare(of_all, Err(BUFFER_TOO_SMALL), found, wrong);
     }
 }
 
-/// Lent memory with each path at the beginning of its 255 bytes.
+/// The expected contents of the buffer: each path at the start of its 255 bytes.
 fn memory_after(before: &[u8], expected: &[Answer<Path>]) -> Vec<u8> {
     let mut memory = before.to_vec();
     for (i, path) in expected.iter().enumerate() {
         if let Ok(path) = path {
             let text = path.as_str().as_bytes();
-            memory[LONGEST * i..][..text.len()].copy_from_slice(text);
+            memory[MAX_PATH_LEN * i..][..text.len()].copy_from_slice(text);
         }
     }
     memory

@@ -1,4 +1,4 @@
-//! The calls on maps: lists of pairs, in all small sets, with flaws, and at random.
+//! Compares the calls that map a path: on all small lists of pairs, with flaws, and on random lists.
 
 pub mod calls;
 pub mod cases;
@@ -12,7 +12,7 @@ use crate::phase::phase;
 use texts::random::Random;
 
 pub fn run(comparison: &mut Comparison, seed: u64) {
-    phase(comparison, "document 01's cases on maps", table::run);
+    phase(comparison, "cases of the requirements on maps", table::run);
     phase(comparison, "lists of at most two pairs", small::lists_of_at_most_two);
     phase(comparison, "lists of three pairs", small::lists_of_three);
     phase(comparison, "every set of flaws", |comparison| {

@@ -23,7 +23,7 @@ pub const PARTS: &[Part] = &[
     Part { name: FRAMES, run: frames },
 ];
 
-/// The names of all parts.
+/// The names of all parts, for the help text.
 pub fn names() -> String {
     PARTS.iter().map(|part| part.name).collect::<Vec<_>>().join(", ")
 }

@@ -1,10 +1,10 @@
-//! Phases of the comparison, each with a line that says how many comparisons it made.
+//! The phases of the comparison; each prints a line with its number of comparisons.
 
 use crate::comparison::Comparison;
 use std::time::{Duration, Instant};
 use texts::random::Random;
 
-/// How long to go on with random cases.
+/// When to stop with random cases.
 pub enum Limit {
     Cases(u64),
     Time(Duration),
@@ -25,7 +25,7 @@ pub fn phase(comparison: &mut Comparison, name: &str, run: impl FnOnce(&mut Comp
     println!("{name}: {} comparisons", comparison.tally.comparisons() - before);
 }
 
-/// Makes random cases until the limit is reached.
+/// Tries random cases until the limit is reached.
 pub fn random_phase(
     comparison: &mut Comparison,
     name: &str,
@@ -39,7 +39,7 @@ pub fn random_phase(
     });
 }
 
-/// Makes random cases until the limit is reached, or one says that it is the last.
+/// Tries random cases until the limit is reached or a case returns false.
 pub fn random_phase_while(
     comparison: &mut Comparison,
     name: &str,
@@ -51,9 +51,9 @@ pub fn random_phase_while(
     let start = Instant::now();
     let before = comparison.tally.comparisons();
     let mut cases = 0;
-    let mut goes_on = true;
-    while goes_on && !limit.is_reached(cases, start) {
-        goes_on = case(comparison, random);
+    let mut continues = true;
+    while continues && !limit.is_reached(cases, start) {
+        continues = case(comparison, random);
         cases += 1;
     }
     let made = comparison.tally.comparisons() - before;

@@ -1,21 +1,21 @@
-//! A sample of the original's answers, written to files, to be compared where no Rust is at hand.
+//! Writes a sample of the answers of the original to files, for comparisons without Rust.
 //!
-//! A path is lent 255 bytes and `ancestors` 128 numbers, which is always enough: 5 is never the answer.
+//! The buffers are assumed to be large enough, so no answer is refusal 5.
 
 use crate::calls::{self, NumberCall};
 use crate::cases;
 use crate::text::{Answer, Text};
 use original::sdf::Path;
 use std::{fs, io};
-use texts::LONGEST;
+use texts::MAX_PATH_LEN;
 use texts::random::Random;
 
 type Case = [Vec<u8>; 3];
 
-/// Lines in a sample.
+/// The number of lines in a sample.
 const LINES: usize = 600;
 
-/// Writes `PATH OLD NEW` for each case to `inputs` and the 13 answers of each to `answers`.
+/// Writes `PATH OLD NEW` for each case to the file `inputs`, and its 13 answers to the file `answers`.
 pub fn write(inputs: &str, answers: &str, seed: u64) -> io::Result<()> {
     let sample = sample(seed);
     let lines = |line: fn(&Case) -> String| sample.iter().map(|case| line(case) + "\n").collect::<String>();
@@ -23,7 +23,7 @@ pub fn write(inputs: &str, answers: &str, seed: u64) -> io::Result<()> {
     fs::write(answers, lines(answer_line))
 }
 
-/// The chosen cases, then random ones.
+/// Chosen cases, then random ones.
 fn sample(seed: u64) -> Vec<Case> {
     let mut sample = [chosen_cases(), cases_at_the_limit()].concat();
     let random = &mut Random::new(seed);
@@ -39,10 +39,10 @@ fn sample(seed: u64) -> Vec<Case> {
 
 /// Mostly short, so that the sample stays small.
 fn recorded_length(random: &mut Random) -> usize {
-    if random.one_in(5) { random.within(LONGEST - 3..=LONGEST + 2) } else { random.below(30) }
+    if random.one_in(5) { random.within(MAX_PATH_LEN - 3..=MAX_PATH_LEN + 2) } else { random.below(30) }
 }
 
-/// Document 01's cases on paths, and each turn of the definitions.
+/// The cases of the requirements for paths, and a case for each branch of the definitions.
 fn chosen_cases() -> Vec<Case> {
     const CASES: &[[&str; 3]] = &[
         ["/AB", "/A", "/C"],
@@ -131,10 +131,10 @@ fn chosen_cases() -> Vec<Case> {
     CASES.iter().map(|case| case.map(|text| text.as_bytes().to_vec())).collect()
 }
 
-/// Paths, joined paths and numbers of ancestors at their limits and one beyond.
+/// Paths, joined paths and numbers of ancestors at their limits and just beyond.
 fn cases_at_the_limit() -> Vec<Case> {
     let mut cases = Vec::new();
-    for length in LONGEST - 1..=LONGEST + 1 {
+    for length in MAX_PATH_LEN - 1..=MAX_PATH_LEN + 1 {
         for shape in ["/", "/A/", "/A{v=p}", "/A.b:", "/A.b"] {
             let path = padded(shape, length);
             cases.push([path.clone(), b"/A".to_vec(), b"/C".to_vec()]);
@@ -150,15 +150,15 @@ fn cases_at_the_limit() -> Vec<Case> {
         cases.push([padded(&"/A".repeat(127), length), b"/A".to_vec(), b"/C".to_vec()]);
         cases.push([padded(&("/A".repeat(126) + ".b"), length), b"/A/A".to_vec(), b"/C".to_vec()]);
     }
-    // An illegal text beside one that is too long: 1 comes before 2.
-    cases.push([b"A".to_vec(), padded("/", LONGEST + 1), b"/C".to_vec()]);
-    cases.push([b"/A".to_vec(), b"A".to_vec(), padded("/", LONGEST + 1)]);
+    // An illegal text and one that is too long: question 1 comes before 2.
+    cases.push([b"A".to_vec(), padded("/", MAX_PATH_LEN + 1), b"/C".to_vec()]);
+    cases.push([b"/A".to_vec(), b"A".to_vec(), padded("/", MAX_PATH_LEN + 1)]);
     cases
 }
 
-/// `beginning` made `length` bytes long by letters.
-fn padded(beginning: &str, length: usize) -> Vec<u8> {
-    let mut text = beginning.as_bytes().to_vec();
+/// `prefix` padded with letters to `length` bytes.
+fn padded(prefix: &str, length: usize) -> Vec<u8> {
+    let mut text = prefix.as_bytes().to_vec();
     text.resize(length, b'x');
     text
 }
@@ -187,7 +187,7 @@ fn answer_line(case: &Case) -> String {
     .join(" ")
 }
 
-/// An answer as it is written, or `!` and the number of the refusal.
+/// The text of an answer, or `!` and the number of the refusal.
 fn field<T>(answer: Answer<T>, write: impl FnOnce(T) -> String) -> String {
     answer.map_or_else(|number| format!("!{number}"), write)
 }

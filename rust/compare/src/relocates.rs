@@ -1,4 +1,5 @@
-//! The calls on relocate lists: all small lists, document 01's cases, and at random with flaws.
+//! Compares the calls for relocate lists: on the cases of the requirements, on all small lists, and on random lists with
+//! flaws.
 
 mod calls;
 pub mod cases;
@@ -9,7 +10,7 @@ use crate::comparison::Comparison;
 use crate::phase::phase;
 
 pub fn run(comparison: &mut Comparison) {
-    phase(comparison, "document 01's cases on relocates", table::run);
+    phase(comparison, "cases of the requirements on relocates", table::run);
     phase(comparison, "relocate lists of at most two pairs", small::lists_of_at_most_two);
     phase(comparison, "relocate lists of three pairs", small::lists_of_three);
 }

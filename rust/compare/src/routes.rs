@@ -1,4 +1,4 @@
-//! The calls on routes: legs in all small sets, with flaws, and at random.
+//! Compares the calls for routes: on all small routes, with flaws, and on random routes.
 
 mod calls;
 pub mod cases;
@@ -13,7 +13,7 @@ use crate::phase::phase;
 use texts::random::Random;
 
 pub fn run(comparison: &mut Comparison, seed: u64) {
-    phase(comparison, "document 01's cases on routes", table::run);
+    phase(comparison, "cases of the requirements on routes", table::run);
     phase(comparison, "routes of one leg", small::one_leg);
     phase(comparison, "routes of two legs", small::two_legs);
     phase(comparison, "every set of a route's flaws", |comparison| {

@@ -1,4 +1,4 @@
-//! Counts comparisons and keeps the smallest input of each kind of difference.
+//! Counts comparisons and stores the smallest input of each kind of difference.
 
 use crate::text::Answer;
 use mudvizsor::ffi::Reply;
@@ -13,7 +13,7 @@ pub struct Tally {
     smallest: BTreeMap<Kind, Input>,
 }
 
-/// What differs, and in which call.
+/// A kind of difference: what differs, and in which call.
 #[derive(Clone, Copy, PartialEq, Eq, PartialOrd, Ord)]
 struct Kind {
     call: &'static str,
@@ -28,24 +28,24 @@ enum What {
     Fact,
 }
 
-/// The input of a difference as it is shown, with its size.
+/// The input of a difference as text, with its size.
 struct Input {
     size: usize,
     shown: String,
 }
 
-/// What a call is given, beside the memory lent for its answer.
+/// The input of a call, without the buffers for its result.
 pub trait Given: Display {
-    /// Of two inputs the one of lesser size tells more.
+    /// The size of the input; of two inputs with a difference the smaller one is shown.
     fn size(&self) -> usize;
 }
 
-/// One call: its name, what it is given and the items of lent memory.
+/// One call: its name, its input, and the capacity of its buffer.
 #[derive(Clone, Copy)]
 pub struct Call<'a> {
     pub name: &'static str,
     pub given: &'a dyn Given,
-    pub room: Option<usize>,
+    pub capacity: Option<usize>,
 }
 
 impl Tally {
@@ -61,18 +61,17 @@ impl Tally {
         self.differences
     }
 
-    /// Whether a difference in this call was seen.
-    pub fn knows(&self, name: &str) -> bool {
+    /// Returns whether a difference in this call was found.
+    pub fn has_difference(&self, name: &str) -> bool {
         self.smallest.keys().any(|kind| kind.call == name)
     }
 
-    /// So many comparisons in which nothing differs.
+    /// Counts comparisons without a difference.
     pub fn agree(&mut self, comparisons: usize) {
         self.comparisons += comparisons as u64;
     }
 
-    /// Compares a reply with the answer expected; `wrong` is a place of the lent memory that is not as it
-    /// should be.
+    /// Compares a reply with the expected answer; `wrong` is an index of the lent buffer with wrong contents.
     pub fn compare(&mut self, call: Call, expected: Answer<usize>, found: Reply, wrong: Option<isize>) {
         self.comparisons += 1;
         let expected = match expected {
@@ -89,7 +88,7 @@ impl Tally {
         }
     }
 
-    /// Compares what was found with what is expected, where both are no reply: they agree or not.
+    /// Counts a comparison of results that are not replies, and whether they agree.
     pub fn values(&mut self, call: Call, agree: bool, expected: impl Debug, found: impl Debug) {
         self.comparisons += 1;
         if !agree {
@@ -97,11 +96,11 @@ impl Tally {
         }
     }
 
-    /// Something that must hold of the original's answers; where it does not, that counts as a difference.
+    /// Counts a property of the original that must hold. If it does not, that is a difference.
     pub fn fact(&mut self, name: &'static str, given: &dyn Given, holds: bool) {
         self.facts += 1;
         if !holds {
-            let call = Call { name, given, room: None };
+            let call = Call { name, given, capacity: None };
             self.note(call, What::Fact, String::from("does not hold"));
         }
     }
@@ -112,8 +111,8 @@ impl Tally {
         let size = call.given.size();
         let known = self.smallest.get(&kind);
         if known.is_none_or(|known| size < known.size) {
-            let room = call.room.map_or(String::new(), |room| format!(" room {room}:"));
-            let shown = format!("{}{room} {details}", call.given);
+            let capacity = call.capacity.map_or(String::new(), |capacity| format!(" capacity {capacity}:"));
+            let shown = format!("{}{capacity} {details}", call.given);
             self.smallest.insert(kind, Input { size, shown });
         }
     }
@@ -137,7 +136,7 @@ impl What {
 }
 
 impl Display for Tally {
-    /// The smallest input of each kind of difference, a line each.
+    /// The smallest input of each kind of difference, one per line.
     fn fmt(&self, f: &mut fmt::Formatter<'_>) -> fmt::Result {
         for (kind, input) in &self.smallest {
             writeln!(f, "{} ({}):{}", kind.call, kind.what, input.shown)?;

@@ -1,17 +1,17 @@
-//! A text with what is known of it before any call: its refusal, or the original's path.
+//! A text, and its path in the original or its refusal.
 
 use crate::tally::Given;
 use original::sdf::Path;
 use std::fmt::{self, Display};
-use texts::LONGEST;
+use texts::MAX_PATH_LEN;
 use texts::legal::is_legal;
 
-/// What a call answers, or document 01's number of its refusal.
+/// The result of a call, or the number of its refusal.
 pub type Answer<T> = Result<T, u8>;
 
 pub const TOO_LONG: u8 = 1;
 pub const NOT_LEGAL: u8 = 2;
-pub const TOO_LITTLE_MEMORY: u8 = 5;
+pub const BUFFER_TOO_SMALL: u8 = 5;
 pub const NO_PATH: u8 = 6;
 pub const MADE_TOO_LONG: u8 = 7;
 pub const MADE_NOT_LEGAL: u8 = 8;
@@ -30,13 +30,13 @@ impl Text {
         self.answer().ok()
     }
 
-    /// The path, or the first "no" of questions 1 and 2.
+    /// The path, or the first failed check of questions 1 and 2.
     pub fn answer(&self) -> Answer<&Path> {
         self.path.as_ref().map_err(|number| *number)
     }
 }
 
-/// The texts that a call is given.
+/// The input of a call that takes texts.
 pub struct Texts<'a>(pub &'a [&'a Text]);
 
 impl Given for Texts<'_> {
@@ -51,25 +51,25 @@ impl Display for Texts<'_> {
     }
 }
 
-/// Questions 1 and 2 put to one text.
+/// Validates one text (questions 1 and 2).
 pub fn path_of(bytes: &[u8]) -> Answer<Path> {
-    if bytes.len() > LONGEST {
+    if bytes.len() > MAX_PATH_LEN {
         return Err(TOO_LONG);
     }
     if !is_legal(bytes) {
         return Err(NOT_LEGAL);
     }
-    // `Path::new` refuses the empty text, which `Path::default` stands for; `facts` watches for others.
+    // `Path::new` refuses the empty text, whose path is `Path::default`. `facts` checks that it refuses no other.
     Ok(parsed(bytes).unwrap_or_default())
 }
 
-/// The original's path of a legal text, where `Path::new` accepts it.
+/// The path of a legal text in the original; `None` if `Path::new` refuses it.
 pub fn parsed(legal: &[u8]) -> Option<Path> {
     let text = str::from_utf8(legal).expect("a legal text is ASCII");
     Path::new(text).ok()
 }
 
-/// The paths of all texts. Question 1 is put to every text before question 2.
+/// The paths of all texts. Question 1 is checked for every text before question 2.
 pub fn paths<const N: usize>(texts: [&Text; N]) -> Answer<[&Path; N]> {
     for number in [TOO_LONG, NOT_LEGAL] {
         if texts.iter().any(|text| text.answer() == Err(number)) {

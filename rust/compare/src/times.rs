@@ -1,4 +1,4 @@
-//! The calls on time offsets: all offsets of special floats, and random ones.
+//! Compares the calls for time offsets: on all offsets of special floats, and on random ones.
 
 pub mod calls;
 pub mod cases;

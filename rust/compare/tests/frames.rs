@@ -1,4 +1,4 @@
-//! The part `frames` of the program, where the program to be compared is missing or answers wrongly.
+//! The part `frames`, if the program to be compared is missing or gives wrong answers.
 
 use std::process::{Command, Output};
 
@@ -8,20 +8,21 @@ fn compare(program: &str) -> Output {
 }
 
 #[test]
-fn a_program_that_is_missing_is_an_error() {
+fn a_missing_program_is_an_error() {
     let Output { status, stdout, stderr } = compare("no/such/program");
     assert_eq!(status.code(), Some(2));
     assert!(stdout.is_empty() && stderr.starts_with(b"there is no program no/such/program"));
 }
 
-/// A program that sends back what it gets.
+/// A program that echoes its input.
 #[test]
 fn wrong_answers_are_counted_and_shown() {
     let Output { status, stdout, .. } = compare("/bin/cat");
     assert_eq!(status.code(), Some(1));
     let report = String::from_utf8(stdout).expect("text");
     let last = report.lines().last().expect("a summary");
-    // Two scripts, the long input, the others at each of 279 cuts, and the lines one by one differ in their first answer.
+    // Each of these runs differs in its first answer: two scripts, the long input, the inputs at each of 279 cuts, and the
+    // lines one by one.
     assert!(last.starts_with("compare: ") && last.ends_with(" comparisons, 283 differences"), "{last}");
     assert!(report.contains("\n    answer 1: expected 8100\\n, found 01"), "{report}");
 }

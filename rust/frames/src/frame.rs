@@ -1,8 +1,8 @@
-//! What one line asks.
+//! Frames and their encoding.
 
-use crate::digits;
+use crate::hex;
 
-/// A frame by its kind, which is its first byte.
+/// A frame. Its first byte is its kind.
 #[derive(Clone, Copy, Debug, PartialEq, Eq)]
 pub enum Frame<'a> {
     /// 01: "pair, being source length (2 bytes, high first), source, target length, target".
@@ -22,7 +22,7 @@ pub enum Frame<'a> {
 }
 
 impl<'a> Frame<'a> {
-    /// The frame that bytes stand for, or `None` where they are not well formed.
+    /// Decodes a frame; `None` if it is not well formed.
     pub fn read(bytes: &'a [u8]) -> Option<Self> {
         let (kind, rest) = bytes.split_first()?;
         match (kind, rest) {
@@ -49,7 +49,7 @@ impl<'a> Frame<'a> {
         }
     }
 
-    /// The bytes that stand for the frame. An end of a pair has at most 65,535 bytes.
+    /// Encodes the frame. A source or target must have at most 65,535 bytes.
     pub fn bytes(&self) -> Vec<u8> {
         let mut bytes = vec![self.kind()];
         match self {
@@ -66,15 +66,15 @@ impl<'a> Frame<'a> {
         bytes
     }
 
-    /// The line of the frame, without its newline.
+    /// The frame as a line of hexadecimal digits, without its newline.
     pub fn line(&self) -> Vec<u8> {
         let mut line = Vec::new();
-        digits::write(&self.bytes(), &mut line);
+        hex::write(&self.bytes(), &mut line);
         line
     }
 }
 
-/// Two texts, each behind its length, that fill the rest of the frame.
+/// Decodes two texts, each preceded by its length, that fill the rest of the frame.
 fn read_pair(rest: &[u8]) -> Option<Frame<'_>> {
     let (source, rest) = read_text(rest)?;
     match read_text(rest)? {
@@ -83,6 +83,7 @@ fn read_pair(rest: &[u8]) -> Option<Frame<'_>> {
     }
 }
 
+/// Splits off a text that is preceded by its length.
 fn read_text(rest: &[u8]) -> Option<(&[u8], &[u8])> {
     let (length, rest) = rest.split_first_chunk()?;
     rest.split_at_checked(usize::from(u16::from_be_bytes(*length)))
@@ -93,7 +94,7 @@ mod tests {
     use super::Frame;
 
     #[test]
-    fn frames_come_back_from_their_bytes() {
+    fn frames_round_trip() {
         for frame in [
             Frame::Pair { source: b"/A", target: b"" },
             Frame::Pair { source: &[0; 300], target: b"/B" },

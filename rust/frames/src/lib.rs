@@ -1,10 +1,10 @@
-//! The protocol of the program `frames`, over the original's own functions.
+//! The protocol of the program `frames`, implemented with the original Rust code.
 //!
-//! It is written as an ordinary program would be, from document 01 alone: paths are the original's `Path`, a leg is
-//! the original's `MapFunction`, made once when the leg is closed.
+//! It is written as an ordinary program would be, from the requirements alone: a path is the `Path` of the original, a leg is
+//! its `MapFunction`, built once when the leg is closed.
 
-pub mod digits;
 pub mod frame;
+pub mod hex;
 pub mod load;
 pub mod program;
 pub mod run;

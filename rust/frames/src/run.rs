@@ -1,19 +1,19 @@
-//! The lines of an input that comes in blocks, and their answers.
+//! Splits the input, which is processed in blocks, into lines, and answers them.
 
-use crate::digits;
 use crate::frame::Frame;
+use crate::hex;
 use crate::state::State;
 use std::io::{self, ErrorKind, Read, Write};
 
 /// "A line of at most 4,096 digits".
-pub const LONGEST_LINE: usize = 4_096;
+pub const MAX_LINE_LEN: usize = 4_096;
 
-/// Bytes asked for at once.
+/// The number of bytes that are read at once.
 const BLOCK: usize = 65_536;
 
 const BAD_FRAME: [u8; 2] = [0xFF, 9];
 
-/// The state, and the line so far. Of an overlong line one byte more than the limit is kept.
+/// The state of the protocol, and the current line as far as it was read. At most one byte more than the limit is stored.
 #[derive(Default)]
 pub struct Run {
     state: State,
@@ -21,48 +21,50 @@ pub struct Run {
 }
 
 impl Run {
-    /// Takes the next block of the input and appends the answers to the lines that end in it.
-    pub fn feed(&mut self, block: &[u8], answers: &mut Vec<u8>) {
+    /// Processes the next block of the input and appends the answers to the lines that end in it.
+    pub fn process(&mut self, block: &[u8], answers: &mut Vec<u8>) {
         let mut rest = block;
         while let Some(end) = rest.iter().position(|byte| *byte == b'\n') {
-            self.keep(&rest[..end]);
+            self.append(&rest[..end]);
             self.end_line(answers);
             rest = &rest[end + 1..];
         }
-        self.keep(rest);
+        self.append(rest);
     }
 
-    /// "The last line may lack its newline."
+    /// Ends the input and answers the last line if it lacks its newline.
     pub fn finish(&mut self, answers: &mut Vec<u8>) {
         if !self.line.is_empty() {
             self.end_line(answers);
         }
     }
 
-    fn keep(&mut self, part: &[u8]) {
-        let room = LONGEST_LINE + 1 - self.line.len();
-        self.line.extend_from_slice(&part[..part.len().min(room)]);
+    /// Appends to the current line.
+    fn append(&mut self, part: &[u8]) {
+        let capacity = MAX_LINE_LEN + 1 - self.line.len();
+        self.line.extend_from_slice(&part[..part.len().min(capacity)]);
     }
 
+    /// Answers the current line.
     fn end_line(&mut self, answers: &mut Vec<u8>) {
         answer(&mut self.state, &self.line, answers);
         self.line.clear();
     }
 }
 
-/// Appends the answer line, in capitals, and its newline.
+/// Appends the answer line and its newline.
 fn answer(state: &mut State, line: &[u8], answers: &mut Vec<u8>) {
-    let bytes = if line.len() > LONGEST_LINE { None } else { digits::read(line) };
+    let bytes = if line.len() > MAX_LINE_LEN { None } else { hex::read(line) };
     match bytes.as_deref().and_then(Frame::read) {
-        None => digits::write(&BAD_FRAME, answers),
+        None => hex::write(&BAD_FRAME, answers),
         Some(frame) => {
             let kind = 0x80 + frame.kind();
             match state.answer(frame) {
                 Ok(payload) => {
-                    digits::write(&[kind, 0], answers);
-                    digits::write(payload.bytes(), answers);
+                    hex::write(&[kind, 0], answers);
+                    hex::write(payload.bytes(), answers);
                 }
-                Err(refusal) => digits::write(&[kind, refusal as u8], answers),
+                Err(refusal) => hex::write(&[kind, refusal as u8], answers),
             }
         }
     }
@@ -72,12 +74,12 @@ fn answer(state: &mut State, line: &[u8], answers: &mut Vec<u8>) {
 /// The answers to a whole input.
 pub fn answers(input: &[u8]) -> Vec<u8> {
     let (mut run, mut answers) = (Run::default(), Vec::new());
-    run.feed(input, &mut answers);
+    run.process(input, &mut answers);
     run.finish(&mut answers);
     answers
 }
 
-/// Answers every line of the input. The answers to the lines so far are written before more is waited for.
+/// Answers every line of the input. All answers so far are written before more input is read.
 pub fn serve(mut input: impl Read, mut output: impl Write) -> io::Result<()> {
     let (mut run, mut answers, mut block) = (Run::default(), Vec::new(), vec![0; BLOCK]);
     loop {
@@ -87,7 +89,7 @@ pub fn serve(mut input: impl Read, mut output: impl Write) -> io::Result<()> {
             Err(error) if error.kind() == ErrorKind::Interrupted => continue,
             Err(error) => return Err(error),
         };
-        run.feed(&block[..length], &mut answers);
+        run.process(&block[..length], &mut answers);
         output.write_all(&answers)?;
         output.flush()?;
         answers.clear();

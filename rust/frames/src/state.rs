@@ -1,24 +1,24 @@
-//! What is kept between two lines, and what each frame answers.
+//! The state of the protocol, and the answer to each frame.
 
 use crate::frame::Frame;
 use original::pcp::{MapFunction, relocates};
 use original::sdf::Path;
-use texts::LONGEST;
+use texts::MAX_PATH_LEN;
 use texts::legal::is_legal;
 
-pub const MOST_PAIRS: usize = 64;
-pub const MOST_LEGS: usize = 16;
+pub const MAX_PAIRS: usize = 64;
+pub const MAX_LEGS: usize = 16;
 
-/// "In `frames` 32,768 over all legs": the bytes of the ends of all legs, before pairs are dropped.
-pub const MOST_BYTES: usize = 32_768;
+/// The maximum number of bytes of the ends of all legs, before redundant pairs are dropped.
+pub const MAX_BYTES: usize = 32_768;
 
-/// Document 01's number of a question that is answered "no".
+/// The refusals of docs/REQUIREMENTS.md (Validation and refusals), with their numbers.
 #[derive(Clone, Copy, Debug, PartialEq, Eq, PartialOrd, Ord)]
 #[repr(u8)]
 pub enum Refusal {
     TooLong = 1,
     NotLegal = 2,
-    NoEnd = 3,
+    NotAnEnd = 3,
     TooMany = 4,
     NoRoom = 5,
     NoPath = 6,
@@ -26,7 +26,7 @@ pub enum Refusal {
     MadeNotLegal = 8,
 }
 
-/// The payload of an answer 00.
+/// The payload of an accepted frame.
 #[derive(Debug)]
 pub enum Payload {
     Nothing,
@@ -48,14 +48,17 @@ impl Payload {
 
 #[derive(Default)]
 pub struct State {
+    /// The open list.
     open: Vec<(Path, Path)>,
     legs: Vec<MapFunction>,
+    /// The bytes of the ends of all legs, before redundant pairs were dropped.
     used: usize,
+    /// The number of 05 frames that were answered with 00.
     answered: u32,
 }
 
 impl State {
-    /// Answers one frame. A refused one changes nothing.
+    /// Executes one frame. A refused frame changes nothing.
     pub fn answer(&mut self, frame: Frame) -> Result<Payload, Refusal> {
         match frame {
             Frame::Pair { source, target } => self.add(source, target),
@@ -71,11 +74,11 @@ impl State {
     fn add(&mut self, source: &[u8], target: &[u8]) -> Result<Payload, Refusal> {
         let pair = match (end(source), end(target)) {
             (Ok(source), Ok(target)) => (source, target),
-            // Each question is put to both ends before the next, so the smaller number is the answer.
+            // Each check is made for both ends before the next check, so the smaller number decides.
             (Err(one), Err(other)) => return Err(one.min(other)),
             (Err(refusal), Ok(_)) | (Ok(_), Err(refusal)) => return Err(refusal),
         };
-        if self.open.len() == MOST_PAIRS {
+        if self.open.len() == MAX_PAIRS {
             return Err(Refusal::TooMany);
         }
         self.open.push(pair);
@@ -89,14 +92,14 @@ impl State {
         pairs.filter(|(_, status)| *status == 0).map(|(pair, _)| pair.clone()).collect()
     }
 
-    /// Makes a leg of `new` of the pairs, with `/`→`/` beside them where it is asked for, and empties the open list.
+    /// Closes the open list: builds a leg with `new` from the pairs, and from `/`→`/` if `with_root` is true.
     fn close(&mut self, mut pairs: Vec<(Path, Path)>, with_root: bool) -> Result<Payload, Refusal> {
-        if self.legs.len() == MOST_LEGS {
+        if self.legs.len() == MAX_LEGS {
             return Err(Refusal::TooMany);
         }
         let bytes = |(source, target): &(Path, Path)| source.as_str().len() + target.as_str().len();
         let used = self.used + pairs.iter().map(bytes).sum::<usize>();
-        if used > MOST_BYTES {
+        if used > MAX_BYTES {
             return Err(Refusal::NoRoom);
         }
         if with_root {
@@ -109,21 +112,21 @@ impl State {
     }
 
     fn out(&mut self, text: &[u8]) -> Result<Payload, Refusal> {
-        let step = |path: Path, leg: &MapFunction| made(leg.translate_to_target(&path));
+        let step = |path: Path, leg: &MapFunction| check_result(leg.translate_to_target(&path));
         let path = self.legs.iter().try_fold(path(text)?, step)?;
         self.answered = self.answered.saturating_add(1);
         Ok(Payload::Path(path))
     }
 
     fn home(&self, text: &[u8]) -> Result<Payload, Refusal> {
-        let step = |path: Path, leg: &MapFunction| made(leg.map_target_to_source(&path));
+        let step = |path: Path, leg: &MapFunction| check_result(leg.map_target_to_source(&path));
         self.legs.iter().rev().try_fold(path(text)?, step).map(Payload::Path)
     }
 }
 
-/// Questions 1 and 2.
+/// Validates a path (questions 1 and 2).
 fn path(text: &[u8]) -> Result<Path, Refusal> {
-    if text.len() > LONGEST {
+    if text.len() > MAX_PATH_LEN {
         return Err(Refusal::TooLong);
     }
     match str::from_utf8(text) {
@@ -134,17 +137,17 @@ fn path(text: &[u8]) -> Result<Path, Refusal> {
     }
 }
 
-/// Questions 1 to 3: "a prim path, `/` or empty".
+/// Validates an end (questions 1 to 3): "a prim path, `/` or empty".
 fn end(text: &[u8]) -> Result<Path, Refusal> {
     let path = path(text)?;
-    if text.iter().any(|byte| b"{.".contains(byte)) { Err(Refusal::NoEnd) } else { Ok(path) }
+    if text.iter().any(|byte| b"{.".contains(byte)) { Err(Refusal::NotAnEnd) } else { Ok(path) }
 }
 
-/// Questions 6 to 8, put to what a leg gives.
-fn made(path: Option<Path>) -> Result<Path, Refusal> {
+/// Checks the result of a leg (questions 6 to 8).
+fn check_result(path: Option<Path>) -> Result<Path, Refusal> {
     let path = path.ok_or(Refusal::NoPath)?;
     let text = path.as_str().as_bytes();
-    if text.len() > LONGEST {
+    if text.len() > MAX_PATH_LEN {
         Err(Refusal::MadeTooLong)
     } else if !is_legal(text) {
         Err(Refusal::MadeNotLegal)
@@ -159,7 +162,7 @@ mod tests {
     use crate::frame::Frame;
 
     #[test]
-    fn the_count_is_held_at_its_largest() {
+    fn the_count_saturates() {
         let mut state = State { answered: u32::MAX - 1, ..State::default() };
         for _ in 0..3 {
             state.answer(Frame::Out(b"/A")).expect("a path");

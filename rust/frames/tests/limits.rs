@@ -1,11 +1,11 @@
-//! Each limit: the largest that passes, and one more.
+//! Each limit: the largest value that is accepted, and one more.
 
 mod common;
 
 use common::{answered, line, pair};
 use frames_original::Frame;
 
-/// A prim path of one name.
+/// A prim path of one name with this many bytes.
 fn name(length: usize) -> String {
     format!("/{}", "n".repeat(length - 1))
 }
@@ -49,7 +49,7 @@ fn bytes_of_a_path() {
 }
 
 #[test]
-fn bytes_of_a_path_made() {
+fn bytes_of_a_resulting_path() {
     for (length, number) in [(253, "00"), (254, "07")] {
         let out = pair("/A", &name(length)) + "03\n" + &line(Frame::Out(b"/A/b"));
         assert_eq!(&last(out)[2..4], number);
@@ -59,7 +59,7 @@ fn bytes_of_a_path_made() {
 }
 
 #[test]
-fn a_path_made_that_is_not_legal() {
+fn a_resulting_path_that_is_not_legal() {
     assert_eq!(last(pair("/A", "/") + "03\n" + &line(Frame::Out(b"/A.b"))), "8508");
     assert_eq!(last(pair("", "/X") + "03\n" + &line(Frame::Home(b"/X.p"))), "8608");
 }
@@ -90,7 +90,7 @@ fn legs_of_a_route() {
     }
 }
 
-/// A leg of 64 pairs of 510 bytes, 32,640 in all, and pairs that make up the rest.
+/// A leg of 64 pairs of 510 bytes, 32,640 in all, and a leg with the rest of the bytes.
 fn legs_of(bytes: usize, close: &str) -> String {
     let full = pair(&name(255), &name(255)).repeat(64) + "03\n";
     let rest = bytes - 64 * 510;
@@ -110,7 +110,7 @@ fn bytes_over_all_legs() {
 }
 
 #[test]
-fn root_pairs_of_a_map_count_and_the_one_added_does_not() {
+fn root_pairs_of_a_map_count_but_the_added_one_does_not() {
     let roots = legs_of(32_764, "03") + &pair("/", "/") + &pair("/", "/");
     assert_eq!(last(roots.clone() + "03\n"), "8300");
     assert_eq!(last(roots.clone() + &pair("/", "") + "03\n"), "8305");
@@ -127,7 +127,7 @@ fn a_list_refused_as_a_map_may_close_as_relocates() {
 }
 
 #[test]
-fn legs_come_before_bytes() {
+fn the_number_of_legs_is_checked_before_their_bytes() {
     let input = legs_of(32_768, "03") + &"03\n".repeat(14) + &pair("/R/a", "/R/b") + "03\n04\n";
     let found = answered(input);
     let answers: Vec<&str> = found.lines().collect();

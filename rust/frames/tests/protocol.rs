@@ -1,4 +1,4 @@
-//! Document 01's example, the shape of lines and frames, and what a refused frame leaves.
+//! The example of docs/REQUIREMENTS.md, the syntax of lines and frames, and the state after a refused frame.
 
 mod common;
 
@@ -51,7 +51,7 @@ fn other_characters_and_odd_digits() {
 }
 
 #[test]
-fn kinds_and_bytes_behind_them() {
+fn kinds_and_the_bytes_after_them() {
     for kind in 0..=255u8 {
         let expected = match kind {
             2..=4 => format!("{:02X}00\n", kind + 0x80),
@@ -73,17 +73,17 @@ fn blocks_of_every_size_give_the_same_answers() {
     for size in 1..=200 {
         let (mut run, mut found) = (Run::default(), Vec::new());
         for block in input.as_bytes().chunks(size) {
-            run.feed(block, &mut found);
+            run.process(block, &mut found);
         }
         run.finish(&mut found);
         assert_eq!(found, expected, "blocks of {size} bytes");
     }
 }
 
-/// An input of which each read gives one line.
-struct OneLineARead<'a>(&'a [u8]);
+/// An input that returns one line for each read.
+struct OneLinePerRead<'a>(&'a [u8]);
 
-impl Read for OneLineARead<'_> {
+impl Read for OneLinePerRead<'_> {
     fn read(&mut self, block: &mut [u8]) -> std::io::Result<usize> {
         let length = self.0.iter().position(|byte| *byte == b'\n').map_or(self.0.len(), |end| end + 1);
         let (line, rest) = self.0.split_at(length);
@@ -96,12 +96,12 @@ impl Read for OneLineARead<'_> {
 #[test]
 fn the_program_gives_the_same_answers() {
     let (input, mut output) = (example(0), Vec::new());
-    serve(OneLineARead(input.as_bytes()), &mut output).expect("a run");
+    serve(OneLinePerRead(input.as_bytes()), &mut output).expect("a run");
     assert_eq!(output, example(1).as_bytes());
 }
 
 #[test]
-fn the_smaller_number_of_two_ends_is_the_answer() {
+fn the_smaller_number_of_two_ends_decides() {
     let long = format!("/{}", "A".repeat(255));
     for (source, target, number) in [
         ("A", &long[..], 1),
@@ -141,11 +141,11 @@ fn statuses_of_the_table() {
 #[test]
 fn empty_lists_and_no_legs() {
     assert_eq!(answered("02\n"), "8200\n");
-    let asked = line(Frame::Out(b"/A{v=p}B")) + &line(Frame::Home(b"/A{v=p}B"));
+    let paths = line(Frame::Out(b"/A{v=p}B")) + &line(Frame::Home(b"/A{v=p}B"));
     let itself = "2F417B763D707D42";
-    assert_eq!(answered(&asked), format!("8500{itself}\n8600{itself}\n"));
-    assert_eq!(answered(format!("03\n{asked}")), "8300\n8506\n8606\n");
-    assert_eq!(answered(format!("04\n{asked}")), format!("8400\n85002F412F42\n8600{itself}\n"));
+    assert_eq!(answered(&paths), format!("8500{itself}\n8600{itself}\n"));
+    assert_eq!(answered(format!("03\n{paths}")), "8300\n8506\n8606\n");
+    assert_eq!(answered(format!("04\n{paths}")), format!("8400\n85002F412F42\n8600{itself}\n"));
     assert_eq!(answered("05\n06\n07\n"), "8500\n8600\n870000000001\n");
 }
 
@@ -156,11 +156,11 @@ fn a_list_is_emptied_by_its_close() {
 }
 
 #[test]
-fn legs_are_taken_in_order_and_home_in_reverse() {
+fn legs_are_applied_in_order_and_home_in_reverse() {
     let input = pair("/A", "/B") + "03\n" + &pair("/B/x", "/B/y") + "04\n";
-    let asked = line(Frame::Out(b"/A/x/z.p")) + &line(Frame::Home(b"/B/y/z.p")) + &line(Frame::Out(b"/A/y"));
+    let paths = line(Frame::Out(b"/A/x/z.p")) + &line(Frame::Home(b"/B/y/z.p")) + &line(Frame::Out(b"/A/y"));
     let expected = "8100\n8300\n8100\n8400\n85002F422F792F7A2E70\n86002F412F782F7A2E70\n8506\n";
-    assert_eq!(answered(input + &asked), expected);
+    assert_eq!(answered(input + &paths), expected);
 }
 
 #[test]

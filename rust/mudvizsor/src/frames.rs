@@ -1,9 +1,11 @@
 //! The protocol of the program `frames`, line by line.
 
-use crate::ffi::frames::{LONGEST_ANSWER, Memory, line};
-use crate::refusal::sure;
+use crate::ffi::frames::{MAX_ANSWER_LEN, OwnedState, line};
+use crate::refusal::accepted;
 
-/// A run of the protocol: frames of hexadecimal digits, each answered by a line.
+/// A run of the protocol of the program `frames`: each frame, a line of hexadecimal digits, is answered by a line.
+///
+/// The protocol is described in `docs/REQUIREMENTS.md`, section Frames.
 ///
 /// ```
 /// let mut frames = mudvizsor::Frames::new();
@@ -17,11 +19,11 @@ use crate::refusal::sure;
 /// ```
 #[derive(Debug, Clone, Default)]
 pub struct Frames {
-    memory: Memory,
+    state: OwnedState,
 }
 
 impl Frames {
-    /// A run before its first line.
+    /// Starts a run: no open list, no legs.
     ///
     /// ```
     /// assert_eq!(mudvizsor::Frames::new().answer("07"), "870000000000");
@@ -30,16 +32,15 @@ impl Frames {
         Self::default()
     }
 
-    /// Does what a line says and gives the line that answers it, both without their newlines. What is no frame is
-    /// answered `FF09`.
+    /// Executes a frame and returns the answer line, both without their newlines. A bad frame is answered `FF09`.
     ///
     /// ```
     /// let mut frames = mudvizsor::Frames::new();
     /// assert_eq!(frames.answer("052f41"), "85002F41");
     /// ```
     pub fn answer(&mut self, frame: &str) -> String {
-        let mut out = [0; LONGEST_ANSWER];
-        let length = sure(line(frame.as_bytes(), self.memory.lend(), &mut out));
+        let mut out = [0; MAX_ANSWER_LEN];
+        let length = accepted(line(frame.as_bytes(), self.state.lend(), &mut out));
         String::from_utf8_lossy(&out[..length - 1]).into_owned()
     }
 }
@@ -50,21 +51,21 @@ mod tests {
 
     #[test]
     fn the_scenario_of_line_7() {
-        let asked = include_str!("../../../scenarios/line-7.frames");
+        let input = include_str!("../../../scenarios/line-7.frames");
         let expected = include_str!("../../../scenarios/line-7.answers");
         let mut frames = Frames::new();
-        let answers: Vec<_> = asked.lines().map(|line| frames.answer(line)).collect();
+        let answers: Vec<_> = input.lines().map(|line| frames.answer(line)).collect();
         assert_eq!(answers, expected.lines().collect::<Vec<_>>());
     }
 
     #[test]
     fn the_recorded_run_of_the_program() {
-        let asked = include_str!("../../../crates/frames/stdin");
+        let input = include_str!("../../../crates/frames/stdin");
         let expected = include_str!("../../../crates/frames/stdout");
         let mut frames = Frames::new();
-        for (line, answer) in asked.split('\n').zip(expected.lines()) {
+        for (line, answer) in input.split('\n').zip(expected.lines()) {
             assert_eq!(frames.answer(line), answer);
         }
-        assert_eq!(asked.split('\n').count(), expected.lines().count());
+        assert_eq!(input.split('\n').count(), expected.lines().count());
     }
 }

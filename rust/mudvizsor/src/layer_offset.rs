@@ -1,8 +1,8 @@
-//! Time offsets, over the entries for them.
+//! Time offsets.
 
 use crate::ffi::times;
 
-/// A time offset: a time `t` of a layer is `offset + scale * t` where the layer is used.
+/// A time offset: maps the time `t` of a layer to the time `offset + scale * t` of the layer that uses it.
 ///
 /// ```
 /// use mudvizsor::LayerOffset;
@@ -13,13 +13,13 @@ use crate::ffi::times;
 /// ```
 #[derive(Debug, Clone, Copy, PartialEq)]
 pub struct LayerOffset {
-    /// What is added.
+    /// The number that is added after scaling.
     pub offset: f64,
-    /// What times are multiplied with before.
+    /// The factor of a time.
     pub scale: f64,
 }
 
-/// [`LayerOffset::IDENTITY`].
+/// The default is [`LayerOffset::IDENTITY`].
 impl Default for LayerOffset {
     fn default() -> Self {
         LayerOffset::IDENTITY
@@ -27,7 +27,7 @@ impl Default for LayerOffset {
 }
 
 impl LayerOffset {
-    /// The offset (0, 1), which leaves every time as it is.
+    /// The identity (0, 1), which maps every time to itself.
     ///
     /// ```
     /// # use mudvizsor::LayerOffset;
@@ -35,27 +35,27 @@ impl LayerOffset {
     /// ```
     pub const IDENTITY: LayerOffset = LayerOffset { offset: 0.0, scale: 1.0 };
 
-    /// The offset with these two numbers.
+    /// Creates a time offset from its two numbers.
     ///
     /// ```
     /// # use mudvizsor::LayerOffset;
     /// assert_eq!(LayerOffset::new(0.0, 1.0), LayerOffset::IDENTITY);
     /// ```
     pub fn new(offset: f64, scale: f64) -> Self {
-        made(|out| times::new(offset, scale, out))
+        read_offset(|out| times::new(offset, scale, out))
     }
 
-    /// A scale with the offset 0.
+    /// Creates a time offset with this scale and the offset 0.
     ///
     /// ```
     /// # use mudvizsor::LayerOffset;
     /// assert_eq!(LayerOffset::scale_only(2.0).apply(3.0), 6.0);
     /// ```
     pub fn scale_only(scale: f64) -> Self {
-        made(|out| times::scale_only(scale, out))
+        read_offset(|out| times::scale_only(scale, out))
     }
 
-    /// Whether both numbers are finite.
+    /// Returns whether both numbers are finite.
     ///
     /// ```
     /// # use mudvizsor::LayerOffset;
@@ -66,7 +66,7 @@ impl LayerOffset {
         times::is_valid(self.offset, self.scale)
     }
 
-    /// Whether it is (0, 1); minus zero counts as 0.
+    /// Returns whether it is (0, 1). Minus zero counts as 0.
     ///
     /// ```
     /// # use mudvizsor::LayerOffset;
@@ -76,8 +76,8 @@ impl LayerOffset {
         times::is_identity(self.offset, self.scale)
     }
 
-    /// Whether both offsets are within 1e-6 of each other in both numbers, or both are not finite and have the same
-    /// bits.
+    /// Returns whether both are [valid](Self::is_valid) and differ by less than 1e-6 in each number, or both are not valid
+    /// and have the same [bits](Self::to_bits).
     ///
     /// ```
     /// # use mudvizsor::LayerOffset;
@@ -87,7 +87,7 @@ impl LayerOffset {
         times::is_close(self.offset, self.scale, other.offset, other.scale)
     }
 
-    /// The bits of both numbers; of every NaN, 0x7ff8_0000_0000_0000.
+    /// Returns the bit patterns of both numbers; that of every NaN is 0x7ff8_0000_0000_0000.
     ///
     /// ```
     /// # use mudvizsor::LayerOffset;
@@ -99,7 +99,7 @@ impl LayerOffset {
         (out[0], out[1])
     }
 
-    /// The time that `time` becomes.
+    /// Returns `offset + scale * time`, the product being rounded before the sum.
     ///
     /// ```
     /// # use mudvizsor::LayerOffset;
@@ -109,7 +109,7 @@ impl LayerOffset {
         times::apply(self.offset, self.scale, time)
     }
 
-    /// The offset that undoes it, (0, 1) where the scale is zero.
+    /// Returns the inverse, or (0, 1) if the scale is zero, which has none.
     ///
     /// ```
     /// # use mudvizsor::LayerOffset;
@@ -117,10 +117,10 @@ impl LayerOffset {
     /// assert_eq!(LayerOffset::new(10.0, -0.0).inverse(), LayerOffset::IDENTITY);
     /// ```
     pub fn inverse(self) -> Self {
-        made(|out| times::inverse(self.offset, self.scale, out))
+        read_offset(|out| times::inverse(self.offset, self.scale, out))
     }
 
-    /// Whether it can be composed: both numbers finite, the scale above zero.
+    /// Returns whether it can be composed: both numbers are finite and the scale is greater than zero.
     ///
     /// ```
     /// # use mudvizsor::LayerOffset;
@@ -130,17 +130,17 @@ impl LayerOffset {
         times::is_valid_composition(self.offset, self.scale)
     }
 
-    /// The offset itself, or (0, 1) where it cannot be composed.
+    /// Returns it unchanged, or (0, 1) if it [cannot be composed](Self::is_valid_composition).
     ///
     /// ```
     /// # use mudvizsor::LayerOffset;
     /// assert_eq!(LayerOffset::new(3.0, -1.0).sanitized(), LayerOffset::IDENTITY);
     /// ```
     pub fn sanitized(self) -> Self {
-        made(|out| times::sanitized(self.offset, self.scale, out))
+        read_offset(|out| times::sanitized(self.offset, self.scale, out))
     }
 
-    /// This offset, the outer one, after `inner`.
+    /// Returns `inner` followed by this time offset, which is the outer one.
     ///
     /// ```
     /// # use mudvizsor::LayerOffset;
@@ -148,25 +148,25 @@ impl LayerOffset {
     /// assert_eq!(outer.concatenate(inner), LayerOffset::new(12.0, 6.0));
     /// ```
     pub fn concatenate(self, inner: LayerOffset) -> Self {
-        made(|out| times::concatenate(self.offset, self.scale, inner.offset, inner.scale, out))
+        read_offset(|out| times::concatenate(self.offset, self.scale, inner.offset, inner.scale, out))
     }
 }
 
-/// The offset that a call writes.
-pub(crate) fn made(call: impl FnOnce(&mut [f64; 2])) -> LayerOffset {
+/// Makes a call that writes a time offset, and returns that time offset.
+pub(crate) fn read_offset(call: impl FnOnce(&mut [f64; 2])) -> LayerOffset {
     let mut out = [0.0; 2];
     call(&mut out);
     LayerOffset::from(out)
 }
 
-/// Offset and scale.
+/// Converts from `[offset, scale]`.
 impl From<[f64; 2]> for LayerOffset {
     fn from([offset, scale]: [f64; 2]) -> Self {
         LayerOffset { offset, scale }
     }
 }
 
-/// Offset and scale.
+/// Converts to `[offset, scale]`.
 impl From<LayerOffset> for [f64; 2] {
     fn from(time: LayerOffset) -> Self {
         [time.offset, time.scale]

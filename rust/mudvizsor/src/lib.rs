@@ -1,11 +1,11 @@
-//! Scene paths, maps, relocates and routes over a proved library.
+//! Scene paths, path maps, relocates and routes: safe Rust types over a proved library.
 //!
-//! The calls are those of the Rust repository [mxpv/openusd](https://github.com/mxpv/openusd) that document 01 names,
-//! with its limits and refusals. Each of them is answered by the static library `libexports.a`, written in Rattle and
-//! proved; this crate lends it memory and gives its answers Rust's types. What the crate does of its own, to pack texts
-//! and to read answers back, is tested, not proved.
+//! The functions are those of the Rust repository [mxpv/openusd](https://github.com/mxpv/openusd) that
+//! `docs/REQUIREMENTS.md` names, with the limits and refusals that it defines. They are implemented by the static library
+//! `libmudvizsor.a`, which is written in Rattle and proved. This crate lends the library its buffers and converts its
+//! replies to Rust types; that conversion is tested, not proved.
 //!
-//! A signal that a modeller sent goes out to the stage, and comes home:
+//! A [`Route`] maps a path out over several maps and relocate lists, and home again:
 //!
 //! ```
 //! use mudvizsor::{MapFunction, Path, Refusal, Relocates, Route};
@@ -21,7 +21,7 @@
 //! assert_eq!(there.as_str(), "/Town/Trams/Line7/Quay/Signal_12/Head/Lamp_2.aspect:state");
 //! assert_eq!(route.home(&there)?, lamp);
 //!
-//! // The spare lamp is left out: its target is empty.
+//! // The spare lamp is blocked: its target is empty.
 //! assert_eq!(route.out(&Path::new("/Mast/Spare")?), Err(Refusal::NoPath));
 //! # Ok(())
 //! # }
@@ -29,21 +29,23 @@
 //!
 //! # Refusals
 //!
-//! A call that cannot be answered is refused with one of document 01's numbers, as a [`Refusal`]. Questions are put
-//! to a call in the order of their numbers, and the first "no" counts. A call that can never be refused gives its
-//! answer without a `Result`: a [`Path`] has been checked when it was made. The crate lends the memory itself, so that
-//! 5 does not come; a line that is no frame gets an answer of [`Frames`] that says 9, and no refusal.
+//! A call that has no result is refused with one of the numbers of `docs/REQUIREMENTS.md` (Validation and refusals), as a
+//! [`Refusal`]. The checks are made in the order of their numbers, and the first one that fails decides. A call that can
+//! never be refused returns its result without a [`Result`], since every [`Path`] was validated when it was built. The
+//! crate allocates large enough buffers, so [`Refusal::NoRoom`] (5) does not occur. [`Frames`] does not refuse a bad
+//! frame (9) either, but answers it `FF09`.
 //!
 //! # Linking
 //!
-//! The build script links `libexports.a` from the folder that `MUDVIZSOR_LIB_DIR` names, else from `target/staticlib`
-//! of the repository, where `rt staticlib exports` builds it; it runs that where the file is missing.
+//! The build script links `libmudvizsor.a` from the folder that the environment variable `MUDVIZSOR_LIB_DIR` names, else
+//! from `target/staticlib` of the repository, where `rt staticlib mudvizsor` writes it. It does not build the library: if
+//! the library is missing, or older than its sources in the repository, the build stops with an instruction.
 #![deny(unsafe_op_in_unsafe_fn, unsafe_code, missing_docs)]
 
+mod batch;
 pub mod ffi;
 mod frames;
 mod layer_offset;
-mod many;
 mod map_function;
 mod pair_list;
 mod path;
@@ -56,13 +58,13 @@ pub use frames::Frames;
 pub use layer_offset::LayerOffset;
 pub use map_function::MapFunction;
 pub use pair_list::Pairs;
-pub use path::{Ancestors, LONGEST, Path};
+pub use path::{Ancestors, MAX_PATH_LEN, Path};
 pub use refusal::{Refusal, Result};
 pub use relocates::{Chain, Relocates, Status};
 pub use route::{Leg, Route, Steps};
 
-/// The most pairs of a list.
-pub const MOST_PAIRS: usize = 64;
+/// The maximum number of pairs in a list.
+pub const MAX_PAIRS: usize = 64;
 
-/// The most legs of a route.
-pub const MOST_LEGS: usize = 16;
+/// The maximum number of legs in a route.
+pub const MAX_LEGS: usize = 16;

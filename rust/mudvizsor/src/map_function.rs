@@ -1,31 +1,37 @@
-//! Maps: a list of pairs, a root-identity mark and a time offset, over the entries for maps.
+//! Maps of paths: a list of pairs, a root-identity mark and a time offset.
 
+use crate::batch::map_in_batches;
 use crate::ffi::Reply;
-use crate::ffi::makes::{self, Map, Room};
+use crate::ffi::map_build::{self, Map, MapBuffers};
+use crate::ffi::map_info;
 use crate::ffi::maps::{self, List, Way};
-use crate::ffi::reads;
 use crate::layer_offset;
-use crate::many::carried;
 use crate::pair_list::{Packed, PairList, Pairs};
-use crate::path::made;
-use crate::refusal::{Result, read, settled, sure};
-use crate::{LONGEST, LayerOffset, MOST_PAIRS, Path};
+use crate::path::read_path;
+use crate::refusal::{Result, accepted, never_refused, read};
+use crate::{LayerOffset, MAX_PAIRS, MAX_PATH_LEN, Path};
 
-/// The most bytes of a pair that is composed, rebased or deepened; they are counted before an end is refused for its
-/// length. One end was given, and has at most 255. The other is a path of at most 255 bytes with its prefix replaced by at
-/// most 255: an empty prefix or `/` goes without the path getting shorter, as a slash stands behind the new prefix.
-const PAIR_MADE: usize = LONGEST + 2 * LONGEST;
+/// The maximum number of bytes of a pair that is composed, rebased or deepened. The library counts them before it refuses an
+/// end that is too long. One end is an input, of at most 255 bytes. The other one is a path of at most 255 bytes with its
+/// prefix replaced by at most 255 bytes. If the replaced prefix is empty or `/`, the path does not get shorter, since a
+/// slash follows the new prefix.
+const COMPOSED_PAIR_BYTES: usize = MAX_PATH_LEN + 2 * MAX_PATH_LEN;
 
-/// The most bytes of a pair in each of the three lists of `implied_class`. The ends of the inverse were given. The class
-/// after it is composed. In the transfer after that a composed pair's target gets another prefix of at most 255 bytes, or
-/// its source, of at most 510, becomes the prefix of a source given, beside a target given.
-const PAIRS_IMPLIED: [usize; 3] = [2 * LONGEST, PAIR_MADE, PAIR_MADE + LONGEST];
+/// The maximum number of bytes of a pair in each of the three lists of `implied_class`. The ends in the inverse are inputs.
+/// The class after the inverse is composed. In the transfer after that, the target of a composed pair gets another prefix of
+/// at most 255 bytes, or the source of a composed pair, of at most 510 bytes, becomes the prefix of an input source whose
+/// target is an input too.
+const IMPLIED_PAIR_BYTES: [usize; 3] =
+    [2 * MAX_PATH_LEN, COMPOSED_PAIR_BYTES, COMPOSED_PAIR_BYTES + MAX_PATH_LEN];
 
-/// A map of paths: pairs of a source and a target, each a prim path, `/` or empty; the root-identity mark, with which a
-/// path that no pair takes stays where it is; and a time offset.
+/// A map of paths, the counterpart of OpenUSD's `PcpMapFunction`: pairs of a source and a target, a root-identity mark, and a
+/// time offset.
 ///
-/// Of the pairs whose source is a prefix of a path the one with most elements takes it, the later on a tie. An empty
-/// target takes it nowhere. The calls that make a map of texts take them as `&str`, `String` or [`Path`].
+/// Each source and target is an end: a prim path, `/` or empty. A path is mapped by the pair with the longest match: of the
+/// sources that are a prefix of the path, the one with the most elements, the last one on a tie. That source is replaced by
+/// the target. An empty target blocks the path, so that it has no result; an empty source never matches. With the mark, a
+/// path that no pair matches is mapped to itself. The calls that build a map from texts take them as `&str`, `String` or
+/// [`Path`].
 ///
 /// ```
 /// use mudvizsor::{MapFunction, Path, Refusal};
@@ -43,13 +49,20 @@ pub struct MapFunction {
     time: LayerOffset,
 }
 
-/// Making a map of pairs.
+/// Building maps from pairs.
 impl MapFunction {
-    /// The map of these pairs: each `/` to `/` becomes the mark, pairs are sorted by the elements of their sources, and a
-    /// pair is dropped where those before it already take its source to its target.
+    /// Builds the map of these pairs in canonical form.
     ///
-    /// Refused with 1 or 2 for an end that is too long or not legal, 3 for one that is a path but no end, 4 for more than
-    /// 64 pairs.
+    /// Each pair `/` to `/` becomes the mark. A single remaining pair is kept, unless its ends are equal and there is the
+    /// mark. Several are sorted by the number of elements of their sources, and a pair is dropped as redundant if the pairs
+    /// kept before it and the mark already map its source to its target. In that test an empty target is joined as text:
+    /// after `/A` to empty, the pair `/A/B` to `/B` is redundant.
+    ///
+    /// # Errors
+    ///
+    /// [`TooLong`](crate::Refusal::TooLong) (1), [`NotLegal`](crate::Refusal::NotLegal) (2) or
+    /// [`NotAnEnd`](crate::Refusal::NotAnEnd) (3) if a source or target is too long, not a legal path or not an end,
+    /// [`TooMany`](crate::Refusal::TooMany) (4) if there are more than 64 pairs.
     ///
     /// ```
     /// use mudvizsor::{MapFunction, Refusal};
@@ -62,10 +75,15 @@ impl MapFunction {
     /// ```
     pub fn new<S: AsRef<str>, T: AsRef<str>>(pairs: impl IntoIterator<Item = (S, T)>) -> Result<Self> {
         let lent = Packed::new(pairs);
-        make(lent.store.len(), lent.count(), |room| makes::new(lent.list(false), room))
+        build(lent.store.len(), lent.count(), |buffers| map_build::new(lent.list(false), buffers))
     }
 
-    /// The map of one pair, which stays as it is, without the mark. Refused with 1, 2 or 3 for its ends.
+    /// Builds the map of one pair, without the mark. The pair is kept as it is, even `/` to `/`.
+    ///
+    /// # Errors
+    ///
+    /// [`TooLong`](crate::Refusal::TooLong) (1), [`NotLegal`](crate::Refusal::NotLegal) (2) or
+    /// [`NotAnEnd`](crate::Refusal::NotAnEnd) (3) if the source or target is too long, not a legal path or not an end.
     ///
     /// ```
     /// # use mudvizsor::{MapFunction, Path, Refusal};
@@ -75,10 +93,14 @@ impl MapFunction {
     /// ```
     pub fn from_pair(source: impl AsRef<str>, target: impl AsRef<str>) -> Result<Self> {
         let (source, target) = (source.as_ref().as_bytes(), target.as_ref().as_bytes());
-        make(source.len() + target.len(), 1, |room| makes::from_pair(source, target, room))
+        build(source.len() + target.len(), 1, |buffers| map_build::from_pair(source, target, buffers))
     }
 
-    /// The map of one pair, with the mark. Refused with 1, 2 or 3 for its ends.
+    /// Builds the map of one pair, with the mark. A pair with equal ends is dropped.
+    ///
+    /// # Errors
+    ///
+    /// As for [`from_pair`](Self::from_pair).
     ///
     /// ```
     /// # use mudvizsor::{MapFunction, Path};
@@ -88,10 +110,12 @@ impl MapFunction {
     /// ```
     pub fn from_pair_identity(source: impl AsRef<str>, target: impl AsRef<str>) -> Result<Self> {
         let (source, target) = (source.as_ref().as_bytes(), target.as_ref().as_bytes());
-        make(source.len() + target.len(), 1, |room| makes::from_pair_identity(source, target, room))
+        build(source.len() + target.len(), 1, |buffers| {
+            map_build::from_pair_identity(source, target, buffers)
+        })
     }
 
-    /// The map that leaves every path and every time as it is: the mark, and no pairs.
+    /// Builds the identity, which maps every path and every time to itself: no pairs, the mark, the time offset (0, 1).
     ///
     /// ```
     /// # use mudvizsor::{MapFunction, Path};
@@ -100,23 +124,23 @@ impl MapFunction {
     /// # Ok::<(), mudvizsor::Refusal>(())
     /// ```
     pub fn identity() -> Self {
-        settled(make(0, 0, |room| reads::identity(room.time)))
+        never_refused(build(0, 0, |buffers| map_info::identity(buffers.time)))
     }
 
-    /// The map that maps nothing.
+    /// Builds the null map, which maps no path: no pairs, no mark, the time offset (0, 1).
     ///
     /// ```
     /// # use mudvizsor::{MapFunction, Path, Refusal};
     /// assert_eq!(MapFunction::null().map_source_to_target(&Path::root()), Err(Refusal::NoPath));
     /// ```
     pub fn null() -> Self {
-        settled(make(0, 0, |room| reads::null(room.time)))
+        never_refused(build(0, 0, |buffers| map_info::null(buffers.time)))
     }
 }
 
-/// Reading a map.
+/// Properties of a map.
 impl MapFunction {
-    /// Its pairs, without the mark.
+    /// Returns the pairs. The mark is not among them.
     ///
     /// ```
     /// # use mudvizsor::MapFunction;
@@ -129,17 +153,17 @@ impl MapFunction {
         Pairs::new(&self.list)
     }
 
-    /// Whether it has the root-identity mark.
+    /// Returns whether the map has the root-identity mark.
     ///
     /// ```
     /// # use mudvizsor::MapFunction;
     /// assert!(MapFunction::identity().has_root_identity());
     /// ```
     pub fn has_root_identity(&self) -> bool {
-        self.tells(reads::has_root_identity)
+        self.query(map_info::has_root_identity)
     }
 
-    /// Its time offset.
+    /// Returns the time offset.
     ///
     /// ```
     /// # use mudvizsor::{LayerOffset, MapFunction};
@@ -147,20 +171,22 @@ impl MapFunction {
     /// ```
     pub fn time_offset(&self) -> LayerOffset {
         let LayerOffset { offset, scale } = self.time;
-        layer_offset::made(|out| reads::time_offset(self.pairs().len(), self.mark, offset, scale, out))
+        layer_offset::read_offset(|out| {
+            map_info::time_offset(self.pairs().len(), self.mark, offset, scale, out)
+        })
     }
 
-    /// Whether it maps nothing: no pairs, no mark.
+    /// Returns whether the map is null, so that it maps no path: it has neither pairs nor the mark.
     ///
     /// ```
     /// # use mudvizsor::MapFunction;
     /// assert!(MapFunction::null().is_null() && !MapFunction::identity().is_null());
     /// ```
     pub fn is_null(&self) -> bool {
-        self.tells(reads::is_null)
+        self.query(map_info::is_null)
     }
 
-    /// Whether it leaves every path as it is: no pairs, but the mark.
+    /// Returns whether the map is the identity on paths: it has no pairs, but the mark.
     ///
     /// ```
     /// # use mudvizsor::{LayerOffset, MapFunction};
@@ -168,20 +194,23 @@ impl MapFunction {
     /// assert!(late.path_is_identity() && !late.is_identity());
     /// ```
     pub fn path_is_identity(&self) -> bool {
-        self.tells(reads::path_is_identity)
+        self.query(map_info::path_is_identity)
     }
 
-    /// Whether it leaves every path and every time as it is: no pairs, but the mark, and the offset (0, 1).
+    /// Returns whether the map is the identity: it has no pairs, but the mark, and the time offset (0, 1).
     ///
     /// ```
     /// # use mudvizsor::MapFunction;
     /// assert!(MapFunction::identity().is_identity());
     /// ```
     pub fn is_identity(&self) -> bool {
-        self.tells(reads::is_identity)
+        self.query(map_info::is_identity)
     }
 
-    /// Whether it maps and changes nothing: it is not null, every pair has equal ends, and the offset is (0, 1).
+    /// Returns whether the map is not null, both ends of every pair are equal, and the time offset is (0, 1).
+    ///
+    /// It compares the pairs, not their effect: a map with `/A` to `/B` and `/A` to `/A` is not a no-op, although the second
+    /// pair shadows the first.
     ///
     /// ```
     /// # use mudvizsor::MapFunction;
@@ -190,31 +219,43 @@ impl MapFunction {
     /// # Ok::<(), mudvizsor::Refusal>(())
     /// ```
     pub fn is_noop(&self) -> bool {
-        sure(makes::is_noop(self.lent())) != 0
+        accepted(map_build::is_noop(self.lent())) != 0
     }
 
-    /// What an entry tells of its own numbers.
-    fn tells(&self, entry: extern "C" fn(usize, bool, f64, f64) -> bool) -> bool {
+    /// Calls an entry that needs the number of pairs, the mark and the time offset.
+    fn query(&self, entry: extern "C" fn(usize, bool, f64, f64) -> bool) -> bool {
         entry(self.pairs().len(), self.mark, self.time.offset, self.time.scale)
     }
 }
 
-/// Carrying paths.
+/// Mapping paths.
 impl MapFunction {
-    /// Where the map takes the path: 6 where it has no path for it, 7 or 8 where the path made is too long or not legal.
+    /// Maps the path from sources to targets.
+    ///
+    /// # Errors
+    ///
+    /// [`NoPath`](crate::Refusal::NoPath) (6) if the target is empty, or if no pair matches and there is no mark,
+    /// [`MadeTooLong`](crate::Refusal::MadeTooLong) (7) or [`MadeNotLegal`](crate::Refusal::MadeNotLegal) (8) if the result
+    /// is too long or not legal.
     ///
     /// ```
     /// # use mudvizsor::{MapFunction, Path};
-    /// // Of two equal sources the later counts.
+    /// // Of two equal sources the last one is used.
     /// let map = MapFunction::new([("/A", "/X"), ("/A", "/Y")])?;
     /// assert_eq!(map.map_source_to_target(&Path::new("/A/c")?)?.as_str(), "/Y/c");
     /// # Ok::<(), mudvizsor::Refusal>(())
     /// ```
     pub fn map_source_to_target(&self, path: &Path) -> Result<Path> {
-        self.carry(Way::Out, path)
+        self.map_path(Way::Out, path)
     }
 
-    /// Where the map takes the path back to, its targets being the keys: 6, 7 or 8 as on the way out.
+    /// Maps the path from targets back to sources: the same with the targets as keys. An empty target never matches.
+    ///
+    /// # Errors
+    ///
+    /// [`NoPath`](crate::Refusal::NoPath) (6) if no pair matches and there is no mark,
+    /// [`MadeTooLong`](crate::Refusal::MadeTooLong) (7) or [`MadeNotLegal`](crate::Refusal::MadeNotLegal) (8) if the result
+    /// is too long or not legal.
     ///
     /// ```
     /// # use mudvizsor::{MapFunction, Path};
@@ -223,10 +264,17 @@ impl MapFunction {
     /// # Ok::<(), mudvizsor::Refusal>(())
     /// ```
     pub fn map_target_to_source(&self, path: &Path) -> Result<Path> {
-        self.carry(Way::Home, path)
+        self.map_path(Way::Home, path)
     }
 
-    /// Where the map takes the path without its selections; 6 also where the way back would take another pair.
+    /// Removes the variant selections from the path and maps it from sources to targets, if the result maps back through the
+    /// same pair.
+    ///
+    /// # Errors
+    ///
+    /// As for [`map_source_to_target`](Self::map_source_to_target), and [`NoPath`](crate::Refusal::NoPath) (6) if
+    /// [`map_target_to_source`](Self::map_target_to_source) would use another pair for the result, or any pair if none was
+    /// used.
     ///
     /// ```
     /// # use mudvizsor::{MapFunction, Path, Refusal};
@@ -237,10 +285,11 @@ impl MapFunction {
     /// # Ok::<(), Refusal>(())
     /// ```
     pub fn translate_to_target(&self, path: &Path) -> Result<Path> {
-        self.carry(Way::Translated, path)
+        self.map_path(Way::Translated, path)
     }
 
-    /// Where the map takes each of many paths, in their order. The library checks the list once, not for each path.
+    /// Maps many paths and returns the results in the same order. The list of pairs is validated only once for all paths, so
+    /// this is faster than a call for each.
     ///
     /// ```
     /// # use mudvizsor::{MapFunction, Path, Refusal, Way};
@@ -250,17 +299,20 @@ impl MapFunction {
     /// # Ok::<(), Refusal>(())
     /// ```
     pub fn map_all<'a>(&self, way: Way, paths: impl IntoIterator<Item = &'a Path>) -> Vec<Result<Path>> {
-        carried(paths, |paths, out, replies| maps::carry_all(way, self.lent_list(), paths, out, replies))
+        map_in_batches(paths, |paths, out, replies| {
+            maps::apply_all(way, self.lent_list(), paths, out, replies)
+        })
     }
 
-    fn carry(&self, way: Way, path: &Path) -> Result<Path> {
-        made(|out| maps::carry(way, self.lent_list(), path.as_bytes(), out))
+    /// Makes the mapping call that `way` selects.
+    fn map_path(&self, way: Way, path: &Path) -> Result<Path> {
+        read_path(|out| maps::apply(way, self.lent_list(), path.as_bytes(), out))
     }
 }
 
-/// Making a map of maps.
+/// Building maps from maps.
 impl MapFunction {
-    /// The map with another time offset.
+    /// Returns the map with its time offset replaced.
     ///
     /// ```
     /// # use mudvizsor::{LayerOffset, MapFunction};
@@ -272,11 +324,11 @@ impl MapFunction {
         let LayerOffset { offset, scale } = self.time;
         let (count, mut made) = (self.pairs().len(), [0.0; 2]);
         let reply =
-            reads::with_time_offset(count, self.mark, offset, scale, time.offset, time.scale, &mut made);
-        MapFunction { list: self.list, mark: sure(reply) % 2 == 1, time: made.into() }
+            map_info::with_time_offset(count, self.mark, offset, scale, time.offset, time.scale, &mut made);
+        MapFunction { list: self.list, mark: accepted(reply) % 2 == 1, time: made.into() }
     }
 
-    /// The map with the mark put to it. Nothing is dropped.
+    /// Returns the map with its mark set. No pair is dropped.
     ///
     /// ```
     /// # use mudvizsor::{MapFunction, Path};
@@ -285,10 +337,11 @@ impl MapFunction {
     /// # Ok::<(), mudvizsor::Refusal>(())
     /// ```
     pub fn with_root_identity(&self) -> Self {
-        settled(self.rearranged(makes::with_root_identity))
+        never_refused(self.derive(map_build::with_root_identity))
     }
 
-    /// The map with the ends of each pair exchanged, and the time offset (0, 1).
+    /// Returns the map with the source and target of each pair exchanged, in the canonical form of [`new`](Self::new), with the
+    /// time offset (0, 1).
     ///
     /// ```
     /// # use mudvizsor::MapFunction;
@@ -296,10 +349,15 @@ impl MapFunction {
     /// # Ok::<(), mudvizsor::Refusal>(())
     /// ```
     pub fn inverse(&self) -> Self {
-        settled(self.rearranged(makes::inverse))
+        never_refused(self.derive(map_build::inverse))
     }
 
-    /// The map without the pairs that have this source: 3 where that is no end.
+    /// Returns the map without the pairs that have this source, in the canonical form of [`new`](Self::new). A map that has no
+    /// such pair is returned unchanged.
+    ///
+    /// # Errors
+    ///
+    /// [`NotAnEnd`](crate::Refusal::NotAnEnd) (3) if the source is not an end.
     ///
     /// ```
     /// # use mudvizsor::{MapFunction, Path};
@@ -308,11 +366,24 @@ impl MapFunction {
     /// # Ok::<(), mudvizsor::Refusal>(())
     /// ```
     pub fn dropping_source(&self, source: &Path) -> Result<Self> {
-        self.rearranged(|map, room| makes::dropping_source(map, source.as_bytes(), room))
+        self.derive(|map, buffers| map_build::dropping_source(map, source.as_bytes(), buffers))
     }
 
-    /// This map after `inner`, as one map: 4 where it would have more than 64 pairs before dropping, 7 for an end that is
-    /// made too long. It is not always one after the other: the pair nearest to a path counts over both.
+    /// Composes two maps: `inner` followed by this map, which is the outer one.
+    ///
+    /// Each pair of `inner` gets its target mapped by this map; a target that does not map becomes empty. Each pair of this
+    /// map gets its source mapped back by `inner`, and is left out if there is no result or a pair with that source already.
+    /// The map has the mark if both maps have it, and is put in the canonical form of [`new`](Self::new). If one of the maps
+    /// is the [identity on paths](Self::path_is_identity), the pairs and the mark of the other are kept unchanged. The time
+    /// offsets are concatenated.
+    ///
+    /// The result may map a path differently from the two maps applied in turn, since the longest match is taken over the
+    /// composed pairs.
+    ///
+    /// # Errors
+    ///
+    /// [`TooMany`](crate::Refusal::TooMany) (4) if there are more than 64 pairs before redundant ones are dropped,
+    /// [`MadeTooLong`](crate::Refusal::MadeTooLong) (7) if a composed source or target is too long.
     ///
     /// ```
     /// # use mudvizsor::{MapFunction, Path};
@@ -325,11 +396,19 @@ impl MapFunction {
     /// # Ok::<(), mudvizsor::Refusal>(())
     /// ```
     pub fn compose(&self, inner: &MapFunction) -> Result<Self> {
-        make_longer(&[PAIR_MADE], |room| makes::compose(self.lent(), inner.lent(), room))
+        build_longer(&[COMPOSED_PAIR_BYTES], |buffers| map_build::compose(self.lent(), inner.lent(), buffers))
     }
 
-    /// The map with every target below `from` put below `to`; the identity becomes the pair of the two. Refused with 3
-    /// where one of them is no end, 7 or 8 where a target is made too long or not legal.
+    /// Returns the map with the prefix `from` replaced by `to` in every target that has it, in the canonical form of
+    /// [`new`](Self::new). A map in which no target has that prefix is returned unchanged.
+    ///
+    /// A map that is the [identity on paths](Self::path_is_identity) becomes the pair `from` to `to`, with the mark.
+    ///
+    /// # Errors
+    ///
+    /// [`NotAnEnd`](crate::Refusal::NotAnEnd) (3) if `from` or `to` is not an end,
+    /// [`MadeTooLong`](crate::Refusal::MadeTooLong) (7) or [`MadeNotLegal`](crate::Refusal::MadeNotLegal) (8) if a
+    /// resulting target is too long or not legal.
     ///
     /// ```
     /// # use mudvizsor::{MapFunction, Path};
@@ -339,13 +418,24 @@ impl MapFunction {
     /// # Ok::<(), mudvizsor::Refusal>(())
     /// ```
     pub fn rebase_target(&self, from: &Path, to: &Path) -> Result<Self> {
-        make_longer(&[PAIR_MADE], |room| {
-            makes::rebase_target(self.lent(), from.as_bytes(), to.as_bytes(), room)
+        build_longer(&[COMPOSED_PAIR_BYTES], |buffers| {
+            map_build::rebase_target(self.lent(), from.as_bytes(), to.as_bytes(), buffers)
         })
     }
 
-    /// The map with the pair nearest above `node`, its selections left out, put at `node`. Refused with 3 where that is no
-    /// end, 7 or 8 where a target is made too long or not legal.
+    /// Returns the map of a class arc moved down to a deeper path, the node, which is `node` without its selections.
+    ///
+    /// Of the sources that are a prefix of the node, the one with the most elements is selected, the last one on a tie; an
+    /// empty source counts here. Every pair with that source gets the node as its source and, as its target, the node with
+    /// the selected source replaced by the target of the selected pair. The result is put in the canonical form of
+    /// [`new`](Self::new). The map is returned unchanged if it has a pair whose source is the node, or if no source is a
+    /// prefix of the node.
+    ///
+    /// # Errors
+    ///
+    /// [`NotAnEnd`](crate::Refusal::NotAnEnd) (3) if the node is not an end,
+    /// [`MadeTooLong`](crate::Refusal::MadeTooLong) (7) or [`MadeNotLegal`](crate::Refusal::MadeNotLegal) (8) if a
+    /// resulting target is too long or not legal.
     ///
     /// ```
     /// # use mudvizsor::{MapFunction, Path};
@@ -354,11 +444,18 @@ impl MapFunction {
     /// # Ok::<(), mudvizsor::Refusal>(())
     /// ```
     pub fn deepen_to(&self, node: &Path) -> Result<Self> {
-        make_longer(&[PAIR_MADE], |room| makes::deepen_to(self.lent(), node.as_bytes(), room))
+        build_longer(&[COMPOSED_PAIR_BYTES], |buffers| {
+            map_build::deepen_to(self.lent(), node.as_bytes(), buffers)
+        })
     }
 
-    /// The map of the class across this transfer: the transfer after the class after the transfer's inverse, with the
-    /// mark. Refused with 4 or 7 as in composing.
+    /// Returns the map of a class arc propagated across this map, the transfer: the composition transfer after class after
+    /// inverse of the transfer, with the mark set. If the transfer is the [identity](Self::is_identity), it is the class
+    /// unchanged.
+    ///
+    /// # Errors
+    ///
+    /// As for [`compose`](Self::compose).
     ///
     /// ```
     /// # use mudvizsor::{MapFunction, Path};
@@ -370,40 +467,43 @@ impl MapFunction {
     /// # Ok::<(), mudvizsor::Refusal>(())
     /// ```
     pub fn implied_class(&self, class: &MapFunction) -> Result<Self> {
-        make_longer(&PAIRS_IMPLIED, |room| makes::implied_class(self.lent(), class.lent(), room))
+        build_longer(&IMPLIED_PAIR_BYTES, |buffers| {
+            map_build::implied_class(self.lent(), class.lent(), buffers)
+        })
     }
 
-    /// A map whose ends are all among this map's.
-    fn rearranged(&self, call: impl FnOnce(Map, Room) -> Reply) -> Result<Self> {
-        make(self.list.bytes(), self.list.pairs.len(), |room| call(self.lent(), room))
+    /// Builds a map whose ends are all ends of this map.
+    fn derive(&self, call: impl FnOnce(Map, MapBuffers) -> Reply) -> Result<Self> {
+        build(self.list.bytes(), self.list.pairs.len(), |buffers| call(self.lent(), buffers))
     }
 }
 
 impl MapFunction {
-    /// The map as it is lent.
+    /// The map as it is passed to the library.
     fn lent(&self) -> Map<'_> {
         Map { list: self.lent_list(), time: self.time.into() }
     }
 
-    /// Its pairs and mark as they are lent.
+    /// The pairs and the mark as they are passed to the library.
     pub(crate) fn lent_list(&self) -> List<'_> {
         self.list.packed.list(self.mark)
     }
 }
 
-/// The map that a call makes, with so many bytes and pairs lent.
-fn make(bytes: usize, pairs: usize, call: impl FnOnce(Room) -> Reply) -> Result<MapFunction> {
-    let mut room = Packed::room(bytes, pairs);
+/// Makes a call that builds a map, with buffers for this many bytes and pairs, and returns that map.
+fn build(bytes: usize, pairs: usize, call: impl FnOnce(MapBuffers) -> Reply) -> Result<MapFunction> {
+    let mut buffers = Packed::zeroed(bytes, pairs);
     let mut time = [0.0; 2];
-    let reply = call(Room { out: &mut room.store, slots: &mut room.places, time: &mut time });
+    let reply = call(MapBuffers { out: &mut buffers.store, slots: &mut buffers.places, time: &mut time });
     let value = read(reply)?;
-    Ok(MapFunction { list: PairList::read(room, value / 2), mark: value % 2 == 1, time: time.into() })
+    Ok(MapFunction { list: PairList::read(buffers, value / 2), mark: value % 2 == 1, time: time.into() })
 }
 
-/// The map that a call makes which may lengthen ends. Memory is lent for 64 pairs of each of its lists, with so many
-/// bytes for a pair of each: more pairs are refused with 4 before 5 is asked.
-fn make_longer(lists: &[usize], call: impl FnOnce(Room) -> Reply) -> Result<MapFunction> {
-    make(MOST_PAIRS * lists.iter().sum::<usize>(), MOST_PAIRS * lists.len(), call)
+/// Makes a call that builds a map and may lengthen ends. The buffers hold 64 pairs of each of its lists, with the given number
+/// of bytes for a pair of each. That is always enough, since more than 64 pairs are refused with 4 before the buffers are
+/// checked.
+fn build_longer(lists: &[usize], call: impl FnOnce(MapBuffers) -> Reply) -> Result<MapFunction> {
+    build(MAX_PAIRS * lists.iter().sum::<usize>(), MAX_PAIRS * lists.len(), call)
 }
 
 #[cfg(test)]

@@ -1,10 +1,10 @@
-//! Lists of pairs: as paths for the caller, and as bytes and places for the library.
+//! Lists of pairs: as paths for the caller, and packed as bytes and places for the library.
 
 use crate::Path;
 use crate::ffi::maps::List;
 use std::fmt;
 
-/// A list of pairs, and the same list as it is lent to the library.
+/// A list of pairs, and the same list as it is passed to the library.
 #[derive(Clone, Default)]
 pub(crate) struct PairList {
     pub pairs: Vec<(Path, Path)>,
@@ -12,7 +12,7 @@ pub(crate) struct PairList {
 }
 
 impl PairList {
-    /// The first `count` pairs of a list that the library answered or accepted.
+    /// Reads the first `count` pairs of a list that the library wrote or accepted.
     pub fn read(mut packed: Packed, count: usize) -> Self {
         packed.places.truncate(4 * count);
         let end = |start, length| Path::written(&packed.store[start..start + length]);
@@ -24,7 +24,7 @@ impl PairList {
         PairList { pairs, packed }
     }
 
-    /// How many bytes its ends have.
+    /// The number of bytes of all ends.
     pub fn bytes(&self) -> usize {
         self.packed.store.len()
     }
@@ -42,17 +42,17 @@ impl PartialEq for PairList {
     }
 }
 
-/// Texts of pairs as they are lent, which nobody has checked.
+/// The texts of pairs as they are passed to the library. They need not be valid.
 #[derive(Debug, Clone, Default)]
 pub(crate) struct Packed {
-    /// The bytes of the ends.
+    /// The bytes of the ends (sources and targets).
     pub store: Vec<u8>,
     /// Four numbers for each pair: start and length of the source, start and length of the target.
     pub places: Vec<usize>,
 }
 
 impl Packed {
-    /// The texts one after the other.
+    /// Concatenates the texts of the pairs.
     pub fn new<S: AsRef<str>, T: AsRef<str>>(pairs: impl IntoIterator<Item = (S, T)>) -> Self {
         let mut packed = Packed::default();
         for (source, target) in pairs {
@@ -67,8 +67,8 @@ impl Packed {
         self.store.extend(text.as_bytes());
     }
 
-    /// Empty memory for a list of so many bytes and pairs.
-    pub fn room(bytes: usize, pairs: usize) -> Self {
+    /// Buffers for a list of this many bytes and pairs, filled with zeros.
+    pub fn zeroed(bytes: usize, pairs: usize) -> Self {
         Packed { store: vec![0; bytes], places: vec![0; 4 * pairs] }
     }
 
@@ -76,13 +76,13 @@ impl Packed {
         self.places.len() / 4
     }
 
-    /// The list as it is lent.
+    /// The list as it is passed to the library.
     pub fn list(&self, mark: bool) -> List<'_> {
         List { store: &self.store, places: &self.places, count: self.count(), mark }
     }
 }
 
-/// The pairs of a map or a relocate list, source and target of each.
+/// An iterator over the pairs of a map or a relocate list: the source and the target of each.
 ///
 /// ```
 /// use mudvizsor::MapFunction;

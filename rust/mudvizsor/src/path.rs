@@ -1,22 +1,23 @@
-//! Path texts, over the entries for paths.
+//! Scene paths.
 
 use crate::ffi::{Reply, paths};
-use crate::refusal::{Refusal, Result, read, sure};
+use crate::refusal::{Refusal, Result, accepted, read};
 use std::borrow::Borrow;
 use std::fmt;
 use std::str::FromStr;
 
-/// The most bytes of a path.
-pub const LONGEST: usize = 255;
+/// The maximum length of a path in bytes.
+pub const MAX_PATH_LEN: usize = 255;
 
-/// The most ancestors of a path, itself included.
-const MOST_ANCESTORS: usize = 128;
+/// The maximum number of ancestors of a path, including the path itself.
+const MAX_ANCESTORS: usize = 128;
 
 /// A legal scene path of at most 255 bytes, such as `/Line{season=winter}Stop/Signal.aspect:state`.
 ///
-/// A path is empty, or `/`, or names with slashes between them, where a selection `{set=sel}` may follow a name and the
-/// name behind a selection has no slash; then perhaps a property, `.` and names joined by `:`. Paths are ordered as
-/// their texts.
+/// A path is empty, or `/`, or absolute: names, each preceded by a slash, and perhaps a property, which is a dot and names
+/// joined by `:`. A name may be followed by variant selections `{set=sel}`; the name after a selection has no slash before
+/// it. A prim path has names only. `docs/REQUIREMENTS.md` (Path texts) defines the grammar. Paths are ordered by their
+/// texts.
 ///
 /// ```
 /// use mudvizsor::{Path, Refusal};
@@ -30,7 +31,11 @@ const MOST_ANCESTORS: usize = 128;
 pub struct Path(Box<str>);
 
 impl Path {
-    /// The path with this text: 1 where it is longer than 255 bytes, 2 where it is not legal.
+    /// Creates a path from its text.
+    ///
+    /// # Errors
+    ///
+    /// [`Refusal::TooLong`] (1) if the text is longer than 255 bytes, [`Refusal::NotLegal`] (2) if it is not a legal path.
     ///
     /// ```
     /// use mudvizsor::{Path, Refusal};
@@ -44,7 +49,7 @@ impl Path {
         Ok(Path(text.into()))
     }
 
-    /// The path `/`, above all others.
+    /// Returns the path `/`, the root of all absolute paths.
     ///
     /// ```
     /// assert_eq!(mudvizsor::Path::root().as_str(), "/");
@@ -53,7 +58,7 @@ impl Path {
         Path("/".into())
     }
 
-    /// The empty path; as the target of a pair it stands for "nowhere".
+    /// Returns the empty path. As the target of a pair it blocks the source, which then has no resulting path.
     ///
     /// ```
     /// assert_eq!(mudvizsor::Path::empty().as_str(), "");
@@ -62,12 +67,12 @@ impl Path {
         Path::default()
     }
 
-    /// The path in bytes that the library wrote.
+    /// Creates a path from bytes that the library wrote.
     pub(crate) fn written(bytes: &[u8]) -> Self {
         Path(str::from_utf8(bytes).expect("the library writes ASCII").into())
     }
 
-    /// Its text.
+    /// Returns the text of the path.
     ///
     /// ```
     /// # use mudvizsor::Path;
@@ -78,7 +83,7 @@ impl Path {
         &self.0
     }
 
-    /// Its text as bytes.
+    /// Returns the text of the path as bytes.
     ///
     /// ```
     /// # use mudvizsor::Path;
@@ -89,7 +94,7 @@ impl Path {
         self.0.as_bytes()
     }
 
-    /// Whether it is the empty path.
+    /// Returns whether it is the empty path.
     ///
     /// ```
     /// # use mudvizsor::Path;
@@ -99,7 +104,8 @@ impl Path {
         self.0.is_empty()
     }
 
-    /// Whether it can be an end of a pair: a prim path, which has names only, `/` or the empty path.
+    /// Returns whether it can be an end (source or target) of a pair: a prim path, which has names only, `/` or the empty
+    /// path.
     ///
     /// ```
     /// # use mudvizsor::Path;
@@ -108,10 +114,10 @@ impl Path {
     /// # Ok::<(), mudvizsor::Refusal>(())
     /// ```
     pub fn is_end(&self) -> bool {
-        sure(paths::is_end(self.as_bytes())) != 0
+        accepted(paths::is_end(self.as_bytes())) != 0
     }
 
-    /// Whether it has a selection.
+    /// Returns whether it contains a variant selection.
     ///
     /// ```
     /// # use mudvizsor::Path;
@@ -119,10 +125,10 @@ impl Path {
     /// # Ok::<(), mudvizsor::Refusal>(())
     /// ```
     pub fn has_variant_selection(&self) -> bool {
-        sure(paths::has_variant_selection(self.as_bytes())) != 0
+        accepted(paths::has_variant_selection(self.as_bytes())) != 0
     }
 
-    /// How many names and selections it has. A property counts for nothing.
+    /// Returns the number of names and selections. A property is not counted.
     ///
     /// ```
     /// # use mudvizsor::Path;
@@ -130,10 +136,10 @@ impl Path {
     /// # Ok::<(), mudvizsor::Refusal>(())
     /// ```
     pub fn element_count(&self) -> usize {
-        sure(paths::element_count(self.as_bytes()))
+        accepted(paths::element_count(self.as_bytes()))
     }
 
-    /// How many names it has.
+    /// Returns the number of names. Selections and a property are not counted.
     ///
     /// ```
     /// # use mudvizsor::Path;
@@ -141,10 +147,10 @@ impl Path {
     /// # Ok::<(), mudvizsor::Refusal>(())
     /// ```
     pub fn prim_element_count(&self) -> usize {
-        sure(paths::prim_element_count(self.as_bytes()))
+        accepted(paths::prim_element_count(self.as_bytes()))
     }
 
-    /// Whether it is `prefix` or lies below it. The empty path is a prefix of every path.
+    /// Returns whether `prefix` is the path itself or one of its ancestors. The empty path is a prefix of every path.
     ///
     /// ```
     /// # use mudvizsor::Path;
@@ -154,11 +160,15 @@ impl Path {
     /// # Ok::<(), mudvizsor::Refusal>(())
     /// ```
     pub fn has_prefix(&self, prefix: &Path) -> bool {
-        sure(paths::has_prefix(self.as_bytes(), prefix.as_bytes())) != 0
+        accepted(paths::has_prefix(self.as_bytes(), prefix.as_bytes())) != 0
     }
 
-    /// The path with `new` in place of its prefix `old`: 6 where `old` is no prefix, 7 or 8 where the path made is too
-    /// long or not legal.
+    /// Returns the path with its prefix `old` replaced by `new`.
+    ///
+    /// # Errors
+    ///
+    /// [`Refusal::NoPath`] (6) if `old` is not a prefix, [`Refusal::MadeTooLong`] (7) or [`Refusal::MadeNotLegal`] (8) if
+    /// the result is too long or not legal.
     ///
     /// ```
     /// # use mudvizsor::{Path, Refusal};
@@ -169,10 +179,14 @@ impl Path {
     /// # Ok::<(), Refusal>(())
     /// ```
     pub fn replace_prefix(&self, old: &Path, new: &Path) -> Result<Path> {
-        made(|out| paths::replace_prefix(self.as_bytes(), old.as_bytes(), new.as_bytes(), out))
+        read_path(|out| paths::replace_prefix(self.as_bytes(), old.as_bytes(), new.as_bytes(), out))
     }
 
-    /// The path without its property or its last element: 6 for `/` and the empty path, which have none.
+    /// Returns the path without its property or, if it has none, without its last element.
+    ///
+    /// # Errors
+    ///
+    /// [`Refusal::NoPath`] (6) for `/` and the empty path, which have no parent.
     ///
     /// ```
     /// # use mudvizsor::{Path, Refusal};
@@ -182,10 +196,10 @@ impl Path {
     /// # Ok::<(), Refusal>(())
     /// ```
     pub fn parent(&self) -> Result<Path> {
-        made(|out| paths::parent(self.as_bytes(), out))
+        read_path(|out| paths::parent(self.as_bytes(), out))
     }
 
-    /// The path without its property, or, where it has none, without one selection at its end.
+    /// Returns the path without its property or, if it has none and ends in a selection, without that selection.
     ///
     /// ```
     /// # use mudvizsor::Path;
@@ -194,12 +208,16 @@ impl Path {
     /// # Ok::<(), mudvizsor::Refusal>(())
     /// ```
     pub fn prim_path(&self) -> Path {
-        let mut out = [0; LONGEST];
-        let length = sure(paths::prim_path(self.as_bytes(), &mut out));
+        let mut out = [0; MAX_PATH_LEN];
+        let length = accepted(paths::prim_path(self.as_bytes(), &mut out));
         Path::written(&out[..length])
     }
 
-    /// The path without its property, and the property's name: 6 where it has no property.
+    /// Returns the path without its property, and the name of the property.
+    ///
+    /// # Errors
+    ///
+    /// [`Refusal::NoPath`] (6) if the path has no property.
     ///
     /// ```
     /// # use mudvizsor::{Path, Refusal};
@@ -210,12 +228,12 @@ impl Path {
     /// # Ok::<(), Refusal>(())
     /// ```
     pub fn split_property(&self) -> Result<(Path, &str)> {
-        let prim = made(|out| paths::split_property(self.as_bytes(), out))?;
+        let prim = read_path(|out| paths::split_property(self.as_bytes(), out))?;
         let name = &self.0[prim.0.len() + 1..];
         Ok((prim, name))
     }
 
-    /// The path without its selections.
+    /// Returns the path without its variant selections.
     ///
     /// ```
     /// # use mudvizsor::Path;
@@ -224,12 +242,12 @@ impl Path {
     /// # Ok::<(), mudvizsor::Refusal>(())
     /// ```
     pub fn strip_variant_selections(&self) -> Path {
-        let mut out = [0; LONGEST];
-        let length = sure(paths::strip_variant_selections(self.as_bytes(), &mut out));
+        let mut out = [0; MAX_PATH_LEN];
+        let length = accepted(paths::strip_variant_selections(self.as_bytes(), &mut out));
         Path::written(&out[..length])
     }
 
-    /// The path itself, its parent, the parent of that, and so on.
+    /// Returns an iterator over the path itself, its parent, the parent of that, and so on.
     ///
     /// ```
     /// # use mudvizsor::Path;
@@ -240,31 +258,31 @@ impl Path {
     /// # Ok::<(), mudvizsor::Refusal>(())
     /// ```
     pub fn ancestors(&self) -> Ancestors<'_> {
-        let mut lengths = vec![0; MOST_ANCESTORS];
-        let count = sure(paths::ancestors(self.as_bytes(), &mut lengths));
+        let mut lengths = vec![0; MAX_ANCESTORS];
+        let count = accepted(paths::ancestors(self.as_bytes(), &mut lengths));
         lengths.truncate(count);
         Ancestors { path: self, lengths: lengths.into_iter() }
     }
 }
 
-/// The path that a call writes to the memory lent to it.
-pub(crate) fn made(call: impl FnOnce(&mut [u8]) -> Reply) -> Result<Path> {
-    let mut out = [0; LONGEST];
+/// Makes a call that writes a path, with a large enough buffer, and returns that path.
+pub(crate) fn read_path(call: impl FnOnce(&mut [u8]) -> Reply) -> Result<Path> {
+    let mut out = [0; MAX_PATH_LEN];
     let length = read(call(&mut out))?;
     Ok(Path::written(&out[..length]))
 }
 
-/// A path and its ancestors, as [`Path::ancestors`] gives them.
+/// An iterator over a path and its ancestors, created by [`Path::ancestors`].
 #[derive(Debug, Clone)]
 pub struct Ancestors<'a> {
     path: &'a Path,
-    /// The lengths of those that are left: each is a beginning of the path.
+    /// The lengths of the remaining ones: each is an initial part of the path.
     lengths: std::vec::IntoIter<usize>,
 }
 
 impl Ancestors<'_> {
-    /// The beginning of the path with this length.
-    fn beginning(&self, length: usize) -> Path {
+    /// Returns the initial part of the path with this length.
+    fn ancestor(&self, length: usize) -> Path {
         Path(self.path.0[..length].into())
     }
 }
@@ -273,7 +291,7 @@ impl Iterator for Ancestors<'_> {
     type Item = Path;
 
     fn next(&mut self) -> Option<Path> {
-        self.lengths.next().map(|length| self.beginning(length))
+        self.lengths.next().map(|length| self.ancestor(length))
     }
 
     fn size_hint(&self) -> (usize, Option<usize>) {
@@ -283,7 +301,7 @@ impl Iterator for Ancestors<'_> {
 
 impl DoubleEndedIterator for Ancestors<'_> {
     fn next_back(&mut self) -> Option<Path> {
-        self.lengths.next_back().map(|length| self.beginning(length))
+        self.lengths.next_back().map(|length| self.ancestor(length))
     }
 }
 

@@ -1,10 +1,10 @@
-//! Why a call is refused.
+//! Refusals, the errors of this crate.
 
 use crate::ffi::Reply;
 use std::error::Error;
 use std::fmt;
 
-/// The answer of a call that can be refused.
+/// The result of a call that can be refused.
 ///
 /// ```
 /// fn shorter(text: &str) -> mudvizsor::Result<mudvizsor::Path> {
@@ -14,7 +14,8 @@ use std::fmt;
 /// ```
 pub type Result<T> = std::result::Result<T, Refusal>;
 
-/// Why a call is refused, with document 01's number as the discriminant.
+/// Why a call is refused. The discriminant is the number of the check that failed (`docs/REQUIREMENTS.md`, Validation and
+/// refusals).
 ///
 /// ```
 /// use mudvizsor::{Path, Refusal};
@@ -31,19 +32,20 @@ pub enum Refusal {
     TooLong = 1,
     /// A text is not a legal path.
     NotLegal = 2,
-    /// An end is not a prim path, `/` or empty.
+    /// An end of a pair is neither a prim path nor `/` nor empty.
     NotAnEnd = 3,
     /// A list has more than 64 pairs, or a route more than 16 legs.
     TooMany = 4,
-    /// The lent memory is too little. This crate lends enough, so that only [`ffi`](crate::ffi) meets it.
+    /// A lent buffer is too small. The types of this crate lend large enough buffers, so only the functions in
+    /// [`ffi`](crate::ffi) return it.
     NoRoom = 5,
-    /// The definition gives no path.
+    /// There is no resulting path.
     NoPath = 6,
-    /// A path that was made is longer than 255 bytes.
+    /// A resulting path is longer than 255 bytes.
     MadeTooLong = 7,
-    /// A path that was made is not legal.
+    /// A resulting path is not legal.
     MadeNotLegal = 8,
-    /// A frame is not well formed. Only the program `frames` gives it.
+    /// A frame is not well formed. It occurs only in the answer lines of [`Frames`](crate::Frames).
     BadFrame = 9,
 }
 
@@ -68,7 +70,7 @@ impl Refusal {
         Refusal::BadFrame,
     ];
 
-    /// Document 01's number.
+    /// Returns the number of the refusal, from 1 to 9.
     ///
     /// ```
     /// # use mudvizsor::Refusal;
@@ -78,7 +80,7 @@ impl Refusal {
         self as u8
     }
 
-    /// The refusal with this number of document 01.
+    /// Returns the refusal with this number; `None` if there is none.
     ///
     /// ```
     /// # use mudvizsor::Refusal;
@@ -108,28 +110,28 @@ impl fmt::Display for Refusal {
 
 impl Error for Refusal {}
 
-/// The value of an answer, or the refusal.
+/// Returns the value of a successful reply, or the refusal.
 pub(crate) fn read(reply: Reply) -> Result<usize> {
     match reply.number() {
         0 => Ok(reply.value()),
-        number => Err(known(number)),
+        number => Err(refusal_of(number)),
     }
 }
 
-/// The value of a reply that is proved to be an answer, since all texts have been checked.
-pub(crate) fn sure(reply: Reply) -> usize {
-    settled(read(reply))
+/// Returns the value of a reply that is never a refusal, since all texts have been validated.
+pub(crate) fn accepted(reply: Reply) -> usize {
+    never_refused(read(reply))
 }
 
-/// The answer of a call that is proved never to be refused here.
-pub(crate) fn settled<T>(answer: Result<T>) -> T {
-    answer.unwrap_or_else(|refusal| unreachable!("checked texts were refused: {refusal}"))
+/// Returns the result of a call that is never refused, since all texts have been validated.
+pub(crate) fn never_refused<T>(answer: Result<T>) -> T {
+    answer.unwrap_or_else(|refusal| unreachable!("validated texts were refused: {refusal}"))
 }
 
-/// The refusal with a number that the library gave.
-fn known(number: usize) -> Refusal {
+/// Returns the refusal with a number that the library returned.
+fn refusal_of(number: usize) -> Refusal {
     let refusal = u8::try_from(number).ok().and_then(Refusal::from_number);
-    refusal.unwrap_or_else(|| unreachable!("the library gave the number {number}"))
+    refusal.unwrap_or_else(|| unreachable!("the library returned the unknown number {number}"))
 }
 
 #[cfg(test)]
@@ -137,7 +139,7 @@ mod tests {
     use super::*;
 
     #[test]
-    fn numbers_go_there_and_back() {
+    fn numbers_round_trip() {
         for number in 0..=255 {
             let refusal = Refusal::from_number(number);
             assert_eq!(refusal.is_some(), (1..=9).contains(&number));
@@ -150,13 +152,13 @@ mod tests {
         assert_eq!(read(Reply::answer(0)), Ok(0));
         assert_eq!(read(Reply::answer(255)), Ok(255));
         assert_eq!(read(Reply::refusal(7)), Err(Refusal::MadeTooLong));
-        assert_eq!(sure(Reply::answer(3)), 3);
+        assert_eq!(accepted(Reply::answer(3)), 3);
     }
 
     #[test]
-    #[should_panic(expected = "checked texts were refused")]
-    fn a_refusal_is_not_sure() {
-        sure(Reply::refusal(2));
+    #[should_panic(expected = "validated texts were refused")]
+    fn accepted_panics_on_a_refusal() {
+        accepted(Reply::refusal(2));
     }
 
     #[test]

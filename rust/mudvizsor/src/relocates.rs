@@ -1,14 +1,14 @@
-//! Relocate lists: statuses, chaining and shifting, over the entries for relocates.
+//! Relocate lists: statuses, chaining and shifting.
 
 use crate::Path;
 use crate::ffi::maps::List;
 use crate::ffi::relocates;
 use crate::pair_list::{Packed, PairList, Pairs};
-use crate::path::{LONGEST, made};
+use crate::path::{MAX_PATH_LEN, read_path};
 use crate::refusal::{Result, read};
 use std::fmt;
 
-/// A list of relocates, each a pair of a source and a target, with the status of each.
+/// A list of relocates, which are pairs of a source and a target, and the status of each.
 ///
 /// ```
 /// use mudvizsor::{Path, Relocates, Status};
@@ -23,7 +23,7 @@ pub struct Relocates {
     statuses: Vec<Status>,
 }
 
-/// Whether a relocate counts, with document 01's status byte as the discriminant.
+/// Whether a relocate is used, and if not, why. The discriminant is the status byte of `docs/REQUIREMENTS.md` (Relocates).
 ///
 /// ```
 /// use mudvizsor::Status;
@@ -34,13 +34,14 @@ pub struct Relocates {
 #[derive(Debug, Clone, Copy, PartialEq, Eq, PartialOrd, Ord, Hash)]
 #[repr(u8)]
 pub enum Status {
-    /// It counts.
+    /// The relocate is used.
     Active = 0,
-    /// Its source has one name, its ends are equal, or one end lies below the other.
+    /// The pair is not a valid relocate on its own: its target is not empty, and its source has one name, its ends are
+    /// equal, or one end is a prefix of the other.
     Structural = 1,
-    /// An earlier pair that is not structural has this source.
+    /// An earlier pair that is not structural has the same source.
     DuplicateSource = 2,
-    /// It stands against another pair.
+    /// The pair conflicts with another one, for example by having the same target.
     Conflict = 3,
 }
 
@@ -54,7 +55,7 @@ impl Status {
     pub const ALL: [Status; 4] =
         [Status::Active, Status::Structural, Status::DuplicateSource, Status::Conflict];
 
-    /// The status with this byte.
+    /// Returns the status with this byte; `None` if there is none.
     ///
     /// ```
     /// # use mudvizsor::Status;
@@ -77,7 +78,7 @@ impl fmt::Display for Status {
     }
 }
 
-/// Where a chain of relocates ends.
+/// The end of a chain of relocates.
 ///
 /// ```
 /// use mudvizsor::{Chain, Path, Relocates};
@@ -89,15 +90,20 @@ impl fmt::Display for Status {
 /// ```
 #[derive(Debug, Clone, PartialEq, Eq)]
 pub struct Chain {
-    /// The path at its end.
+    /// The resulting path.
     pub path: Path,
-    /// The replacements made.
+    /// The number of replacements that were made.
     pub steps: usize,
 }
 
 impl Relocates {
-    /// The list of these pairs, with their statuses. Refused with 1 or 2 for an end that is too long or not legal, 3 for
-    /// one that is a path but no end, 4 for more than 64 pairs.
+    /// Creates a list from its pairs and computes their statuses.
+    ///
+    /// # Errors
+    ///
+    /// [`TooLong`](crate::Refusal::TooLong) (1), [`NotLegal`](crate::Refusal::NotLegal) (2) or
+    /// [`NotAnEnd`](crate::Refusal::NotAnEnd) (3) if a source or target is too long, not a legal path or not an end,
+    /// [`TooMany`](crate::Refusal::TooMany) (4) if there are more than 64 pairs.
     ///
     /// ```
     /// # use mudvizsor::{Refusal, Relocates};
@@ -112,7 +118,7 @@ impl Relocates {
         Ok(Relocates { list: PairList::read(packed, count), statuses: bytes.iter().map(status).collect() })
     }
 
-    /// Its pairs, all of them, as they were given.
+    /// Returns all pairs, in the order in which they were given.
     ///
     /// ```
     /// # use mudvizsor::Relocates;
@@ -123,7 +129,7 @@ impl Relocates {
         Pairs::new(&self.list)
     }
 
-    /// The status of each pair.
+    /// Returns the status of each pair.
     ///
     /// ```
     /// # use mudvizsor::{Relocates, Status};
@@ -135,7 +141,7 @@ impl Relocates {
         &self.statuses
     }
 
-    /// The pairs that count.
+    /// Returns the pairs whose status is [`Status::Active`].
     ///
     /// ```
     /// # use mudvizsor::Relocates;
@@ -149,8 +155,16 @@ impl Relocates {
         both.filter(|(_, status)| **status == Status::Active).map(|(pair, _)| pair)
     }
 
-    /// The end of the path's chain: at most as many replacements as there are pairs, each by the source longest in bytes.
-    /// All pairs take part, whatever their status. Refused with 7 or 8 where a step makes a path too long or not legal.
+    /// Follows the path through the relocates.
+    ///
+    /// Each step uses, of the pairs that have a nonempty target and alter the path, the one whose source is the longest in
+    /// bytes, the last one on a tie, and replaces that source by the target. There are at most as many steps as pairs. All
+    /// pairs take part, whatever their status.
+    ///
+    /// # Errors
+    ///
+    /// [`MadeTooLong`](crate::Refusal::MadeTooLong) (7) or [`MadeNotLegal`](crate::Refusal::MadeNotLegal) (8) if the path
+    /// after some step is too long or not legal.
     ///
     /// ```
     /// # use mudvizsor::{Path, Relocates};
@@ -160,10 +174,10 @@ impl Relocates {
     /// # Ok::<(), mudvizsor::Refusal>(())
     /// ```
     pub fn chain(&self, path: &Path) -> Result<Chain> {
-        self.chained(false, &Path::empty(), path)
+        self.chain_with(false, &Path::empty(), path)
     }
 
-    /// The end of the path's chain without the pairs that have the source `skipped`.
+    /// Follows the path through the relocates like [`chain`](Self::chain), but ignores the pairs with the source `skipped`.
     ///
     /// ```
     /// # use mudvizsor::{Path, Relocates};
@@ -173,11 +187,18 @@ impl Relocates {
     /// # Ok::<(), mudvizsor::Refusal>(())
     /// ```
     pub fn chain_skipping(&self, skipped: &Path, path: &Path) -> Result<Chain> {
-        self.chained(true, skipped, path)
+        self.chain_with(true, skipped, path)
     }
 
-    /// The endpoint under the nearest rename above it, or itself. Refused with 7 or 8 where the path made is too long or
-    /// not legal.
+    /// Applies the relocate of the nearest ancestor of the endpoint, once; returns the endpoint unchanged if there is none.
+    ///
+    /// The nearest ancestor is, of the sources that are a prefix of the endpoint but not the endpoint itself and have a
+    /// nonempty target, the longest one in bytes, the last one on a tie.
+    ///
+    /// # Errors
+    ///
+    /// [`MadeTooLong`](crate::Refusal::MadeTooLong) (7) or [`MadeNotLegal`](crate::Refusal::MadeNotLegal) (8) if the result
+    /// is too long or not legal.
     ///
     /// ```
     /// # use mudvizsor::{Path, Relocates};
@@ -187,18 +208,18 @@ impl Relocates {
     /// # Ok::<(), mudvizsor::Refusal>(())
     /// ```
     pub fn shift(&self, endpoint: &Path) -> Result<Path> {
-        made(|out| relocates::shift_through_nearest_ancestor(self.lent_list(), endpoint.as_bytes(), out))
+        read_path(|out| relocates::shift_through_nearest_ancestor(self.lent_list(), endpoint.as_bytes(), out))
     }
 
-    fn chained(&self, skips: bool, skipped: &Path, path: &Path) -> Result<Chain> {
-        let mut out = [0; LONGEST];
+    fn chain_with(&self, skips: bool, skipped: &Path, path: &Path) -> Result<Chain> {
+        let mut out = [0; MAX_PATH_LEN];
         let (skipped, path) = (skipped.as_bytes(), path.as_bytes());
         let reply = relocates::chain_through_relocates(self.lent_list(), skips, skipped, path, &mut out);
         let value = read(reply)?;
         Ok(Chain { path: Path::written(&out[..value % 256]), steps: value / 256 })
     }
 
-    /// The list as it is lent.
+    /// The list as it is passed to the library.
     fn lent_list(&self) -> List<'_> {
         self.list.packed.list(false)
     }

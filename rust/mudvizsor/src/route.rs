@@ -1,14 +1,14 @@
 //! Routes of maps and relocate lists.
 
+use crate::batch::map_in_batches;
 use crate::ffi::routes::{self, Route as Lent};
-use crate::many::carried;
 use crate::pair_list::{Packed, Pairs};
-use crate::path::{LONGEST, made};
+use crate::path::{MAX_PATH_LEN, read_path};
 use crate::refusal::{Refusal, Result, read};
 use crate::{MapFunction, Path, Relocates};
 use std::ops::Range;
 
-/// A leg of a route.
+/// A leg of a [`Route`].
 ///
 /// ```
 /// use mudvizsor::{Leg, MapFunction, Relocates};
@@ -20,14 +20,14 @@ use std::ops::Range;
 /// ```
 #[derive(Debug, Clone, PartialEq)]
 pub enum Leg {
-    /// A map, whose time offset plays no part on a route.
+    /// A map. Its time offset is ignored on a route.
     Map(MapFunction),
-    /// A relocate list, which stands for the map that [`MapFunction::new`] makes of its active pairs and `/` to `/`.
+    /// A relocate list, which stands for the map that [`MapFunction::new`] builds of its active pairs and `/` to `/`.
     Relocates(Relocates),
 }
 
 impl Leg {
-    /// Its pairs.
+    /// Returns the pairs of the map or of the relocate list.
     ///
     /// ```
     /// # use mudvizsor::{Leg, MapFunction};
@@ -41,7 +41,7 @@ impl Leg {
         }
     }
 
-    /// The number that stands for its kind where it is lent.
+    /// The number of its kind, as it is passed to the library.
     fn kind(&self) -> usize {
         match self {
             Leg::Map(map) => usize::from(map.has_root_identity()),
@@ -62,11 +62,12 @@ impl From<Relocates> for Leg {
     }
 }
 
-/// Maps and relocate lists, one after the other.
+/// A sequence of maps and relocate lists (its legs) over which paths are mapped.
 ///
-/// On the way out each leg translates what the leg before gave; a leg without a path for it ends the way. On the way home
-/// the legs map back in reverse. It is proved that a path without selections which comes out comes home to itself, over
-/// the whole route.
+/// [`out`](Self::out) maps a path over the legs in order with [`MapFunction::translate_to_target`], and stops at the first
+/// leg that has no result. [`home`](Self::home) maps it over the legs in reverse with
+/// [`MapFunction::map_target_to_source`]. It is proved for the library that a path without selections that comes out is
+/// mapped home to itself, over the whole route.
 ///
 /// ```
 /// use mudvizsor::{MapFunction, Path, Relocates, Route};
@@ -84,12 +85,16 @@ pub struct Route {
     legs: Vec<Leg>,
     /// The pairs of all legs.
     packed: Packed,
-    /// Three numbers for each leg: its kind, its first pair, how many pairs it has.
+    /// Three numbers for each leg: its kind, the index of its first pair, its number of pairs.
     numbers: Vec<usize>,
 }
 
 impl Route {
-    /// The route over these legs: 4 where there are more than 16.
+    /// Creates a route from its legs.
+    ///
+    /// # Errors
+    ///
+    /// [`Refusal::TooMany`] (4) if there are more than 16 legs.
     ///
     /// ```
     /// # use mudvizsor::{MapFunction, Refusal, Route};
@@ -109,20 +114,20 @@ impl Route {
             first += count;
         }
         let route = Route { legs, packed, numbers };
-        route.checked()?;
+        route.validate()?;
         Ok(route)
     }
 
-    /// Puts the questions about the legs, which come before any about where a path goes.
-    fn checked(&self) -> Result<()> {
-        let reply = routes::route_out(self.lent(0..self.legs.len()), b"", &mut [0; LONGEST]);
+    /// Validates the legs (checks 1 to 4), by mapping the empty path: its own refusals come later.
+    fn validate(&self) -> Result<()> {
+        let reply = routes::route_out(self.lent(0..self.legs.len()), b"", &mut [0; MAX_PATH_LEN]);
         match read(reply) {
             Err(refusal) if refusal < Refusal::NoPath => Err(refusal),
             _ => Ok(()),
         }
     }
 
-    /// Its legs.
+    /// Returns the legs.
     ///
     /// ```
     /// # use mudvizsor::{Leg, MapFunction, Route};
@@ -134,8 +139,12 @@ impl Route {
         &self.legs
     }
 
-    /// Where the path comes to on the way out: 6, 7 or 8 where a leg has no path for it, or makes one that is too long or
-    /// not legal. The first leg leaves out its selections; without legs the path stays as it is.
+    /// Maps the path out over the legs. Its selections are removed by the first leg; with no legs it is returned unchanged.
+    ///
+    /// # Errors
+    ///
+    /// [`Refusal::NoPath`] (6) if a leg has no result for it, [`Refusal::MadeTooLong`] (7) or [`Refusal::MadeNotLegal`] (8)
+    /// if the result of a leg is too long or not legal.
     ///
     /// ```
     /// # use mudvizsor::{MapFunction, Path, Refusal, Route};
@@ -145,10 +154,14 @@ impl Route {
     /// # Ok::<(), Refusal>(())
     /// ```
     pub fn out(&self, path: &Path) -> Result<Path> {
-        self.over(0..self.legs.len(), false, path)
+        self.map_over(0..self.legs.len(), false, path)
     }
 
-    /// Where the path comes to on the way home, the last leg first: 6, 7 or 8 as on the way out.
+    /// Maps the path home over the legs, the last leg first.
+    ///
+    /// # Errors
+    ///
+    /// As for [`out`](Self::out).
     ///
     /// ```
     /// # use mudvizsor::{MapFunction, Path, Route};
@@ -157,10 +170,11 @@ impl Route {
     /// # Ok::<(), mudvizsor::Refusal>(())
     /// ```
     pub fn home(&self, path: &Path) -> Result<Path> {
-        self.over(0..self.legs.len(), true, path)
+        self.map_over(0..self.legs.len(), true, path)
     }
 
-    /// Where each of many paths comes to on the way out, in their order. The library checks the legs once for all.
+    /// Maps many paths out over the legs and returns the results in the same order. The legs are validated only once for all
+    /// paths, so this is faster than [`out`](Self::out) for each.
     ///
     /// ```
     /// # use mudvizsor::{MapFunction, Path, Refusal, Route};
@@ -170,10 +184,11 @@ impl Route {
     /// # Ok::<(), Refusal>(())
     /// ```
     pub fn out_all<'a>(&self, paths: impl IntoIterator<Item = &'a Path>) -> Vec<Result<Path>> {
-        self.all_over(false, paths)
+        self.map_all_over(false, paths)
     }
 
-    /// Where each of many paths comes to on the way home, in their order.
+    /// Maps many paths home over the legs and returns the results in the same order. The legs are validated only once for all
+    /// paths.
     ///
     /// ```
     /// # use mudvizsor::{MapFunction, Path, Route};
@@ -182,10 +197,10 @@ impl Route {
     /// # Ok::<(), mudvizsor::Refusal>(())
     /// ```
     pub fn home_all<'a>(&self, paths: impl IntoIterator<Item = &'a Path>) -> Vec<Result<Path>> {
-        self.all_over(true, paths)
+        self.map_all_over(true, paths)
     }
 
-    /// What each leg gives on the way out, one after the other. A refusal is the last item.
+    /// Returns an iterator over the results of the legs on the way out. A refusal is the last item.
     ///
     /// ```
     /// # use mudvizsor::{MapFunction, Path, Refusal, Route};
@@ -198,10 +213,10 @@ impl Route {
     /// # Ok::<(), Refusal>(())
     /// ```
     pub fn steps_out(&self, path: &Path) -> Steps<'_> {
-        Steps { route: self, home: false, left: 0..self.legs.len(), at: Some(path.clone()) }
+        Steps { route: self, home: false, remaining: 0..self.legs.len(), current: Some(path.clone()) }
     }
 
-    /// What each leg gives on the way home, the last leg first. A refusal is the last item.
+    /// Returns an iterator over the results of the legs on the way home, the last leg first. A refusal is the last item.
     ///
     /// ```
     /// # use mudvizsor::{MapFunction, Path, Route};
@@ -212,48 +227,48 @@ impl Route {
     /// # Ok::<(), mudvizsor::Refusal>(())
     /// ```
     pub fn steps_home(&self, path: &Path) -> Steps<'_> {
-        Steps { route: self, home: true, left: 0..self.legs.len(), at: Some(path.clone()) }
+        Steps { route: self, home: true, remaining: 0..self.legs.len(), current: Some(path.clone()) }
     }
 
-    /// Some of the legs as they are lent.
+    /// Some of the legs as they are passed to the library.
     fn lent(&self, legs: Range<usize>) -> Lent<'_> {
         let numbers = &self.numbers[3 * legs.start..3 * legs.end];
         Lent { store: &self.packed.store, places: &self.packed.places, legs: numbers, count: legs.len() }
     }
 
-    /// The path over some of the legs.
-    fn over(&self, legs: Range<usize>, home: bool, path: &Path) -> Result<Path> {
+    /// Maps the path over some of the legs.
+    fn map_over(&self, legs: Range<usize>, home: bool, path: &Path) -> Result<Path> {
         let route = self.lent(legs);
         match home {
-            false => made(|out| routes::route_out(route, path.as_bytes(), out)),
-            true => made(|out| routes::route_home(route, path.as_bytes(), out)),
+            false => read_path(|out| routes::route_out(route, path.as_bytes(), out)),
+            true => read_path(|out| routes::route_home(route, path.as_bytes(), out)),
         }
     }
 
-    fn all_over<'a>(&self, home: bool, paths: impl IntoIterator<Item = &'a Path>) -> Vec<Result<Path>> {
+    fn map_all_over<'a>(&self, home: bool, paths: impl IntoIterator<Item = &'a Path>) -> Vec<Result<Path>> {
         let route = self.lent(0..self.legs.len());
-        carried(paths, |paths, out, replies| routes::route_all(route, home, paths, out, replies))
+        map_in_batches(paths, |paths, out, replies| routes::route_all(route, home, paths, out, replies))
     }
 }
 
-/// The steps of a path over a route, as [`Route::steps_out`] and [`Route::steps_home`] give them.
+/// An iterator over the steps of a path over a route, created by [`Route::steps_out`] and [`Route::steps_home`].
 #[derive(Debug, Clone)]
 pub struct Steps<'a> {
     route: &'a Route,
     home: bool,
-    /// The legs that are left.
-    left: Range<usize>,
-    /// Where the path has come to, unless its way has ended.
-    at: Option<Path>,
+    /// The remaining legs.
+    remaining: Range<usize>,
+    /// The path so far; `None` after a refusal.
+    current: Option<Path>,
 }
 
 impl Iterator for Steps<'_> {
     type Item = Result<Path>;
 
     fn next(&mut self) -> Option<Self::Item> {
-        let leg = if self.home { self.left.next_back() } else { self.left.next() }?;
-        let step = self.route.over(leg..leg + 1, self.home, self.at.as_ref()?);
-        self.at = step.as_ref().ok().cloned();
+        let leg = if self.home { self.remaining.next_back() } else { self.remaining.next() }?;
+        let step = self.route.map_over(leg..leg + 1, self.home, self.current.as_ref()?);
+        self.current = step.as_ref().ok().cloned();
         Some(step)
     }
 }

@@ -1,17 +1,17 @@
-//! The binding declares what the library's source has: of every entry the types that it passes, in their order, and what
-//! it gives back.
+//! The module `ffi` declares every entry as the source of the library does: the same argument types in the same order, and
+//! the same return type.
 
 use std::collections::BTreeMap;
 use std::fs;
 use std::path::Path;
 
-/// An entry's types, and then what it gives back.
+/// The argument types of each entry, followed by its return type.
 type Declarations = BTreeMap<String, Vec<String>>;
 
 #[test]
 fn the_binding_declares_every_entry_as_the_source_has_it() {
     let here = Path::new(env!("CARGO_MANIFEST_DIR"));
-    let expected = in_source(&sources(&here.join("../../crates/exports/src"), "rt"));
+    let expected = in_source(&sources(&here.join("../../crates/mudvizsor/src"), "rt"));
     let binding = sources(&here.join("src/ffi"), "rs");
     let mut declared = by_macro(&binding);
     declared.extend(by_name(&binding));
@@ -19,7 +19,7 @@ fn the_binding_declares_every_entry_as_the_source_has_it() {
     assert_eq!(declared, expected);
 }
 
-/// The texts of the files of a folder with this ending, but for the macro's own, one behind the other, without comments.
+/// The concatenated files of a folder with this extension, without comments and without the file of the macro.
 fn sources(folder: &Path, ending: &str) -> String {
     let files = fs::read_dir(folder).expect("a folder of sources").map(|file| file.expect("a file").path());
     let mut files: Vec<_> =
@@ -36,7 +36,7 @@ fn in_source(text: &str) -> Declarations {
     text.split("pub extern \"C\" fn ").skip(1).map(|rest| declaration(name_of(rest), rest)).collect()
 }
 
-/// The entries that the binding declares under a name of its own.
+/// The entries that the module declares with `link_name`.
 fn by_name(text: &str) -> Declarations {
     let entries = text.split("#[link_name = \"").skip(1);
     entries
@@ -44,7 +44,7 @@ fn by_name(text: &str) -> Declarations {
         .collect()
 }
 
-/// The entries that the binding declares by its macro.
+/// The entries that the module declares with the macro `entry!`.
 fn by_macro(text: &str) -> Declarations {
     let calls = text.split("entry!(").skip(1);
     calls
@@ -58,13 +58,13 @@ fn by_macro(text: &str) -> Declarations {
         .collect()
 }
 
-/// An entry of this name whose text begins with the name of a function: `f(a: A, b: B) -> C`.
+/// The declaration of an entry; the text starts with the name of a function: `f(a: A, b: B) -> C`.
 fn declaration(name: &str, text: &str) -> (String, Vec<String>) {
     let arguments = enclosed(after(text, "("));
     let mut types: Vec<_> =
         parts(&arguments).iter().flat_map(|argument| types_of(after(argument, ":").trim())).collect();
     let given = after(text, &format!("{arguments})")).trim_start();
-    types.push(given.strip_prefix("-> ").map_or("nothing", |given| type_given(name_of(given))).to_owned());
+    types.push(given.strip_prefix("-> ").map_or("nothing", |given| return_type(name_of(given))).to_owned());
     (name.to_owned(), types)
 }
 
@@ -72,13 +72,13 @@ fn after<'a>(text: &'a str, mark: &str) -> &'a str {
     text.split_once(mark).unwrap_or_else(|| panic!("{mark} in {text}")).1
 }
 
-/// The name at the beginning.
+/// The name at the start of the text.
 fn name_of(text: &str) -> &str {
     let text = text.trim_start();
     &text[..text.find(|c: char| !c.is_alphanumeric() && c != '_').unwrap_or(text.len())]
 }
 
-/// What stands before the bracket that closes.
+/// The text up to the closing bracket.
 fn enclosed(text: &str) -> String {
     let mut depth = 0;
     let end = text.find(|c| {
@@ -88,7 +88,7 @@ fn enclosed(text: &str) -> String {
     text[..end.expect("a closing bracket")].to_owned()
 }
 
-/// The parts between commas, but for those within brackets.
+/// The parts between commas, ignoring commas within brackets.
 fn parts(text: &str) -> Vec<String> {
     let mut depth = 0;
     let parts = text.split(|c| {
@@ -102,7 +102,7 @@ fn owned(types: &[&str]) -> Vec<String> {
     types.iter().map(|name| (*name).to_owned()).collect()
 }
 
-/// What a type passes: a slice as a pointer and a length.
+/// The types that an argument is passed as: a slice as a pointer and a length.
 fn types_of(name: &str) -> Vec<String> {
     match name {
         "&[u8]" => owned(&["*const u8", "usize"]),
@@ -113,7 +113,7 @@ fn types_of(name: &str) -> Vec<String> {
     }
 }
 
-/// What a kind of the macro `entry!` passes, as its page says.
+/// The types that a kind of argument of the macro `entry!` is passed as.
 fn types_of_kind(kind: &str) -> Vec<String> {
     let kinds = |kinds: &[&str]| kinds.iter().flat_map(|kind| types_of_kind(kind)).collect();
     match kind {
@@ -130,11 +130,11 @@ fn types_of_kind(kind: &str) -> Vec<String> {
         "map" => kinds(&["list", "float", "float"]),
         "route" => kinds(&["text", "numbers", "numbers", "number"]),
         "paths" => kinds(&["text", "numbers", "number"]),
-        kind => panic!("no kind {kind}"),
+        kind => panic!("unknown kind {kind}"),
     }
 }
 
-/// A reply is a number.
-fn type_given(name: &str) -> &str {
+/// The return type; a reply is a number.
+fn return_type(name: &str) -> &str {
     if name == "Reply" { "usize" } else { name }
 }

@@ -1,6 +1,6 @@
-// Added to the end of the original's mapping.rs, where its private fields and functions can be seen.
+// Appended to mapping.rs of the original, where its private fields and functions are accessible.
 impl MapFunction {
-    /// A map with exactly these pairs and this mark: nothing is sorted, dropped or turned into the mark.
+    /// A map with exactly these pairs and this mark: no pair is sorted, dropped or turned into the mark.
     pub fn with_exactly(pairs: Vec<(Path, Path)>, has_root_identity: bool) -> Self {
         Self {
             path_map: PathMap::from_vec(pairs),

@@ -1,6 +1,6 @@
-//! The original's files, compiled unchanged from its source tree, with small stand-ins for what they import.
+//! Files of the original Rust code, compiled unchanged from its source tree, with small stand-ins for what they import.
 //!
-//! To take one more file, add it to `FOLDERS` in `build.rs`, and a module for its folder here.
+//! To use another file, add it to `FOLDERS` in `build.rs`, and a module for its folder here.
 
 /// Folder `sdf` of the original.
 pub mod sdf {

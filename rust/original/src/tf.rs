@@ -1,6 +1,6 @@
-//! A stand-in for the original's folder `tf`.
+//! A stand-in for the folder `tf` of the original.
 
-/// A name, as a string of its own.
+/// A name.
 #[derive(Debug, Clone, PartialEq, Eq, PartialOrd, Ord, Hash)]
 pub struct Token(String);
 

@@ -1,5 +1,5 @@
-//! A stand-in for the original's folder `vt`: as much of a value as `LayerOffset` names, so that it is compiled
-//! whole. Nothing here moves a value in time.
+//! A stand-in for the folder `vt` of the original: as much of a value as `LayerOffset` refers to, so that all of it can be
+//! compiled. Its functions on values are never called.
 
 #[derive(Clone)]
 pub enum Value {

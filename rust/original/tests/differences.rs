@@ -1,10 +1,10 @@
-//! What the original does at the places of docs/DIFFERENCES.md, each at the smallest input that the page names.
+//! What the original does in each case of docs/DIFFERENCES.md, with the example input given there.
 
 use original::pcp::MapFunction;
 use original::pcp::relocates::statuses;
 use original::sdf::{LayerOffset, Path};
 
-/// The path of a text; the empty one is made without asking.
+/// The path of a text; `Path::new` refuses the empty text.
 fn path(text: &str) -> Path {
     if text.is_empty() { Path::default() } else { Path::new(text).expect("a path") }
 }
@@ -41,7 +41,7 @@ fn texts_beyond_the_grammar() {
 }
 
 #[test]
-fn illegal_results_are_handed_out() {
+fn illegal_results_are_returned() {
     assert_eq!(text(path("/A.b").replace_prefix(&path("/A"), &path("/"))), some("/.b"));
     let below = path("/B").replace_prefix(&path("/"), &path("/C{v=p}"));
     assert!(text(below).is_some());
@@ -68,7 +68,7 @@ fn a_pair_is_dropped_by_its_text() {
 }
 
 #[test]
-fn composing_is_not_one_after_the_other() {
+fn a_composed_map_differs_from_the_maps_in_turn() {
     let inner = MapFunction::new(pairs([("/A", "/X"), ("/A/B", "/Y")]));
     let outer = MapFunction::new(pairs([("/X/B/C", "/Z"), ("/Y", "/W")]));
     assert_eq!(text(outer.compose(&inner).map_source_to_target(&path("/A/B/C"))), some("/Z"));

@@ -19,14 +19,14 @@ pub fn string(text: &str) -> String {
     written
 }
 
-/// An object of members that are JSON already.
+/// An object; the values of its members are JSON.
 pub fn object<'a>(members: impl IntoIterator<Item = (&'a str, String)>) -> String {
     let members: Vec<String> =
         members.into_iter().map(|(name, value)| format!("{}: {value}", string(name))).collect();
     format!("{{{}}}", members.join(", "))
 }
 
-/// An array of items that are JSON already.
+/// An array; its items are JSON.
 pub fn array(items: impl IntoIterator<Item = String>) -> String {
     let items: Vec<String> = items.into_iter().collect();
     format!("[{}]", items.join(", "))

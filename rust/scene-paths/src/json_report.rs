@@ -1,21 +1,21 @@
-//! Journeys as JSON for scripts: one object with `legs`, `signals` and `summary`, a line for each leg and signal.
+//! The report as JSON: one object with `legs`, `signals` and `summary`, with one line for each leg and signal.
 
-use crate::journey::{End, Journey};
 use crate::json::{array, object, string};
 use crate::report::{Report, Summary};
 use crate::scenario::Section;
+use crate::trace::{Outcome, Trace};
 use mudvizsor::{Leg, Path, Refusal};
 use std::io::{Result, Write};
 
 pub struct JsonReport<W: Write> {
     out: W,
-    /// Whether a signal has been written.
-    begun: bool,
+    /// Whether a signal has been written already.
+    has_signal: bool,
 }
 
 impl<W: Write> JsonReport<W> {
     pub fn new(out: W) -> Self {
-        JsonReport { out, begun: false }
+        JsonReport { out, has_signal: false }
     }
 }
 
@@ -27,10 +27,10 @@ impl<W: Write> Report for JsonReport<W> {
         write!(self.out, "{{\n  \"legs\": [{lines}],\n  \"signals\": [")
     }
 
-    fn journey(&mut self, journey: &Journey) -> Result<()> {
-        let before = if self.begun { "," } else { "" };
-        self.begun = true;
-        write!(self.out, "{before}\n    {}", object(members(journey)))
+    fn trace(&mut self, trace: &Trace) -> Result<()> {
+        let before = if self.has_signal { "," } else { "" };
+        self.has_signal = true;
+        write!(self.out, "{before}\n    {}", object(members(trace)))
     }
 
     fn end(&mut self, summary: &Summary) -> Result<()> {
@@ -61,18 +61,18 @@ fn leg(number: usize, section: &Section) -> String {
     object(members)
 }
 
-fn members(journey: &Journey) -> Vec<(&'static str, String)> {
+fn members(trace: &Trace) -> Vec<(&'static str, String)> {
     let mut members = vec![
-        ("line", journey.signal.line.to_string()),
-        ("signal", string(&journey.signal.text)),
-        ("steps", array(journey.steps.iter().map(|step| string(step.as_str())))),
-        ("came_home", matches!(journey.end, End::Home(_)).to_string()),
+        ("line", trace.signal.line.to_string()),
+        ("signal", string(&trace.signal.text)),
+        ("steps", array(trace.steps.iter().map(|step| string(step.as_str())))),
+        ("came_home", matches!(trace.outcome, Outcome::Home(_)).to_string()),
     ];
-    members.extend(match &journey.end {
-        End::Home(path) | End::Astray(Ok(path)) => vec![home(path)],
-        End::NoSignal(refusal) => stopped("signal", None, *refusal),
-        End::Stopped { leg, refusal } => stopped("out", Some(*leg), *refusal),
-        End::Astray(Err(refusal)) => stopped("home", None, *refusal),
+    members.extend(match &trace.outcome {
+        Outcome::Home(path) | Outcome::Elsewhere(Ok(path)) => vec![home(path)],
+        Outcome::BadPath(refusal) => stopped("signal", None, *refusal),
+        Outcome::Stopped { leg, refusal } => stopped("out", Some(*leg), *refusal),
+        Outcome::Elsewhere(Err(refusal)) => stopped("home", None, *refusal),
     });
     members
 }
@@ -81,7 +81,7 @@ fn home(path: &Path) -> (&'static str, String) {
     ("home", string(path.as_str()))
 }
 
-/// Where a journey stopped: at the `signal` itself, on the way `out` or on the way `home`; at which leg; and why.
+/// Where a trace stopped (at the `signal` itself, on the way `out` or on the way `home`), at which leg, and why.
 fn stopped(place: &str, leg: Option<usize>, refusal: Refusal) -> Vec<(&'static str, String)> {
     let mut members = vec![("at", string(place))];
     members.extend(leg.map(|leg| ("leg", leg.to_string())));
@@ -95,34 +95,34 @@ mod tests {
     use super::*;
     use crate::scenario::Signal;
 
-    fn written(end: End) -> String {
+    fn written(outcome: Outcome) -> String {
         let signal = Signal { line: 3, text: "/A\"".to_string() };
-        object(members(&Journey { signal: &signal, steps: vec![Path::root()], end }))
+        object(members(&Trace { signal: &signal, steps: vec![Path::root()], outcome }))
     }
 
     #[test]
-    fn ends() {
+    fn outcomes() {
         let path = Path::new("/A").unwrap();
         let before = "{\"line\": 3, \"signal\": \"/A\\\"\", \"steps\": [\"/\"], \"came_home\": ";
         let cases = [
-            (End::Home(path.clone()), "true, \"home\": \"/A\"}"),
-            (End::Astray(Ok(path)), "false, \"home\": \"/A\"}"),
+            (Outcome::Home(path.clone()), "true, \"home\": \"/A\"}"),
+            (Outcome::Elsewhere(Ok(path)), "false, \"home\": \"/A\"}"),
             (
-                End::NoSignal(Refusal::TooLong),
+                Outcome::BadPath(Refusal::TooLong),
                 "false, \"stopped\": {\"at\": \"signal\", \"number\": 1, \
                  \"meaning\": \"the path text is longer than 255 bytes\"}}",
             ),
             (
-                End::Stopped { leg: 2, refusal: Refusal::NoPath },
+                Outcome::Stopped { leg: 2, refusal: Refusal::NoPath },
                 "false, \"stopped\": {\"at\": \"out\", \"leg\": 2, \"number\": 6, \"meaning\": \"no path\"}}",
             ),
             (
-                End::Astray(Err(Refusal::NoPath)),
+                Outcome::Elsewhere(Err(Refusal::NoPath)),
                 "false, \"stopped\": {\"at\": \"home\", \"number\": 6, \"meaning\": \"no path\"}}",
             ),
         ];
-        for (end, expected) in cases {
-            assert_eq!(written(end), format!("{before}{expected}"));
+        for (outcome, expected) in cases {
+            assert_eq!(written(outcome), format!("{before}{expected}"));
         }
     }
 }

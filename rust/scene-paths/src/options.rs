@@ -1,12 +1,12 @@
-//! What the arguments of the tool ask for.
+//! The command-line arguments.
 
 use std::ffi::OsString;
 use std::path::PathBuf;
 
-/// What the arguments ask for.
+/// What the tool is to do.
 #[derive(Debug, PartialEq)]
-pub enum Wish {
-    Carry(Options),
+pub enum Command {
+    Run(Options),
     Help,
     Version,
 }
@@ -14,12 +14,12 @@ pub enum Wish {
 #[derive(Debug, Default, PartialEq)]
 pub struct Options {
     pub json: bool,
-    /// The scenario's file; without one, standard input.
+    /// The file of the scenario; standard input if `None`.
     pub file: Option<PathBuf>,
 }
 
 impl Options {
-    /// What the scenario is called in messages.
+    /// The name of the scenario in messages.
     pub fn name(&self) -> String {
         match &self.file {
             Some(file) => file.display().to_string(),
@@ -28,8 +28,8 @@ impl Options {
     }
 }
 
-/// Reads the arguments behind the program's name. What does not begin with `-`, and all behind `--`, is a file.
-pub fn read(arguments: impl Iterator<Item = OsString>) -> Result<Wish, String> {
+/// Parses the arguments after the program name. Arguments that do not start with `-`, and all after `--`, are files.
+pub fn read(arguments: impl Iterator<Item = OsString>) -> Result<Command, String> {
     let mut options = Options::default();
     let mut files = Vec::new();
     let mut only_files = false;
@@ -37,50 +37,48 @@ pub fn read(arguments: impl Iterator<Item = OsString>) -> Result<Wish, String> {
         match argument.to_str() {
             Some("--") if !only_files => only_files = true,
             Some("--json") if !only_files => options.json = true,
-            Some("--help" | "-h") if !only_files => return Ok(Wish::Help),
-            Some("--version") if !only_files => return Ok(Wish::Version),
+            Some("--help" | "-h") if !only_files => return Ok(Command::Help),
+            Some("--version") if !only_files => return Ok(Command::Version),
             Some(option) if !only_files && option.len() > 1 && option.starts_with('-') => {
-                return Err(format!(
-                    "there is no option `{option}`; `scene-paths --help` says which there are"
-                ));
+                return Err(format!("unknown option `{option}`; see `scene-paths --help`"));
             }
             _ => files.push(argument),
         }
     }
     if files.len() > 1 {
-        return Err(format!("one scenario at a time, but {} files are named", files.len()));
+        return Err(format!("expected one scenario, but {} files are given", files.len()));
     }
     options.file = files.pop().filter(|file| file != "-").map(PathBuf::from);
-    Ok(Wish::Carry(options))
+    Ok(Command::Run(options))
 }
 
 #[cfg(test)]
 mod tests {
     use super::*;
 
-    fn asked(arguments: &[&str]) -> Result<Wish, String> {
+    fn parsed(arguments: &[&str]) -> Result<Command, String> {
         read(arguments.iter().map(OsString::from))
     }
 
-    fn carries(json: bool, file: Option<&str>) -> Result<Wish, String> {
-        Ok(Wish::Carry(Options { json, file: file.map(PathBuf::from) }))
+    fn runs(json: bool, file: Option<&str>) -> Result<Command, String> {
+        Ok(Command::Run(Options { json, file: file.map(PathBuf::from) }))
     }
 
     #[test]
     fn options_and_a_file() {
-        assert_eq!(asked(&[]), carries(false, None));
-        assert_eq!(asked(&["-"]), carries(false, None));
-        assert_eq!(asked(&["line.scene", "--json"]), carries(true, Some("line.scene")));
-        assert_eq!(asked(&["--", "--json"]), carries(false, Some("--json")));
-        assert_eq!(asked(&["--json", "--help"]), Ok(Wish::Help));
-        assert_eq!(asked(&["--version"]), Ok(Wish::Version));
+        assert_eq!(parsed(&[]), runs(false, None));
+        assert_eq!(parsed(&["-"]), runs(false, None));
+        assert_eq!(parsed(&["line.scene", "--json"]), runs(true, Some("line.scene")));
+        assert_eq!(parsed(&["--", "--json"]), runs(false, Some("--json")));
+        assert_eq!(parsed(&["--json", "--help"]), Ok(Command::Help));
+        assert_eq!(parsed(&["--version"]), Ok(Command::Version));
     }
 
     #[test]
-    fn what_is_no_option() {
-        assert!(asked(&["--jsn"]).unwrap_err().contains("`--jsn`"));
-        assert!(asked(&["-x"]).unwrap_err().contains("`-x`"));
-        assert!(asked(&["a", "b"]).unwrap_err().contains("2 files"));
+    fn bad_arguments() {
+        assert!(parsed(&["--jsn"]).unwrap_err().contains("`--jsn`"));
+        assert!(parsed(&["-x"]).unwrap_err().contains("`-x`"));
+        assert!(parsed(&["a", "b"]).unwrap_err().contains("2 files"));
     }
 
     #[test]

@@ -1,35 +1,35 @@
-//! A line on standard error that says how far a long input is, where a person looks at it.
+//! A progress line on standard error, shown for long inputs if standard error is a terminal.
 
 use std::io::{IsTerminal, Stderr, Write, stderr};
 
-/// Inputs of fewer signals are done before anybody looks.
+/// Inputs with fewer signals show no progress, since they are done at once.
 const LONG: usize = 20_000;
 
 pub struct Progress<W: Write> {
     out: W,
     total: usize,
-    /// Whether anything is shown at all.
-    wanted: bool,
+    /// Whether the line is shown at all.
+    enabled: bool,
 }
 
 impl Progress<Stderr> {
     pub fn of_signals(total: usize) -> Self {
-        Progress { out: stderr(), total, wanted: total >= LONG && stderr().is_terminal() }
+        Progress { out: stderr(), total, enabled: total >= LONG && stderr().is_terminal() }
     }
 }
 
 impl<W: Write> Progress<W> {
-    /// Shows how many are done. That it cannot be shown matters to nobody.
+    /// Shows how many signals are done. A write error is ignored.
     pub fn show(&mut self, done: usize) {
-        if self.wanted {
+        if self.enabled {
             let _ = write!(self.out, "\r{done} of {} signals", self.total);
             let _ = self.out.flush();
         }
     }
 
-    /// Takes the line away, before other lines are written.
+    /// Clears the line before other lines are written.
     pub fn clear(&mut self) {
-        if self.wanted {
+        if self.enabled {
             let _ = write!(self.out, "\r\x1b[K");
             let _ = self.out.flush();
         }
@@ -40,26 +40,26 @@ impl<W: Write> Progress<W> {
 mod tests {
     use super::*;
 
-    fn shown(wanted: bool) -> String {
+    fn shown(enabled: bool) -> String {
         let mut out = Vec::new();
-        let mut progress = Progress { out: &mut out, total: 30_000, wanted };
+        let mut progress = Progress { out: &mut out, total: 30_000, enabled };
         progress.show(4_096);
         progress.clear();
         String::from_utf8(out).unwrap()
     }
 
     #[test]
-    fn a_line_that_goes_away() {
+    fn the_line_is_cleared() {
         assert_eq!(shown(true), "\r4096 of 30000 signals\r\x1b[K");
     }
 
     #[test]
-    fn nothing_where_it_is_not_wanted() {
+    fn nothing_is_shown_if_disabled() {
         assert_eq!(shown(false), "");
     }
 
     #[test]
     fn short_inputs_show_nothing() {
-        assert!(!Progress::of_signals(LONG - 1).wanted);
+        assert!(!Progress::of_signals(LONG - 1).enabled);
     }
 }

@@ -1,18 +1,18 @@
-//! What is written of the journeys, whatever the form.
+//! The interface of the report formats.
 
-use crate::journey::{End, Journey};
 use crate::scenario::Section;
+use crate::trace::{Outcome, Trace};
 use std::io;
 
-/// A form in which legs and journeys are written.
+/// A format of the report.
 pub trait Report {
     fn begin(&mut self, legs: &[Section]) -> io::Result<()>;
-    fn journey(&mut self, journey: &Journey) -> io::Result<()>;
+    fn trace(&mut self, trace: &Trace) -> io::Result<()>;
     fn end(&mut self, summary: &Summary) -> io::Result<()>;
     fn flush(&mut self) -> io::Result<()>;
 }
 
-/// How many signals there were, and how many came home.
+/// The number of signals, and how many of them came home.
 #[derive(Debug, Default, Clone, Copy, PartialEq, Eq)]
 pub struct Summary {
     pub signals: usize,
@@ -20,8 +20,8 @@ pub struct Summary {
 }
 
 impl Summary {
-    pub fn count(&mut self, journey: &Journey) {
+    pub fn count(&mut self, trace: &Trace) {
         self.signals += 1;
-        self.came_home += usize::from(matches!(journey.end, End::Home(_)));
+        self.came_home += usize::from(matches!(trace.outcome, Outcome::Home(_)));
     }
 }

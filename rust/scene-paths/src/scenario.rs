@@ -1,8 +1,8 @@
-//! Reading a scenario. `help.txt` says how one is written.
+//! Parsing a scenario. `help.txt` describes its syntax.
 
-use mudvizsor::{Leg, MOST_LEGS, MOST_PAIRS, MapFunction, Path, Refusal, Relocates};
+use mudvizsor::{Leg, MAX_LEGS, MAX_PAIRS, MapFunction, Path, Refusal, Relocates};
 
-/// Legs, and the signals that go over them.
+/// Legs, and the signals to map over them.
 #[derive(Debug, Default)]
 pub struct Scenario {
     pub legs: Vec<Section>,
@@ -12,16 +12,16 @@ pub struct Scenario {
 /// A leg of a scenario.
 #[derive(Debug)]
 pub struct Section {
-    /// The line that begins it.
+    /// The number of its first line.
     pub line: usize,
     pub title: String,
     pub leg: Leg,
-    /// The line of each pair.
+    /// The line number of each pair.
     pub lines: Vec<usize>,
 }
 
 impl Section {
-    /// The word that begins it.
+    /// The keyword of its first line.
     pub fn kind(&self) -> &'static str {
         match self.leg {
             Leg::Map(_) => "map",
@@ -30,22 +30,22 @@ impl Section {
     }
 }
 
-/// A signal's text, which may be no path.
+/// The text of a signal, which need not be a legal path.
 #[derive(Debug)]
 pub struct Signal {
     pub line: usize,
     pub text: String,
 }
 
-/// What is wrong with a scenario, and where.
+/// An error in a scenario.
 #[derive(Debug, PartialEq)]
 pub struct Problem {
     pub line: usize,
     pub message: String,
 }
 
-/// A leg as it is being read.
-struct Open {
+/// A leg that is being parsed.
+struct OpenLeg {
     line: usize,
     relocates: bool,
     title: String,
@@ -53,28 +53,28 @@ struct Open {
     lines: Vec<usize>,
 }
 
-/// What the lines belong to.
-enum Place {
-    Nowhere,
-    Leg(Open),
+/// The section that the current line belongs to.
+enum Current {
+    None,
+    Leg(OpenLeg),
     Signals,
 }
 
 struct Reader {
     scenario: Scenario,
-    place: Place,
-    legs_begun: usize,
+    current: Current,
+    leg_count: usize,
     problems: Vec<Problem>,
 }
 
 impl Scenario {
-    /// Reads the whole text and gives all its problems, or the scenario.
+    /// Parses the whole text; returns the scenario, or all its problems.
     pub fn read(bytes: &[u8]) -> Result<Self, Vec<Problem>> {
         let text = str::from_utf8(bytes).map_err(|error| vec![not_utf8(&bytes[..error.valid_up_to()])])?;
         let mut reader = Reader {
             scenario: Scenario::default(),
-            place: Place::Nowhere,
-            legs_begun: 0,
+            current: Current::None,
+            leg_count: 0,
             problems: Vec::new(),
         };
         let mut last = 1;
@@ -91,7 +91,7 @@ fn not_utf8(before: &[u8]) -> Problem {
     Problem { line, message: "the text is not UTF-8".to_string() }
 }
 
-/// The words of a line, without its comment.
+/// The words of a line without its comment.
 fn words(line: &str) -> Vec<&str> {
     line.split_whitespace().take_while(|word| !word.starts_with('#')).collect()
 }
@@ -106,7 +106,7 @@ impl Reader {
         match words[..] {
             [] => {}
             ["signals"] => self.begin_signals(),
-            ["signals", ..] => self.problem(number, "`signals` stands alone on its line"),
+            ["signals", ..] => self.problem(number, "`signals` must be alone on its line"),
             ["map", ref title @ ..] => self.begin_leg(number, false, title.join(" ")),
             ["relocates", ref title @ ..] => self.begin_leg(number, true, title.join(" ")),
             _ => self.entry(number, &words),
@@ -114,34 +114,34 @@ impl Reader {
     }
 
     fn begin_leg(&mut self, line: usize, relocates: bool, title: String) {
-        if let Place::Signals = self.place {
-            return self.problem(line, "a leg behind the signals; all legs come before them");
+        if let Current::Signals = self.current {
+            return self.problem(line, "a leg after the signals; all legs must come before them");
         }
         self.close();
-        self.legs_begun += 1;
-        if self.legs_begun == MOST_LEGS + 1 {
-            self.problem(line, format!("more than {MOST_LEGS} legs (4)"));
+        self.leg_count += 1;
+        if self.leg_count == MAX_LEGS + 1 {
+            self.problem(line, format!("more than {MAX_LEGS} legs (4)"));
         }
-        self.place = Place::Leg(Open { line, relocates, title, pairs: Vec::new(), lines: Vec::new() });
+        self.current = Current::Leg(OpenLeg { line, relocates, title, pairs: Vec::new(), lines: Vec::new() });
     }
 
     fn begin_signals(&mut self) {
         self.close();
-        self.place = Place::Signals;
+        self.current = Current::Signals;
     }
 
-    /// A line within a section.
+    /// Parses a line within a section.
     fn entry(&mut self, number: usize, words: &[&str]) {
-        match (&self.place, words) {
-            (Place::Nowhere, _) => {
+        match (&self.current, words) {
+            (Current::None, _) => {
                 self.problem(number, "no section has begun: `map`, `relocates` or `signals` comes first");
             }
-            (Place::Signals, &[text]) => {
-                self.scenario.signals.push(Signal { line: number, text: written(text).to_string() });
+            (Current::Signals, &[text]) => {
+                self.scenario.signals.push(Signal { line: number, text: path_text(text).to_string() });
             }
-            (Place::Signals, _) => self.problem(number, "a signal is one path, alone on its line"),
-            (Place::Leg(_), &[source, "->", target]) => self.pair(number, source, target),
-            (Place::Leg(_), _) => self.problem(
+            (Current::Signals, _) => self.problem(number, "a signal is one path, alone on its line"),
+            (Current::Leg(_), &[source, "->", target]) => self.pair(number, source, target),
+            (Current::Leg(_), _) => self.problem(
                 number,
                 "neither a pair, `SOURCE -> TARGET`, nor the beginning of a section, `map`, `relocates` or `signals`",
             ),
@@ -150,31 +150,31 @@ impl Reader {
 
     fn pair(&mut self, number: usize, source: &str, target: &str) {
         let ends = [source, target].map(|text| end(text).map_err(|message| self.problem(number, message)));
-        let Place::Leg(open) = &mut self.place else { return };
+        let Current::Leg(open) = &mut self.current else { return };
         open.lines.push(number);
         if let [Ok(source), Ok(target)] = ends {
             open.pairs.push((source, target));
         }
-        if open.lines.len() == MOST_PAIRS + 1 {
-            self.problem(number, format!("more than {MOST_PAIRS} pairs in this leg (4)"));
+        if open.lines.len() == MAX_PAIRS + 1 {
+            self.problem(number, format!("more than {MAX_PAIRS} pairs in this leg (4)"));
         }
     }
 
-    /// Makes a leg of the pairs read.
+    /// Builds the leg of the pairs that were parsed.
     fn close(&mut self) {
-        let Place::Leg(Open { line, relocates, title, pairs, lines }) =
-            std::mem::replace(&mut self.place, Place::Nowhere)
+        let Current::Leg(OpenLeg { line, relocates, title, pairs, lines }) =
+            std::mem::replace(&mut self.current, Current::None)
         else {
             return;
         };
         if !self.problems.is_empty() {
             return;
         }
-        let made = match relocates {
+        let leg = match relocates {
             true => Relocates::new(pairs).map(Leg::from),
             false => MapFunction::new(pairs).map(Leg::from),
         };
-        match made {
+        match leg {
             Ok(leg) => self.scenario.legs.push(Section { line, title, leg, lines }),
             Err(refusal) => self.problem(line, numbered(refusal)),
         }
@@ -189,19 +189,19 @@ impl Reader {
     }
 }
 
-/// The text that a word stands for: `-` is the empty path.
-fn written(word: &str) -> &str {
+/// The path text of a word: `-` is the empty path.
+fn path_text(word: &str) -> &str {
     if word == "-" { "" } else { word }
 }
 
-/// An end of a pair, or what is wrong with it.
+/// Parses an end (source or target) of a pair; the error is a message.
 fn end(word: &str) -> Result<Path, String> {
-    let path = Path::new(written(word))
+    let path = Path::new(path_text(word))
         .and_then(|path| if path.is_end() { Ok(path) } else { Err(Refusal::NotAnEnd) });
     path.map_err(|refusal| format!("`{}`: {}", word.escape_debug(), numbered(refusal)))
 }
 
-/// A refusal and its number.
+/// The text of a refusal with its number.
 fn numbered(refusal: Refusal) -> String {
     format!("{refusal} ({})", refusal.number())
 }

@@ -1,8 +1,8 @@
-//! Journeys as text for people.
+//! The report as text.
 
-use crate::journey::{End, Journey, meaning};
 use crate::report::{Report, Summary};
 use crate::scenario::Section;
+use crate::trace::{Outcome, Trace, meaning};
 use mudvizsor::{Leg, Path, Refusal, Relocates, Status};
 use std::io::{Result, Write};
 
@@ -13,7 +13,7 @@ impl<W: Write> TextReport<W> {
         TextReport(out)
     }
 
-    /// The relocates that do not count.
+    /// Writes the relocates that are not used.
     fn statuses(&mut self, relocates: &Relocates, lines: &[usize]) -> Result<()> {
         for ((status, line), (source, target)) in
             relocates.statuses().iter().zip(lines).zip(relocates.pairs())
@@ -41,20 +41,22 @@ impl<W: Write> Report for TextReport<W> {
         if legs.is_empty() { writeln!(self.0, "no legs") } else { Ok(()) }
     }
 
-    fn journey(&mut self, journey: &Journey) -> Result<()> {
-        writeln!(self.0, "\nline {}: {}", journey.signal.line, plain(shown_text(&journey.signal.text)))?;
-        for (i, step) in journey.steps.iter().enumerate() {
+    fn trace(&mut self, trace: &Trace) -> Result<()> {
+        writeln!(self.0, "\nline {}: {}", trace.signal.line, plain(shown_text(&trace.signal.text)))?;
+        for (i, step) in trace.steps.iter().enumerate() {
             writeln!(self.0, "  leg {:<2}  {}", i + 1, shown(step))?;
         }
-        match &journey.end {
-            End::Home(path) if path.as_str() == journey.signal.text => {
+        match &trace.outcome {
+            Outcome::Home(path) if path.as_str() == trace.signal.text => {
                 writeln!(self.0, "  home    {}", shown(path))
             }
-            End::Home(path) => writeln!(self.0, "  home    {}, its selections left out", shown(path)),
-            End::NoSignal(refusal) => writeln!(self.0, "  no signal: {}", why(*refusal)),
-            End::Stopped { leg, refusal } => writeln!(self.0, "  leg {leg:<2}  stopped: {}", why(*refusal)),
-            End::Astray(Ok(path)) => writeln!(self.0, "  home    astray at {}", shown(path)),
-            End::Astray(Err(refusal)) => writeln!(self.0, "  home    astray: {}", why(*refusal)),
+            Outcome::Home(path) => writeln!(self.0, "  home    {}, its selections left out", shown(path)),
+            Outcome::BadPath(refusal) => writeln!(self.0, "  no signal: {}", why(*refusal)),
+            Outcome::Stopped { leg, refusal } => {
+                writeln!(self.0, "  leg {leg:<2}  stopped: {}", why(*refusal))
+            }
+            Outcome::Elsewhere(Ok(path)) => writeln!(self.0, "  home    astray at {}", shown(path)),
+            Outcome::Elsewhere(Err(refusal)) => writeln!(self.0, "  home    astray: {}", why(*refusal)),
         }
     }
 
@@ -70,7 +72,7 @@ impl<W: Write> Report for TextReport<W> {
     }
 }
 
-/// How many pairs a leg has, as they stand in the scenario.
+/// The number of pairs of a leg, as written in the scenario.
 fn pairs(section: &Section) -> String {
     let all = counted(section.lines.len(), "pair");
     match &section.leg {
@@ -83,7 +85,7 @@ fn counted(count: usize, what: &str) -> String {
     format!("{count} {what}{}", if count == 1 { "" } else { "s" })
 }
 
-/// A refusal's number and what it means.
+/// The number of a refusal and its description.
 fn why(refusal: Refusal) -> String {
     format!("{}, {}", refusal.number(), meaning(refusal))
 }
@@ -97,7 +99,7 @@ fn shown_text(text: &str) -> &str {
     if text.is_empty() { "-" } else { text }
 }
 
-/// A text of the scenario without characters that a terminal would obey.
+/// A text of the scenario with its control characters escaped.
 fn plain(text: &str) -> String {
     let each = |c: char| if c.is_control() { c.escape_default().to_string() } else { c.to_string() };
     text.chars().map(each).collect()
@@ -108,32 +110,33 @@ mod tests {
     use super::*;
     use crate::scenario::Signal;
 
-    fn written(end: End, text: &str) -> String {
+    fn written(outcome: Outcome, text: &str) -> String {
         let signal = Signal { line: 3, text: text.to_string() };
         let mut out = Vec::new();
-        TextReport::new(&mut out).journey(&Journey { signal: &signal, steps: Vec::new(), end }).unwrap();
+        TextReport::new(&mut out).trace(&Trace { signal: &signal, steps: Vec::new(), outcome }).unwrap();
         String::from_utf8(out).unwrap()
     }
 
     #[test]
-    fn ends() {
+    fn outcomes() {
         let path = Path::new("/A/B").unwrap();
-        assert_eq!(written(End::Home(path.clone()), "/A/B"), "\nline 3: /A/B\n  home    /A/B\n");
+        assert_eq!(written(Outcome::Home(path.clone()), "/A/B"), "\nline 3: /A/B\n  home    /A/B\n");
         assert!(
-            written(End::Home(path.clone()), "/A{v=p}B").ends_with("home    /A/B, its selections left out\n")
+            written(Outcome::Home(path.clone()), "/A{v=p}B")
+                .ends_with("home    /A/B, its selections left out\n")
         );
-        assert!(written(End::Astray(Ok(path)), "/A").ends_with("home    astray at /A/B\n"));
+        assert!(written(Outcome::Elsewhere(Ok(path)), "/A").ends_with("home    astray at /A/B\n"));
         assert!(
-            written(End::Astray(Err(Refusal::MadeTooLong)), "/A")
+            written(Outcome::Elsewhere(Err(Refusal::MadeTooLong)), "/A")
                 .contains("astray: 7, the path made is longer")
         );
-        let stopped = End::Stopped { leg: 12, refusal: Refusal::NoPath };
+        let stopped = Outcome::Stopped { leg: 12, refusal: Refusal::NoPath };
         assert!(written(stopped, "").starts_with("\nline 3: -\n  leg 12  stopped: 6, no path: no pair"));
     }
 
     #[test]
-    fn a_terminal_is_not_told_what_to_do() {
-        let text = written(End::NoSignal(Refusal::NotLegal), "/A\u{1b}[2J");
+    fn control_characters_are_escaped() {
+        let text = written(Outcome::BadPath(Refusal::NotLegal), "/A\u{1b}[2J");
         assert_eq!(text, "\nline 3: /A\\u{1b}[2J\n  no signal: 2, the text is not a legal path\n");
     }
 

@@ -26,7 +26,7 @@ fn one_does_not() {
 }
 
 #[test]
-fn bad_scenarios_are_told_by_line() {
+fn problems_have_line_numbers() {
     for (text, expected) in [
         ("/A -> /B", "standard input:1: no section has begun: `map`, `relocates` or `signals` comes first\n"),
         (
@@ -34,7 +34,10 @@ fn bad_scenarios_are_told_by_line() {
             "standard input:2: `/B.c`: the end of a pair is not a prim path, `/` or empty (3)\n",
         ),
         ("map\n//A -> /B\nsignals\n/A", "standard input:2: `//A`: the text is not a legal path (2)\n"),
-        ("signals\n/A\n\nmap\n", "standard input:4: a leg behind the signals; all legs come before them\n"),
+        (
+            "signals\n/A\n\nmap\n",
+            "standard input:4: a leg after the signals; all legs must come before them\n",
+        ),
         ("signals\n/A /B\n", "standard input:2: a signal is one path, alone on its line\n"),
         (
             "# nothing\n\n",
@@ -58,11 +61,8 @@ fn many_problems_are_cut_short() {
 #[test]
 fn bad_arguments() {
     for (arguments, expected) in [
-        (
-            &["--jsn"][..],
-            "scene-paths: there is no option `--jsn`; `scene-paths --help` says which there are\n",
-        ),
-        (&["a", "b"], "scene-paths: one scenario at a time, but 2 files are named\n"),
+        (&["--jsn"][..], "scene-paths: unknown option `--jsn`; see `scene-paths --help`\n"),
+        (&["a", "b"], "scene-paths: expected one scenario, but 2 files are given\n"),
     ] {
         let expected = Ran { out: String::new(), errors: expected.to_string(), status: 2 };
         assert_eq!(run(arguments, b""), expected);
@@ -74,7 +74,7 @@ fn bad_arguments() {
     );
 }
 
-/// The example in the help is a scenario, and the number of each refusal that a journey meets is explained.
+/// The example in the help text works, and the help text explains each refusal that a trace can have.
 #[test]
 fn help_is_true() {
     let Ran { out, errors, status } = run(&["--help"], b"");
@@ -93,7 +93,7 @@ fn help_is_true() {
     assert_eq!(run(&["--version"], b"").out, format!("scene-paths {}\n", env!("CARGO_PKG_VERSION")));
 }
 
-/// More signals than go together; standard error is no terminal here, so nothing is shown there.
+/// More signals than are traced together. Standard error is not a terminal here, so no progress is shown.
 #[test]
 fn many_signals() {
     let signals: String = (0..25_000).map(|i| format!("/A/n{i}\n")).collect();

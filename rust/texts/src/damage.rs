@@ -1,9 +1,9 @@
-//! Texts with one byte gone wrong.
+//! Texts with one wrong byte.
 
 use crate::random::Random;
 
-/// The bytes that mean something in a path, and one or two of each kind beside them.
-const TELLING: &[u8] = b"/{}=.:_A1[]- ";
+/// Bytes that have a meaning in a path, and a few that have none.
+const SPECIAL: &[u8] = b"/{}=.:_A1[]- ";
 
 /// `text` with one byte changed, inserted or deleted.
 pub fn damaged(random: &mut Random, text: &[u8]) -> Vec<u8> {
@@ -20,7 +20,7 @@ pub fn damaged(random: &mut Random, text: &[u8]) -> Vec<u8> {
 }
 
 fn any_byte(random: &mut Random) -> u8 {
-    if random.one_in(3) { random.below(256) as u8 } else { *random.pick(TELLING) }
+    if random.one_in(3) { random.below(256) as u8 } else { *random.pick(SPECIAL) }
 }
 
 pub fn with_byte_changed(text: &[u8], at: usize, byte: u8) -> Vec<u8> {

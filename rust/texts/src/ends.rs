@@ -1,13 +1,13 @@
-//! Ends of pairs that stand in some relation to one another, and paths that have them as prefixes.
+//! Related ends of pairs (sources and targets), and paths that have them as prefixes.
 
-use crate::LONGEST;
+use crate::MAX_PATH_LEN;
 use crate::generate::{continued, end_text, length};
 use crate::random::Random;
 
-/// Few, so that ends are often nested or equal.
+/// There are only a few names, so that ends are often nested or equal.
 const NAMES: [&[u8]; 4] = [b"A", b"B", b"AB", b"c1"];
 
-/// `size` ends, of which the first is `/`: nested, equal, nearly equal, empty, some around the limit.
+/// Generates `size` ends, of which the first is `/`: nested, equal, nearly equal, empty, some near the length limit.
 pub fn family(random: &mut Random, size: usize) -> Vec<Vec<u8>> {
     let with_long_ends = random.one_in(2);
     let mut family = vec![b"/".to_vec()];
@@ -37,7 +37,7 @@ fn above(end: &[u8]) -> &[u8] {
     &end[..slash.max(1).min(end.len())]
 }
 
-/// The end with one name more.
+/// The end with one more name.
 fn below(end: &[u8], name: &[u8]) -> Vec<u8> {
     let separator: &[u8] = if end == b"/" { b"" } else { b"/" };
     fitting([end, separator, name].concat(), end)
@@ -45,44 +45,44 @@ fn below(end: &[u8], name: &[u8]) -> Vec<u8> {
 
 /// An end of 200 to 255 bytes.
 fn long_end(random: &mut Random) -> Vec<u8> {
-    let length = random.within(200..=LONGEST);
+    let length = random.within(200..=MAX_PATH_LEN);
     end_text(random, length)
 }
 
-/// `longer`, where that is an end within the limit, else `end`.
+/// `longer` if that is an end within the length limit, else `end`.
 fn fitting(longer: Vec<u8>, end: &[u8]) -> Vec<u8> {
-    if longer.len() <= LONGEST && longer.starts_with(b"/") { longer } else { end.to_vec() }
+    if longer.len() <= MAX_PATH_LEN && longer.starts_with(b"/") { longer } else { end.to_vec() }
 }
 
-/// A path for a list that has the pair `from`, `to`: mostly `from` or a path under it. Often its own length, or
-/// that of the path with `to` in place of `from`, comes to about the limit.
+/// A path for a list that has the pair `from`, `to`: mostly `from` or a path below it. Often its length, or the length after
+/// `from` is replaced by `to`, is near the limit.
 pub fn path_under(random: &mut Random, from: &[u8], to: &[u8]) -> Vec<u8> {
     let length = match random.below(6) {
         0 => from.len(),
         1 | 2 => from.len() + random.below(12),
-        3 => random.within(LONGEST - 2..=LONGEST),
-        4 => (from.len() + random.within(LONGEST - 2..=LONGEST + 3)).saturating_sub(to.len()),
+        3 => random.within(MAX_PATH_LEN - 2..=MAX_PATH_LEN),
+        4 => (from.len() + random.within(MAX_PATH_LEN - 2..=MAX_PATH_LEN + 3)).saturating_sub(to.len()),
         _ => length(random),
     };
-    let path = continued(random, from, length.min(LONGEST));
+    let path = continued(random, from, length.min(MAX_PATH_LEN));
     if random.one_in(4) { with_selections(random, &path) } else { path }
 }
 
-/// `path` with a selection in place of some of its slashes, within the limit.
+/// `path` with some of its slashes replaced by a selection, within the length limit.
 fn with_selections(random: &mut Random, path: &[u8]) -> Vec<u8> {
-    let mut dressed = path.to_vec();
+    let mut selected = path.to_vec();
     for at in (1..path.len()).rev() {
-        if path[at] == b'/' && dressed.len() + 4 <= LONGEST && random.one_in(2) {
-            dressed.splice(at..=at, *b"{v=p}");
+        if path[at] == b'/' && selected.len() + 4 <= MAX_PATH_LEN && random.one_in(2) {
+            selected.splice(at..=at, *b"{v=p}");
         }
     }
-    dressed
+    selected
 }
 
 #[cfg(test)]
 mod tests {
     use super::{above, family, path_under};
-    use crate::LONGEST;
+    use crate::MAX_PATH_LEN;
     use crate::legal::is_legal;
     use crate::random::Random;
 
@@ -91,7 +91,7 @@ mod tests {
         let random = &mut Random::new(1);
         for _ in 0..2_000 {
             for end in family(random, 20) {
-                assert!(is_legal(&end) && end.len() <= LONGEST, "{}", end.escape_ascii());
+                assert!(is_legal(&end) && end.len() <= MAX_PATH_LEN, "{}", end.escape_ascii());
                 assert!(!end.iter().any(|byte| b"{.".contains(byte)), "{}", end.escape_ascii());
             }
         }
@@ -105,13 +105,13 @@ mod tests {
             for _ in 0..10 {
                 let (from, to) = (random.pick(&ends), random.pick(&ends));
                 let path = path_under(random, from, to);
-                assert!(is_legal(&path) && path.len() <= LONGEST, "{}", path.escape_ascii());
+                assert!(is_legal(&path) && path.len() <= MAX_PATH_LEN, "{}", path.escape_ascii());
             }
         }
     }
 
     #[test]
-    fn above_takes_one_name_off() {
+    fn above_removes_one_name() {
         for (end, expected) in [("", ""), ("/", "/"), ("/A", "/"), ("/A/B", "/A")] {
             assert_eq!(above(end.as_bytes()), expected.as_bytes());
         }

@@ -7,13 +7,13 @@ pub fn all_texts(alphabet: &[u8], longest: usize, visit: &mut impl FnMut(&[u8]))
     extend(&mut Vec::new(), alphabet, longest, &|_| true, visit);
 }
 
-/// Visits every text over `alphabet` of at most `longest` bytes of which all shorter beginnings can become a
-/// legal text: all legal texts, all their beginnings, and each of these with one byte that spoils it.
+/// Visits every text over `alphabet` of at most `longest` bytes whose proper prefixes can all be extended to a legal text:
+/// all legal texts, all their prefixes, and each of these with one more byte that makes it illegal.
 pub fn texts_near_legal(alphabet: &[u8], longest: usize, visit: &mut impl FnMut(&[u8])) {
     extend(&mut Vec::new(), alphabet, longest, &can_become_legal, visit);
 }
 
-/// The legal texts over `alphabet` of at most `longest` bytes.
+/// Returns the legal texts over `alphabet` of at most `longest` bytes.
 pub fn legal_texts(alphabet: &[u8], longest: usize) -> Vec<Vec<u8>> {
     let mut legal = Vec::new();
     texts_near_legal(alphabet, longest, &mut |text| {
@@ -42,11 +42,11 @@ fn extend(
     }
 }
 
-/// Whether some end makes `text` legal. One of these does wherever any does: they finish a name, a selection
-/// that was just opened, a set, a selection after its `=`, and a selection that only lacks its brace.
+/// Returns whether some suffix makes `text` legal. If any does, one of these does: they complete a name, a selection that was
+/// just opened, a set, a selection after its `=`, and a selection that lacks only its brace.
 fn can_become_legal(text: &[u8]) -> bool {
-    const ENDS: [&[u8]; 6] = [b"", b"A", b"A=1}", b"=1}", b"1}", b"}"];
-    ENDS.iter().any(|end| is_legal(&[text, end].concat()))
+    const SUFFIXES: [&[u8]; 6] = [b"", b"A", b"A=1}", b"=1}", b"1}", b"}"];
+    SUFFIXES.iter().any(|suffix| is_legal(&[text, suffix].concat()))
 }
 
 #[cfg(test)]
@@ -63,7 +63,7 @@ mod tests {
     }
 
     #[test]
-    fn no_legal_text_is_left_out() {
+    fn no_legal_text_is_missed() {
         const ALPHABET: &[u8] = b"/A1{}=.:";
         let mut searched = Vec::new();
         all_texts(ALPHABET, 7, &mut |text| {

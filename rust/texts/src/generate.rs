@@ -1,6 +1,6 @@
-//! Random legal texts, and texts that stand in some relation to a given one.
+//! Random legal texts, and texts related to a given one.
 
-use crate::LONGEST;
+use crate::MAX_PATH_LEN;
 use crate::damage::{damaged, with_byte_inserted};
 use crate::random::Random;
 
@@ -10,11 +10,11 @@ const NAME_BYTES: &[u8] = b"abcdefghijklmnopqrstuvwxyzABCDEFGHIJKLMNOPQRSTUVWXYZ
 /// The shortest selection is `{a=b}`.
 const SHORTEST_SELECTION: usize = 5;
 
-/// A length for a path: short, or around the limit, or anything.
+/// A random length for a path: short, or near the limit, or any.
 pub fn length(random: &mut Random) -> usize {
     match random.below(5) {
         0 | 1 => random.below(25),
-        2 | 3 => random.within(LONGEST - 5..=LONGEST + 5),
+        2 | 3 => random.within(MAX_PATH_LEN - 5..=MAX_PATH_LEN + 5),
         _ => random.below(300),
     }
 }
@@ -22,7 +22,7 @@ pub fn length(random: &mut Random) -> usize {
 /// How the parts of one text are chosen.
 struct Style {
     longest_name: usize,
-    /// Of four places where a selection can stand, how many have one.
+    /// How many of four positions that may have a selection have one.
     selections: usize,
     properties: bool,
 }
@@ -38,7 +38,7 @@ impl Style {
     }
 }
 
-/// A legal text of exactly `length` bytes (the length limit is not looked at).
+/// A legal text of exactly `length` bytes; the length limit is not applied.
 pub fn legal_text(random: &mut Random, length: usize) -> Vec<u8> {
     let style = Style::any(random);
     continued_in(random, b"", &style, length)
@@ -50,7 +50,7 @@ pub fn end_text(random: &mut Random, length: usize) -> Vec<u8> {
     continued_in(random, b"", &style, length)
 }
 
-/// A legal text of `length` bytes that begins with the end `end`, or `end` where that is no shorter.
+/// A legal text of `length` bytes that starts with `end`, or `end` if that has at least `length` bytes.
 pub fn continued(random: &mut Random, end: &[u8], length: usize) -> Vec<u8> {
     let style = Style::any(random);
     continued_in(random, end, &style, length)
@@ -69,39 +69,39 @@ fn continued_in(random: &mut Random, end: &[u8], style: &Style, length: usize) -
 
 /// Appends a name, a selection, a property or one more byte of a name, within `length` bytes.
 fn append_part(random: &mut Random, text: &mut Vec<u8>, style: &Style, length: usize) {
-    let room = length - text.len();
+    let left = length - text.len();
     let longest_name = style.longest_name;
     if text == b"/" {
-        append_name(random, text, longest_name.min(room));
-    } else if room >= SHORTEST_SELECTION && random.below(4) < style.selections {
-        append_selection(random, text, longest_name, room);
-    } else if style.properties && room >= 2 && random.one_in(if room < 20 { 3 } else { 40 }) {
+        append_name(random, text, longest_name.min(left));
+    } else if left >= SHORTEST_SELECTION && random.below(4) < style.selections {
+        append_selection(random, text, longest_name, left);
+    } else if style.properties && left >= 2 && random.one_in(if left < 20 { 3 } else { 40 }) {
         append_property(random, text, longest_name, length);
     } else if text.ends_with(b"}") {
-        append_name(random, text, longest_name.min(room));
-    } else if room >= 2 {
+        append_name(random, text, longest_name.min(left));
+    } else if left >= 2 {
         text.push(b'/');
-        append_name(random, text, longest_name.min(room - 1));
+        append_name(random, text, longest_name.min(left - 1));
     } else {
         text.push(*random.pick(NAME_BYTES));
     }
 }
 
-/// A name of 1 to `longest` bytes.
+/// Appends a name of 1 to `longest` bytes.
 fn append_name(random: &mut Random, text: &mut Vec<u8>, longest: usize) {
     text.push(*random.pick(LETTERS));
     append_name_bytes(random, text, longest - 1);
 }
 
-/// Up to `most` bytes that may go on a name.
+/// Appends up to `most` bytes that may continue a name.
 fn append_name_bytes(random: &mut Random, text: &mut Vec<u8>, most: usize) {
     for _ in 0..random.within(0..=most) {
         text.push(*random.pick(NAME_BYTES));
     }
 }
 
-fn append_selection(random: &mut Random, text: &mut Vec<u8>, longest_name: usize, room: usize) {
-    let longest = longest_name.min((room - 3) / 2);
+fn append_selection(random: &mut Random, text: &mut Vec<u8>, longest_name: usize, left: usize) {
+    let longest = longest_name.min((left - 3) / 2);
     text.push(b'{');
     append_name(random, text, longest);
     text.push(b'=');
@@ -110,7 +110,7 @@ fn append_selection(random: &mut Random, text: &mut Vec<u8>, longest_name: usize
     text.push(b'}');
 }
 
-/// A property ends a path, so it fills the text up to `length`.
+/// Appends a property, which is the last part of a path, so it fills the text up to `length`.
 fn append_property(random: &mut Random, text: &mut Vec<u8>, longest_name: usize, length: usize) {
     text.push(b'.');
     append_name(random, text, longest_name.min(length - text.len()));
@@ -124,8 +124,8 @@ fn append_property(random: &mut Random, text: &mut Vec<u8>, longest_name: usize,
     }
 }
 
-/// The beginnings of `text` that end before a separator or after a selection.
-pub fn beginnings(text: &[u8]) -> Vec<&[u8]> {
+/// The prefixes of `text` that end before a separator or after a selection.
+pub fn prefixes(text: &[u8]) -> Vec<&[u8]> {
     (0..=text.len()).filter(|at| is_boundary(text, *at)).map(|at| &text[..at]).collect()
 }
 
@@ -133,25 +133,25 @@ fn is_boundary(text: &[u8], at: usize) -> bool {
     at == 0 || at == text.len() || matches!(text[at], b'/' | b'.' | b'{') || text[at - 1] == b'}'
 }
 
-/// A candidate for a prefix of `text`: a beginning, or nearly one, or something else.
+/// A candidate for a prefix of `text`: a prefix, or nearly one, or something else.
 pub fn prefix_for(random: &mut Random, text: &[u8]) -> Vec<u8> {
-    let beginning = random.pick(&beginnings(text)).to_vec();
+    let prefix = random.pick(&prefixes(text)).to_vec();
     match random.below(10) {
         0 => Vec::new(),
         1 => b"/".to_vec(),
         2 => text.to_vec(),
-        3 => damaged(random, &beginning),
+        3 => damaged(random, &prefix),
         4 => text[..random.within(0..=text.len())].to_vec(),
-        5 => with_byte_inserted(&beginning, beginning.len(), *random.pick(NAME_BYTES)),
+        5 => with_byte_inserted(&prefix, prefix.len(), *random.pick(NAME_BYTES)),
         6 => {
             let length = length(random);
             legal_text(random, length)
         }
-        _ => beginning,
+        _ => prefix,
     }
 }
 
-/// A new prefix for `text` in place of `old`. Often the joined text comes to about the limit.
+/// A new prefix to replace `old` in `text`. Often the length of the joined text is near the limit.
 pub fn new_prefix_for(random: &mut Random, text: &[u8], old: &[u8]) -> Vec<u8> {
     let length = match random.below(8) {
         0 => return Vec::new(),
@@ -164,20 +164,20 @@ pub fn new_prefix_for(random: &mut Random, text: &[u8], old: &[u8]) -> Vec<u8> {
     if random.one_in(30) { damaged(random, &new) } else { new }
 }
 
-/// A length that brings the joined text to 253 to 258 bytes, where that is possible.
+/// A length for which the joined text has 253 to 258 bytes, if that is possible.
 fn joining_length(random: &mut Random, text: &[u8], old: &[u8]) -> usize {
     let rest = text.len().saturating_sub(old.len());
-    random.within(LONGEST - 2..=LONGEST + 3).saturating_sub(rest)
+    random.within(MAX_PATH_LEN - 2..=MAX_PATH_LEN + 3).saturating_sub(rest)
 }
 
 #[cfg(test)]
 mod tests {
-    use super::{beginnings, continued, end_text, legal_text, length};
+    use super::{continued, end_text, legal_text, length, prefixes};
     use crate::legal::is_legal;
     use crate::random::Random;
 
     #[test]
-    fn generated_texts_are_legal_and_of_the_length_asked() {
+    fn generated_texts_are_legal_and_have_the_given_length() {
         let random = &mut Random::new(1);
         for _ in 0..20_000 {
             let length = length(random);
@@ -188,7 +188,7 @@ mod tests {
     }
 
     #[test]
-    fn generated_ends_have_names_only_and_go_on_to_legal_texts() {
+    fn generated_ends_have_names_only_and_extend_to_legal_texts() {
         let random = &mut Random::new(1);
         for _ in 0..20_000 {
             let length = length(random);
@@ -202,8 +202,8 @@ mod tests {
     }
 
     #[test]
-    fn beginnings_end_at_separators() {
+    fn prefixes_end_at_separators() {
         let expected: [&[u8]; 5] = [b"", b"/A", b"/A{v=p}", b"/A{v=p}B", b"/A{v=p}B.c"];
-        assert_eq!(beginnings(b"/A{v=p}B.c"), expected);
+        assert_eq!(prefixes(b"/A{v=p}B.c"), expected);
     }
 }

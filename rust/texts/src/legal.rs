@@ -1,9 +1,9 @@
-//! The grammar of document 01, read sentence by sentence.
+//! The grammar of path texts, following the sentences of the requirements, which are quoted here.
 //!
-//! Each reader takes the text that is left and gives what is left after it, or `None` where it does not find
-//! what it reads. The length limit is a question of its own and is not asked here.
+//! Each function parses a part at the start of the remaining text and returns the text after it, or `None` if that part is
+//! not there. The length limit is not checked here.
 
-/// Whether `text` is a path of the grammar.
+/// Returns whether `text` is a legal path.
 ///
 /// "It is empty, or `/`, or `/` and a name followed by elements, then perhaps a property."
 pub fn is_legal(text: &[u8]) -> bool {
@@ -49,7 +49,7 @@ fn joined_names(rest: &[u8]) -> Option<&[u8]> {
     }
 }
 
-/// "`set` is a name; `sel` is one or more letters, digits, `_`." The opening brace is read already.
+/// "`set` is a name; `sel` is one or more letters, digits, `_`." The opening brace has been parsed already.
 fn selection(rest: &[u8]) -> Option<&[u8]> {
     let rest = name(rest)?.strip_prefix(b"=")?;
     let (first, rest) = rest.split_first()?;
@@ -84,7 +84,7 @@ mod tests {
     use super::is_legal;
 
     #[test]
-    fn texts_of_document_01_are_legal() {
+    fn texts_of_the_requirements_are_legal() {
         for text in [
             "",
             "/",
@@ -111,7 +111,7 @@ mod tests {
     }
 
     #[test]
-    fn texts_that_the_grammar_leaves_out() {
+    fn texts_outside_the_grammar() {
         for text in ["A", ".", "..", "//", "/A/", "/A//B", "/1", "/A/1", "/A b", "/é", "/.b", "/{v=p}"] {
             assert!(!is_legal(text.as_bytes()), "{text}");
         }
@@ -151,7 +151,7 @@ mod tests {
     }
 
     #[test]
-    fn bytes_outside_ascii_are_no_name_bytes() {
+    fn only_ascii_bytes_are_name_bytes() {
         for byte in 0..=255u8 {
             let expected = byte.is_ascii_alphanumeric() || byte == b'_';
             assert_eq!(is_legal(&[b'/', b'A', byte]), expected, "{byte}");

@@ -1,7 +1,7 @@
-//! Path texts: which are legal, and where test texts come from.
+//! Path texts for tests: which texts are legal, and generators of texts.
 //!
-//! This crate depends on nothing, neither on the original nor on the library that is compared with it, so that
-//! its idea of a legal path is its own.
+//! This crate depends neither on the original nor on the library that is compared with it, so its grammar check is
+//! independent of both.
 
 pub mod damage;
 pub mod ends;
@@ -10,5 +10,5 @@ pub mod generate;
 pub mod legal;
 pub mod random;
 
-/// The longest path text that is accepted, in bytes.
-pub const LONGEST: usize = 255;
+/// The maximum length of a path text in bytes.
+pub const MAX_PATH_LEN: usize = 255;

@@ -1,4 +1,4 @@
-//! A small generator of random numbers: the same seed gives the same run.
+//! A small generator of pseudorandom numbers; the same seed yields the same sequence.
 
 use std::ops::RangeInclusive;
 
@@ -19,11 +19,12 @@ impl Random {
         mixed ^ (mixed >> 31)
     }
 
-    /// A number below `bound`, which is not 0.
+    /// A number below `bound`, which must not be 0.
     pub fn below(&mut self, bound: usize) -> usize {
         (self.bits() % bound as u64) as usize
     }
 
+    /// A number in the range.
     pub fn within(&mut self, range: RangeInclusive<usize>) -> usize {
         range.start() + self.below(range.end() - range.start() + 1)
     }
@@ -33,6 +34,7 @@ impl Random {
         self.below(times) == 0
     }
 
+    /// One of the items.
     pub fn pick<'a, T>(&mut self, items: &'a [T]) -> &'a T {
         &items[self.below(items.len())]
     }

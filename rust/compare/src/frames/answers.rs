@@ -1,4 +1,4 @@
-//! How many answers of each kind and number are expected, which shows that the scripts get all that there are.
+//! Counts the expected answers of each kind and number, which shows that the scripts cover all of them.
 
 use std::collections::BTreeMap;
 use std::fmt::{self, Display};
@@ -7,9 +7,9 @@ use std::fmt::{self, Display};
 pub struct Answers {
     scripts: usize,
     lines: usize,
-    /// By the first four digits of an answer line.
+    /// The number of answers, by the first four digits of the answer line.
     by_number: BTreeMap<[u8; 4], usize>,
-    /// Paths that came out, by the legs that they went over.
+    /// The number of paths that came out, by the number of legs.
     out: BTreeMap<usize, usize>,
 }
 
@@ -30,14 +30,14 @@ impl Answers {
         }
     }
 
-    /// The kind and the number of each answer that came, in digits.
+    /// The kind and the number of each counted answer, in digits.
     #[cfg(test)]
     pub fn numbers(&self) -> impl Iterator<Item = &[u8; 4]> {
         self.by_number.keys()
     }
 }
 
-/// A line for each kind, then how far paths came, then the numbers of scripts and lines.
+/// A line for each kind, then the paths that came out by legs, then the numbers of scripts and lines.
 impl Display for Answers {
     fn fmt(&self, f: &mut fmt::Formatter<'_>) -> fmt::Result {
         let mut before = [0; 2];

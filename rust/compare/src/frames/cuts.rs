@@ -1,4 +1,4 @@
-//! The same input in two pieces, cut at every place.
+//! Sends the same input in two pieces, cut at every position.
 
 use crate::comparison::Comparison;
 use crate::frames::Described;
@@ -12,8 +12,13 @@ pub fn run(comparison: &mut Comparison, program: &Program) {
         let name = format!("an input of {bytes} bytes in two pieces, cut at {} places", places.len());
         phase(comparison, &name, |comparison| {
             for place in places {
-                let text = format!("an input of {bytes} bytes, cut behind byte {place}");
-                if !comparison.sent(program, &Described { text, lines }, &input, Sending::InTwo(place)) {
+                let text = format!("an input of {bytes} bytes, cut after byte {place}");
+                if !comparison.send_and_compare(
+                    program,
+                    &Described { text, lines },
+                    &input,
+                    Sending::InTwo(place),
+                ) {
                     return;
                 }
             }
@@ -21,11 +26,11 @@ pub fn run(comparison: &mut Comparison, program: &Program) {
     }
 }
 
-/// Inputs to be cut, each with its places.
+/// The inputs, each with the positions at which it is cut.
 fn inputs() -> Vec<(Vec<u8>, Vec<usize>)> {
     let short =
         b"07\n0100022F4100022F42\n02\n03\n052F412F43\n\n062f422f43\n052F51\n07\r\nFF\n05\n07".to_vec();
-    // A part of such a line would be a frame.
+    // The last digits of such a line alone would be a frame.
     let digits = |count| b"05".iter().copied().cycle().take(count).collect();
     let long = [b"07".to_vec(), digits(4_096), digits(4_097), digits(9_000), b"07".to_vec()].join(&b'\n');
     let every_place = |input: &[u8]| (0..=input.len()).collect();

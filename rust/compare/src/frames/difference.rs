@@ -1,4 +1,4 @@
-//! Where a run of the program first leaves what is expected.
+//! The first difference between a run of the program and the expected answers.
 
 use crate::comparison::Comparison;
 use crate::frames::program::{Output, Program};
@@ -7,16 +7,16 @@ use crate::tally::{Call, Given};
 use std::fmt::{self, Display};
 
 pub struct Difference {
-    /// So many answers agree before it.
+    /// The number of answers before it that agree.
     pub at: usize,
-    /// What is answered otherwise.
+    /// The kind of difference.
     pub name: &'static str,
     expected: String,
     found: String,
 }
 
 impl Run {
-    /// The first difference, where there is one: in an answer line, or in how the run ends.
+    /// Returns the first difference, in an answer line or in how the run ends; `None` if there is none.
     pub fn difference(&self) -> Option<Difference> {
         let Run { expected, output: Output { answers, failure } } = self;
         let at = lines(expected).zip(lines(answers)).take_while(|(one, other)| one == other).count();
@@ -32,7 +32,7 @@ impl Run {
         Some(Difference { at, name, expected: shown(expected), found })
     }
 
-    /// Whether the program answered all and ended as it should, so that it can be asked on.
+    /// Returns whether the program answered everything and exited as it should, so that it can be tested further.
     pub fn is_whole(&self) -> bool {
         self.output.failure.is_none()
     }
@@ -46,7 +46,7 @@ fn lines(text: &[u8]) -> impl Iterator<Item = &[u8]> {
     text.split_inclusive(|byte| *byte == b'\n')
 }
 
-/// The kind of difference, by the answer that is expected.
+/// The kind of difference, by the expected answer.
 fn name(expected: Option<&[u8]>) -> &'static str {
     match expected.and_then(<[u8]>::first_chunk) {
         Some(b"81") => "frames 01",
@@ -61,39 +61,45 @@ fn name(expected: Option<&[u8]>) -> &'static str {
     }
 }
 
-/// What the program was given, and which of its answers is wrong.
-struct Asked<'a> {
+/// The input of the program, and the number of the wrong answer.
+struct WrongAnswer<'a> {
     given: &'a dyn Given,
     answer: usize,
 }
 
-impl Given for Asked<'_> {
+impl Given for WrongAnswer<'_> {
     fn size(&self) -> usize {
         self.given.size()
     }
 }
 
-impl Display for Asked<'_> {
+impl Display for WrongAnswer<'_> {
     fn fmt(&self, f: &mut fmt::Formatter<'_>) -> fmt::Result {
         write!(f, "{} answer {}:", self.given, self.answer)
     }
 }
 
 impl Comparison {
-    /// Sends an input to the program and compares what it answers. Gives whether the program can be asked on.
-    pub fn sent(&mut self, program: &Program, given: &dyn Given, input: &[u8], sending: Sending) -> bool {
+    /// Sends an input to the program and compares the answers. Returns whether the program can be tested further.
+    pub fn send_and_compare(
+        &mut self,
+        program: &Program,
+        given: &dyn Given,
+        input: &[u8],
+        sending: Sending,
+    ) -> bool {
         let run = sending.run(program, input);
-        self.answered(&run, given, run.difference());
+        self.count_answers(&run, given, run.difference());
         run.is_whole()
     }
 
-    /// Counts a comparison for each answer up to the difference, or for all of them and the end of the run.
-    pub fn answered(&mut self, run: &Run, given: &dyn Given, difference: Option<Difference>) {
+    /// Counts a comparison for each answer up to the difference or, if there is none, for all answers and the end of the run.
+    pub fn count_answers(&mut self, run: &Run, given: &dyn Given, difference: Option<Difference>) {
         let Some(Difference { at, name, expected, found }) = difference else {
             return self.tally.agree(lines(&run.expected).count() + 1);
         };
         self.tally.agree(at);
-        let call = Call { name, given: &Asked { given, answer: at + 1 }, room: None };
+        let call = Call { name, given: &WrongAnswer { given, answer: at + 1 }, capacity: None };
         self.tally.values(call, false, format_args!("{expected}"), format_args!("{found}"));
     }
 }
@@ -104,7 +110,7 @@ mod tests {
     use crate::frames::program::{Failure, Output};
     use crate::frames::sending::Run;
 
-    /// The place, the name, and what is expected and found.
+    /// The position and the kind of the first difference, and what is expected and found.
     fn first(expected: &str, found: &str, failure: Option<Failure>) -> Option<(usize, &'static str, String)> {
         let output = Output { answers: found.into(), failure };
         let difference = Run { expected: expected.into(), output }.difference()?;
@@ -125,7 +131,7 @@ mod tests {
 
     #[test]
     fn a_failure_is_a_difference() {
-        let wrong = first("8100\n8500\n", "8100\n85", Some(Failure::Silent));
+        let wrong = first("8100\n8500\n", "8100\n85", Some(Failure::Timeout));
         assert_eq!(wrong, Some((1, "frames 05", "8500\\n / 85, no answer in time".into())));
         let (at, name, _) = first("8100\n", "8100\n", Some(Failure::Ended)).expect("a difference");
         assert_eq!((at, name), (1, "frames, the end of a run"));

@@ -1,9 +1,9 @@
-//! Random scripts: the same seed gives the same ones.
+//! Random scripts; the same seed yields the same scripts.
 
 mod flawed;
-mod journeys;
 mod limits;
 mod malformed;
+mod well_formed;
 mod writer;
 
 use crate::frames::script::Script;
@@ -15,9 +15,9 @@ pub fn script(random: &mut Random) -> Script {
     let sort = random.below(20);
     let writer = &mut Writer::new(random);
     match sort {
-        0..=9 => journeys::journey(writer),
-        10 | 11 => journeys::medley(writer),
-        12..=15 => malformed::noise(writer),
+        0..=9 => well_formed::route(writer),
+        10 | 11 => well_formed::any_order(writer),
+        12..=15 => malformed::bad_lines(writer),
         _ => limits::at_a_limit(writer),
     }
     writer.script()
@@ -39,7 +39,7 @@ mod tests {
     }
 
     #[test]
-    fn every_answer_comes() {
+    fn every_answer_occurs() {
         let (random, answers) = (&mut Random::new(1), &mut Answers::default());
         for _ in 0..500 {
             answers.count(&frames_original::answers(&script(random).input()));
@@ -51,7 +51,7 @@ mod tests {
     }
 
     #[test]
-    fn scripts_end_in_either_way() {
+    fn some_scripts_lack_the_last_newline() {
         let random = &mut Random::new(1);
         let open_ends = (0..200).filter(|_| script(random).open_end).count();
         assert!((1..100).contains(&open_ends));

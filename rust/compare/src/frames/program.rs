@@ -1,4 +1,4 @@
-//! The program under test as a process, with pipes to and from it.
+//! The program under test as a process, connected by pipes.
 
 use std::fmt::{self, Display};
 use std::io::{self, Read, Write};
@@ -8,13 +8,13 @@ use std::sync::mpsc::{self, Receiver, RecvTimeoutError, Sender};
 use std::thread;
 use std::time::{Duration, Instant};
 
-/// Where the program is, and how long an answer is waited for.
+/// The path of the program, and how long to wait for an answer.
 pub struct Program {
     pub path: PathBuf,
-    pub patience: Duration,
+    pub timeout: Duration,
 }
 
-/// What a run wrote, and what was wrong with it beside that.
+/// The output of a run, and how it failed, if it did.
 pub struct Output {
     pub answers: Vec<u8>,
     pub failure: Option<Failure>,
@@ -22,10 +22,10 @@ pub struct Output {
 
 #[derive(Debug)]
 pub enum Failure {
-    /// The system did not start the program, or lost it.
+    /// The program could not be started or waited for.
     System(io::Error),
-    /// No answer came in time.
-    Silent,
+    /// There was no answer in time.
+    Timeout,
     /// The output ended before the input.
     Ended,
     Status(ExitStatus),
@@ -35,7 +35,7 @@ impl Display for Failure {
     fn fmt(&self, f: &mut fmt::Formatter<'_>) -> fmt::Result {
         match self {
             Failure::System(error) => write!(f, "the program cannot be run: {error}"),
-            Failure::Silent => f.write_str("no answer in time"),
+            Failure::Timeout => f.write_str("no answer in time"),
             Failure::Ended => f.write_str("the output ended too early"),
             Failure::Status(status) => write!(f, "the program ended with {status}"),
         }
@@ -43,7 +43,7 @@ impl Display for Failure {
 }
 
 impl Program {
-    /// A run of the program with what it is sent, up to its end.
+    /// Runs the program, sends its input with `send`, and waits for its end.
     pub fn run(&self, send: impl FnOnce(&mut Client)) -> Output {
         match self.start() {
             Ok(mut client) => {
@@ -61,7 +61,7 @@ impl Program {
         let (blocks, output) = mpsc::channel();
         thread::spawn(move || write_pieces(stdin.expect("a pipe"), &pieces));
         thread::spawn(move || read_blocks(stdout.expect("a pipe"), &blocks));
-        let patience = self.patience;
+        let timeout = self.timeout;
         Ok(Client {
             child,
             input: Some(input),
@@ -69,12 +69,12 @@ impl Program {
             received: Vec::new(),
             lines: 0,
             failure: None,
-            patience,
+            timeout,
         })
     }
 }
 
-/// Each piece is written at once. A program that no longer reads is noticed by its answers.
+/// Writes each piece at once. A program that stops reading is detected by its answers.
 fn write_pieces(mut stdin: ChildStdin, pieces: &Receiver<Vec<u8>>) {
     for piece in pieces {
         if stdin.write_all(&piece).is_err() {
@@ -92,40 +92,40 @@ fn read_blocks(mut stdout: ChildStdout, blocks: &Sender<Vec<u8>>) {
     }
 }
 
-/// A run of the program. A process that still runs when its client goes is ended.
+/// A run of the program. A process that is still running when its client is dropped is killed.
 pub struct Client {
     child: Child,
     input: Option<Sender<Vec<u8>>>,
     output: Receiver<Vec<u8>>,
     received: Vec<u8>,
-    /// The lines that have been received.
+    /// The number of lines received.
     lines: usize,
     failure: Option<Failure>,
-    patience: Duration,
+    timeout: Duration,
 }
 
 impl Client {
     pub fn send(&mut self, piece: &[u8]) {
         if let Some(input) = &self.input {
-            // The writer is gone where the program no longer reads; its answers will tell.
+            // The writer has ended if the program no longer reads, which is detected by its answers.
             let _ = input.send(piece.to_vec());
         }
     }
 
-    /// Waits until so many lines have been received in all, and gives whether they have.
+    /// Waits until this many lines have been received in total, and returns whether they have.
     pub fn wait_for(&mut self, lines: usize) -> bool {
-        let deadline = Instant::now() + self.patience;
+        let deadline = Instant::now() + self.timeout;
         while self.failure.is_none() && self.lines < lines {
             self.failure = match self.receive(deadline) {
                 Ok(()) => None,
-                Err(RecvTimeoutError::Timeout) => Some(Failure::Silent),
+                Err(RecvTimeoutError::Timeout) => Some(Failure::Timeout),
                 Err(RecvTimeoutError::Disconnected) => Some(Failure::Ended),
             };
         }
         self.failure.is_none()
     }
 
-    /// Ends the input and gives all that was received.
+    /// Ends the input and returns everything that was received.
     fn finish(mut self) -> Output {
         self.input = None;
         if self.failure.is_none() {
@@ -135,11 +135,11 @@ impl Client {
     }
 
     fn receive_rest(&mut self) -> Result<(), Failure> {
-        let deadline = Instant::now() + self.patience;
+        let deadline = Instant::now() + self.timeout;
         loop {
             match self.receive(deadline) {
                 Ok(()) => {}
-                Err(RecvTimeoutError::Timeout) => return Err(Failure::Silent),
+                Err(RecvTimeoutError::Timeout) => return Err(Failure::Timeout),
                 Err(RecvTimeoutError::Disconnected) => break,
             }
         }
@@ -158,7 +158,7 @@ impl Client {
 
 impl Drop for Client {
     fn drop(&mut self) {
-        // Both fail only where the process has ended already.
+        // Both fail only if the process has ended already.
         let _ = self.child.kill();
         let _ = self.child.wait();
     }

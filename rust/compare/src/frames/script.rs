@@ -1,4 +1,4 @@
-//! An input of the program as lines, and the smallest one that still fails.
+//! An input of the program as lines, and its reduction to the smallest one that still fails.
 
 use crate::tally::Given;
 use std::fmt::{self, Display};
@@ -7,7 +7,7 @@ use std::fmt::{self, Display};
 pub struct Script {
     /// The lines without their newlines.
     pub lines: Vec<Vec<u8>>,
-    /// The last line lacks its newline.
+    /// Whether the last line lacks its newline.
     pub open_end: bool,
 }
 
@@ -20,7 +20,7 @@ impl Script {
         input
     }
 
-    /// The script without as many of its lines as can be left out so that `fails` holds on.
+    /// Removes as many lines as possible while `fails` stays true.
     pub fn shrunk(mut self, fails: &mut impl FnMut(&Script) -> bool) -> Script {
         let mut size = self.lines.len().div_ceil(2);
         while size > 0 {
@@ -33,7 +33,7 @@ impl Script {
         self
     }
 
-    /// Leaves out parts of `size` lines, one after the other, each that is not needed.
+    /// Removes each block of `size` lines that is not needed.
     fn without_parts(mut self, size: usize, fails: &mut impl FnMut(&Script) -> bool) -> Script {
         let mut at = 0;
         while at < self.lines.len() {
@@ -62,22 +62,22 @@ impl Display for Script {
     }
 }
 
-/// The lines of a script up to one of them.
-pub struct Beginning<'a>(pub &'a [Vec<u8>]);
+/// The first lines of a script.
+pub struct FirstLines<'a>(pub &'a [Vec<u8>]);
 
-impl Given for Beginning<'_> {
+impl Given for FirstLines<'_> {
     fn size(&self) -> usize {
         self.0.len()
     }
 }
 
-impl Display for Beginning<'_> {
+impl Display for FirstLines<'_> {
     fn fmt(&self, f: &mut fmt::Formatter<'_>) -> fmt::Result {
         write_lines(f, self.0)
     }
 }
 
-/// Each line on a line of its own, other bytes than visible ones escaped.
+/// Writes each line on its own line, with bytes that are not visible escaped.
 fn write_lines<'a>(f: &mut fmt::Formatter<'_>, lines: impl IntoIterator<Item = &'a Vec<u8>>) -> fmt::Result {
     for line in lines {
         write!(f, "\n    {}", line.escape_ascii())?;
@@ -101,7 +101,7 @@ mod tests {
     }
 
     #[test]
-    fn only_the_lines_needed_are_left() {
+    fn only_the_needed_lines_remain() {
         let needed = |script: &Script| {
             let has = |line: &str| script.lines.contains(&line.as_bytes().to_vec());
             has("b") && has("e")

@@ -1,4 +1,4 @@
-//! Scripts, each in a process of its own, and the smallest one found with a difference.
+//! Compares scripts, each in its own process, and finds the smallest one with a difference.
 
 use crate::comparison::Comparison;
 use crate::frames::answers::Answers;
@@ -8,14 +8,14 @@ use crate::frames::script::Script;
 use crate::frames::sending::Sending;
 use std::time::{Duration, Instant};
 
-/// So long a smaller script is looked for.
+/// How long to search for a smaller script.
 const SHRINKING: Duration = Duration::from_secs(30);
 
-/// So long an answer is waited for meanwhile.
-const SHRINKING_PATIENCE: Duration = Duration::from_secs(1);
+/// How long to wait for an answer during that search.
+const SHRINKING_TIMEOUT: Duration = Duration::from_secs(1);
 
-/// Compares a script; one with a difference of a kind that was not seen yet is made as small as can be. Gives whether the
-/// program can be asked on.
+/// Compares a script; one with a difference of a new kind is made as small as possible. Returns whether the program can be
+/// tested further.
 pub fn compare(
     comparison: &mut Comparison,
     program: &Program,
@@ -25,18 +25,18 @@ pub fn compare(
     let run = Sending::Whole.run(program, &script.input());
     answers.count(&run.expected);
     match run.difference() {
-        Some(difference) if !comparison.tally.knows(difference.name) => {
+        Some(difference) if !comparison.tally.has_difference(difference.name) => {
             let (smaller, difference) = smallest(program, script, difference);
-            comparison.answered(&run, &smaller, Some(difference));
+            comparison.count_answers(&run, &smaller, Some(difference));
         }
-        difference => comparison.answered(&run, &script, difference),
+        difference => comparison.count_answers(&run, &script, difference),
     }
     run.is_whole()
 }
 
-/// The script without the lines that can be left out so that a difference of this kind remains, and that difference.
+/// Removes the lines that are not needed for a difference of this kind; returns the script and that difference.
 fn smallest(program: &Program, script: Script, mut difference: Difference) -> (Script, Difference) {
-    let program = &Program { path: program.path.clone(), patience: SHRINKING_PATIENCE };
+    let program = &Program { path: program.path.clone(), timeout: SHRINKING_TIMEOUT };
     let deadline = Instant::now() + SHRINKING;
     let script = script.shrunk(&mut |script| {
         let run = || Sending::Whole.run(program, &script.input());

@@ -8,14 +8,14 @@ use std::time::Duration;
 pub enum Sending {
     /// The whole input at once.
     Whole,
-    /// Two pieces, the first of so many bytes. The second is sent when all lines of the first have been answered, so that
-    /// the program reads it in a block of its own.
+    /// Two pieces, the first one of this many bytes. The second is sent when all lines of the first have been answered, so
+    /// that the program reads it as a separate block.
     InTwo(usize),
     /// Each line when the one before has been answered.
     LineByLine,
 }
 
-/// What the program is to write, and what it wrote, up to its end or to an answer that did not come.
+/// The expected output of the program, and its output up to its end or to an answer that is missing.
 pub struct Run {
     pub expected: Vec<u8>,
     pub output: Output,
@@ -36,7 +36,7 @@ fn in_two(client: &mut Client, (first, second): (&[u8], &[u8])) {
     client.send(first);
     let lines = first.iter().filter(|byte| **byte == b'\n').count();
     if lines == 0 {
-        // No answer tells that the piece was read.
+        // There is no answer that shows that the piece was read.
         thread::sleep(Duration::from_millis(2));
     }
     if client.wait_for(lines) {
@@ -63,12 +63,12 @@ mod tests {
     const INPUT: &[u8] = b"07\n0G\n07";
 
     fn output(program: &str, sending: Sending) -> Output {
-        let program = Program { path: program.into(), patience: Duration::from_secs(1) };
+        let program = Program { path: program.into(), timeout: Duration::from_secs(1) };
         sending.run(&program, INPUT).output
     }
 
     #[test]
-    fn every_way_sends_all() {
+    fn everything_is_sent() {
         let places = (0..=INPUT.len()).map(Sending::InTwo);
         for sending in places.chain([Sending::Whole, Sending::LineByLine]) {
             let Output { answers, failure } = output("cat", sending);
@@ -76,13 +76,13 @@ mod tests {
         }
     }
 
-    /// `tail` writes all at the end of its input.
+    /// `tail` writes everything at the end of its input.
     #[test]
-    fn an_answer_that_is_kept_back_is_missed() {
+    fn a_delayed_answer_is_detected() {
         assert_eq!(output("tail", Sending::Whole).answers, INPUT);
         for sending in [Sending::LineByLine, Sending::InTwo(3)] {
             let Output { answers, failure } = output("tail", sending);
-            assert!(answers.is_empty() && matches!(failure, Some(Failure::Silent)));
+            assert!(answers.is_empty() && matches!(failure, Some(Failure::Timeout)));
         }
     }
 

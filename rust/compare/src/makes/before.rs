@@ -1,4 +1,4 @@
-//! The lists that dropping starts from, made by the test itself; where dropping is not run, the list answered.
+//! The lists before redundant pairs are dropped, computed independently; if no dropping takes place, the resulting list.
 
 use original::pcp::MapFunction;
 use original::sdf::Path;
@@ -9,12 +9,12 @@ fn is_path_identity(map: &MapFunction) -> bool {
     map.path_pairs().is_empty() && map.has_root_identity()
 }
 
-/// Of `inverse`: the ends exchanged.
+/// The list of `inverse`: the ends exchanged.
 pub fn exchanged(map: &MapFunction) -> Pairs {
     map.path_pairs().iter().map(|(source, target)| (target.clone(), source.clone())).collect()
 }
 
-/// Of `compose`; a side that is the identity gives the other's list.
+/// The list of `compose`. If one side is the identity on paths, it is the list of the other.
 pub fn composed(outer: &MapFunction, inner: &MapFunction) -> Pairs {
     if is_path_identity(outer) {
         return inner.path_pairs().to_vec();
@@ -25,13 +25,13 @@ pub fn composed(outer: &MapFunction, inner: &MapFunction) -> Pairs {
     composed_pairs(outer, inner)
 }
 
-/// The inner pairs with their targets carried on, then the outer pairs whose sources have a way back that is not
-/// there yet.
+/// The inner pairs with their targets mapped by the outer map, then the outer pairs whose sources map back to a source that
+/// is not there yet.
 fn composed_pairs(outer: &MapFunction, inner: &MapFunction) -> Pairs {
     let mut pairs: Pairs = Vec::new();
     for (source, target) in inner.path_pairs() {
-        let on = if target.is_empty() { None } else { outer.map_source_to_target(target) };
-        pairs.push((source.clone(), on.unwrap_or_default()));
+        let mapped = if target.is_empty() { None } else { outer.map_source_to_target(target) };
+        pairs.push((source.clone(), mapped.unwrap_or_default()));
     }
     for (source, target) in outer.path_pairs() {
         let Some(back) = inner.map_target_to_source(source) else {
@@ -44,15 +44,16 @@ fn composed_pairs(outer: &MapFunction, inner: &MapFunction) -> Pairs {
     pairs
 }
 
-/// Of `implied_class`, across a transfer that is no identity: those of the inverse, of the class after it, and of
-/// the transfer after that.
+/// The lists of `implied_class` for a transfer that is not the identity: those of the inverse, of the class after the inverse,
+/// and of the transfer after that.
 pub fn implied(transfer: &MapFunction, class: &MapFunction) -> Vec<Pairs> {
     let inverse = transfer.inverse();
     let after_inverse = class.compose(&inverse);
     vec![exchanged(transfer), composed(class, &inverse), composed(transfer, &after_inverse)]
 }
 
-/// Of `rebase_target`: the targets that have the prefix `from` put below `to`, or, of the identity, the one pair.
+/// The list of `rebase_target`: `from` replaced by `to` in the targets that have it as a prefix, or the pair of the two for
+/// the identity.
 pub fn rebased(map: &MapFunction, from: &Path, to: &Path) -> Pairs {
     if is_path_identity(map) {
         return vec![(from.clone(), to.clone())];
@@ -62,8 +63,8 @@ pub fn rebased(map: &MapFunction, from: &Path, to: &Path) -> Pairs {
     map.path_pairs().iter().map(|(source, target)| (source.clone(), rebased(target))).collect()
 }
 
-/// Of `deepen_to`: each pair with the class's source is the node and where the class puts it. A list that has the
-/// node for a source, or no class, stays as it is.
+/// The list of `deepen_to`: each pair with the source of the class becomes the pair of the node and its image under the class.
+/// The list is unchanged if it has the node as a source, or no class.
 pub fn deepened(map: &MapFunction, node: &Path) -> Pairs {
     let pairs = map.path_pairs();
     let Some((class, target)) = class_above(pairs, node) else {
@@ -76,11 +77,12 @@ pub fn deepened(map: &MapFunction, node: &Path) -> Pairs {
     pairs.iter().map(|pair| if pair.0 == *class { deep.clone() } else { pair.clone() }).collect()
 }
 
-/// The last pair of those with most elements whose source is a prefix of the node, an empty one among them.
+/// The class: of the pairs whose source is a prefix of the node (an empty source counts), the last one with the most
+/// elements.
 fn class_above<'a>(pairs: &'a [(Path, Path)], node: &Path) -> Option<&'a (Path, Path)> {
     let mut class: Option<&(Path, Path)> = None;
     for pair in pairs {
-        let is_deeper = class.is_none_or(|best| best.0.element_count() <= pair.0.element_count());
+        let is_deeper = class.is_none_or(|longest| longest.0.element_count() <= pair.0.element_count());
         if node.has_prefix(&pair.0) && is_deeper {
             class = Some(pair);
         }

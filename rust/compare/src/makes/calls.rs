@@ -1,20 +1,20 @@
-//! The calls that make maps: the library's entry beside the original's function, and the answer that is expected.
+//! The calls that build maps: the entry of the library, the function of the original, and the expected answer.
 
 use crate::calls::is_end;
 use crate::comparison::Comparison;
 use crate::lent::Lent;
 use crate::makes::before::{self, Pairs};
 use crate::maps::calls::both;
-use crate::maps::list::{List, MOST_PAIRS, NOT_AN_END, TOO_MANY_PAIRS};
+use crate::maps::list::{List, MAX_PAIRS, NOT_AN_END, TOO_MANY_PAIRS};
 use crate::tally::{Call, Given};
-use crate::text::{Answer, MADE_NOT_LEGAL, MADE_TOO_LONG, TOO_LITTLE_MEMORY, Text};
+use crate::text::{Answer, BUFFER_TOO_SMALL, MADE_NOT_LEGAL, MADE_TOO_LONG, Text};
 use crate::times::calls::is_same;
 use mudvizsor::ffi::Reply;
-use mudvizsor::ffi::makes::{self, Room};
+use mudvizsor::ffi::map_build::{self, MapBuffers};
 use original::pcp::MapFunction;
 use original::sdf::{LayerOffset, Path};
 use std::fmt::{self, Display};
-use texts::LONGEST;
+use texts::MAX_PATH_LEN;
 use texts::legal::is_legal;
 
 /// A list with a time offset.
@@ -24,11 +24,11 @@ pub struct Map {
 }
 
 impl Map {
-    fn for_library(&self) -> makes::Map<'_> {
-        makes::Map { list: self.list.for_library(), time: self.time }
+    fn for_library(&self) -> map_build::Map<'_> {
+        map_build::Map { list: self.list.for_library(), time: self.time }
     }
 
-    /// The original's map, or the first "no" of questions 1 to 4.
+    /// The map of the original, or the first failed check of questions 1 to 4.
     fn original(&self) -> Answer<MapFunction> {
         let [offset, scale] = self.time;
         let map = self.list.map()?;
@@ -36,22 +36,22 @@ impl Map {
     }
 }
 
-/// What a call that makes a map is to give, where enough memory is lent.
-struct Making {
-    /// The list that dropping starts from, or, where that is not run, the list answered; of several maps made on
-    /// the way, each one's.
+/// The expected result of a call that builds a map, with large enough buffers.
+struct ExpectedMap {
+    /// The list before redundant pairs are dropped or, if no dropping takes place, the resulting list. There are several for
+    /// a call that builds several maps.
     before: Vec<Pairs>,
     map: MapFunction,
 }
 
-impl Making {
-    /// The map's own pairs are what is counted.
+impl ExpectedMap {
+    /// No dropping takes place: the list is that of the map.
     fn as_it_is(map: MapFunction) -> Self {
-        Making::from(map.path_pairs().to_vec(), map)
+        ExpectedMap::from(map.path_pairs().to_vec(), map)
     }
 
     fn from(before: Pairs, map: MapFunction) -> Self {
-        Making { before: vec![before], map }
+        ExpectedMap { before: vec![before], map }
     }
 
     /// The ends of all lists before dropping.
@@ -59,9 +59,9 @@ impl Making {
         self.before.iter().flat_map(|list| ends(list))
     }
 
-    /// The same, of a call that can only make ends: question 8 refuses none.
+    /// Asserts that all ends are ends, for a call to which question 8 never applies.
     fn with_ends(self) -> Self {
-        assert!(self.ends().all(is_end), "an end that is made is an end");
+        assert!(self.ends().all(is_end), "a resulting end is an end");
         self
     }
 
@@ -73,21 +73,21 @@ impl Making {
         self.before.iter().map(Vec::len).sum()
     }
 
-    /// Questions 4, 5, 7 and 8.
+    /// The expected answer with buffers of these sizes (questions 4, 5, 7 and 8).
     fn within(&self, bytes: usize, slots: usize) -> Answer<&MapFunction> {
-        if self.before.iter().any(|list| list.len() > MOST_PAIRS) {
+        if self.before.iter().any(|list| list.len() > MAX_PAIRS) {
             return Err(TOO_MANY_PAIRS);
         }
         if bytes < self.bytes_needed() || slots / 4 < self.pairs_needed() {
-            return Err(TOO_LITTLE_MEMORY);
+            return Err(BUFFER_TOO_SMALL);
         }
-        if self.ends().any(|end| end.as_str().len() > LONGEST) {
+        if self.ends().any(|end| end.as_str().len() > MAX_PATH_LEN) {
             return Err(MADE_TOO_LONG);
         }
         if !self.ends().all(|end| is_legal(end.as_str().as_bytes())) {
             return Err(MADE_NOT_LEGAL);
         }
-        assert!(self.ends().all(is_end), "a legal end that is made is an end");
+        assert!(self.ends().all(is_end), "a legal resulting end is an end");
         Ok(&self.map)
     }
 }
@@ -96,67 +96,67 @@ fn ends(pairs: &[(Path, Path)]) -> impl Iterator<Item = &Path> {
     pairs.iter().flat_map(|(source, target)| [source, target])
 }
 
-/// The path of a text, with questions 1, 2 and 3.
+/// The path of a text that must be an end (questions 1, 2 and 3).
 fn end(text: &Text) -> Answer<&Path> {
     let path = text.answer()?;
     if is_end(path) { Ok(path) } else { Err(NOT_AN_END) }
 }
 
-fn new(list: &List) -> Answer<Making> {
+fn new(list: &List) -> Answer<ExpectedMap> {
     let before = list.map()?.path_pairs().to_vec();
     let map = MapFunction::new(before.clone());
-    Ok(Making::from(before, map))
+    Ok(ExpectedMap::from(before, map))
 }
 
-fn from_pair(source: &Text, target: &Text, make: fn(Path, Path) -> MapFunction) -> Answer<Making> {
+fn from_pair(source: &Text, target: &Text, make: fn(Path, Path) -> MapFunction) -> Answer<ExpectedMap> {
     let (source, target) = both(end(source), end(target))?;
     let before = vec![(source.clone(), target.clone())];
-    Ok(Making::from(before, make(source.clone(), target.clone())))
+    Ok(ExpectedMap::from(before, make(source.clone(), target.clone())))
 }
 
-fn inverse(map: &Map) -> Answer<Making> {
+fn inverse(map: &Map) -> Answer<ExpectedMap> {
     let map = map.original()?;
-    Ok(Making::from(before::exchanged(&map), map.inverse()))
+    Ok(ExpectedMap::from(before::exchanged(&map), map.inverse()))
 }
 
-fn dropping_source(map: &Map, source: &Text) -> Answer<Making> {
+fn dropping_source(map: &Map, source: &Text) -> Answer<ExpectedMap> {
     let (map, source) = both(map.original(), end(source))?;
     let others = map.path_pairs().iter().filter(|(other, _)| other != source);
-    Ok(Making::from(others.cloned().collect(), map.dropping_source(source)))
+    Ok(ExpectedMap::from(others.cloned().collect(), map.dropping_source(source)))
 }
 
-fn compose(outer: &Map, inner: &Map) -> Answer<Making> {
+fn compose(outer: &Map, inner: &Map) -> Answer<ExpectedMap> {
     let (outer, inner) = both(outer.original(), inner.original())?;
-    Ok(Making::from(before::composed(&outer, &inner), outer.compose(&inner)).with_ends())
+    Ok(ExpectedMap::from(before::composed(&outer, &inner), outer.compose(&inner)).with_ends())
 }
 
-fn implied_class(transfer: &Map, class: &Map) -> Answer<Making> {
+fn implied_class(transfer: &Map, class: &Map) -> Answer<ExpectedMap> {
     let (transfer, class) = both(transfer.original(), class.original())?;
     let map = transfer.implied_class(&class);
     if transfer.is_identity() {
-        return Ok(Making::from(class.path_pairs().to_vec(), map));
+        return Ok(ExpectedMap::from(class.path_pairs().to_vec(), map));
     }
-    Ok(Making { before: before::implied(&transfer, &class), map }.with_ends())
+    Ok(ExpectedMap { before: before::implied(&transfer, &class), map }.with_ends())
 }
 
-fn rebase_target(map: &Map, from: &Text, to: &Text) -> Answer<Making> {
+fn rebase_target(map: &Map, from: &Text, to: &Text) -> Answer<ExpectedMap> {
     let (map, (from, to)) = both(map.original(), both(end(from), end(to)))?;
-    Ok(Making::from(before::rebased(&map, from, to), map.rebased_target(from, to)))
+    Ok(ExpectedMap::from(before::rebased(&map, from, to), map.rebased_target(from, to)))
 }
 
-fn deepen_to(map: &Map, path: &Text) -> Answer<Making> {
+fn deepen_to(map: &Map, path: &Text) -> Answer<ExpectedMap> {
     let (map, node) = both(map.original(), stripped_end(path))?;
     let path = path.answer()?;
-    Ok(Making::from(before::deepened(&map, &node), map.deepened_to(path)))
+    Ok(ExpectedMap::from(before::deepened(&map, &node), map.deepened_to(path)))
 }
 
-/// The path of a text without its selections: questions 1 and 2 put to the text, 3 to what is left.
+/// The path of a text without its selections: questions 1 and 2 apply to the text, 3 to the result.
 fn stripped_end(text: &Text) -> Answer<Path> {
     let node = text.answer()?.strip_variant_selections();
     if is_end(&node) { Ok(node) } else { Err(NOT_AN_END) }
 }
 
-/// What one of these calls is given.
+/// The input of one of these calls.
 struct Inputs<'a> {
     maps: &'a [&'a Map],
     texts: &'a [&'a Text],
@@ -179,105 +179,111 @@ impl Display for Inputs<'_> {
 }
 
 impl Comparison {
-    /// Every call that takes one map.
+    /// Compares every call that takes one map.
     pub fn one_map(&mut self, map: &Map) {
         let given = &Inputs { maps: &[map], texts: &[] };
         let list = map.list.for_library();
-        self.made("MapFunction::new", given, &new(&map.list), |room| makes::new(list, room));
-        let expected = map.original().map(|map| Making::as_it_is(map.with_root_identity()));
-        self.made("with_root_identity", given, &expected, |room| {
-            makes::with_root_identity(map.for_library(), room)
+        self.build("MapFunction::new", given, &new(&map.list), |capacity| map_build::new(list, capacity));
+        let expected = map.original().map(|map| ExpectedMap::as_it_is(map.with_root_identity()));
+        self.build("with_root_identity", given, &expected, |capacity| {
+            map_build::with_root_identity(map.for_library(), capacity)
         });
-        self.made("inverse", given, &inverse(map), |room| makes::inverse(map.for_library(), room));
+        self.build("inverse", given, &inverse(map), |capacity| {
+            map_build::inverse(map.for_library(), capacity)
+        });
         let expected = map.original().map(|map| usize::from(map.is_noop()));
-        let call = Call { name: "is_noop", given, room: None };
-        self.tally.compare(call, expected, makes::is_noop(map.for_library()), None);
+        let call = Call { name: "is_noop", given, capacity: None };
+        self.tally.compare(call, expected, map_build::is_noop(map.for_library()), None);
         if let Ok(map) = map.original() {
-            self.own_numbers(&map);
+            self.map_info(&map);
         }
     }
 
     pub fn dropping_source(&mut self, map: &Map, source: &Text) {
         let given = &Inputs { maps: &[map], texts: &[source] };
-        self.made("dropping_source", given, &dropping_source(map, source), |room| {
-            makes::dropping_source(map.for_library(), &source.bytes, room)
+        self.build("dropping_source", given, &dropping_source(map, source), |capacity| {
+            map_build::dropping_source(map.for_library(), &source.bytes, capacity)
         });
     }
 
     pub fn rebase_target(&mut self, map: &Map, from: &Text, to: &Text) {
         let given = &Inputs { maps: &[map], texts: &[from, to] };
-        self.made("rebase_target", given, &rebase_target(map, from, to), |room| {
-            makes::rebase_target(map.for_library(), &from.bytes, &to.bytes, room)
+        self.build("rebase_target", given, &rebase_target(map, from, to), |capacity| {
+            map_build::rebase_target(map.for_library(), &from.bytes, &to.bytes, capacity)
         });
     }
 
     pub fn deepen_to(&mut self, map: &Map, path: &Text) {
         let given = &Inputs { maps: &[map], texts: &[path] };
-        self.made("deepen_to", given, &deepen_to(map, path), |room| {
-            makes::deepen_to(map.for_library(), &path.bytes, room)
+        self.build("deepen_to", given, &deepen_to(map, path), |capacity| {
+            map_build::deepen_to(map.for_library(), &path.bytes, capacity)
         });
     }
 
-    /// The two calls that take one pair.
+    /// Compares the two calls that take one pair.
     pub fn one_pair(&mut self, source: &Text, target: &Text) {
         let given = &Inputs { maps: &[], texts: &[source, target] };
         let expected = from_pair(source, target, MapFunction::from_pair);
-        self.made("from_pair", given, &expected, |room| makes::from_pair(&source.bytes, &target.bytes, room));
+        self.build("from_pair", given, &expected, |capacity| {
+            map_build::from_pair(&source.bytes, &target.bytes, capacity)
+        });
         let expected = from_pair(source, target, MapFunction::from_pair_identity);
-        self.made("from_pair_identity", given, &expected, |room| {
-            makes::from_pair_identity(&source.bytes, &target.bytes, room)
+        self.build("from_pair_identity", given, &expected, |capacity| {
+            map_build::from_pair_identity(&source.bytes, &target.bytes, capacity)
         });
     }
 
-    /// The two calls that take two maps.
+    /// Compares the two calls that take two maps.
     pub fn two_maps(&mut self, outer: &Map, inner: &Map) {
         let given = &Inputs { maps: &[outer, inner], texts: &[] };
-        self.made("implied_class", given, &implied_class(outer, inner), |room| {
-            makes::implied_class(outer.for_library(), inner.for_library(), room)
+        self.build("implied_class", given, &implied_class(outer, inner), |capacity| {
+            map_build::implied_class(outer.for_library(), inner.for_library(), capacity)
         });
-        self.made("compose", given, &compose(outer, inner), |room| {
-            makes::compose(outer.for_library(), inner.for_library(), room)
+        self.build("compose", given, &compose(outer, inner), |capacity| {
+            map_build::compose(outer.for_library(), inner.for_library(), capacity)
         });
     }
 
-    /// A call that makes a map: with just what is needed, with more, and with one byte or number too few.
-    fn made(
+    /// Compares a call that builds a map: with just the buffers that are needed, with larger ones, and with one byte or number
+    /// too few.
+    fn build(
         &mut self,
         name: &'static str,
         given: &dyn Given,
-        expected: &Answer<Making>,
-        entry: impl Fn(Room) -> Reply,
+        expected: &Answer<ExpectedMap>,
+        entry: impl Fn(MapBuffers) -> Reply,
     ) {
         let (bytes, slots) = match expected {
-            Ok(making) => (making.bytes_needed(), 4 * making.pairs_needed()),
+            Ok(expected) => (expected.bytes_needed(), 4 * expected.pairs_needed()),
             Err(_) => (600, 12),
         };
-        self.made_in(name, given, expected, [bytes, slots], &entry);
-        self.made_in(name, given, expected, [bytes + 9, slots + 3], &entry);
+        self.build_with(name, given, expected, [bytes, slots], &entry);
+        self.build_with(name, given, expected, [bytes + 9, slots + 3], &entry);
         if bytes > 0 {
-            self.made_in(name, given, expected, [bytes - 1, slots + 3], &entry);
+            self.build_with(name, given, expected, [bytes - 1, slots + 3], &entry);
         }
         if slots > 0 {
-            self.made_in(name, given, expected, [bytes + 9, slots - 1], &entry);
+            self.build_with(name, given, expected, [bytes + 9, slots - 1], &entry);
         }
     }
 
-    fn made_in(
+    fn build_with(
         &mut self,
         name: &'static str,
         given: &dyn Given,
-        expected: &Answer<Making>,
+        expected: &Answer<ExpectedMap>,
         [bytes, slots]: [usize; 2],
-        entry: impl Fn(Room) -> Reply,
+        entry: impl Fn(MapBuffers) -> Reply,
     ) {
         let expected = expected.as_ref().map_err(|number| *number);
-        let expected = expected.and_then(|making| making.within(bytes, slots));
+        let expected = expected.and_then(|expected| expected.within(bytes, slots));
         let (mut out, mut numbers) = (Lent::bytes(bytes), Lent::numbers(slots));
-        let (found, time) =
-            left(|time| entry(Room { out: out.lend(bytes), slots: numbers.lend(slots), time }));
+        let (found, time) = with_time_buffer(|time| {
+            entry(MapBuffers { out: out.lend(bytes), slots: numbers.lend(slots), time })
+        });
         let (text, places) = expected.map_or_else(|_| Default::default(), written);
         let wrong = out.first_wrong(&text).or(numbers.first_wrong(&places));
-        let call = Call { name, given, room: Some(bytes) };
+        let call = Call { name, given, capacity: Some(bytes) };
         self.tally.compare(call, expected.map(value), found, wrong);
         self.time(call, expected, time);
     }
@@ -290,23 +296,23 @@ impl Comparison {
     }
 }
 
-/// The two floats lent for the time offset, between two that are not.
+/// The two floats lent for the time offset, between two that are not lent.
 const TIME_BEFORE: [f64; 4] = [12345.678, -2.5e-300, 7.25e300, 87654.321];
 
-/// What a call gives, and what it leaves in the two lent floats. Those on either side of them stay as they were.
-pub fn left<T>(call: impl FnOnce(&mut [f64; 2]) -> T) -> (T, [f64; 2]) {
+/// Makes a call with two lent floats; returns its result and the floats. The floats on either side must not change.
+pub fn with_time_buffer<T>(call: impl FnOnce(&mut [f64; 2]) -> T) -> (T, [f64; 2]) {
     let mut floats = TIME_BEFORE;
     let [before, time @ .., after] = &mut floats;
     let given = call(time);
     assert_eq!(
         [*before, *after],
         [TIME_BEFORE[0], TIME_BEFORE[3]],
-        "memory beside the lent floats was written"
+        "memory next to the lent floats was written"
     );
     (given, *time)
 }
 
-/// Twice the number of pairs, and one more with the mark.
+/// The value of the reply: twice the number of pairs, plus one with the mark.
 pub fn value(map: &MapFunction) -> usize {
     2 * map.path_pairs().len() + usize::from(map.has_root_identity())
 }
@@ -316,7 +322,7 @@ pub fn time_of(map: &MapFunction) -> [f64; 2] {
     [offset, scale]
 }
 
-/// The bytes and the numbers of a map: its ends one after the other.
+/// The bytes and the places of a map as the library writes them.
 fn written(map: &MapFunction) -> (Vec<u8>, Vec<usize>) {
     let (mut bytes, mut places) = (Vec::new(), Vec::new());
     for end in ends(map.path_pairs()) {

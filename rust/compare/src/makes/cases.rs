@@ -1,4 +1,4 @@
-//! Random lists of related ends, made into maps, rebased, deepened and composed.
+//! Random lists of related ends, from which maps are built, rebased, deepened and composed.
 
 use crate::comparison::Comparison;
 use crate::makes::calls::Map;
@@ -9,7 +9,7 @@ use crate::text::Text;
 use crate::times::special::FLOATS;
 use texts::random::Random;
 
-/// Two maps over each other's ends, each one in eight flawed, and a source that one of them often has.
+/// Two maps that share ends, each flawed one time in eight, and a source that one of them often has.
 pub fn case(comparison: &mut Comparison, random: &mut Random) {
     let one = pairs(random);
     let other = related(random, &one);
@@ -28,7 +28,7 @@ pub fn case(comparison: &mut Comparison, random: &mut Random) {
     comparison.two_maps(&second, &map);
 }
 
-/// A list whose ends are often those of another.
+/// A list that often has ends of another one.
 fn related(random: &mut Random, other: &[Pair]) -> Vec<Pair> {
     let mut list = pairs(random);
     for end in list.iter_mut().flatten() {
@@ -61,7 +61,7 @@ fn map(random: &mut Random, pairs: &[Pair], text: &mut Vec<u8>) -> Map {
     Map { list: List::new(lent), time: time(random) }
 }
 
-/// Half of them (0, 1).
+/// A time offset, half of the time (0, 1).
 fn time(random: &mut Random) -> [f64; 2] {
     if random.one_in(2) { [0.0, 1.0] } else { [*random.pick(FLOATS), *random.pick(FLOATS)] }
 }

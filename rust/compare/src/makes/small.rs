@@ -1,16 +1,16 @@
-//! Every list of few pairs over few ends, with and without the mark, made into maps, rebased, deepened, and composed
-//! with each other.
+//! Every list of a few pairs over a few ends, with and without the mark: maps are built from them, rebased, deepened, and
+//! composed with each other.
 
 use crate::comparison::Comparison;
 use crate::makes::calls::Map;
 use crate::maps::list::List;
 use crate::maps::small::{ENDS, FEW_ENDS, pairs};
 use crate::text::Text;
-use texts::LONGEST;
+use texts::MAX_PATH_LEN;
 
 const IDENTITY: [f64; 2] = [0.0, 1.0];
 
-/// Time offsets, each map taking the next one: an identity of either zero, an offset, a scale, both, a NaN.
+/// Time offsets, used in turn: an identity with either zero, an offset, a scale, both, a NaN.
 const TIMES: [[f64; 2]; 6] = [IDENTITY, [-0.0, 1.0], [3.5, 1.0], [0.0, 0.5], [-24.0, -2.0], [f64::NAN, 0.0]];
 
 const THREE_ENDS: [&str; 4] = ["", "/", "/A", "/A/B"];
@@ -42,10 +42,10 @@ pub fn three_pairs(comparison: &mut Comparison) {
     }
 }
 
-/// Every list of at most two pairs, its targets rebased from each text to each, and deepened to each.
+/// Tries every list of at most two pairs, rebased from each text to each, and deepened to each.
 pub fn moved(comparison: &mut Comparison) {
     let ends = ENDS.iter().map(|end| Text::new(end.as_bytes()));
-    let long = [b"/A/", [b'B'; LONGEST].as_slice()].concat();
+    let long = [b"/A/", [b'B'; MAX_PATH_LEN].as_slice()].concat();
     let others = [b"/A{v=p}B".as_slice(), b"/A/B.a", b"/A/", &long].map(Text::new);
     let texts: Vec<Text> = ends.chain(others).collect();
     for map in maps(&lists(&ENDS)) {
@@ -58,7 +58,7 @@ pub fn moved(comparison: &mut Comparison) {
     }
 }
 
-/// Maps of at most one pair over all ends, then of at most two over few of them.
+/// Composes maps of at most one pair over all ends, then of at most two pairs over a few ends.
 pub fn composed(comparison: &mut Comparison) {
     let mut single = vec![vec![]];
     single.extend(pairs(&ENDS).into_iter().map(|pair| vec![pair]));
@@ -87,7 +87,7 @@ fn lists(ends: &[&'static str]) -> Vec<Vec<Pair>> {
     lists
 }
 
-/// Each list with either mark.
+/// Each list without and with the mark.
 fn maps(lists: &[Vec<Pair>]) -> Vec<Map> {
     let both = lists.iter().flat_map(|list| [(list, false), (list, true)]);
     let map = |(at, (list, mark)): (usize, (&Vec<Pair>, bool))| Map {

@@ -1,10 +1,10 @@
-//! Document 01's cases on making maps, and lists and ends at the limit.
+//! The cases of the requirements for building maps, and lists and ends at the limits.
 
 use crate::comparison::Comparison;
 use crate::makes::calls::Map;
 use crate::maps::list::List;
 use crate::text::Text;
-use texts::LONGEST;
+use texts::MAX_PATH_LEN;
 
 const IDENTITY: [f64; 2] = [0.0, 1.0];
 
@@ -30,7 +30,7 @@ pub fn run(comparison: &mut Comparison) {
         comparison.two_maps(&map_with_mark(&[["/X", "/Y"]]), &map_with_mark(&numbered(count - 1)));
         comparison.two_maps(&map_with_mark(&numbered(count - 1)), &map_with_mark(&[["/X", "/Y"]]));
     }
-    for length in LONGEST - 3..=LONGEST {
+    for length in MAX_PATH_LEN - 3..=MAX_PATH_LEN {
         long_ends(comparison, length);
     }
 }
@@ -47,12 +47,12 @@ fn many_pairs(comparison: &mut Comparison, count: usize) {
     comparison.two_maps(&map(&[["/A", "/B"], ["/D", "/E"]]), &map(&vec![["/C", "/A"]; count - 1]));
 }
 
-/// Pairs with sources and targets of their own.
+/// Pairs with different sources and targets.
 fn numbered(count: usize) -> Vec<[String; 2]> {
     (0..count).map(|number| [format!("/A{number}"), format!("/B{number}")]).collect()
 }
 
-/// Ends of which some come to just the limit, or over it, and some are not legal.
+/// Resulting ends of which some are at the length limit, some beyond it, and some are not legal.
 fn long_ends(comparison: &mut Comparison, length: usize) {
     let long = format!("/{}", "L".repeat(length - 1));
     for [source, target] in [["/A", "/B"], ["/A/B", "/A"], ["", "/B"], ["/", "/"], ["/A", "/"]] {

@@ -1,4 +1,4 @@
-//! The calls on maps: the library's entry beside the original's function, and the answer that is expected.
+//! The calls that map a path: the entry of the library, the function of the original, and the expected answer.
 
 use crate::calls::accept;
 use crate::comparison::Comparison;
@@ -6,13 +6,13 @@ use crate::many::Many;
 use crate::maps::list::List;
 use crate::tally::Given;
 use crate::text::{Answer, Text};
-use mudvizsor::ffi::maps::{Paths, Way, carry, carry_all};
+use mudvizsor::ffi::maps::{Paths, Way, apply, apply_all};
 use original::pcp::MapFunction;
 use original::sdf::Path;
 use std::fmt::{self, Display};
-use texts::LONGEST;
+use texts::MAX_PATH_LEN;
 
-/// A call that makes one path of another by a map.
+/// A call that maps a path.
 pub struct MapCall {
     name: &'static str,
     way: Way,
@@ -30,8 +30,8 @@ pub const TRANSLATED: MapCall =
 
 pub const CALLS: [MapCall; 3] = [OUT, BACK, TRANSLATED];
 
-/// Bytes lent for the path.
-const ROOMS: [usize; 3] = [LONGEST - 1, LONGEST, 300];
+/// The sizes of the buffers lent for the path, in bytes.
+const CAPACITIES: [usize; 3] = [MAX_PATH_LEN - 1, MAX_PATH_LEN, 300];
 
 impl MapCall {
     pub fn expected(&self, list: &List, text: &Text) -> Answer<Path> {
@@ -40,7 +40,7 @@ impl MapCall {
     }
 }
 
-/// Each question is put to both before the next, so of two refusals the smaller number is the answer.
+/// Each question is checked for both before the next question, so of two refusals the smaller number decides.
 pub fn both<T, U>(one: Answer<T>, other: Answer<U>) -> Answer<(T, U)> {
     match (one, other) {
         (Ok(one), Ok(other)) => Ok((one, other)),
@@ -49,7 +49,7 @@ pub fn both<T, U>(one: Answer<T>, other: Answer<U>) -> Answer<(T, U)> {
     }
 }
 
-/// What a call on a path is given: something else, such as a list, and the path.
+/// The input of a call for a path: another input, such as a list, and the path.
 pub struct WithText<'a> {
     pub given: &'a dyn Given,
     pub text: &'a Text,
@@ -68,21 +68,21 @@ impl Display for WithText<'_> {
 }
 
 impl Comparison {
-    /// Every call on maps.
+    /// Compares every call that maps one path.
     pub fn map(&mut self, list: &List, text: &Text) {
         for call in &CALLS {
             let expected = call.expected(list, text);
-            let entry = |out: &mut [u8]| carry(call.way, list.for_library(), &text.bytes, out);
-            self.path(call.name, &WithText { given: list, text }, &ROOMS, &expected, entry);
+            let entry = |out: &mut [u8]| apply(call.way, list.for_library(), &text.bytes, out);
+            self.path(call.name, &WithText { given: list, text }, &CAPACITIES, &expected, entry);
         }
     }
 
-    /// Each way for all paths in one call.
+    /// Compares each of the calls for all paths at once.
     pub fn map_all(&mut self, list: &List, texts: &[Text]) {
         for call in &CALLS {
             let expected = texts.iter().map(|text| call.expected(list, text)).collect();
             let entry = |paths: Paths, out: &mut [u8], replies: &mut [usize]| {
-                carry_all(call.way, list.for_library(), paths, out, replies)
+                apply_all(call.way, list.for_library(), paths, out, replies)
             };
             self.many(&Many { name: "map_all", given: list, entry: &entry }, texts, expected);
         }

@@ -1,8 +1,8 @@
-//! Random lists of related ends, and paths that have some of them as prefixes.
+//! Random lists of related ends, and paths that have some of these ends as prefixes.
 
 use crate::comparison::Comparison;
 use crate::maps::flaws::FLAWS;
-use crate::maps::list::{LentList, List, MOST_PAIRS};
+use crate::maps::list::{LentList, List, MAX_PAIRS};
 use crate::text::Text;
 use texts::damage::damaged;
 use texts::ends::{family, path_under};
@@ -10,10 +10,10 @@ use texts::random::Random;
 
 pub type Pair = [Vec<u8>; 2];
 
-/// Paths for each list.
+/// The number of paths for each list.
 const PATHS: usize = 4;
 
-/// A list, one in six flawed, with some paths.
+/// Tries a list, one in six flawed, with some paths.
 pub fn case(comparison: &mut Comparison, random: &mut Random) {
     let pairs = pairs(random);
     let lent = lay_out(random, &pairs);
@@ -42,7 +42,7 @@ fn flawed_call(comparison: &mut Comparison, random: &mut Random, pairs: &[Pair],
     comparison.map_all(&list, &[text, other]);
 }
 
-/// Fewer different ends than pairs, so that keys are often equal.
+/// Pairs with few different ends, so that keys are often equal.
 pub fn pairs(random: &mut Random) -> Vec<Pair> {
     let count = count(random);
     let size = random.within(2..=count + 3);
@@ -50,16 +50,16 @@ pub fn pairs(random: &mut Random) -> Vec<Pair> {
     (0..count).map(|_| [random.pick(&ends).clone(), random.pick(&ends).clone()]).collect()
 }
 
-/// Mostly few.
+/// A number of pairs, mostly small.
 pub fn count(random: &mut Random) -> usize {
     match random.below(10) {
         0..=6 => random.within(0..=5),
         7 | 8 => random.within(6..=20),
-        _ => random.within(MOST_PAIRS - 3..=MOST_PAIRS),
+        _ => random.within(MAX_PAIRS - 3..=MAX_PAIRS),
     }
 }
 
-/// A path for one of the pairs, in either direction, one in twenty damaged.
+/// A path for one of the pairs, in either direction, one in twenty with a wrong byte.
 pub fn path_for(random: &mut Random, pairs: &[Pair]) -> Vec<u8> {
     let any: Pair = [b"/A".to_vec(), b"/B".to_vec()];
     let [source, target] = if pairs.is_empty() { &any } else { random.pick(pairs) };
@@ -71,7 +71,7 @@ pub fn path_for(random: &mut Random, pairs: &[Pair]) -> Vec<u8> {
     if random.one_in(20) { damaged(random, &path) } else { path }
 }
 
-/// The ends one after the other, or scattered over the store.
+/// Stores the ends consecutively, or scattered over the store.
 pub fn lay_out(random: &mut Random, pairs: &[Pair]) -> LentList {
     let mark = random.one_in(2);
     if random.one_in(2) {
@@ -85,7 +85,7 @@ pub fn lay_out(random: &mut Random, pairs: &[Pair]) -> LentList {
     lent
 }
 
-/// The place of an end whose bytes stand in the store already, or come after a gap.
+/// The place of an end whose bytes are in the store already, or are appended after a gap.
 fn scattered(random: &mut Random, lent: &mut LentList, end: &[u8]) -> [usize; 2] {
     if end.is_empty() {
         return [random.within(0..=lent.store.len()), 0];

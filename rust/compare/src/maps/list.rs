@@ -1,4 +1,4 @@
-//! A list of pairs as it is lent, and what is known of it before any call: its refusal, or the original's map.
+//! A list of pairs as it is lent, and its map in the original or its refusal.
 
 use crate::calls::is_end;
 use crate::tally::Given;
@@ -11,10 +11,10 @@ use std::fmt::{self, Display};
 pub const NOT_AN_END: u8 = 3;
 pub const TOO_MANY_PAIRS: u8 = 4;
 
-/// The most pairs that a list may have.
-pub const MOST_PAIRS: usize = 64;
+/// The maximum number of pairs in a list.
+pub const MAX_PAIRS: usize = 64;
 
-/// The memory of a list: the bytes of its ends, and where each of them stands.
+/// The buffers of a list: the bytes of its ends, and their places.
 #[derive(Clone, Default)]
 pub struct LentList {
     pub store: Vec<u8>,
@@ -24,7 +24,7 @@ pub struct LentList {
 }
 
 impl LentList {
-    /// The ends one after the other.
+    /// Stores the ends consecutively.
     pub fn packed<T: AsRef<[u8]>>(pairs: &[[T; 2]], mark: bool) -> Self {
         let mut lent = LentList { count: pairs.len(), mark, ..LentList::default() };
         for end in pairs.iter().flatten() {
@@ -34,15 +34,15 @@ impl LentList {
         lent
     }
 
-    /// Puts a text at the end of the store and gives its place.
+    /// Appends a text to the store and returns its place.
     pub fn stored(&mut self, text: &[u8]) -> [usize; 2] {
         let start = self.store.len();
         self.store.extend(text);
         [start, text.len()]
     }
 
-    pub fn held(&self) -> usize {
-        held(self.for_library())
+    pub fn present(&self) -> usize {
+        present(self.for_library())
     }
 
     fn for_library(&self) -> ffi::maps::List<'_> {
@@ -51,18 +51,18 @@ impl LentList {
     }
 }
 
-/// How many of the pairs counted have their places in the slice.
-pub fn held(list: ffi::maps::List) -> usize {
+/// The number of counted pairs whose places are in the slice.
+pub fn present(list: ffi::maps::List) -> usize {
     list.count.min(list.places.len() / 4)
 }
 
-/// The places of the ends of the pairs held.
+/// The places of the ends of the present pairs.
 fn ends<'a>(list: ffi::maps::List<'a>) -> impl Iterator<Item = Place<'a>> {
-    let numbers = list.places[..4 * held(list)].chunks_exact(2);
+    let numbers = list.places[..4 * present(list)].chunks_exact(2);
     numbers.map(move |place| Place { store: list.store, start: place[0], length: place[1] })
 }
 
-/// Where an end stands.
+/// The place of an end.
 struct Place<'a> {
     store: &'a [u8],
     start: usize,
@@ -70,13 +70,13 @@ struct Place<'a> {
 }
 
 impl<'a> Place<'a> {
-    /// The bytes, or `None` where the place reaches outside the store.
+    /// The bytes; `None` if the place reaches outside the store.
     fn bytes(&self) -> Option<&'a [u8]> {
         let end = self.start.checked_add(self.length)?;
         self.store.get(self.start..end)
     }
 
-    /// Questions 1, 2 and 3 put to the end.
+    /// Validates the end (questions 1, 2 and 3).
     fn path(&self) -> Answer<Path> {
         let path = path_of(self.bytes().ok_or(TOO_LONG)?)?;
         if is_end(&path) { Ok(path) } else { Err(NOT_AN_END) }
@@ -111,12 +111,12 @@ impl List {
         self.lent.for_library()
     }
 
-    /// The original's map, or the first "no" of questions 1 to 4.
+    /// The map of the original, or the first failed check of questions 1 to 4.
     pub fn map(&self) -> Answer<&MapFunction> {
         self.map.as_ref().map_err(|number| *number)
     }
 
-    /// Whether `map` has the pairs and the mark that are lent.
+    /// Returns whether `map` has the pairs and the mark that are lent.
     pub fn is_exactly(&self, map: &MapFunction) -> bool {
         let paths = map.path_pairs().iter().flat_map(|(source, target)| [source, target]);
         paths.map(|path| Some(path.as_str().as_bytes())).eq(ends(self.for_library()).map(|end| end.bytes()))
@@ -124,14 +124,14 @@ impl List {
     }
 }
 
-/// The original's map of a list, or the first "no" of questions 1 to 4. Each question is put to every end before the
-/// next, so the smallest number is the answer.
+/// The map of a list in the original, or the first failed check of questions 1 to 4. Each question is checked for every end
+/// before the next question, so the smallest number decides.
 pub fn map_of(list: ffi::maps::List) -> Answer<MapFunction> {
     let ends: Vec<Answer<Path>> = ends(list).map(|end| end.path()).collect();
     if let Some(number) = ends.iter().filter_map(|end| end.as_ref().err()).min() {
         return Err(*number);
     }
-    if held(list) < list.count || list.count > MOST_PAIRS {
+    if present(list) < list.count || list.count > MAX_PAIRS {
         return Err(TOO_MANY_PAIRS);
     }
     let paths: Vec<Path> = ends.into_iter().flatten().collect();
@@ -153,10 +153,10 @@ impl Display for List {
     }
 }
 
-/// A pair counts as one byte more than its ends.
+/// The size of a list: the bytes of its ends, and one for each pair.
 pub fn size(list: ffi::maps::List) -> usize {
     let bytes: usize = ends(list).filter_map(|end| end.bytes()).map(<[u8]>::len).sum();
-    bytes + held(list)
+    bytes + present(list)
 }
 
 pub fn show_pairs(list: ffi::maps::List, f: &mut fmt::Formatter<'_>) -> fmt::Result {
@@ -164,7 +164,7 @@ pub fn show_pairs(list: ffi::maps::List, f: &mut fmt::Formatter<'_>) -> fmt::Res
     for pair in ends.chunks_exact(2) {
         write!(f, ", {} -> {}", pair[0], pair[1])?;
     }
-    if held(list) < list.count {
+    if present(list) < list.count {
         write!(f, ", {} counted", list.count)?;
     }
     Ok(())

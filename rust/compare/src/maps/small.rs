@@ -1,4 +1,4 @@
-//! Every list of few pairs over few ends, with and without the mark, and some short paths.
+//! Every list of a few pairs over a few ends, with and without the mark, and some short paths.
 
 use crate::comparison::Comparison;
 use crate::maps::list::List;

@@ -1,4 +1,4 @@
-//! Document 01's cases on maps: the answers expected are those that it names.
+//! The cases of the requirements for maps, with the answers stated there.
 
 use crate::comparison::Comparison;
 use crate::maps::calls::{BACK, MapCall, OUT, TRANSLATED, WithText};
@@ -15,14 +15,14 @@ struct Row {
 
 const ROWS: &[Row] = &[
     Row { pairs: &[["/A", "/X"], ["/A", "/Y"]], mark: false, path: "/A/c", call: OUT, answer: Ok("/Y/c") },
-    // What `new` leaves of `/A`→empty, `/A/B`→`/B`.
+    // What `new` keeps of `/A`→empty, `/A/B`→`/B`.
     Row { pairs: &[["/A", ""]], mark: false, path: "/A/B/C", call: OUT, answer: Err(NO_PATH) },
     Row { pairs: &[["/A", "/X"]], mark: true, path: "/X/y", call: OUT, answer: Ok("/X/y") },
     Row { pairs: &[["/A", "/X"]], mark: true, path: "/X/y", call: TRANSLATED, answer: Err(NO_PATH) },
     Row { pairs: &[["", "/"]], mark: true, path: "/A", call: OUT, answer: Ok("/A") },
     Row { pairs: &[["", "/"]], mark: true, path: "/A", call: BACK, answer: Ok("/A") },
     Row { pairs: &[["", "/"]], mark: true, path: "/A", call: TRANSLATED, answer: Err(NO_PATH) },
-    // One map after the other.
+    // Two maps applied in turn.
     Row {
         pairs: &[["/A", "/X"], ["/A/B", "/Y"]],
         mark: false,
@@ -49,7 +49,7 @@ pub fn run(comparison: &mut Comparison) {
         let expected = row.call.expected(&list, &text);
         let agrees = expected.as_ref().map(|path| path.as_str()) == row.answer.as_ref().map(|text| *text);
         let given = WithText { given: &list, text: &text };
-        comparison.tally.fact("document 01's case is answered as it says", &given, agrees);
+        comparison.tally.fact("a case of the requirements is answered as stated there", &given, agrees);
         comparison.map(&list, &text);
     }
 }

@@ -1,4 +1,4 @@
-//! The calls on relocate lists: the library's entry beside the original's function, and the answer that is expected.
+//! The calls for relocate lists: the entry of the library, the function of the original, and the expected answer.
 
 use crate::calls::{accept, within};
 use crate::comparison::Comparison;
@@ -6,17 +6,17 @@ use crate::lent::Lent;
 use crate::maps::calls::{WithText, both};
 use crate::maps::list::List;
 use crate::tally::{Call, Given};
-use crate::text::{Answer, TOO_LITTLE_MEMORY, Text};
+use crate::text::{Answer, BUFFER_TOO_SMALL, Text};
 use mudvizsor::ffi::relocates as entries;
 use original::pcp::relocates;
 use original::sdf::Path;
 use std::fmt::{self, Display};
-use texts::LONGEST;
+use texts::MAX_PATH_LEN;
 
-/// Bytes lent for a path.
-const ROOMS: [usize; 3] = [LONGEST - 1, LONGEST, 300];
+/// The sizes of the buffers lent for a path, in bytes.
+const CAPACITIES: [usize; 3] = [MAX_PATH_LEN - 1, MAX_PATH_LEN, 300];
 
-/// Where a chain ends, and how many replacements were made.
+/// The resulting path of a chain, and the number of replacements.
 pub type Chained = (Path, usize);
 
 pub fn statuses(list: &List) -> Answer<Vec<u8>> {
@@ -29,7 +29,7 @@ pub fn chain(list: &List, skipped: Option<&Text>, text: &Text) -> Answer<Chained
     chained(map.path_pairs(), skipped, path)
 }
 
-/// Document 01's chain, replacement by replacement, with questions 7 and 8 put to each.
+/// The chain as the requirements define it, with questions 7 and 8 checked after each replacement.
 fn chained(pairs: &[(Path, Path)], skipped: Option<&Path>, path: &Path) -> Answer<Chained> {
     let mut current = path.clone();
     let mut steps = 0;
@@ -60,7 +60,7 @@ fn next(pairs: &[(Path, Path)], skipped: Option<&Path>, path: &Path) -> Option<P
     best
 }
 
-/// What chaining is given.
+/// The input of chaining.
 pub struct Chaining<'a> {
     pub list: &'a List,
     pub skipped: Option<&'a Text>,
@@ -85,17 +85,17 @@ impl Display for Chaining<'_> {
 }
 
 impl Comparison {
-    /// With one byte too few, with just enough, and with more.
+    /// Compares the statuses with a buffer of one byte too few, of just enough, and of more.
     pub fn statuses(&mut self, list: &List) {
         let full = statuses(list);
         let full = full.as_ref().map(Vec::as_slice).map_err(|number| *number);
         let needed = full.map_or(1, <[u8]>::len);
-        for room in [needed.saturating_sub(1), needed, needed + 3] {
-            let expected = within(room, needed, full);
-            let mut bytes = Lent::bytes(room);
-            let found = entries::analyze_relocate_occurrences(list.for_library(), bytes.lend(room));
+        for capacity in [needed.saturating_sub(1), needed, needed + 3] {
+            let expected = within(capacity, needed, full);
+            let mut bytes = Lent::bytes(capacity);
+            let found = entries::analyze_relocate_occurrences(list.for_library(), bytes.lend(capacity));
             let wrong = bytes.first_wrong(expected.unwrap_or_default());
-            let call = Call { name: "analyze_relocate_occurrences", given: list, room: Some(room) };
+            let call = Call { name: "analyze_relocate_occurrences", given: list, capacity: Some(capacity) };
             self.tally.compare(call, expected.map(<[u8]>::len), found, wrong);
         }
     }
@@ -104,7 +104,7 @@ impl Comparison {
         let given = &WithText { given: list, text };
         let expected = both(list.map(), text.answer())
             .and_then(|(map, path)| accept(Some(relocates::shifted(path, map.path_pairs()))));
-        self.path("shift_through_nearest_ancestor", given, &ROOMS, &expected, |out| {
+        self.path("shift_through_nearest_ancestor", given, &CAPACITIES, &expected, |out| {
             entries::shift_through_nearest_ancestor(list.for_library(), &text.bytes, out)
         });
     }
@@ -116,29 +116,29 @@ impl Comparison {
             let agrees = *end == original_end(list, skipped, text);
             self.tally.fact("the chain ends where the original's does", given, agrees);
         }
-        // What is not skipped is not looked at.
+        // Without a skipped source the text must be ignored, so an illegal one is passed.
         let lent = skipped.map_or(&b"no path"[..], |text| &text.bytes);
-        for room in ROOMS {
+        for capacity in CAPACITIES {
             let expected = match &full {
-                Err(number) if *number < TOO_LITTLE_MEMORY => Err(*number),
-                _ if room < LONGEST => Err(TOO_LITTLE_MEMORY),
+                Err(number) if *number < BUFFER_TOO_SMALL => Err(*number),
+                _ if capacity < MAX_PATH_LEN => Err(BUFFER_TOO_SMALL),
                 full => full.as_ref().map_err(|number| *number),
             };
-            let mut bytes = Lent::bytes(room);
-            let (library, out) = (list.for_library(), bytes.lend(room));
+            let mut bytes = Lent::bytes(capacity);
+            let (library, out) = (list.for_library(), bytes.lend(capacity));
             let found = entries::chain_through_relocates(library, skipped.is_some(), lent, &text.bytes, out);
             let end = expected.map_or(&[][..], |(end, _)| end.as_str().as_bytes());
             let wrong = bytes.first_wrong(end);
-            let call = Call { name: "chain_through_relocates", given, room: Some(room) };
+            let call = Call { name: "chain_through_relocates", given, capacity: Some(capacity) };
             let value = expected.map(|(end, steps)| 256 * steps + end.as_str().len());
             self.tally.compare(call, value, found, wrong);
         }
     }
 }
 
-/// The original's chain, of texts that passed the questions.
+/// The result of the chain of the original, for valid texts.
 fn original_end(list: &List, skipped: Option<&Text>, text: &Text) -> Path {
-    let pairs = list.map().expect("a list that passed the questions").path_pairs();
-    let path = text.path().expect("a path that passed the questions");
+    let pairs = list.map().expect("a valid list").path_pairs();
+    let path = text.path().expect("a valid path");
     relocates::chained(path, pairs, skipped.and_then(Text::path))
 }

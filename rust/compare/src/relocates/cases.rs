@@ -1,4 +1,4 @@
-//! Random relocate lists of related ends, some flawed, and paths under them.
+//! Random relocate lists of related ends, some flawed, and paths below these ends.
 
 use crate::comparison::Comparison;
 use crate::maps::cases::{Pair, lay_out, pairs, path_for};
@@ -7,10 +7,10 @@ use crate::maps::list::List;
 use crate::text::Text;
 use texts::random::Random;
 
-/// Paths for each list.
+/// The number of paths for each list.
 const PATHS: usize = 3;
 
-/// A list, one in six flawed, with some paths and skipped sources.
+/// Tries a list, one in six flawed, with some paths and skipped sources.
 pub fn case(comparison: &mut Comparison, random: &mut Random) {
     let pairs = pairs(random);
     let mut lent = lay_out(random, &pairs);
@@ -34,7 +34,7 @@ fn every_path_call(comparison: &mut Comparison, list: &List, text: &Text, skippe
     comparison.chain(list, Some(skipped), text);
 }
 
-/// Mostly one of the sources.
+/// A skipped source, mostly one of the list.
 fn skipped(random: &mut Random, pairs: &[Pair]) -> Text {
     if pairs.is_empty() || random.one_in(4) {
         return Text::new(&path_for(random, pairs));

@@ -1,11 +1,11 @@
-//! Every list of few pairs over few ends, and some short paths.
+//! Every relocate list of a few pairs over a few ends, and some short paths.
 
 use crate::comparison::Comparison;
 use crate::maps::list::List;
 use crate::maps::small::{ENDS, FEW_ENDS, pairs};
 use crate::text::Text;
 
-/// Of every kind of status: an end with two names may be a source.
+/// Ends whose lists have every status: a source with two names can be Active.
 const STATUS_ENDS: [&str; 7] = ["", "/", "/A", "/A/A", "/A/B", "/B/A", "/A/B/C"];
 
 const PATHS: [&str; 10] = ["", "/", "/A", "/B/A", "/A/B", "/A/B/C", "/A.a", "/A/B.a", "/A{v=p}B", "/AB{v=p}"];
@@ -38,7 +38,7 @@ fn for_three(pairs: &[[&str; 2]], mut visit: impl FnMut(&[[&str; 2]])) {
     }
 }
 
-/// The statuses, and each path shifted and chained, without and with a skipped source.
+/// Compares the statuses, and each path shifted and chained, without and with a skipped source.
 fn every_call(comparison: &mut Comparison, pairs: &[[&str; 2]]) {
     let list = List::packed(pairs, false);
     comparison.statuses(&list);

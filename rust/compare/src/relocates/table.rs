@@ -1,4 +1,4 @@
-//! Document 01's cases on relocates: the answers expected are those that it names.
+//! The cases of the requirements for relocates, with the answers stated there.
 
 use crate::comparison::Comparison;
 use crate::maps::list::{List, TOO_MANY_PAIRS};
@@ -21,7 +21,7 @@ pub fn run(comparison: &mut Comparison) {
     for (pairs, answer) in STATUSES {
         let list = List::packed(pairs, false);
         let agrees = statuses(&list) == answer.map(<[u8]>::to_vec);
-        comparison.tally.fact("document 01's statuses are as it says", &list, agrees);
+        comparison.tally.fact("the statuses are as stated in the requirements", &list, agrees);
         comparison.statuses(&list);
     }
     let list = &List::packed(CROSSED, false);
@@ -29,6 +29,6 @@ pub fn run(comparison: &mut Comparison) {
     let end = chain(list, None, text).map(|(end, steps)| (end.as_str().to_owned(), steps));
     let given = &Chaining { list, skipped: None, text };
     let agrees = end == Ok((String::from("/R/a/b/d"), 2));
-    comparison.tally.fact("document 01's chain ends where it says", given, agrees);
+    comparison.tally.fact("the chain ends as stated in the requirements", given, agrees);
     comparison.chain(list, None, text);
 }

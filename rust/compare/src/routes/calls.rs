@@ -1,5 +1,4 @@
-//! The calls on routes: the library's entry beside the original's functions leg after leg, and the answer that is
-//! expected.
+//! The calls for routes: the entry of the library, the functions of the original leg by leg, and the expected answer.
 
 use crate::calls::accept;
 use crate::comparison::Comparison;
@@ -13,9 +12,9 @@ use mudvizsor::ffi::maps::Paths;
 use mudvizsor::ffi::routes::{self, route_all, route_home, route_out};
 use original::pcp::MapFunction;
 use original::sdf::Path;
-use texts::LONGEST;
+use texts::MAX_PATH_LEN;
 
-/// A call that takes a path over a route.
+/// A call that maps a path over a route.
 pub struct RouteCall {
     name: &'static str,
     home: bool,
@@ -28,18 +27,18 @@ pub const HOME: RouteCall = RouteCall { name: "route_home", home: true, entry: r
 
 pub const CALLS: [RouteCall; 2] = [OUT, HOME];
 
-/// Bytes lent for the path.
-pub const ROOMS: [usize; 3] = [LONGEST - 1, LONGEST, 300];
+/// The sizes of the buffers lent for the path, in bytes.
+pub const CAPACITIES: [usize; 3] = [MAX_PATH_LEN - 1, MAX_PATH_LEN, 300];
 
 impl RouteCall {
     pub fn expected(&self, route: &Route, text: &Text) -> Answer<Path> {
         let (maps, path) = both(route.maps(), text.answer())?;
-        self.along(maps, path)
+        self.map_over(maps, path)
     }
 
     /// "Leg after leg, the first given the starting path, each later one what the leg before gave; a leg that
     /// answers 6, 7 or 8 ends the way." Home goes "in reverse".
-    fn along(&self, maps: &[MapFunction], path: &Path) -> Answer<Path> {
+    fn map_over(&self, maps: &[MapFunction], path: &Path) -> Answer<Path> {
         if self.home {
             maps.iter().rev().try_fold(path.clone(), |path, map| accept(map.map_target_to_source(&path)))
         } else {
@@ -48,8 +47,8 @@ impl RouteCall {
     }
 }
 
-/// The paths met on the way out: the one that reaches each leg, and what the last leg gives.
-pub fn met(maps: &[MapFunction], path: &Path) -> Vec<Path> {
+/// The trace of a path on the way out: the path at each leg that it reaches, and the result of the last leg.
+pub fn trace(maps: &[MapFunction], path: &Path) -> Vec<Path> {
     let mut paths = vec![path.clone()];
     for map in maps {
         match accept(map.translate_to_target(&paths[paths.len() - 1])) {
@@ -60,38 +59,38 @@ pub fn met(maps: &[MapFunction], path: &Path) -> Vec<Path> {
     paths
 }
 
-/// Whether each leg reached, unless its map has an empty source, gives a path exactly when plain mapping takes what reached
-/// it to a path that passes questions 7 and 8 and goes plainly back, and gives that path.
+/// Returns whether each leg that is reached, unless its map has an empty source, has a result exactly if plain mapping yields
+/// a path that passes questions 7 and 8 and maps back to the start, and the result is that path.
 fn is_exact(maps: &[MapFunction], path: &Path) -> bool {
-    maps.iter().zip(met(maps, path)).all(|(map, reached)| {
-        let there = accept(map.map_source_to_target(&reached)).ok();
-        let there_and_back = there.filter(|made| map.map_target_to_source(made).as_ref() == Some(&reached));
+    maps.iter().zip(trace(maps, path)).all(|(map, reached)| {
+        let result = accept(map.map_source_to_target(&reached)).ok();
+        let expected = result.filter(|made| map.map_target_to_source(made).as_ref() == Some(&reached));
         let has_empty_source = map.path_pairs().iter().any(|(source, _)| source.is_empty());
-        has_empty_source || accept(map.translate_to_target(&reached)).ok() == there_and_back
+        has_empty_source || accept(map.translate_to_target(&reached)).ok() == expected
     })
 }
 
 impl Comparison {
-    /// A path out and home, and, where it comes out, home again, with each size of lent memory.
-    pub fn route(&mut self, route: &Route, text: &Text, rooms: &[usize]) {
+    /// Compares a path out and home and, if it comes out, home from there, with a buffer of each capacity.
+    pub fn route(&mut self, route: &Route, text: &Text, capacities: &[usize]) {
         for call in &CALLS {
-            self.one_way(call, route, text, rooms);
+            self.one_direction(call, route, text, capacities);
         }
         if let Ok(out) = OUT.expected(route, text) {
-            self.one_way(&HOME, route, &Text::new(out.as_str().as_bytes()), rooms);
+            self.one_direction(&HOME, route, &Text::new(out.as_str().as_bytes()), capacities);
         }
-        self.demand_3(route, text);
+        self.round_trip(route, text);
     }
 
-    fn one_way(&mut self, call: &RouteCall, route: &Route, text: &Text, rooms: &[usize]) {
+    fn one_direction(&mut self, call: &RouteCall, route: &Route, text: &Text, capacities: &[usize]) {
         let expected = call.expected(route, text);
         let entry = |out: &mut [u8]| (call.entry)(route.for_library(), &text.bytes, out);
-        self.path(call.name, &WithText { given: route, text }, rooms, &expected, entry);
+        self.path(call.name, &WithText { given: route, text }, capacities, &expected, entry);
     }
 
-    /// A path free of selections that comes out comes home: of the original, and of the library, which goes home from
-    /// the bytes that it wrote.
-    fn demand_3(&mut self, route: &Route, text: &Text) {
+    /// Checks the round-trip requirement (demand 3): a path without selections that comes out comes home. It is checked for the
+    /// original and for the library, which maps home the bytes that it wrote itself.
+    fn round_trip(&mut self, route: &Route, text: &Text) {
         let (Ok(maps), Ok(path)) = (route.maps(), text.answer()) else {
             return;
         };
@@ -99,17 +98,21 @@ impl Comparison {
             return;
         }
         let given = &WithText { given: route, text };
-        self.tally.fact("demand 3: a leg gives a path exactly when it should", given, is_exact(maps, path));
-        if let Ok(out) = OUT.along(maps, path) {
-            let returns = HOME.along(maps, &out).as_ref() == Ok(path);
-            self.tally.fact("demand 3: a path that comes out comes home", given, returns);
-            let found = library_back(route, &text.bytes);
-            let call = Call { name: "route_out, then route_home", given, room: None };
+        self.tally.fact(
+            "round trip: a leg maps a path exactly when it maps back",
+            given,
+            is_exact(maps, path),
+        );
+        if let Ok(out) = OUT.map_over(maps, path) {
+            let returns = HOME.map_over(maps, &out).as_ref() == Ok(path);
+            self.tally.fact("round trip: a path that comes out comes home", given, returns);
+            let found = library_round_trip(route, &text.bytes);
+            let call = Call { name: "route_out, then route_home", given, capacity: None };
             self.tally.values(call, found.as_deref() == Ok(&text.bytes[..]), &text.bytes, &found);
         }
     }
 
-    /// Both ways for all paths in one call.
+    /// Compares both directions for all paths at once.
     pub fn route_all(&mut self, route: &Route, texts: &[Text]) {
         for call in &CALLS {
             let expected = texts.iter().map(|text| call.expected(route, text)).collect();
@@ -121,9 +124,9 @@ impl Comparison {
     }
 }
 
-/// Where the library comes to on its way home from where it came out.
-fn library_back(route: &Route, path: &[u8]) -> Result<Vec<u8>, Reply> {
-    let (mut out, mut home) = ([0; LONGEST], [0; LONGEST]);
+/// Maps a path out and home with the library.
+fn library_round_trip(route: &Route, path: &[u8]) -> Result<Vec<u8>, Reply> {
+    let (mut out, mut home) = ([0; MAX_PATH_LEN], [0; MAX_PATH_LEN]);
     let written = |reply: Reply| if reply.number() == 0 { Ok(reply.value()) } else { Err(reply) };
     let length = written(route_out(route.for_library(), path, &mut out))?;
     let length = written(route_home(route.for_library(), &out[..length], &mut home))?;

@@ -1,30 +1,30 @@
-//! Random routes whose legs go on where the leg before came to, so that many paths get over several of them.
+//! Random routes whose legs map the result of the leg before, so that many paths are mapped by several legs.
 
 use crate::comparison::Comparison;
 use crate::maps::cases::{Pair, count, lay_out, path_for};
-use crate::routes::calls::{OUT, ROOMS};
+use crate::routes::calls::{CAPACITIES, OUT};
 use crate::routes::flaws::FLAWS;
-use crate::routes::lent_route::{LentRoute, MOST_LEGS, Route};
+use crate::routes::lent_route::{LentRoute, MAX_LEGS, Route};
 use crate::text::Text;
 use original::sdf::Path;
-use texts::LONGEST;
+use texts::MAX_PATH_LEN;
 use texts::ends::family;
-use texts::generate::{beginnings, continued};
+use texts::generate::{continued, prefixes};
 use texts::random::Random;
 
-/// Paths for each route beside the one that its legs are made for.
+/// The number of paths for each route besides the one for which its legs are generated.
 const OTHER_PATHS: usize = 2;
 
-/// So many lists are tried for a leg until one lets the path by.
+/// The number of lists that are tried for a leg until one maps the path.
 const TRIES: usize = 8;
 
-/// A leg before it is laid out.
+/// A leg before it is stored.
 struct Leg {
     kind: usize,
     pairs: Vec<Pair>,
 }
 
-/// A route, one in six flawed, with some paths.
+/// Tries a route, one in six flawed, with some paths.
 pub fn case(comparison: &mut Comparison, random: &mut Random) {
     let size = random.within(3..=12);
     let ends = family(random, size);
@@ -44,12 +44,12 @@ pub fn case(comparison: &mut Comparison, random: &mut Random) {
     let route = Route::new(lent);
     for text in &texts {
         comparison.reach.count(&route, text);
-        comparison.route(&route, text, &ROOMS);
+        comparison.route(&route, text, &CAPACITIES);
     }
     comparison.route_all(&route, &texts);
 }
 
-/// Legs most of which let by what the leg before made of the path.
+/// Legs of which most map the result of the leg before.
 fn legs(random: &mut Random, ends: &[Vec<u8>], path: &[u8]) -> Vec<Leg> {
     let mut legs = Vec::new();
     let mut reached = Text::new(path);
@@ -63,17 +63,17 @@ fn legs(random: &mut Random, ends: &[Vec<u8>], path: &[u8]) -> Vec<Leg> {
     legs
 }
 
-/// Mostly few.
+/// A number of legs, mostly small.
 fn leg_count(random: &mut Random) -> usize {
     match random.below(10) {
         0 => random.within(0..=1),
         1..=6 => random.within(2..=5),
-        7 | 8 => random.within(6..=MOST_LEGS - 1),
-        _ => MOST_LEGS,
+        7 | 8 => random.within(6..=MAX_LEGS - 1),
+        _ => MAX_LEGS,
     }
 }
 
-/// A leg and what it makes of the path that reached it: the first that lets it by, or, one in twelve, any.
+/// A leg and its result for the path that reached it: the first leg tried that has one or, one time in twelve, any leg.
 fn leg_for(random: &mut Random, ends: &[Vec<u8>], before: &[Leg], reached: &Text) -> (Leg, Option<Path>) {
     let mut tries = if random.one_in(12) { 1 } else { TRIES };
     loop {
@@ -86,7 +86,7 @@ fn leg_for(random: &mut Random, ends: &[Vec<u8>], before: &[Leg], reached: &Text
     }
 }
 
-/// A list of its own, or one that an earlier leg has, or a part of that.
+/// A leg with a new list, or with the list of an earlier leg, or a part of that.
 fn any_leg(random: &mut Random, ends: &[Vec<u8>], before: &[Leg], reached: &Text) -> Leg {
     let kind = if random.one_in(3) { *random.pick(&[2, 2, 3, 256, usize::MAX]) } else { random.below(2) };
     if before.is_empty() || !random.one_in(6) {
@@ -98,7 +98,7 @@ fn any_leg(random: &mut Random, ends: &[Vec<u8>], before: &[Leg], reached: &Text
     Leg { kind, pairs: earlier[start..end].to_vec() }
 }
 
-/// Pairs over the ends, among them mostly one whose source is a beginning of the path that reached the leg.
+/// Pairs of the given ends; mostly one of them has a source that is a prefix of the path that reached the leg.
 fn list_for(random: &mut Random, ends: &[Vec<u8>], reached: &Text) -> Vec<Pair> {
     let mut pairs: Vec<Pair> =
         (0..count(random)).map(|_| [random.pick(ends).clone(), random.pick(ends).clone()]).collect();
@@ -116,16 +116,16 @@ fn list_for(random: &mut Random, ends: &[Vec<u8>], reached: &Text) -> Vec<Pair> 
     pairs
 }
 
-/// A beginning of the path, without its selections, that is an end.
+/// A prefix of the path without its selections that is an end.
 fn end_above(random: &mut Random, path: &[u8]) -> Vec<u8> {
     let Some(path) = Text::new(path).path().map(Path::strip_variant_selections) else {
         return Vec::new();
     };
     let prim = path.prim_path();
-    random.pick(&beginnings(prim.as_str().as_bytes())).to_vec()
+    random.pick(&prefixes(prim.as_str().as_bytes())).to_vec()
 }
 
-/// A path that begins as the one that the legs are made for, or one for the first or the last leg.
+/// A path that starts like the one for which the legs are generated, or one for the first or the last leg.
 fn other_path(random: &mut Random, legs: &[Leg], path: &[u8]) -> Vec<u8> {
     let [Some(first), Some(last)] = [legs.first(), legs.last()] else {
         return path.to_vec();
@@ -135,14 +135,14 @@ fn other_path(random: &mut Random, legs: &[Leg], path: &[u8]) -> Vec<u8> {
         1 => path_for(random, &last.pairs),
         _ => {
             let end = end_above(random, path);
-            let length = (end.len() + random.below(30)).min(LONGEST);
+            let length = (end.len() + random.below(30)).min(MAX_PATH_LEN);
             continued(random, &end, length)
         }
     }
 }
 
-/// The lists in the order of their legs or in reverse, equal ones often only once, some behind a pair that no leg
-/// has, in one store.
+/// Stores the lists in the order of their legs or in reverse, equal ones often only once, some after a pair that no leg
+/// uses.
 fn lay_out_legs(random: &mut Random, legs: &[Leg]) -> LentRoute {
     let mut pairs: Vec<Pair> = Vec::new();
     let mut numbers = vec![[0; 3]; legs.len()];
@@ -159,13 +159,13 @@ fn lay_out_legs(random: &mut Random, legs: &[Leg]) -> LentRoute {
     LentRoute { list: lay_out(random, &pairs), legs: numbers.concat(), count: legs.len() }
 }
 
-/// Where a list stands among the pairs.
+/// The index of a list in the pairs.
 fn find(pairs: &[Pair], list: &[Pair]) -> Option<usize> {
     if list.is_empty() { None } else { pairs.windows(list.len()).position(|part| part == list) }
 }
 
-/// Puts a list behind the pairs, sometimes after one that is not looked at, and gives its place. A list without pairs
-/// may begin anywhere.
+/// Appends a list to the pairs, sometimes after a pair that is not used, and returns its index. An empty list may start
+/// anywhere.
 fn append(random: &mut Random, pairs: &mut Vec<Pair>, list: &[Pair]) -> usize {
     if list.is_empty() {
         return random.within(0..=pairs.len() + 2);

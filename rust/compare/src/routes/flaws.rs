@@ -1,15 +1,15 @@
-//! What can be wrong with a call on a route before it is asked for a path, alone and together: of several flaws the
-//! one that is asked for first is answered.
+//! The flaws of the input that a call for a route checks first, alone and together: of several flaws the one that is checked
+//! first decides.
 
 use crate::comparison::Comparison;
 use crate::maps::flaws;
-use crate::maps::list::MOST_PAIRS;
-use crate::routes::calls::ROOMS;
-use crate::routes::lent_route::{LentRoute, MOST_LEGS, Route};
+use crate::maps::list::MAX_PAIRS;
+use crate::routes::calls::CAPACITIES;
+use crate::routes::lent_route::{LentRoute, MAX_LEGS, Route};
 use crate::text::Text;
 use texts::random::Random;
 
-/// A flaw, put into the route and the path of a call.
+/// Puts a flaw into the route or the path of a call.
 type Flaw = fn(&mut Random, &mut LentRoute, &mut Vec<u8>);
 
 pub const FLAWS: [Flaw; 12] = [
@@ -24,13 +24,13 @@ pub const FLAWS: [Flaw; 12] = [
     too_many_legs,
     count_beyond_the_legs,
     any_kind,
-    rubbish_behind,
+    garbage_after,
 ];
 
-/// So many calls for each set of flaws.
+/// The number of calls for each set of flaws.
 const ROUNDS: usize = 15;
 
-/// Three or four times such a number is more than a number holds, and would come round to a small one.
+/// Numbers that overflow when multiplied by three or four, and would then wrap to a small number.
 const FAR: [usize; 4] = [usize::MAX / 4 + 1, usize::MAX / 3 + 1, usize::MAX / 2 + 1, usize::MAX];
 
 pub fn every_set(comparison: &mut Comparison, random: &mut Random) {
@@ -41,11 +41,11 @@ pub fn every_set(comparison: &mut Comparison, random: &mut Random) {
     }
 }
 
-/// A call whose flaws are those at the bits of `set`.
+/// Tries a call with the flaws given by the bits of `set`.
 fn with_flaws(comparison: &mut Comparison, random: &mut Random, set: usize) {
     let size = *random.pick(&[1, 2, 5]);
     let (there, back) = (vec![["/A/B", "/A/C"]; size], vec![["/A/C", "/A/B"]; size]);
-    let count = *random.pick(&[1, 2, 3, MOST_LEGS]);
+    let count = *random.pick(&[1, 2, 3, MAX_LEGS]);
     let legs: Vec<(usize, &[_])> =
         [&there, &back].into_iter().cycle().take(count).map(|list| (random.below(3), &list[..])).collect();
     let mut route = LentRoute::packed(&legs);
@@ -56,29 +56,29 @@ fn with_flaws(comparison: &mut Comparison, random: &mut Random, set: usize) {
         }
     }
     let (route, text) = (Route::new(route), Text::new(&path));
-    comparison.route(&route, &text, &ROOMS);
+    comparison.route(&route, &text, &CAPACITIES);
     comparison.route_all(&route, &[text, Text::new(b"/A/B/C")]);
 }
 
-/// Where one of the legs held has its numbers.
+/// The index of the numbers of one of the present legs.
 fn a_leg(random: &mut Random, route: &LentRoute) -> Option<usize> {
-    (route.held() > 0).then(|| 3 * random.below(route.held()))
+    (route.present() > 0).then(|| 3 * random.below(route.present()))
 }
 
-/// One leg's list goes on beyond its limit; there are pairs enough.
+/// The list of one leg has more pairs than allowed, and all of them exist.
 fn too_many_pairs(random: &mut Random, route: &mut LentRoute, _: &mut Vec<u8>) {
     let (Some(leg), false) = (a_leg(random, route), route.list.places.is_empty()) else {
         return;
     };
-    let pairs = random.within(MOST_PAIRS + 1..=MOST_PAIRS + 3);
-    let numbers = 4 * (route.legs[leg + 1] % MOST_PAIRS + pairs);
+    let pairs = random.within(MAX_PAIRS + 1..=MAX_PAIRS + 3);
+    let numbers = 4 * (route.legs[leg + 1] % MAX_PAIRS + pairs);
     let places = route.list.places.iter().copied().cycle();
     route.list.places = places.take(numbers.max(route.list.places.len())).collect();
-    route.legs[leg + 1] %= MOST_PAIRS;
+    route.legs[leg + 1] %= MAX_PAIRS;
     route.legs[leg + 2] = pairs;
 }
 
-/// One leg's list begins or ends behind the places, just or far. Without pairs this is no flaw.
+/// The list of one leg starts or ends after the places, just or far. For an empty list this is not a flaw.
 fn list_beyond_the_places(random: &mut Random, route: &mut LentRoute, _: &mut Vec<u8>) {
     let Some(leg) = a_leg(random, route) else {
         return;
@@ -96,35 +96,35 @@ fn list_beyond_the_places(random: &mut Random, route: &mut LentRoute, _: &mut Ve
     }
 }
 
-/// The legs repeated beyond their limit.
+/// Repeats the legs beyond the maximum number of legs.
 fn too_many_legs(random: &mut Random, route: &mut LentRoute, _: &mut Vec<u8>) {
-    let legs = random.within(MOST_LEGS + 1..=MOST_LEGS + 3);
+    let legs = random.within(MAX_LEGS + 1..=MAX_LEGS + 3);
     route.legs = route.legs.iter().copied().cycle().take(3 * legs).collect();
     route.count = route.legs.len() / 3;
 }
 
-/// More legs counted than the slice has numbers for; three times the greatest counts overflow.
+/// The count exceeds the numbers of the legs; three times the largest counts overflows.
 fn count_beyond_the_legs(random: &mut Random, route: &mut LentRoute, _: &mut Vec<u8>) {
-    let held = route.held();
+    let present = route.present();
     match random.below(3) {
-        0 => route.legs.truncate((3 * held).saturating_sub(random.within(1..=3))),
-        1 => route.count = held + random.within(1..=3),
-        _ => route.count = random.pick(&FAR).saturating_add(held),
+        0 => route.legs.truncate((3 * present).saturating_sub(random.within(1..=3))),
+        1 => route.count = present + random.within(1..=3),
+        _ => route.count = random.pick(&FAR).saturating_add(present),
     }
 }
 
-/// No flaw: one leg is of another kind.
+/// Not a flaw: one leg gets another kind.
 fn any_kind(random: &mut Random, route: &mut LentRoute, _: &mut Vec<u8>) {
     if let Some(leg) = a_leg(random, route) {
         route.legs[leg] = *random.pick(&[0, 1, 2, 3, 255, 256, usize::MAX]);
     }
 }
 
-/// No flaw: numbers behind those of the legs counted, and places behind those of the pairs, are not looked at. It
-/// comes last, so that a count beyond its slice is sometimes made good by rubbish.
-fn rubbish_behind(random: &mut Random, route: &mut LentRoute, path: &mut Vec<u8>) {
-    flaws::rubbish_behind_the_list(random, &mut route.list, path);
+/// Not a flaw: numbers after those of the counted legs, and places after those of the pairs, are ignored. It is applied last,
+/// so that a count that exceeds its slice is sometimes made valid by garbage.
+fn garbage_after(random: &mut Random, route: &mut LentRoute, path: &mut Vec<u8>) {
+    flaws::garbage_after_the_list(random, &mut route.list, path);
     for _ in 0..random.within(1..=7) {
-        route.legs.push(random.within(0..=2 * MOST_PAIRS));
+        route.legs.push(random.within(0..=2 * MAX_PAIRS));
     }
 }

@@ -1,4 +1,4 @@
-//! A route as it is lent, and what is known of it before any call: its refusal, or the original's maps of its legs.
+//! A route as it is lent, and the maps of its legs in the original or its refusal.
 
 use crate::maps::list::{LentList, TOO_MANY_PAIRS, map_of, show_pairs, size};
 use crate::tally::Given;
@@ -8,10 +8,10 @@ use original::pcp::{MapFunction, relocates};
 use original::sdf::Path;
 use std::fmt::{self, Display};
 
-/// The most legs that a route may have. More count as too many pairs do.
-pub const MOST_LEGS: usize = 16;
+/// The maximum number of legs of a route. More are refused like too many pairs.
+pub const MAX_LEGS: usize = 16;
 
-/// The memory of a route: one list with the pairs of all legs, and three numbers for each leg.
+/// The buffers of a route: one list with the pairs of all legs, and three numbers for each leg.
 #[derive(Clone, Default)]
 pub struct LentRoute {
     pub list: LentList,
@@ -20,7 +20,7 @@ pub struct LentRoute {
 }
 
 impl LentRoute {
-    /// The lists of these legs, each with its kind, one after the other.
+    /// Stores the lists of these legs, each given with its kind, consecutively.
     pub fn packed<T: AsRef<[u8]>>(legs: &[(usize, &[[T; 2]])]) -> Self {
         let mut route = LentRoute { count: legs.len(), ..LentRoute::default() };
         for (kind, pairs) in legs {
@@ -34,17 +34,17 @@ impl LentRoute {
         route
     }
 
-    /// How many of the legs counted have their numbers in the slice.
-    pub fn held(&self) -> usize {
+    /// The number of counted legs whose numbers are in the slice.
+    pub fn present(&self) -> usize {
         self.count.min(self.legs.len() / 3)
     }
 
-    /// The legs held.
+    /// The present legs.
     fn legs(&self) -> impl Iterator<Item = LentLeg<'_>> {
-        self.legs[..3 * self.held()].chunks_exact(3).map(|leg| self.leg(leg[0], leg[1], leg[2]))
+        self.legs[..3 * self.present()].chunks_exact(3).map(|leg| self.leg(leg[0], leg[1], leg[2]))
     }
 
-    /// A list that begins behind all places has none.
+    /// A leg from its numbers. A list that starts after the last place has no places.
     fn leg(&self, kind: usize, first: usize, count: usize) -> LentLeg<'_> {
         let LentList { store, places, .. } = &self.list;
         let places = first.checked_mul(4).and_then(|first| places.get(first..)).unwrap_or_default();
@@ -63,7 +63,7 @@ impl LentLeg<'_> {
         self.kind <= 1
     }
 
-    /// "A leg's map is that map, or what that `new` gives", or the first "no" of questions 1 to 4.
+    /// "A leg's map is that map, or what that `new` gives", or the first failed check of questions 1 to 4.
     fn map(&self) -> Answer<MapFunction> {
         let map = map_of(self.list)?;
         Ok(if self.is_map() { map } else { relocate_map(map.path_pairs()) })
@@ -98,26 +98,26 @@ impl Route {
         ffi::routes::Route { store: &list.store, places: &list.places, legs, count: *count }
     }
 
-    /// The original's maps of the legs, or the first "no" of questions 1 to 4.
+    /// The maps of the legs in the original, or the first failed check of questions 1 to 4.
     pub fn maps(&self) -> Answer<&[MapFunction]> {
         self.maps.as_deref().map_err(|number| *number)
     }
 }
 
-/// Each question is put to every leg before the next, so the smallest number is the answer.
+/// The maps of all legs. Each question is checked for every leg before the next question, so the smallest number decides.
 fn maps_of(lent: &LentRoute) -> Answer<Vec<MapFunction>> {
     let maps: Vec<Answer<MapFunction>> = lent.legs().map(|leg| leg.map()).collect();
     if let Some(number) = maps.iter().filter_map(|map| map.as_ref().err()).min() {
         return Err(*number);
     }
-    if lent.held() < lent.count || lent.count > MOST_LEGS {
+    if lent.present() < lent.count || lent.count > MAX_LEGS {
         return Err(TOO_MANY_PAIRS);
     }
     maps.into_iter().collect()
 }
 
 impl Given for Route {
-    /// A leg counts as one byte more than its list.
+    /// The sizes of the lists, and one for each leg.
     fn size(&self) -> usize {
         self.lent.legs().map(|leg| size(leg.list) + 1).sum()
     }
@@ -134,7 +134,7 @@ impl Display for Route {
             show_pairs(leg.list, f)?;
             f.write_str(";")?;
         }
-        if self.lent.held() < self.lent.count {
+        if self.lent.present() < self.lent.count {
             write!(f, " {} legs counted;", self.lent.count)?;
         }
         Ok(())

@@ -1,18 +1,18 @@
-//! How far paths get on their way out, which shows that the random routes are not mostly stopped at their first leg.
+//! Statistics on how far paths get on their way out, which show that most of them do not stop at the first leg.
 
-use crate::routes::calls::met;
+use crate::routes::calls::trace;
 use crate::routes::lent_route::Route;
 use crate::text::Text;
 use std::fmt::{self, Display};
 
-/// Ways out over routes of at least two legs, where questions 1 to 5 are answered.
+/// Paths out over routes of at least two legs, with valid input.
 #[derive(Default)]
 pub struct Reach {
     ways: usize,
-    /// Of these, how many were stopped at the first leg, and how many came out.
+    /// How many of these stopped at the first leg, and how many came out.
     stopped_at_first: usize,
     came_out: usize,
-    /// Legs of all ways, and of these how many were passed, and how many of those changed the path.
+    /// The legs of all these paths, how many of them had a result, and how many of those changed the path.
     legs: usize,
     passed: usize,
     changed: usize,
@@ -26,7 +26,7 @@ impl Reach {
         if maps.len() < 2 {
             return;
         }
-        let paths = met(maps, path);
+        let paths = trace(maps, path);
         let passed = paths.len() - 1;
         self.ways += 1;
         self.stopped_at_first += usize::from(passed == 0);

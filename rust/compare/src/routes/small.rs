@@ -1,20 +1,20 @@
-//! Every route of one or two legs of few pairs over few ends, and every path of few elements.
+//! Every route of one or two legs of a few pairs over a few ends, and every path of a few elements.
 
 use crate::comparison::Comparison;
 use crate::maps::small::{ENDS, pairs};
 use crate::routes::lent_route::Route;
 use crate::text::Text;
-use texts::LONGEST;
+use texts::MAX_PATH_LEN;
 
 /// A map, a map with the mark, and a relocate list.
 const KINDS: [usize; 3] = [0, 1, 2];
 
-/// Of these there are Active relocates.
+/// Ends of which there are Active relocates.
 const THREE_ENDS: [&str; 3] = ["/A", "/A/A", "/A/B"];
 
 type List = Vec<[&'static str; 2]>;
 
-/// Every list of at most one pair on more paths, then of two on fewer.
+/// Tries every list of at most one pair with more paths, then of two pairs with fewer paths.
 pub fn one_leg(comparison: &mut Comparison) {
     let (more, fewer) = (paths(4), paths(2));
     for list in lists(&ENDS, 1) {
@@ -25,7 +25,7 @@ pub fn one_leg(comparison: &mut Comparison) {
     }
 }
 
-/// Every two legs of at most one pair over all ends, then of at most two over three.
+/// Tries every two legs of at most one pair over all ends, then of at most two pairs over three ends.
 pub fn two_legs(comparison: &mut Comparison) {
     every_two(comparison, &lists(&ENDS, 1), &paths(2));
     every_two(comparison, &lists(&THREE_ENDS, 2), &paths(3));
@@ -49,12 +49,12 @@ fn every_two(comparison: &mut Comparison, lists: &[List], texts: &[Text]) {
 
 fn every_path(comparison: &mut Comparison, route: &Route, texts: &[Text]) {
     for text in texts {
-        comparison.route(route, text, &[LONGEST]);
+        comparison.route(route, text, &[MAX_PATH_LEN]);
     }
     comparison.route_all(route, texts);
 }
 
-/// Every list of at most so many pairs over these ends.
+/// Every list of at most `most` pairs over these ends.
 fn lists(ends: &[&'static str], most: usize) -> Vec<List> {
     let pairs = pairs(ends);
     let mut lists: Vec<List> = vec![vec![]];
@@ -70,7 +70,7 @@ fn lists(ends: &[&'static str], most: usize) -> Vec<List> {
     lists
 }
 
-/// Every path of at most so many elements, each `A`, `B` or a selection, with and without a property.
+/// Every path of at most this many elements, each `A`, `B` or a selection, with and without a property.
 fn paths(elements: usize) -> Vec<Text> {
     let mut paths = vec![String::new(), String::from("/")];
     let mut longest = vec![String::new()];

@@ -1,13 +1,12 @@
-//! Document 01's cases on routes, and routes, lists and paths at the limit: the answers expected are those that it
-//! names.
+//! The cases of the requirements for routes, and routes, lists and paths at the limits, with the answers stated there.
 
 use crate::comparison::Comparison;
 use crate::maps::calls::WithText;
 use crate::maps::list::TOO_MANY_PAIRS;
-use crate::routes::calls::{HOME, OUT, ROOMS, RouteCall};
+use crate::routes::calls::{CAPACITIES, HOME, OUT, RouteCall};
 use crate::routes::lent_route::Route;
 use crate::text::{Answer, MADE_NOT_LEGAL, MADE_TOO_LONG, NO_PATH, TOO_LONG, Text};
-use texts::LONGEST;
+use texts::MAX_PATH_LEN;
 
 type Leg = (usize, &'static [[&'static str; 2]]);
 
@@ -24,8 +23,7 @@ const RELOCATES: usize = 2;
 
 const A_TO_B: Leg = (MAP, &[["/A", "/B"]]);
 const A_TO_A: Leg = (MAP, &[["/A", "/A"]]);
-const ONE_AFTER_THE_OTHER: &[Leg] =
-    &[(MAP, &[["/A", "/X"], ["/A/B", "/Y"]]), (MAP, &[["/X/B/C", "/Z"], ["/Y", "/W"]])];
+const TWO_MAPS: &[Leg] = &[(MAP, &[["/A", "/X"], ["/A/B", "/Y"]]), (MAP, &[["/X/B/C", "/Z"], ["/Y", "/W"]])];
 const CONFLICTS: Leg = (RELOCATES, &[["/R/a", "/R/b"], ["/R/c", "/R/b"], ["/R/b", "/R/d"]]);
 const CROSSED: Leg = (RELOCATES, &[["/R/a/b", "/R/c"], ["/R/c/d", "/R/a"]]);
 const MOVED: Leg = (RELOCATES, &[["/R/a", "/R/b"]]);
@@ -40,14 +38,14 @@ const ROWS: &[Row] = &[
     Row { legs: &[], path: "/A{v=p}B.c", call: OUT, answer: Ok("/A{v=p}B.c") },
     Row { legs: &[], path: "/A{v=p}B.c", call: HOME, answer: Ok("/A{v=p}B.c") },
     Row { legs: &[], path: "", call: OUT, answer: Ok("") },
-    Row { legs: ONE_AFTER_THE_OTHER, path: "/A/B/C", call: OUT, answer: Ok("/W/C") },
-    Row { legs: ONE_AFTER_THE_OTHER, path: "/W/C", call: HOME, answer: Ok("/A/B/C") },
+    Row { legs: TWO_MAPS, path: "/A/B/C", call: OUT, answer: Ok("/W/C") },
+    Row { legs: TWO_MAPS, path: "/W/C", call: HOME, answer: Ok("/A/B/C") },
     Row { legs: &[MARKED], path: "/X/y", call: OUT, answer: Err(NO_PATH) },
     Row { legs: &[MARKED, MARKED], path: "/A/y", call: OUT, answer: Err(NO_PATH) },
     Row { legs: &[MARKED, MARKED], path: "/X/y", call: HOME, answer: Ok("/A/y") },
     Row { legs: &[(MAP_WITH_MARK, &[["", "/"]])], path: "/A", call: OUT, answer: Err(NO_PATH) },
     Row { legs: &[(MAP, &[["/A", "/"]])], path: "/A.b", call: OUT, answer: Err(MADE_NOT_LEGAL) },
-    // Statuses 0, 1, 3 and 0: only Active pairs are in the leg's map, and `/`→`/`.
+    // Statuses 0, 1, 3 and 0: the map of the leg has only the Active pairs and `/`→`/`.
     Row { legs: &[(RELOCATES, &[["/R", ""]])], path: "/R/a", call: OUT, answer: Err(NO_PATH) },
     Row { legs: &[(RELOCATES, &[["/R", "/S"]])], path: "/R/a", call: OUT, answer: Ok("/R/a") },
     Row { legs: &[CONFLICTS], path: "/R/c", call: OUT, answer: Ok("/R/c") },
@@ -69,7 +67,7 @@ pub fn run(comparison: &mut Comparison) {
         let (route, text) = (Route::packed(legs), Text::new(path.as_bytes()));
         one_case(comparison, &route, &text, call, answer);
     }
-    for length in LONGEST - 3..=LONGEST + 1 {
+    for length in MAX_PATH_LEN - 3..=MAX_PATH_LEN + 1 {
         long_path(comparison, length);
     }
 }
@@ -84,19 +82,19 @@ fn one_case(
     let expected = call.expected(route, text);
     let agrees = expected.as_ref().map(|path| path.as_str()) == answer.as_ref().map(|text| *text);
     let given = &WithText { given: route, text };
-    comparison.tally.fact("document 01's route is answered as it says", given, agrees);
-    comparison.route(route, text, &ROOMS);
+    comparison.tally.fact("a route of the requirements is answered as stated there", given, agrees);
+    comparison.route(route, text, &CAPACITIES);
     comparison.route_all(route, &[Text::new(b"/A"), Text::new(&text.bytes)]);
 }
 
-/// A path of `length` bytes that one leg leaves as long and the next makes two bytes longer.
+/// A path of `length` bytes whose length one leg keeps and the next one increases by two.
 fn long_path(comparison: &mut Comparison, length: usize) {
     let path = |first: &str| format!("{first}/{}", "L".repeat(length - 3));
     let route = Route::packed(&[A_TO_B, (MAP, &[["/B", "/B/C"]])]);
     let longer = path("/B/C");
     let answer = match length {
-        ..=LONGEST if longer.len() <= LONGEST => Ok(longer.as_str()),
-        ..=LONGEST => Err(MADE_TOO_LONG),
+        ..=MAX_PATH_LEN if longer.len() <= MAX_PATH_LEN => Ok(longer.as_str()),
+        ..=MAX_PATH_LEN => Err(MADE_TOO_LONG),
         _ => Err(TOO_LONG),
     };
     one_case(comparison, &route, &Text::new(path("/A").as_bytes()), &OUT, &answer);

@@ -1,5 +1,5 @@
-//! The calls on time offsets: the library's entry beside the original's function. Results agree bit for bit,
-//! and a NaN agrees with a NaN.
+//! The calls for time offsets: the entry of the library and the function of the original. Results must agree bit for bit,
+//! except that a NaN agrees with any NaN.
 
 use crate::comparison::Comparison;
 use crate::tally::{Call, Given};
@@ -10,7 +10,7 @@ use std::fmt::{self, Display};
 /// Offset and scale.
 type Offset = [f64; 2];
 
-/// A test of one offset.
+/// A call that returns a property of one time offset.
 struct Test {
     name: &'static str,
     entry: extern "C" fn(f64, f64) -> bool,
@@ -27,17 +27,17 @@ const TESTS: [Test; 3] = [
     },
 ];
 
-/// A call that makes one offset of another.
-struct Making {
+/// A call that maps one time offset to another.
+struct OffsetCall {
     name: &'static str,
     entry: extern "C" fn(f64, f64, &mut [f64; 2]),
     original: fn(LayerOffset) -> LayerOffset,
 }
 
-const MAKINGS: [Making; 3] = [
-    Making { name: "LayerOffset::new", entry: times::new, original: |given| given },
-    Making { name: "LayerOffset::inverse", entry: times::inverse, original: |given| given.inverse() },
-    Making { name: "LayerOffset::sanitized", entry: times::sanitized, original: LayerOffset::sanitized },
+const OFFSET_CALLS: [OffsetCall; 3] = [
+    OffsetCall { name: "LayerOffset::new", entry: times::new, original: |given| given },
+    OffsetCall { name: "LayerOffset::inverse", entry: times::inverse, original: |given| given.inverse() },
+    OffsetCall { name: "LayerOffset::sanitized", entry: times::sanitized, original: LayerOffset::sanitized },
 ];
 
 impl Comparison {
@@ -46,16 +46,16 @@ impl Comparison {
         self.offset("LayerOffset::scale_only", &[scale], LayerOffset::scale_only(scale), found);
     }
 
-    /// Every call that takes one offset and no more.
+    /// Compares every call that takes just one time offset.
     pub fn one_offset(&mut self, one: Offset) {
         let [offset, scale] = one;
         let given = original(one);
         for test in &TESTS {
             self.test(test.name, &one, (test.original)(&given), (test.entry)(offset, scale));
         }
-        for making in &MAKINGS {
-            let found = written(|out| (making.entry)(offset, scale, out));
-            self.offset(making.name, &one, (making.original)(given), found);
+        for call in &OFFSET_CALLS {
+            let found = written(|out| (call.entry)(offset, scale, out));
+            self.offset(call.name, &one, (call.original)(given), found);
         }
         let mut bits = [0; 2];
         times::to_bits(offset, scale, &mut bits);
@@ -69,7 +69,7 @@ impl Comparison {
         self.floats("LayerOffset::apply", &[offset, scale, time], [expected], [found]);
     }
 
-    /// Every call that takes two offsets.
+    /// Compares every call that takes two time offsets.
     pub fn two_offsets(&mut self, one: Offset, other: Offset) {
         let ([offset, scale], [other_offset, other_scale]) = (one, other);
         let given = [offset, scale, other_offset, other_scale];
@@ -92,11 +92,11 @@ impl Comparison {
         found: [f64; N],
     ) {
         let agree = expected.into_iter().zip(found).all(|(expected, found)| is_same(expected, found));
-        self.tally.values(Call { name, given: &Floats(given), room: None }, agree, expected, found);
+        self.tally.values(Call { name, given: &Floats(given), capacity: None }, agree, expected, found);
     }
 
     fn test(&mut self, name: &'static str, given: &[f64], expected: bool, found: bool) {
-        let call = Call { name, given: &Floats(given), room: None };
+        let call = Call { name, given: &Floats(given), capacity: None };
         self.tally.values(call, expected == found, expected, found);
     }
 }
@@ -105,13 +105,13 @@ fn original([offset, scale]: Offset) -> LayerOffset {
     LayerOffset::new(offset, scale)
 }
 
-/// What a call writes to two floats lent to it. Those on either side of them stay as they were.
+/// Makes a call with two lent floats and returns them. The floats on either side must not change.
 fn written(call: impl FnOnce(&mut [f64; 2])) -> Offset {
     const MARGIN: f64 = 12345.678;
     let mut lent = [MARGIN; 4];
     let [before, out @ .., after] = &mut lent;
     call(out);
-    assert_eq!([*before, *after], [MARGIN; 2], "memory beside the lent floats was written");
+    assert_eq!([*before, *after], [MARGIN; 2], "memory next to the lent floats was written");
     *out
 }
 
@@ -119,16 +119,16 @@ pub fn is_same(expected: f64, found: f64) -> bool {
     expected.to_bits() == found.to_bits() || expected.is_nan() && found.is_nan()
 }
 
-/// The bits of a NaN are left open, so for a call that looks at them every NaN is the same one.
+/// Replaces every NaN by the same one, for a call that compares bits: the requirements leave the bits of a NaN open.
 fn with_one_nan(float: f64) -> f64 {
     if float.is_nan() { f64::NAN } else { float }
 }
 
-/// The floats that a call is given.
+/// The input of a call that takes floats.
 struct Floats<'a>(&'a [f64]);
 
 impl Given for Floats<'_> {
-    /// The bits from the first to the last that is set.
+    /// The number of bits from the highest one to the lowest one that is set.
     fn size(&self) -> usize {
         self.0.iter().map(|float| (u64::BITS - float.to_bits().trailing_zeros()) as usize).sum()
     }

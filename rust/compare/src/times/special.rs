@@ -1,4 +1,4 @@
-//! Floats on which the calls on time offsets turn.
+//! Floats that are special cases for time offsets.
 
 /// Both zeros, ones, infinities, NaNs, the largest and the smallest, the tolerance and its neighbours, frame
 /// rates, and numbers whose products, quotients and sums round.
@@ -41,11 +41,11 @@ pub const FLOATS: &[f64] = &[
     1.0 + 1e-6,
     1.0 - 1e-6,
     (1.0_f64 + 1e-6).next_down(),
-    // The largest whose square is finite, and the next.
+    // The largest float whose square is finite, and the next one.
     1.340_780_792_994_259_6e154,
     1.340_780_792_994_259_7e154,
     1e-162,
-    // Beyond it an odd number is no float.
+    // Above this number an odd integer is not a float.
     9_007_199_254_740_992.0,
     9_007_199_254_740_991.0,
     24.0,

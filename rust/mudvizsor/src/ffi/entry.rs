@@ -1,23 +1,22 @@
-//! Declaring an entry of the static library and calling it, in one place.
+//! A macro that declares an entry of the static library and calls it.
 
-/// `entry!(NAME: KIND ARGUMENT, ..)` declares the entry `NAME` and calls it. The kinds of arguments, and what each
-/// passes:
+/// `entry!(NAME: KIND ARGUMENT, ..)` declares the entry `NAME` and calls it. The kinds of arguments are:
 ///
-/// - `text`, `numbers`: bytes or numbers that are read, as a pointer and a length;
-/// - `out`, `slots`: bytes or numbers that are written, as a pointer and a length;
+/// - `text`, `numbers`: bytes or numbers that are read, passed as a pointer and a length;
+/// - `out`, `slots`: bytes or numbers that are written, passed as a pointer and a length;
 /// - `number`, `flag`, `float`: a plain `usize`, `bool` or `f64`;
-/// - `time`: two floats that are written, as one pointer;
-/// - `pairs`: a list's bytes, places and number of pairs; `list`: these and its mark;
+/// - `time`: two floats that are written, passed as one pointer;
+/// - `pairs`: the bytes, the places and the number of pairs of a list; `list`: these and its mark;
 /// - `map`: a list and the two floats of its time offset;
-/// - `route`: a route's bytes, places, numbers of its legs and number of legs;
-/// - `paths`: the bytes, spots and number of many paths.
+/// - `route`: the bytes, the places, the numbers of the legs and the number of legs of a route;
+/// - `paths`: the bytes, the spots and the number of many paths.
 macro_rules! entry {
     (@ $name:ident [$($type:ty = $value:expr,)*]) => {{
         unsafe extern "C" {
             fn $name($(_: $type),*) -> usize;
         }
-        // SAFETY: an entry reads the bytes and numbers that it is lent, of which it trusts none, writes at most those
-        // that are borrowed as mutable, for this call alone, and keeps no pointer.
+        // SAFETY: the library validates everything that it reads, accesses only the slices that it is passed, writes
+        // only to those that are borrowed mutably for this call, and keeps no pointer.
         $crate::ffi::Reply(unsafe { $name($($value),*) })
     }};
     (@ $name:ident [$($done:tt)*] text $x:expr, $($rest:tt)*) => {

@@ -1,31 +1,31 @@
-//! The entry for a line of the program `frames`.
+//! The entry that processes one line of the program `frames`.
 
 use super::{Reply, entry};
 
-/// The bytes of the longest answer line: two bytes and a path of 255, two digits each, and the newline.
-pub const LONGEST_ANSWER: usize = 515;
+/// The length of the longest answer line in bytes: two digits for each of 2 bytes and a path of 255, and the newline.
+pub const MAX_ANSWER_LEN: usize = 515;
 
-/// What is kept between two lines, as it is lent. All of it is 0 before the first line, and has the lengths that are
-/// named here; an entry that finds less answers with document 01's numbers 4 and 5.
-pub struct Kept<'a> {
-    /// Five numbers: the pairs and bytes of the open list, the legs and their bytes before dropping, the 05 frames
-    /// answered 00.
+/// The state of the protocol between two lines, as it is lent to a call. All of it is 0 before the first line, and the
+/// slices have the lengths given here; with shorter ones, frames that do not fit are answered with 4 or 5.
+pub struct LentState<'a> {
+    /// Five numbers: pairs and bytes of the open list, legs and their bytes before redundant pairs are dropped, and the
+    /// number of 05 frames that were answered with 00.
     pub numbers: &'a mut [usize],
-    /// The bytes of the open list's ends, 32,640.
+    /// The bytes of the ends of the open list: 32,640.
     pub bytes: &'a mut [u8],
-    /// Their places, 256 numbers.
+    /// The places of these ends: 256 numbers.
     pub places: &'a mut [usize],
-    /// The bytes of the legs' ends, 32,768.
+    /// The bytes of the ends of the closed legs: 32,768.
     pub store: &'a mut [u8],
-    /// Their places, 4,096 numbers.
+    /// The places of these ends: 4,096 numbers.
     pub slots: &'a mut [usize],
-    /// Three numbers for each leg, 48.
+    /// Three numbers for each closed leg: 48.
     pub table: &'a mut [usize],
 }
 
-/// Memory of one's own for [`Kept`], with the lengths that are named there.
+/// Allocated buffers for a [`LentState`], of the lengths given there.
 #[derive(Debug, Clone)]
-pub struct Memory {
+pub struct OwnedState {
     numbers: [usize; 5],
     bytes: Vec<u8>,
     places: Vec<usize>,
@@ -34,10 +34,10 @@ pub struct Memory {
     table: Vec<usize>,
 }
 
-impl Memory {
-    /// The memory before the first line.
+impl OwnedState {
+    /// The state before the first line.
     pub fn new() -> Self {
-        Memory {
+        OwnedState {
             numbers: [0; 5],
             bytes: vec![0; 32_640],
             places: vec![0; 256],
@@ -47,23 +47,23 @@ impl Memory {
         }
     }
 
-    /// The memory, lent to a call.
-    pub fn lend(&mut self) -> Kept<'_> {
-        let Memory { numbers, bytes, places, store, slots, table } = self;
-        Kept { numbers, bytes, places, store, slots, table }
+    /// Lends the buffers to a call.
+    pub fn lend(&mut self) -> LentState<'_> {
+        let OwnedState { numbers, bytes, places, store, slots, table } = self;
+        LentState { numbers, bytes, places, store, slots, table }
     }
 }
 
-impl Default for Memory {
+impl Default for OwnedState {
     fn default() -> Self {
         Self::new()
     }
 }
 
-/// Does what a line says, which is given without its newline, writes the answer line with its newline to `out`, which
-/// has at least [`LONGEST_ANSWER`] bytes, and gives its length.
-pub fn line(line: &[u8], kept: Kept, out: &mut [u8]) -> Reply {
+/// Executes the frame in `line`, which is given without its newline, and writes the answer line with its newline to `out`,
+/// which needs [`MAX_ANSWER_LEN`] bytes. The value is the length written.
+pub fn line(line: &[u8], state: LentState, out: &mut [u8]) -> Reply {
     entry!(mudvizsor_frames_line:
-        text line, slots kept.numbers, out kept.bytes, slots kept.places, out kept.store, slots kept.slots,
-        slots kept.table, out out,)
+        text line, slots state.numbers, out state.bytes, slots state.places, out state.store, slots state.slots,
+        slots state.table, out out,)
 }

@@ -1,33 +1,33 @@
-//! The entries that map a path through a list of pairs.
+//! The entries that map a path.
 
 use super::{Reply, entry};
 
-/// A list of pairs as it is lent.
+/// A list of pairs as it is lent to a call.
 #[derive(Clone, Copy)]
 pub struct List<'a> {
-    /// The bytes of the ends.
+    /// The bytes of the ends (sources and targets).
     pub store: &'a [u8],
     /// Four numbers for each pair: start and length of the source, start and length of the target.
     pub places: &'a [usize],
-    /// How many pairs.
+    /// The number of pairs.
     pub count: usize,
     /// The root-identity mark.
     pub mark: bool,
 }
 
-/// Which way a path goes through a map.
+/// Which of the three mapping calls of a map to make.
 #[derive(Debug, Clone, Copy, PartialEq, Eq)]
 pub enum Way {
-    /// `map_source_to_target`: plain mapping.
+    /// `map_source_to_target`.
     Out,
-    /// `map_target_to_source`: plain mapping backwards.
+    /// `map_target_to_source`.
     Home,
-    /// `translate_to_target`: mapping without selections, where the way back is the same.
+    /// `translate_to_target`: from source to target without selections, if the result maps back through the same pair.
     Translated,
 }
 
 impl Way {
-    /// The number that stands for it.
+    /// The number that the library has for it.
     fn number(self) -> usize {
         match self {
             Way::Out => 0,
@@ -37,8 +37,8 @@ impl Way {
     }
 }
 
-/// Writes what the map makes of `path` and gives its length.
-pub fn carry(way: Way, list: List, path: &[u8], out: &mut [u8]) -> Reply {
+/// Maps `path` and writes the result. The value is the length written.
+pub fn apply(way: Way, list: List, path: &[u8], out: &mut [u8]) -> Reply {
     match way {
         Way::Out => entry!(mudvizsor_map_source_to_target: list list, text path, out out,),
         Way::Home => entry!(mudvizsor_map_target_to_source: list list, text path, out out,),
@@ -46,19 +46,19 @@ pub fn carry(way: Way, list: List, path: &[u8], out: &mut [u8]) -> Reply {
     }
 }
 
-/// Paths as they are lent to a call that carries many.
+/// Many paths as they are lent to one call.
 #[derive(Clone, Copy)]
 pub struct Paths<'a> {
     /// The bytes of the paths.
     pub texts: &'a [u8],
     /// Two numbers for each path: start and length.
     pub spots: &'a [usize],
-    /// How many paths.
+    /// The number of paths.
     pub count: usize,
 }
 
-/// Writes what the map makes of each path to 255 bytes of its own in `out`, and the reply of `carry` for it, as
-/// one number, to `replies`.
-pub fn carry_all(way: Way, list: List, paths: Paths, out: &mut [u8], replies: &mut [usize]) -> Reply {
+/// Maps each path. The result for path i is written to `out` at byte 255 i, and the number of the [`Reply`] that [`apply`]
+/// would return for it to element i of `replies`.
+pub fn apply_all(way: Way, list: List, paths: Paths, out: &mut [u8], replies: &mut [usize]) -> Reply {
     entry!(mudvizsor_map_all: list list, number way.number(), paths paths, out out, slots replies,)
 }

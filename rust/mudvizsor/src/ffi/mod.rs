@@ -1,13 +1,14 @@
-//! The static library's entries, one safe function each, over memory that the caller lends.
+//! Bindings to the entries of the static library: one safe function each, over buffers that the caller lends.
 //!
-//! This is the crate's only binding, and the only place with `unsafe`. The types of the crate stand on it; it is
-//! public for programs that lend their own memory, such as the comparison with the original. A list, a map or a route
-//! passes as the bytes of its ends and the places of these ([`maps::List`], [`makes::Map`], [`routes::Route`]). An entry
-//! trusts nothing that it is lent: a place outside its bytes, an illegal text or a count beyond its slice is refused. A
-//! refused call writes nothing.
+//! This is the only module with `unsafe`. The other types of the crate are built on it; it is public for programs that
+//! manage their own buffers, such as the comparison with the original Rust code. A list, a map or a route is passed as the
+//! bytes of its ends (sources and targets) and their places, which are starts and lengths ([`maps::List`],
+//! [`map_build::Map`], [`routes::Route`]). An entry trusts nothing that it is lent: a place outside its bytes, an illegal
+//! text or a count that exceeds its slice is refused. A refused call writes nothing. `c/mudvizsor.h` describes each entry
+//! in full.
 //!
-//! A test of the crate holds the declarations against the library's source, and the comparison with the original calls
-//! every one of them.
+//! A test of this crate compares the declarations with the source of the library, and the comparison with the original
+//! Rust code calls every one of them.
 //!
 //! ```
 //! use mudvizsor::ffi::{Reply, paths};
@@ -17,45 +18,45 @@
 //! assert_eq!(reply, Reply::answer(6));
 //! assert_eq!(&out[..6], b"/Line7");
 //!
-//! // Too little memory: document 01's number 5.
+//! // The buffer is too small: refusal 5.
 //! assert_eq!(paths::parent(b"/Line7/Quay", &mut out[..6]), Reply::refusal(5));
 //! ```
 #![allow(unsafe_code)]
 
 mod entry;
 pub mod frames;
-pub mod makes;
+pub mod map_build;
+pub mod map_info;
 pub mod maps;
 pub mod paths;
-pub mod reads;
 pub mod relocates;
 pub mod routes;
 pub mod times;
 
 use entry::entry;
 
-/// What an entry replies: 256 times a value, plus document 01's number (0 for an answer).
+/// The reply of an entry: 256 times a value, plus the number of the refusal (0 for success).
 #[derive(Debug, Clone, Copy, PartialEq, Eq)]
 #[repr(transparent)]
 pub struct Reply(pub usize);
 
 impl Reply {
-    /// The reply with this value.
+    /// The successful reply with this value.
     pub fn answer(value: usize) -> Self {
         Reply(256 * value)
     }
 
-    /// The reply that refuses with this number.
+    /// The refusal with this number.
     pub fn refusal(number: u8) -> Self {
         Reply(usize::from(number))
     }
 
-    /// The value of an answer: a length, a count, or 1 for yes.
+    /// The value of a successful reply: a length, a count, or 1 for true and 0 for false.
     pub fn value(self) -> usize {
         self.0 / 256
     }
 
-    /// Document 01's number, 0 for an answer.
+    /// The number of the refusal; 0 for success.
     pub fn number(self) -> usize {
         self.0 % 256
     }

@@ -1,64 +1,66 @@
-//! The entries on path texts.
+//! The entries for path texts.
 
 use super::{Reply, entry};
 
-/// Whether `text` is a path: an answer of 0, or a refusal.
+/// Checks that `text` is a legal path: the reply has the value 0, or is a refusal.
 pub fn new(text: &[u8]) -> Reply {
     entry!(mudvizsor_path_new: text text,)
 }
 
-/// 1 for a prim path, `/` and the empty path, else 0.
+/// The value is 1 for a prim path, `/` and the empty path, else 0.
 pub fn is_end(text: &[u8]) -> Reply {
     entry!(mudvizsor_path_is_end: text text,)
 }
 
-/// 1 for a path with a selection, else 0.
+/// The value is 1 if the path contains a variant selection, else 0.
 pub fn has_variant_selection(text: &[u8]) -> Reply {
     entry!(mudvizsor_path_has_variant_selection: text text,)
 }
 
-/// How many names and selections the path has.
+/// The value is the number of names and selections in the path.
 pub fn element_count(text: &[u8]) -> Reply {
     entry!(mudvizsor_path_element_count: text text,)
 }
 
-/// How many names the path has.
+/// The value is the number of names in the path.
 pub fn prim_element_count(text: &[u8]) -> Reply {
     entry!(mudvizsor_path_prim_element_count: text text,)
 }
 
-/// 1 where `prefix` is a prefix of the path, else 0.
+/// The value is 1 if `prefix` is a prefix of the path, else 0.
 pub fn has_prefix(text: &[u8], prefix: &[u8]) -> Reply {
     entry!(mudvizsor_path_has_prefix: text text, text prefix,)
 }
 
-/// Writes `path` with `new` in place of its prefix `old` and gives the length.
+/// Writes `path` with its prefix `old` replaced by `new`. The value is the length written.
 pub fn replace_prefix(path: &[u8], old: &[u8], new: &[u8], out: &mut [u8]) -> Reply {
     entry!(mudvizsor_path_replace_prefix: text path, text old, text new, out out,)
 }
 
-/// Writes the path without its property or its last element and gives the length.
+/// Writes the path without its property or, if it has none, without its last element. The value is the length written.
 pub fn parent(path: &[u8], out: &mut [u8]) -> Reply {
     entry!(mudvizsor_path_parent: text path, out out,)
 }
 
-/// Writes the path without its property, or without the selection that it ends in, and gives the length.
+/// Writes the path without its property or, if it has none and ends in a selection, without that selection. The value is
+/// the length written.
 pub fn prim_path(path: &[u8], out: &mut [u8]) -> Reply {
     entry!(mudvizsor_path_prim_path: text path, out out,)
 }
 
-/// Writes the prim path of a property and gives the length; the property's name is the text after the dot that follows it.
+/// Writes the part of the path before the dot of its property. The value is the length written; the name of the property
+/// follows the dot.
 pub fn split_property(path: &[u8], out: &mut [u8]) -> Reply {
     entry!(mudvizsor_path_split_property: text path, out out,)
 }
 
-/// Writes the path without its selections and gives the length.
+/// Writes the path without its variant selections. The value is the length written.
 pub fn strip_variant_selections(path: &[u8], out: &mut [u8]) -> Reply {
     entry!(mudvizsor_path_strip_variant_selections: text path, out out,)
 }
 
-/// Writes the length of `path` and of each of its ancestors, which are all beginnings of it, and gives their
-/// number.
+/// Writes the length of `path` and of each of its ancestors, which are all initial parts of it. The value is how many
+/// lengths were written.
 pub fn ancestors(path: &[u8], lengths: &mut [usize]) -> Reply {
     entry!(mudvizsor_path_ancestors: text path, slots lengths,)
 }

@@ -1,15 +1,15 @@
-//! The entries on relocate lists. The mark of a list is not looked at.
+//! The entries for relocate lists. The mark of a list is ignored.
 
 use super::maps::List;
 use super::{Reply, entry};
 
-/// Writes the status byte of each pair and gives their number.
+/// Writes the status byte of each pair. The value is the number of pairs.
 pub fn analyze_relocate_occurrences(list: List, out: &mut [u8]) -> Reply {
     entry!(mudvizsor_analyze_relocate_occurrences: pairs list, out out,)
 }
 
-/// Writes the path at the end of the chain; the value is 256 times the replacements made, and its length. Where
-/// `skips` is not set, `skipped` is not looked at.
+/// Follows the path through the relocates and writes where it ends. The value is 256 times the number of replacements, plus
+/// the length written. If `skips` is true, pairs with the source `skipped` are ignored; else `skipped` is not read.
 pub fn chain_through_relocates(
     list: List,
     skips: bool,
@@ -20,7 +20,8 @@ pub fn chain_through_relocates(
     entry!(mudvizsor_chain_through_relocates: pairs list, flag skips, text skipped, text path, out out,)
 }
 
-/// Writes the endpoint under the nearest rename above it, or itself, and gives its length.
+/// Applies the relocate of the nearest ancestor to the endpoint, and writes the result, or the endpoint if there is none.
+/// The value is the length written.
 pub fn shift_through_nearest_ancestor(list: List, endpoint: &[u8], out: &mut [u8]) -> Reply {
     entry!(mudvizsor_shift_through_nearest_ancestor: pairs list, text endpoint, out out,)
 }

@@ -17,12 +17,12 @@ fn texts(map: &MapFunction) -> Vec<(&str, &str)> {
     map.pairs().map(|(source, target)| (source.as_str(), target.as_str())).collect()
 }
 
-/// A prim path of so many bytes.
+/// A prim path of this many bytes.
 fn named(first: char, length: usize) -> String {
     format!("/{first}{}", "n".repeat(length - 2))
 }
 
-/// Document 01's cases.
+/// Cases of docs/REQUIREMENTS.md.
 #[test]
 fn plain_mapping() {
     let later = map(&[("/A", "/X"), ("/A", "/Y")]);
@@ -35,7 +35,7 @@ fn plain_mapping() {
     assert_eq!(map(&[("/A", "/C")]).map_source_to_target(&path("/AB")), Err(Refusal::NoPath));
 }
 
-/// Document 01's cases.
+/// Cases of docs/REQUIREMENTS.md.
 #[test]
 fn translating() {
     let marked = MapFunction::from_pair_identity("/A", "/X").unwrap();
@@ -47,7 +47,7 @@ fn translating() {
     assert_eq!(from_empty.translate_to_target(&path("/A")), Err(Refusal::NoPath));
 }
 
-/// Document 01's case: the composed map is not one map after the other.
+/// A case of docs/REQUIREMENTS.md: a composed map can differ from the two maps applied in turn.
 #[test]
 fn composing() {
     let inner = map(&[("/A", "/X"), ("/A/B", "/Y")]);
@@ -58,9 +58,9 @@ fn composing() {
     assert_eq!(outer.map_source_to_target(&there), Path::new("/W/C"));
 }
 
-/// Questions are put to the whole call in their order, whichever pair comes first.
+/// The checks are made in the order of their numbers, whichever pair comes first.
 #[test]
-fn questions_in_order() {
+fn checks_in_order() {
     let long = named('A', 256);
     assert_eq!(MapFunction::new([("/A.b", "/X"), ("bad", "/X"), (&long, "/X")]), Err(Refusal::TooLong));
     assert_eq!(MapFunction::new([("/A.b", "/X"), ("bad", "/X")]), Err(Refusal::NotLegal));
@@ -71,9 +71,9 @@ fn questions_in_order() {
 #[test]
 fn at_most_64_pairs() {
     let pairs = |count: usize| (0..count).map(|i| (format!("/A{i}"), format!("/B{i}")));
-    let most = MapFunction::new(pairs(MOST_PAIRS)).unwrap();
-    assert_eq!(most.pairs().len(), MOST_PAIRS);
-    assert_eq!(MapFunction::new(pairs(MOST_PAIRS + 1)), Err(Refusal::TooMany));
+    let most = MapFunction::new(pairs(MAX_PAIRS)).unwrap();
+    assert_eq!(most.pairs().len(), MAX_PAIRS);
+    assert_eq!(MapFunction::new(pairs(MAX_PAIRS + 1)), Err(Refusal::TooMany));
     assert_eq!(most.inverse().inverse(), most);
     assert_eq!(most.clone().with_time_offset(LayerOffset::IDENTITY), most);
     let one_more = MapFunction::from_pair_identity("/Q", "/R").unwrap();
@@ -109,7 +109,7 @@ fn time_offsets() {
 }
 
 #[test]
-fn putting_ends_elsewhere() {
+fn rebasing_and_deepening() {
     let some = map(&[("/A", "/L/A"), ("/B", "/M")]);
     assert_eq!(texts(&some.rebase_target(&path("/L"), &path("/T")).unwrap()), [("/A", "/T/A"), ("/B", "/M")]);
     let pair = MapFunction::identity().rebase_target(&path("/L"), &path("/T")).unwrap();
@@ -132,11 +132,11 @@ fn implied_classes() {
 }
 
 #[test]
-fn many_paths_go_as_one_does() {
+fn many_paths_map_like_single_ones() {
     let some = map(&[("/A", "/X"), ("/A/B", ""), ("/C", "/X/C"), ("/", "/")]);
     let paths: Vec<Path> = ["", "/", "/A/b.c", "/A/B/C", "/C", "/X/C", "/A{v=p}", "/D"].map(path).into();
     for way in [Way::Out, Way::Home, Way::Translated] {
-        let singly: Vec<_> = paths.iter().map(|path| some.carry(way, path)).collect();
+        let singly: Vec<_> = paths.iter().map(|path| some.map_path(way, path)).collect();
         assert_eq!(some.map_all(way, &paths), singly);
     }
 }

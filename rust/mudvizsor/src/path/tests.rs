@@ -7,7 +7,7 @@ fn path(text: &str) -> Path {
     Path::new(text).unwrap()
 }
 
-/// A path of one name with so many bytes.
+/// A path of one name with this many bytes.
 fn named(length: usize) -> String {
     format!("/{}", "n".repeat(length - 1))
 }
@@ -25,13 +25,13 @@ fn legal_and_illegal_texts() {
 
 #[test]
 fn the_longest_path() {
-    assert!(Path::new(&named(LONGEST)).is_ok());
-    assert_eq!(Path::new(&named(LONGEST + 1)), Err(Refusal::TooLong));
-    let (one, longest) = (path("/A"), path(&named(LONGEST)));
+    assert!(Path::new(&named(MAX_PATH_LEN)).is_ok());
+    assert_eq!(Path::new(&named(MAX_PATH_LEN + 1)), Err(Refusal::TooLong));
+    let (one, longest) = (path("/A"), path(&named(MAX_PATH_LEN)));
     assert_eq!(path("/A/b").replace_prefix(&one, &longest), Err(Refusal::MadeTooLong));
 }
 
-/// Document 01's cases.
+/// Cases of docs/REQUIREMENTS.md.
 #[test]
 fn replacing_prefixes() {
     let replaced = |text: &str, old: &str, new: &str| path(text).replace_prefix(&path(old), &path(new));
@@ -42,7 +42,7 @@ fn replacing_prefixes() {
     assert_eq!(replaced("/B", "/", "/C{v=p}"), Err(Refusal::MadeNotLegal));
 }
 
-/// Document 01's cases.
+/// Cases of docs/REQUIREMENTS.md.
 #[test]
 fn parts() {
     for (text, parent) in [("/A.b", "/A"), ("/A{v=p}B", "/A{v=p}"), ("/A", "/")] {
@@ -86,7 +86,7 @@ fn ancestors_from_both_sides() {
     let backwards: Vec<_> = path(all[0]).ancestors().rev().map(String::from).collect();
     assert_eq!(backwards, Vec::from_iter(all.into_iter().rev()));
     let deepest = path(&"/n".repeat(127));
-    assert_eq!(deepest.ancestors().len(), MOST_ANCESTORS);
+    assert_eq!(deepest.ancestors().len(), MAX_ANCESTORS);
     assert!(deepest.ancestors().zip(deepest.ancestors().skip(1)).all(|(one, next)| one.parent() == Ok(next)));
 }
 

@@ -15,7 +15,7 @@ fn bytes(pairs: &[(&str, &str)]) -> Vec<u8> {
     relocates(pairs).statuses().iter().map(|&status| status as u8).collect()
 }
 
-/// Document 01's cases.
+/// Cases of docs/REQUIREMENTS.md.
 #[test]
 fn statuses() {
     assert_eq!(bytes(&[("/R", "")]), [0]);
@@ -26,7 +26,7 @@ fn statuses() {
     assert_eq!(bytes(&[]), []);
 }
 
-/// Document 01's case, and a skipped source.
+/// A case of docs/REQUIREMENTS.md, and a skipped source.
 #[test]
 fn chains() {
     let moved = relocates(&[("/R/a/b", "/R/c"), ("/R/c/d", "/R/a")]);

@@ -1,7 +1,7 @@
 //! Tests of routes.
 
 use super::*;
-use crate::MOST_LEGS;
+use crate::MAX_LEGS;
 
 fn path(text: &str) -> Path {
     Path::new(text).unwrap()
@@ -51,7 +51,7 @@ fn out_and_home() {
     }
 }
 
-/// The steps of each leg end where the whole route does, and the way home meets the same paths in reverse.
+/// The last step has the result of the whole route, and the way home visits the same paths in reverse.
 #[test]
 fn steps_are_the_route() {
     let route = tram_line();
@@ -61,9 +61,9 @@ fn steps_are_the_route() {
         assert_eq!(*out.last().unwrap(), route.out(&start), "{text}");
         let Ok(there) = route.out(&start) else { continue };
         let home: Vec<_> = route.steps_home(&there).collect();
-        let mut met: Vec<_> = out.into_iter().rev().skip(1).collect();
-        met.push(Ok(start));
-        assert_eq!(home, met, "{text}");
+        let mut expected: Vec<_> = out.into_iter().rev().skip(1).collect();
+        expected.push(Ok(start));
+        assert_eq!(home, expected, "{text}");
     }
 }
 
@@ -77,7 +77,7 @@ fn steps_end_at_a_refusal() {
 }
 
 #[test]
-fn many_paths_go_as_one_does() {
+fn many_paths_map_like_single_ones() {
     let route = tram_line();
     let paths: Vec<Path> =
         ["/Mast/x", "/Mast/Spare", "/Switch", "/", "/Town/Trams/Line7/Quay/Signal_12"].map(path).into();
@@ -96,11 +96,11 @@ fn no_legs() {
 #[test]
 fn limits() {
     let most = relocates(&[]);
-    assert!(Route::new(vec![most.clone(); MOST_LEGS]).is_ok());
-    assert_eq!(Route::new(vec![most; MOST_LEGS + 1]).unwrap_err(), Refusal::TooMany);
+    assert!(Route::new(vec![most.clone(); MAX_LEGS]).is_ok());
+    assert_eq!(Route::new(vec![most; MAX_LEGS + 1]).unwrap_err(), Refusal::TooMany);
     // The `/` to `/` that a relocate leg adds is not counted.
     let pairs = (0..64).map(|i| (format!("/A/s{i}"), format!("/A/t{i}")));
-    let full = Route::new(vec![Relocates::new(pairs).unwrap().into(); MOST_LEGS]).unwrap();
+    let full = Route::new(vec![Relocates::new(pairs).unwrap().into(); MAX_LEGS]).unwrap();
     assert_eq!(full.out(&path("/A/s63.p")), Err(Refusal::NoPath));
     assert_eq!(full.out(&path("/B")), Path::new("/B"));
 }

@@ -1,11 +1,11 @@
-//! Items of the original's `relocates.rs`, with what they import, and public names for them.
+//! Items extracted from `relocates.rs` of the original, with what they import, and public functions that call them.
 
 use crate::sdf::Path;
 use rustc_hash::{FxHashMap, FxHashSet};
 
 include!(concat!(env!("OUT_DIR"), "/relocates.rs"));
 
-/// A stand-in: why a relocate is dropped whatever stands beside it.
+/// A stand-in: why a relocate is not valid on its own.
 #[allow(clippy::enum_variant_names)]
 enum InvalidRelocateReason {
     RootPrimSource,
@@ -14,7 +14,7 @@ enum InvalidRelocateReason {
     TargetIsDescendant,
 }
 
-/// A stand-in: why one relocate is dropped because of another.
+/// A stand-in: why a relocate conflicts with another one.
 enum RelocateConflictReason {
     TargetIsSource,
     SourceIsTarget,
@@ -22,7 +22,7 @@ enum RelocateConflictReason {
     SourceDescendant,
 }
 
-/// `analyze_relocate_occurrences`, with document 01's byte of each status.
+/// `analyze_relocate_occurrences`, with each status as its byte.
 pub fn statuses(pairs: &[(Path, Path)]) -> Vec<u8> {
     let byte = |occurrence| match occurrence {
         RelocateOccurrence::Active => 0,

@@ -1,4 +1,4 @@
-//! Tests of reading a scenario.
+//! Tests of the parser.
 
 use super::*;
 
@@ -7,7 +7,7 @@ fn problems(text: &str) -> Vec<(usize, String)> {
     problems.into_iter().map(|problem| (problem.line, problem.message)).collect()
 }
 
-/// The one problem of a text.
+/// The only problem of a text.
 fn problem(text: &str) -> (usize, String) {
     let mut all = problems(text);
     assert_eq!(all.len(), 1, "{all:?}");
@@ -30,7 +30,7 @@ fn a_scenario_is_read() {
 }
 
 #[test]
-fn signals_may_stand_in_several_parts() {
+fn signals_in_several_sections() {
     let scenario = Scenario::read(b"signals\n/A\nsignals\nnot/legal").unwrap();
     assert_eq!(scenario.signals.len(), 2);
     assert_eq!(scenario.signals[1].text, "not/legal");
@@ -43,7 +43,7 @@ fn lines_in_no_section() {
 }
 
 #[test]
-fn lines_that_are_no_pair() {
+fn lines_that_are_not_pairs() {
     for line in ["/A /B", "/A ->", "-> /B", "/A -> /B /C", "relocate", "/A->/B"] {
         let (number, message) = problem(&format!("map\n{line}\nsignals\n/A"));
         assert!(number == 2 && message.starts_with("neither a pair"), "{line}: {message}");
@@ -67,11 +67,11 @@ fn ends_that_are_refused() {
 }
 
 #[test]
-fn all_problems_are_given() {
+fn all_problems_are_reported() {
     let found = problems("map\nA -> B\nsignals here\nsignals\n/A /B\nmap\n");
     let lines: Vec<usize> = found.iter().map(|(line, _)| *line).collect();
     assert_eq!(lines, [2, 2, 3, 5, 6]);
-    assert!(found[4].1.starts_with("a leg behind the signals"));
+    assert!(found[4].1.starts_with("a leg after the signals"));
 }
 
 #[test]
@@ -94,7 +94,7 @@ fn a_scenario_without_signals() {
 }
 
 #[test]
-fn bytes_that_are_no_text() {
+fn bytes_that_are_not_text() {
     let problems = Scenario::read(b"map\n/A -> /B\n\xff").unwrap_err();
     assert_eq!(problems, [Problem { line: 3, message: "the text is not UTF-8".into() }]);
 }

@@ -1,5 +1,5 @@
-//! A stand-in for the crate of this name, with as much of it as the original's files need: two derives, which
-//! give nothing, as nothing here reads a struct as bytes.
+//! A stand-in for the crate of this name, with as much of it as the files of the original need: two derives, which produce
+//! nothing, since nothing here reads a struct as bytes.
 
 use proc_macro::TokenStream;
 

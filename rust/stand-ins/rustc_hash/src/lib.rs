@@ -1,10 +1,9 @@
-//! A stand-in for the crate of this name, with as much of it as the original's files need: a quick hasher
-//! without a key.
+//! A stand-in for the crate of this name, with as much of it as the files of the original need: a fast hasher without a key.
 
 use std::collections::{HashMap, HashSet};
 use std::hash::{BuildHasherDefault, Hasher};
 
-/// Makes an [`FxHasher`].
+/// Builds an [`FxHasher`].
 pub type FxBuildHasher = BuildHasherDefault<FxHasher>;
 
 pub type FxHashMap<K, V> = HashMap<K, V, FxBuildHasher>;
@@ -26,7 +25,7 @@ impl Hasher for FxHasher {
         self.0 = self.0.wrapping_add(word).wrapping_mul(0x9E37_79B9_7F4A_7C15);
     }
 
-    /// The best bits are the high ones, and a table looks at the low ones.
+    /// The high bits are mixed best, and a table uses the low ones.
     fn finish(&self) -> u64 {
         self.0.rotate_left(26)
     }

@@ -1,8 +1,8 @@
-//! A stand-in for the crate of this name, with as much of it as the original's files need.
+//! A stand-in for the crate of this name, with as much of it as the files of the original need.
 
 use proc_macro::{TokenStream, TokenTree};
 
-/// Derives `Display` and `Error`. The message is the type's name: nothing here compares messages.
+/// Derives `Display` and `Error`. The message is the name of the type, since nothing here compares messages.
 #[proc_macro_derive(Error, attributes(error, from, source))]
 pub fn derive_error(item: TokenStream) -> TokenStream {
     let name = name_of(item);

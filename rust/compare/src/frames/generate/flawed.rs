@@ -1,16 +1,16 @@
-//! Well-formed frames whose texts are too long, not legal, or no ends.
+//! Well-formed frames whose texts are too long, not legal, or not ends.
 
 use crate::frames::generate::writer::Writer;
 use frames_original::Frame;
-use texts::LONGEST;
+use texts::MAX_PATH_LEN;
 use texts::damage::damaged;
 use texts::generate::{legal_text, length};
 use texts::random::Random;
 
-/// The most bytes of both ends of a pair within a line.
-const MOST_BOTH: usize = 2_048 - 5;
+/// The maximum number of bytes of both ends of a pair that fit in a line.
+const MAX_PAIR_BYTES: usize = 2_048 - 5;
 
-/// A pair or a path to be refused, mostly.
+/// Adds a frame with a pair or a path that is mostly refused.
 pub fn frame(writer: &mut Writer) {
     let text = text(writer.random);
     match writer.random.below(4) {
@@ -29,21 +29,21 @@ pub fn frame(writer: &mut Writer) {
         }
         _ => {
             let other = self::text(writer.random);
-            let room = MOST_BOTH.saturating_sub(text.len());
-            writer.frame(Frame::Pair { source: &text, target: &other[..other.len().min(room)] });
+            let capacity = MAX_PAIR_BYTES.saturating_sub(text.len());
+            writer.frame(Frame::Pair { source: &text, target: &other[..other.len().min(capacity)] });
         }
     }
 }
 
-/// A text of a kind that some question refuses, or nearly.
+/// A text that fails some check, or nearly does.
 fn text(random: &mut Random) -> Vec<u8> {
     match random.below(6) {
         0 => {
-            let length = random.within(LONGEST - 1..=LONGEST + 2);
+            let length = random.within(MAX_PATH_LEN - 1..=MAX_PATH_LEN + 2);
             legal_text(random, length)
         }
         1 => {
-            let length = random.within(LONGEST + 1..=MOST_BOTH);
+            let length = random.within(MAX_PATH_LEN + 1..=MAX_PAIR_BYTES);
             legal_text(random, length)
         }
         2 => (0..random.below(20)).map(|_| random.below(256) as u8).collect(),

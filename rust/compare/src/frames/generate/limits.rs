@@ -1,12 +1,12 @@
-//! Scripts at each limit: what just passes, and what is just too much.
+//! Scripts at each limit: values that are just accepted, and values just beyond the limit.
 
 use crate::frames::generate::flawed;
-use crate::frames::generate::journeys::any_frame;
+use crate::frames::generate::well_formed::any_frame;
 use crate::frames::generate::writer::Writer;
 use frames_original::Frame;
-use frames_original::run::LONGEST_LINE;
-use frames_original::state::{MOST_BYTES, MOST_LEGS, MOST_PAIRS};
-use texts::LONGEST;
+use frames_original::run::MAX_LINE_LEN;
+use frames_original::state::{MAX_BYTES, MAX_LEGS, MAX_PAIRS};
+use texts::MAX_PATH_LEN;
 use texts::generate::end_text;
 
 /// A script at one of the limits, with some frames after it.
@@ -16,7 +16,7 @@ pub fn at_a_limit(writer: &mut Writer) {
         1 => legs(writer),
         2 => bytes_of_maps(writer),
         3 => bytes_of_relocates(writer),
-        4 => paths_made(writer),
+        4 => resulting_paths(writer),
         _ => lines(writer),
     }
     for _ in 0..writer.random.below(10) {
@@ -25,7 +25,7 @@ pub fn at_a_limit(writer: &mut Writer) {
 }
 
 fn pairs(writer: &mut Writer) {
-    for _ in 0..writer.random.within(MOST_PAIRS - 1..=MOST_PAIRS + 2) {
+    for _ in 0..writer.random.within(MAX_PAIRS - 1..=MAX_PAIRS + 2) {
         let pair = writer.any_pair();
         writer.pair(pair);
     }
@@ -33,73 +33,73 @@ fn pairs(writer: &mut Writer) {
         flawed::frame(writer);
     }
     writer.frame(Frame::Statuses);
-    writer.close_in_any_way();
+    writer.close_as_any();
 }
 
 fn legs(writer: &mut Writer) {
-    for _ in 0..writer.random.within(MOST_LEGS - 1..=MOST_LEGS + 2) {
+    for _ in 0..writer.random.within(MAX_LEGS - 1..=MAX_LEGS + 2) {
         for _ in 0..writer.random.below(3) {
             let pair = writer.any_pair();
             writer.pair(pair);
         }
-        writer.close_in_any_way();
+        writer.close_as_any();
     }
     writer.frame(Frame::Statuses);
 }
 
-/// About as many bytes as all legs may have.
-fn about_most_bytes(writer: &mut Writer) -> usize {
-    MOST_BYTES - 2 + writer.random.below(5)
+/// Approximately the maximum number of bytes of all legs.
+fn about_max_bytes(writer: &mut Writer) -> usize {
+    MAX_BYTES - 2 + writer.random.below(5)
 }
 
-/// Map legs of long ends, whose last list brings the bytes to about the limit.
+/// Map legs with long ends; with the last list the number of bytes is near the limit.
 fn bytes_of_maps(writer: &mut Writer) {
-    let mut left = about_most_bytes(writer);
+    let mut left = about_max_bytes(writer);
     while left > 0 {
-        let source = left.min(writer.random.within(LONGEST - 20..=LONGEST));
-        let target = (left - source).min(writer.random.within(LONGEST - 20..=LONGEST));
+        let source = left.min(writer.random.within(MAX_PATH_LEN - 20..=MAX_PATH_LEN));
+        let target = (left - source).min(writer.random.within(MAX_PATH_LEN - 20..=MAX_PATH_LEN));
         let pair = [source, target].map(|length| end_text(writer.random, length));
         writer.pair(pair);
         left -= source + target;
-        if writer.open.len() == MOST_PAIRS || left == 0 {
+        if writer.open.len() == MAX_PAIRS || left == 0 {
             writer.close(Frame::CloseMap);
         }
     }
-    writer.close_in_any_way();
+    writer.close_as_any();
     if writer.random.one_in(3) {
         legs_and_bytes(writer);
     }
 }
 
-/// Empty legs to their limit, then a list for which neither a leg nor bytes are left.
+/// Empty legs up to the limit, then a list for which there are neither legs nor bytes left.
 fn legs_and_bytes(writer: &mut Writer) {
-    while writer.legs.len() < MOST_LEGS && writer.close(Frame::CloseMap) {}
-    let pair = [end_text(writer.random, LONGEST), Vec::new()];
+    while writer.legs.len() < MAX_LEGS && writer.close(Frame::CloseMap) {}
+    let pair = [end_text(writer.random, MAX_PATH_LEN), Vec::new()];
     writer.pair(pair);
-    writer.close_in_any_way();
+    writer.close_as_any();
 }
 
-/// Relocate legs of Active pairs beside structural ones, which do not count.
+/// Relocate legs of Active pairs and of structural ones, whose bytes do not count.
 fn bytes_of_relocates(writer: &mut Writer) {
-    let mut left = about_most_bytes(writer);
+    let mut left = about_max_bytes(writer);
     let mut number = 0;
     while left > 0 {
-        // Room is left for one more source that can be made.
-        let length = if left <= LONGEST { left } else { LONGEST - 20 };
+        // Enough bytes are left for one more source.
+        let length = if left <= MAX_PATH_LEN { left } else { MAX_PATH_LEN - 20 };
         writer.pair([active_source(number, length), Vec::new()]);
         left -= length;
         number += 1;
         if writer.random.one_in(8) {
             writer.pair([b"/R".to_vec(), b"/S".to_vec()]);
         }
-        if writer.open.len() >= MOST_PAIRS - 1 || left == 0 {
+        if writer.open.len() >= MAX_PAIRS - 1 || left == 0 {
             writer.close(Frame::CloseRelocates);
         }
     }
-    writer.close_in_any_way();
+    writer.close_as_any();
 }
 
-/// A source of so many bytes, which are at least 6, or as many as it takes to be no other one's prefix.
+/// A source of this many bytes (at least 6), or of as many as it takes not to be a prefix of another source.
 fn active_source(number: usize, length: usize) -> Vec<u8> {
     let mut source = format!("/R/{}", char::from(b'a' + (number % 26) as u8)).into_bytes();
     source.extend(format!("{number}").into_bytes());
@@ -107,15 +107,15 @@ fn active_source(number: usize, length: usize) -> Vec<u8> {
     source
 }
 
-/// Pairs that make paths of about the longest length, out and home.
-fn paths_made(writer: &mut Writer) {
-    let long = writer.random.within(LONGEST - 8..=LONGEST);
+/// Pairs whose resulting paths have about the maximum length, out and home.
+fn resulting_paths(writer: &mut Writer) {
+    let long = writer.random.within(MAX_PATH_LEN - 8..=MAX_PATH_LEN);
     let mut pair = [b"/A".to_vec(), end_text(writer.random, long)];
     if writer.random.one_in(2) {
         pair.reverse();
     }
     writer.pair(pair.clone());
-    writer.close_in_any_way();
+    writer.close_as_any();
     let [source, target] = &pair;
     for end in [source, target] {
         for more in 0..=10 {
@@ -129,10 +129,10 @@ fn paths_made(writer: &mut Writer) {
     }
 }
 
-/// Paths and pairs whose lines are of about the longest length.
+/// Paths and pairs whose lines have about the maximum length.
 fn lines(writer: &mut Writer) {
     for _ in 0..writer.random.within(1..=6) {
-        let bytes = LONGEST_LINE / 2 - 2 + writer.random.below(4);
+        let bytes = MAX_LINE_LEN / 2 - 2 + writer.random.below(4);
         let (source, target) = (vec![b'/'; writer.random.below(bytes - 5)], vec![b'A'; bytes]);
         let rest = bytes - 5 - source.len();
         let path = &target[..bytes - 1];

@@ -1,12 +1,12 @@
-//! Lines that are no frame, in every way.
+//! Lines that are not frames, for every reason.
 
-use crate::frames::generate::journeys::any_frame;
+use crate::frames::generate::well_formed::any_frame;
 use crate::frames::generate::writer::Writer;
 use frames_original::Frame;
-use frames_original::run::LONGEST_LINE;
+use frames_original::run::MAX_LINE_LEN;
 use texts::random::Random;
 
-/// Makes a bad line of a good one.
+/// Turns a good line into a bad one.
 type Flaw = fn(&mut Random, Vec<u8>) -> Vec<u8>;
 
 const FLAWS: [Flaw; 14] = [
@@ -26,8 +26,8 @@ const FLAWS: [Flaw; 14] = [
     kind_alone,
 ];
 
-/// Bad lines among others. Nothing of what went before may be changed by them.
-pub fn noise(writer: &mut Writer) {
+/// Adds good and bad lines. The bad ones must not change the state.
+pub fn bad_lines(writer: &mut Writer) {
     for _ in 0..writer.random.within(1..=30) {
         any_frame(writer);
         if writer.random.one_in(2) {
@@ -64,7 +64,7 @@ fn good_line(writer: &mut Writer) -> Vec<u8> {
     if writer.random.one_in(2) { pair.line() } else { writer.random.pick(&others).line() }
 }
 
-/// One byte of the line becomes another that is no digit.
+/// One byte of the line becomes another one, mostly not a digit.
 fn bad_digit(random: &mut Random, mut line: Vec<u8>) -> Vec<u8> {
     let byte = if random.one_in(2) { *random.pick(b"gG@`:/ -x") } else { random.below(256) as u8 };
     if !line.is_empty() {
@@ -86,7 +86,7 @@ fn digit_more(random: &mut Random, mut line: Vec<u8>) -> Vec<u8> {
     line
 }
 
-/// The first digits behind the kind, which are those of a pair's length, become others.
+/// One of the first digits after the kind, which are those of the length in a pair, becomes another one.
 fn length_changed(random: &mut Random, mut line: Vec<u8>) -> Vec<u8> {
     let at = if random.one_in(2) { 5 } else { random.within(2..=5) };
     if let Some(digit) = line.get_mut(at) {
@@ -95,7 +95,7 @@ fn length_changed(random: &mut Random, mut line: Vec<u8>) -> Vec<u8> {
     line
 }
 
-/// So many bytes are missing at the end.
+/// The line lacks some bytes at its end.
 fn cut_short(random: &mut Random, mut line: Vec<u8>) -> Vec<u8> {
     line.truncate(2 * random.within(0..=line.len() / 2));
     line
@@ -116,11 +116,11 @@ fn empty(_: &mut Random, _: Vec<u8>) -> Vec<u8> {
     Vec::new()
 }
 
-/// The line goes on beyond the limit, sometimes beyond any block. A part of what is added would be a frame.
+/// The line exceeds the limit, sometimes also the size of a block. A part of the added digits would be a frame.
 fn overlong(random: &mut Random, mut line: Vec<u8>) -> Vec<u8> {
     let length = match random.below(8) {
-        0..=3 => LONGEST_LINE + random.within(1..=3),
-        4..=6 => LONGEST_LINE + random.below(10_000),
+        0..=3 => MAX_LINE_LEN + random.within(1..=3),
+        4..=6 => MAX_LINE_LEN + random.below(10_000),
         _ => random.within(60_000..=140_000),
     };
     let more = length.saturating_sub(line.len());
@@ -145,7 +145,7 @@ fn digits_of_noise(random: &mut Random, _: Vec<u8>) -> Vec<u8> {
     (0..random.below(40)).map(|_| *random.pick(b"0123456789ABCDEF")).collect()
 }
 
-/// 01 without its ends, or with half a length.
+/// 01 without its ends, or with an incomplete length.
 fn kind_alone(random: &mut Random, _: Vec<u8>) -> Vec<u8> {
     random.pick(&[&b"01"[..], b"0100", b"010000", b"01000000", b"0100022F41", b"0100022F4100"]).to_vec()
 }

@@ -1,7 +1,7 @@
-//! Writes a script line by line, and knows the answers so far.
+//! Writes a script line by line, and computes the answers so far.
 
 use crate::frames::script::Script;
-use frames_original::{Frame, Run, digits};
+use frames_original::{Frame, Run, hex};
 use texts::ends::family;
 use texts::random::Random;
 
@@ -9,11 +9,11 @@ pub type Pair = [Vec<u8>; 2];
 
 pub struct Writer<'a> {
     pub random: &'a mut Random,
-    /// What most ends of pairs are taken from.
+    /// The ends that most pairs are built from.
     pub ends: Vec<Vec<u8>>,
-    /// The pairs accepted since the last close that was.
+    /// The pairs of the open list.
     pub open: Vec<Pair>,
-    /// The lists of the legs, such as they were closed.
+    /// The lists of the closed legs.
     pub legs: Vec<Vec<Pair>>,
     /// Paths that came out.
     pub reached: Vec<Vec<u8>>,
@@ -29,21 +29,21 @@ impl<'a> Writer<'a> {
         Writer { random, ends, open, legs, reached, run, lines }
     }
 
-    /// One script in eight lacks its last newline.
+    /// Returns the script. One in eight lacks its last newline.
     pub fn script(&mut self) -> Script {
         Script { lines: std::mem::take(&mut self.lines), open_end: self.random.one_in(8) }
     }
 
-    /// Adds a line and gives the bytes of its answer.
+    /// Adds a line and returns the bytes of its answer.
     pub fn line(&mut self, line: Vec<u8>) -> Vec<u8> {
         let mut answer = Vec::new();
-        self.run.feed(&line, &mut answer);
-        self.run.feed(b"\n", &mut answer);
+        self.run.process(&line, &mut answer);
+        self.run.process(b"\n", &mut answer);
         self.lines.push(line);
-        digits::read(answer.trim_ascii_end()).expect("an answer of digits")
+        hex::read(answer.trim_ascii_end()).expect("an answer of digits")
     }
 
-    /// Adds a frame, one in six in small or mixed letters, and gives the bytes of its answer.
+    /// Adds a frame, one in six with some or all letters in lower case, and returns the bytes of its answer.
     pub fn frame(&mut self, frame: Frame) -> Vec<u8> {
         let mut line = frame.line();
         match self.random.below(12) {
@@ -69,33 +69,33 @@ impl<'a> Writer<'a> {
         [self.any_end(), self.any_end()]
     }
 
-    /// A way to close the open list, two times in three as a map.
-    pub fn any_way(&mut self) -> Frame<'static> {
+    /// A frame that closes the open list, two times in three as a map.
+    pub fn any_close(&mut self) -> Frame<'static> {
         if self.random.one_in(3) { Frame::CloseRelocates } else { Frame::CloseMap }
     }
 
-    pub fn close_in_any_way(&mut self) {
-        let way = self.any_way();
-        self.close_or_else(way);
+    pub fn close_as_any(&mut self) {
+        let kind = self.any_close();
+        self.close_or_else(kind);
     }
 
-    /// Closes the open list. Where that is refused, one time in two it is tried in the other way.
-    pub fn close_or_else(&mut self, way: Frame) {
-        if !self.close(way) && self.random.one_in(2) {
-            self.close(if way == Frame::CloseMap { Frame::CloseRelocates } else { Frame::CloseMap });
+    /// Closes the open list. If that is refused, it is tried with the other kind one time in two.
+    pub fn close_or_else(&mut self, kind: Frame) {
+        if !self.close(kind) && self.random.one_in(2) {
+            self.close(if kind == Frame::CloseMap { Frame::CloseRelocates } else { Frame::CloseMap });
         }
     }
 
-    /// Closes the open list, and gives whether that is accepted.
-    pub fn close(&mut self, way: Frame) -> bool {
-        let accepted = self.frame(way)[1] == 0;
+    /// Closes the open list, and returns whether that is accepted.
+    pub fn close(&mut self, kind: Frame) -> bool {
+        let accepted = self.frame(kind)[1] == 0;
         if accepted {
             self.legs.push(std::mem::take(&mut self.open));
         }
         accepted
     }
 
-    /// Asks a path out, and gives where it comes to.
+    /// Adds a path out, and returns the resulting path.
     pub fn out(&mut self, path: &[u8]) -> Option<Vec<u8>> {
         let reached = path_answered(self.frame(Frame::Out(path)));
         self.reached.extend(reached.clone());

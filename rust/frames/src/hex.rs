@@ -1,8 +1,8 @@
-//! Bytes as hexadecimal digits.
+//! Encoding and decoding of hexadecimal digits.
 
 const DIGITS: &[u8; 16] = b"0123456789ABCDEF";
 
-/// The bytes that digits of either case stand for, or `None` where one is left over or is no digit.
+/// Decodes digits of either case; `None` if their number is odd or a character is not a digit.
 pub fn read(digits: &[u8]) -> Option<Vec<u8>> {
     let (pairs, []) = digits.as_chunks::<2>() else {
         return None;
@@ -23,7 +23,7 @@ fn value(digit: u8) -> Option<u8> {
     }
 }
 
-/// Appends the digits of bytes, in capitals.
+/// Appends the digits of the bytes, in capitals.
 pub fn write(bytes: &[u8], digits: &mut Vec<u8>) {
     digits.reserve(2 * bytes.len());
     for byte in bytes {
@@ -36,7 +36,7 @@ mod tests {
     use super::{read, write};
 
     #[test]
-    fn every_byte_comes_back_in_either_case() {
+    fn every_byte_round_trips_in_either_case() {
         for byte in 0..=255u8 {
             let mut digits = Vec::new();
             write(&[byte], &mut digits);
@@ -55,7 +55,7 @@ mod tests {
     }
 
     #[test]
-    fn a_digit_left_over_is_an_error() {
+    fn an_odd_number_of_digits_is_an_error() {
         assert_eq!(read(b""), Some(vec![]));
         assert_eq!(read(b"0"), None);
         assert_eq!(read(b"010"), None);

@@ -1,17 +1,17 @@
-//! Well-formed scripts: legs that go on where the leg before came to, and paths asked out over them and home.
+//! Well-formed scripts: legs that map the result of the leg before, and paths out over them and home.
 
 use crate::frames::generate::flawed;
 use crate::frames::generate::writer::{Pair, Writer};
 use frames_original::{Frame, State};
 use texts::ends::path_under;
-use texts::generate::{beginnings, continued};
+use texts::generate::{continued, prefixes};
 use texts::random::Random;
 
-/// So many lists are tried for a leg.
+/// The number of lists that are tried for a leg.
 const TRIES: usize = 10;
 
-/// Legs one after the other. A path is asked out between them, and paths are asked out and home at the end.
-pub fn journey(writer: &mut Writer) {
+/// Adds the legs of a route, with a path out after most of them, and at the end paths out and home.
+pub fn route(writer: &mut Writer) {
     let pair = writer.any_pair();
     let start = path_under(writer.random, &pair[0], &pair[1]);
     let mut reached = start.clone();
@@ -22,12 +22,12 @@ pub fn journey(writer: &mut Writer) {
         }
     }
     for _ in 0..writer.random.within(2..=10) {
-        ask(writer, &start);
+        query(writer, &start);
     }
     writer.frame(Frame::Count);
 }
 
-/// Mostly few.
+/// A number of legs, mostly small.
 fn leg_count(random: &mut Random) -> usize {
     match random.below(10) {
         0 => 0,
@@ -37,10 +37,10 @@ fn leg_count(random: &mut Random) -> usize {
     }
 }
 
-/// The pairs of a list, now and then its statuses, and a close.
+/// Adds the pairs of a list, sometimes a frame for its statuses, and the frame that closes it.
 fn leg(writer: &mut Writer, reached: &[u8]) {
-    let way = writer.any_way();
-    for pair in list_for(writer, way, reached) {
+    let close = writer.any_close();
+    for pair in list_for(writer, close, reached) {
         writer.pair(pair);
         if writer.random.one_in(12) {
             writer.frame(Frame::Statuses);
@@ -49,15 +49,15 @@ fn leg(writer: &mut Writer, reached: &[u8]) {
     if writer.random.one_in(3) {
         writer.frame(Frame::Statuses);
     }
-    writer.close_or_else(way);
+    writer.close_or_else(close);
 }
 
-/// The first list of some that lets the path by, or, one time in twelve, any.
-fn list_for(writer: &mut Writer, way: Frame, reached: &[u8]) -> Vec<Pair> {
+/// The first of some lists that maps the path, or, one time in twelve, any list.
+fn list_for(writer: &mut Writer, close: Frame, reached: &[u8]) -> Vec<Pair> {
     let tries = if writer.random.one_in(12) { 1 } else { TRIES };
     let mut pairs = list(writer, reached);
     for _ in 1..tries {
-        if lets_by(&pairs, way, reached) {
+        if maps_over(&pairs, close, reached) {
             break;
         }
         pairs = list(writer, reached);
@@ -65,14 +65,14 @@ fn list_for(writer: &mut Writer, way: Frame, reached: &[u8]) -> Vec<Pair> {
     pairs
 }
 
-/// Whether a path comes out over a leg of these pairs.
-fn lets_by(pairs: &[Pair], way: Frame, path: &[u8]) -> bool {
+/// Returns whether a path comes out over a leg of these pairs.
+fn maps_over(pairs: &[Pair], close: Frame, path: &[u8]) -> bool {
     let mut state = State::default();
     let added = |[source, target]: &Pair| state.answer(Frame::Pair { source, target }).is_ok();
-    pairs.iter().all(added) && state.answer(way).is_ok() && state.answer(Frame::Out(path)).is_ok()
+    pairs.iter().all(added) && state.answer(close).is_ok() && state.answer(Frame::Out(path)).is_ok()
 }
 
-/// Pairs over the writer's ends, among them mostly one whose source is a beginning of the path that came so far.
+/// Pairs of the writer's ends; mostly one of them has a source that is a prefix of the path so far.
 fn list(writer: &mut Writer, reached: &[u8]) -> Vec<Pair> {
     let count = if writer.random.one_in(15) { writer.random.within(20..=66) } else { writer.random.below(6) };
     let mut pairs: Vec<Pair> = (0..count).map(|_| writer.any_pair()).collect();
@@ -86,13 +86,13 @@ fn list(writer: &mut Writer, reached: &[u8]) -> Vec<Pair> {
     pairs
 }
 
-/// A beginning of the path that is an end.
+/// A prefix of the path that is an end.
 fn end_above(random: &mut Random, path: &[u8]) -> Vec<u8> {
     let names = path.split(|byte| b"{.".contains(byte)).next().unwrap_or_default();
-    random.pick(&beginnings(names)).to_vec()
+    random.pick(&prefixes(names)).to_vec()
 }
 
-/// A target that often lies beside all others, so that the way back is clear.
+/// A target that often has no relation to other targets, so that paths map back through the same pair.
 fn target(random: &mut Random, source: &[u8], other: Vec<u8>) -> Vec<u8> {
     let names = |end: &[u8]| if end == b"/" { Vec::new() } else { end.to_vec() };
     match random.below(3) {
@@ -102,8 +102,8 @@ fn target(random: &mut Random, source: &[u8], other: Vec<u8>) -> Vec<u8> {
     }
 }
 
-/// Asks one thing of the legs closed so far.
-fn ask(writer: &mut Writer, start: &[u8]) {
+/// Adds a random frame that uses the legs closed so far.
+fn query(writer: &mut Writer, start: &[u8]) {
     match writer.random.below(12) {
         0..=4 => {
             let path = path_for(writer, start);
@@ -133,7 +133,7 @@ fn ask(writer: &mut Writer, start: &[u8]) {
     }
 }
 
-/// A path that begins as the first one, or lies under a source of the first leg.
+/// A path that starts like the first one, or lies below a source of the first leg.
 fn path_for(writer: &mut Writer, start: &[u8]) -> Vec<u8> {
     match writer.legs.first().filter(|leg| !leg.is_empty() && writer.random.one_in(2)) {
         Some(leg) => {
@@ -142,13 +142,13 @@ fn path_for(writer: &mut Writer, start: &[u8]) -> Vec<u8> {
         }
         None => {
             let end = end_above(writer.random, start);
-            let length = (end.len() + writer.random.below(30)).min(texts::LONGEST);
+            let length = (end.len() + writer.random.below(30)).min(texts::MAX_PATH_LEN);
             continued(writer.random, &end, length)
         }
     }
 }
 
-/// A path that lies under a target of the last leg, or under the start.
+/// A path that lies below a target of the last leg, or the start if there are no legs.
 fn path_home(writer: &mut Writer, start: &[u8]) -> Vec<u8> {
     match writer.legs.last().filter(|leg| !leg.is_empty()) {
         Some(leg) => {
@@ -159,8 +159,8 @@ fn path_home(writer: &mut Writer, start: &[u8]) -> Vec<u8> {
     }
 }
 
-/// Frames of any kind in any order.
-pub fn medley(writer: &mut Writer) {
+/// Adds frames of any kind in any order.
+pub fn any_order(writer: &mut Writer) {
     for _ in 0..writer.random.within(1..=40) {
         any_frame(writer);
     }
@@ -172,11 +172,11 @@ pub fn any_frame(writer: &mut Writer) {
             let pair = writer.any_pair();
             writer.pair(pair);
         }
-        4 => writer.close_in_any_way(),
+        4 => writer.close_as_any(),
         5 => flawed::frame(writer),
         _ => {
             let end = writer.any_end();
-            ask(writer, &end);
+            query(writer, &end);
         }
     }
 }

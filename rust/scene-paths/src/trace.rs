@@ -1,0 +1,170 @@
+//! Mapping signals out over the legs and home again.
+
+use crate::scenario::{Section, Signal};
+use mudvizsor::{Path, Refusal, Result, Route};
+
+/// The trace of a signal: the path after each leg, and how it ended.
+#[derive(Debug)]
+pub struct Trace<'a> {
+    pub signal: &'a Signal,
+    /// The path after each leg.
+    pub steps: Vec<Path>,
+    pub outcome: Outcome,
+}
+
+/// How a trace ends.
+#[derive(Debug, PartialEq)]
+pub enum Outcome {
+    /// The signal came home: it was mapped back to itself without its selections.
+    Home(Path),
+    /// The text of the signal is not a legal path.
+    BadPath(Refusal),
+    /// A leg, counted from 1, had no result for the path.
+    Stopped { leg: usize, refusal: Refusal },
+    /// The signal was not mapped back to itself. It is proved that this does not happen.
+    Elsewhere(Result<Path>),
+}
+
+/// A route for each single leg, and the route of all legs.
+pub struct LegRoutes {
+    legs: Vec<Route>,
+    whole: Route,
+}
+
+/// The trace of a signal so far.
+struct PartialTrace {
+    start: Path,
+    steps: Vec<Path>,
+    outcome: Option<Outcome>,
+}
+
+impl PartialTrace {
+    /// The path after the last leg.
+    fn current(&self) -> &Path {
+        self.steps.last().unwrap_or(&self.start)
+    }
+}
+
+impl LegRoutes {
+    /// Creates the routes. A scenario has no more legs than a route may have.
+    pub fn new(sections: &[Section]) -> Self {
+        let route = |some: &[Section]| Route::new(some.iter().map(|section| section.leg.clone()));
+        let route = |some| route(some).expect("a scenario has at most 16 legs");
+        LegRoutes { legs: sections.chunks(1).map(route).collect(), whole: route(sections) }
+    }
+
+    /// Traces the signals and returns the traces in the same order. All signals are mapped over a leg in one call.
+    pub fn trace_all<'a>(&self, signals: &'a [Signal]) -> Vec<Trace<'a>> {
+        let starts = signals.iter().map(|signal| Path::new(&signal.text));
+        let mut partials: Vec<Result<PartialTrace>> = starts
+            .map(|start| Ok(PartialTrace { start: start?, steps: Vec::new(), outcome: None }))
+            .collect();
+        for (i, leg) in self.legs.iter().enumerate() {
+            map_over_leg(leg, i + 1, partials.iter_mut().flatten());
+        }
+        self.map_home(partials.iter_mut().flatten());
+        signals.iter().zip(partials).map(|(signal, partial)| trace(signal, partial)).collect()
+    }
+
+    /// Maps all signals home that came out over the last leg.
+    fn map_home<'a>(&self, partials: impl Iterator<Item = &'a mut PartialTrace>) {
+        let mut active: Vec<_> = partials.filter(|partial| partial.outcome.is_none()).collect();
+        let homes = self.whole.home_all(active.iter().map(|partial| partial.current()));
+        for (partial, home) in active.iter_mut().zip(homes) {
+            let own = match self.legs.is_empty() {
+                true => partial.start.clone(),
+                false => partial.start.strip_variant_selections(),
+            };
+            partial.outcome =
+                Some(if home == Ok(own.clone()) { Outcome::Home(own) } else { Outcome::Elsewhere(home) });
+        }
+    }
+}
+
+/// Maps all signals that have not stopped over one leg.
+fn map_over_leg<'a>(route: &Route, leg: usize, partials: impl Iterator<Item = &'a mut PartialTrace>) {
+    let mut active: Vec<_> = partials.filter(|partial| partial.outcome.is_none()).collect();
+    let steps = route.out_all(active.iter().map(|partial| partial.current()));
+    for (partial, step) in active.iter_mut().zip(steps) {
+        match step {
+            Ok(path) => partial.steps.push(path),
+            Err(refusal) => partial.outcome = Some(Outcome::Stopped { leg, refusal }),
+        }
+    }
+}
+
+fn trace(signal: &Signal, partial: Result<PartialTrace>) -> Trace<'_> {
+    match partial {
+        Ok(PartialTrace { steps, outcome, .. }) => {
+            let outcome = outcome.expect("every trace has an outcome");
+            Trace { signal, steps, outcome }
+        }
+        Err(refusal) => Trace { signal, steps: Vec::new(), outcome: Outcome::BadPath(refusal) },
+    }
+}
+
+/// Describes a refusal in a trace.
+pub fn meaning(refusal: Refusal) -> String {
+    match refusal {
+        Refusal::NoPath => {
+            format!(
+                "{refusal}: no pair of the leg takes it, its target is empty, or another pair would take it back"
+            )
+        }
+        _ => refusal.to_string(),
+    }
+}
+
+#[cfg(test)]
+mod tests {
+    use super::*;
+    use crate::scenario::Scenario;
+
+    /// The steps and the outcome of each signal.
+    fn outcomes(text: &str) -> Vec<(Vec<String>, Outcome)> {
+        let scenario = Scenario::read(text.as_bytes()).unwrap();
+        let traces = LegRoutes::new(&scenario.legs).trace_all(&scenario.signals);
+        let steps = |trace: &Trace| trace.steps.iter().map(Path::to_string).collect();
+        traces.into_iter().map(|trace| (steps(&trace), trace.outcome)).collect()
+    }
+
+    fn path(text: &str) -> Path {
+        Path::new(text).unwrap()
+    }
+
+    #[test]
+    fn every_outcome() {
+        let long = "n".repeat(250);
+        let text = format!(
+            "map\n/A -> /B\n/L -> /{long}\n/R -> /\nrelocates\n/B/c -> /B/d\n/B/e -> -\n\
+             signals\n/A{{v=p}}c.x\n/A/d\n/A/e\n/Q\n/A.\n/L/longer\n/R.x\n"
+        );
+        let outcomes = outcomes(&text);
+        let stopped = |leg, refusal| Outcome::Stopped { leg, refusal };
+        assert_eq!(outcomes[0], (vec!["/B/c.x".into(), "/B/d.x".into()], Outcome::Home(path("/A/c.x"))));
+        assert_eq!(outcomes[1], (vec!["/B/d".into()], stopped(2, Refusal::NoPath)));
+        assert_eq!(outcomes[2], (vec!["/B/e".into()], stopped(2, Refusal::NoPath)));
+        assert_eq!(outcomes[3], (vec![], stopped(1, Refusal::NoPath)));
+        assert_eq!(outcomes[4], (vec![], Outcome::BadPath(Refusal::NotLegal)));
+        assert_eq!(outcomes[5], (vec![], stopped(1, Refusal::MadeTooLong)));
+        assert_eq!(outcomes[6], (vec![], stopped(1, Refusal::MadeNotLegal)));
+    }
+
+    #[test]
+    fn without_legs_a_signal_is_unchanged() {
+        assert_eq!(outcomes("signals\n/A{v=p}B"), [(vec![], Outcome::Home(path("/A{v=p}B")))]);
+    }
+
+    #[test]
+    fn single_legs_agree_with_the_route() {
+        let text =
+            "map\n/A -> /B\n/B -> /A\nrelocates\n/A/c -> /A/d\nmap\n/ -> /\nsignals\n/A/c\n/B/c\n/B/d\n/A\n";
+        let scenario = Scenario::read(text.as_bytes()).unwrap();
+        let routes = LegRoutes::new(&scenario.legs);
+        for trace in routes.trace_all(&scenario.signals) {
+            let whole = routes.whole.out(&path(&trace.signal.text));
+            assert_eq!(whole.is_ok(), matches!(trace.outcome, Outcome::Home(_)));
+            assert!(whole.is_err() || whole.as_ref().ok() == trace.steps.last());
+        }
+    }
+}
