@@ -200,12 +200,12 @@ size_t mudvizsor_translate_to_target(
     const char *store, size_t store_length, const size_t *places, size_t places_length, size_t count, bool mark,
     const char *path, size_t path_length, char *out, size_t out_length);
 
-/* Makes one of the three calls above for each of many paths, but validates the list only once. `way` selects the call: 0
+/* Makes one of the three calls above for each of many paths, but validates the list only once. `direction` selects the call: 0
    for mudvizsor_map_source_to_target, 1 for mudvizsor_map_target_to_source, any other number for
    mudvizsor_translate_to_target. Refusals of the whole call: 5. */
 size_t mudvizsor_map_all(
     const char *store, size_t store_length, const size_t *places, size_t places_length, size_t count, bool mark,
-    size_t way, const char *texts, size_t texts_length, const size_t *spots, size_t spots_length, size_t n, char *out,
+    size_t direction, const char *texts, size_t texts_length, const size_t *spots, size_t spots_length, size_t n, char *out,
     size_t out_length, size_t *replies, size_t replies_length);
 
 /* ---- Building maps ----

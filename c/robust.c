@@ -69,7 +69,7 @@ static struct lent {
     unsigned char zone[ZONE];
 } lent[LENT];
 
-static size_t count, icount, paths, way;
+static size_t count, icount, paths, direction;
 static bool mark, imark, flag;
 static double floats[4];
 
@@ -305,7 +305,7 @@ enum kind { A_TEST, A_COUNT, A_PATH, LENGTHS, STATUSES, A_MAP, A_CHAIN, MANY_REP
     E(map_source_to_target, A_PATH, A_LIST | BIT(PATH) | BIT(OUT), PAIRS, mark, BYTES(PATH), OUT_BUFFER)                      \
     E(map_target_to_source, A_PATH, A_LIST | BIT(PATH) | BIT(OUT), PAIRS, mark, BYTES(PATH), OUT_BUFFER)                      \
     E(translate_to_target, A_PATH, A_LIST | BIT(PATH) | BIT(OUT), PAIRS, mark, BYTES(PATH), OUT_BUFFER)                       \
-    E(map_all, MANY_REPLIES, A_LIST | MANY_PATHS, PAIRS, mark, way, MANY)                                                     \
+    E(map_all, MANY_REPLIES, A_LIST | MANY_PATHS, PAIRS, mark, direction, MANY)                                                     \
     E(map_new, A_MAP, A_LIST | A_MAP_BUFFERS, PAIRS, MAP_BUFFERS)                                                             \
     E(map_with_root_identity, A_MAP, A_LIST | A_MAP_BUFFERS, MAP, MAP_BUFFERS)                                                \
     E(map_compose, A_MAP, A_LIST | A_SECOND_LIST | A_MAP_BUFFERS, MAP, IMAP, MAP_BUFFERS)                                     \
@@ -497,7 +497,7 @@ static void make_input(const struct entry *entry) {
     for (size_t i = PATH; i <= THIRD; i++)
         if (entry->uses & BIT(i)) make_text(i);
     mark = percent(50), imark = percent(50), flag = percent(50);
-    way = percent(95) ? below(3) : huge_number();
+    direction = percent(95) ? below(3) : huge_number();
     for (size_t i = 0; i < 4; i++) floats[i] = percent(50) ? (double)(i % 2) : some_float();
 }
 

@@ -381,11 +381,11 @@ static void test_map_all(void) {
         {"/X/c", "", "/X.b", "", ""}, {"", "", "", "", ""}, {"/X/c", "", "/X.b", "", ""}};
     const size_t replies[][5] = {{256 * 4, 6, 256 * 4, 1, 6}, {6, 6, 6, 1, 6}, {256 * 4, 6, 256 * 4, 1, 6}};
     struct list *list = list_of("/A>/X");
-    for (size_t way = 0; way < 3; way++) {
+    for (size_t direction = 0; direction < 3; direction++) {
         struct buffers *buffers = lend(5 * 255, 5);
-        size_t reply = mudvizsor_map_all(LIST(list), false, way, many_texts, 10, many_spots, 10, 5, OUT(buffers),
+        size_t reply = mudvizsor_map_all(LIST(list), false, direction, many_texts, 10, many_spots, 10, 5, OUT(buffers),
                                          buffers->slots.lent, buffers->slots_length);
-        check_many(entry, reply, buffers, results[way], replies[way]);
+        check_many(entry, reply, buffers, results[direction], replies[direction]);
     }
     const struct { size_t spots, n, out, replies; } shorts[] = {
         {9, 5, 1275, 5}, {10, 5, 1274, 5}, {10, 5, 1275, 4}, {10, SIZE_MAX, 1275, 5}, {10, SIZE_MAX / 2 + 1, 1275, 5}};

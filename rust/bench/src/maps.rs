@@ -4,7 +4,7 @@
 use crate::clock::{Times, best_times};
 use crate::inputs::{self, COUNT, MapInput, packed, parsed, parsed_pairs};
 use crate::table::{head, nanoseconds, ratio, row};
-use mudvizsor::ffi::maps::{List, Paths, Way, apply, apply_all};
+use mudvizsor::ffi::maps::{Direction, List, Paths, apply, apply_all};
 use original::pcp::MapFunction;
 use original::sdf::Path;
 use std::hint::black_box;
@@ -13,15 +13,19 @@ use texts::MAX_PATH_LEN;
 /// A call on both sides.
 struct MapCall {
     name: &'static str,
-    way: Way,
+    direction: Direction,
     original: fn(&MapFunction, &Path) -> Option<Path>,
 }
 
 const CALLS: [MapCall; 2] = [
-    MapCall { name: "`map_source_to_target`", way: Way::Out, original: MapFunction::map_source_to_target },
+    MapCall {
+        name: "`map_source_to_target`",
+        direction: Direction::Out,
+        original: MapFunction::map_source_to_target,
+    },
     MapCall {
         name: "`translate_to_target`",
-        way: Way::Translated,
+        direction: Direction::Translated,
         original: MapFunction::translate_to_target,
     },
 ];
@@ -131,7 +135,7 @@ fn map_by_original(call: &MapCall, setting: &Setting, text: &str, out: &mut [u8]
 }
 
 fn map_by_library(call: &MapCall, setting: &Setting, text: &str, out: &mut [u8]) -> usize {
-    apply(call.way, setting.list(), text.as_bytes(), out).0
+    apply(call.direction, setting.list(), text.as_bytes(), out).0
 }
 
 /// Buffers for the bytes and the replies of all paths.
@@ -140,7 +144,7 @@ fn buffers_for_all() -> (Vec<u8>, Vec<usize>) {
 }
 
 fn map_all_by_library(call: &MapCall, setting: &Setting, out: &mut [u8], replies: &mut [usize]) -> usize {
-    apply_all(call.way, setting.list(), black_box(setting.all()), out, replies).0
+    apply_all(call.direction, setting.list(), black_box(setting.all()), out, replies).0
 }
 
 fn all_agree(call: &MapCall, setting: &Setting) -> bool {

@@ -47,7 +47,7 @@ fn read_reply(reply: usize, bytes: &[u8]) -> Result<Path> {
 
 #[cfg(test)]
 mod tests {
-    use crate::{MapFunction, Path, Refusal, Way};
+    use crate::{Direction, MapFunction, Path, Refusal};
 
     #[test]
     fn more_paths_than_are_given_at_once() {
@@ -55,7 +55,7 @@ mod tests {
         let count = 2 * super::BATCH + 7;
         let name = |i: usize| if i % 3 == 2 { "/Q".to_string() } else { format!("/A/n{i}") };
         let paths: Vec<Path> = (0..count).map(|i| Path::new(&name(i)).unwrap()).collect();
-        let answers = map.map_all(Way::Translated, &paths);
+        let answers = map.map_all(Direction::Translated, &paths);
         assert_eq!(answers.len(), count);
         for (path, answer) in paths.iter().zip(answers) {
             assert_eq!(answer, map.translate_to_target(path));
@@ -65,6 +65,6 @@ mod tests {
 
     #[test]
     fn no_paths_at_all() {
-        assert_eq!(MapFunction::identity().map_all(Way::Out, []), []);
+        assert_eq!(MapFunction::identity().map_all(Direction::Out, []), []);
     }
 }

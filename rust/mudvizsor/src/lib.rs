@@ -53,7 +53,7 @@ mod refusal;
 mod relocates;
 mod route;
 
-pub use ffi::maps::Way;
+pub use ffi::maps::Direction;
 pub use frames::Frames;
 pub use layer_offset::LayerOffset;
 pub use map_function::MapFunction;

@@ -4,7 +4,7 @@ use crate::batch::map_in_batches;
 use crate::ffi::Reply;
 use crate::ffi::map_build::{self, Map, MapBuffers};
 use crate::ffi::map_info;
-use crate::ffi::maps::{self, List, Way};
+use crate::ffi::maps::{self, Direction, List};
 use crate::layer_offset;
 use crate::pair_list::{Packed, PairList, Pairs};
 use crate::path::read_path;
@@ -246,7 +246,7 @@ impl MapFunction {
     /// # Ok::<(), mudvizsor::Refusal>(())
     /// ```
     pub fn map_source_to_target(&self, path: &Path) -> Result<Path> {
-        self.map_path(Way::Out, path)
+        self.map_path(Direction::Out, path)
     }
 
     /// Maps the path from targets back to sources: the same with the targets as keys. An empty target never matches.
@@ -264,7 +264,7 @@ impl MapFunction {
     /// # Ok::<(), mudvizsor::Refusal>(())
     /// ```
     pub fn map_target_to_source(&self, path: &Path) -> Result<Path> {
-        self.map_path(Way::Home, path)
+        self.map_path(Direction::Home, path)
     }
 
     /// Removes the variant selections from the path and maps it from sources to targets, if the result maps back through the
@@ -285,28 +285,32 @@ impl MapFunction {
     /// # Ok::<(), Refusal>(())
     /// ```
     pub fn translate_to_target(&self, path: &Path) -> Result<Path> {
-        self.map_path(Way::Translated, path)
+        self.map_path(Direction::Translated, path)
     }
 
     /// Maps many paths and returns the results in the same order. The list of pairs is validated only once for all paths, so
     /// this is faster than a call for each.
     ///
     /// ```
-    /// # use mudvizsor::{MapFunction, Path, Refusal, Way};
+    /// # use mudvizsor::{MapFunction, Path, Refusal, Direction};
     /// let map = MapFunction::from_pair("/A", "/X")?;
     /// let paths = [Path::new("/A/b")?, Path::new("/C")?];
-    /// assert_eq!(map.map_all(Way::Out, &paths), [Path::new("/X/b"), Err(Refusal::NoPath)]);
+    /// assert_eq!(map.map_all(Direction::Out, &paths), [Path::new("/X/b"), Err(Refusal::NoPath)]);
     /// # Ok::<(), Refusal>(())
     /// ```
-    pub fn map_all<'a>(&self, way: Way, paths: impl IntoIterator<Item = &'a Path>) -> Vec<Result<Path>> {
+    pub fn map_all<'a>(
+        &self,
+        direction: Direction,
+        paths: impl IntoIterator<Item = &'a Path>,
+    ) -> Vec<Result<Path>> {
         map_in_batches(paths, |paths, out, replies| {
-            maps::apply_all(way, self.lent_list(), paths, out, replies)
+            maps::apply_all(direction, self.lent_list(), paths, out, replies)
         })
     }
 
     /// Makes the mapping call that `way` selects.
-    fn map_path(&self, way: Way, path: &Path) -> Result<Path> {
-        read_path(|out| maps::apply(way, self.lent_list(), path.as_bytes(), out))
+    fn map_path(&self, direction: Direction, path: &Path) -> Result<Path> {
+        read_path(|out| maps::apply(direction, self.lent_list(), path.as_bytes(), out))
     }
 }
 

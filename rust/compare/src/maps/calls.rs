@@ -6,7 +6,7 @@ use crate::many::Many;
 use crate::maps::list::List;
 use crate::tally::Given;
 use crate::text::{Answer, Text};
-use mudvizsor::ffi::maps::{Paths, Way, apply, apply_all};
+use mudvizsor::ffi::maps::{Direction, Paths, apply, apply_all};
 use original::pcp::MapFunction;
 use original::sdf::Path;
 use std::fmt::{self, Display};
@@ -15,18 +15,27 @@ use texts::MAX_PATH_LEN;
 /// A call that maps a path.
 pub struct MapCall {
     name: &'static str,
-    way: Way,
+    direction: Direction,
     original: fn(&MapFunction, &Path) -> Option<Path>,
 }
 
-pub const OUT: MapCall =
-    MapCall { name: "map_source_to_target", way: Way::Out, original: MapFunction::map_source_to_target };
+pub const OUT: MapCall = MapCall {
+    name: "map_source_to_target",
+    direction: Direction::Out,
+    original: MapFunction::map_source_to_target,
+};
 
-pub const BACK: MapCall =
-    MapCall { name: "map_target_to_source", way: Way::Home, original: MapFunction::map_target_to_source };
+pub const BACK: MapCall = MapCall {
+    name: "map_target_to_source",
+    direction: Direction::Home,
+    original: MapFunction::map_target_to_source,
+};
 
-pub const TRANSLATED: MapCall =
-    MapCall { name: "translate_to_target", way: Way::Translated, original: MapFunction::translate_to_target };
+pub const TRANSLATED: MapCall = MapCall {
+    name: "translate_to_target",
+    direction: Direction::Translated,
+    original: MapFunction::translate_to_target,
+};
 
 pub const CALLS: [MapCall; 3] = [OUT, BACK, TRANSLATED];
 
@@ -72,7 +81,7 @@ impl Comparison {
     pub fn map(&mut self, list: &List, text: &Text) {
         for call in &CALLS {
             let expected = call.expected(list, text);
-            let entry = |out: &mut [u8]| apply(call.way, list.for_library(), &text.bytes, out);
+            let entry = |out: &mut [u8]| apply(call.direction, list.for_library(), &text.bytes, out);
             self.path(call.name, &WithText { given: list, text }, &CAPACITIES, &expected, entry);
         }
     }
@@ -82,7 +91,7 @@ impl Comparison {
         for call in &CALLS {
             let expected = texts.iter().map(|text| call.expected(list, text)).collect();
             let entry = |paths: Paths, out: &mut [u8], replies: &mut [usize]| {
-                apply_all(call.way, list.for_library(), paths, out, replies)
+                apply_all(call.direction, list.for_library(), paths, out, replies)
             };
             self.many(&Many { name: "map_all", given: list, entry: &entry }, texts, expected);
         }

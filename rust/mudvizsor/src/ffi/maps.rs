@@ -17,7 +17,7 @@ pub struct List<'a> {
 
 /// Which of the three mapping calls of a map to make.
 #[derive(Debug, Clone, Copy, PartialEq, Eq)]
-pub enum Way {
+pub enum Direction {
     /// `map_source_to_target`.
     Out,
     /// `map_target_to_source`.
@@ -26,23 +26,23 @@ pub enum Way {
     Translated,
 }
 
-impl Way {
+impl Direction {
     /// The number that the library has for it.
     fn number(self) -> usize {
         match self {
-            Way::Out => 0,
-            Way::Home => 1,
-            Way::Translated => 2,
+            Direction::Out => 0,
+            Direction::Home => 1,
+            Direction::Translated => 2,
         }
     }
 }
 
 /// Maps `path` and writes the result. The value is the length written.
-pub fn apply(way: Way, list: List, path: &[u8], out: &mut [u8]) -> Reply {
-    match way {
-        Way::Out => entry!(mudvizsor_map_source_to_target: list list, text path, out out,),
-        Way::Home => entry!(mudvizsor_map_target_to_source: list list, text path, out out,),
-        Way::Translated => entry!(mudvizsor_translate_to_target: list list, text path, out out,),
+pub fn apply(direction: Direction, list: List, path: &[u8], out: &mut [u8]) -> Reply {
+    match direction {
+        Direction::Out => entry!(mudvizsor_map_source_to_target: list list, text path, out out,),
+        Direction::Home => entry!(mudvizsor_map_target_to_source: list list, text path, out out,),
+        Direction::Translated => entry!(mudvizsor_translate_to_target: list list, text path, out out,),
     }
 }
 
@@ -59,6 +59,12 @@ pub struct Paths<'a> {
 
 /// Maps each path. The result for path i is written to `out` at byte 255 i, and the number of the [`Reply`] that [`apply`]
 /// would return for it to element i of `replies`.
-pub fn apply_all(way: Way, list: List, paths: Paths, out: &mut [u8], replies: &mut [usize]) -> Reply {
-    entry!(mudvizsor_map_all: list list, number way.number(), paths paths, out out, slots replies,)
+pub fn apply_all(
+    direction: Direction,
+    list: List,
+    paths: Paths,
+    out: &mut [u8],
+    replies: &mut [usize],
+) -> Reply {
+    entry!(mudvizsor_map_all: list list, number direction.number(), paths paths, out out, slots replies,)
 }

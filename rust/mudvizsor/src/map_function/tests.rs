@@ -135,8 +135,8 @@ fn implied_classes() {
 fn many_paths_map_like_single_ones() {
     let some = map(&[("/A", "/X"), ("/A/B", ""), ("/C", "/X/C"), ("/", "/")]);
     let paths: Vec<Path> = ["", "/", "/A/b.c", "/A/B/C", "/C", "/X/C", "/A{v=p}", "/D"].map(path).into();
-    for way in [Way::Out, Way::Home, Way::Translated] {
-        let singly: Vec<_> = paths.iter().map(|path| some.map_path(way, path)).collect();
-        assert_eq!(some.map_all(way, &paths), singly);
+    for direction in [Direction::Out, Direction::Home, Direction::Translated] {
+        let singly: Vec<_> = paths.iter().map(|path| some.map_path(direction, path)).collect();
+        assert_eq!(some.map_all(direction, &paths), singly);
     }
 }
