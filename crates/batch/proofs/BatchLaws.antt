@@ -9,53 +9,53 @@ use lib.ListN.{length, getD, take, drop, set, length-append, length-drop}
 use lib.Seq.{length-take-le, take-append-add, drop-append-add}
 use borrow.Author.Tests.{le-leb, lt-leb, leb-true, leb-false}
 use Rattle.text.specs.Text.{Text}
-use Rattle.text.proofs.BoolLaws.{told-true, told-false, and-l, and-r}
-use Rattle.pairs.specs.Places.{inside, textAt}
-use Rattle.path.specs.declared.Refusal.the-variants.{TooLong, NoRoom}
-use Rattle.path.specs.declared.Asked.{Asked}
-use Rattle.path.specs.declared.Asked.the-variants.{Passed, Refused}
-use Rattle.path.specs.declared.Reply.{Reply}
-use Rattle.path.specs.Outcome.{Outcome, path, refused, reply, memory}
-use Rattle.codes.specs.Code.{replyCode}
-use Rattle.asking.specs.Asking.{lentList, asked}
+use Rattle.text.proofs.BoolLaws.{known-true, known-false, and-l, and-r}
+use Rattle.pair_list.specs.Places.{inStore, textAt}
+use Rattle.refusal.specs.declared.Refusal.the-variants.{TooLong, NoRoom}
+use Rattle.refusal.specs.declared.Validation.{Validation}
+use Rattle.refusal.specs.declared.Validation.the-variants.{Passed, Refused}
+use Rattle.refusal.specs.declared.Reply.{Reply}
+use Rattle.refusal.specs.Outcome.{Outcome, path, refused, outcomeReply, outcomeBuffer}
+use Rattle.ffi_values.specs.Code.{replyCode}
+use Rattle.validate.specs.Validate.{lentList, validateCall}
 use Rattle.map_function.specs.declared.MapFunction.{MapFunction}
-use Rattle.mapping.specs.declared.Way.{Way}
-use Rattle.mapping.specs.Way.{wayCall, afterList}
-use Rattle.mapping.proofs.HandWays.{Short, short-refused, short-cond}
-use Rattle.mapping.proofs.WayLaws.{short-after, call-is-after}
-use Rattle.legs.specs.Lent.{LentRoute, lentRoute, routeAsked}
-use Rattle.laying.specs.Laid.{LaidIfPassed}
-use Rattle.routing.specs.Calls.{routeCall}
-use Rattle.routing.specs.Quick.{needsMaps, afterLegs}
-use Rattle.routing.proofs.ShortLaws.{short-after as short-route}
-use Rattle.routing.proofs.CallWays.{call-as-it-is, call-laid}
-use Rattle.batch.specs.declared.Carrier.{Carrier}
-use Rattle.batch.specs.declared.Carrier.the-variants.{Map, Route}
-use Rattle.batch.specs.Batch.{spotted, carriedAt, routedAt, blocks, numbers, enough, allAsked, allBytes, allReplies}
-use Rattle.batch.specs.Turn.{carriedBy, spotBy, inBlock}
+use Rattle.mapping.specs.declared.Direction.{Direction}
+use Rattle.mapping.specs.Direction.{directionCall, afterListValidated}
+use Rattle.mapping.proofs.CopyOutBranches.{Short, short-refused, short-cond}
+use Rattle.mapping.proofs.DirectionLaws.{short-after, call-is-after}
+use Rattle.route_legs.specs.LentRoute.{LentRoute, lentRoute, validateRoute}
+use Rattle.route_maps.specs.Prepared.{PreparedIfPassed}
+use Rattle.route.specs.Calls.{routeCall}
+use Rattle.route.specs.Fast.{needsMaps, afterRouteValidated}
+use Rattle.route.proofs.ShortLaws.{short-after as short-route}
+use Rattle.route.proofs.CallBranches.{call-as-it-is, call-prepared}
+use Rattle.batch.specs.declared.Mapper.{Mapper}
+use Rattle.batch.specs.declared.Mapper.the-variants.{Map, Route}
+use Rattle.batch.specs.Batch.{callAtSpot, mappedAt, routedAt, pathBuffers, replyNumbers, batchFits, validateBatch, batchBytes, batchReplies}
+use Rattle.batch.specs.BatchStep.{mapPathBy, mapSpotBy, writtenBlock}
 
--- `has_room`
+-- `batch_fits`
 module _ (n spots bytes replies : ℕ) where
-  pub room-spots : spots / 2 < n → false ≡ enough n spots bytes replies
-  unfolding enough
+  pub room-spots : spots / 2 < n → false ≡ batchFits n spots bytes replies
+  unfolding batchFits
   room-spots h = rw (lt-leb (2 * n) spots (omega arith))
 
-  pub room-bytes : n ≤ spots / 2 → bytes / 255 < n → false ≡ enough n spots bytes replies
-  unfolding enough
+  pub room-bytes : n ≤ spots / 2 → bytes / 255 < n → false ≡ batchFits n spots bytes replies
+  unfolding batchFits
   room-bytes h k = rw (le-leb (2 * n) spots (omega arith), lt-leb (255 * n) bytes (omega arith))
 
-  pub room-replies : n ≤ spots / 2 → n ≤ bytes / 255 → leb n replies ≡ enough n spots bytes replies
-  unfolding enough
+  pub room-replies : n ≤ spots / 2 → n ≤ bytes / 255 → leb n replies ≡ batchFits n spots bytes replies
+  unfolding batchFits
   room-replies h k = rw (le-leb (2 * n) spots (omega arith), le-leb (255 * n) bytes (omega arith))
 
 -- `is_inside`
 module _ (texts : Text) (spots : List ℕ) (i : ℕ) where
-  pub inside-start : length texts < getD spots (2 * i) 0 → false ≡ inside texts spots i
-  unfolding inside
+  pub inside-start : length texts < getD spots (2 * i) 0 → false ≡ inStore texts spots i
+  unfolding inStore
   inside-start h = sym (lt-leb (getD spots (2 * i) 0 + getD spots (2 * i + 1) 0) (length texts) (omega arith))
 
-  pub inside-rest : getD spots (2 * i) 0 ≤ length texts → leb (getD spots (2 * i + 1) 0) (length texts - getD spots (2 * i) 0) ≡ inside texts spots i
-  unfolding inside
+  pub inside-rest : getD spots (2 * i) 0 ≤ length texts → leb (getD spots (2 * i + 1) 0) (length texts - getD spots (2 * i) 0) ≡ inStore texts spots i
+  unfolding inStore
   inside-rest h = go (leb (getD spots (2 * i + 1) 0) (length texts - getD spots (2 * i) 0)) refl
     where
       go : (t : Bool) → leb (getD spots (2 * i + 1) 0) (length texts - getD spots (2 * i) 0) ≡ t
@@ -67,42 +67,42 @@ module _ (texts : Text) (spots : List ℕ) (i : ℕ) where
           let z : length texts - getD spots (2 * i) 0 < getD spots (2 * i + 1) 0 = leb-false (getD spots (2 * i + 1) 0) (length texts - getD spots (2 * i) 0) e in
           sym (lt-leb (getD spots (2 * i) 0 + getD spots (2 * i + 1) 0) (length texts) (omega (arith, z)))
 
--- `carry_one`
-module _ (list : Asked) (by : Carrier) (store : Text) (places legs : List ℕ) (room : ℕ) (p : Text) where
-  pub by-map : (f : MapFunction) (way : Way) → by ≡ Map f way → carriedBy list by store places legs room p ≡ afterList list way store places f p room
-  unfolding carriedBy
-  by-map f way h = rw h
+-- `map_one`
+module _ (list : Validation) (by : Mapper) (store : Text) (places legs : List ℕ) (room : ℕ) (p : Text) where
+  pub by-map : (f : MapFunction) (direction : Direction) → by ≡ Map f direction → mapPathBy list by store places legs room p ≡ afterListValidated list direction store places f p room
+  unfolding mapPathBy
+  by-map f direction h = rw h
 
-  pub by-route : (n : ℕ) (home : Bool) → by ≡ Route n home → carriedBy list by store places legs room p ≡ afterLegs list home (lentRoute store places legs n) p room
-  unfolding carriedBy
+  pub by-route : (n : ℕ) (home : Bool) → by ≡ Route n home → mapPathBy list by store places legs room p ≡ afterRouteValidated list home (lentRoute store places legs n) p room
+  unfolding mapPathBy
   by-route n home h = rw h
 
 -- No path made has more than 255 bytes.
-short-by : (list : Asked) (by : Carrier) (store : Text) (places legs : List ℕ) (room : ℕ) (p : Text) → Short (carriedBy list by store places legs room p)
-unfolding carriedBy
-short-by list (Map f way) store places legs room p = short-after list way store places f p room
+short-by : (list : Validation) (by : Mapper) (store : Text) (places legs : List ℕ) (room : ℕ) (p : Text) → Short (mapPathBy list by store places legs room p)
+unfolding mapPathBy
+short-by list (Map f direction) store places legs room p = short-after list direction store places f p room
 short-by list (Route n home) store places legs room p = short-route list home (lentRoute store places legs n) p room
 
-pub short-spotted : (call : Text → Outcome) → ((p : Text) → Short (call p)) → (texts : Text) (spots : List ℕ) (i : ℕ) → Short (spotted call texts spots i)
-unfolding spotted
-short-spotted call s texts spots i = short-cond (inside texts spots i) (call (textAt texts spots i)) (refused TooLong) (s (textAt texts spots i)) (short-refused TooLong)
+pub short-spotted : (call : Text → Outcome) → ((p : Text) → Short (call p)) → (texts : Text) (spots : List ℕ) (i : ℕ) → Short (callAtSpot call texts spots i)
+unfolding callAtSpot
+short-spotted call s texts spots i = short-cond (inStore texts spots i) (call (textAt texts spots i)) (refused TooLong) (s (textAt texts spots i)) (short-refused TooLong)
 
--- `carry_spot`
-module _ (list : Asked) (by : Carrier) (store : Text) (places legs : List ℕ) (texts : Text) (spots : List ℕ) (room i : ℕ) (b : Bool) (h : b ≡ inside texts spots i) where
-  pub spot-outside : not b ≡ true → spotBy list by store places legs texts spots room i ≡ refused TooLong
-  unfolding spotBy spotted
-  spot-outside k = rw (told-false h k)
+-- `map_spot`
+module _ (list : Validation) (by : Mapper) (store : Text) (places legs : List ℕ) (texts : Text) (spots : List ℕ) (room i : ℕ) (b : Bool) (h : b ≡ inStore texts spots i) where
+  pub spot-outside : not b ≡ true → mapSpotBy list by store places legs texts spots room i ≡ refused TooLong
+  unfolding mapSpotBy callAtSpot
+  spot-outside k = rw (known-false h k)
 
-  pub spot-inside : (t : Text) → not b ≡ false → t ≡ textAt texts spots i → spotBy list by store places legs texts spots room i ≡ carriedBy list by store places legs room t
-  unfolding spotBy spotted
+  pub spot-inside : (t : Text) → not b ≡ false → t ≡ textAt texts spots i → mapSpotBy list by store places legs texts spots room i ≡ mapPathBy list by store places legs room t
+  unfolding mapSpotBy callAtSpot
   spot-inside t k e =
-      ap (λ (x : Bool). cond x (carriedBy list by store places legs room (textAt texts spots i)) (refused TooLong)) (told-true h k)
-      ∙ ap (carriedBy list by store places legs room) (sym e)
+      ap (λ (x : Bool). cond x (mapPathBy list by store places legs room (textAt texts spots i)) (refused TooLong)) (known-true h k)
+      ∙ ap (mapPathBy list by store places legs room) (sym e)
 
--- `carry_block`: the slice lent for one block is put back into the buffer.
-module _ (list : Asked) (by : Carrier) (store : Text) (places legs : List ℕ) (texts : Text) (spots : List ℕ) (i : ℕ) (out : Text) (h : 255 * i + 255 ≤ length out) where
+-- `map_block`: the slice lent for one block is put back into the buffer.
+module _ (list : Validation) (by : Mapper) (store : Text) (places legs : List ℕ) (texts : Text) (spots : List ℕ) (i : ℕ) (out : Text) (h : 255 * i + 255 ≤ length out) where
   abbrev given : ℕ → Outcome
-  given room = spotBy list by store places legs texts spots room i
+  given room = mapSpotBy list by store places legs texts spots room i
 
   size : 255 * i + 255 - 255 * i ≡ 255
   size = omega arith
@@ -110,17 +110,17 @@ module _ (list : Asked) (by : Carrier) (store : Text) (places legs : List ℕ) (
   long : length (take 255 (drop (255 * i) out)) ≡ 255
   long = length-take-le 255 (drop (255 * i) out) (rw (length-drop (255 * i) out) (omega arith))
 
-  pub block-bytes : (ys : Text) → ys ≡ memory (given (length (take (255 * i + 255 - 255 * i) (drop (255 * i) out)))) (take (255 * i + 255 - 255 * i) (drop (255 * i) out))
-      → take (255 * i) out ++ (ys ++ drop (255 * i + 255 - 255 * i) (drop (255 * i) out)) ≡ inBlock i (given 255) out
-  unfolding inBlock
+  pub block-bytes : (ys : Text) → ys ≡ outcomeBuffer (given (length (take (255 * i + 255 - 255 * i) (drop (255 * i) out)))) (take (255 * i + 255 - 255 * i) (drop (255 * i) out))
+      → take (255 * i) out ++ (ys ++ drop (255 * i + 255 - 255 * i) (drop (255 * i) out)) ≡ writtenBlock i (given 255) out
+  unfolding writtenBlock
   block-bytes ys e = rw (e, size, long)
 
-  pub block-reply : (r : Reply) (a : ℕ) → r ≡ reply (given (length (take (255 * i + 255 - 255 * i) (drop (255 * i) out)))) → a ≡ replyCode r → a ≡ replyCode (reply (given 255))
+  pub block-reply : (r : Reply) (a : ℕ) → r ≡ outcomeReply (given (length (take (255 * i + 255 - 255 * i) (drop (255 * i) out)))) → a ≡ replyCode r → a ≡ replyCode (outcomeReply (given 255))
   block-reply r a e f = f ∙ rw (e, size, long)
 
 -- The buffer and the replies after one more iteration.
-pub kept-length : (o : Outcome) (x : Text) → Short o → length x ≡ 255 → length (memory o x) ≡ 255
-unfolding memory
+pub kept-length : (o : Outcome) (x : Text) → Short o → length x ≡ 255 → length (outcomeBuffer o x) ≡ 255
+unfolding outcomeBuffer
 kept-length (path q) x s h = length-append q (drop (length q) x) ∙ rw (length-drop (length q) x) (omega (arith, s q refl, h))
 kept-length (refused r) x s h = h
 
@@ -135,37 +135,37 @@ before : (m c : Text) (k : ℕ) → length m ≡ 255 → take (255 * suc k) (m +
 before m c k l = ap (λ (x : ℕ). take x (m ++ c)) (next-place m k l) ∙ take-append-add m c (255 * k)
 
 -- Block k after 255 bytes is block k + 1.
-behind : (m c : Text) (k : ℕ) → length m ≡ 255 → (o : Outcome) → m ++ inBlock k o c ≡ inBlock (suc k) o (m ++ c)
-unfolding inBlock
-behind m c k l o =
-    rw (before m c k l, later m c k l) (sym (append-assoc m (take (255 * k) c) (memory o (take 255 (drop (255 * k) c)) ++ drop 255 (drop (255 * k) c))))
+after : (m c : Text) (k : ℕ) → length m ≡ 255 → (o : Outcome) → m ++ writtenBlock k o c ≡ writtenBlock (suc k) o (m ++ c)
+unfolding writtenBlock
+after m c k l o =
+    rw (before m c k l, later m c k l) (sym (append-assoc m (take (255 * k) c) (outcomeBuffer o (take 255 (drop (255 * k) c)) ++ drop 255 (drop (255 * k) c))))
 
 module _ (o : ℕ → Outcome) (s : (j : ℕ) → Short (o j)) where
-  pub blocks-next : (i k : ℕ) (out : Text) → 255 * k + 255 ≤ length out → blocks o i (suc k) out ≡ inBlock k (o (i + k)) (blocks o i k out)
-  unfolding blocks inBlock
+  pub blocks-next : (i k : ℕ) (out : Text) → 255 * k + 255 ≤ length out → pathBuffers o i (suc k) out ≡ writtenBlock k (o (i + k)) (pathBuffers o i k out)
+  unfolding pathBuffers writtenBlock
   blocks-next i zero out h = let z : i + 0 ≡ i = omega arith in rw z refl
   blocks-next i (suc k) out h =
-      let l : length (memory (o i) (take 255 out)) ≡ 255 = kept-length (o i) (take 255 out) (s i) (length-take-le 255 out (omega arith)) in
+      let l : length (outcomeBuffer (o i) (take 255 out)) ≡ 255 = kept-length (o i) (take 255 out) (s i) (length-take-le 255 out (omega arith)) in
       let j : i + suc k ≡ suc i + k = omega arith in
       let r : 255 * k + 255 ≤ length (drop 255 out) = rw (length-drop 255 out) (omega arith) in
-      ap (λ (x : Text). memory (o i) (take 255 out) ++ x) (blocks-next (suc i) k (drop 255 out) r)
-      ∙ behind (memory (o i) (take 255 out)) (blocks o (suc i) k (drop 255 out)) k l (o (suc i + k))
-      ∙ ap (λ (y : ℕ). inBlock (suc k) (o y) (memory (o i) (take 255 out) ++ blocks o (suc i) k (drop 255 out))) (sym j)
+      ap (λ (x : Text). outcomeBuffer (o i) (take 255 out) ++ x) (blocks-next (suc i) k (drop 255 out) r)
+      ∙ after (outcomeBuffer (o i) (take 255 out)) (pathBuffers o (suc i) k (drop 255 out)) k l (o (suc i + k))
+      ∙ ap (λ (y : ℕ). writtenBlock (suc k) (o y) (outcomeBuffer (o i) (take 255 out) ++ pathBuffers o (suc i) k (drop 255 out))) (sym j)
 
 module _ (o : ℕ → Outcome) where
-  pub numbers-next : (i k : ℕ) (r : List ℕ) → k < length r → numbers o i (suc k) r ≡ set (numbers o i k r) k (replyCode (reply (o (i + k))))
-  unfolding numbers
+  pub numbers-next : (i k : ℕ) (r : List ℕ) → k < length r → replyNumbers o i (suc k) r ≡ set (replyNumbers o i k r) k (replyCode (outcomeReply (o (i + k))))
+  unfolding replyNumbers
   numbers-next i zero [] h = absurd (omega arith)
   numbers-next i zero (x ∷ r) h = let z : i + 0 ≡ i = omega arith in rw z refl
   numbers-next i (suc k) [] h = absurd (omega arith)
   numbers-next i (suc k) (x ∷ r) h =
       let j : i + suc k ≡ suc i + k = omega arith in
-      rw j (ap (λ (l : List ℕ). replyCode (reply (o i)) ∷ l) (numbers-next (suc i) k r (omega arith)))
+      rw j (ap (λ (l : List ℕ). replyCode (outcomeReply (o i)) ∷ l) (numbers-next (suc i) k r (omega arith)))
 
--- `carry_each`: the lent buffers suffice for each iteration.
-module _ (n spots bytes replies : ℕ) (h : enough n spots bytes replies ≡ true) where
+-- `map_each`: the lent buffers suffice for each iteration.
+module _ (n spots bytes replies : ℕ) (h : batchFits n spots bytes replies ≡ true) where
   yes-all : (leb (2 * n) spots && leb (255 * n) bytes) && leb n replies ≡ true
-  unfolding enough
+  unfolding batchFits
   yes-all = h
 
   yes-two : leb (2 * n) spots && leb (255 * n) bytes ≡ true
@@ -182,88 +182,88 @@ module _ (n spots bytes replies : ℕ) (h : enough n spots bytes replies ≡ tru
     room-number = omega (arith, leb-true n replies (and-r (leb (2 * n) spots && leb (255 * n) bytes) (leb n replies) yes-all))
 
 -- One iteration adds one block and one reply.
-module _ (list : Asked) (by : Carrier) (store : Text) (places legs : List ℕ) (texts : Text) (spots : List ℕ) (i : ℕ) where
+module _ (list : Validation) (by : Mapper) (store : Text) (places legs : List ℕ) (texts : Text) (spots : List ℕ) (i : ℕ) where
   abbrev o : ℕ → Outcome
-  o = spotBy list by store places legs texts spots 255
+  o = mapSpotBy list by store places legs texts spots 255
 
-  short-turn : (j : ℕ) → Short (o j)
-  unfolding spotBy
-  short-turn = short-spotted (carriedBy list by store places legs 255) (short-by list by store places legs 255) texts spots
+  short-step : (j : ℕ) → Short (o j)
+  unfolding mapSpotBy
+  short-step = short-spotted (mapPathBy list by store places legs 255) (short-by list by store places legs 255) texts spots
 
-  pub turn-bytes : (out₀ out out′ : Text) → 255 * i + 255 ≤ length out₀ → out ≡ blocks o 0 i out₀ → out′ ≡ inBlock i (o i) out → out′ ≡ blocks o 0 (i + 1) out₀
-  turn-bytes out₀ out out′ r h e =
+  pub step-bytes : (out₀ out out′ : Text) → 255 * i + 255 ≤ length out₀ → out ≡ pathBuffers o 0 i out₀ → out′ ≡ writtenBlock i (o i) out → out′ ≡ pathBuffers o 0 (i + 1) out₀
+  step-bytes out₀ out out′ r h e =
       let z : 0 + i ≡ i = omega arith in
       let w : suc i ≡ i + 1 = omega arith in
-      e ∙ ap (λ (x : Text). inBlock i (o i) x) h
-      ∙ ap (λ (x : ℕ). inBlock i (o x) (blocks o 0 i out₀)) (sym z)
-      ∙ sym (blocks-next o short-turn 0 i out₀ r)
-      ∙ ap (λ (x : ℕ). blocks o 0 x out₀) w
+      e ∙ ap (λ (x : Text). writtenBlock i (o i) x) h
+      ∙ ap (λ (x : ℕ). writtenBlock i (o x) (pathBuffers o 0 i out₀)) (sym z)
+      ∙ sym (blocks-next o short-step 0 i out₀ r)
+      ∙ ap (λ (x : ℕ). pathBuffers o 0 x out₀) w
 
-  pub turn-numbers : (replies₀ replies replies′ : List ℕ) → i < length replies₀ → replies ≡ numbers o 0 i replies₀ → replies′ ≡ set replies i (replyCode (reply (o i)))
-      → replies′ ≡ numbers o 0 (i + 1) replies₀
-  turn-numbers replies₀ replies replies′ r h e =
+  pub step-numbers : (replies₀ replies replies′ : List ℕ) → i < length replies₀ → replies ≡ replyNumbers o 0 i replies₀ → replies′ ≡ set replies i (replyCode (outcomeReply (o i)))
+      → replies′ ≡ replyNumbers o 0 (i + 1) replies₀
+  step-numbers replies₀ replies replies′ r h e =
       let z : 0 + i ≡ i = omega arith in
       let w : suc i ≡ i + 1 = omega arith in
-      e ∙ ap (λ (x : List ℕ). set x i (replyCode (reply (o i)))) h
-      ∙ ap (λ (x : ℕ). set (numbers o 0 i replies₀) i (replyCode (reply (o x)))) (sym z)
+      e ∙ ap (λ (x : List ℕ). set x i (replyCode (outcomeReply (o i)))) h
+      ∙ ap (λ (x : ℕ). set (replyNumbers o 0 i replies₀) i (replyCode (outcomeReply (o x)))) (sym z)
       ∙ sym (numbers-next o 0 i replies₀ r)
-      ∙ ap (λ (x : ℕ). numbers o 0 x replies₀) w
+      ∙ ap (λ (x : ℕ). replyNumbers o 0 x replies₀) w
 
-pub turns-end : (o : ℕ → Outcome) (n i : ℕ) (out₀ out : Text) (replies₀ replies : List ℕ) → n ≤ i → i ≤ n → out ≡ blocks o 0 i out₀ → replies ≡ numbers o 0 i replies₀
-    → (out ≡ blocks o 0 n out₀) × (replies ≡ numbers o 0 n replies₀)
-turns-end o n i out₀ out replies₀ replies l m x y =
+pub steps-end : (o : ℕ → Outcome) (n i : ℕ) (out₀ out : Text) (replies₀ replies : List ℕ) → n ≤ i → i ≤ n → out ≡ pathBuffers o 0 i out₀ → replies ≡ replyNumbers o 0 i replies₀
+    → (out ≡ pathBuffers o 0 n out₀) × (replies ≡ replyNumbers o 0 n replies₀)
+steps-end o n i out₀ out replies₀ replies l m x y =
     let z : i ≡ n = omega arith in
-    (x ∙ ap (λ (j : ℕ). blocks o 0 j out₀) z, y ∙ ap (λ (j : ℕ). numbers o 0 j replies₀) z)
+    (x ∙ ap (λ (j : ℕ). pathBuffers o 0 j out₀) z, y ∙ ap (λ (j : ℕ). replyNumbers o 0 j replies₀) z)
 
 -- With the result of the lists' validation, each iteration yields the result of the single call.
 module _ (o o′ : ℕ → Outcome) (same : (i : ℕ) → o i ≡ o′ i) where
-  blocks-same : (i n : ℕ) (out : Text) → blocks o i n out ≡ blocks o′ i n out
-  unfolding blocks
+  blocks-same : (i n : ℕ) (out : Text) → pathBuffers o i n out ≡ pathBuffers o′ i n out
+  unfolding pathBuffers
   blocks-same i zero out = refl
-  blocks-same i (suc n) out = rw (same i) (ap (λ (x : Text). memory (o′ i) (take 255 out) ++ x) (blocks-same (suc i) n (drop 255 out)))
+  blocks-same i (suc n) out = rw (same i) (ap (λ (x : Text). outcomeBuffer (o′ i) (take 255 out) ++ x) (blocks-same (suc i) n (drop 255 out)))
 
-  numbers-same : (i n : ℕ) (replies : List ℕ) → numbers o i n replies ≡ numbers o′ i n replies
-  unfolding numbers
+  numbers-same : (i n : ℕ) (replies : List ℕ) → replyNumbers o i n replies ≡ replyNumbers o′ i n replies
+  unfolding replyNumbers
   numbers-same i zero replies = refl
-  numbers-same i (suc n) replies = rw (same i) (ap (λ (x : List ℕ). replyCode (reply (o′ i)) ∷ x) (numbers-same (suc i) n (drop 1 replies)))
+  numbers-same i (suc n) replies = rw (same i) (ap (λ (x : List ℕ). replyCode (outcomeReply (o′ i)) ∷ x) (numbers-same (suc i) n (drop 1 replies)))
 
-  pub all-same : (n : ℕ) (out₀ out : Text) (replies₀ replies : List ℕ) → (out ≡ blocks o′ 0 n out₀) × (replies ≡ numbers o′ 0 n replies₀)
-      → (out ≡ blocks o 0 n out₀) × (replies ≡ numbers o 0 n replies₀)
+  pub all-same : (n : ℕ) (out₀ out : Text) (replies₀ replies : List ℕ) → (out ≡ pathBuffers o′ 0 n out₀) × (replies ≡ replyNumbers o′ 0 n replies₀)
+      → (out ≡ pathBuffers o 0 n out₀) × (replies ≡ replyNumbers o 0 n replies₀)
   all-same n out₀ out replies₀ replies w = (w .0 ∙ sym (blocks-same 0 n out₀), w .1 ∙ sym (numbers-same 0 n replies₀))
 
 pub all-done : (o : ℕ → Outcome) (n : ℕ) (b e : Bool) → b ≡ e → (out₀ out : Text) (replies₀ replies : List ℕ) → not b ≡ false
-    → (out ≡ blocks o 0 n out₀) × (replies ≡ numbers o 0 n replies₀) → (Passed ≡ allAsked e) × ((out ≡ allBytes e o n out₀) × (replies ≡ allReplies e o n replies₀))
-unfolding allAsked allBytes allReplies
-all-done o n b e h out₀ out replies₀ replies k w = rw (told-true h k) (refl, (w .0, w .1))
+    → (out ≡ pathBuffers o 0 n out₀) × (replies ≡ replyNumbers o 0 n replies₀) → (Passed ≡ validateBatch e) × ((out ≡ batchBytes e o n out₀) × (replies ≡ batchReplies e o n replies₀))
+unfolding validateBatch batchBytes batchReplies
+all-done o n b e h out₀ out replies₀ replies k w = rw (known-true h k) (refl, (w .0, w .1))
 
 pub all-refused : (o : ℕ → Outcome) (n : ℕ) (b e : Bool) → b ≡ e → (out : Text) (replies : List ℕ) → not b ≡ true
-    → (Refused NoRoom ≡ allAsked e) × ((out ≡ allBytes e o n out) × (replies ≡ allReplies e o n replies))
-unfolding allAsked allBytes allReplies
-all-refused o n b e h out replies k = rw (told-false h k) (refl, (refl, refl))
+    → (Refused NoRoom ≡ validateBatch e) × ((out ≡ batchBytes e o n out) × (replies ≡ batchReplies e o n replies))
+unfolding validateBatch batchBytes batchReplies
+all-refused o n b e h out replies k = rw (known-false h k) (refl, (refl, refl))
 
-spotted-same : (f g : Text → Outcome) → ((p : Text) → f p ≡ g p) → (texts : Text) (spots : List ℕ) (i : ℕ) → spotted f texts spots i ≡ spotted g texts spots i
-unfolding spotted
+spotted-same : (f g : Text → Outcome) → ((p : Text) → f p ≡ g p) → (texts : Text) (spots : List ℕ) (i : ℕ) → callAtSpot f texts spots i ≡ callAtSpot g texts spots i
+unfolding callAtSpot
 spotted-same f g same texts spots i = rw (same (textAt texts spots i))
 
--- `carry_all`
-pub map-turn : (way : Way) (store : Text) (places legs : List ℕ) (f : MapFunction) (texts : Text) (spots : List ℕ) (list : Asked)
-    → list ≡ asked (lentList store places (f .count) ∷ []) ([] ∷ []) [] → (i : ℕ) → carriedAt way store places f texts spots i ≡ spotBy list (Map f way) store places legs texts spots 255 i
-unfolding carriedAt spotBy carriedBy
-map-turn way store places legs f texts spots list h =
-    spotted-same (λ (p : Text). wayCall way store places f p 255) (λ (p : Text). afterList list way store places f p 255)
-    (λ p. call-is-after way store places f p 255 list h) texts spots
+-- `map_all`
+pub map-step : (direction : Direction) (store : Text) (places legs : List ℕ) (f : MapFunction) (texts : Text) (spots : List ℕ) (list : Validation)
+    → list ≡ validateCall (lentList store places (f .count) ∷ []) ([] ∷ []) [] → (i : ℕ) → mappedAt direction store places f texts spots i ≡ mapSpotBy list (Map f direction) store places legs texts spots 255 i
+unfolding mappedAt mapSpotBy mapPathBy
+map-step direction store places legs f texts spots list h =
+    spotted-same (λ (p : Text). directionCall direction store places f p 255) (λ (p : Text). afterListValidated list direction store places f p 255)
+    (λ p. call-is-after direction store places f p 255 list h) texts spots
 
 -- `route_all`
-module _ (home : Bool) (r : LentRoute) (texts : Text) (spots : List ℕ) (list : Asked) (e : list ≡ routeAsked r []) where
-  pub route-turn : (b : Bool) → b ≡ needsMaps list (r .legs) (r .count) → not b ≡ true
-      → (i : ℕ) → routedAt home r texts spots i ≡ spotBy list (Route (r .count) home) (r .store) (r .places) (r .legs) texts spots 255 i
-  unfolding routedAt spotBy carriedBy
-  route-turn b h k =
-      spotted-same (λ (p : Text). routeCall home r p 255) (λ (p : Text). afterLegs list home r p 255) (λ p. call-as-it-is home r p 255 list e b h k) texts spots
+module _ (home : Bool) (r : LentRoute) (texts : Text) (spots : List ℕ) (list : Validation) (e : list ≡ validateRoute r []) where
+  pub route-step : (b : Bool) → b ≡ needsMaps list (r .legs) (r .count) → not b ≡ true
+      → (i : ℕ) → routedAt home r texts spots i ≡ mapSpotBy list (Route (r .count) home) (r .store) (r .places) (r .legs) texts spots 255 i
+  unfolding routedAt mapSpotBy mapPathBy
+  route-step b h k =
+      spotted-same (λ (p : Text). routeCall home r p 255) (λ (p : Text). afterRouteValidated list home r p 255) (λ p. call-as-it-is home r p 255 list e b h k) texts spots
 
-  pub laid-turn : (made table : List ℕ) → length made ≡ 4096 → length table ≡ 48 → LaidIfPassed r (lentRoute (r .store) made table (r .count)) (r .count)
-      → (i : ℕ) → routedAt home r texts spots i ≡ spotBy list (Route (r .count) home) (r .store) made table texts spots 255 i
-  unfolding routedAt spotBy carriedBy
-  laid-turn made table l m laid =
-      spotted-same (λ (p : Text). routeCall home r p 255) (λ (p : Text). afterLegs list home (lentRoute (r .store) made table (r .count)) p 255)
-      (λ p. call-laid home r p 255 list e (lentRoute (r .store) made table (r .count)) refl l m laid) texts spots
+  pub prepared-step : (made table : List ℕ) → length made ≡ 4096 → length table ≡ 48 → PreparedIfPassed r (lentRoute (r .store) made table (r .count)) (r .count)
+      → (i : ℕ) → routedAt home r texts spots i ≡ mapSpotBy list (Route (r .count) home) (r .store) made table texts spots 255 i
+  unfolding routedAt mapSpotBy mapPathBy
+  prepared-step made table l m ready =
+      spotted-same (λ (p : Text). routeCall home r p 255) (λ (p : Text). afterRouteValidated list home (lentRoute (r .store) made table (r .count)) p 255)
+      (λ p. call-prepared home r p 255 list e (lentRoute (r .store) made table (r .count)) refl l m ready) texts spots

@@ -1,3 +1,3 @@
 -- The definitions of this crate.
 pub mod Batch
-pub mod Turn
+pub mod BatchStep

@@ -4,17 +4,17 @@ ghost use mathlib.Core.Path.{_≡_};
 ghost use mathlib.Core.Bool.{true};
 ghost use Prim.Native.Nat.{_+_, _*_, _≤_, _<_};
 ghost use lib.ListN.{length, set};
-ghost use Rattle.pairs.specs.Places.{inside};
-ghost use Rattle.path.specs.Outcome.{reply, memory};
-ghost use Rattle.codes.specs.Code.{replyCode};
+ghost use Rattle.pair_list.specs.Places.{inStore};
+ghost use Rattle.refusal.specs.Outcome.{outcomeReply, outcomeBuffer};
+ghost use Rattle.ffi_values.specs.Code.{replyCode};
 ghost use mathlib.Core.List.{[]};
-ghost use Rattle.legs.specs.Lent.{lentRoute, routeAsked};
-ghost use Rattle.batch.specs.Batch.{carriedAt, routedAt, blocks, numbers, enough, allAsked, allBytes, allReplies};
-ghost use Rattle.batch.specs.Turn.{carriedBy, spotBy, inBlock};
+ghost use Rattle.route_legs.specs.LentRoute.{lentRoute, validateRoute};
+ghost use Rattle.batch.specs.Batch.{mappedAt, routedAt, pathBuffers, replyNumbers, batchFits, validateBatch, batchBytes, batchReplies};
+ghost use Rattle.batch.specs.BatchStep.{mapPathBy, mapSpotBy, writtenBlock};
 
 // Returns whether the lent buffers suffice for n paths (question 5).
-fn has_room(n: usize, spots: usize, bytes: usize, replies: usize) -> bool
-    ensures { λ r. ⌜ r ≡ enough n spots bytes replies ⌝ }
+fn batch_fits(n: usize, spots: usize, bytes: usize, replies: usize) -> bool
+    ensures { λ r. ⌜ r ≡ batchFits n spots bytes replies ⌝ }
 {
     if spots / 2 < n {
         return false;
@@ -28,7 +28,7 @@ fn has_room(n: usize, spots: usize, bytes: usize, replies: usize) -> bool
 // Returns whether the place of text i lies within `texts`.
 fn is_inside(texts: &[u8], spots: &[usize], i: usize) -> bool
     requires { ⌜ 2 * i + 2 ≤ length (now spots) ⌝ }
-    ensures { λ r. ⌜ r ≡ inside (now (texts .entry)) (now (spots .entry)) i ⌝ }
+    ensures { λ r. ⌜ r ≡ inStore (now (texts .entry)) (now (spots .entry)) i ⌝ }
 {
     let start = spots[2 * i];
     let n = spots[2 * i + 1];
@@ -40,36 +40,44 @@ fn is_inside(texts: &[u8], spots: &[usize], i: usize) -> bool
 
 // What the batch maps the paths through: a map in one of its three directions, or a route of maps with its
 // number of legs, home if the flag is set.
-enum Carrier {
-    Map(map_function::MapFunction, mapping::Way),
+enum Mapper {
+    Map(map_function::MapFunction, mapping::Direction),
     Route(usize, bool),
 }
 
 // Maps one path.
-fn carry_one(
-    list: path::Asked,
-    by: Carrier,
+fn map_one(
+    list: refusal::Validation,
+    by: Mapper,
     store: &[u8],
     places: &[usize],
     legs: &[usize],
     path: &[u8],
     out: &mut [u8],
-) -> path::Reply
-    ensures { λ r. ⌜ r ≡ reply (carriedBy list by (now (store .entry)) (now (places .entry)) (now (legs .entry)) (length (now (out .entry))) (now (path .entry))) ⌝ }
-    ensures { λ r. ⌜ now (out .exit) ≡ memory (carriedBy list by (now (store .entry)) (now (places .entry)) (now (legs .entry)) (length (now (out .entry))) (now (path .entry))) (now (out .entry)) ⌝ }
+) -> refusal::Reply
+    ensures { λ r. ⌜ r ≡ outcomeReply (mapPathBy list by (now (store .entry)) (now (places .entry)) (now (legs .entry)) (length (now (out .entry))) (now (path .entry))) ⌝ }
+    ensures { λ r. ⌜ now (out .exit) ≡ outcomeBuffer (mapPathBy list by (now (store .entry)) (now (places .entry)) (now (legs .entry)) (length (now (out .entry))) (now (path .entry))) (now (out .entry)) ⌝ }
 {
     match by {
-        Carrier::Map(map, way) => mapping::carry_after(list, store, places, map, way, path, out),
-        Carrier::Route(n, home) => {
-            routing::route_after(list, store, places, legs, n, home, path, out)
+        Mapper::Map(map, direction) => mapping::map_after_list(
+            list,
+            store,
+            places,
+            map,
+            direction,
+            path,
+            out,
+        ),
+        Mapper::Route(n, home) => {
+            route::route_after(list, store, places, legs, n, home, path, out)
         }
     }
 }
 
 // Maps path i.
-fn carry_spot(
-    list: path::Asked,
-    by: Carrier,
+fn map_spot(
+    list: refusal::Validation,
+    by: Mapper,
     store: &[u8],
     places: &[usize],
     legs: &[usize],
@@ -77,22 +85,22 @@ fn carry_spot(
     spots: &[usize],
     i: usize,
     out: &mut [u8],
-) -> path::Reply
+) -> refusal::Reply
     requires { ⌜ 2 * i + 2 ≤ length (now spots) ⌝ }
-    ensures { λ r. ⌜ r ≡ reply (spotBy list by (now (store .entry)) (now (places .entry)) (now (legs .entry)) (now (texts .entry)) (now (spots .entry)) (length (now (out .entry))) i) ⌝ }
-    ensures { λ r. ⌜ now (out .exit) ≡ memory (spotBy list by (now (store .entry)) (now (places .entry)) (now (legs .entry)) (now (texts .entry)) (now (spots .entry)) (length (now (out .entry))) i) (now (out .entry)) ⌝ }
+    ensures { λ r. ⌜ r ≡ outcomeReply (mapSpotBy list by (now (store .entry)) (now (places .entry)) (now (legs .entry)) (now (texts .entry)) (now (spots .entry)) (length (now (out .entry))) i) ⌝ }
+    ensures { λ r. ⌜ now (out .exit) ≡ outcomeBuffer (mapSpotBy list by (now (store .entry)) (now (places .entry)) (now (legs .entry)) (now (texts .entry)) (now (spots .entry)) (length (now (out .entry))) i) (now (out .entry)) ⌝ }
 {
     if !is_inside(texts, spots, i) {
-        return path::Reply::Refused(path::Refusal::TooLong);
+        return refusal::Reply::Refused(refusal::Refusal::TooLong);
     }
-    let path = pairs::text_at(texts, spots, i);
-    carry_one(list, by, store, places, legs, path, out)
+    let path = pair_list::text_at(texts, spots, i);
+    map_one(list, by, store, places, legs, path, out)
 }
 
 // Maps path i into block i and stores its reply.
-fn carry_block(
-    list: path::Asked,
-    by: Carrier,
+fn map_block(
+    list: refusal::Validation,
+    by: Mapper,
     store: &[u8],
     places: &[usize],
     legs: &[usize],
@@ -105,12 +113,12 @@ fn carry_block(
     requires { ⌜ 2 * i + 2 ≤ length (now spots) ⌝ }
     requires { ⌜ 255 * i + 255 ≤ length (now out) ⌝ }
     requires { ⌜ i < length (now replies) ⌝ }
-    ensures { λ _. ⌜ now (out .exit) ≡ inBlock i (spotBy list by (now (store .entry)) (now (places .entry)) (now (legs .entry)) (now (texts .entry)) (now (spots .entry)) 255 i) (now (out .entry)) ⌝ }
-    ensures { λ _. ⌜ now (replies .exit) ≡ set (now (replies .entry)) i (replyCode (reply (spotBy list by (now (store .entry)) (now (places .entry)) (now (legs .entry)) (now (texts .entry)) (now (spots .entry)) 255 i))) ⌝ }
+    ensures { λ _. ⌜ now (out .exit) ≡ writtenBlock i (mapSpotBy list by (now (store .entry)) (now (places .entry)) (now (legs .entry)) (now (texts .entry)) (now (spots .entry)) 255 i) (now (out .entry)) ⌝ }
+    ensures { λ _. ⌜ now (replies .exit) ≡ set (now (replies .entry)) i (replyCode (outcomeReply (mapSpotBy list by (now (store .entry)) (now (places .entry)) (now (legs .entry)) (now (texts .entry)) (now (spots .entry)) 255 i))) ⌝ }
 {
     let at = 255 * i;
     let end = at + 255;
-    let r = carry_spot(
+    let r = map_spot(
         list,
         by,
         store,
@@ -121,13 +129,13 @@ fn carry_block(
         i,
         &mut out[at..end],
     );
-    replies[i] = codes::reply_code(r);
+    replies[i] = ffi_values::reply_code(r);
 }
 
 // Maps the n paths, each into its block, and stores their replies.
-fn carry_each(
-    list: path::Asked,
-    by: Carrier,
+fn map_each(
+    list: refusal::Validation,
+    by: Mapper,
     store: &[u8],
     places: &[usize],
     legs: &[usize],
@@ -137,39 +145,39 @@ fn carry_each(
     out: &mut [u8],
     replies: &mut [usize],
 )
-    requires { ⌜ enough n (length (now spots)) (length (now out)) (length (now replies)) ≡ true ⌝ }
-    ensures { λ _. ⌜ now (out .exit) ≡ blocks (spotBy list by (now (store .entry)) (now (places .entry)) (now (legs .entry)) (now (texts .entry)) (now (spots .entry)) 255) 0 n (now (out .entry)) ⌝ }
-    ensures { λ _. ⌜ now (replies .exit) ≡ numbers (spotBy list by (now (store .entry)) (now (places .entry)) (now (legs .entry)) (now (texts .entry)) (now (spots .entry)) 255) 0 n (now (replies .entry)) ⌝ }
+    requires { ⌜ batchFits n (length (now spots)) (length (now out)) (length (now replies)) ≡ true ⌝ }
+    ensures { λ _. ⌜ now (out .exit) ≡ pathBuffers (mapSpotBy list by (now (store .entry)) (now (places .entry)) (now (legs .entry)) (now (texts .entry)) (now (spots .entry)) 255) 0 n (now (out .entry)) ⌝ }
+    ensures { λ _. ⌜ now (replies .exit) ≡ replyNumbers (mapSpotBy list by (now (store .entry)) (now (places .entry)) (now (legs .entry)) (now (texts .entry)) (now (spots .entry)) 255) 0 n (now (replies .entry)) ⌝ }
 {
     let mut i = 0;
     while i < n {
-        carry_block(list, by, store, places, legs, texts, spots, i, out, replies);
+        map_block(list, by, store, places, legs, texts, spots, i, out, replies);
         i += 1;
     }
 }
 
 // Maps n paths through a map. Each path has the reply and the 255 bytes of the single call.
-pub fn carry_all(
+pub fn map_all(
     store: &[u8],
     places: &[usize],
     map: map_function::MapFunction,
-    way: mapping::Way,
+    direction: mapping::Direction,
     texts: &[u8],
     spots: &[usize],
     n: usize,
     out: &mut [u8],
     replies: &mut [usize],
-) -> path::Asked
-    ensures { λ r. ⌜ r ≡ allAsked (enough n (length (now (spots .entry))) (length (now (out .entry))) (length (now (replies .entry)))) ⌝ }
-    ensures { λ r. ⌜ now (out .exit) ≡ allBytes (enough n (length (now (spots .entry))) (length (now (out .entry))) (length (now (replies .entry)))) (carriedAt way (now (store .entry)) (now (places .entry)) map (now (texts .entry)) (now (spots .entry))) n (now (out .entry)) ⌝ }
-    ensures { λ r. ⌜ now (replies .exit) ≡ allReplies (enough n (length (now (spots .entry))) (length (now (out .entry))) (length (now (replies .entry)))) (carriedAt way (now (store .entry)) (now (places .entry)) map (now (texts .entry)) (now (spots .entry))) n (now (replies .entry)) ⌝ }
+) -> refusal::Validation
+    ensures { λ r. ⌜ r ≡ validateBatch (batchFits n (length (now (spots .entry))) (length (now (out .entry))) (length (now (replies .entry)))) ⌝ }
+    ensures { λ r. ⌜ now (out .exit) ≡ batchBytes (batchFits n (length (now (spots .entry))) (length (now (out .entry))) (length (now (replies .entry)))) (mappedAt direction (now (store .entry)) (now (places .entry)) map (now (texts .entry)) (now (spots .entry))) n (now (out .entry)) ⌝ }
+    ensures { λ r. ⌜ now (replies .exit) ≡ batchReplies (batchFits n (length (now (spots .entry))) (length (now (out .entry))) (length (now (replies .entry)))) (mappedAt direction (now (store .entry)) (now (places .entry)) map (now (texts .entry)) (now (spots .entry))) n (now (replies .entry)) ⌝ }
 {
-    if !has_room(n, spots.len(), out.len(), replies.len()) {
-        return path::Asked::Refused(path::Refusal::NoRoom);
+    if !batch_fits(n, spots.len(), out.len(), replies.len()) {
+        return refusal::Validation::Refused(refusal::Refusal::NoRoom);
     }
-    let list = asking::ask_path(store, places, map.count, &texts[..0]);
-    let by = Carrier::Map(map, way);
-    carry_each(
+    let list = validate::validate_list_and_path(store, places, map.count, &texts[..0]);
+    let by = Mapper::Map(map, direction);
+    map_each(
         list,
         by,
         store,
@@ -181,12 +189,12 @@ pub fn carry_all(
         out,
         replies,
     );
-    path::Asked::Passed
+    refusal::Validation::Passed
 }
 
 // Maps the n paths over a validated route that has a relocate list: prepares the maps of the legs first.
-fn route_laid(
-    list: path::Asked,
+fn route_prepared(
+    list: refusal::Validation,
     store: &[u8],
     places: &[usize],
     legs: &[usize],
@@ -198,16 +206,16 @@ fn route_laid(
     out: &mut [u8],
     replies: &mut [usize],
 )
-    requires { ⌜ enough n (length (now spots)) (length (now out)) (length (now replies)) ≡ true ⌝ }
-    requires { ⌜ list ≡ routeAsked (lentRoute (now store) (now places) (now legs) count) [] ⌝ }
-    ensures { λ _. ⌜ now (out .exit) ≡ blocks (routedAt home (lentRoute (now (store .entry)) (now (places .entry)) (now (legs .entry)) count) (now (texts .entry)) (now (spots .entry))) 0 n (now (out .entry)) ⌝ }
-    ensures { λ _. ⌜ now (replies .exit) ≡ numbers (routedAt home (lentRoute (now (store .entry)) (now (places .entry)) (now (legs .entry)) count) (now (texts .entry)) (now (spots .entry))) 0 n (now (replies .entry)) ⌝ }
+    requires { ⌜ batchFits n (length (now spots)) (length (now out)) (length (now replies)) ≡ true ⌝ }
+    requires { ⌜ list ≡ validateRoute (lentRoute (now store) (now places) (now legs) count) [] ⌝ }
+    ensures { λ _. ⌜ now (out .exit) ≡ pathBuffers (routedAt home (lentRoute (now (store .entry)) (now (places .entry)) (now (legs .entry)) count) (now (texts .entry)) (now (spots .entry))) 0 n (now (out .entry)) ⌝ }
+    ensures { λ _. ⌜ now (replies .exit) ≡ replyNumbers (routedAt home (lentRoute (now (store .entry)) (now (places .entry)) (now (legs .entry)) count) (now (texts .entry)) (now (spots .entry))) 0 n (now (replies .entry)) ⌝ }
 {
     let mut made = [0usize; 4096];
     let mut table = [0usize; 48];
-    laying::lay_legs(store, places, legs, count, &mut made, &mut table);
-    let by = Carrier::Route(count, home);
-    carry_each(
+    route_maps::prepare_legs(store, places, legs, count, &mut made, &mut table);
+    let by = Mapper::Route(count, home);
+    map_each(
         list,
         by,
         store,
@@ -223,7 +231,7 @@ fn route_laid(
 
 // Maps the n paths over a route whose validation returned `list`.
 fn route_each(
-    list: path::Asked,
+    list: refusal::Validation,
     store: &[u8],
     places: &[usize],
     legs: &[usize],
@@ -235,17 +243,17 @@ fn route_each(
     out: &mut [u8],
     replies: &mut [usize],
 )
-    requires { ⌜ enough n (length (now spots)) (length (now out)) (length (now replies)) ≡ true ⌝ }
-    requires { ⌜ list ≡ routeAsked (lentRoute (now store) (now places) (now legs) count) [] ⌝ }
-    ensures { λ _. ⌜ now (out .exit) ≡ blocks (routedAt home (lentRoute (now (store .entry)) (now (places .entry)) (now (legs .entry)) count) (now (texts .entry)) (now (spots .entry))) 0 n (now (out .entry)) ⌝ }
-    ensures { λ _. ⌜ now (replies .exit) ≡ numbers (routedAt home (lentRoute (now (store .entry)) (now (places .entry)) (now (legs .entry)) count) (now (texts .entry)) (now (spots .entry))) 0 n (now (replies .entry)) ⌝ }
+    requires { ⌜ batchFits n (length (now spots)) (length (now out)) (length (now replies)) ≡ true ⌝ }
+    requires { ⌜ list ≡ validateRoute (lentRoute (now store) (now places) (now legs) count) [] ⌝ }
+    ensures { λ _. ⌜ now (out .exit) ≡ pathBuffers (routedAt home (lentRoute (now (store .entry)) (now (places .entry)) (now (legs .entry)) count) (now (texts .entry)) (now (spots .entry))) 0 n (now (out .entry)) ⌝ }
+    ensures { λ _. ⌜ now (replies .exit) ≡ replyNumbers (routedAt home (lentRoute (now (store .entry)) (now (places .entry)) (now (legs .entry)) count) (now (texts .entry)) (now (spots .entry))) 0 n (now (replies .entry)) ⌝ }
 {
-    if !routing::needs_maps(list, legs, count) {
-        let by = Carrier::Route(count, home);
-        carry_each(list, by, store, places, legs, texts, spots, n, out, replies);
+    if !route::needs_maps(list, legs, count) {
+        let by = Mapper::Route(count, home);
+        map_each(list, by, store, places, legs, texts, spots, n, out, replies);
         return;
     }
-    route_laid(
+    route_prepared(
         list,
         store,
         places,
@@ -272,15 +280,15 @@ pub fn route_all(
     n: usize,
     out: &mut [u8],
     replies: &mut [usize],
-) -> path::Asked
-    ensures { λ r. ⌜ r ≡ allAsked (enough n (length (now (spots .entry))) (length (now (out .entry))) (length (now (replies .entry)))) ⌝ }
-    ensures { λ r. ⌜ now (out .exit) ≡ allBytes (enough n (length (now (spots .entry))) (length (now (out .entry))) (length (now (replies .entry)))) (routedAt home (lentRoute (now (store .entry)) (now (places .entry)) (now (legs .entry)) count) (now (texts .entry)) (now (spots .entry))) n (now (out .entry)) ⌝ }
-    ensures { λ r. ⌜ now (replies .exit) ≡ allReplies (enough n (length (now (spots .entry))) (length (now (out .entry))) (length (now (replies .entry)))) (routedAt home (lentRoute (now (store .entry)) (now (places .entry)) (now (legs .entry)) count) (now (texts .entry)) (now (spots .entry))) n (now (replies .entry)) ⌝ }
+) -> refusal::Validation
+    ensures { λ r. ⌜ r ≡ validateBatch (batchFits n (length (now (spots .entry))) (length (now (out .entry))) (length (now (replies .entry)))) ⌝ }
+    ensures { λ r. ⌜ now (out .exit) ≡ batchBytes (batchFits n (length (now (spots .entry))) (length (now (out .entry))) (length (now (replies .entry)))) (routedAt home (lentRoute (now (store .entry)) (now (places .entry)) (now (legs .entry)) count) (now (texts .entry)) (now (spots .entry))) n (now (out .entry)) ⌝ }
+    ensures { λ r. ⌜ now (replies .exit) ≡ batchReplies (batchFits n (length (now (spots .entry))) (length (now (out .entry))) (length (now (replies .entry)))) (routedAt home (lentRoute (now (store .entry)) (now (places .entry)) (now (legs .entry)) count) (now (texts .entry)) (now (spots .entry))) n (now (replies .entry)) ⌝ }
 {
-    if !has_room(n, spots.len(), out.len(), replies.len()) {
-        return path::Asked::Refused(path::Refusal::NoRoom);
+    if !batch_fits(n, spots.len(), out.len(), replies.len()) {
+        return refusal::Validation::Refused(refusal::Refusal::NoRoom);
     }
-    let list = legs::ask_legs(store, places, legs, count);
+    let list = route_legs::validate_legs(store, places, legs, count);
     route_each(
         list,
         store,
@@ -294,5 +302,5 @@ pub fn route_all(
         out,
         replies,
     );
-    path::Asked::Passed
+    refusal::Validation::Passed
 }

@@ -1,3 +1,3 @@
 -- The lemmas and theorems of this crate.
-pub mod Holds
+pub mod Table
 pub mod Wrong

@@ -9,20 +9,20 @@ use mathlib.Core.Option.{Option, none}
 use Prim.Native.Nat.{ℕ}
 use lib.ListN.{replicate}
 use Rattle.text.specs.Text.{Text, bytes}
-use Rattle.path.specs.declared.Refusal.the-variants.{NoRoom, NoPath}
-use Rattle.path.specs.Outcome.{Outcome, path, refused, memory}
-use Rattle.deriving.specs.Calls.{replacePrefixCall}
-use Rattle.pairs.specs.Pair.{Pair, noEmptySource}
-use Rattle.maps.specs.Map.{Map}
-use Rattle.maps.specs.Leg.{translate, home, PlainPath, ThereAndBack}
-use Rattle.chaining.specs.Chain.{Chained, chained, stopped, chain}
-use Rattle.route.specs.Leg.{Leg, by-map, legMap, legEnds, outward}
-use Rattle.route.specs.Route.{onward, along, met}
-use Rattle.cases.specs.Table.{pair, unmarked, turning}
+use Rattle.refusal.specs.declared.Refusal.the-variants.{NoRoom, NoPath}
+use Rattle.refusal.specs.Outcome.{Outcome, path, refused, outcomeBuffer}
+use Rattle.path_derive.specs.Calls.{replacePrefixCall}
+use Rattle.pair_list.specs.Pair.{Pair, noEmptySource}
+use Rattle.map_spec.specs.Map.{Map}
+use Rattle.map_spec.specs.Leg.{translateChecked, mapBackChecked, SelectionFreePath, PlainRoundTrip}
+use Rattle.relocate_chain.specs.Chain.{Chained, chained, stopped, chain}
+use Rattle.route_spec.specs.Leg.{Leg, by-map, legMap, legEnds, outward}
+use Rattle.route_spec.specs.Route.{andThen, foldLegs, trace}
+use Rattle.cases.specs.Table.{stringPair, unmarkedMap, rotating}
 
 -- The tool and the definition differ on the input x.
-abbrev pub Parts : {A B : Type 0} → (A → B) → (A → B) → A → Type 0
-Parts tool definition x = tool x ≢ definition x
+abbrev pub DiffersAt : {A B : Type 0} → (A → B) → (A → B) → A → Type 0
+DiffersAt tool definition x = tool x ≢ definition x
 
 -- The tool that "hands each path back unmoved", over any leg.
 abbrev pub unmoved : {A : Type 0} → A → Text → Outcome
@@ -37,20 +37,20 @@ abbrev pub rootToAll : {A : Type 0} → A → Text → Outcome
 rootToAll leg p = path (bytes "/")
 
 -- The tool that "maps over the first leg and copies over the others".
-unfoldable pub firstOnly : {A : Type 0} → (A → Text → Outcome) → List A → Text → Outcome
-unfolding along
-firstOnly go [] p = path p
-firstOnly go (x ∷ xs) p = onward (along unmoved xs) (go x p)
+unfoldable pub firstLegOnly : {A : Type 0} → (A → Text → Outcome) → List A → Text → Outcome
+unfolding foldLegs
+firstLegOnly go [] p = path p
+firstLegOnly go (x ∷ xs) p = andThen (foldLegs unmoved xs) (go x p)
 
 -- A chain result with its number of replacements replaced by k.
-abbrev pub counting : ℕ → Chained → Chained
-counting k (chained q n) = chained q k
-counting k (stopped x) = stopped x
+abbrev pub withSteps : ℕ → Chained → Chained
+withSteps k (chained q n) = chained q k
+withSteps k (stopped x) = stopped x
 
 -- The tool "with an invented step count": the right last path, but k as the number of replacements.
 unfoldable pub inventedSteps : ℕ → Option Text → List Pair → Text → Chained
 unfolding chain
-inventedSteps k skip l p = counting k (chain skip l p)
+inventedSteps k skip l p = withSteps k (chain skip l p)
 
 -- The tool that "says 5 without comparing lengths".
 abbrev pub fiveToAll : Text → Text → Text → ℕ → Outcome
@@ -60,25 +60,25 @@ fiveToAll p s t room = refused NoRoom
 abbrev pub writesNothing : Outcome → Text → Text
 writesNothing o out = out
 
--- The first half of the round-trip requirement (`Returns` in crates/route/specs/Route.antt), for any functions that map out and home.
-abbrev pub FirstHalf : (Leg → Text → Outcome) → (Leg → Text → Outcome) → Type 0
-FirstHalf goes comes =
-    (legs : List Leg) (p q : Text) → along goes legs p ≡ path q
-    → (along comes (reverse legs) q ≡ path p) × (met comes (reverse legs) q ≡ reverse (met goes legs p))
+-- The first half of the round-trip requirement (`Returns` in crates/route_spec/specs/Route.antt), for any functions that map out and home.
+abbrev pub ReturnsHome : (Leg → Text → Outcome) → (Leg → Text → Outcome) → Type 0
+ReturnsHome goes comes =
+    (legs : List Leg) (p q : Text) → foldLegs goes legs p ≡ path q
+    → (foldLegs comes (reverse legs) q ≡ path p) × (trace comes (reverse legs) q ≡ reverse (trace goes legs p))
 
 -- The second half of the round-trip requirement, for any function that maps out.
-abbrev pub SecondHalf : (Leg → Text → Outcome) → Type 0
-SecondHalf goes =
-    (x : Leg) (r : Text) → legEnds x ≡ true → PlainPath r → noEmptySource ((legMap x) .pairs) ≡ true
-    → (q : Text) → (goes x r ≡ path q) ↔ ThereAndBack (legMap x) r q
+abbrev pub GivesExactly : (Leg → Text → Outcome) → Type 0
+GivesExactly goes =
+    (x : Leg) (r : Text) → legEnds x ≡ true → SelectionFreePath r → noEmptySource ((legMap x) .pairs) ≡ true
+    → (q : Text) → (goes x r ≡ path q) ↔ PlainRoundTrip (legMap x) r q
 
 -- The map of `/A`→`/B`.
 abbrev pub aToB : Map
-aToB = unmarked (pair "/A" "/B" ∷ [])
+aToB = unmarkedMap (stringPair "/A" "/B" ∷ [])
 
 -- A route of two legs, `/A`→`/B` and `/B`→`/C`.
 abbrev pub aToBToC : List Leg
-aToBToC = by-map aToB ∷ by-map (unmarked (pair "/B" "/C" ∷ [])) ∷ []
+aToBToC = by-map aToB ∷ by-map (unmarkedMap (stringPair "/B" "/C" ∷ [])) ∷ []
 
 -- A lent buffer of 255 bytes.
 abbrev pub lentBytes : Text
@@ -87,24 +87,24 @@ lentBytes = replicate 255 0
 -- Each wrong tool fails the requirement named in its comment.
 pub record WrongTools : Type 0 where
   -- Returning each path unmoved fails demand 2; it meets the first half of demand 3, but not the second.
-  pub unmoved-out : Parts (unmoved aToB) (translate aToB) (bytes "/A/D")
-  pub unmoved-home : Parts (unmoved aToB) (home aToB) (bytes "/B/D")
-  pub unmoved-returns : FirstHalf unmoved unmoved
-  pub unmoved-inexact : SecondHalf unmoved → ⊥
+  pub unmoved-out : DiffersAt (unmoved aToB) (translateChecked aToB) (bytes "/A/D")
+  pub unmoved-home : DiffersAt (unmoved aToB) (mapBackChecked aToB) (bytes "/B/D")
+  pub unmoved-returns : ReturnsHome unmoved unmoved
+  pub unmoved-inexact : GivesExactly unmoved → ⊥
   -- Always returning "no path" fails demand 2 and the second half of demand 3; the first half requires nothing of a tool that yields no
   -- path.
-  pub no-path-out : Parts (noPath aToB) (translate aToB) (bytes "/A/D")
-  pub no-path-home : Parts (noPath aToB) (home aToB) (bytes "/B/D")
-  pub no-path-returns : FirstHalf noPath noPath
-  pub no-path-inexact : SecondHalf noPath → ⊥
+  pub no-path-out : DiffersAt (noPath aToB) (translateChecked aToB) (bytes "/A/D")
+  pub no-path-home : DiffersAt (noPath aToB) (mapBackChecked aToB) (bytes "/B/D")
+  pub no-path-returns : ReturnsHome noPath noPath
+  pub no-path-inexact : GivesExactly noPath → ⊥
   -- Always returning `/` fails demand 2.
-  pub root-out : Parts (rootToAll aToB) (translate aToB) (bytes "/A/D")
-  pub root-home : Parts (rootToAll aToB) (home aToB) (bytes "/B/D")
+  pub root-out : DiffersAt (rootToAll aToB) (translateChecked aToB) (bytes "/A/D")
+  pub root-home : DiffersAt (rootToAll aToB) (mapBackChecked aToB) (bytes "/B/D")
   -- Mapping over the first leg only fails demand 2, leg by leg.
-  pub first-only : Parts (firstOnly outward aToBToC) (along outward aToBToC) (bytes "/A/D")
+  pub first-only : DiffersAt (firstLegOnly outward aToBToC) (foldLegs outward aToBToC) (bytes "/A/D")
   -- An invented step count fails the chaining definition, whatever the count is, unless it is the right one.
-  pub invented-steps : (k : ℕ) → k ≢ 2 → Parts (inventedSteps k none turning) (chain none turning) (bytes "/R/a/b/d/b/d")
+  pub invented-steps : (k : ℕ) → k ≢ 2 → DiffersAt (inventedSteps k none rotating) (chain none rotating) (bytes "/R/a/b/d/b/d")
   -- Always refusing with 5 fails question 5: 255 bytes are enough.
-  pub five-to-all : Parts (fiveToAll (bytes "/A/D") (bytes "/A") (bytes "/B")) (replacePrefixCall (bytes "/A/D") (bytes "/A") (bytes "/B")) 255
+  pub five-to-all : DiffersAt (fiveToAll (bytes "/A/D") (bytes "/A") (bytes "/B")) (replacePrefixCall (bytes "/A/D") (bytes "/A") (bytes "/B")) 255
   -- Writing nothing fails demand 2: the bytes of the result must be written.
-  pub writes-nothing : Parts (writesNothing (translate aToB (bytes "/A/D"))) (memory (translate aToB (bytes "/A/D"))) lentBytes
+  pub writes-nothing : DiffersAt (writesNothing (translateChecked aToB (bytes "/A/D"))) (outcomeBuffer (translateChecked aToB (bytes "/A/D"))) lentBytes

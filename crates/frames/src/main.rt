@@ -8,20 +8,20 @@ use libc::STDOUT_FILENO;
 
 // The result of processing some bytes: the number of bytes consumed, the length of the line so far, the
 // counters, and whether the replies were written.
-struct Part {
+struct AnswerPart {
     used: usize,
     len: usize,
-    kept: memory::Kept,
+    kept: frames_memory::Counters,
     written: bool,
 }
 
 // The state of the main loop: the remaining range of the input block, the length of the line so far, the
 // counters, and whether to continue.
-struct Now {
+struct StreamNow {
     at: usize,
     end: usize,
     len: usize,
-    kept: memory::Kept,
+    kept: frames_memory::Counters,
     more: bool,
 }
 
@@ -30,22 +30,33 @@ fn answer(
     part: &[u8],
     line: &mut [u8; 4096],
     len: usize,
-    k: memory::Kept,
+    k: frames_memory::Counters,
     bytes: &mut [u8; 32640],
     places: &mut [usize; 256],
     store: &mut [u8; 32768],
     slots: &mut [usize; 4096],
     table: &mut [usize; 48],
     out: &mut [u8; 65536],
-) -> Part
+) -> AnswerPart
     ensures { λ r. ⌜ r .used ≤ length (now (part .entry)) ⌝ }
 {
-    let f = feeding::feed(part, line, len, k, bytes, places, store, slots, table, out);
+    let f = frame_stream::process_block(
+        part,
+        line,
+        len,
+        k,
+        bytes,
+        places,
+        store,
+        slots,
+        table,
+        out,
+    );
     let kept = f.kept;
     let wrote = f.end;
     let all = &out[..];
     let written = io::write_all(STDOUT_FILENO, &all[..wrote]);
-    Part {
+    AnswerPart {
         used: f.used,
         len: f.len,
         kept,
@@ -61,20 +72,20 @@ fn step(
     end: usize,
     line: &mut [u8; 4096],
     len: usize,
-    k: memory::Kept,
+    k: frames_memory::Counters,
     bytes: &mut [u8; 32640],
     places: &mut [usize; 256],
     store: &mut [u8; 32768],
     slots: &mut [usize; 4096],
     table: &mut [usize; 48],
     out: &mut [u8; 65536],
-) -> Now {
+) -> StreamNow {
     if at < end && end <= 65536 {
         let whole = &block[..];
         let part = &whole[at..end];
         let p = answer(part, line, len, k, bytes, places, store, slots, table, out);
         let kept = p.kept;
-        return Now {
+        return StreamNow {
             at: at + p.used,
             end,
             len: p.len,
@@ -87,7 +98,7 @@ fn step(
     if n == 0 {
         finish(line, len, k, bytes, places, store, slots, table, out);
     }
-    Now {
+    StreamNow {
         at: 0,
         end: n,
         len,
@@ -100,7 +111,7 @@ fn step(
 fn finish(
     line: &mut [u8; 4096],
     len: usize,
-    k: memory::Kept,
+    k: frames_memory::Counters,
     bytes: &mut [u8; 32640],
     places: &mut [usize; 256],
     store: &mut [u8; 32768],
@@ -127,10 +138,10 @@ fn main() {
     let mut at = 0;
     let mut end = 0;
     let mut len = 0;
-    let mut kept = memory::Kept {
-        opened: holding::Opened { pairs: 0, bytes: 0 },
-        legs: closing::Legs { count: 0, bytes: 0 },
-        answered: 0,
+    let mut kept = frames_memory::Counters {
+        opened: open_list::OpenList { pairs: 0, bytes: 0 },
+        legs: close_leg::LegTotals { count: 0, bytes: 0 },
+        outs: 0,
     };
     let mut more = true;
     let mut steps = u64::MAX;

@@ -3,4 +3,4 @@ pub mod NeutralLaws
 pub mod NumberLaws
 pub mod OffsetLaws
 pub mod RoundLaws
-pub mod Ways
+pub mod Branches

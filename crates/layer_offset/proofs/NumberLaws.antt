@@ -1,4 +1,4 @@
--- Lemmas about one float: what `is_finite`, `is_small` and `pattern` compute.
+-- Lemmas about one float: what `is_finite`, `is_small` and `bitPattern` compute.
 use mathlib.Core.Path.{_≡_, refl, sym, ap, _∙_, subst}
 use mathlib.Core.Bool.{Bool, true, false, not, false≢true}
 use Prim.Native.Nat.{ℕ, _+_, _*_, _<_}
@@ -11,7 +11,7 @@ use lib.Ieee.Compare.{differs-from-itself}
 use lib.Ieee.Fits.{up-pos, down-pos}
 use lib.Ieee.Scale.{round-same}
 use borrow.Author.Tests.{ltb-false, lt-ltb, le-ltb}
-use Rattle.layer_offset.specs.Number.{plusZero, tolerance, isFinite, magnitude, isSmall, pattern}
+use Rattle.layer_offset.specs.Number.{plusZero, tolerance, isFinite, absoluteValue, isSmall, bitPattern}
 
 -- A fraction that is zero rounds to zero.
 pub round-zero : (s : Bool) (c : ℕ) → 0 < c → round binary64 s 0 c ≡ round binary64 s 0 1
@@ -37,7 +37,7 @@ module _ (n : ℕ) (d : ℤ) (h : 0 < n) where
   reach : (e : ℤ) → 0 < n * up d * down e
   reach e = mul-pos (mul-pos h (up-pos d)) (down-pos e)
 
-  above : (x : Float) → lt (fin true n d) x ≡ true → lt x (fin false n d) ≡ lt (magnitude x) (fin false n d)
+  above : (x : Float) → lt (fin true n d) x ≡ true → lt x (fin false n d) ≡ lt (absoluteValue x) (fin false n d)
   unfolding lt
   above nan k = refl
   above (inf true) k = sym k
@@ -45,7 +45,7 @@ module _ (n : ℕ) (d : ℤ) (h : 0 < n) where
   above (fin true m e) k = lt-ltb 0 (m * up e * down d + n * up d * down e) (omega (arith, reach e)) ∙ sym k
   above (fin false m e) k = refl
 
-  not-above : (x : Float) → lt (fin true n d) x ≡ false → lt (fin true n d) x ≡ lt (magnitude x) (fin false n d)
+  not-above : (x : Float) → lt (fin true n d) x ≡ false → lt (fin true n d) x ≡ lt (absoluteValue x) (fin false n d)
   unfolding lt
   not-above nan k = refl
   not-above (inf true) k = refl
@@ -61,8 +61,8 @@ pub not-above-lower : (x : Float) → lt (neg tolerance) x ≡ false → lt (neg
 unfolding isSmall neg
 not-above-lower x k = not-above _ _ (omega arith) x k
 
--- Lemmas for `pattern`: only a NaN differs from itself.
-pub pattern-nan : (x : Float) → ne x x ≡ true → 0x7ff8_0000_0000_0000 ≡ pattern x
+-- Lemmas for `bitPattern`: only a NaN differs from itself.
+pub pattern-nan : (x : Float) → ne x x ≡ true → 0x7ff8_0000_0000_0000 ≡ bitPattern x
 unfolding toBits
 pattern-nan x h = rw (differs-from-itself x (subst T (sym h) tt))
 

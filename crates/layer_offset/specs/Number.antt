@@ -25,16 +25,16 @@ isFinite (inf s) = false
 isFinite (fin s m e) = true
 
 -- The absolute value: the sign is cleared (Rust: abs).
-abbrev pub magnitude : Float → Float
-magnitude nan = nan
-magnitude (inf s) = inf false
-magnitude (fin s m e) = fin false m e
+abbrev pub absoluteValue : Float → Float
+absoluteValue nan = nan
+absoluteValue (inf s) = inf false
+absoluteValue (fin s m e) = fin false m e
 
 -- The float is closer to zero than the tolerance.
 unfoldable pub isSmall : Float → Bool
-isSmall x = lt (magnitude x) tolerance
+isSmall x = lt (absoluteValue x) tolerance
 
 -- The bits of the float (Rust: to_bits). The requirements leave the bits of a NaN open; here every NaN has the pattern
 -- 0x7ff8_0000_0000_0000.
-abbrev pub pattern : Float → ℕ
-pattern x = toBits binary64 x
+abbrev pub bitPattern : Float → ℕ
+bitPattern x = toBits binary64 x

@@ -1,7 +1,7 @@
 // Time offsets between layers. Ports LayerOffset of the Rust sdf/mod.rs, except the functions that need
 // a Value. Every function is total: none has a precondition.
 ghost use mathlib.Core.Path.{_≡_};
-ghost use Rattle.layer_offset.specs.Offset.{timed, isIdentity, isValid, isValidComposition, sanitized, applied, concatenated, inverted, patterns, samePatterns, isNear, isClose};
+ghost use Rattle.layer_offset.specs.Offset.{layerOffset, isIdentity, isValid, isValidComposition, sanitized, applyOffset, concatenateOffsets, inverseOffset, offsetBits, sameBits, isNear, isClose};
 ghost use Rattle.layer_offset.specs.Number.{plusZero};
 
 mod number;
@@ -18,7 +18,7 @@ pub struct OffsetBits(pub u64, pub u64);
 impl OffsetBits {
     // Returns whether both patterns are equal.
     fn is_same(self, other: OffsetBits) -> bool
-        ensures { λ r. ⌜ r ≡ samePatterns self other ⌝ }
+        ensures { λ r. ⌜ r ≡ sameBits self other ⌝ }
     {
         self.0 == other.0 && self.1 == other.1
     }
@@ -33,14 +33,14 @@ impl LayerOffset {
 
     // Returns the time offset with these two numbers.
     pub fn new(offset: f64, scale: f64) -> Self
-        ensures { λ r. ⌜ r ≡ timed offset scale ⌝ }
+        ensures { λ r. ⌜ r ≡ layerOffset offset scale ⌝ }
     {
         Self { offset, scale }
     }
 
     // Returns a time offset that scales without shifting.
     pub fn scale_only(scale: f64) -> Self
-        ensures { λ r. ⌜ r ≡ timed plusZero scale ⌝ }
+        ensures { λ r. ⌜ r ≡ layerOffset plusZero scale ⌝ }
     {
         Self { offset: 0.0, scale }
     }
@@ -79,21 +79,21 @@ impl LayerOffset {
 
     // Returns the bits of both numbers; for every NaN, 0x7ff8_0000_0000_0000.
     pub fn to_bits(self) -> OffsetBits
-        ensures { λ r. ⌜ r ≡ patterns self ⌝ }
+        ensures { λ r. ⌜ r ≡ offsetBits self ⌝ }
     {
         OffsetBits(number::pattern(self.offset), number::pattern(self.scale))
     }
 
     // Maps a time to offset + scale * time.
     pub fn apply(self, time: f64) -> f64
-        ensures { λ r. ⌜ r ≡ applied self time ⌝ }
+        ensures { λ r. ⌜ r ≡ applyOffset self time ⌝ }
     {
         self.offset + self.scale * time
     }
 
     // Returns the inverse; the identity if the scale is zero.
     pub fn inverse(self) -> LayerOffset
-        ensures { λ r. ⌜ r ≡ inverted self ⌝ }
+        ensures { λ r. ⌜ r ≡ inverseOffset self ⌝ }
     {
         if self.scale == 0.0 {
             return LayerOffset::IDENTITY;
@@ -125,7 +125,7 @@ impl LayerOffset {
     // Returns the concatenation of this time offset, the outer one, with `inner`, which is applied
     // first.
     pub fn concatenate(self, inner: LayerOffset) -> LayerOffset
-        ensures { λ r. ⌜ r ≡ concatenated self inner ⌝ }
+        ensures { λ r. ⌜ r ≡ concatenateOffsets self inner ⌝ }
     {
         LayerOffset {
             offset: self.offset + self.scale * inner.offset,

@@ -23,7 +23,7 @@ pub fn is_small(x: f64) -> bool
 // Returns the bits of the number; one fixed pattern for every NaN, because the bits of a NaN are left
 // open.
 pub fn pattern(x: f64) -> u64
-    ensures { λ r. ⌜ r ≡ spec.pattern x ⌝ }
+    ensures { λ r. ⌜ r ≡ spec.bitPattern x ⌝ }
 {
     if x != x {
         return 0x7ff8_0000_0000_0000;

@@ -1,3 +1,3 @@
 -- The lemmas of this crate. The proof of each function is in the folder of its name.
-pub mod NewWays
-pub mod ReadWays
+pub mod NewBranches
+pub mod ReadBranches

@@ -1,3 +1,3 @@
 -- The definitions of this crate.
-pub mod Made
-pub mod Read
+pub mod MapOutcome
+pub mod MapFunction

@@ -1,12 +1,12 @@
 // The map type (MapFunction of the Rust pcp/mapping.rs), and building a map in canonical form in lent
 // memory. The pairs of a map are in buffers that the caller lends; the struct holds the rest.
 ghost use mathlib.Core.Path.{_≡_};
-ghost use Rattle.pairs.specs.Places.{pairsIn};
-ghost use Rattle.asking.specs.Asking.{lentList};
-ghost use Rattle.maps.specs.New.{identity, null};
-ghost use Rattle.layer_offset.specs.Offset.{identity as noOffset};
-ghost use Rattle.map_function.specs.Read.{isNull, isPathIdentity, isIdentityMap, timedMap};
-ghost use Rattle.map_function.specs.Made.{numbersOf, GivesMap, held, asItIs, fromPartsOutcome};
+ghost use Rattle.pair_list.specs.Places.{pairsIn};
+ghost use Rattle.validate.specs.Validate.{lentList};
+ghost use Rattle.map_spec.specs.New.{identityMap, nullMap};
+ghost use Rattle.layer_offset.specs.Offset.{identityOffset};
+ghost use Rattle.map_function.specs.MapFunction.{isNull, pathIsIdentity, isIdentityMap, withTimeOffset};
+ghost use Rattle.map_function.specs.MapOutcome.{mapFunction, ReturnsMap, countInSlice, withoutDropping, fromPartsOutcome};
 
 // A map without its pairs.
 pub struct MapFunction {
@@ -21,7 +21,7 @@ pub struct MapFunction {
 impl MapFunction {
     // Returns the identity map: every path maps to itself.
     pub fn identity() -> Self
-        ensures { λ r. ⌜ r ≡ numbersOf identity noOffset ⌝ }
+        ensures { λ r. ⌜ r ≡ mapFunction identityMap identityOffset ⌝ }
     {
         Self {
             count: 0,
@@ -32,7 +32,7 @@ impl MapFunction {
 
     // Returns the null map: no path is mapped.
     pub fn null() -> Self
-        ensures { λ r. ⌜ r ≡ numbersOf null noOffset ⌝ }
+        ensures { λ r. ⌜ r ≡ mapFunction nullMap identityOffset ⌝ }
     {
         Self {
             count: 0,
@@ -53,7 +53,7 @@ impl MapFunction {
 
     // Returns whether this is the identity on paths, whatever its time offset.
     pub fn path_is_identity(self) -> bool
-        ensures { λ r. ⌜ r ≡ isPathIdentity self ⌝ }
+        ensures { λ r. ⌜ r ≡ pathIsIdentity self ⌝ }
     {
         if self.count != 0 {
             return false;
@@ -87,7 +87,7 @@ impl MapFunction {
 
     // Returns the map with its time offset replaced; its pairs are unchanged.
     pub fn with_time_offset(self, offset: layer_offset::LayerOffset) -> Self
-        ensures { λ r. ⌜ r ≡ timedMap self offset ⌝ }
+        ensures { λ r. ⌜ r ≡ withTimeOffset self offset ⌝ }
     {
         Self {
             count: self.count,
@@ -100,7 +100,7 @@ impl MapFunction {
 // The reply of a call that builds a map.
 pub enum MapReply {
     Made(MapFunction),
-    Refused(path::Refusal),
+    Refused(refusal::Refusal),
 }
 
 // Builds the map of the first n pairs in canonical form, and writes its pairs to `out` and `slots`.
@@ -114,24 +114,24 @@ pub fn from_parts(
     out: &mut [u8],
     slots: &mut [usize],
 ) -> MapReply
-    ensures { λ r. ⌜ GivesMap (held (lentList (now (store .entry)) (now (places .entry)) n) (fromPartsOutcome (pairsIn (now (store .entry)) (now (places .entry)) n) mark time (now (out .entry)) (now (slots .entry)))) r (now (out .entry)) (now (out .exit)) (now (slots .entry)) (now (slots .exit)) ⌝ }
+    ensures { λ r. ⌜ ReturnsMap (countInSlice (lentList (now (store .entry)) (now (places .entry)) n) (fromPartsOutcome (pairsIn (now (store .entry)) (now (places .entry)) n) mark time (now (out .entry)) (now (slots .entry)))) r (now (out .entry)) (now (out .exit)) (now (slots .entry)) (now (slots .exit)) ⌝ }
 {
     if 64 < n {
-        return MapReply::Refused(path::Refusal::TooMany);
+        return MapReply::Refused(refusal::Refusal::TooMany);
     }
     if places.len() / 4 < n {
-        return MapReply::Refused(path::Refusal::TooMany);
+        return MapReply::Refused(refusal::Refusal::TooMany);
     }
     if slots.len() / 4 < n {
-        return MapReply::Refused(path::Refusal::NoRoom);
+        return MapReply::Refused(refusal::Refusal::NoRoom);
     }
-    if !listing::has_room(store, places, n, out.len()) {
-        return MapReply::Refused(path::Refusal::NoRoom);
+    if !pair_list_write::list_fits(store, places, n, out.len()) {
+        return MapReply::Refused(refusal::Refusal::NoRoom);
     }
-    let marked = canonical::is_marked(mark, store, places, n);
+    let marked = map_canonical::is_marked(mark, store, places, n);
     let mut kept = [0usize; 256];
-    let w = canonical::canonical_places(store, places, n, marked, &mut kept);
-    listing::write_list(store, &kept, w, out, slots);
+    let w = map_canonical::canonical_places(store, places, n, marked, &mut kept);
+    pair_list_write::write_list(store, &kept, w, out, slots);
     MapReply::Made(MapFunction {
         count: w,
         has_root_identity: marked,
@@ -140,7 +140,7 @@ pub fn from_parts(
 }
 
 // Builds the map of the first n pairs unchanged, and writes them to `out` and `slots`.
-pub fn as_it_is(
+pub fn without_dropping(
     store: &[u8],
     places: &[usize],
     n: usize,
@@ -149,17 +149,17 @@ pub fn as_it_is(
     out: &mut [u8],
     slots: &mut [usize],
 ) -> MapReply
-    ensures { λ r. ⌜ GivesMap (held (lentList (now (store .entry)) (now (places .entry)) n) (asItIs (pairsIn (now (store .entry)) (now (places .entry)) n) mark time (now (out .entry)) (now (slots .entry)))) r (now (out .entry)) (now (out .exit)) (now (slots .entry)) (now (slots .exit)) ⌝ }
+    ensures { λ r. ⌜ ReturnsMap (countInSlice (lentList (now (store .entry)) (now (places .entry)) n) (withoutDropping (pairsIn (now (store .entry)) (now (places .entry)) n) mark time (now (out .entry)) (now (slots .entry)))) r (now (out .entry)) (now (out .exit)) (now (slots .entry)) (now (slots .exit)) ⌝ }
 {
     if 64 < n {
-        return MapReply::Refused(path::Refusal::TooMany);
+        return MapReply::Refused(refusal::Refusal::TooMany);
     }
     if places.len() / 4 < n {
-        return MapReply::Refused(path::Refusal::TooMany);
+        return MapReply::Refused(refusal::Refusal::TooMany);
     }
-    let fit = listing::write_list(store, places, n, out, slots);
+    let fit = pair_list_write::write_list(store, places, n, out, slots);
     let text::Fit::Written(w) = fit else {
-        return MapReply::Refused(path::Refusal::NoRoom);
+        return MapReply::Refused(refusal::Refusal::NoRoom);
     };
     MapReply::Made(MapFunction {
         count: w,

@@ -1,4 +1,4 @@
 -- The lemmas of this crate. The proof of each function is in the folder of its name.
-pub mod HandWays
-pub mod CarryWays
-pub mod WayLaws
+pub mod CopyOutBranches
+pub mod MappingBranches
+pub mod DirectionLaws

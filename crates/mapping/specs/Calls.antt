@@ -2,27 +2,27 @@
 use Prim.Native.Nat.{ℕ}
 use mathlib.Core.List.{List, [], _∷_}
 use Rattle.text.specs.Text.{Text}
-use Rattle.path.specs.Outcome.{Outcome, answered, given}
-use Rattle.asking.specs.Asking.{asked}
+use Rattle.refusal.specs.Outcome.{Outcome, afterChecks, checkedOption}
+use Rattle.validate.specs.Validate.{validateCall}
 use Rattle.map_function.specs.declared.MapFunction.{MapFunction}
-use Rattle.map_function.specs.Read.{listOf, mapOf}
-use Rattle.maps.specs.Map.{plainOut, plainHome, translated}
+use Rattle.map_function.specs.MapFunction.{listOf, mapOf}
+use Rattle.map_spec.specs.Map.{mapSourceToTarget, mapTargetToSource, translateToTarget}
 
 -- Questions 1 to 5 for a list of pairs and a path, then the outcome o of mapping, with questions 6 to 8.
-abbrev pub carrying : Text → List ℕ → MapFunction → Text → ℕ → Outcome → Outcome
-carrying store places f p room o = answered (asked (listOf store places f ∷ []) (p ∷ []) []) room o
+abbrev pub mappingCall : Text → List ℕ → MapFunction → Text → ℕ → Outcome → Outcome
+mappingCall store places f p room o = afterChecks (validateCall (listOf store places f ∷ []) (p ∷ []) []) room o
 
 -- The call `map_source_to_target`.
 unfoldable pub mapSourceToTargetCall : Text → List ℕ → MapFunction → Text → ℕ → Outcome
-unfolding asked answered given plainOut
-mapSourceToTargetCall store places f p room = carrying store places f p room (given (plainOut (mapOf store places f) p))
+unfolding validateCall afterChecks checkedOption mapSourceToTarget
+mapSourceToTargetCall store places f p room = mappingCall store places f p room (checkedOption (mapSourceToTarget (mapOf store places f) p))
 
 -- The call `map_target_to_source`.
 unfoldable pub mapTargetToSourceCall : Text → List ℕ → MapFunction → Text → ℕ → Outcome
-unfolding asked answered given plainHome
-mapTargetToSourceCall store places f p room = carrying store places f p room (given (plainHome (mapOf store places f) p))
+unfolding validateCall afterChecks checkedOption mapTargetToSource
+mapTargetToSourceCall store places f p room = mappingCall store places f p room (checkedOption (mapTargetToSource (mapOf store places f) p))
 
 -- The call `translate_to_target`.
 unfoldable pub translateToTargetCall : Text → List ℕ → MapFunction → Text → ℕ → Outcome
-unfolding asked answered given translated
-translateToTargetCall store places f p room = carrying store places f p room (given (translated (mapOf store places f) p))
+unfolding validateCall afterChecks checkedOption translateToTarget
+translateToTargetCall store places f p room = mappingCall store places f p room (checkedOption (translateToTarget (mapOf store places f) p))

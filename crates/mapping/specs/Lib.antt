@@ -1,4 +1,4 @@
 -- The definitions of this crate.
-pub mod Hand
+pub mod CopyOut
 pub mod Calls
-pub mod Way
+pub mod Direction

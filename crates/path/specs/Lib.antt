@@ -1,4 +1,2 @@
 -- The definitions of this crate.
-pub mod Refusal
-pub mod Outcome
 pub mod Calls

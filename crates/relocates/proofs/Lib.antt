@@ -1,6 +1,6 @@
 -- The lemmas of this crate; the proof of each function is in a folder of its name.
-pub mod StatusWays
-pub mod FirstWays
-mod AnalyzeWays
+pub mod StatusBranches
+pub mod InitialBranches
+mod AnalyzeBranches
 pub mod ActiveLaws
-mod ActiveWays
+mod ActiveBranches

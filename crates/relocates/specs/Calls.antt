@@ -4,20 +4,20 @@ use mathlib.Core.Bool.{cond}
 use mathlib.Core.List.{[], _∷_}
 use lib.Dec.{leb}
 use Rattle.text.specs.Text.{Text}
-use Rattle.path.specs.declared.Refusal.the-variants.{NoRoom}
-use Rattle.path.specs.declared.Reply.{Reply}
-use Rattle.path.specs.declared.Reply.the-variants.{Written, Refused as RefusedReply}
-use Rattle.path.specs.Refusal.{unless}
-use Rattle.path.specs.Calls.{listed}
-use Rattle.asking.specs.Asking.{Lent, pairsOf, asked}
-use Rattle.relocates.specs.Status.{statuses}
+use Rattle.refusal.specs.declared.Refusal.the-variants.{NoRoom}
+use Rattle.refusal.specs.declared.Reply.{Reply}
+use Rattle.refusal.specs.declared.Reply.the-variants.{Written, Refused as RefusedReply}
+use Rattle.refusal.specs.Refusal.{refusedOr}
+use Rattle.refusal.specs.Outcome.{writtenIfAccepted}
+use Rattle.validate.specs.Validate.{LentList, pairsOf, validateCall}
+use Rattle.relocates.specs.Status.{statusList}
 
 -- The reply of the call. Requirements: "`analyze_relocate_occurrences` gives a status byte" for each pair. Question 5: the lent buffer
 -- holds "a byte per status".
-unfoldable pub analyzeReply : Lent → ℕ → Reply
-unfolding asked
-analyzeReply l room = unless (asked (l ∷ []) [] []) RefusedReply (cond (leb (l .count) room) (Written (l .count)) (RefusedReply NoRoom))
+unfoldable pub analyzeReply : LentList → ℕ → Reply
+unfolding validateCall
+analyzeReply l room = refusedOr (validateCall (l ∷ []) [] []) RefusedReply (cond (leb (l .count) room) (Written (l .count)) (RefusedReply NoRoom))
 
 -- The lent buffer after the call: the status bytes over its beginning, or, if the call was refused, unchanged.
-abbrev pub analyzeMemory : Reply → Lent → Text → Text
-analyzeMemory r l out = listed r (statuses (pairsOf l) (l .count)) out
+abbrev pub analyzeBuffer : Reply → LentList → Text → Text
+analyzeBuffer r l out = writtenIfAccepted r (statusList (pairsOf l) (l .count)) out

@@ -1,5 +1,5 @@
 -- The definitions of this crate.
 pub mod Status
-pub mod First
+pub mod Initial
 pub mod Calls
-pub mod Picks
+pub mod Select

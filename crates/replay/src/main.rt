@@ -31,30 +31,30 @@ fn put_number(n: usize, at: usize, line: &mut [u8]) -> usize {
 }
 
 // The number of a refusal.
-fn number_of(x: path::Refusal) -> usize {
+fn number_of(x: refusal::Refusal) -> usize {
     match x {
-        path::Refusal::TooLong => 1,
-        path::Refusal::Illegal => 2,
-        path::Refusal::NotAnEnd => 3,
-        path::Refusal::TooMany => 4,
-        path::Refusal::NoRoom => 5,
-        path::Refusal::NoPath => 6,
-        path::Refusal::MadeTooLong => 7,
-        path::Refusal::MadeIllegal => 8,
+        refusal::Refusal::TooLong => 1,
+        refusal::Refusal::Illegal => 2,
+        refusal::Refusal::NotAnEnd => 3,
+        refusal::Refusal::TooMany => 4,
+        refusal::Refusal::NoRoom => 5,
+        refusal::Refusal::NoPath => 6,
+        refusal::Refusal::MadeTooLong => 7,
+        refusal::Refusal::MadeIllegal => 8,
     }
 }
 
 // Writes a refusal as `!` and its number.
-fn put_refusal(x: path::Refusal, at: usize, line: &mut [u8]) -> usize {
-    let behind = put(b"!", at, line);
-    put_number(number_of(x), behind, line)
+fn put_refusal(x: refusal::Refusal, at: usize, line: &mut [u8]) -> usize {
+    let next = put(b"!", at, line);
+    put_number(number_of(x), next, line)
 }
 
 // Writes the result of a validation.
-fn put_asked(q: path::Asked, at: usize, line: &mut [u8]) -> usize {
+fn put_validation(q: refusal::Validation, at: usize, line: &mut [u8]) -> usize {
     match q {
-        path::Asked::Passed => put(b"ok", at, line),
-        path::Asked::Refused(x) => put_refusal(x, at, line),
+        refusal::Validation::Passed => put(b"ok", at, line),
+        refusal::Validation::Refused(x) => put_refusal(x, at, line),
     }
 }
 
@@ -83,10 +83,10 @@ fn put_count(n: path::Count, at: usize, line: &mut [u8]) -> usize {
 
 // Writes the path that a call wrote to the beginning of the buffer. No call returns a length beyond the
 // buffer.
-fn put_path(r: path::Reply, memory: &[u8], at: usize, line: &mut [u8]) -> usize {
+fn put_path(r: refusal::Reply, memory: &[u8], at: usize, line: &mut [u8]) -> usize {
     let start = put(b" ", at, line);
     match r {
-        path::Reply::Written(n) => {
+        refusal::Reply::Written(n) => {
             if n == 0 {
                 return put(b"-", start, line);
             }
@@ -95,22 +95,22 @@ fn put_path(r: path::Reply, memory: &[u8], at: usize, line: &mut [u8]) -> usize 
             }
             put(&memory[0..n], start, line)
         }
-        path::Reply::Refused(x) => put_refusal(x, start, line),
+        refusal::Reply::Refused(x) => put_refusal(x, start, line),
     }
 }
 
 // Writes the property's name: the text after the dot that follows the prim path.
-fn put_name(r: path::Reply, path: &[u8], at: usize, line: &mut [u8]) -> usize {
+fn put_name(r: refusal::Reply, path: &[u8], at: usize, line: &mut [u8]) -> usize {
     let start = put(b" ", at, line);
     match r {
-        path::Reply::Written(n) => {
+        refusal::Reply::Written(n) => {
             if path.len() <= n {
                 return start;
             }
             let name = n + 1;
             put(&path[name..], start, line)
         }
-        path::Reply::Refused(x) => put_refusal(x, start, line),
+        refusal::Reply::Refused(x) => put_refusal(x, start, line),
     }
 }
 
@@ -119,34 +119,34 @@ fn put_lengths(lengths: &[usize], at: usize, line: &mut [u8]) -> usize {
     if lengths.len() == 0 {
         return at;
     }
-    let mut behind = put_number(lengths[0], at, line);
+    let mut next = put_number(lengths[0], at, line);
     let mut i = 1;
     while i < lengths.len() {
-        behind = put(b",", behind, line);
-        behind = put_number(lengths[i], behind, line);
+        next = put(b",", next, line);
+        next = put_number(lengths[i], next, line);
         i += 1;
     }
-    behind
+    next
 }
 
 // Writes the lengths of the path and its ancestors, at most 128.
 fn put_ancestors(path: &[u8], at: usize, line: &mut [u8]) -> usize {
     let start = put(b" ", at, line);
     let mut lengths = [0usize; 128];
-    match deriving::ancestors(path, &mut lengths) {
-        path::Reply::Written(n) => {
+    match path_derive::ancestors(path, &mut lengths) {
+        refusal::Reply::Written(n) => {
             if 128 < n {
                 return start;
             }
             put_lengths(&lengths[0..n], start, line)
         }
-        path::Reply::Refused(x) => put_refusal(x, start, line),
+        refusal::Reply::Refused(x) => put_refusal(x, start, line),
     }
 }
 
 // Writes the results of the calls that write no path, from the beginning of the line.
 fn put_tests(path: &[u8], old: &[u8], line: &mut [u8]) -> usize {
-    let a = put_asked(path::new(path), 0, line);
+    let a = put_validation(path::new(path), 0, line);
     let b = put_test(path::is_end(path), a, line);
     let c = put_test(path::has_variant_selection(path), b, line);
     let d = put_count(path::element_count(path), c, line);
@@ -157,36 +157,36 @@ fn put_tests(path: &[u8], old: &[u8], line: &mut [u8]) -> usize {
 // Writes the path with its prefix replaced.
 fn put_replaced(path: &[u8], old: &[u8], new: &[u8], at: usize, line: &mut [u8]) -> usize {
     let mut memory = [0u8; 255];
-    let r = deriving::replace_prefix(path, old, new, &mut memory);
+    let r = path_derive::replace_prefix(path, old, new, &mut memory);
     put_path(r, &memory, at, line)
 }
 
 // Writes the parent.
 fn put_parent(path: &[u8], at: usize, line: &mut [u8]) -> usize {
     let mut memory = [0u8; 255];
-    let r = deriving::parent(path, &mut memory);
+    let r = path_derive::parent(path, &mut memory);
     put_path(r, &memory, at, line)
 }
 
 // Writes the prim path.
 fn put_prim_path(path: &[u8], at: usize, line: &mut [u8]) -> usize {
     let mut memory = [0u8; 255];
-    let r = deriving::prim_path(path, &mut memory);
+    let r = path_derive::prim_path(path, &mut memory);
     put_path(r, &memory, at, line)
 }
 
 // Writes the prim path of a property, and its name.
 fn put_split(path: &[u8], at: usize, line: &mut [u8]) -> usize {
     let mut memory = [0u8; 255];
-    let r = deriving::split_property(path, &mut memory);
-    let behind = put_path(r, &memory, at, line);
-    put_name(r, path, behind, line)
+    let r = path_derive::split_property(path, &mut memory);
+    let next = put_path(r, &memory, at, line);
+    put_name(r, path, next, line)
 }
 
 // Writes the path without its selections.
 fn put_stripped(path: &[u8], at: usize, line: &mut [u8]) -> usize {
     let mut memory = [0u8; 255];
-    let r = deriving::strip_variant_selections(path, &mut memory);
+    let r = path_derive::strip_variant_selections(path, &mut memory);
     put_path(r, &memory, at, line)
 }
 
@@ -203,7 +203,7 @@ fn put_answers(path: &[u8], old: &[u8], new: &[u8], line: &mut [u8]) -> usize {
 }
 
 // The index of the first byte b, or the text's length if there is none.
-fn place_of(b: u8, text: &[u8]) -> usize
+fn index_of(b: u8, text: &[u8]) -> usize
     ensures { λ r. ⌜ r ≤ length (now (text .entry)) ⌝ }
 {
     let mut i = 0;
@@ -217,7 +217,7 @@ fn place_of(b: u8, text: &[u8]) -> usize
 }
 
 // The index after n, or the text's length if n is beyond the last byte.
-fn place_behind(n: usize, text: &[u8]) -> usize
+fn index_after(n: usize, text: &[u8]) -> usize
     ensures { λ r. ⌜ r ≤ length (now (text .entry)) ⌝ }
 {
     if n < text.len() {
@@ -228,14 +228,14 @@ fn place_behind(n: usize, text: &[u8]) -> usize
 
 // Processes an input line and returns whether the results were written. They fit: six texts of at most 255
 // bytes, at most 128 lengths, and a few short fields.
-fn answer(asked: &[u8]) -> bool {
-    let a = place_of(b' ', asked);
-    let from = place_behind(a, asked);
-    let rest = &asked[from..];
-    let b = place_of(b' ', rest);
-    let c = place_behind(b, rest);
+fn answer(question: &[u8]) -> bool {
+    let a = index_of(b' ', question);
+    let from = index_after(a, question);
+    let rest = &question[from..];
+    let b = index_of(b' ', rest);
+    let c = index_after(b, rest);
     let mut line = [0u8; 4096];
-    let n = put_answers(&asked[0..a], &rest[0..b], &rest[c..], &mut line);
+    let n = put_answers(&question[0..a], &rest[0..b], &rest[c..], &mut line);
     if 4096 < n {
         return false;
     }
@@ -247,11 +247,11 @@ fn answer(asked: &[u8]) -> bool {
 fn answer_first(input: &[u8]) -> usize
     ensures { λ r. ⌜ r ≤ length (now (input .entry)) ⌝ }
 {
-    let n = place_of(b'\n', input);
+    let n = index_of(b'\n', input);
     if !answer(&input[0..n]) {
         return 0;
     }
-    place_behind(n, input)
+    index_after(n, input)
 }
 
 // Processes all input lines.

@@ -1,5 +1,6 @@
--- The lemmas and theorems of this crate.
-pub mod RelocateLaws
-pub mod Theorem
-pub mod Sharp
-pub mod RouteLaws
+-- The lemmas of this crate; the proof of each function is in a folder of its name.
+pub mod FastLaws
+pub mod RunBranches
+pub mod Corollary
+pub mod CallBranches
+pub mod ShortLaws

@@ -50,11 +50,11 @@ eqb-self a = eq-eqb a a refl
 pub told : {r v t : Bool} → r ≡ v → r ≡ t → v ≡ t
 told h k = sym h ∙ k
 
-pub told-false : {r v : Bool} → r ≡ v → not r ≡ true → v ≡ false
-told-false {r} h k = sym h ∙ not-true r k
+pub known-false : {r v : Bool} → r ≡ v → not r ≡ true → v ≡ false
+known-false {r} h k = sym h ∙ not-true r k
 
-pub told-true : {r v : Bool} → r ≡ v → not r ≡ false → v ≡ true
-told-true {r} {v} h k = go r h k
+pub known-true : {r v : Bool} → r ≡ v → not r ≡ false → v ≡ true
+known-true {r} {v} h k = go r h k
   where
     go : (b : Bool) → b ≡ v → not b ≡ false → v ≡ true
     go true h k = sym h

@@ -32,10 +32,10 @@ equal (a ∷ s) [] = false
 equal (a ∷ s) (b ∷ t) = eqb a b && equal s t
 
 -- The remainder of the text p after the prefix s; none if p does not begin with s.
-unfoldable pub after : Text → Text → Option Text
-after [] p = some p
-after (a ∷ s) [] = none
-after (a ∷ s) (b ∷ p) = cond (eqb a b) (after s p) none
+unfoldable pub stripPrefix : Text → Text → Option Text
+stripPrefix [] p = some p
+stripPrefix (a ∷ s) [] = none
+stripPrefix (a ∷ s) (b ∷ p) = cond (eqb a b) (stripPrefix s p) none
 
 -- The option has a value.
 abbrev pub isSome : Option Text → Bool
@@ -43,33 +43,33 @@ isSome none = false
 isSome (some q) = true
 
 -- The text p begins with the prefix s.
-unfoldable pub starts : Text → Text → Bool
-unfolding after
-starts s p = isSome (after s p)
+unfoldable pub startsWith : Text → Text → Bool
+unfolding stripPrefix
+startsWith s p = isSome (stripPrefix s p)
 
 -- The last byte is b; false for the empty text.
-unfoldable pub lastIs : ℕ → Text → Bool
-lastIs b [] = false
-lastIs b (a ∷ []) = eqb a b
-lastIs b (a ∷ c ∷ r) = lastIs b (c ∷ r)
+unfoldable pub endsWithByte : ℕ → Text → Bool
+endsWithByte b [] = false
+endsWithByte b (a ∷ []) = eqb a b
+endsWithByte b (a ∷ c ∷ r) = endsWithByte b (c ∷ r)
 
 -- No byte of the text is b.
-unfoldable pub lacks : ℕ → Text → Bool
-lacks b [] = true
-lacks b (a ∷ r) = not (eqb a b) && lacks b r
+unfoldable pub lacksByte : ℕ → Text → Bool
+lacksByte b [] = true
+lacksByte b (a ∷ r) = not (eqb a b) && lacksByte b r
 
 -- The buffer `out` with the text t written over its beginning: the text, then the remaining old bytes.
 abbrev pub written : Text → Text → Text
 written t out = t ++ drop (length t) out
 
 -- The buffer `out` with the text t written over it from index `at`.
-abbrev pub over : ℕ → Text → Text → Text
-over at t out = take at out ++ (t ++ drop (at + length t) out)
+abbrev pub writtenAt : ℕ → Text → Text → Text
+writtenAt at t out = take at out ++ (t ++ drop (at + length t) out)
 
 -- The result of writing a text over the beginning of a buffer: the length written, or `Over` if the text does not fit.
-unfoldable pub fitted : Text → Text → Fit
-fitted t out = cond (leb (length t) (length out)) (Written (length t)) Over
+unfoldable pub fitOf : Text → Text → Fit
+fitOf t out = cond (leb (length t) (length out)) (Written (length t)) Over
 
 -- The buffer `out` with the text t written over it from index `at` if it fits there; otherwise the buffer unchanged.
-unfoldable pub placed : ℕ → Text → Text → Text
-placed at t out = cond (leb (at + length t) (length out)) (over at t out) out
+unfoldable pub writtenIfFits : ℕ → Text → Text → Text
+writtenIfFits at t out = cond (leb (at + length t) (length out)) (writtenAt at t out) out

@@ -1,7 +1,7 @@
 // Byte-string primitives: comparison, search for a byte, and copying into a caller's buffer. Every
 // function is total: none has a precondition.
 ghost use mathlib.Core.Path.{_≡_};
-ghost use Rattle.text.specs.Text.{equal, starts, lastIs, lacks, placed};
+ghost use Rattle.text.specs.Text.{equal, startsWith, endsWithByte, lacksByte, writtenIfFits};
 
 // The result of writing to a lent buffer.
 pub enum Fit {
@@ -14,7 +14,7 @@ pub enum Fit {
 // Returns whether the text begins with the prefix. The last byte is compared first, as a cheap
 // rejection; the loop has no early exit, so that it compiles to comparisons of many bytes at once.
 pub fn starts_with(text: &[u8], prefix: &[u8]) -> bool
-    ensures { λ r. ⌜ r ≡ starts (now (prefix .entry)) (now (text .entry)) ⌝ }
+    ensures { λ r. ⌜ r ≡ startsWith (now (prefix .entry)) (now (text .entry)) ⌝ }
 {
     let n = prefix.len();
     if text.len() < n {
@@ -47,7 +47,7 @@ pub fn is_equal(a: &[u8], b: &[u8]) -> bool
 
 // Returns whether the last byte is `b`; false for an empty text.
 pub fn last_is(text: &[u8], b: u8) -> bool
-    ensures { λ r. ⌜ r ≡ lastIs b (now (text .entry)) ⌝ }
+    ensures { λ r. ⌜ r ≡ endsWithByte b (now (text .entry)) ⌝ }
 {
     let n = text.len();
     if n == 0 {
@@ -58,7 +58,7 @@ pub fn last_is(text: &[u8], b: u8) -> bool
 
 // Returns whether no byte of the text is `b`. As in `starts_with`, the loop has no early exit.
 pub fn lacks_byte(text: &[u8], b: u8) -> bool
-    ensures { λ r. ⌜ r ≡ lacks b (now (text .entry)) ⌝ }
+    ensures { λ r. ⌜ r ≡ lacksByte b (now (text .entry)) ⌝ }
 {
     let mut lacks = true;
     let mut i = 0;
@@ -71,7 +71,7 @@ pub fn lacks_byte(text: &[u8], b: u8) -> bool
 
 // Copies the text into the buffer from index `at` if it fits; otherwise writes nothing.
 pub fn write_at(text: &[u8], at: usize, out: &mut [u8])
-    ensures { λ _. ⌜ now (out .exit) ≡ placed at (now (text .entry)) (now (out .entry)) ⌝ }
+    ensures { λ _. ⌜ now (out .exit) ≡ writtenIfFits at (now (text .entry)) (now (out .entry)) ⌝ }
 {
     if out.len() < at {
         return;

@@ -1,5 +1,5 @@
-use Rattle.canonical.proofs.KeptLaws.{canonical-read}
-use Rattle.map_function.proofs.NewWays.{refusing-map, parts-many, parts-beyond, parts-slots, parts-bytes, parts-made}
+use Rattle.map_canonical.proofs.KeptLaws.{canonical-read}
+use Rattle.map_function.proofs.NewBranches.{refusing-map, parts-many, parts-beyond, parts-slots, parts-bytes, parts-made}
 use borrow.Author.Needs.{needs}
 use Rattle.map_function.proofs.from_parts.Statement.{statement}
 use Rattle.map_function.proofs.from_parts.Tie as tie
@@ -13,11 +13,11 @@ returns-2 c = refusing-map _ _ (parts-beyond _ _ _ _ _ _ _ (c .if2 .taken)) _ _
 returns-3 : tie.Need-returns-3
 returns-3 c = refusing-map _ _ (parts-slots _ _ _ _ _ _ _ (c .before .before .if1 .left) (c .before .if2 .left) (c .if3 .taken)) _ _
 
-has-room-requires : tie.Need-has-room-requires
-has-room-requires c κs = search needs
+list-fits-requires : tie.Need-list-fits-requires
+list-fits-requires c κs = search needs
 
 returns-4 : tie.Need-returns-4
-returns-4 c = refusing-map _ _ (parts-bytes _ _ _ _ _ _ _ (c .before .before .before .before .if1 .left) (c .before .before .before .if2 .left) (c .before .before .if3 .left) _ (c .before .has-room .ensures) (c .if4 .taken)) _ _
+returns-4 c = refusing-map _ _ (parts-bytes _ _ _ _ _ _ _ (c .before .before .before .before .if1 .left) (c .before .before .before .if2 .left) (c .before .before .if3 .left) _ (c .before .list-fits .ensures) (c .if4 .taken)) _ _
 
 is-marked-requires : tie.Need-is-marked-requires
 is-marked-requires c κs = search needs
@@ -41,7 +41,7 @@ same-length-2 : tie.Need-same-length-2
 same-length-2 c = search needs
 
 returns-5 : tie.Need-returns-5
-returns-5 c = parts-made _ _ _ _ _ _ _ (c .before .before .before .before .before .before .before .before .before .before .before .before .before .before .before .before .if1 .left) (c .before .before .before .before .before .before .before .before .before .before .before .before .before .before .before .if2 .left) (c .before .before .before .before .before .before .before .before .before .before .before .before .before .before .if3 .left) _ (c .before .before .before .before .before .before .before .before .before .before .before .before .before .has-room .ensures) (c .before .before .before .before .before .before .before .before .before .before .before .before .if4 .left) _ (c .before .before .before .before .before .before .before .before .before .before .before .is-marked .ensures) _ (search needs) _ _ (canonical-read _ _ _ _ _ _ _ _ (c .before .before .before .before .before .before .before .before .before .canonical-places .ensures)) _ _ (c .before .before .before .before .write-list .ensures .1 .0) (c .before .before .before .before .write-list .ensures .1 .1)
+returns-5 c = parts-made _ _ _ _ _ _ _ (c .before .before .before .before .before .before .before .before .before .before .before .before .before .before .before .before .if1 .left) (c .before .before .before .before .before .before .before .before .before .before .before .before .before .before .before .if2 .left) (c .before .before .before .before .before .before .before .before .before .before .before .before .before .before .if3 .left) _ (c .before .before .before .before .before .before .before .before .before .before .before .before .before .list-fits .ensures) (c .before .before .before .before .before .before .before .before .before .before .before .before .if4 .left) _ (c .before .before .before .before .before .before .before .before .before .before .before .is-marked .ensures) _ (search needs) _ _ (canonical-read _ _ _ _ _ _ _ _ (c .before .before .before .before .before .before .before .before .before .canonical-places .ensures)) _ _ (c .before .before .before .before .write-list .ensures .1 .0) (c .before .before .before .before .write-list .ensures .1 .1)
 
 pub from-parts-spec : {M : Type 1} → statement M
 from-parts-spec =
@@ -50,7 +50,7 @@ from-parts-spec =
     returns
     returns-2
     returns-3
-    has-room-requires
+    list-fits-requires
     returns-4
     is-marked-requires
     slice-aggregate-canonical-places

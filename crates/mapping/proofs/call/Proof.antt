@@ -1,25 +1,25 @@
-use Rattle.path.proofs.CallWays.{answering}
-use Rattle.mapping.proofs.WayLaws.{call-is-after}
+use Rattle.refusal.proofs.CallBranches.{answering}
+use Rattle.mapping.proofs.DirectionLaws.{call-is-after}
 use borrow.Author.Needs.{needs}
 use Rattle.mapping.proofs.call.Statement.{statement}
 use Rattle.mapping.proofs.call.Tie as tie
 
-slice-aggregate-ask-path : tie.Need-slice-aggregate-ask-path
-slice-aggregate-ask-path c = search needs
+slice-aggregate-validate-list-and-path : tie.Need-slice-aggregate-validate-list-and-path
+slice-aggregate-validate-list-and-path c = search needs
 
-ask-path-requires : tie.Need-ask-path-requires
-ask-path-requires c κs = search needs
+validate-list-and-path-requires : tie.Need-validate-list-and-path-requires
+validate-list-and-path-requires c κs = search needs
 
-carry-after-requires : tie.Need-carry-after-requires
-carry-after-requires c κs = search needs
+map-after-list-requires : tie.Need-map-after-list-requires
+map-after-list-requires c κs = search needs
 
 same-length : tie.Need-same-length
 same-length c = search needs
 
 returns : tie.Need-returns
-returns c = answering _ _ (call-is-after _ _ _ _ _ _ _ (c .before .before .before .before .ask-path .ensures)) _ _ _ (c .before .before .carry-after .ensures)
+returns c = answering _ _ (call-is-after _ _ _ _ _ _ _ (c .before .before .before .before .validate-list-and-path .ensures)) _ _ _ (c .before .before .map-after-list .ensures)
 
 pub call-spec : {M : Type 1} → statement M
 call-spec =
     tie.close
-    (tie.spec slice-aggregate-ask-path ask-path-requires carry-after-requires same-length returns)
+    (tie.spec slice-aggregate-validate-list-and-path validate-list-and-path-requires map-after-list-requires same-length returns)

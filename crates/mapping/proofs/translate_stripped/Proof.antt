@@ -1,6 +1,6 @@
-use Rattle.parts.proofs.StripLaws.{strip-never, strip-part, strip-inside}
-use Rattle.path.proofs.CallWays.{answering}
-use Rattle.mapping.proofs.HandWays.{translate-plain, translate-back}
+use Rattle.path_parts.proofs.StripLaws.{strip-never, strip-part, strip-inside}
+use Rattle.refusal.proofs.CallBranches.{answering}
+use Rattle.mapping.proofs.CopyOutBranches.{translate-plain, translate-back}
 use borrow.Author.Needs.{needs}
 use Rattle.mapping.proofs.translate_stripped.Statement.{statement}
 use Rattle.mapping.proofs.translate_stripped.Tie as tie
@@ -8,14 +8,14 @@ use Rattle.mapping.proofs.translate_stripped.Tie as tie
 lacks-byte-requires : tie.Need-lacks-byte-requires
 lacks-byte-requires c κs = search needs
 
-translate-out-requires : tie.Need-translate-out-requires
-translate-out-requires c κs = search needs
+translate-into-requires : tie.Need-translate-into-requires
+translate-into-requires c κs = search needs
 
 same-length : tie.Need-same-length
 same-length c = search needs
 
 returns : tie.Need-returns
-returns c = answering _ _ (translate-plain _ _ _ (c .before .before .before .before .before .lacks-byte .ensures) (c .before .before .before .before .if1 .taken)) _ _ _ (c .before .before .translate-out .ensures)
+returns c = answering _ _ (translate-plain _ _ _ (c .before .before .before .before .before .lacks-byte .ensures) (c .before .before .before .before .if1 .taken)) _ _ _ (c .before .before .translate-into .ensures)
 
 slice-aggregate-strip-into : tie.Need-slice-aggregate-strip-into
 slice-aggregate-strip-into c = search needs
@@ -35,11 +35,11 @@ returns-2 c = absurd (strip-never _ _ _ (c .before .before .before .before .befo
 array-share-prefix-plain : tie.Need-array-share-prefix-plain
 array-share-prefix-plain c = strip-inside _ _ _ (c .before .before .before .before .before .before .before .before .before .before .before .before .pre .0) (c .before .before .before .before .strip-into .ensures .0) _ (c .before .fit .given .1) _ (c .before .before .before .before .strip-into .ensures .1)
 
-slice-aggregate-translate-out : tie.Need-slice-aggregate-translate-out
-slice-aggregate-translate-out c = strip-part _ _ _ (c .before .before .before .before .before .before .before .before .before .before .before .before .before .pre .0) (c .before .before .before .before .before .strip-into .ensures .0) _ (c .before .before .fit .given .1) _ (c .before .before .before .before .before .strip-into .ensures .1)
+slice-aggregate-translate-into : tie.Need-slice-aggregate-translate-into
+slice-aggregate-translate-into c = strip-part _ _ _ (c .before .before .before .before .before .before .before .before .before .before .before .before .before .pre .0) (c .before .before .before .before .before .strip-into .ensures .0) _ (c .before .before .fit .given .1) _ (c .before .before .before .before .before .strip-into .ensures .1)
 
-translate-out-requires-2 : tie.Need-translate-out-requires-2
-translate-out-requires-2 c κs = search needs
+translate-into-requires-2 : tie.Need-translate-into-requires-2
+translate-into-requires-2 c κs = search needs
 
 same-length-2 : tie.Need-same-length-2
 same-length-2 c = search needs
@@ -48,14 +48,14 @@ returns-3 : tie.Need-returns-3
 returns-3 c =
     answering _ _
     (translate-back _ _ _ (c .before .before .before .before .before .before .before .before .before .before .before .before .before .before .before .before .before .pre .0) (c .before .before .before .before .before .before .before .before .before .strip-into .ensures .0) _ (c .before .before .before .before .before .before .fit .given .1) _ (c .before .before .before .before .before .before .before .before .before .strip-into .ensures .1) _) _ _ _
-    (c .before .before .translate-out2 .ensures)
+    (c .before .before .translate-into2 .ensures)
 
 pub translate-stripped-spec : {M : Type 1} → statement M
 translate-stripped-spec =
     tie.close
     (tie.spec
     lacks-byte-requires
-    translate-out-requires
+    translate-into-requires
     same-length
     returns
     slice-aggregate-strip-into
@@ -64,7 +64,7 @@ translate-stripped-spec =
     enum-told
     returns-2
     array-share-prefix-plain
-    slice-aggregate-translate-out
-    translate-out-requires-2
+    slice-aggregate-translate-into
+    translate-into-requires-2
     same-length-2
     returns-3)

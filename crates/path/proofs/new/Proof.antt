@@ -1,20 +1,20 @@
-use Rattle.path.specs.Calls.{newCall}
+use Rattle.path.specs.Calls.{pathNewCall}
 use borrow.Author.Needs.{needs}
 use Rattle.path.proofs.new.Statement.{statement}
 use Rattle.path.proofs.new.Tie as tie
 
-slice-aggregate-ask : tie.Need-slice-aggregate-ask
-slice-aggregate-ask c = search needs
+slice-aggregate-validate-texts : tie.Need-slice-aggregate-validate-texts
+slice-aggregate-validate-texts c = search needs
 
-slice-aggregate-ask-2 : tie.Need-slice-aggregate-ask-2
-slice-aggregate-ask-2 c = search needs
+slice-aggregate-validate-texts-2 : tie.Need-slice-aggregate-validate-texts-2
+slice-aggregate-validate-texts-2 c = search needs
 
-ask-requires : tie.Need-ask-requires
-ask-requires c κs = search needs
+validate-texts-requires : tie.Need-validate-texts-requires
+validate-texts-requires c κs = search needs
 
 returns : tie.Need-returns
-unfolding newCall
-returns c = c .ask .ensures
+unfolding pathNewCall
+returns c = c .validate-texts .ensures
 
 pub new-spec : {M : Type 1} → statement M
-new-spec = tie.close (tie.spec slice-aggregate-ask slice-aggregate-ask-2 ask-requires returns)
+new-spec = tie.close (tie.spec slice-aggregate-validate-texts slice-aggregate-validate-texts-2 validate-texts-requires returns)

@@ -1,42 +1,42 @@
 use lib.ListN.{length}
-use Rattle.relocates.proofs.AnalyzeWays.{analyze-few, analyze-refused, analyze-short, analyze-written}
+use Rattle.relocates.proofs.AnalyzeBranches.{analyze-few, analyze-refused, analyze-short, analyze-written}
 use borrow.Author.Needs.{needs}
 use Rattle.relocates.proofs.analyze_relocate_occurrences.Statement.{statement}
 use Rattle.relocates.proofs.analyze_relocate_occurrences.Tie as tie
 
-slice-aggregate-ask-path : tie.Need-slice-aggregate-ask-path
-slice-aggregate-ask-path c = search needs
+slice-aggregate-validate-list-and-path : tie.Need-slice-aggregate-validate-list-and-path
+slice-aggregate-validate-list-and-path c = search needs
 
-ask-path-requires : tie.Need-ask-path-requires
-ask-path-requires c κs = search needs
+validate-list-and-path-requires : tie.Need-validate-list-and-path-requires
+validate-list-and-path-requires c κs = search needs
 
 enum-known-q : tie.Need-enum-known-q
 enum-known-q c = search needs
 
 returns : tie.Need-returns
-returns c = analyze-refused _ _ (c .before .before .before .ask-path .ensures) _ _ _ (c .before .q .given .1)
+returns c = analyze-refused _ _ (c .before .before .before .validate-list-and-path .ensures) _ _ _ (c .before .q .given .1)
 
 enum-told : tie.Need-enum-told
 enum-told c = search needs
 
 returns-2 : tie.Need-returns-2
-returns-2 c = analyze-short _ _ (c .before .before .before .ask-path .ensures) (length (c .before .before .before .before .before .before .before .before .args .out .now)) _ (c .before .enum-told .given .1) (c .if1 .taken)
+returns-2 c = analyze-short _ _ (c .before .before .before .validate-list-and-path .ensures) (length (c .before .before .before .before .before .before .before .before .args .out .now)) _ (c .before .enum-told .given .1) (c .if1 .taken)
 
 write-statuses-requires : tie.Need-write-statuses-requires
-write-statuses-requires c κs = (analyze-few _ _ (c .before .before .before .before .ask-path .ensures) (c .before .before .enum-told .given .1), c .before .if1 .left)
+write-statuses-requires c κs = (analyze-few _ _ (c .before .before .before .before .validate-list-and-path .ensures) (c .before .before .enum-told .given .1), c .before .if1 .left)
 
 same-length : tie.Need-same-length
 same-length c = search needs
 
 returns-3 : tie.Need-returns-3
-returns-3 c = analyze-written _ _ (c .before .before .before .before .before .before .before .ask-path .ensures) _ _ (c .before .before .before .before .before .enum-told .given .1) (c .before .before .before .before .if1 .left) _ (c .before .before .write-statuses .ensures)
+returns-3 c = analyze-written _ _ (c .before .before .before .before .before .before .before .validate-list-and-path .ensures) _ _ (c .before .before .before .before .before .enum-told .given .1) (c .before .before .before .before .if1 .left) _ (c .before .before .write-statuses .ensures)
 
 pub analyze-relocate-occurrences-spec : {M : Type 1} → statement M
 analyze-relocate-occurrences-spec =
     tie.close
     (tie.spec
-    slice-aggregate-ask-path
-    ask-path-requires
+    slice-aggregate-validate-list-and-path
+    validate-list-and-path-requires
     enum-known-q
     returns
     enum-told

@@ -6,10 +6,10 @@ use Rattle.replay.proofs.put_lengths.Statement.{statement}
 use Rattle.replay.proofs.put_lengths.Tie as tie
 
 abbrev Inv-loop : tie.InvT-loop
-Inv-loop lengths at line₀ behind₀ i₀ t6 line behind i = length line ≡ length line₀
+Inv-loop lengths at line₀ behind₀ i₀ t6 line next i = length line ≡ length line₀
 
 abbrev μ-loop : tie.MeasureT-loop
-μ-loop lengths at line₀ behind₀ i₀ t6 line behind i = length lengths - i
+μ-loop lengths at line₀ behind₀ i₀ t6 line next i = length lengths - i
 
 returns : tie.Need-returns Inv-loop μ-loop
 returns c = search needs

@@ -4,12 +4,12 @@ use mathlib.Core.Path.{_≡_}
 use mathlib.Core.Bool.{_&&_}
 use Prim.Native.Nat.{_≤_, _-_}
 use lib.ListN.{length, drop}
-use Rattle.text.specs.Text.{lacks}
+use Rattle.text.specs.Text.{lacksByte}
 use Rattle.text.proofs.lacks_byte.Statement.{statement}
 use Rattle.text.proofs.lacks_byte.Tie as tie
 
 abbrev Inv-loop : tie.InvT-loop
-Inv-loop text b free₀ i₀ free i = (i ≤ length text) × (lacks b text ≡ (free && lacks b (drop i text)))
+Inv-loop text b free₀ i₀ free i = (i ≤ length text) × (lacksByte b text ≡ (free && lacksByte b (drop i text)))
 
 abbrev μ-loop : tie.MeasureT-loop
 μ-loop text b free₀ i₀ free i = length text - i

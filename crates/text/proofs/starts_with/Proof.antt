@@ -4,12 +4,12 @@ use mathlib.Core.Path.{_≡_}
 use mathlib.Core.Bool.{_&&_}
 use Prim.Native.Nat.{_≤_, _-_}
 use lib.ListN.{length, drop}
-use Rattle.text.specs.Text.{starts}
+use Rattle.text.specs.Text.{startsWith}
 use Rattle.text.proofs.starts_with.Statement.{statement}
 use Rattle.text.proofs.starts_with.Tie as tie
 
 abbrev Inv-loop : tie.InvT-loop
-Inv-loop text prefix n same₀ i₀ same i = (i ≤ length prefix) × (starts prefix text ≡ (same && starts (drop i prefix) (drop i text)))
+Inv-loop text prefix n same₀ i₀ same i = (i ≤ length prefix) × (startsWith prefix text ≡ (same && startsWith (drop i prefix) (drop i text)))
 
 abbrev μ-loop : tie.MeasureT-loop
 μ-loop text prefix n same₀ i₀ same i = length prefix - i

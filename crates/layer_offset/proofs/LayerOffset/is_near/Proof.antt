@@ -1,5 +1,5 @@
 use borrow.Author.Needs.{needs}
-use Rattle.layer_offset.proofs.Ways.{ways}
+use Rattle.layer_offset.proofs.Branches.{ways}
 use Rattle.layer_offset.proofs.LayerOffset.is_near.Statement.{statement}
 use Rattle.layer_offset.proofs.LayerOffset.is_near.Tie as tie
 

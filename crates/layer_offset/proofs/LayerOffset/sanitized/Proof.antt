@@ -1,7 +1,7 @@
 use borrow.Author.Needs.{needs}
 use lib.Ieee.{ofBits}
 use Rattle.layer_offset.specs.Offset.{sanitized}
-use Rattle.layer_offset.proofs.Ways.{ways}
+use Rattle.layer_offset.proofs.Branches.{ways}
 use Rattle.layer_offset.proofs.LayerOffset.sanitized.Statement.{statement}
 use Rattle.layer_offset.proofs.LayerOffset.sanitized.Tie as tie
 

@@ -1,5 +1,5 @@
 use borrow.Author.Needs.{needs}
-use Rattle.layer_offset.proofs.Ways.{patterned}
+use Rattle.layer_offset.proofs.Branches.{patterned}
 use Rattle.layer_offset.proofs.LayerOffset.to_bits.Statement.{statement}
 use Rattle.layer_offset.proofs.LayerOffset.to_bits.Tie as tie
 

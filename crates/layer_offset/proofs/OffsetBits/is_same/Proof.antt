@@ -1,5 +1,5 @@
 use borrow.Author.Needs.{needs}
-use Rattle.layer_offset.proofs.Ways.{ways}
+use Rattle.layer_offset.proofs.Branches.{ways}
 use Rattle.layer_offset.proofs.OffsetBits.is_same.Statement.{statement}
 use Rattle.layer_offset.proofs.OffsetBits.is_same.Tie as tie
 

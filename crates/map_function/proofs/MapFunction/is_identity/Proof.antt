@@ -1,4 +1,4 @@
-use Rattle.map_function.proofs.ReadWays.{reading}
+use Rattle.map_function.proofs.ReadBranches.{reading}
 use borrow.Author.Needs.{needs}
 use Rattle.map_function.proofs.MapFunction.is_identity.Statement.{statement}
 use Rattle.map_function.proofs.MapFunction.is_identity.Tie as tie

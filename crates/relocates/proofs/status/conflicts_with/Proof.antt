@@ -1,4 +1,4 @@
-use Rattle.relocates.proofs.StatusWays.{conflicting}
+use Rattle.relocates.proofs.StatusBranches.{conflicting}
 use borrow.Author.Needs.{needs}
 use Rattle.relocates.proofs.status.conflicts_with.Statement.{statement}
 use Rattle.relocates.proofs.status.conflicts_with.Tie as tie
@@ -21,8 +21,8 @@ key-at-requires-3 c κs = search needs
 key-at-requires-4 : tie.Need-key-at-requires-4
 key-at-requires-4 c κs = search needs
 
-is-alike-requires : tie.Need-is-alike-requires
-is-alike-requires c κs = search needs
+equal-non-empty-requires : tie.Need-equal-non-empty-requires
+equal-non-empty-requires c κs = search needs
 
 returns-3 : tie.Need-returns-3
 returns-3 c = search (needs, conflicting)
@@ -43,7 +43,7 @@ conflicts-with-spec =
     key-at-requires-2
     key-at-requires-3
     key-at-requires-4
-    is-alike-requires
+    equal-non-empty-requires
     returns-3
     relocate-pair-conflicts-requires
     returns-4)

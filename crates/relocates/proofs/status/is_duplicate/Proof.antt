@@ -1,5 +1,5 @@
 use borrow.Author.Needs.{needs}
-use Rattle.relocates.proofs.StatusWays.{duplicates, NoneBefore}
+use Rattle.relocates.proofs.StatusBranches.{duplicates, NoneBefore}
 use Prim.Native.Nat.{_≤_, _-_}
 use Rattle.relocates.proofs.status.is_duplicate.Statement.{statement}
 use Rattle.relocates.proofs.status.is_duplicate.Tie as tie
@@ -16,8 +16,8 @@ key-at-requires c κs = search (needs, duplicates)
 loop-holds : tie.Need-loop-holds Inv-loop μ-loop
 loop-holds c = search (needs, duplicates)
 
-does-reserve-requires : tie.Need-does-reserve-requires Inv-loop μ-loop
-does-reserve-requires c κs = search (needs, duplicates)
+claims-source-requires : tie.Need-claims-source-requires Inv-loop μ-loop
+claims-source-requires c κs = search (needs, duplicates)
 
 returns : tie.Need-returns Inv-loop μ-loop
 returns c = search (needs, duplicates)
@@ -42,7 +42,7 @@ is-duplicate-spec =
     μ-loop
     key-at-requires
     loop-holds
-    does-reserve-requires
+    claims-source-requires
     returns
     add-k
     loop-less

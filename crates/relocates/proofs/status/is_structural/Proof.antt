@@ -1,4 +1,4 @@
-use Rattle.relocates.proofs.StatusWays.{structure}
+use Rattle.relocates.proofs.StatusBranches.{structure}
 use borrow.Author.Needs.{needs}
 use Rattle.relocates.proofs.status.is_structural.Statement.{statement}
 use Rattle.relocates.proofs.status.is_structural.Tie as tie

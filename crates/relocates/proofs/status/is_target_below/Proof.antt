@@ -1,4 +1,4 @@
-use Rattle.relocates.proofs.StatusWays.{reasons}
+use Rattle.relocates.proofs.StatusBranches.{reasons}
 use borrow.Author.Needs.{needs}
 use Rattle.relocates.proofs.status.is_target_below.Statement.{statement}
 use Rattle.relocates.proofs.status.is_target_below.Tie as tie

@@ -1,4 +1,4 @@
-use Rattle.relocates.proofs.StatusWays.{reasons}
+use Rattle.relocates.proofs.StatusBranches.{reasons}
 use borrow.Author.Needs.{needs}
 use Rattle.relocates.proofs.status.relocate_pair_conflicts.Statement.{statement}
 use Rattle.relocates.proofs.status.relocate_pair_conflicts.Tie as tie
@@ -9,8 +9,8 @@ is-target-below-requires c κs = search needs
 returns : tie.Need-returns
 returns c = search (needs, reasons)
 
-is-alike-requires : tie.Need-is-alike-requires
-is-alike-requires c κs = search needs
+equal-non-empty-requires : tie.Need-equal-non-empty-requires
+equal-non-empty-requires c κs = search needs
 
 returns-2 : tie.Need-returns-2
 returns-2 c = search (needs, reasons)
@@ -27,7 +27,7 @@ relocate-pair-conflicts-spec =
     (tie.spec
     is-target-below-requires
     returns
-    is-alike-requires
+    equal-non-empty-requires
     returns-2
     is-source-below-requires
     returns-3)

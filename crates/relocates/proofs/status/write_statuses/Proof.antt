@@ -1,16 +1,16 @@
-use Rattle.relocates.proofs.FirstWays.{has-first}
+use Rattle.relocates.proofs.InitialBranches.{has-initial}
 use borrow.Author.Needs.{needs}
 use Rattle.relocates.proofs.status.write_statuses.Statement.{statement}
 use Rattle.relocates.proofs.status.write_statuses.Tie as tie
 
-slice-aggregate-write-first : tie.Need-slice-aggregate-write-first
-slice-aggregate-write-first c = search needs
+slice-aggregate-write-initial : tie.Need-slice-aggregate-write-initial
+slice-aggregate-write-initial c = search needs
 
-write-first-requires : tie.Need-write-first-requires
-write-first-requires c κs = search needs
+write-initial-requires : tie.Need-write-initial-requires
+write-initial-requires c κs = search needs
 
-settle-pairs-requires : tie.Need-settle-pairs-requires
-settle-pairs-requires c κs = (search needs, has-first _ _ _ _ _ (c .before .before .before .write-first .ensures))
+write-conflicts-requires : tie.Need-write-conflicts-requires
+write-conflicts-requires c κs = (search needs, has-initial _ _ _ _ _ (c .before .before .before .write-initial .ensures))
 
 same-length : tie.Need-same-length
 same-length c = search needs
@@ -22,8 +22,8 @@ pub write-statuses-spec : {M : Type 1} → statement M
 write-statuses-spec =
     tie.close
     (tie.spec
-    slice-aggregate-write-first
-    write-first-requires
-    settle-pairs-requires
+    slice-aggregate-write-initial
+    write-initial-requires
+    write-conflicts-requires
     same-length
     returns)

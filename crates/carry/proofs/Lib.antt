@@ -1,4 +1,0 @@
--- The lemmas of this crate. The proof of each function is in the folder of its name.
-pub mod MapWays
-mod TranslateWays
-pub mod QuickLaws

@@ -1,4 +1,0 @@
--- The definitions of this crate.
-pub mod Chain
-pub mod Search
-pub mod Calls

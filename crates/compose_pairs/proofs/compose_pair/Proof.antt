@@ -1,0 +1,41 @@
+use Rattle.pair_buffer.proofs.PairBufferLaws.{pair-done}
+use borrow.Author.Needs.{needs}
+use Rattle.compose_pairs.proofs.compose_pair.Statement.{statement}
+use Rattle.compose_pairs.proofs.compose_pair.Tie as tie
+
+write-at-requires : tie.Need-write-at-requires
+write-at-requires c κs = search needs
+
+add-m : tie.Need-add-m
+add-m c = search needs
+
+composed-target-at-requires : tie.Need-composed-target-at-requires
+composed-target-at-requires c κs = search needs
+
+write-entry-requires : tie.Need-write-entry-requires
+write-entry-requires c κs = search needs
+
+add-result : tie.Need-add-result
+add-result c = search needs
+
+same-length : tie.Need-same-length
+same-length c = search needs
+
+same-length-2 : tie.Need-same-length-2
+same-length-2 c = search needs
+
+returns : tie.Need-returns
+returns c = pair-done (c .before .before .before .before .before .before .before .before .before .before .before .before .before .before .before .before .before .before .args .s .now) _ (c .before .before .before .before .before .before .before .before .before .before .before .before .before .before .before .before .before .before .args .at) (c .before .before .before .before .before .before .before .before .before .before .before .before .before .before .before .before .before .before .args .n) _ (c .before .before .before .before .before .before .before .before .before .before .before .before .before .before .before .before .before .before .args .bytes .now) _ _ (c .before .before .before .before .before .before .before .before .before .before .before .before .before .before .before .before .before .before .args .slots .now) _ (c .before .before .before .before .before .before .before .before .before .before .before .before .before .before .before .before .before .before .pre .0) (c .before .before .before .before .before .before .before .before .before .before .before .before .before .before .before .before .before .before .pre .1) (c .before .before .before .before .before .before .composed-target-at .ensures .0) (c .before .before .before .before .before .before .before .before .before .before .write-at .ensures) (c .before .before .before .before .before .before .composed-target-at .ensures .1) (c .before .before .write-entry .ensures)
+
+pub compose-pair-spec : {M : Type 1} → statement M
+compose-pair-spec =
+    tie.close
+    (tie.spec
+    write-at-requires
+    add-m
+    composed-target-at-requires
+    write-entry-requires
+    add-result
+    same-length
+    same-length-2
+    returns)

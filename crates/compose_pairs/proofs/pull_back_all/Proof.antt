@@ -1,0 +1,66 @@
+use mathlib.Core.Path.{_≡_, refl}
+use Prim.Native.Nat.{_+_, _*_, _≤_, _-_}
+use native.Mathlib.Omega.{arith}
+use lib.ListN.{length}
+use Rattle.pair_list.specs.Places.{pairsIn}
+use Rattle.map_spec.specs.Compose.{pulledBack}
+use Rattle.map_spec.specs.Map.{lentMap}
+use Rattle.compose_pairs.specs.ComposePairs.{PackedList}
+use Rattle.compose_pairs.proofs.PackLaws.{packed-stored}
+use Rattle.compose_pairs.proofs.ComposeBranches.{pull-begin, pull-room, pull-slot, pull-number, pull-bound, pull-next, pull-end}
+use borrow.Author.Needs.{needs}
+use Rattle.compose_pairs.proofs.pull_back_all.Statement.{statement}
+use Rattle.compose_pairs.proofs.pull_back_all.Tie as tie
+
+abbrev Inv-loop : tie.InvT-loop
+Inv-loop store places count istore iplaces inner mark at bytes₀ slots₀ b₀ i₀ bytes slots b i = (i ≤ count) × (b .n ≤ inner + i) × (b .at ≤ 1534 * (inner + i)) × PackedList (pulledBack (lentMap istore iplaces inner mark) (pairsIn bytes₀ slots₀ inner) (pairsIn store places i)) (b .n) (b .at) bytes₀ slots₀ bytes slots × (length bytes ≡ length bytes₀) × (length slots ≡ length slots₀)
+
+abbrev μ-loop : tie.MeasureT-loop
+μ-loop store places count istore iplaces inner mark at bytes₀ slots₀ b₀ i₀ bytes slots b i = count - i
+
+loop-holds : tie.Need-loop-holds Inv-loop μ-loop
+loop-holds c = (search needs, omega arith, omega (arith, c .before .before .before .before .before .before .pre .1 .1 .1 .1 .1), pull-begin (lentMap (c .before .before .before .before .before .before .args .istore .now) (c .before .before .before .before .before .before .args .iplaces .now) (c .before .before .before .before .before .before .args .inner) (c .before .before .before .before .before .before .args .mark)) (pairsIn (c .before .before .before .before .before .before .args .bytes .now) (c .before .before .before .before .before .before .args .slots .now) (c .before .before .before .before .before .before .args .inner)) (c .before .before .before .before .before .before .args .store .now) (c .before .before .before .before .before .before .args .places .now) _ _ _ _ _ _ (c .before .before .before .before .before .before .pre .1 .1 .1 .1 .0), refl, refl)
+
+key-at-requires : tie.Need-key-at-requires Inv-loop μ-loop
+key-at-requires c κs = search needs
+
+key-at-requires-2 : tie.Need-key-at-requires-2 Inv-loop μ-loop
+key-at-requires-2 c κs = search needs
+
+pull-back-pair-requires : tie.Need-pull-back-pair-requires Inv-loop μ-loop
+pull-back-pair-requires c κs = (packed-stored _ _ _ _ _ _ _ (c .before .before .before .before .before .loop .inv .3), (pull-room (lentMap (c .before .before .before .before .before .before .before .before .before .before .before .before .args .istore .now) (c .before .before .before .before .before .before .before .before .before .before .before .before .args .iplaces .now) (c .before .before .before .before .before .before .before .before .before .before .before .before .args .inner) (c .before .before .before .before .before .before .before .before .before .before .before .before .args .mark)) (c .before .before .before .before .before .before .before .before .before .before .before .before .pre .1 .0) (pairsIn (c .before .before .before .before .before .before .before .before .before .before .before .before .args .bytes .now) (c .before .before .before .before .before .before .before .before .before .before .before .before .args .slots .now) (c .before .before .before .before .before .before .before .before .before .before .before .before .args .inner)) (c .before .before .before .before .before .before .before .before .before .before .before .before .args .store .now) (c .before .before .before .before .before .before .before .before .before .before .before .before .args .places .now) (c .before .before .before .before .before .before .before .before .before .before .before .before .args .count) (c .before .before .before .before .before .before .before .before .before .before .before .before .pre .0) (c .before .before .before .before .before .before .before .before .before .before .before .before .args .inner) (c .before .before .before .before .before .loop .i) (c .before .before .before .before .loop-test .taken) (c .before .before .before .before .before .loop .b .n) (c .before .before .before .before .before .loop .b .at) (c .before .before .before .before .before .loop .inv .1) (c .before .before .before .before .before .loop .inv .2) _ _ (c .before .before .before .key-at .ensures) (c .before .before .key-at2 .ensures) _ (omega (arith, c .before .before .before .before .before .before .before .before .before .before .before .before .pre .1 .1 .0, c .before .before .before .before .before .loop .inv .4)), pull-slot (lentMap (c .before .before .before .before .before .before .before .before .before .before .before .before .args .istore .now) (c .before .before .before .before .before .before .before .before .before .before .before .before .args .iplaces .now) (c .before .before .before .before .before .before .before .before .before .before .before .before .args .inner) (c .before .before .before .before .before .before .before .before .before .before .before .before .args .mark)) (c .before .before .before .before .before .before .before .before .before .before .before .before .pre .1 .0) (pairsIn (c .before .before .before .before .before .before .before .before .before .before .before .before .args .bytes .now) (c .before .before .before .before .before .before .before .before .before .before .before .before .args .slots .now) (c .before .before .before .before .before .before .before .before .before .before .before .before .args .inner)) (c .before .before .before .before .before .before .before .before .before .before .before .before .args .store .now) (c .before .before .before .before .before .before .before .before .before .before .before .before .args .places .now) (c .before .before .before .before .before .before .before .before .before .before .before .before .args .count) (c .before .before .before .before .before .before .before .before .before .before .before .before .pre .0) (c .before .before .before .before .before .before .before .before .before .before .before .before .args .inner) (c .before .before .before .before .before .loop .i) (c .before .before .before .before .loop-test .taken) (c .before .before .before .before .before .loop .b .n) (c .before .before .before .before .before .loop .b .at) (c .before .before .before .before .before .loop .inv .1) (c .before .before .before .before .before .loop .inv .2) _ _ (c .before .before .before .key-at .ensures) (c .before .before .key-at2 .ensures) _ (omega (arith, c .before .before .before .before .before .before .before .before .before .before .before .before .pre .1 .1 .1 .0, c .before .before .before .before .before .loop .inv .5))))
+
+add-i : tie.Need-add-i Inv-loop μ-loop
+add-i c = search needs
+
+loop-less : tie.Need-loop-less Inv-loop μ-loop
+loop-less c = search needs
+
+loop-again : tie.Need-loop-again Inv-loop μ-loop
+loop-again c = (search needs, pull-number (lentMap (c .before .before .before .before .before .before .before .before .before .before .before .before .before .before .before .before .before .args .istore .now) (c .before .before .before .before .before .before .before .before .before .before .before .before .before .before .before .before .before .args .iplaces .now) (c .before .before .before .before .before .before .before .before .before .before .before .before .before .before .before .before .before .args .inner) (c .before .before .before .before .before .before .before .before .before .before .before .before .before .before .before .before .before .args .mark)) (c .before .before .before .before .before .before .before .before .before .before .before .before .before .before .before .before .before .pre .1 .0) (pairsIn (c .before .before .before .before .before .before .before .before .before .before .before .before .before .before .before .before .before .args .bytes .now) (c .before .before .before .before .before .before .before .before .before .before .before .before .before .before .before .before .before .args .slots .now) (c .before .before .before .before .before .before .before .before .before .before .before .before .before .before .before .before .before .args .inner)) (c .before .before .before .before .before .before .before .before .before .before .before .before .before .before .before .before .before .args .store .now) (c .before .before .before .before .before .before .before .before .before .before .before .before .before .before .before .before .before .args .places .now) (c .before .before .before .before .before .before .before .before .before .before .before .before .before .before .before .before .before .args .count) (c .before .before .before .before .before .before .before .before .before .before .before .before .before .before .before .before .before .pre .0) (c .before .before .before .before .before .before .before .before .before .before .before .before .before .before .before .before .before .args .inner) (c .before .before .before .before .before .before .before .before .before .before .loop .i) (c .before .before .before .before .before .before .before .before .before .loop-test .taken) (c .before .before .before .before .before .before .before .before .before .before .loop .b .n) (c .before .before .before .before .before .before .before .before .before .before .loop .b .at) (c .before .before .before .before .before .before .before .before .before .before .loop .inv .1) (c .before .before .before .before .before .before .before .before .before .before .loop .inv .2) _ _ (c .before .before .before .before .before .before .before .before .key-at .ensures) (c .before .before .before .before .before .before .before .key-at2 .ensures) _ _ _ _ (c .before .before .before .before .before .before .before .before .before .before .loop .inv .3) _ _ _ _ (c .before .before .before .before .pull-back-pair .ensures), pull-bound (lentMap (c .before .before .before .before .before .before .before .before .before .before .before .before .before .before .before .before .before .args .istore .now) (c .before .before .before .before .before .before .before .before .before .before .before .before .before .before .before .before .before .args .iplaces .now) (c .before .before .before .before .before .before .before .before .before .before .before .before .before .before .before .before .before .args .inner) (c .before .before .before .before .before .before .before .before .before .before .before .before .before .before .before .before .before .args .mark)) (c .before .before .before .before .before .before .before .before .before .before .before .before .before .before .before .before .before .pre .1 .0) (pairsIn (c .before .before .before .before .before .before .before .before .before .before .before .before .before .before .before .before .before .args .bytes .now) (c .before .before .before .before .before .before .before .before .before .before .before .before .before .before .before .before .before .args .slots .now) (c .before .before .before .before .before .before .before .before .before .before .before .before .before .before .before .before .before .args .inner)) (c .before .before .before .before .before .before .before .before .before .before .before .before .before .before .before .before .before .args .store .now) (c .before .before .before .before .before .before .before .before .before .before .before .before .before .before .before .before .before .args .places .now) (c .before .before .before .before .before .before .before .before .before .before .before .before .before .before .before .before .before .args .count) (c .before .before .before .before .before .before .before .before .before .before .before .before .before .before .before .before .before .pre .0) (c .before .before .before .before .before .before .before .before .before .before .before .before .before .before .before .before .before .args .inner) (c .before .before .before .before .before .before .before .before .before .before .loop .i) (c .before .before .before .before .before .before .before .before .before .loop-test .taken) (c .before .before .before .before .before .before .before .before .before .before .loop .b .n) (c .before .before .before .before .before .before .before .before .before .before .loop .b .at) (c .before .before .before .before .before .before .before .before .before .before .loop .inv .1) (c .before .before .before .before .before .before .before .before .before .before .loop .inv .2) _ _ (c .before .before .before .before .before .before .before .before .key-at .ensures) (c .before .before .before .before .before .before .before .key-at2 .ensures) _ _ _ _ (c .before .before .before .before .before .before .before .before .before .before .loop .inv .3) _ _ _ _ (c .before .before .before .before .pull-back-pair .ensures), pull-next (lentMap (c .before .before .before .before .before .before .before .before .before .before .before .before .before .before .before .before .before .args .istore .now) (c .before .before .before .before .before .before .before .before .before .before .before .before .before .before .before .before .before .args .iplaces .now) (c .before .before .before .before .before .before .before .before .before .before .before .before .before .before .before .before .before .args .inner) (c .before .before .before .before .before .before .before .before .before .before .before .before .before .before .before .before .before .args .mark)) (c .before .before .before .before .before .before .before .before .before .before .before .before .before .before .before .before .before .pre .1 .0) (pairsIn (c .before .before .before .before .before .before .before .before .before .before .before .before .before .before .before .before .before .args .bytes .now) (c .before .before .before .before .before .before .before .before .before .before .before .before .before .before .before .before .before .args .slots .now) (c .before .before .before .before .before .before .before .before .before .before .before .before .before .before .before .before .before .args .inner)) (c .before .before .before .before .before .before .before .before .before .before .before .before .before .before .before .before .before .args .store .now) (c .before .before .before .before .before .before .before .before .before .before .before .before .before .before .before .before .before .args .places .now) (c .before .before .before .before .before .before .before .before .before .before .before .before .before .before .before .before .before .args .count) (c .before .before .before .before .before .before .before .before .before .before .before .before .before .before .before .before .before .pre .0) (c .before .before .before .before .before .before .before .before .before .before .before .before .before .before .before .before .before .args .inner) (c .before .before .before .before .before .before .before .before .before .before .loop .i) (c .before .before .before .before .before .before .before .before .before .loop-test .taken) (c .before .before .before .before .before .before .before .before .before .before .loop .b .n) (c .before .before .before .before .before .before .before .before .before .before .loop .b .at) (c .before .before .before .before .before .before .before .before .before .before .loop .inv .1) (c .before .before .before .before .before .before .before .before .before .before .loop .inv .2) _ _ (c .before .before .before .before .before .before .before .before .key-at .ensures) (c .before .before .before .before .before .before .before .key-at2 .ensures) _ _ _ _ (c .before .before .before .before .before .before .before .before .before .before .loop .inv .3) _ _ _ _ (c .before .before .before .before .pull-back-pair .ensures), search needs, search needs)
+
+same-length : tie.Need-same-length Inv-loop μ-loop
+same-length c = search needs
+
+same-length-2 : tie.Need-same-length-2 Inv-loop μ-loop
+same-length-2 c = search needs
+
+returns : tie.Need-returns Inv-loop μ-loop
+returns c = pull-end (lentMap (c .before .before .before .before .before .before .before .before .args .istore .now) (c .before .before .before .before .before .before .before .before .args .iplaces .now) (c .before .before .before .before .before .before .before .before .args .inner) (c .before .before .before .before .before .before .before .before .args .mark)) (pairsIn (c .before .before .before .before .before .before .before .before .args .bytes .now) (c .before .before .before .before .before .before .before .before .args .slots .now) (c .before .before .before .before .before .before .before .before .args .inner)) (c .before .before .before .before .before .before .before .before .args .store .now) (c .before .before .before .before .before .before .before .before .args .places .now) _ _ _ _ _ _ _ _ (c .loop-test .left) (c .before .loop .inv .0) (c .before .loop .inv .3)
+
+pub pull-back-all-spec : {M : Type 1} → statement M
+pull-back-all-spec =
+    tie.close
+    (tie.spec
+    Inv-loop
+    μ-loop
+    loop-holds
+    key-at-requires
+    key-at-requires-2
+    pull-back-pair-requires
+    add-i
+    loop-less
+    loop-again
+    same-length
+    same-length-2
+    returns)

@@ -1,4 +1,0 @@
--- The lemmas of this crate. The proof of each function is in the folder of its name.
-mod OpenedCalls
-mod MakeWays
-mod PartWays

@@ -1,5 +1,0 @@
--- The lemmas of this crate; the proof of each function is in a folder of its name.
-pub mod AnswerLaws
-pub mod TurnWays
-pub mod FeedLaws
-pub mod Theorem

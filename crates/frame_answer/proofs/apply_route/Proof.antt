@@ -1,0 +1,19 @@
+use Rattle.frame_answer.proofs.ApplyBranches.{way-given}
+use borrow.Author.Needs.{needs}
+use Rattle.frame_answer.proofs.apply_route.Statement.{statement}
+use Rattle.frame_answer.proofs.apply_route.Tie as tie
+
+after-kind-requires : tie.Need-after-kind-requires
+after-kind-requires c κs = search needs
+
+route-after-requires : tie.Need-route-after-requires
+route-after-requires c κs = search needs
+
+same-length : tie.Need-same-length
+same-length c = search needs
+
+returns : tie.Need-returns
+returns c = way-given _ (c .before .before .before .before .before .before .before .before .before .before .before .args .frame .now) _ _ _ _ _ _ _ _ (c .before .before .before .before .before .before .before .before .before .before .before .pre) (c .before .before .before .before .after-kind .ensures) (c .before .before .route-after .ensures .0) (c .before .before .route-after .ensures .1)
+
+pub apply-route-spec : {M : Type 1} → statement M
+apply-route-spec = tie.close (tie.spec after-kind-requires route-after-requires same-length returns)

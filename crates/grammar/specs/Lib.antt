@@ -1,4 +1,0 @@
--- The definitions of this crate.
-pub mod Grammar
-pub mod Legal
-pub mod Pack

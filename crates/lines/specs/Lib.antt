@@ -1,4 +1,0 @@
--- The definitions of this crate.
-pub mod Lines
-pub mod Blocks
-pub mod Taking

@@ -1,3 +1,0 @@
--- The definitions of this crate.
-pub mod Lists
-pub mod Picks

@@ -1,0 +1,4 @@
+-- The lemmas of this crate; the proof of each function is in a folder of its name.
+mod CallBranches
+pub mod ComposedEnds
+pub mod NeverIllegal

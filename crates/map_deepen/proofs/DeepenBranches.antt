@@ -1,0 +1,256 @@
+-- Lemmas about the branches of the functions of `deepen_to`.
+use mathlib.Core.Path.{_≡_, refl, sym, ap, _∙_}
+use mathlib.Core.Bool.{Bool, true, false, not, cond, false≢true}
+use mathlib.Core.List.{List, [], _∷_, _++_}
+use mathlib.Core.Option.{Option, none, some, Option·getD}
+use Prim.Native.Nat.{ℕ, suc, _+_, _*_, _≤_, _<_}
+use native.Mathlib.Omega.{arith}
+use native.Mathlib.Numerals.{add-one}
+use lib.Dec.{leb}
+use lib.ListN.{length, take}
+use borrow.Author.Tests.{le-leb, lt-leb}
+use Rattle.text.specs.Text.{Text, equal, writtenAt}
+use Rattle.text.specs.declared.Fit.{Fit}
+use Rattle.text.specs.declared.Fit.the-variants.{Written}
+use Rattle.text.proofs.BoolLaws.{told, known-true, known-false, not-true, not-false}
+use Rattle.path_grammar.specs.Legal.{legal, atMost255, isEnd}
+use Rattle.path_prefix.specs.Prefix.{hasPrefix}
+use Rattle.path_prefix.specs.Elements.{elementCount}
+use Rattle.path_join.specs.Join.{replacePrefix}
+use Rattle.path_join.proofs.ReplaceLaws.{replace-prefix}
+use Rattle.path_parts.specs.Strip.{strip, stripFit, stripBuffer}
+use Rattle.path_parts.proofs.StripLaws.{strip-shorter, strip-length, strip-back}
+use Rattle.layer_offset.specs.declared.LayerOffset.{LayerOffset}
+use Rattle.map_deepen.specs.declared.ClassSoFar.{ClassSoFar}
+use Rattle.pair_list.specs.Pair.{Pair, pair, allShort}
+use Rattle.pair_list.specs.Places.{keyAt, pairIn, pairsIn, pairEntry}
+use Rattle.pair_list.specs.LongestMatch.{longestBy}
+use Rattle.pair_list.proofs.LongestMatchLaws.{Best}
+use Rattle.pair_list.proofs.PlaceLaws.{pairsIn-length, pairsIn-source, pairsIn-target, chosen-best, best-same}
+use Rattle.pair_list_write.proofs.WriteBranches.{source-key, target-key}
+use Rattle.refusal.specs.declared.Refusal.{Refusal}
+use Rattle.refusal.specs.declared.Refusal.the-variants.{TooLong}
+use Rattle.refusal.specs.declared.Validation.{Validation}
+use Rattle.refusal.specs.declared.Validation.the-variants.{Passed, Refused as RefusedValidation}
+use Rattle.validate.specs.Validate.{LentList, every, firstFailed, validateCall}
+use Rattle.validate.proofs.PassedLaws.{ValidList, first-sound, text-short}
+use Rattle.map_spec.specs.Map.{Map, mapSource, mapTarget, mapSize}
+use Rattle.map_spec.specs.New.{fromParts}
+use Rattle.map_spec.specs.Compose.{hasSource}
+use Rattle.map_spec.specs.Derive.{deepenedPair, deepenBy, deepenTo}
+use Rattle.map_function.specs.declared.MapFunction.{MapFunction}
+use Rattle.map_function.specs.MapFunction.{listOf, mapOf}
+use Rattle.map_function.specs.MapOutcome.{MapOutcome, map, refused, withinLimits, withoutDropping, countInSlice}
+use Rattle.pair_buffer.specs.Ends.{replacedOrSame, fromEnds}
+use Rattle.pair_buffer.proofs.MapLaws.{held-all, limited-map, fromEnds-map}
+use Rattle.map_deepen.specs.FindClass.{considerClass, classIndex}
+use Rattle.map_deepen.specs.Calls.{deepenedPairs, deepenOutcomeBy, deepenOutcome, DeepensTo, deepenToCall}
+
+-- `deepen_pair`
+module _ (s t node above below : Text) (b : Bool) (h : b ≡ equal s above) where
+  deepened-class : b ≡ true → deepenedPair node above below (pair s t) ≡ pair node below
+  unfolding equal
+  deepened-class k = ap (λ (c : Bool). cond c (pair node below) (pair s t)) (told h k)
+
+  deepened-other : b ≡ false → deepenedPair node above below (pair s t) ≡ pair s t
+  unfolding equal
+  deepened-other k = ap (λ (c : Bool). cond c (pair node below) (pair s t)) (told h k)
+
+  module _ (at n r : ℕ) (out out′ : Text) (slots slots′ : List ℕ) where
+    abbrev Done : Pair → Type 0
+    Done x = ((r ≡ at + (length (x .source) + length (x .target))) × (r ≤ at + 766))
+        × ((out′ ≡ writtenAt at (x .source ++ x .target) out) × (slots′ ≡ writtenAt (4 * n) (pairEntry at (x .source) (x .target)) slots))
+
+    pub deepen-class : b ≡ true → length node ≤ 255 → length below ≤ 511 → r ≡ at + (length node + length below) → out′ ≡ writtenAt at (node ++ below) out
+        → slots′ ≡ writtenAt (4 * n) (pairEntry at node below) slots → Done (deepenedPair node above below (pair s t))
+    deepen-class k l m e o w = rw (deepened-class k) ((e, omega arith), (o, w))
+
+    pub deepen-other : b ≡ false → length s ≤ 255 → length t ≤ 255 → r ≡ at + (length s + length t) → out′ ≡ writtenAt at (s ++ t) out
+        → slots′ ≡ writtenAt (4 * n) (pairEntry at s t) slots → Done (deepenedPair node above below (pair s t))
+    deepen-other k l m e o w = rw (deepened-other k) ((e, omega arith), (o, w))
+
+-- `deepen_all`
+pub deepened-pair : (store : Text) (places : List ℕ) (i : ℕ) (node above below s t : Text) → s ≡ keyAt store places false i → t ≡ keyAt store places true i
+    → deepenedPair node above below (pairIn store places i)
+    ≡ pair ((deepenedPair node above below (pair s t)) .source) ((deepenedPair node above below (pair s t)) .target)
+deepened-pair store places i node above below s t e f = rw (e, f, ← (source-key store places i), ← (target-key store places i)) refl
+
+-- `deepen_by`: the node mapped by the class pair.
+module _ (q : Text) (k : ℕ) (made : Text) (e : k ≡ length q) (f : take k made ≡ q) where
+  pub below-short : length q ≤ 511 → length (take k made) ≤ 511
+  below-short l = omega (arith, ap length f)
+
+  pub deepen-same : (node above new a b : Text) → above ≡ a → new ≡ b → q ≡ replacedOrSame node above new
+      → (l : List Pair) (mark : Bool) (time : LayerOffset) (out : Text) (slots : List ℕ)
+      → fromEnds (deepenedPairs node a (replacedOrSame node a b) l) mark time out slots ≡ fromEnds (deepenedPairs node above (take k made) l) mark time out slots
+  deepen-same node above new a b g h i l mark time out slots = rw (f, i, g, h) refl
+
+-- `consider_class`
+module _ (f : ClassSoFar) (p k : Text) (i : ℕ) (b : Bool) (h : b ≡ hasPrefix p k) where
+  pub above-other : not b ≡ true → f ≡ considerClass f p k i
+  unfolding considerClass
+  above-other l = rw (known-false h l)
+
+  module _ (l : not b ≡ false) (n : ℕ) (e : n ≡ elementCount k) where
+    pub above-worse : f .found ≡ true → n < f .elements → f ≡ considerClass f p k i
+    unfolding considerClass
+    above-worse g m = rw (known-true h l, g, ← e, lt-leb (f .elements) n m)
+
+    pub above-better : f .found ≡ true → f .elements ≤ n → record { found = true; at = i; elements = n } ≡ considerClass f p k i
+    unfolding considerClass
+    above-better g m = rw (known-true h l, g, ← e, le-leb (f .elements) n m)
+
+    pub above-first : f .found ≡ false → record { found = true; at = i; elements = n } ≡ considerClass f p k i
+    unfolding considerClass
+    above-first g = rw (known-true h l, g, ← e)
+
+-- The loop invariant: the pair found is the one that `longestBy` selects among the first i sources.
+pub record Above (p : Text) (key : ℕ → Text) (i : ℕ) (f : ClassSoFar) : Type 0 where
+  pub chosen : classIndex f ≡ longestBy (hasPrefix p) key i
+  pub counted : f .found ≡ true → f .elements ≡ elementCount (key (f .at))
+
+pub above-none : (p : Text) (key : ℕ → Text) → Above p key 0 (record { found = false; at = 0; elements = 0 })
+unfolding longestBy
+above-none p key = record { chosen = refl; counted = λ h. absurd (false≢true h) }
+
+module _ (p : Text) (key : ℕ → Text) (i : ℕ) where
+  compared : (at e : ℕ) (c : Bool) → some at ≡ longestBy (hasPrefix p) key i → e ≡ elementCount (key at) → hasPrefix p (key i) ≡ true → leb e (elementCount (key i)) ≡ c
+      → Above p key (suc i) (cond c (record { found = true; at = i; elements = elementCount (key i) }) (record { found = true; at = at; elements = e }))
+  unfolding longestBy
+  compared at e true h k s t = record { chosen = rw (s, ← h, ← k, t); counted = λ z. refl }
+  compared at e false h k s t = record { chosen = rw (s, ← h, ← k, t); counted = λ z. k }
+
+  cases : (found : Bool) (at e : ℕ) (b : Bool) → Above p key i (record { found = found; at = at; elements = e }) → hasPrefix p (key i) ≡ b
+      → Above p key (suc i) (considerClass (record { found = found; at = at; elements = e }) p (key i) i)
+  unfolding longestBy considerClass
+  cases true at e true h s = rw s (compared at e (leb e (elementCount (key i))) (h .chosen) (h .counted refl) s refl)
+  cases false at e true h s = rw s (record { chosen = rw (s, ← (h .chosen)); counted = λ z. refl })
+  cases found at e false h s = rw s (record { chosen = rw s (h .chosen); counted = h .counted })
+
+  pub above-on : (f f′ : ClassSoFar) (k : Text) → Above p key i f → k ≡ key i → f′ ≡ considerClass f p k i → Above p key (i + 1) f′
+  above-on f f′ k h e c = rw (c, e, add-one i) (cases (f .found) (f .at) (f .elements) (hasPrefix p (key i)) h refl)
+
+pub above-end : (p : Text) (key : ℕ → Text) (i n : ℕ) (f : ClassSoFar) → Above p key i f → n ≤ i → i ≤ n → classIndex f ≡ longestBy (hasPrefix p) key n
+above-end p key i n f h l m = let e : n ≡ i = omega arith in rw e (h .chosen)
+
+pub ruleset classes = (above-other, above-worse, above-better, above-first, above-none, above-on, above-end)
+
+-- `strip_node`
+pub node-done : (p out : Text) (f : Fit) → length p ≤ length out → f ≡ stripFit p out → (n : ℕ) → f ≡ Written n → (out′ : Text) → out′ ≡ stripBuffer p out
+    → (n ≡ length (strip p)) × ((take n out′ ≡ strip p) × (n ≤ length out))
+node-done p out f h e n k out′ w =
+    let z : n ≡ length (strip p) = strip-length p out f h e n k in
+    (z, (strip-back p out f h e n k out′ w, omega (arith, strip-shorter p)))
+
+-- The second text and the second end to validate are empty.
+validate-node : (l : LentList) (p e : Text) → validateCall (l ∷ []) (p ∷ [] ∷ []) (e ∷ [] ∷ []) ≡ validateCall (l ∷ []) (p ∷ []) (e ∷ [])
+unfolding validateCall every atMost255 legal isEnd
+validate-node l p e = refl
+
+-- `deepen_node`
+module _ (store : Text) (places : List ℕ) (f : MapFunction) (p node : Text) (out : Text) (slots : List ℕ) (is : node ≡ strip p)
+    (q : Validation) (h : q ≡ validateCall (listOf store places f ∷ []) (p ∷ [] ∷ []) (node ∷ [] ∷ [])) where
+  abbrev m : Map
+  m = mapOf store places f
+
+  validated-is : q ≡ validateCall (listOf store places f ∷ []) (p ∷ []) (strip p ∷ [])
+  validated-is = h ∙ validate-node (listOf store places f) p node ∙ rw is refl
+
+  pub deepen-refused : (x : Refusal) → q ≡ RefusedValidation x → deepenToCall store places f p out slots ≡ refused x
+  unfolding deepenToCall
+  deepen-refused x k = rw (← validated-is, k)
+
+  module _ (k : q ≡ Passed) where
+    sound : ValidList (listOf store places f)
+    sound = first-sound (listOf store places f) [] (p ∷ []) (strip p ∷ []) (sym validated-is ∙ k)
+
+    passed : deepenToCall store places f p out slots ≡ deepenOutcome m node (f .«time_offset») out slots
+    unfolding deepenToCall
+    passed = rw (← validated-is, k, is)
+
+    pub deepen-short : allShort (m .pairs) ≡ true
+    deepen-short = sound .shorts
+
+    pub deepen-count : f .count ≤ 64
+    deepen-count = sound .few
+
+    pub deepen-node-short : length node ≤ 255
+    deepen-node-short =
+        omega (arith, ap length is, strip-shorter p, text-short (listOf store places f ∷ []) p [] (strip p ∷ []) (sym validated-is ∙ k))
+
+    abbrev asItStands : MapOutcome
+    asItStands = countInSlice (listOf store places f) (withoutDropping (pairsIn store places (f .count)) (f .«has_root_identity») (f .«time_offset») out slots)
+
+    stands : withoutDropping (pairsIn store places (f .count)) (f .«has_root_identity») (f .«time_offset») out slots ≡ asItStands
+    stands = sym (held-all store places (f .count) (withoutDropping (pairsIn store places (f .count)) (f .«has_root_identity») (f .«time_offset») out slots) (sound .held))
+
+    module _ (b : Bool) (g : b ≡ hasSource (pairsIn store places (f .count)) node) where
+      pub deepen-there : b ≡ true → deepenToCall store places f p out slots ≡ asItStands
+      unfolding deepenOutcome
+      deepen-there l = passed ∙ rw (told g l) stands
+
+      module _ (l : b ≡ false) (c : ClassSoFar) (i : classIndex c ≡ longestBy (hasPrefix node) (keyAt store places false) (f .count)) where
+        class-is : longestBy (hasPrefix node) (mapSource m) (mapSize m) ≡ classIndex c
+        class-is =
+            rw (pairsIn-length store places (f .count))
+            (best-same (hasPrefix node) (mapSource m) (keyAt store places false) (f .count) (λ j n. pairsIn-source store places (f .count) j n) ∙ sym i)
+
+        opened : deepenToCall store places f p out slots ≡ deepenOutcomeBy m node (classIndex c) (f .«time_offset») out slots
+        unfolding deepenOutcome
+        opened = passed ∙ rw (told g l) (ap (λ (o : Option ℕ). deepenOutcomeBy m node o (f .«time_offset») out slots) class-is)
+
+        pub deepen-none : not (c .found) ≡ true → deepenToCall store places f p out slots ≡ asItStands
+        unfolding deepenOutcomeBy
+        deepen-none n = opened ∙ ap (λ (x : Bool). deepenOutcomeBy m node (cond x (some (c .at)) none) (f .«time_offset») out slots) (not-true (c .found) n) ∙ stands
+
+        module _ (n : not (c .found) ≡ false) where
+          chosen-is : longestBy (hasPrefix node) (keyAt store places false) (f .count) ≡ some (c .at)
+          chosen-is = sym i ∙ ap (λ (x : Bool). cond x (some (c .at)) none) (not-false (c .found) n)
+
+          best : Best (hasPrefix node) (keyAt store places false) (f .count) (c .at)
+          best = chosen-best (hasPrefix node) (keyAt store places false) (f .count) (c .at) chosen-is
+
+          pub deepen-inside : c .at < f .count
+          deepen-inside = best .in-range
+
+          abbrev above : Text
+          above = keyAt store places false (c .at)
+
+          below-is : Option·getD (replacePrefix node (mapSource m (c .at)) (mapTarget m (c .at))) [] ≡ replacedOrSame node above (keyAt store places true (c .at))
+          below-is =
+              rw (
+                pairsIn-source store places (f .count) (c .at) deepen-inside,
+                pairsIn-target store places (f .count) (c .at) deepen-inside,
+                replace-prefix node above (keyAt store places true (c .at)) (best .does-pass),
+              ) refl
+
+          pub deepen-made : deepenToCall store places f p out slots
+              ≡ fromEnds (deepenedPairs node above (replacedOrSame node above (keyAt store places true (c .at))) (pairsIn store places (f .count)))
+              (f .«has_root_identity») (f .«time_offset») out slots
+          unfolding deepenOutcomeBy
+          deepen-made =
+              opened
+              ∙ ap (λ (x : Bool). deepenOutcomeBy m node (cond x (some (c .at)) none) (f .«time_offset») out slots) (not-false (c .found) n)
+              ∙ ap (λ (y : Text). fromEnds (deepenedPairs node (mapSource m (c .at)) y (pairsIn store places (f .count))) (f .«has_root_identity») (f .«time_offset») out slots) below-is
+              ∙ ap (λ (y : Text). fromEnds (deepenedPairs node y (replacedOrSame node above (keyAt store places true (c .at))) (pairsIn store places (f .count)))
+              (f .«has_root_identity») (f .«time_offset») out slots) (pairsIn-source store places (f .count) (c .at) deepen-inside)
+
+-- `deepen_to`: question 1 is checked first.
+pub deepen-long : (store : Text) (places : List ℕ) (f : MapFunction) (p : Text) (out : Text) (slots : List ℕ) → 255 < length p → deepenToCall store places f p out slots ≡ refused TooLong
+unfolding deepenToCall validateCall every atMost255 firstFailed
+deepen-long store places f p out slots h = rw (lt-leb (length p) 255 h) refl
+
+-- A map that the call returns is the map of the definition.
+by-class : (m n : Map) (node : Text) (o : Option ℕ) (time t : LayerOffset) (out : Text) (slots : List ℕ) → deepenOutcomeBy m node o time out slots ≡ map n t → n ≡ deepenBy m node o
+unfolding deepenOutcomeBy withoutDropping equal replacePrefix fromParts
+by-class m n node none time t out slots e = limited-map n t (m .pairs) m time out slots e
+by-class m n node (some i) time t out slots e =
+    fromEnds-map n t (deepenedPairs node (mapSource m i) (Option·getD (replacePrefix node (mapSource m i) (mapTarget m i)) []) (m .pairs)) (m .mark) time out slots e
+
+pub deepens-to : DeepensTo
+unfolding deepenOutcome deepenTo withoutDropping
+deepens-to m n path time t out slots e = go (hasSource (m .pairs) (strip path)) e
+  where
+    go : (b : Bool) → cond b (withinLimits (m .pairs) m time out slots) (deepenOutcomeBy m (strip path) (longestBy (hasPrefix (strip path)) (mapSource m) (mapSize m)) time out slots) ≡ map n t → n ≡ cond b m (deepenBy m (strip path) (longestBy (hasPrefix (strip path)) (mapSource m) (mapSize m)))
+    go true e = limited-map n t (m .pairs) m time out slots e
+    go false e = by-class m n (strip path) (longestBy (hasPrefix (strip path)) (mapSource m) (mapSize m)) time t out slots e

@@ -1,0 +1,79 @@
+use native.Mathlib.Omega.{arith}
+use Rattle.pair_list.specs.Places.{pairsIn}
+use mathlib.Core.Path.{refl}
+use Rattle.map_deepen.proofs.DeepenBranches.{below-short, deepen-same}
+use Rattle.pair_buffer.specs.Ends.{replacedOrSame}
+use Rattle.pair_buffer.proofs.LengthLaws.{placed-back, short-target, replaced-short, part-within, part-is}
+use borrow.Author.Needs.{needs}
+use Rattle.map_deepen.proofs.deepen_by.Statement.{statement}
+use Rattle.map_deepen.proofs.deepen_by.Tie as tie
+use Rattle.map_function.proofs.NewBranches.{gives-map}
+
+key-at-requires : tie.Need-key-at-requires
+key-at-requires c κs = search needs
+
+key-at-requires-2 : tie.Need-key-at-requires-2
+key-at-requires-2 c κs = search needs
+
+slice-aggregate-replace-into : tie.Need-slice-aggregate-replace-into
+slice-aggregate-replace-into c = search needs
+
+replace-into-requires : tie.Need-replace-into-requires
+replace-into-requires c κs = search needs
+
+array-share-prefix-made : tie.Need-array-share-prefix-made
+array-share-prefix-made c = omega (arith, part-within (replacedOrSame (c .before .before .before .before .before .before .before .before .before .before .before .before .args .node .now) (c .before .before .before .before .before .before .key-at .result .now) (c .before .before .before .before .before .key-at2 .result .now)) _ (placed-back _ _ _ _ (c .before .before .before .replace-into .ensures) (replaced-short (c .before .before .before .before .before .before .before .before .before .before .before .before .args .node .now) (c .before .before .before .before .before .before .key-at .result .now) (c .before .before .before .before .before .key-at2 .result .now) (c .before .before .before .before .before .before .before .before .before .before .before .before .pre .1 .0) (short-target (c .before .before .before .before .before .before .before .before .before .before .before .before .args .store .now) (c .before .before .before .before .before .before .before .before .before .before .before .before .args .places .now) (c .before .before .before .before .before .before .before .before .before .before .before .before .args .map .count) (c .before .before .before .before .before .before .before .before .before .before .before .before .args .i) (c .before .before .before .before .before .before .before .before .before .before .before .before .pre .1 .1 .1) (c .before .before .before .before .before .before .before .before .before .before .before .before .pre .0) _ (c .before .before .before .before .before .key-at2 .ensures))) .0) 511 (replaced-short (c .before .before .before .before .before .before .before .before .before .before .before .before .args .node .now) (c .before .before .before .before .before .before .key-at .result .now) (c .before .before .before .before .before .key-at2 .result .now) (c .before .before .before .before .before .before .before .before .before .before .before .before .pre .1 .0) (short-target (c .before .before .before .before .before .before .before .before .before .before .before .before .args .store .now) (c .before .before .before .before .before .before .before .before .before .before .before .before .args .places .now) (c .before .before .before .before .before .before .before .before .before .before .before .before .args .map .count) (c .before .before .before .before .before .before .before .before .before .before .before .before .args .i) (c .before .before .before .before .before .before .before .before .before .before .before .before .pre .1 .1 .1) (c .before .before .before .before .before .before .before .before .before .before .before .before .pre .0) _ (c .before .before .before .before .before .key-at2 .ensures))))
+
+slice-aggregate-deepen-small : tie.Need-slice-aggregate-deepen-small
+slice-aggregate-deepen-small c = part-is _ _ (placed-back _ _ _ _ (c .before .before .before .before .replace-into .ensures) (replaced-short (c .before .before .before .before .before .before .before .before .before .before .before .before .before .args .node .now) _ _ (c .before .before .before .before .before .before .before .before .before .before .before .before .before .pre .1 .0) (short-target (c .before .before .before .before .before .before .before .before .before .before .before .before .before .args .store .now) (c .before .before .before .before .before .before .before .before .before .before .before .before .before .args .places .now) (c .before .before .before .before .before .before .before .before .before .before .before .before .before .args .map .count) (c .before .before .before .before .before .before .before .before .before .before .before .before .before .args .i) (c .before .before .before .before .before .before .before .before .before .before .before .before .before .pre .1 .1 .1) (c .before .before .before .before .before .before .before .before .before .before .before .before .before .pre .0) _ (c .before .before .before .before .before .before .key-at2 .ensures))) .0) _ (placed-back _ _ _ _ (c .before .before .before .before .replace-into .ensures) (replaced-short (c .before .before .before .before .before .before .before .before .before .before .before .before .before .args .node .now) _ _ (c .before .before .before .before .before .before .before .before .before .before .before .before .before .pre .1 .0) (short-target (c .before .before .before .before .before .before .before .before .before .before .before .before .before .args .store .now) (c .before .before .before .before .before .before .before .before .before .before .before .before .before .args .places .now) (c .before .before .before .before .before .before .before .before .before .before .before .before .before .args .map .count) (c .before .before .before .before .before .before .before .before .before .before .before .before .before .args .i) (c .before .before .before .before .before .before .before .before .before .before .before .before .before .pre .1 .1 .1) (c .before .before .before .before .before .before .before .before .before .before .before .before .before .pre .0) _ (c .before .before .before .before .before .before .key-at2 .ensures))) .1)
+
+deepen-small-requires : tie.Need-deepen-small-requires
+deepen-small-requires c κs = (c .before .before .before .before .before .before .before .before .before .before .before .before .before .before .before .pre .0, (c .before .before .before .before .before .before .before .before .before .before .before .before .before .before .before .pre .1 .0, (below-short _ _ _ (placed-back _ _ _ _ (c .before .before .before .before .before .before .replace-into .ensures) (replaced-short (c .before .before .before .before .before .before .before .before .before .before .before .before .before .before .before .args .node .now) _ _ (c .before .before .before .before .before .before .before .before .before .before .before .before .before .before .before .pre .1 .0) (short-target (c .before .before .before .before .before .before .before .before .before .before .before .before .before .before .before .args .store .now) (c .before .before .before .before .before .before .before .before .before .before .before .before .before .before .before .args .places .now) (c .before .before .before .before .before .before .before .before .before .before .before .before .before .before .before .args .map .count) (c .before .before .before .before .before .before .before .before .before .before .before .before .before .before .before .args .i) (c .before .before .before .before .before .before .before .before .before .before .before .before .before .before .before .pre .1 .1 .1) (c .before .before .before .before .before .before .before .before .before .before .before .before .before .before .before .pre .0) _ (c .before .before .before .before .before .before .before .before .key-at2 .ensures))) .0) (placed-back _ _ _ _ (c .before .before .before .before .before .before .replace-into .ensures) (replaced-short (c .before .before .before .before .before .before .before .before .before .before .before .before .before .before .before .args .node .now) _ _ (c .before .before .before .before .before .before .before .before .before .before .before .before .before .before .before .pre .1 .0) (short-target (c .before .before .before .before .before .before .before .before .before .before .before .before .before .before .before .args .store .now) (c .before .before .before .before .before .before .before .before .before .before .before .before .before .before .before .args .places .now) (c .before .before .before .before .before .before .before .before .before .before .before .before .before .before .before .args .map .count) (c .before .before .before .before .before .before .before .before .before .before .before .before .before .before .before .args .i) (c .before .before .before .before .before .before .before .before .before .before .before .before .before .before .before .pre .1 .1 .1) (c .before .before .before .before .before .before .before .before .before .before .before .before .before .before .before .pre .0) _ (c .before .before .before .before .before .before .before .before .key-at2 .ensures))) .1) (replaced-short (c .before .before .before .before .before .before .before .before .before .before .before .before .before .before .before .args .node .now) _ _ (c .before .before .before .before .before .before .before .before .before .before .before .before .before .before .before .pre .1 .0) (short-target (c .before .before .before .before .before .before .before .before .before .before .before .before .before .before .before .args .store .now) (c .before .before .before .before .before .before .before .before .before .before .before .before .before .before .before .args .places .now) (c .before .before .before .before .before .before .before .before .before .before .before .before .before .before .before .args .map .count) (c .before .before .before .before .before .before .before .before .before .before .before .before .before .before .before .args .i) (c .before .before .before .before .before .before .before .before .before .before .before .before .before .before .before .pre .1 .1 .1) (c .before .before .before .before .before .before .before .before .before .before .before .before .before .before .before .pre .0) _ (c .before .before .before .before .before .before .before .before .key-at2 .ensures))), c .before .before .before .if1 .taken)))
+
+same-length : tie.Need-same-length
+same-length c = search needs
+
+same-length-2 : tie.Need-same-length-2
+same-length-2 c = search needs
+
+returns : tie.Need-returns
+returns c = gives-map _ _ (deepen-same _ _ _ (placed-back _ _ _ _ (c .before .before .before .before .before .before .before .before .before .before .before .replace-into .ensures) (replaced-short (c .before .before .before .before .before .before .before .before .before .before .before .before .before .before .before .before .before .before .before .before .args .node .now) _ _ (c .before .before .before .before .before .before .before .before .before .before .before .before .before .before .before .before .before .before .before .before .pre .1 .0) (short-target (c .before .before .before .before .before .before .before .before .before .before .before .before .before .before .before .before .before .before .before .before .args .store .now) (c .before .before .before .before .before .before .before .before .before .before .before .before .before .before .before .before .before .before .before .before .args .places .now) (c .before .before .before .before .before .before .before .before .before .before .before .before .before .before .before .before .before .before .before .before .args .map .count) (c .before .before .before .before .before .before .before .before .before .before .before .before .before .before .before .before .before .before .before .before .args .i) (c .before .before .before .before .before .before .before .before .before .before .before .before .before .before .before .before .before .before .before .before .pre .1 .1 .1) (c .before .before .before .before .before .before .before .before .before .before .before .before .before .before .before .before .before .before .before .before .pre .0) _ (c .before .before .before .before .before .before .before .before .before .before .before .before .before .key-at2 .ensures))) .0) (placed-back _ _ _ _ (c .before .before .before .before .before .before .before .before .before .before .before .replace-into .ensures) (replaced-short (c .before .before .before .before .before .before .before .before .before .before .before .before .before .before .before .before .before .before .before .before .args .node .now) _ _ (c .before .before .before .before .before .before .before .before .before .before .before .before .before .before .before .before .before .before .before .before .pre .1 .0) (short-target (c .before .before .before .before .before .before .before .before .before .before .before .before .before .before .before .before .before .before .before .before .args .store .now) (c .before .before .before .before .before .before .before .before .before .before .before .before .before .before .before .before .before .before .before .before .args .places .now) (c .before .before .before .before .before .before .before .before .before .before .before .before .before .before .before .before .before .before .before .before .args .map .count) (c .before .before .before .before .before .before .before .before .before .before .before .before .before .before .before .before .before .before .before .before .args .i) (c .before .before .before .before .before .before .before .before .before .before .before .before .before .before .before .before .before .before .before .before .pre .1 .1 .1) (c .before .before .before .before .before .before .before .before .before .before .before .before .before .before .before .before .before .before .before .before .pre .0) _ (c .before .before .before .before .before .before .before .before .before .before .before .before .before .key-at2 .ensures))) .1) (c .before .before .before .before .before .before .before .before .before .before .before .before .before .before .before .before .before .before .before .before .args .node .now) _ _ _ _ (c .before .before .before .before .before .before .before .before .before .before .before .before .before .before .key-at .ensures) (c .before .before .before .before .before .before .before .before .before .before .before .before .before .key-at2 .ensures) refl (pairsIn (c .before .before .before .before .before .before .before .before .before .before .before .before .before .before .before .before .before .before .before .before .args .store .now) (c .before .before .before .before .before .before .before .before .before .before .before .before .before .before .before .before .before .before .before .before .args .places .now) (c .before .before .before .before .before .before .before .before .before .before .before .before .before .before .before .before .before .before .before .before .args .map .count)) (c .before .before .before .before .before .before .before .before .before .before .before .before .before .before .before .before .before .before .before .before .args .map .«has_root_identity») (c .before .before .before .before .before .before .before .before .before .before .before .before .before .before .before .before .before .before .before .before .args .map .«time_offset») (c .before .before .before .before .before .before .before .before .before .before .before .before .before .before .before .before .before .before .before .before .args .out .now) (c .before .before .before .before .before .before .before .before .before .before .before .before .before .before .before .before .before .before .before .before .args .slots .now)) _ _ _ _ _ (c .before .before .before .before .deepen-small .ensures)
+
+array-share-prefix-made-2 : tie.Need-array-share-prefix-made-2
+array-share-prefix-made-2 c = omega (arith, part-within (replacedOrSame (c .before .before .before .before .before .before .before .before .before .before .before .before .args .node .now) (c .before .before .before .before .before .before .key-at .result .now) (c .before .before .before .before .before .key-at2 .result .now)) _ (placed-back _ _ _ _ (c .before .before .before .replace-into .ensures) (replaced-short (c .before .before .before .before .before .before .before .before .before .before .before .before .args .node .now) (c .before .before .before .before .before .before .key-at .result .now) (c .before .before .before .before .before .key-at2 .result .now) (c .before .before .before .before .before .before .before .before .before .before .before .before .pre .1 .0) (short-target (c .before .before .before .before .before .before .before .before .before .before .before .before .args .store .now) (c .before .before .before .before .before .before .before .before .before .before .before .before .args .places .now) (c .before .before .before .before .before .before .before .before .before .before .before .before .args .map .count) (c .before .before .before .before .before .before .before .before .before .before .before .before .args .i) (c .before .before .before .before .before .before .before .before .before .before .before .before .pre .1 .1 .1) (c .before .before .before .before .before .before .before .before .before .before .before .before .pre .0) _ (c .before .before .before .before .before .key-at2 .ensures))) .0) 511 (replaced-short (c .before .before .before .before .before .before .before .before .before .before .before .before .args .node .now) (c .before .before .before .before .before .before .key-at .result .now) (c .before .before .before .before .before .key-at2 .result .now) (c .before .before .before .before .before .before .before .before .before .before .before .before .pre .1 .0) (short-target (c .before .before .before .before .before .before .before .before .before .before .before .before .args .store .now) (c .before .before .before .before .before .before .before .before .before .before .before .before .args .places .now) (c .before .before .before .before .before .before .before .before .before .before .before .before .args .map .count) (c .before .before .before .before .before .before .before .before .before .before .before .before .args .i) (c .before .before .before .before .before .before .before .before .before .before .before .before .pre .1 .1 .1) (c .before .before .before .before .before .before .before .before .before .before .before .before .pre .0) _ (c .before .before .before .before .before .key-at2 .ensures))))
+
+slice-aggregate-deepen-large : tie.Need-slice-aggregate-deepen-large
+slice-aggregate-deepen-large c = part-is _ _ (placed-back _ _ _ _ (c .before .before .before .before .replace-into .ensures) (replaced-short (c .before .before .before .before .before .before .before .before .before .before .before .before .before .args .node .now) _ _ (c .before .before .before .before .before .before .before .before .before .before .before .before .before .pre .1 .0) (short-target (c .before .before .before .before .before .before .before .before .before .before .before .before .before .args .store .now) (c .before .before .before .before .before .before .before .before .before .before .before .before .before .args .places .now) (c .before .before .before .before .before .before .before .before .before .before .before .before .before .args .map .count) (c .before .before .before .before .before .before .before .before .before .before .before .before .before .args .i) (c .before .before .before .before .before .before .before .before .before .before .before .before .before .pre .1 .1 .1) (c .before .before .before .before .before .before .before .before .before .before .before .before .before .pre .0) _ (c .before .before .before .before .before .before .key-at2 .ensures))) .0) _ (placed-back _ _ _ _ (c .before .before .before .before .replace-into .ensures) (replaced-short (c .before .before .before .before .before .before .before .before .before .before .before .before .before .args .node .now) _ _ (c .before .before .before .before .before .before .before .before .before .before .before .before .before .pre .1 .0) (short-target (c .before .before .before .before .before .before .before .before .before .before .before .before .before .args .store .now) (c .before .before .before .before .before .before .before .before .before .before .before .before .before .args .places .now) (c .before .before .before .before .before .before .before .before .before .before .before .before .before .args .map .count) (c .before .before .before .before .before .before .before .before .before .before .before .before .before .args .i) (c .before .before .before .before .before .before .before .before .before .before .before .before .before .pre .1 .1 .1) (c .before .before .before .before .before .before .before .before .before .before .before .before .before .pre .0) _ (c .before .before .before .before .before .before .key-at2 .ensures))) .1)
+
+deepen-large-requires : tie.Need-deepen-large-requires
+deepen-large-requires c κs = (c .before .before .before .before .before .before .before .before .before .before .before .before .before .before .before .pre .0, (c .before .before .before .before .before .before .before .before .before .before .before .before .before .before .before .pre .1 .0, (below-short _ _ _ (placed-back _ _ _ _ (c .before .before .before .before .before .before .replace-into .ensures) (replaced-short (c .before .before .before .before .before .before .before .before .before .before .before .before .before .before .before .args .node .now) _ _ (c .before .before .before .before .before .before .before .before .before .before .before .before .before .before .before .pre .1 .0) (short-target (c .before .before .before .before .before .before .before .before .before .before .before .before .before .before .before .args .store .now) (c .before .before .before .before .before .before .before .before .before .before .before .before .before .before .before .args .places .now) (c .before .before .before .before .before .before .before .before .before .before .before .before .before .before .before .args .map .count) (c .before .before .before .before .before .before .before .before .before .before .before .before .before .before .before .args .i) (c .before .before .before .before .before .before .before .before .before .before .before .before .before .before .before .pre .1 .1 .1) (c .before .before .before .before .before .before .before .before .before .before .before .before .before .before .before .pre .0) _ (c .before .before .before .before .before .before .before .before .key-at2 .ensures))) .0) (placed-back _ _ _ _ (c .before .before .before .before .before .before .replace-into .ensures) (replaced-short (c .before .before .before .before .before .before .before .before .before .before .before .before .before .before .before .args .node .now) _ _ (c .before .before .before .before .before .before .before .before .before .before .before .before .before .before .before .pre .1 .0) (short-target (c .before .before .before .before .before .before .before .before .before .before .before .before .before .before .before .args .store .now) (c .before .before .before .before .before .before .before .before .before .before .before .before .before .before .before .args .places .now) (c .before .before .before .before .before .before .before .before .before .before .before .before .before .before .before .args .map .count) (c .before .before .before .before .before .before .before .before .before .before .before .before .before .before .before .args .i) (c .before .before .before .before .before .before .before .before .before .before .before .before .before .before .before .pre .1 .1 .1) (c .before .before .before .before .before .before .before .before .before .before .before .before .before .before .before .pre .0) _ (c .before .before .before .before .before .before .before .before .key-at2 .ensures))) .1) (replaced-short (c .before .before .before .before .before .before .before .before .before .before .before .before .before .before .before .args .node .now) _ _ (c .before .before .before .before .before .before .before .before .before .before .before .before .before .before .before .pre .1 .0) (short-target (c .before .before .before .before .before .before .before .before .before .before .before .before .before .before .before .args .store .now) (c .before .before .before .before .before .before .before .before .before .before .before .before .before .before .before .args .places .now) (c .before .before .before .before .before .before .before .before .before .before .before .before .before .before .before .args .map .count) (c .before .before .before .before .before .before .before .before .before .before .before .before .before .before .before .args .i) (c .before .before .before .before .before .before .before .before .before .before .before .before .before .before .before .pre .1 .1 .1) (c .before .before .before .before .before .before .before .before .before .before .before .before .before .before .before .pre .0) _ (c .before .before .before .before .before .before .before .before .key-at2 .ensures))), c .before .before .before .before .before .before .before .before .before .before .before .before .before .before .before .pre .1 .1 .0)))
+
+same-length-3 : tie.Need-same-length-3
+same-length-3 c = search needs
+
+same-length-4 : tie.Need-same-length-4
+same-length-4 c = search needs
+
+returns-2 : tie.Need-returns-2
+returns-2 c = gives-map _ _ (deepen-same _ _ _ (placed-back _ _ _ _ (c .before .before .before .before .before .before .before .before .before .before .before .replace-into .ensures) (replaced-short (c .before .before .before .before .before .before .before .before .before .before .before .before .before .before .before .before .before .before .before .before .args .node .now) _ _ (c .before .before .before .before .before .before .before .before .before .before .before .before .before .before .before .before .before .before .before .before .pre .1 .0) (short-target (c .before .before .before .before .before .before .before .before .before .before .before .before .before .before .before .before .before .before .before .before .args .store .now) (c .before .before .before .before .before .before .before .before .before .before .before .before .before .before .before .before .before .before .before .before .args .places .now) (c .before .before .before .before .before .before .before .before .before .before .before .before .before .before .before .before .before .before .before .before .args .map .count) (c .before .before .before .before .before .before .before .before .before .before .before .before .before .before .before .before .before .before .before .before .args .i) (c .before .before .before .before .before .before .before .before .before .before .before .before .before .before .before .before .before .before .before .before .pre .1 .1 .1) (c .before .before .before .before .before .before .before .before .before .before .before .before .before .before .before .before .before .before .before .before .pre .0) _ (c .before .before .before .before .before .before .before .before .before .before .before .before .before .key-at2 .ensures))) .0) (placed-back _ _ _ _ (c .before .before .before .before .before .before .before .before .before .before .before .replace-into .ensures) (replaced-short (c .before .before .before .before .before .before .before .before .before .before .before .before .before .before .before .before .before .before .before .before .args .node .now) _ _ (c .before .before .before .before .before .before .before .before .before .before .before .before .before .before .before .before .before .before .before .before .pre .1 .0) (short-target (c .before .before .before .before .before .before .before .before .before .before .before .before .before .before .before .before .before .before .before .before .args .store .now) (c .before .before .before .before .before .before .before .before .before .before .before .before .before .before .before .before .before .before .before .before .args .places .now) (c .before .before .before .before .before .before .before .before .before .before .before .before .before .before .before .before .before .before .before .before .args .map .count) (c .before .before .before .before .before .before .before .before .before .before .before .before .before .before .before .before .before .before .before .before .args .i) (c .before .before .before .before .before .before .before .before .before .before .before .before .before .before .before .before .before .before .before .before .pre .1 .1 .1) (c .before .before .before .before .before .before .before .before .before .before .before .before .before .before .before .before .before .before .before .before .pre .0) _ (c .before .before .before .before .before .before .before .before .before .before .before .before .before .key-at2 .ensures))) .1) (c .before .before .before .before .before .before .before .before .before .before .before .before .before .before .before .before .before .before .before .before .args .node .now) _ _ _ _ (c .before .before .before .before .before .before .before .before .before .before .before .before .before .before .key-at .ensures) (c .before .before .before .before .before .before .before .before .before .before .before .before .before .key-at2 .ensures) refl (pairsIn (c .before .before .before .before .before .before .before .before .before .before .before .before .before .before .before .before .before .before .before .before .args .store .now) (c .before .before .before .before .before .before .before .before .before .before .before .before .before .before .before .before .before .before .before .before .args .places .now) (c .before .before .before .before .before .before .before .before .before .before .before .before .before .before .before .before .before .before .before .before .args .map .count)) (c .before .before .before .before .before .before .before .before .before .before .before .before .before .before .before .before .before .before .before .before .args .map .«has_root_identity») (c .before .before .before .before .before .before .before .before .before .before .before .before .before .before .before .before .before .before .before .before .args .map .«time_offset») (c .before .before .before .before .before .before .before .before .before .before .before .before .before .before .before .before .before .before .before .before .args .out .now) (c .before .before .before .before .before .before .before .before .before .before .before .before .before .before .before .before .before .before .before .before .args .slots .now)) _ _ _ _ _ (c .before .before .before .before .deepen-large .ensures)
+
+pub deepen-by-spec : {M : Type 1} → statement M
+deepen-by-spec =
+    tie.close
+    (tie.spec
+    key-at-requires
+    key-at-requires-2
+    slice-aggregate-replace-into
+    replace-into-requires
+    array-share-prefix-made
+    slice-aggregate-deepen-small
+    deepen-small-requires
+    same-length
+    same-length-2
+    returns
+    array-share-prefix-made-2
+    slice-aggregate-deepen-large
+    deepen-large-requires
+    same-length-3
+    same-length-4
+    returns-2)

@@ -1,0 +1,39 @@
+use native.Mathlib.Omega.{arith}
+use Rattle.pair_buffer.proofs.MapLaws.{built-ends}
+use borrow.Author.Needs.{needs}
+use Rattle.map_deepen.proofs.deepen_in.Statement.{statement}
+use Rattle.map_deepen.proofs.deepen_in.Tie as tie
+use Rattle.map_function.proofs.NewBranches.{gives-map}
+
+deepen-all-requires : tie.Need-deepen-all-requires
+deepen-all-requires c κs = (c .before .before .before .before .before .before .before .before .before .before .before .before .pre .0, (c .before .before .before .before .before .before .before .before .before .before .before .before .pre .1 .0, (c .before .before .before .before .before .before .before .before .before .before .before .before .pre .1 .1 .0, (omega (arith, c .before .before .before .before .before .before .before .before .before .before .before .before .pre .1 .1 .1 .1 .0), omega (arith, c .before .before .before .before .before .before .before .before .before .before .before .before .pre .1 .1 .1 .1 .1)))))
+
+from-ends-requires : tie.Need-from-ends-requires
+from-ends-requires c κs = search needs
+
+same-length : tie.Need-same-length
+same-length c = search needs
+
+same-length-2 : tie.Need-same-length-2
+same-length-2 c = search needs
+
+same-length-3 : tie.Need-same-length-3
+same-length-3 c = search needs
+
+same-length-4 : tie.Need-same-length-4
+same-length-4 c = search needs
+
+returns : tie.Need-returns
+returns c = gives-map _ _ (built-ends _ _ _ _ _ (c .before .before .before .before .before .before .before .before .before .before .before .before .before .deepen-all .ensures) _ _ _ _) _ _ _ _ _ (c .before .before .before .before .from-ends .ensures)
+
+pub deepen-in-spec : {M : Type 1} → statement M
+deepen-in-spec =
+    tie.close
+    (tie.spec
+    deepen-all-requires
+    from-ends-requires
+    same-length
+    same-length-2
+    same-length-3
+    same-length-4
+    returns)

@@ -1,0 +1,314 @@
+-- Lemmas for the branches of `matches`, `better_of`, `consider` and `best_prefix`.
+use mathlib.Core.Path.{_≡_, refl, sym, ap, _∙_}
+use mathlib.Core.Logic.{_≢_}
+use mathlib.Core.Bool.{Bool, true, false, not, cond, _||_, false≢true}
+use mathlib.Core.List.{List, [], _∷_, _++_}
+use mathlib.Core.Option.{Option, none, some}
+use Prim.Native.Nat.{ℕ, zero, suc, _+_, _*_, _-_, _/_, _≤_, _<_}
+use native.Mathlib.Numerals.{add-one}
+use native.Mathlib.Omega.{arith}
+use native.Mathlib.Decide.{ℕ-discrete}
+use lib.Dec.{eqb, leb}
+use lib.ListN.{length, getD, take, drop, length-drop, take-append-drop}
+use lib.Seq.{length-take-le, take-append-seam, take-append-le, getD-take, getD-drop}
+use borrow.Author.Tests.{eqb-true, ne-eqb, le-leb, lt-leb, leb-true, leb-false}
+use Rattle.text.specs.Text.{Text}
+use Rattle.text.proofs.BoolLaws.{known-false, known-true}
+use Rattle.text.proofs.TextLaws.{starts-at}
+use Rattle.path_prefix.specs.Prefix.{hasPrefix}
+use Rattle.path_prefix.specs.Elements.{elementCount}
+use Rattle.path_prefix.proofs.CountLaws.{count-more}
+use Rattle.path_prefix.proofs.PrefixLaws.{prefix-rest, prefix-starts, prefix-long}
+use Rattle.map_lookup.specs.declared.BestSoFar.{BestSoFar}
+use Rattle.map_lookup.specs.LookupStep.{substring, keyCount, minimum, foundOf, notWorse, considerKey}
+use Rattle.pair_list.specs.Places.{textAt, keyAt}
+use Rattle.pair_list.specs.LongestMatch.{matches, longestMatch}
+use Rattle.pair_list.proofs.PlaceBranches.{text-missing}
+use Rattle.pair_list.proofs.LongestMatchLaws.{served}
+
+pub matches-empty : (p k : Text) → length k ≡ 0 → false ≡ matches p k
+unfolding matches
+matches-empty p [] l = refl
+matches-empty p (a ∷ k) l = absurd (omega arith)
+
+pub matches-prefix : (p k : Text) (r : Bool) → length k ≢ 0 → r ≡ hasPrefix p k → r ≡ matches p k
+unfolding matches
+matches-prefix p [] r l h = absurd (l refl)
+matches-prefix p (a ∷ k) r l h = h
+
+-- Of two prefixes of one path, the longer begins with the shorter.
+prefix-of : (p s k : Text) → hasPrefix p s ≡ true → hasPrefix p k ≡ true → length s ≤ length k → k ≡ s ++ drop (length s) k
+prefix-of p s k h g l =
+    let e : take (length s) p ≡ s = rw (prefix-rest p s h .0) (take-append-seam s (drop (length s) p)) in
+    let d : take (length s) p ≡ take (length s) k = rw (prefix-rest p k g .0) (take-append-le (length s) k (drop (length k) p) l) in
+    sym (take-append-drop (length s) k) ∙ ap (λ (x : Text). x ++ drop (length s) k) (sym d ∙ e)
+
+-- So the longer has no fewer elements.
+no-fewer : (p s k : Text) → hasPrefix p s ≡ true → hasPrefix p k ≡ true → length s ≤ length k → elementCount s ≤ elementCount k
+no-fewer p s k h g l = rw (prefix-of p s k h g l) (count-more true s (drop (length s) k))
+
+-- `notWorse` agrees with the comparison of elements.
+decides : (p s k : Text) → hasPrefix p s ≡ true → hasPrefix p k ≡ true → notWorse p (length s) k ≡ leb (elementCount s) (elementCount k)
+unfolding notWorse
+decides p s k h g = go (leb (length s) (length k)) refl
+  where
+    go : (b : Bool) → leb (length s) (length k) ≡ b → (b || leb (elementCount (take (length s) p)) (elementCount k)) ≡ leb (elementCount s) (elementCount k)
+    go true e = sym (le-leb (elementCount s) (elementCount k) (no-fewer p s k h g (leb-true (length s) (length k) e)))
+    go false e = rw (prefix-rest p s h .0, take-append-seam s (drop (length s) p))
+
+-- Lemmas for `better_of`.
+module _ (f : BestSoFar) (p k : Text) (i : ℕ) where
+  other : matches p k ≡ false → f ≡ considerKey f p k i
+  unfolding considerKey
+  other h = rw h
+
+  pub choose-other : (b : Bool) → b ≡ matches p k → not b ≡ true → f ≡ considerKey f p k i
+  choose-other b h l = other (known-false h l)
+
+  module _ (b : Bool) (h : b ≡ matches p k) (l : not b ≡ false) where
+    pub choose-longer : f .bytes ≤ length k → record { at = i; bytes = length k } ≡ considerKey f p k i
+    unfolding considerKey notWorse
+    choose-longer m = rw (known-true h l, le-leb (f .bytes) (length k) m)
+
+    module _ (m : length k < f .bytes) (x y : ℕ) (e : x ≡ elementCount k) (d : y ≡ elementCount (take (f .bytes) p)) where
+      pub choose-fewer : x < y → f ≡ considerKey f p k i
+      unfolding considerKey notWorse
+      choose-fewer n = rw (known-true h l, lt-leb (f .bytes) (length k) m, ← e, ← d, lt-leb y x n)
+
+      pub choose-more : y ≤ x → record { at = i; bytes = length k } ≡ considerKey f p k i
+      unfolding considerKey notWorse
+      choose-more n = rw (known-true h l, lt-leb (f .bytes) (length k) m, ← e, ← d, le-leb y x n)
+
+-- Lemmas for `min`.
+pub least-first : (a b : ℕ) → a ≤ b → a ≡ minimum a b
+least-first a b h = rw (le-leb a b h)
+
+pub least-second : (a b : ℕ) → b < a → b ≡ minimum a b
+least-second a b h = rw (lt-leb a b h)
+
+pub least-left : (m a b : ℕ) → m ≡ minimum a b → m ≤ a
+least-left m a b h = rw h (go (leb a b) refl)
+  where
+    go : (c : Bool) → leb a b ≡ c → cond c a b ≤ a
+    go true e = omega arith
+    go false e = omega (arith, leb-false a b e)
+
+pub least-right : (m a b : ℕ) → m ≡ minimum a b → m ≤ b
+least-right m a b h = rw h (go (leb a b) refl)
+  where
+    go : (c : Bool) → leb a b ≡ c → cond c a b ≤ b
+    go true e = leb-true a b e
+    go false e = omega arith
+
+below-one : (a b n : ℕ) → minimum a b < n → n ≤ a → b < n
+below-one a b n l m = go (leb a b) refl
+  where
+    go : (c : Bool) → leb a b ≡ c → b < n
+    go true e = absurd (omega (arith, rw e at l))
+    go false e = rw e at l
+
+-- Lemmas for `consider`.
+refused : (p k : Text) → (matches p k ≡ true → ⊥) → matches p k ≡ false
+refused p k h = go (matches p k) refl
+  where
+    go : (b : Bool) → matches p k ≡ b → b ≡ false
+    go true e = absurd (h e)
+    go false e = refl
+
+-- A text of the store that is rejected by its place, its length or its last byte.
+module _ (p store : Text) (start n : ℕ) where
+  outside : length store < start + n → matches p (substring store start n) ≡ false
+  unfolding substring
+  outside h = rw (lt-leb (start + n) (length store) h) (sym (matches-empty p [] refl))
+
+  pub cut-none : n ≡ 0 → matches p (substring store start n) ≡ false
+  unfolding substring
+  cut-none h = rw h (go (leb (start + 0) (length store)))
+    where
+      go : (b : Bool) → matches p (cond b (take 0 (drop start store)) []) ≡ false
+      go true = sym (matches-empty p [] refl)
+      go false = sym (matches-empty p [] refl)
+
+  module _ (h : start + n ≤ length store) where
+    part : substring store start n ≡ take n (drop start store)
+    unfolding substring
+    part = rw (le-leb (start + n) (length store) h)
+
+    part-length : length (take n (drop start store)) ≡ n
+    part-length = length-take-le n (drop start store) (rw (length-drop start store) (omega arith))
+
+    inside-long : length p < n → matches p (substring store start n) ≡ false
+    inside-long l =
+        rw part
+        (refused p (take n (drop start store)) (λ s. omega (arith, part-length, prefix-long p (take n (drop start store)) (served p (take n (drop start store)) s))))
+
+  pub cut-long : (limit : ℕ) → limit ≡ minimum (length store) (length p) → limit < n → matches p (substring store start n) ≡ false
+  cut-long limit e l = go (leb (start + n) (length store)) refl
+    where
+      go : (b : Bool) → leb (start + n) (length store) ≡ b → matches p (substring store start n) ≡ false
+      go true h =
+          let k : start + n ≤ length store = leb-true (start + n) (length store) h in
+          inside-long k (below-one (length store) (length p) n (rw e at l) (omega arith))
+      go false h = outside (leb-false (start + n) (length store) h)
+
+  pub cut-outside : (limit : ℕ) → limit ≤ length store → n ≤ limit → length store - n < start → matches p (substring store start n) ≡ false
+  cut-outside limit k l h = outside (omega arith)
+
+  module _ (limit : ℕ) (k : limit ≤ length store) (z : n ≢ 0) (l : n ≤ limit) (h : start ≤ length store - n) where
+    within : start + n ≤ length store
+    within = omega arith
+
+    pub cut-differs : getD store (start + n - 1) 0 ≢ getD p (n - 1) 0 → matches p (substring store start n) ≡ false
+    cut-differs d = rw (part within) (refused p key (λ s. d (same s)))
+      where
+        key : Text
+        key = take n (drop start store)
+
+        same : matches p key ≡ true → getD store (start + n - 1) 0 ≡ getD p (n - 1) 0
+        same s =
+            let m : start + n - 1 ≡ start + (n - 1) = omega (arith, z) in
+            let g : getD p (n - 1) 0 ≡ getD key (n - 1) 0
+            = starts-at key p (n - 1) (rw (part-length within) (omega (arith, z))) (prefix-starts p key (served p key s)) in
+            rw (m, g, getD-take n (drop start store) (n - 1) 0 (omega (arith, z)), getD-drop start store (n - 1) 0)
+
+    pub cut-is : take (start + n - start) (drop start store) ≡ substring store start n
+    cut-is = let m : start + n - start ≡ n = omega arith in rw (part within, m)
+
+module _ (f : BestSoFar) (p store : Text) (start n i : ℕ) where
+  pub consider-none : n ≡ 0 → f ≡ considerKey f p (substring store start n) i
+  consider-none h = other f p (substring store start n) i (cut-none p store start n h)
+
+  pub consider-long : (limit : ℕ) → limit ≡ minimum (length store) (length p) → limit < n → f ≡ considerKey f p (substring store start n) i
+  consider-long limit e l = other f p (substring store start n) i (cut-long p store start n limit e l)
+
+  pub consider-outside : (limit : ℕ) → limit ≤ length store → n ≤ limit → length store - n < start → f ≡ considerKey f p (substring store start n) i
+  consider-outside limit k l h = other f p (substring store start n) i (cut-outside p store start n limit k l h)
+
+  module _ (limit : ℕ) (k : limit ≤ length store) (z : n ≢ 0) (l : n ≤ limit) (h : start ≤ length store - n) where
+    pub consider-differs : getD store (start + n - 1) 0 ≢ getD p (n - 1) 0 → f ≡ considerKey f p (substring store start n) i
+    consider-differs d = other f p (substring store start n) i (cut-differs p store start n limit k z l h d)
+
+    pub consider-chosen : (r : BestSoFar) → r ≡ considerKey f p (take (start + n - start) (drop start store)) i → r ≡ considerKey f p (substring store start n) i
+    consider-chosen r e = rw (cut-is p store start n limit k z l h) at e
+
+-- Lemmas for `key_count`.
+pub held-targets : (places : List ℕ) (n m : ℕ) (invert : Bool) → invert ≡ true → m ≡ minimum n (length places / 2 / 2) → m ≡ minimum n (keyCount places invert)
+unfolding keyCount
+held-targets places n m invert h e = let z : length places / 2 + 0 ≡ length places / 2 = omega arith in rw (h, z) e
+
+pub held-sources : (places : List ℕ) (n m : ℕ) (invert : Bool) → invert ≡ false → m ≡ minimum n ((length places / 2 + 1) / 2) → m ≡ minimum n (keyCount places invert)
+unfolding keyCount
+held-sources places n m invert h e = rw h e
+
+pub offset-target : (invert : Bool) → invert ≡ true → 2 ≡ 2 * cond invert 1 0
+offset-target invert h = rw h
+
+pub offset-source : (invert : Bool) → invert ≡ false → 0 ≡ 2 * cond invert 1 0
+offset-source invert h = rw h
+
+-- The loop invariant: the match so far is what `longestMatch` selects of the first i keys.
+abbrev keptIn : BestSoFar → Option ℕ
+keptIn f = cond (eqb (f .bytes) 0) none (some (f .at))
+
+pub record Holds (p : Text) (key : ℕ → Text) (i : ℕ) (f : BestSoFar) : Type 0 where
+  pub chosen : keptIn f ≡ longestMatch p key i
+  pub blank : f .bytes ≡ 0 → f .at ≡ 0
+  pub kept : f .bytes ≢ 0 → (f .bytes ≡ length (key (f .at))) × (matches p (key (f .at)) ≡ true)
+  pub short : f .bytes ≤ length p
+
+pub holds-none : (p : Text) (key : ℕ → Text) → Holds p key 0 (record { at = 0; bytes = 0 })
+unfolding longestMatch
+holds-none p key = record { chosen = refl; blank = λ e. refl; kept = λ h. absurd (h refl); short = omega arith }
+
+-- A key that matches is not empty.
+matched-long : (p k : Text) → matches p k ≡ true → length k ≢ 0
+matched-long p k s e = false≢true (matches-empty p k e ∙ s)
+
+module _ (p : Text) (key : ℕ → Text) (i : ℕ) where
+  now-best : matches p (key i) ≡ true → some i ≡ longestMatch p key (suc i) → Holds p key (suc i) (record { at = i; bytes = length (key i) })
+  now-best s e = record {
+    chosen = rw (ne-eqb (length (key i)) 0 (matched-long p (key i) s)) e;
+    blank = λ e. absurd (matched-long p (key i) s e);
+    kept = λ z. (refl, s);
+    short = prefix-long p (key i) (served p (key i) s);
+  }
+
+  compared : (at e : ℕ) (c : Bool) → e ≢ 0 → Holds p key i (record { at = at; bytes = e }) → matches p (key i) ≡ true → notWorse p e (key i) ≡ c
+      → Holds p key (suc i) (cond c (record { at = i; bytes = length (key i) }) (record { at = at; bytes = e }))
+  unfolding longestMatch
+  compared at e c z h s t =
+      let k : (e ≡ length (key at)) × (matches p (key at) ≡ true) = h .kept z in
+      go c (sym (decides p (key at) (key i) (served p (key at) (k .1)) (served p (key i) s)) ∙ rw (← (k .0)) t)
+    where
+      found : some at ≡ longestMatch p key i
+      found = rw (ne-eqb e 0 z) at (h .chosen)
+
+      go : (c : Bool) → leb (elementCount (key at)) (elementCount (key i)) ≡ c
+          → Holds p key (suc i) (cond c (record { at = i; bytes = length (key i) }) (record { at = at; bytes = e }))
+      go true d = now-best s (rw (s, ← found, d))
+      go false d = record { chosen = rw (ne-eqb e 0 z, s, ← found, d); blank = h .blank; kept = h .kept; short = h .short }
+
+  cases : (at e : ℕ) (b : Bool) → Holds p key i (record { at = at; bytes = e }) → matches p (key i) ≡ b
+      → Holds p key (suc i) (considerKey (record { at = at; bytes = e }) p (key i) i)
+  unfolding longestMatch considerKey notWorse
+  cases at e true h s = elim (ℕ-discrete e 0) [
+    | yes z ↦ rw (s, z, le-leb 0 (length (key i)) (omega arith)) (now-best s (rw (s, ← (rw z at (h .chosen)))))
+    | no z ↦ rw s (compared at e (notWorse p e (key i)) z h s refl)
+  ]
+  cases at e false h s = rw s (record { chosen = rw s (h .chosen); blank = h .blank; kept = h .kept; short = h .short })
+
+-- The numbers of the keys that count lie in the slice.
+pub held-there : (places : List ℕ) (n held offset : ℕ) (invert : Bool) → held ≡ minimum n (keyCount places invert) → offset ≡ 2 * cond invert 1 0
+    → 4 * held + offset ≤ length places + 2
+unfolding keyCount
+held-there places n held offset true e o = omega (arith, least-right held n (keyCount places true) e)
+held-there places n held offset false e o = omega (arith, least-right held n (keyCount places false) e)
+
+module _ (store : Text) (places : List ℕ) (invert : Bool) (offset i : ℕ) (o : offset ≡ 2 * cond invert 1 0) where
+  pub key-is : substring store (getD places (4 * i + offset) 0) (getD places (4 * i + offset + 1) 0) ≡ keyAt store places invert i
+  unfolding substring textAt
+  key-is = let z : 2 * (2 * i + cond invert 1 0) ≡ 4 * i + offset = omega arith in rw z
+
+  pub holds-on : (p : Text) (f f′ : BestSoFar) → Holds p (keyAt store places invert) i f
+      → f′ ≡ considerKey f p (substring store (getD places (4 * i + offset) 0) (getD places (4 * i + offset + 1) 0)) i → Holds p (keyAt store places invert) (i + 1) f′
+  holds-on p f f′ h c =
+      rw (c, key-is, add-one i) (cases p (keyAt store places invert) i (f .at) (f .bytes) (matches p (keyAt store places invert i)) h refl)
+
+-- Beyond the keys that the slice holds, no key matches.
+best-rest : (p : Text) (key : ℕ → Text) (m n : ℕ) → m ≤ n → ((k : ℕ) → m ≤ k → key k ≡ []) → longestMatch p key m ≡ longestMatch p key n
+unfolding longestMatch
+best-rest p key m zero l f = let e : m ≡ 0 = omega arith in rw e
+best-rest p key m (suc n) l f = elim (ℕ-discrete m (suc n)) [
+  | yes e ↦ rw e
+  | no d ↦ rw (f n (omega arith)) (best-rest p key m n (omega arith) f)
+]
+
+pub key-after : (store : Text) (places : List ℕ) (invert : Bool) (k : ℕ) → keyCount places invert ≤ k → keyAt store places invert k ≡ []
+unfolding keyCount
+key-after store places true k h = sym (text-missing store places (2 * k + 1) (omega arith))
+key-after store places false k h = sym (text-missing store places (2 * k + 0) (omega arith))
+
+found-kept : (f : BestSoFar) → (f .bytes ≡ 0 → f .at ≡ 0) → record { found = not (eqb (f .bytes) 0); at = f .at } ≡ foundOf (keptIn f)
+found-kept f z = go (eqb (f .bytes) 0) refl
+  where
+    go : (b : Bool) → eqb (f .bytes) 0 ≡ b → record { found = not b; at = f .at } ≡ foundOf (cond b none (some (f .at)))
+    go true e = ap (λ (i : ℕ). record { found = false; at = i }) (z (eqb-true (f .bytes) 0 e))
+    go false e = refl
+
+pub holds-end : (p store : Text) (places : List ℕ) (n : ℕ) (invert : Bool) (held i : ℕ) (f : BestSoFar) → held ≡ minimum n (keyCount places invert)
+    → Holds p (keyAt store places invert) i f → held ≤ i → i ≤ held
+    → record { found = not (eqb (f .bytes) 0); at = f .at } ≡ foundOf (longestMatch p (keyAt store places invert) n)
+holds-end p store places n invert held i f m h l r =
+    let e : i ≡ minimum n (keyCount places invert) = omega arith in
+    found-kept f (h .blank) ∙ ap (λ (o : Option ℕ). foundOf o) ((rw e at (h .chosen)) ∙ go (leb n (keyCount places invert)) refl)
+  where
+    key : ℕ → Text
+    key = keyAt store places invert
+
+    go : (b : Bool) → leb n (keyCount places invert) ≡ b → longestMatch p key (cond b n (keyCount places invert)) ≡ longestMatch p key n
+    go true t = refl
+    go false t =
+        let q : keyCount places invert < n = leb-false n (keyCount places invert) t in
+        best-rest p key (keyCount places invert) n (omega arith) (key-after store places invert)
+
+pub ruleset searching = (matches-empty, matches-prefix, choose-other, choose-longer, choose-fewer, choose-more, least-first, least-second, consider-none, consider-long, consider-outside, consider-differs, consider-chosen, held-targets, held-sources, offset-target, offset-source, least-left, least-right, holds-end)

@@ -1,0 +1,33 @@
+use Rattle.map_new.proofs.PairBranches.{pair-stored}
+use borrow.Author.Needs.{needs}
+use Rattle.map_new.proofs.store_pair.Statement.{statement}
+use Rattle.map_new.proofs.store_pair.Tie as tie
+
+write-at-requires : tie.Need-write-at-requires
+write-at-requires c κs = search needs
+
+write-at-requires-2 : tie.Need-write-at-requires-2
+write-at-requires-2 c κs = search needs
+
+write-entry-requires : tie.Need-write-entry-requires
+write-entry-requires c κs = search needs
+
+same-length : tie.Need-same-length
+same-length c = search needs
+
+same-length-2 : tie.Need-same-length-2
+same-length-2 c = search needs
+
+returns : tie.Need-returns
+returns c = pair-stored _ _ _ _ (c .before .before .before .before .before .before .before .before .before .before .before .before .before .before .before .before .pre .0) (c .before .before .before .before .before .before .before .before .before .before .before .before .before .before .before .before .pre .1) _ _ _ (c .before .before .before .before .before .before .before .before .before .before .write-at .ensures) (c .before .before .before .before .before .before .write-at2 .ensures) (c .before .before .write-entry .ensures)
+
+pub store-pair-spec : {M : Type 1} → statement M
+store-pair-spec =
+    tie.close
+    (tie.spec
+    write-at-requires
+    write-at-requires-2
+    write-entry-requires
+    same-length
+    same-length-2
+    returns)

@@ -1,0 +1,50 @@
+use Rattle.pair_buffer.proofs.PairBufferLaws.{put-there}
+use native.Mathlib.Omega.{arith}
+use mathlib.Core.List.{[], _∷_}
+use mathlib.Core.Path.{refl}
+use Rattle.map_rebase.proofs.CallBranches.{one-pair}
+use borrow.Author.Needs.{needs}
+use Rattle.map_rebase.proofs.from_pair_identity.Statement.{statement}
+use Rattle.map_rebase.proofs.from_pair_identity.Tie as tie
+use Rattle.map_function.proofs.NewBranches.{gives-map}
+
+slice-aggregate-push-pair : tie.Need-slice-aggregate-push-pair
+slice-aggregate-push-pair c = search needs
+
+slice-aggregate-push-pair-2 : tie.Need-slice-aggregate-push-pair-2
+slice-aggregate-push-pair-2 c = search needs
+
+push-pair-requires : tie.Need-push-pair-requires
+push-pair-requires c κs = search needs
+
+slice-aggregate-from-parts : tie.Need-slice-aggregate-from-parts
+slice-aggregate-from-parts c = search needs
+
+slice-aggregate-from-parts-2 : tie.Need-slice-aggregate-from-parts-2
+slice-aggregate-from-parts-2 c = search needs
+
+from-parts-requires : tie.Need-from-parts-requires
+from-parts-requires c κs = search needs
+
+same-length : tie.Need-same-length
+same-length c = search needs
+
+same-length-2 : tie.Need-same-length-2
+same-length-2 c = search needs
+
+returns : tie.Need-returns
+returns c = gives-map _ _ (one-pair (c .before .before .before .before .before .before .before .before .before .before .before .before .before .before .before .before .before .before .args .s .now) (c .before .before .before .before .before .before .before .before .before .before .before .before .before .before .before .before .before .before .args .t .now) (c .before .before .before .before .before .before .before .before .before .before .before .before .before .before .before .before .before .before .args .time) (c .before .before .before .before .before .before .before .before .before .before .before .before .before .before .before .before .before .before .args .out .now) (c .before .before .before .before .before .before .before .before .before .before .before .before .before .before .before .before .before .before .args .slots .now) _ _ (0 ∷ 0 ∷ 0 ∷ 0 ∷ []) _ refl (put-there _ _ _ _ _ _ _ _ _ (c .before .before .before .before .before .before .before .before .before .before .before .push-pair .ensures) (omega (arith, c .before .before .before .before .before .before .before .before .before .before .before .before .before .before .before .before .before .before .pre .0, c .before .before .before .before .before .before .before .before .before .before .before .before .before .before .before .before .before .before .pre .1)) (omega arith) .1 .0) (put-there _ _ _ _ _ _ _ _ _ (c .before .before .before .before .before .before .before .before .before .before .before .push-pair .ensures) (omega (arith, c .before .before .before .before .before .before .before .before .before .before .before .before .before .before .before .before .before .before .pre .0, c .before .before .before .before .before .before .before .before .before .before .before .before .before .before .before .before .before .before .pre .1)) (omega arith) .1 .1)) _ _ _ _ _ (c .before .before .before .before .from-parts .ensures)
+
+pub from-pair-identity-spec : {M : Type 1} → statement M
+from-pair-identity-spec =
+    tie.close
+    (tie.spec
+    slice-aggregate-push-pair
+    slice-aggregate-push-pair-2
+    push-pair-requires
+    slice-aggregate-from-parts
+    slice-aggregate-from-parts-2
+    from-parts-requires
+    same-length
+    same-length-2
+    returns)

@@ -1,0 +1,34 @@
+use borrow.Author.Needs.{needs}
+use Rattle.mudvizsor.proofs.map_build.mudvizsor_map_inverse.Statement.{statement}
+use Rattle.mudvizsor.proofs.map_build.mudvizsor_map_inverse.Tie as tie
+
+map-from-numbers-requires : tie.Need-map-from-numbers-requires
+map-from-numbers-requires c κs = search needs
+
+inverse-requires : tie.Need-inverse-requires
+inverse-requires c κs = search needs
+
+map-code-requires : tie.Need-map-code-requires
+map-code-requires c κs = search needs
+
+same-length : tie.Need-same-length
+same-length c = search needs
+
+same-length-2 : tie.Need-same-length-2
+same-length-2 c = search needs
+
+returns : tie.Need-returns
+returns c =
+    rw (← (c .before .before .before .before .before .before .before .before .before .map-from-numbers .ensures), ← (c .before .before .before .before .before .before .inverse .ensures .0))
+    (c .map-code .ensures .0, (c .before .before .before .before .before .before .inverse .ensures .1 .0, (c .before .before .before .before .before .before .inverse .ensures .1 .1, c .map-code .ensures .1)))
+
+pub mudvizsor-map-inverse-spec : {M : Type 1} → statement M
+mudvizsor-map-inverse-spec =
+    tie.close
+    (tie.spec
+    map-from-numbers-requires
+    inverse-requires
+    map-code-requires
+    same-length
+    same-length-2
+    returns)

@@ -1,0 +1,214 @@
+// The C interface: extern "C" functions over plain numbers and byte strings. A reply is one number: the low
+// byte is the refusal number (0 if accepted), the remainder is 256 times the value. A slice passes as a
+// pointer followed by a length.
+ghost use mathlib.Core.Path.{_≡_};
+ghost use lib.ListN.{length};
+ghost use Rattle.path_parts.specs.Parent.{ancestorLens};
+ghost use Rattle.refusal.specs.Outcome.{outcomeReply, outcomeBuffer, writtenIfAccepted};
+ghost use Rattle.path.specs.Calls.{pathNewCall, isEndCall, hasVariantSelectionCall, elementCountCall, primElementCountCall, hasPrefixCall};
+ghost use Rattle.path_derive.specs.Calls.{replacePrefixCall, parentCall, primPathCall, splitPropertyCall, stripCall, ancestorsReply};
+ghost use Rattle.mapping.specs.Calls.{mapSourceToTargetCall, mapTargetToSourceCall, translateToTargetCall};
+ghost use Rattle.batch.specs.Batch.{mappedAt, batchFits, validateBatch, batchBytes, batchReplies};
+ghost use Rattle.ffi_values.specs.Map.{untimedMap, directionOf};
+ghost use Rattle.ffi_values.specs.Code.{validationCode, testCode, countCode, replyCode};
+
+mod frames;
+mod map_build;
+mod map_info;
+mod relocate_calls;
+mod routes;
+mod time;
+
+// Validates that the text is a legal path of at most 255 bytes.
+#[no_mangle]
+pub extern "C" fn mudvizsor_path_new(path: &[u8]) -> usize
+    ensures { λ r. ⌜ r ≡ validationCode (pathNewCall (now (path .entry))) ⌝ }
+{
+    ffi_values::validation_code(path::new(path))
+}
+
+// Returns whether the path is a prim path, `/` or empty.
+#[no_mangle]
+pub extern "C" fn mudvizsor_path_is_end(path: &[u8]) -> usize
+    ensures { λ r. ⌜ r ≡ testCode (isEndCall (now (path .entry))) ⌝ }
+{
+    ffi_values::test_code(path::is_end(path))
+}
+
+// Returns whether the path has a variant selection.
+#[no_mangle]
+pub extern "C" fn mudvizsor_path_has_variant_selection(path: &[u8]) -> usize
+    ensures { λ r. ⌜ r ≡ testCode (hasVariantSelectionCall (now (path .entry))) ⌝ }
+{
+    ffi_values::test_code(path::has_variant_selection(path))
+}
+
+// Returns the number of names and selections of the path.
+#[no_mangle]
+pub extern "C" fn mudvizsor_path_element_count(path: &[u8]) -> usize
+    ensures { λ r. ⌜ r ≡ countCode (elementCountCall (now (path .entry))) ⌝ }
+{
+    ffi_values::count_code(path::element_count(path))
+}
+
+// Returns the number of names of the path.
+#[no_mangle]
+pub extern "C" fn mudvizsor_path_prim_element_count(path: &[u8]) -> usize
+    ensures { λ r. ⌜ r ≡ countCode (primElementCountCall (now (path .entry))) ⌝ }
+{
+    ffi_values::count_code(path::prim_element_count(path))
+}
+
+// Returns whether the prefix is a prefix of the path.
+#[no_mangle]
+pub extern "C" fn mudvizsor_path_has_prefix(path: &[u8], prefix: &[u8]) -> usize
+    ensures { λ r. ⌜ r ≡ testCode (hasPrefixCall (now (path .entry)) (now (prefix .entry))) ⌝ }
+{
+    ffi_values::test_code(path::has_prefix(path, prefix))
+}
+
+// Writes the path with its old prefix replaced by the new one to out.
+#[no_mangle]
+pub extern "C" fn mudvizsor_path_replace_prefix(
+    path: &[u8],
+    old: &[u8],
+    new: &[u8],
+    out: &mut [u8],
+) -> usize
+    ensures { λ r. ⌜ r ≡ replyCode (outcomeReply (replacePrefixCall (now (path .entry)) (now (old .entry)) (now (new .entry)) (length (now (out .entry))))) ⌝ }
+    ensures { λ r. ⌜ now (out .exit) ≡ outcomeBuffer (replacePrefixCall (now (path .entry)) (now (old .entry)) (now (new .entry)) (length (now (out .entry)))) (now (out .entry)) ⌝ }
+{
+    ffi_values::reply_code(path_derive::replace_prefix(path, old, new, out))
+}
+
+// Writes the parent to out: the path without its last element or its property.
+#[no_mangle]
+pub extern "C" fn mudvizsor_path_parent(path: &[u8], out: &mut [u8]) -> usize
+    ensures { λ r. ⌜ r ≡ replyCode (outcomeReply (parentCall (now (path .entry)) (length (now (out .entry))))) ⌝ }
+    ensures { λ r. ⌜ now (out .exit) ≡ outcomeBuffer (parentCall (now (path .entry)) (length (now (out .entry)))) (now (out .entry)) ⌝ }
+{
+    ffi_values::reply_code(path_derive::parent(path, out))
+}
+
+// Writes the path without its property, or without the last selection if it ends in one, to out.
+#[no_mangle]
+pub extern "C" fn mudvizsor_path_prim_path(path: &[u8], out: &mut [u8]) -> usize
+    ensures { λ r. ⌜ r ≡ replyCode (outcomeReply (primPathCall (now (path .entry)) (length (now (out .entry))))) ⌝ }
+    ensures { λ r. ⌜ now (out .exit) ≡ outcomeBuffer (primPathCall (now (path .entry)) (length (now (out .entry)))) (now (out .entry)) ⌝ }
+{
+    ffi_values::reply_code(path_derive::prim_path(path, out))
+}
+
+// Writes the prim path of a property to out; the name is the text after the dot that follows it.
+#[no_mangle]
+pub extern "C" fn mudvizsor_path_split_property(path: &[u8], out: &mut [u8]) -> usize
+    ensures { λ r. ⌜ r ≡ replyCode (outcomeReply (splitPropertyCall (now (path .entry)) (length (now (out .entry))))) ⌝ }
+    ensures { λ r. ⌜ now (out .exit) ≡ outcomeBuffer (splitPropertyCall (now (path .entry)) (length (now (out .entry)))) (now (out .entry)) ⌝ }
+{
+    ffi_values::reply_code(path_derive::split_property(path, out))
+}
+
+// Writes the path without its selections to out.
+#[no_mangle]
+pub extern "C" fn mudvizsor_path_strip_variant_selections(path: &[u8], out: &mut [u8]) -> usize
+    ensures { λ r. ⌜ r ≡ replyCode (outcomeReply (stripCall (now (path .entry)) (length (now (out .entry))))) ⌝ }
+    ensures { λ r. ⌜ now (out .exit) ≡ outcomeBuffer (stripCall (now (path .entry)) (length (now (out .entry)))) (now (out .entry)) ⌝ }
+{
+    ffi_values::reply_code(path_derive::strip_variant_selections(path, out))
+}
+
+// Writes the lengths of the path and its ancestors to lengths.
+#[no_mangle]
+pub extern "C" fn mudvizsor_path_ancestors(path: &[u8], lengths: &mut [usize]) -> usize
+    ensures { λ r. ⌜ r ≡ replyCode (ancestorsReply (now (path .entry)) (length (now (lengths .entry)))) ⌝ }
+    ensures { λ r. ⌜ now (lengths .exit) ≡ writtenIfAccepted (ancestorsReply (now (path .entry)) (length (now (lengths .entry)))) (ancestorLens (now (path .entry))) (now (lengths .entry)) ⌝ }
+{
+    ffi_values::reply_code(path_derive::ancestors(path, lengths))
+}
+
+// Maps the path from source to target and writes the result to out.
+#[no_mangle]
+pub extern "C" fn mudvizsor_map_source_to_target(
+    store: &[u8],
+    places: &[usize],
+    count: usize,
+    mark: bool,
+    path: &[u8],
+    out: &mut [u8],
+) -> usize
+    ensures { λ r. ⌜ r ≡ replyCode (outcomeReply (mapSourceToTargetCall (now (store .entry)) (now (places .entry)) (untimedMap count mark) (now (path .entry)) (length (now (out .entry))))) ⌝ }
+    ensures { λ r. ⌜ now (out .exit) ≡ outcomeBuffer (mapSourceToTargetCall (now (store .entry)) (now (places .entry)) (untimedMap count mark) (now (path .entry)) (length (now (out .entry)))) (now (out .entry)) ⌝ }
+{
+    let map = ffi_values::untimed_map(count, mark);
+    ffi_values::reply_code(mapping::map_source_to_target(store, places, map, path, out))
+}
+
+// Maps the path from target to source and writes the result to out.
+#[no_mangle]
+pub extern "C" fn mudvizsor_map_target_to_source(
+    store: &[u8],
+    places: &[usize],
+    count: usize,
+    mark: bool,
+    path: &[u8],
+    out: &mut [u8],
+) -> usize
+    ensures { λ r. ⌜ r ≡ replyCode (outcomeReply (mapTargetToSourceCall (now (store .entry)) (now (places .entry)) (untimedMap count mark) (now (path .entry)) (length (now (out .entry))))) ⌝ }
+    ensures { λ r. ⌜ now (out .exit) ≡ outcomeBuffer (mapTargetToSourceCall (now (store .entry)) (now (places .entry)) (untimedMap count mark) (now (path .entry)) (length (now (out .entry)))) (now (out .entry)) ⌝ }
+{
+    let map = ffi_values::untimed_map(count, mark);
+    ffi_values::reply_code(mapping::map_target_to_source(store, places, map, path, out))
+}
+
+// Translates the path: maps it without its selections and writes the result to out; refused with 6 if plain
+// mapping back would select another pair.
+#[no_mangle]
+pub extern "C" fn mudvizsor_translate_to_target(
+    store: &[u8],
+    places: &[usize],
+    count: usize,
+    mark: bool,
+    path: &[u8],
+    out: &mut [u8],
+) -> usize
+    ensures { λ r. ⌜ r ≡ replyCode (outcomeReply (translateToTargetCall (now (store .entry)) (now (places .entry)) (untimedMap count mark) (now (path .entry)) (length (now (out .entry))))) ⌝ }
+    ensures { λ r. ⌜ now (out .exit) ≡ outcomeBuffer (translateToTargetCall (now (store .entry)) (now (places .entry)) (untimedMap count mark) (now (path .entry)) (length (now (out .entry)))) (now (out .entry)) ⌝ }
+{
+    let map = ffi_values::untimed_map(count, mark);
+    ffi_values::reply_code(mapping::translate_to_target(store, places, map, path, out))
+}
+
+// Maps n paths, validating the list once. `direction` is 0 for source to target, 1 for target to source, any other
+// number for translation. Path i is the text at entry i of spots; its reply is entry i of replies, and its
+// result is written to the 255 bytes of out from offset 255 i.
+#[no_mangle]
+pub extern "C" fn mudvizsor_map_all(
+    store: &[u8],
+    places: &[usize],
+    count: usize,
+    mark: bool,
+    direction: usize,
+    texts: &[u8],
+    spots: &[usize],
+    n: usize,
+    out: &mut [u8],
+    replies: &mut [usize],
+) -> usize
+    ensures { λ r. ⌜ r ≡ validationCode (validateBatch (batchFits n (length (now (spots .entry))) (length (now (out .entry))) (length (now (replies .entry))))) ⌝ }
+    ensures { λ r. ⌜ now (out .exit) ≡ batchBytes (batchFits n (length (now (spots .entry))) (length (now (out .entry))) (length (now (replies .entry)))) (mappedAt (directionOf direction) (now (store .entry)) (now (places .entry)) (untimedMap count mark) (now (texts .entry)) (now (spots .entry))) n (now (out .entry)) ⌝ }
+    ensures { λ r. ⌜ now (replies .exit) ≡ batchReplies (batchFits n (length (now (spots .entry))) (length (now (out .entry))) (length (now (replies .entry)))) (mappedAt (directionOf direction) (now (store .entry)) (now (places .entry)) (untimedMap count mark) (now (texts .entry)) (now (spots .entry))) n (now (replies .entry)) ⌝ }
+{
+    let map = ffi_values::untimed_map(count, mark);
+    let direction = ffi_values::direction_of(direction);
+    ffi_values::validation_code(batch::map_all(
+        store,
+        places,
+        map,
+        direction,
+        texts,
+        spots,
+        n,
+        out,
+        replies,
+    ))
+}

@@ -1,0 +1,53 @@
+use Rattle.open_list.proofs.AddBranches.{add-refused, add-many, add-beyond, add-start, add-source, add-target, add-passed}
+use borrow.Author.Needs.{needs}
+use Rattle.open_list.proofs.validate_add.Statement.{statement}
+use Rattle.open_list.proofs.validate_add.Tie as tie
+
+validate-ends-requires : tie.Need-validate-ends-requires
+validate-ends-requires c κs = search needs
+
+enum-known-q : tie.Need-enum-known-q
+enum-known-q c = search needs
+
+returns : tie.Need-returns
+returns c = add-refused _ _ _ _ _ _ (c .before .before .before .validate-ends .ensures) _ (c .before .q .given .1)
+
+enum-told : tie.Need-enum-told
+enum-told c = search needs
+
+returns-2 : tie.Need-returns-2
+returns-2 c = add-many _ _ _ _ _ _ (c .before .before .before .validate-ends .ensures) (c .before .enum-told .given .1) (c .if1 .taken)
+
+returns-3 : tie.Need-returns-3
+returns-3 c = add-beyond _ _ _ _ _ _ (c .before .before .before .before .validate-ends .ensures) (c .before .before .enum-told .given .1) (c .before .if1 .left) (c .if2 .taken)
+
+returns-4 : tie.Need-returns-4
+returns-4 c = add-start _ _ _ _ _ _ (c .before .before .before .before .before .validate-ends .ensures) (c .before .before .before .enum-told .given .1) (c .before .before .if1 .left) (c .before .if2 .left) (c .if3 .taken)
+
+returns-5 : tie.Need-returns-5
+returns-5 c = add-source _ _ _ _ _ _ (c .before .before .before .before .before .before .validate-ends .ensures) (c .before .before .before .before .enum-told .given .1) (c .before .before .before .if1 .left) (c .before .before .if2 .left) (c .before .if3 .left) (c .if4 .taken)
+
+sub-if5 : tie.Need-sub-if5
+sub-if5 c = search needs
+
+returns-6 : tie.Need-returns-6
+returns-6 c = add-target _ _ _ _ _ _ (c .before .before .before .before .before .before .before .validate-ends .ensures) (c .before .before .before .before .before .enum-told .given .1) (c .before .before .before .before .if1 .left) (c .before .before .before .if2 .left) (c .before .before .if3 .left) (c .before .if4 .left) (c .if5 .taken)
+
+returns-7 : tie.Need-returns-7
+returns-7 c = add-passed _ _ _ _ _ _ (c .before .before .before .before .before .before .before .validate-ends .ensures) (c .before .before .before .before .before .enum-told .given .1) (c .before .before .before .before .if1 .left) (c .before .before .before .if2 .left) (c .before .before .if3 .left) (c .before .if4 .left) (c .if5 .left)
+
+pub validate-add-spec : {M : Type 1} → statement M
+validate-add-spec =
+    tie.close
+    (tie.spec
+    validate-ends-requires
+    enum-known-q
+    returns
+    enum-told
+    returns-2
+    returns-3
+    returns-4
+    returns-5
+    sub-if5
+    returns-6
+    returns-7)

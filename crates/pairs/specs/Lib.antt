@@ -1,4 +1,0 @@
--- The definitions of this crate.
-pub mod Pair
-pub mod Places
-pub mod Best

@@ -1,0 +1,73 @@
+use mathlib.Core.Path.{refl, sym, _∙_}
+use Rattle.refusal.specs.declared.Reply.the-variants.{Refused}
+use Rattle.path_derive.proofs.UnfoldedCalls.{ancestors-unfolded}
+use Rattle.refusal.proofs.CallBranches.{unless-refused, unless-passed}
+use Rattle.path_derive.proofs.PartBranches.{listed-written, listed-over, listed-memory, listed-kept}
+use borrow.Author.Needs.{needs}
+use Rattle.path_derive.proofs.ancestors.Statement.{statement}
+use Rattle.path_derive.proofs.ancestors.Tie as tie
+
+slice-aggregate-validate-texts : tie.Need-slice-aggregate-validate-texts
+slice-aggregate-validate-texts c = search needs
+
+slice-aggregate-validate-texts-2 : tie.Need-slice-aggregate-validate-texts-2
+slice-aggregate-validate-texts-2 c = search needs
+
+validate-texts-requires : tie.Need-validate-texts-requires
+validate-texts-requires c κs = search needs
+
+enum-known-q : tie.Need-enum-known-q
+enum-known-q c = search needs
+
+returns : tie.Need-returns
+returns c = (unless-refused Refused _ _ _ _ (c .before .before .before .validate-texts .ensures) (c .before .q .given .1) ∙ sym (ancestors-unfolded _ _), refl)
+
+enum-told : tie.Need-enum-told
+enum-told c = search needs
+
+write-ancestors-requires : tie.Need-write-ancestors-requires
+write-ancestors-requires c κs = search needs
+
+enum-known-n : tie.Need-enum-known-n
+enum-known-n c = search needs
+
+enum-told-2 : tie.Need-enum-told-2
+enum-told-2 c = search needs
+
+same-length : tie.Need-same-length
+same-length c = search needs
+
+returns-2 : tie.Need-returns-2
+returns-2 c = (
+  unless-passed Refused _ _ _ _ (c .before .before .before .before .before .before .before .before .before .validate-texts .ensures) (c .before .before .before .before .before .before .before .enum-told .given .1) (listed-written _ _ _ (c .before .before .before .before .before .write-ancestors .ensures .0) _ (c .before .n .given .1))
+      ∙ sym (ancestors-unfolded _ _),
+  listed-memory _ _ _ (c .before .before .before .before .before .write-ancestors .ensures .0) _ _ (c .before .n .given .1) (c .before .before .before .before .before .write-ancestors .ensures .1),
+)
+
+same-length-2 : tie.Need-same-length-2
+same-length-2 c = search needs
+
+returns-3 : tie.Need-returns-3
+returns-3 c = (
+  unless-passed Refused _ _ _ _ (c .before .before .before .before .before .before .before .before .validate-texts .ensures) (c .before .before .before .before .before .before .enum-told .given .1) (listed-over _ _ _ (c .before .before .before .before .write-ancestors .ensures .0) (c .enum-told2 .given .1))
+      ∙ sym (ancestors-unfolded _ _),
+  listed-kept _ _ _ (c .before .before .before .before .write-ancestors .ensures .0) _ (c .enum-told2 .given .1) (c .before .before .before .before .write-ancestors .ensures .1),
+)
+
+pub ancestors-spec : {M : Type 1} → statement M
+ancestors-spec =
+    tie.close
+    (tie.spec
+    slice-aggregate-validate-texts
+    slice-aggregate-validate-texts-2
+    validate-texts-requires
+    enum-known-q
+    returns
+    enum-told
+    write-ancestors-requires
+    enum-known-n
+    enum-told-2
+    same-length
+    returns-2
+    same-length-2
+    returns-3)

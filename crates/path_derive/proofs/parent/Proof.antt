@@ -1,0 +1,87 @@
+use mathlib.Core.Path.{ap, _∙_}
+use Rattle.path_parts.proofs.ParentLaws.{parent-len-le, parent-take}
+use Rattle.refusal.specs.Outcome.{checkedOption}
+use Rattle.path_derive.proofs.UnfoldedCalls.{parent-unfolded}
+use Rattle.refusal.proofs.CallBranches.{answered-refused, answered-short, answered-passed, refusing, answering}
+use Rattle.path_derive.proofs.PartBranches.{passed-short, passed-legal, cut-written, cut-length, parent-empty, parent-root, parent-cut}
+use borrow.Author.Needs.{needs}
+use Rattle.path_derive.proofs.parent.Statement.{statement}
+use Rattle.path_derive.proofs.parent.Tie as tie
+
+slice-aggregate-validate-texts : tie.Need-slice-aggregate-validate-texts
+slice-aggregate-validate-texts c = search needs
+
+slice-aggregate-validate-texts-2 : tie.Need-slice-aggregate-validate-texts-2
+slice-aggregate-validate-texts-2 c = search needs
+
+validate-texts-requires : tie.Need-validate-texts-requires
+validate-texts-requires c κs = search needs
+
+enum-known-q : tie.Need-enum-known-q
+enum-known-q c = search needs
+
+returns : tie.Need-returns
+returns c = refusing _ _ (parent-unfolded _ _ ∙ answered-refused _ _ _ _ (c .before .before .before .validate-texts .ensures) _ (c .before .q .given .1)) _
+
+enum-told : tie.Need-enum-told
+enum-told c = search needs
+
+returns-2 : tie.Need-returns-2
+returns-2 c = refusing _ _ (parent-unfolded _ _ ∙ answered-short _ _ _ _ (c .before .before .before .validate-texts .ensures) (c .before .enum-told .given .1) (c .if1 .taken)) _
+
+returns-3 : tie.Need-returns-3
+unfolding checkedOption
+returns-3 c =
+    refusing _ _
+    (parent-unfolded _ _ ∙ answered-passed _ _ _ _ (c .before .before .before .before .validate-texts .ensures) (c .before .before .enum-told .given .1) (c .before .if1 .left) ∙ ap checkedOption (parent-empty _ (c .if2 .taken))) _
+
+is-root-requires : tie.Need-is-root-requires
+is-root-requires c κs = search needs
+
+returns-4 : tie.Need-returns-4
+unfolding checkedOption
+returns-4 c =
+    refusing _ _
+    (parent-unfolded _ _ ∙ answered-passed _ _ _ _ (c .before .before .before .before .before .before .validate-texts .ensures) (c .before .before .before .before .enum-told .given .1) (c .before .before .before .if1 .left)
+    ∙ ap checkedOption (parent-root _ _ (c .before .before .if2 .left) (c .before .is-root .ensures) (c .if3 .taken))) _
+
+parent-len-requires : tie.Need-parent-len-requires
+parent-len-requires c κs = search needs
+
+slice-aggregate-write-at : tie.Need-slice-aggregate-write-at
+slice-aggregate-write-at c = cut-length _ _ _ (c .before .parent-len .ensures) (parent-len-le _)
+
+write-at-requires : tie.Need-write-at-requires
+write-at-requires c κs = search needs
+
+same-length : tie.Need-same-length
+same-length c = search needs
+
+returns-5 : tie.Need-returns-5
+unfolding checkedOption
+returns-5 c =
+    answering _ _
+    (parent-unfolded _ _ ∙ answered-passed _ _ _ _ (c .before .before .before .before .before .before .before .before .before .before .before .before .validate-texts .ensures) (c .before .before .before .before .before .before .before .before .before .before .enum-told .given .1) (c .before .before .before .before .before .before .before .before .before .if1 .left)
+    ∙ ap checkedOption (parent-cut _ _ (c .before .before .before .before .before .before .before .before .if2 .left) (c .before .before .before .before .before .before .before .is-root .ensures) (c .before .before .before .before .before .before .if3 .left))) _ _ _
+    (cut-written _ _ _ (c .before .before .before .before .before .parent-len .ensures) (parent-len-le _) (passed-short _ _ (c .before .before .before .before .before .before .before .before .before .before .before .before .validate-texts .ensures) (c .before .before .before .before .before .before .before .before .before .before .enum-told .given .1))
+    (parent-take _ (passed-legal _ _ (c .before .before .before .before .before .before .before .before .before .before .before .before .validate-texts .ensures) (c .before .before .before .before .before .before .before .before .before .before .enum-told .given .1))) _ _ (c .before .before .before .before .before .before .before .before .before .if1 .left) (c .before .before .write-at .ensures))
+
+pub parent-spec : {M : Type 1} → statement M
+parent-spec =
+    tie.close
+    (tie.spec
+    slice-aggregate-validate-texts
+    slice-aggregate-validate-texts-2
+    validate-texts-requires
+    enum-known-q
+    returns
+    enum-told
+    returns-2
+    returns-3
+    is-root-requires
+    returns-4
+    parent-len-requires
+    slice-aggregate-write-at
+    write-at-requires
+    same-length
+    returns-5)

@@ -1,0 +1,78 @@
+use mathlib.Core.Path.{ap, _∙_}
+use lib.ListN.{length}
+use Rattle.text.proofs.BoolLaws.{known-false, known-true}
+use Rattle.text.proofs.WriteLaws.{rest-whole}
+use Rattle.path_prefix.proofs.PrefixLaws.{prefix-long}
+use Rattle.path_join.proofs.ReplaceLaws.{replace-prefix, replace-other}
+use Rattle.refusal.specs.Outcome.{checkedOption}
+use Rattle.path_derive.proofs.UnfoldedCalls.{replace-unfolded}
+use Rattle.refusal.proofs.CallBranches.{answered-refused, answered-short, answered-passed, refusing, answering}
+use borrow.Author.Needs.{needs}
+use Rattle.path_derive.proofs.replace_prefix.Statement.{statement}
+use Rattle.path_derive.proofs.replace_prefix.Tie as tie
+
+validate-texts-requires : tie.Need-validate-texts-requires
+validate-texts-requires c κs = search needs
+
+enum-known-q : tie.Need-enum-known-q
+enum-known-q c = search needs
+
+returns : tie.Need-returns
+returns c = refusing _ _ (replace-unfolded _ _ _ _ ∙ answered-refused _ _ _ _ (c .before .before .before .validate-texts .ensures) _ (c .before .q .given .1)) _
+
+enum-told : tie.Need-enum-told
+enum-told c = search needs
+
+returns-2 : tie.Need-returns-2
+returns-2 c = refusing _ _ (replace-unfolded _ _ _ _ ∙ answered-short _ _ _ _ (c .before .before .before .validate-texts .ensures) (c .before .enum-told .given .1) (c .if1 .taken)) _
+
+has-prefix-requires : tie.Need-has-prefix-requires
+has-prefix-requires c κs = search needs
+
+returns-3 : tie.Need-returns-3
+unfolding checkedOption
+returns-3 c =
+    refusing _ _
+    (replace-unfolded _ _ _ _ ∙ answered-passed _ _ _ _ (c .before .before .before .before .before .validate-texts .ensures) (c .before .before .before .enum-told .given .1) (c .before .before .if1 .left)
+    ∙ ap checkedOption (replace-other _ _ _ (known-false (c .before .has-prefix .ensures) (c .if2 .taken)))) _
+
+sub-write-joined : tie.Need-sub-write-joined
+sub-write-joined c = prefix-long _ _ (known-true (c .before .has-prefix .ensures) (c .if2 .left))
+
+part-write-joined-start : tie.Need-part-write-joined-start
+part-write-joined-start c = prefix-long _ _ (known-true (c .before .has-prefix .ensures) (c .if2 .left))
+
+part-write-joined-end : tie.Need-part-write-joined-end
+part-write-joined-end c = search needs
+
+write-joined-requires : tie.Need-write-joined-requires
+write-joined-requires c κs = search needs
+
+same-length : tie.Need-same-length
+same-length c = search needs
+
+returns-4 : tie.Need-returns-4
+unfolding checkedOption
+returns-4 c =
+    answering _ _
+    (replace-unfolded _ _ _ _ ∙ answered-passed _ _ _ _ (c .before .before .before .before .before .before .before .before .before .before .validate-texts .ensures) (c .before .before .before .before .before .before .before .before .enum-told .given .1) (c .before .before .before .before .before .before .before .if1 .left)
+    ∙ ap checkedOption (replace-prefix _ _ _ (known-true (c .before .before .before .before .before .before .has-prefix .ensures) (c .before .before .before .before .before .if2 .left)))) _ _ _
+    (rw (rest-whole (c .before .before .before .before .before .before .before .before .before .before .before .before .before .before .before .args .path .now) (length (c .before .before .before .before .before .before .before .before .before .before .before .before .before .before .before .args .old .now))) at (c .before .before .write-joined .ensures))
+
+pub replace-prefix-spec : {M : Type 1} → statement M
+replace-prefix-spec =
+    tie.close
+    (tie.spec
+    validate-texts-requires
+    enum-known-q
+    returns
+    enum-told
+    returns-2
+    has-prefix-requires
+    returns-3
+    sub-write-joined
+    part-write-joined-start
+    part-write-joined-end
+    write-joined-requires
+    same-length
+    returns-4)

@@ -1,0 +1,75 @@
+use mathlib.Core.Path.{_∙_}
+use native.Mathlib.Omega.{arith}
+use Rattle.path_parts.proofs.StripLaws.{strip-never}
+use Rattle.path_derive.proofs.UnfoldedCalls.{strip-unfolded}
+use Rattle.refusal.proofs.CallBranches.{answered-refused, answered-short, answered-passed, refusing, answering}
+use Rattle.path_derive.proofs.PartBranches.{passed-short, passed-legal, strip-written}
+use borrow.Author.Needs.{needs}
+use Rattle.path_derive.proofs.strip_variant_selections.Statement.{statement}
+use Rattle.path_derive.proofs.strip_variant_selections.Tie as tie
+
+slice-aggregate-validate-texts : tie.Need-slice-aggregate-validate-texts
+slice-aggregate-validate-texts c = search needs
+
+slice-aggregate-validate-texts-2 : tie.Need-slice-aggregate-validate-texts-2
+slice-aggregate-validate-texts-2 c = search needs
+
+validate-texts-requires : tie.Need-validate-texts-requires
+validate-texts-requires c κs = search needs
+
+enum-known-q : tie.Need-enum-known-q
+enum-known-q c = search needs
+
+returns : tie.Need-returns
+returns c = refusing _ _ (strip-unfolded _ _ ∙ answered-refused _ _ _ _ (c .before .before .before .validate-texts .ensures) _ (c .before .q .given .1)) _
+
+enum-told : tie.Need-enum-told
+enum-told c = search needs
+
+returns-2 : tie.Need-returns-2
+returns-2 c = refusing _ _ (strip-unfolded _ _ ∙ answered-short _ _ _ _ (c .before .before .before .validate-texts .ensures) (c .before .enum-told .given .1) (c .if1 .taken)) _
+
+strip-into-requires : tie.Need-strip-into-requires
+strip-into-requires c κs = search needs
+
+enum-known-n : tie.Need-enum-known-n
+enum-known-n c = search needs
+
+enum-told-2 : tie.Need-enum-told-2
+enum-told-2 c = search needs
+
+same-length : tie.Need-same-length
+same-length c = search needs
+
+returns-3 : tie.Need-returns-3
+returns-3 c =
+    answering _ _ (strip-unfolded _ _ ∙ answered-passed _ _ _ _ (c .before .before .before .before .before .before .before .before .before .before .validate-texts .ensures) (c .before .before .before .before .before .before .before .before .enum-told .given .1) (c .before .before .before .before .before .before .before .if1 .left)) _ _ _
+    (strip-written _ _ _ (passed-short _ _ (c .before .before .before .before .before .before .before .before .before .before .validate-texts .ensures) (c .before .before .before .before .before .before .before .before .enum-told .given .1)) (c .before .before .before .before .before .before .before .if1 .left) (c .before .before .before .before .before .strip-into .ensures .0) _ _ (c .before .n .given .1)
+    (passed-legal _ _ (c .before .before .before .before .before .before .before .before .before .before .validate-texts .ensures) (c .before .before .before .before .before .before .before .before .enum-told .given .1)) (c .before .before .before .before .before .strip-into .ensures .1))
+
+same-length-2 : tie.Need-same-length-2
+same-length-2 c = search needs
+
+returns-4 : tie.Need-returns-4
+returns-4 c =
+    absurd
+    (strip-never _ _ _ (omega (arith, passed-short _ _ (c .before .before .before .before .before .before .before .before .before .validate-texts .ensures) (c .before .before .before .before .before .before .before .enum-told .given .1), c .before .before .before .before .before .before .if1 .left)) (c .before .before .before .before .strip-into .ensures .0) (c .enum-told2 .given .1))
+
+pub strip-variant-selections-spec : {M : Type 1} → statement M
+strip-variant-selections-spec =
+    tie.close
+    (tie.spec
+    slice-aggregate-validate-texts
+    slice-aggregate-validate-texts-2
+    validate-texts-requires
+    enum-known-q
+    returns
+    enum-told
+    returns-2
+    strip-into-requires
+    enum-known-n
+    enum-told-2
+    same-length
+    returns-3
+    same-length-2
+    returns-4)

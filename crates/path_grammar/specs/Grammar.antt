@@ -1,0 +1,115 @@
+-- The grammar of path texts, as data types and their rendering to text. Every value of these types is a path, and a text is legal exactly
+-- if it is the rendering of some path (`LegalIsRendered`, proved in proofs/Theorem.antt).
+use mathlib.Core.Path.{_≡_}
+use mathlib.Core.Bool.{Bool, true, _&&_}
+use mathlib.Core.List.{List, [], _∷_, _++_}
+use mathlib.Core.Option.{Option, none, some}
+use mathlib.Core.Logic.{_↔_}
+use Prim.Native.Nat.{ℕ}
+use Rattle.text.specs.Text.{Text}
+use Rattle.text.specs.Bytes.{closeBrace, colon, dot, equalsSign, openBrace, slash}
+use Rattle.path_grammar.specs.Legal.{isIdentifierStart, isIdentifierCont, legal}
+
+-- Every byte is a letter, a digit or `_`.
+unfoldable pub allCont : Text → Bool
+allCont [] = true
+allCont (a ∷ r) = isIdentifierCont a && allCont r
+
+-- A name. Requirements: "A name is a letter or `_`, then letters, digits, `_`."
+pub record Name : Type 0 where
+  pub first : ℕ
+  pub more : Text
+  pub first-is : isIdentifierStart first ≡ true
+  pub more-are : allCont more ≡ true
+
+-- The variant that a selection names. Requirements: "`sel` is one or more letters, digits, `_`."
+pub record Word : Type 0 where
+  pub first : ℕ
+  pub more : Text
+  pub first-is : isIdentifierCont first ≡ true
+  pub more-are : allCont more ≡ true
+
+-- A variant selection. Requirements: "`{set=sel}`"; "`set` is a name".
+pub record Selection : Type 0 where
+  pub variantSet : Name
+  pub variant : Word
+
+-- A prim: a name and the variant selections that follow it.
+pub record Prim : Type 0 where
+  pub name : Name
+  pub selections : List Selection
+
+-- A property. Requirements: "A property is `.` and names joined by single `:`."
+pub record Property : Type 0 where
+  pub first : Name
+  pub more : List Name
+
+-- A path. Requirements: "It is empty, or `/`, or `/` and a name followed by elements, then perhaps a property."
+pub data Path : Type 0 where
+  empty : Path
+  root : Path
+  prims : Prim → List Prim → Option Property → Path
+
+-- The text of a name. In this and the following renderings the bytes are: . is 46, / is 47, : is 58, = is 61, { is 123, } is 125.
+unfoldable pub nameText : Name → Text
+nameText n = n .first ∷ n .more
+
+-- The text of a variant.
+unfoldable pub wordText : Word → Text
+wordText w = w .first ∷ w .more
+
+-- The text of a variant selection.
+unfoldable pub selectionText : Selection → Text
+unfolding nameText wordText
+selectionText s = openBrace ∷ (nameText (s .variantSet) ++ (equalsSign ∷ (wordText (s .variant) ++ (closeBrace ∷ []))))
+
+-- The text of a list of variant selections.
+unfoldable pub selectionsText : List Selection → Text
+unfolding selectionText
+selectionsText [] = []
+selectionsText (s ∷ r) = selectionText s ++ selectionsText r
+
+-- The text of a prim: its name, then its selections.
+unfoldable pub primText : Prim → Text
+unfolding nameText selectionsText
+primText p = nameText (p .name) ++ selectionsText (p .selections)
+
+-- The separator between a prim with these selections and the next prim: a slash after a name, nothing after a selection. Requirements:
+-- "After a name come `/` and a name .. After a selection come another selection, or a name with no slash."
+unfoldable pub primSeparator : List Selection → Text
+primSeparator [] = slash ∷ []
+primSeparator (s ∷ r) = []
+
+-- The text of a prim and of the prims after it.
+unfoldable pub primsText : Prim → List Prim → Text
+unfolding primText primSeparator
+primsText p [] = primText p
+primsText p (q ∷ r) = primText p ++ (primSeparator (p .selections) ++ primsText q r)
+
+-- The text of the further names of a property, each after a `:`.
+unfoldable pub moreText : List Name → Text
+unfolding nameText
+moreText [] = []
+moreText (n ∷ r) = colon ∷ (nameText n ++ moreText r)
+
+-- The text of a property, if there is one.
+unfoldable pub propertyText : Option Property → Text
+unfolding nameText moreText
+propertyText none = []
+propertyText (some x) = dot ∷ (nameText (x .first) ++ moreText (x .more))
+
+-- The text of a path.
+unfoldable pub render : Path → Text
+unfolding primsText propertyText
+render empty = []
+render root = slash ∷ []
+render (prims p r x) = slash ∷ (primsText p r ++ propertyText x)
+
+-- The text s is the rendering of some path.
+pub record Rendered (s : Text) : Type 0 where
+  pub path : Path
+  pub same : render path ≡ s
+
+-- Theorem (proofs/Theorem.antt): a text is legal exactly if it is the rendering of some path.
+abbrev pub LegalIsRendered : Type 0
+LegalIsRendered = (s : Text) → (legal s ≡ true) ↔ Rendered s

@@ -1,0 +1,5 @@
+-- The lemmas of this crate. The proof of each function is in the folder of its name.
+pub mod JoinBranches
+pub mod ReplaceLaws
+pub mod JoinLaws
+pub mod JoinLegal

@@ -1,0 +1,70 @@
+-- Prefix replacement: the new prefix, a separator, and the remainder without its own leading slash. OpenUSD: SdfPath::ReplacePrefix; unlike
+-- there, a path without the prefix yields no path here.
+use Prim.Native.Nat.{ℕ}
+use mathlib.Core.Path.{_≡_}
+use mathlib.Core.Bool.{Bool, true, false, not, cond, _&&_, _||_}
+use mathlib.Core.List.{[], _∷_, _++_}
+use mathlib.Core.Option.{Option, none, some}
+use lib.Dec.{eqb}
+use Rattle.text.specs.Text.{Text, isNil, stripPrefix, endsWithByte}
+use Rattle.text.specs.Bytes.{closeBrace, dot, openBrace, slash}
+use Rattle.path_grammar.specs.Legal.{isRoot, isIdentifierCont, legal, isEnd}
+use Rattle.path_prefix.specs.Prefix.{canFollow}
+
+-- The remainder after s, which begins with byte a, is a child prim: it begins with a slash, or it is a name directly after a selection.
+unfoldable pub isChild : Text → ℕ → Bool
+unfolding endsWithByte isIdentifierCont
+isChild s a = eqb a slash || endsWithByte closeBrace s && isIdentifierCont a
+
+-- A child prim is appended to t without a slash: `/` already ends in one, and after a selection there is none.
+unfoldable pub endsWithSeparator : Text → Bool
+unfolding endsWithByte
+endsWithSeparator t = isRoot t || endsWithByte closeBrace t
+
+-- A slash, or nothing if b is set.
+abbrev pub slashUnless : Bool → Text
+slashUnless b = cond b [] (slash ∷ [])
+
+-- The separator, a slash or nothing, between the new prefix t and the remainder r that followed the old prefix s.
+unfoldable pub separator : Text → Text → Text → Text
+unfolding isChild endsWithSeparator
+separator s t [] = []
+separator s t (a ∷ r) = slashUnless (cond (isRoot s) (isRoot t) (not (isChild s a) || endsWithSeparator t))
+
+-- The remainder after s without its own leading slash; after `/` it has none.
+unfoldable pub body : Text → Text → Text
+body s [] = []
+body s (a ∷ r) = cond (not (isRoot s) && eqb a slash) r (a ∷ r)
+
+-- The new prefix t followed by the remainder r, which followed the old prefix s.
+unfoldable pub join : Text → Text → Text → Text
+unfolding separator body
+join s t r = t ++ (separator s t r ++ body s r)
+
+-- The joined text if there is a remainder and it may follow s; otherwise none.
+abbrev pub joinSome : Text → Text → Option Text → Option Text
+unfolding canFollow join
+joinSome s t none = none
+joinSome s t (some r) = cond (canFollow s r) (some (join s t r)) none
+
+-- The path p with its prefix s replaced by t; none if s is not a prefix of p (Rust: replace_prefix).
+unfoldable pub replacePrefix : Text → Text → Text → Option Text
+unfolding stripPrefix joinSome
+replacePrefix p s t = joinSome s t (stripPrefix s p)
+
+-- The remainder begins with `.` or `{`, a suffix that attaches without a slash.
+unfoldable pub startsSuffix : Text → Bool
+startsSuffix [] = false
+startsSuffix (a ∷ r) = eqb a dot || eqb a openBrace
+
+-- The joined path would be illegal: a remainder that begins with `.` or `{` cannot follow `/` or the empty path.
+unfoldable pub joinIllegal : Text → Text → Bool
+unfolding startsSuffix
+joinIllegal t r = (isNil t || isRoot t) && startsSuffix r
+
+-- Theorem (proofs/JoinLegal.antt): for a legal path and ends s and t, s not empty, the joined path is legal exactly if `joinIllegal` does not
+-- hold. So the code need not scan the joined path again.
+abbrev pub JoinLegal : Type 0
+JoinLegal =
+    (s t r : Text) → legal (s ++ r) ≡ true → isEnd s ≡ true → isNil s ≡ false → isEnd t ≡ true → canFollow s r ≡ true
+    → legal (join s t r) ≡ not (joinIllegal t r)

@@ -1,0 +1,55 @@
+-- Lemmas about how the automaton reads legal texts, and about the bytes of names.
+use mathlib.Core.Path.{_≡_, refl, sym, _∙_}
+use mathlib.Core.Bool.{Bool, true, false, cond, true≢false}
+use mathlib.Core.List.{[], _∷_}
+use Prim.Native.Nat.{ℕ}
+use lib.Dec.{eqb}
+use borrow.Author.Tests.{eqb-true}
+use Rattle.text.specs.Text.{Text}
+use Rattle.text.proofs.BoolLaws.{and-l, and-r}
+use Rattle.path_grammar.specs.Legal.{ScanState, Slash, Name, Opened, Set, Equals, Sel, Closed, Dot, Prop, Dead, isIdentifierCont, step, run, accept, legal}
+use Rattle.path_grammar.proofs.RunLaws.{dead-refuses}
+
+-- A legal text is empty, or `/`, or a slash before a text that the automaton accepts.
+pub data Shape : Text → Type 0 where
+  empty : Shape []
+  root : Shape (47 ∷ [])
+  below : (r : Text) → accept (run Slash r) ≡ true → Shape (47 ∷ r)
+
+pub shape : (p : Text) → legal p ≡ true → Shape p
+unfolding legal
+shape [] e = empty
+shape (a ∷ []) e = rw (eqb-true a 47 (and-l (eqb a 47) true e)) root
+shape (a ∷ b ∷ r) e =
+    rw (eqb-true a 47 (and-l (eqb a 47) (accept (run Slash (b ∷ r))) e)) (below (b ∷ r) (and-r (eqb a 47) (accept (run Slash (b ∷ r))) e))
+
+-- The two branches in which the automaton can continue after a test.
+pub choose : {G : Type 0} (b : Bool) (x y : ScanState) (r : Text) → (b ≡ true → accept (run x r) ≡ true → G) → (b ≡ false → accept (run y r) ≡ true → G)
+    → accept (run (cond b x y) r) ≡ true → G
+choose true x y r f g e = f refl e
+choose false x y r f g e = g refl e
+
+pub dies : {G : Type 0} (r : Text) → accept (run Dead r) ≡ true → G
+dies r e = absurd (dead-refuses r e)
+
+-- A `}` is read only after the variant of a selection.
+pub closes : (s : ScanState) (r : Text) → accept (run (step s 125) r) ≡ true → step s 125 ≡ Closed
+unfolding step
+closes Slash r e = dies r e
+closes Name r e = dies r e
+closes Opened r e = dies r e
+closes Set r e = dies r e
+closes Equals r e = dies r e
+closes Sel r e = refl
+closes Closed r e = dies r e
+closes Dot r e = dies r e
+closes Prop r e = dies r e
+closes Dead r e = dies r e
+
+-- Lemmas about the bytes of names.
+pub not-name : (a k : ℕ) → isIdentifierCont k ≡ false → isIdentifierCont a ≡ true → eqb a k ≡ false
+not-name a k n h = go (eqb a k) refl
+  where
+    go : (t : Bool) → eqb a k ≡ t → t ≡ false
+    go true e = absurd (true≢false (sym h ∙ rw (eqb-true a k e) n))
+    go false e = refl

@@ -1,0 +1,55 @@
+-- The number of elements of a path. Requirements: "Elements are names and selections; `/` and the empty path have none.
+-- `prim_element_count` counts names." OpenUSD: SdfPath::GetPathElementCount, which also counts a property; the Rust and the requirements do
+-- not.
+use Prim.Native.Nat.{ℕ, suc, _+_}
+use mathlib.Core.Path.{_≡_}
+use mathlib.Core.Bool.{Bool, true, false, not, cond, _&&_, _||_}
+use mathlib.Core.List.{List, [], _∷_}
+use lib.Dec.{eqb}
+use Rattle.text.specs.Text.{Text, isNil}
+use Rattle.text.specs.Bytes.{closeBrace, openBrace, slash}
+use Rattle.path_grammar.specs.Legal.{isIdentifierCont, startsName}
+use Rattle.path_grammar.specs.Grammar as g
+use Rattle.path_grammar.specs.Grammar.{render}
+
+-- An element begins at the byte a followed by r: a name after a slash, a selection (if selections count), or a name directly after a
+-- selection.
+abbrev pub startsElement : Bool → ℕ → Text → Bool
+startsElement selections a r = eqb a slash && not (isNil r) || eqb a openBrace && selections || eqb a closeBrace && startsName r
+
+-- The number of elements that begin in a text; selections count only if `selections` is set.
+unfoldable pub countElements : Bool → Text → ℕ
+unfolding isIdentifierCont
+countElements selections [] = 0
+countElements selections (a ∷ r) = cond (startsElement selections a r) 1 0 + countElements selections r
+
+-- The number of names and selections (Rust: element_count).
+abbrev pub elementCount : Text → ℕ
+elementCount s = countElements true s
+
+-- The number of names (Rust: prim_element_count).
+abbrev pub primElementCount : Text → ℕ
+primElementCount s = countElements false s
+
+-- The number of selections in a list, or 0 if selections do not count. This and the next two definitions count over the data types of the
+-- grammar; `CountsAgree` states that the counts agree with those of the texts.
+unfoldable pub selectionCount : Bool → List g.Selection → ℕ
+selectionCount selections [] = 0
+selectionCount selections (s ∷ r) = cond selections 1 0 + selectionCount selections r
+
+-- The number of elements in a prim and the prims after it.
+unfoldable pub primCount : Bool → g.Prim → List g.Prim → ℕ
+unfolding selectionCount
+primCount selections p [] = suc (selectionCount selections (p .selections))
+primCount selections p (q ∷ r) = suc (selectionCount selections (p .selections)) + primCount selections q r
+
+-- The number of elements in a path.
+unfoldable pub pathCount : Bool → g.Path → ℕ
+unfolding primCount
+pathCount selections g.empty = 0
+pathCount selections g.root = 0
+pathCount selections (g.prims p r x) = primCount selections p r
+
+-- Theorem (proofs/CountTheorem.antt): the number of elements in a path's text is the number of elements in the path.
+abbrev pub CountsAgree : Type 0
+CountsAgree = (selections : Bool) (p : g.Path) → countElements selections (render p) ≡ pathCount selections p

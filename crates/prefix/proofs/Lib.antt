@@ -1,6 +1,0 @@
--- The lemmas of this crate. The proof of each function is in the folder of its name.
-mod PrefixWays
-mod CountWays
-pub mod CountLaws
-pub mod PrefixLaws
-pub mod CountTheorem

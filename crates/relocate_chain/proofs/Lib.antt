@@ -1,0 +1,5 @@
+-- The lemmas of this crate; the proof of each function is in a folder of its name.
+mod SearchBranches
+mod StepBranches
+mod ChainBranches
+mod CallBranches

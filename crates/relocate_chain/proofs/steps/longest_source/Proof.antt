@@ -1,0 +1,57 @@
+use Rattle.relocate_chain.proofs.SearchBranches.{searching, Holds, holds-on}
+use Prim.Native.Nat.{_≤_, _-_}
+use Rattle.pair_list.specs.Places.{pairsIn}
+use Rattle.relocate_chain.specs.Chain.{replacement}
+use Rattle.relocate_chain.specs.ChainStep.{skippedSource}
+use borrow.Author.Needs.{needs}
+use Rattle.relocate_chain.proofs.steps.longest_source.Statement.{statement}
+use Rattle.relocate_chain.proofs.steps.longest_source.Tie as tie
+
+abbrev Inv-loop : tie.InvT-loop
+Inv-loop store places n alters skips skipped path f₀ i₀ f i = (i ≤ n) × Holds (replacement alters (skippedSource skips skipped) path) (pairsIn store places n) i f
+
+abbrev μ-loop : tie.MeasureT-loop
+μ-loop store places n alters skips skipped path f₀ i₀ f i = n - i
+
+loop-holds : tie.Need-loop-holds Inv-loop μ-loop
+loop-holds c = search (needs, searching)
+
+key-at-requires : tie.Need-key-at-requires Inv-loop μ-loop
+key-at-requires c κs = search (needs, searching)
+
+key-at-requires-2 : tie.Need-key-at-requires-2 Inv-loop μ-loop
+key-at-requires-2 c κs = search (needs, searching)
+
+is-candidate-requires : tie.Need-is-candidate-requires Inv-loop μ-loop
+is-candidate-requires c κs = search (needs, searching)
+
+consider-source-requires : tie.Need-consider-source-requires Inv-loop μ-loop
+consider-source-requires c κs = search (needs, searching)
+
+add-i : tie.Need-add-i Inv-loop μ-loop
+add-i c = search (needs, searching)
+
+loop-less : tie.Need-loop-less Inv-loop μ-loop
+loop-less c = search (needs, searching)
+
+loop-again : tie.Need-loop-again Inv-loop μ-loop
+loop-again c = (search needs, holds-on _ _ _ _ _ _ _ _ _ _ (c .before .before .before .before .before .loop .inv .1) (c .before .before .before .before .loop-test .taken) (c .before .before .before .key-at .ensures) (c .before .before .key-at2 .ensures) (c .before .is-candidate .ensures) (c .consider-source .ensures))
+
+returns : tie.Need-returns Inv-loop μ-loop
+returns c = search (needs, searching)
+
+pub longest-source-spec : {M : Type 1} → statement M
+longest-source-spec =
+    tie.close
+    (tie.spec
+    Inv-loop
+    μ-loop
+    loop-holds
+    key-at-requires
+    key-at-requires-2
+    is-candidate-requires
+    consider-source-requires
+    add-i
+    loop-less
+    loop-again
+    returns)

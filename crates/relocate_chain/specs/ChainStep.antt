@@ -1,0 +1,54 @@
+-- The intermediate values of the code for chaining: the result of the search, the result of one replacement, and the contents of the
+-- scratch buffers.
+use Prim.Native.Nat.{ℕ, _≤_}
+use mathlib.Core.Bool.{Bool, true, not, cond, _&&_, _||_}
+use mathlib.Core.Option.{Option, none, some}
+use lib.Dec.{leb}
+use lib.ListN.{length, take}
+use Rattle.text.specs.Text.{Text, writtenIfFits}
+use Rattle.refusal.specs.Outcome.{Outcome, path, refused, checked}
+use Rattle.relocate_chain.specs.declared.steps.Longest.{Longest}
+use Rattle.relocate_chain.specs.declared.steps.Step.{Step}
+use Rattle.relocate_chain.specs.declared.steps.Step.the-variants.{Still, Made, Refused}
+use Rattle.relocate_chain.specs.declared.Chain.{Chain}
+use Rattle.relocate_chain.specs.declared.Chain.the-variants.{Chained as ChainedTo, Refused as RefusedChain}
+use Rattle.relocate_chain.specs.Chain.{Chained, chained, stopped}
+
+-- The skipped source, if the flag is set.
+abbrev pub skippedSource : Bool → Text → Option Text
+skippedSource skips skipped = cond skips (some skipped) none
+
+-- The index of the pair found, if one was found.
+abbrev pub longestIndex : Longest → Option ℕ
+longestIndex f = cond (f .found) (some (f .at)) none
+
+-- The search result after pair i, whose source is k: pair i if it yields a path and k is at least as long as the source found so far.
+unfoldable pub considerSource : Longest → Bool → Text → ℕ → Longest
+considerSource f tries k i =
+    cond (tries && (not (f .found) || leb (f .bytes .0) (length k))) (record { found = true; at = i; bytes = record { 0 = length k } }) f
+
+-- The result of a replacement that was validated by questions 7 and 8.
+abbrev pub stepOutcome : Outcome → Step
+stepOutcome (path q) = Made (length q)
+stepOutcome (refused x) = Refused x
+
+-- The result of one step: no replacement, or a replacement validated by questions 7 and 8.
+unfoldable pub stepReply : Option Text → Step
+unfolding checked
+stepReply none = Still
+stepReply (some q) = stepOutcome (checked q)
+
+-- The scratch buffer after one step: the path made over its beginning; unchanged if no pair applied or the path does not fit.
+unfoldable pub stepBuffer : Option Text → Text → Text
+stepBuffer none out = out
+stepBuffer (some q) out = writtenIfFits 0 q out
+
+-- A chain result whose path is the first `len` bytes of the buffer.
+abbrev pub chainInBuffer : Chain → Text → Chained
+chainInBuffer (ChainedTo len steps) mem = chained (take len mem) steps
+chainInBuffer (RefusedChain x) mem = stopped x
+
+-- The length in a chain result is at most n.
+abbrev pub chainWithin : Chain → ℕ → Type 0
+chainWithin (ChainedTo len steps) n = len ≤ n
+chainWithin (RefusedChain x) n = Unit {0}

@@ -1,0 +1,55 @@
+use Rattle.route.proofs.CallBranches.{enter-kept, enter-stripped}
+use Rattle.path_parts.proofs.StripLaws.{strip-never}
+use native.Mathlib.Omega.{arith}
+use borrow.Author.Needs.{needs}
+use Rattle.route.proofs.enter_route.Statement.{statement}
+use Rattle.route.proofs.enter_route.Tie as tie
+
+keeps-selections-requires : tie.Need-keeps-selections-requires
+keeps-selections-requires c κs = search needs
+
+write-at-requires : tie.Need-write-at-requires
+write-at-requires c κs = search needs
+
+same-length : tie.Need-same-length
+same-length c = search needs
+
+returns : tie.Need-returns
+returns c = enter-kept _ _ _ _ (c .before .before .before .before .before .before .before .before .pre .1) (c .before .before .before .before .before .before .before .before .pre .0) _ (c .before .before .before .before .before .keeps-selections .ensures) (c .before .before .before .before .if1 .taken) _ (c .before .before .write-at .ensures)
+
+strip-into-requires : tie.Need-strip-into-requires
+strip-into-requires c κs = search needs
+
+enum-known-fit : tie.Need-enum-known-fit
+enum-known-fit c = search needs
+
+enum-told : tie.Need-enum-told
+enum-told c = search needs
+
+same-length-2 : tie.Need-same-length-2
+same-length-2 c = search needs
+
+returns-2 : tie.Need-returns-2
+returns-2 c = absurd (strip-never _ _ _ (omega (arith, c .before .before .before .before .before .before .before .before .before .before .pre .0, c .before .before .before .before .before .before .before .before .before .before .pre .1)) (c .before .before .before .before .strip-into .ensures .0) (c .enum-told .given .1))
+
+same-length-3 : tie.Need-same-length-3
+same-length-3 c = search needs
+
+returns-3 : tie.Need-returns-3
+returns-3 c = enter-stripped _ _ _ _ (c .before .before .before .before .before .before .before .before .before .before .before .pre .1) (c .before .before .before .before .before .before .before .before .before .before .before .pre .0) _ (c .before .before .before .before .before .before .before .before .keeps-selections .ensures) _ (c .before .before .before .before .before .strip-into .ensures .0) (c .before .before .before .before .before .before .before .if1 .left) _ (c .before .fit .given .1) _ (c .before .before .before .before .before .strip-into .ensures .1) (search needs)
+
+pub enter-route-spec : {M : Type 1} → statement M
+enter-route-spec =
+    tie.close
+    (tie.spec
+    keeps-selections-requires
+    write-at-requires
+    same-length
+    returns
+    strip-into-requires
+    enum-known-fit
+    enum-told
+    same-length-2
+    returns-2
+    same-length-3
+    returns-3)

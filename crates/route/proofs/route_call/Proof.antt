@@ -1,0 +1,64 @@
+use Rattle.route_maps.proofs.ReadLaws.{prepared-read}
+use Rattle.route.proofs.CallBranches.{call-as-it-is, call-prepared}
+use Rattle.refusal.proofs.CallBranches.{answering}
+use mathlib.Core.Path.{refl}
+use borrow.Author.Needs.{needs}
+use Rattle.route.proofs.route_call.Statement.{statement}
+use Rattle.route.proofs.route_call.Tie as tie
+
+validate-legs-requires : tie.Need-validate-legs-requires
+validate-legs-requires c κs = search needs
+
+needs-maps-requires : tie.Need-needs-maps-requires
+needs-maps-requires c κs = search needs
+
+route-after-requires : tie.Need-route-after-requires
+route-after-requires c κs = search needs
+
+same-length : tie.Need-same-length
+same-length c = search needs
+
+returns : tie.Need-returns
+returns c = answering _ _ (call-as-it-is _ _ _ _ _ (c .before .before .before .before .before .before .validate-legs .ensures) _ (c .before .before .before .before .before .needs-maps .ensures) (c .before .before .before .before .if1 .taken)) _ _ _ (c .before .before .route-after .ensures)
+
+slice-aggregate-prepare-legs : tie.Need-slice-aggregate-prepare-legs
+slice-aggregate-prepare-legs c = search needs
+
+slice-aggregate-prepare-legs-2 : tie.Need-slice-aggregate-prepare-legs-2
+slice-aggregate-prepare-legs-2 c = search needs
+
+prepare-legs-requires : tie.Need-prepare-legs-requires
+prepare-legs-requires c κs = search needs
+
+slice-aggregate-route-after : tie.Need-slice-aggregate-route-after
+slice-aggregate-route-after c = search needs
+
+slice-aggregate-route-after-2 : tie.Need-slice-aggregate-route-after-2
+slice-aggregate-route-after-2 c = search needs
+
+route-after-requires-2 : tie.Need-route-after-requires-2
+route-after-requires-2 c κs = search needs
+
+same-length-2 : tie.Need-same-length-2
+same-length-2 c = search needs
+
+returns-2 : tie.Need-returns-2
+returns-2 c = answering _ _ (call-prepared _ _ _ _ _ (c .before .before .before .before .before .before .before .before .before .before .before .before .before .validate-legs .ensures) _ refl (search needs) (search needs) (prepared-read _ _ _ _ _ (c .before .before .before .before .before .before .before .before .prepare-legs .ensures .0) (c .before .before .before .before .before .before .before .before .prepare-legs .ensures .1))) _ _ _ (c .before .before .route-after2 .ensures)
+
+pub route-call-spec : {M : Type 1} → statement M
+route-call-spec =
+    tie.close
+    (tie.spec
+    validate-legs-requires
+    needs-maps-requires
+    route-after-requires
+    same-length
+    returns
+    slice-aggregate-prepare-legs
+    slice-aggregate-prepare-legs-2
+    prepare-legs-requires
+    slice-aggregate-route-after
+    slice-aggregate-route-after-2
+    route-after-requires-2
+    same-length-2
+    returns-2)

@@ -1,0 +1,5 @@
+-- The lemmas and theorems of this crate.
+pub mod RelocateLaws
+pub mod Theorem
+pub mod Necessary
+pub mod RouteLaws

@@ -1,4 +1,0 @@
--- The lemmas of this crate. The proof of each function is in the folder of its name.
-mod BestWays
-mod RivalWays
-pub mod FoundLaws

@@ -1,0 +1,42 @@
+use Rattle.path_grammar.specs.Legal.{legal}
+use Rattle.validate.proofs.ValidateBranches.{first-fails, second-fails, list-legal, list-passes}
+use borrow.Author.Needs.{needs}
+use Rattle.validate.proofs.are_legal.Statement.{statement}
+use Rattle.validate.proofs.are_legal.Tie as tie
+
+is-legal-requires : tie.Need-is-legal-requires
+is-legal-requires c κs = search needs
+
+returns : tie.Need-returns
+returns c = first-fails legal _ _ _ _ _ _ (c .before .is-legal .ensures) (c .if1 .taken)
+
+is-legal-requires-2 : tie.Need-is-legal-requires-2
+is-legal-requires-2 c κs = search needs
+
+returns-2 : tie.Need-returns-2
+returns-2 c = second-fails legal _ _ _ _ _ _ (c .before .before .before .is-legal .ensures) (c .before .before .if1 .left) _ (c .before .is-legal2 .ensures) (c .if2 .taken)
+
+returns-3 : tie.Need-returns-3
+returns-3 c = list-legal _ _ _ _ (c .before .before .before .before .is-legal .ensures) (c .before .before .before .if1 .left) _ (c .before .before .is-legal2 .ensures) (c .before .if2 .left) _ (c .before .before .before .before .before .before .before .before .before .pre) (c .if3 .taken)
+
+present-places-requires : tie.Need-present-places-requires
+present-places-requires c κs = search needs
+
+all-legal-requires : tie.Need-all-legal-requires
+all-legal-requires c κs = search needs
+
+returns-4 : tie.Need-returns-4
+returns-4 c = list-passes legal _ _ _ _ _ _ (c .before .before .before .before .before .before .is-legal .ensures) (c .before .before .before .before .before .if1 .left) _ (c .before .before .before .before .is-legal2 .ensures) (c .before .before .before .if2 .left) _ (c .before .present-places .ensures) _ (c .all-legal .ensures)
+
+pub are-legal-spec : {M : Type 1} → statement M
+are-legal-spec =
+    tie.close
+    (tie.spec
+    is-legal-requires
+    returns
+    is-legal-requires-2
+    returns-2
+    returns-3
+    present-places-requires
+    all-legal-requires
+    returns-4)

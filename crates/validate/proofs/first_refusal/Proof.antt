@@ -1,0 +1,49 @@
+use Rattle.validate.proofs.RefusalLaws.{earlier-passed, earlier-only, earlier-first, earlier-second}
+use borrow.Author.Needs.{needs}
+use Rattle.validate.proofs.first_refusal.Statement.{statement}
+use Rattle.validate.proofs.first_refusal.Tie as tie
+
+enum-known-a : tie.Need-enum-known-a
+enum-known-a c = search needs
+
+enum-told : tie.Need-enum-told
+enum-told c = search needs
+
+returns : tie.Need-returns
+returns c = earlier-passed _ _ (c .enum-told .given .1)
+
+enum-known-b : tie.Need-enum-known-b
+enum-known-b c = search needs
+
+enum-told-2 : tie.Need-enum-told-2
+enum-told-2 c = search needs
+
+returns-2 : tie.Need-returns-2
+returns-2 c = earlier-only _ _ _ (c .before .before .before .a .given .1) (c .enum-told2 .given .1)
+
+number-of-requires : tie.Need-number-of-requires
+number-of-requires c κs = search needs
+
+number-of-requires-2 : tie.Need-number-of-requires-2
+number-of-requires-2 c κs = search needs
+
+returns-3 : tie.Need-returns-3
+returns-3 c = earlier-first _ _ _ (c .before .before .before .before .before .before .before .a .given .1) _ (c .before .before .before .before .b .given .1) _ _ (c .before .before .number-of .ensures) (c .before .number-of2 .ensures) (c .if1 .taken)
+
+returns-4 : tie.Need-returns-4
+returns-4 c = earlier-second _ _ _ (c .before .before .before .before .before .before .before .a .given .1) _ (c .before .before .before .before .b .given .1) _ _ (c .before .before .number-of .ensures) (c .before .number-of2 .ensures) (c .if1 .left)
+
+pub first-refusal-spec : {M : Type 1} → statement M
+first-refusal-spec =
+    tie.close
+    (tie.spec
+    enum-known-a
+    enum-told
+    returns
+    enum-known-b
+    enum-told-2
+    returns-2
+    number-of-requires
+    number-of-requires-2
+    returns-3
+    returns-4)

@@ -1,0 +1,70 @@
+use mathlib.Core.Path.{refl}
+use Rattle.validate.proofs.ValidateBranches.{legal-if-ends, two-lists}
+use borrow.Author.Needs.{needs}
+use Rattle.validate.proofs.validate_lists.Statement.{statement}
+use Rattle.validate.proofs.validate_lists.Tie as tie
+
+slice-aggregate-e : tie.Need-slice-aggregate-e
+slice-aggregate-e c = search needs
+
+are-short-requires : tie.Need-are-short-requires
+are-short-requires c κs = search needs
+
+are-short-requires-2 : tie.Need-are-short-requires-2
+are-short-requires-2 c κs = search needs
+
+both-requires : tie.Need-both-requires
+both-requires c κs = search needs
+
+are-ends-requires : tie.Need-are-ends-requires
+are-ends-requires c κs = search needs
+
+are-ends-requires-2 : tie.Need-are-ends-requires-2
+are-ends-requires-2 c κs = search needs
+
+are-legal-requires : tie.Need-are-legal-requires
+are-legal-requires c κs = legal-if-ends _ _ _ _ (c .before .are-ends .ensures)
+
+are-legal-requires-2 : tie.Need-are-legal-requires-2
+are-legal-requires-2 c κs = legal-if-ends _ _ _ _ (c .before .are-ends2 .ensures)
+
+both-requires-2 : tie.Need-both-requires-2
+both-requires-2 c κs = search needs
+
+both-requires-3 : tie.Need-both-requires-3
+both-requires-3 c κs = search needs
+
+count-within-limit-requires : tie.Need-count-within-limit-requires
+count-within-limit-requires c κs = search needs
+
+count-within-limit-requires-2 : tie.Need-count-within-limit-requires-2
+count-within-limit-requires-2 c κs = search needs
+
+both-requires-4 : tie.Need-both-requires-4
+both-requires-4 c κs = search needs
+
+first-failed-requires : tie.Need-first-failed-requires
+first-failed-requires c κs = search needs
+
+returns : tie.Need-returns
+returns c = two-lists _ _ _ _ _ _ _ refl _ _ _ _ _ _ _ _ _ _ _ _ (c .before .before .before .before .before .before .before .before .before .before .before .before .are-short .ensures) (c .before .before .before .before .before .before .before .before .before .before .before .are-short2 .ensures) (c .before .before .before .before .before .before .before .before .before .before .both .ensures) (c .before .before .before .before .before .before .before .are-legal .ensures) (c .before .before .before .before .before .before .are-legal2 .ensures) (c .before .before .before .before .before .both2 .ensures) (c .before .before .before .before .before .before .before .before .before .are-ends .ensures) (c .before .before .before .before .before .before .before .before .are-ends2 .ensures) (c .before .before .before .before .both3 .ensures) (c .before .before .before .count-within-limit .ensures) (c .before .before .count-within-limit2 .ensures) (c .before .both4 .ensures) _ (c .first-failed .ensures)
+
+pub validate-lists-spec : {M : Type 1} → statement M
+validate-lists-spec =
+    tie.close
+    (tie.spec
+    slice-aggregate-e
+    are-short-requires
+    are-short-requires-2
+    both-requires
+    are-ends-requires
+    are-ends-requires-2
+    are-legal-requires
+    are-legal-requires-2
+    both-requires-2
+    both-requires-3
+    count-within-limit-requires
+    count-within-limit-requires-2
+    both-requires-4
+    first-failed-requires
+    returns)
