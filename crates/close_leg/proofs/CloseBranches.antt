@@ -183,7 +183,8 @@ module _ (mark : Bool) (l : List Pair) (g : LegTotals) (store : Text) (slots tab
       m = fromParts l mark
 
       pairs-are : pairsIn bytes kept w ≡ m .pairs
-      pairs-are = pairs-made bytes places n l mark few (omega (arith, held)) marked f room enough kept w c
+      unfolding fromParts
+      pairs-are = pairs-made canonicalize bytes places n l mark few (omega (arith, held)) marked f room enough kept w c
 
       count-is : w ≡ length (m .pairs)
       count-is = sym (pairsIn-length bytes kept w) ∙ ap length pairs-are
