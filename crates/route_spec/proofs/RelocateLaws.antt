@@ -1,4 +1,4 @@
--- Lemmas about the map of a relocate list: its ends are ends of the list, and none of its sources is empty.
+-- Lemmas about the map of a relocate list: its ends are ends of the list, and none of its sources is empty. Lemmas about closed legs.
 use mathlib.Core.Path.{_≡_, refl, sym, _∙_}
 use mathlib.Core.Bool.{Bool, true, false, not, cond, _&&_, _||_, false≢true}
 use mathlib.Core.List.{List, [], _∷_, _++_}
@@ -19,8 +19,9 @@ use Rattle.pair_list.specs.LongestMatch.{longestBy, matches, longestMatch}
 use Rattle.map_spec.specs.Map.{matchSource}
 use Rattle.map_spec.specs.New.{isRootPair, anyRootPair, withoutRootPairs, mapVia, isRedundant, canonicalize, fromParts, new}
 use Rattle.map_spec.proofs.DropLaws.{canonical-keeps}
-use Rattle.map_spec.proofs.EndLaws.{ends-target, all, all-more, undropped-pass, every-all, isFull, full-all, fromParts-keeps, fromParts-length}
+use Rattle.map_spec.proofs.EndLaws.{ends-target, all, all-more, undropped-pass, every-all, isFull, full-all, fromParts-keeps, fromParts-every, fromParts-length, new-ends}
 use Rattle.relocates.specs.Status.{isStructural, statusByte, occurrence, activePairs, rootPair, relocateMap}
+use Rattle.route_spec.specs.Leg.{legMap, legEnds, closedLeg, countedPairs}
 
 module _ (ok : Pair → Bool) where
   -- A test that each Active pair and `/`→`/` pass is passed by every pair of the map.
@@ -162,3 +163,24 @@ pub relocate-full : (l : List Pair) → allEnds l ≡ true → noEmptySource ((r
 relocate-full l e =
     full-all ((relocateMap l) .pairs)
     ∙ both-full ((relocateMap l) .pairs) (relocate-keeps fullOrGone l (active-loose l e) refl) (relocate-there l)
+
+-- A closed leg of either kind: its map is built from the counted pairs, with the mark for a relocate list.
+pub closed-parts : (relocates : Bool) (l : List Pair) → legMap (closedLeg relocates l) ≡ fromParts (countedPairs relocates l) relocates
+unfolding closedLeg legMap countedPairs new
+closed-parts false l = refl
+closed-parts true l = relocate-parts l
+
+pub closed-few : (relocates : Bool) (l : List Pair) → length ((legMap (closedLeg relocates l)) .pairs) ≤ length l
+unfolding closedLeg legMap new
+closed-few false l = fromParts-length l false
+closed-few true l = relocate-few l
+
+pub closed-short : (relocates : Bool) (l : List Pair) → allShort l ≡ true → allShort ((legMap (closedLeg relocates l)) .pairs) ≡ true
+unfolding closedLeg legMap new allShort
+closed-short false l = fromParts-every atMost255 l false
+closed-short true l = relocate-short l
+
+pub closed-ends : (relocates : Bool) (l : List Pair) → allEnds l ≡ true → legEnds (closedLeg relocates l) ≡ true
+unfolding closedLeg legEnds
+closed-ends false l = new-ends l
+closed-ends true l = λ e. e
