@@ -33,11 +33,12 @@ use Rattle.map_spec.proofs.EndLaws.{fromParts-length}
 use Rattle.map_canonical.proofs.KeepBranches.{pairs-made}
 use Rattle.map_function.proofs.NewBranches.{fromParts-bytes}
 use Rattle.relocates.specs.Status.{activePairs}
-use Rattle.route_spec.proofs.RelocateLaws.{active-few}
+use Rattle.route_spec.specs.Leg.{countedPairs}
+use Rattle.route_spec.proofs.RelocateLaws.{active-few, closed-parts}
 use Rattle.close_leg.specs.declared.LegTotals.{LegTotals}
 use Rattle.close_leg.specs.declared.Closed.{Closed}
 use Rattle.close_leg.specs.declared.Closed.the-variants.{Done, Refused}
-use Rattle.close_leg.specs.Close.{countedPairs, LegStore, legStore, storeHasLegRoom, storeHasByteRoom, validateClose, withLeg, closedStore, closedReply, closeListReply, closeListStore, validateCloseOf, closeReply, closeStore}
+use Rattle.close_leg.specs.Close.{LegStore, legStore, storeHasLegRoom, storeHasByteRoom, validateClose, withLeg, closedStore, closedReply, closeListReply, closeListStore, validateCloseOf, closeReply, closeStore}
 
 -- `has_leg_room`
 module _ (g : LegTotals) (slots table : List ℕ) where
@@ -183,7 +184,8 @@ module _ (mark : Bool) (l : List Pair) (g : LegTotals) (store : Text) (slots tab
       m = fromParts l mark
 
       pairs-are : pairsIn bytes kept w ≡ m .pairs
-      pairs-are = pairs-made bytes places n l mark few (omega (arith, held)) marked f room enough kept w c
+      unfolding fromParts
+      pairs-are = pairs-made canonicalize bytes places n l mark few (omega (arith, held)) marked f room enough kept w c
 
       count-is : w ≡ length (m .pairs)
       count-is = sym (pairsIn-length bytes kept w) ∙ ap length pairs-are
@@ -253,7 +255,7 @@ module _ (relocates : Bool) (bytes : Text) (places : List ℕ) (n : ℕ) (v : Le
         → (r ≡ closeListReply l v) × ((store ≡ (closeListStore mark l v) .store) × ((slots ≡ (closeListStore mark l v) .slots) × (table ≡ (closeListStore mark l v) .table)))
         → Shuts r store slots table
     unfolding closeReply closeStore validateCloseOf closeListReply closeListStore
-    close-as mark k l f r store slots table g = rw (k, counts, ← f) g
+    close-as mark k l f r store slots table g = rw (k, counts, closed-parts mark (pairsOf lent), ← f) g
 
 -- The pairs of either kind of leg.
 module _ (bytes : Text) (places : List ℕ) (n : ℕ) where

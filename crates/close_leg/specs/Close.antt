@@ -1,7 +1,7 @@
 -- Closing the open list as a leg, in lent memory: the reply, and every byte and entry after the call, for any contents of the buffers. All
 -- legs share one byte store; each has a block of 256 place entries and three numbers in the table, in the layout of crates/route_legs.
 use Prim.Native.Nat.{ℕ, suc, _+_, _*_}
-use mathlib.Core.Bool.{Bool, true, false, cond, _&&_}
+use mathlib.Core.Bool.{Bool, cond, _&&_}
 use mathlib.Core.List.{List, [], _∷_}
 use lib.Dec.{leb}
 use lib.ListN.{length}
@@ -16,21 +16,14 @@ use Rattle.refusal.specs.Refusal.{refusedOr}
 use Rattle.validate.specs.Validate.{LentList, pairsOf, countWithinLimit}
 use Rattle.map_spec.specs.Map.{Map}
 use Rattle.map_spec.specs.New.{fromParts}
-use Rattle.relocates.specs.Status.{activePairs}
+use Rattle.route_spec.specs.Leg.{legMap, closedLeg, countedPairs}
 use Rattle.close_leg.specs.declared.LegTotals.{LegTotals}
 use Rattle.close_leg.specs.declared.Closed.{Closed}
 use Rattle.close_leg.specs.declared.Closed.the-variants.{Done, Refused}
 
--- The pairs that the leg's map is built from, whose ends count before redundant pairs are dropped: all pairs of a map leg, "a relocate leg
--- by its Active pairs".
-unfoldable pub countedPairs : Bool → List Pair → List Pair
-unfolding activePairs
-countedPairs false l = l
-countedPairs true l = activePairs l (length l)
-
--- The leg's map; the map of a relocate leg has the mark.
+-- The leg's map.
 abbrev pub closedMap : Bool → List Pair → Map
-closedMap relocates l = fromParts (countedPairs relocates l) relocates
+closedMap relocates l = legMap (closedLeg relocates l)
 
 -- The leg store: the closed legs in lent memory, as their number and bytes, the byte store, the places and the table.
 pub record LegStore : Type 0 where
@@ -107,5 +100,5 @@ closeReply relocates l v = closedReply (validateCloseOf relocates l v) (v .legs)
 
 -- The leg store after a call that closes the open list.
 unfoldable pub closeStore : Bool → LentList → LegStore → LegStore
-unfolding validateCloseOf closedStore fromParts endBytes
+unfolding validateCloseOf closedStore legMap closedLeg endBytes
 closeStore relocates l v = closedStore (validateCloseOf relocates l v) v (closedMap relocates (pairsOf l)) (endBytes (countedPairs relocates (pairsOf l)))

@@ -26,7 +26,8 @@ use Rattle.map_spec.specs.Map.{Map}
 use Rattle.close_leg.specs.declared.LegTotals.{LegTotals}
 use Rattle.close_leg.specs.declared.Closed.{Closed}
 use Rattle.close_leg.specs.declared.Closed.the-variants.{Done as DoneClose, Refused as RefusedClose}
-use Rattle.close_leg.specs.Close.{countedPairs, closedMap, withOneLeg, closedReply, closedStore, validateCloseOf, closeReply, closeStore}
+use Rattle.route_spec.specs.Leg.{countedPairs}
+use Rattle.close_leg.specs.Close.{closedMap, withOneLeg, closedReply, closedStore, validateCloseOf, closeReply, closeStore}
 use Rattle.frames_memory.specs.declared.Counters.{Counters}
 use Rattle.frames_memory.specs.Memory.{FramesMemory, framesMemory, openListOf, legStoreOf, emptyOpenList, addAfter, addIn, closeAfter, closeIn}
 use Rattle.frame_apply.specs.declared.Effect.{Effect}

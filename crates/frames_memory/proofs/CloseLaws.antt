@@ -1,26 +1,24 @@
 -- Lemmas about closing a leg: the buffers change as the state does.
 use mathlib.Core.Path.{_≡_, refl, sym, ap, subst}
 use mathlib.Core.Bool.{Bool, true, false, cond, _&&_}
-use mathlib.Core.List.{List, [], _∷_, map, map-append}
+use mathlib.Core.List.{[], _∷_, map, map-append}
 use Prim.Native.Nat.{ℕ, suc, _+_, _*_, _≤_}
 use native.Mathlib.Omega.{arith}
 use lib.Dec.{leb}
 use lib.ListN.{length, length-append}
 use borrow.Author.Tests.{le-leb, lt-leb, leb-true, leb-false}
-use Rattle.path_grammar.specs.Legal.{atMost255}
-use Rattle.pair_list.specs.Pair.{Pair, allEnds, allShort}
+use Rattle.pair_list.specs.Pair.{allEnds, allShort}
 use Rattle.pair_list.specs.Places.{listText, listPlaces, endBytes}
 use Rattle.pair_list.proofs.ListLaws.{list-length, places-length}
 use Rattle.refusal.specs.declared.Refusal.the-variants.{TooMany, NoRoom}
 use Rattle.refusal.specs.declared.Validation.{Validation}
 use Rattle.refusal.specs.declared.Validation.the-variants.{Passed, Refused}
-use Rattle.map_spec.specs.New.{new}
-use Rattle.map_spec.proofs.EndLaws.{fromParts-every, new-ends, fromParts-length}
 use Rattle.map_function.proofs.NewBranches.{fromParts-bytes}
-use Rattle.route_spec.specs.Leg.{Leg, by-map, by-relocates, legMap}
-use Rattle.route_spec.proofs.RelocateLaws.{relocate-ends, relocate-short, relocate-parts, relocate-few}
-use Rattle.close_leg.specs.Close.{LegStore, countedPairs, closedMap, storeHasLegRoom, storeHasByteRoom, validateClose, legEntry, withLeg, closedStore, validateCloseOf, closeStore}
-use Rattle.frames_spec.specs.State.{State, refuse, hasLegRoom, hasByteRoom, withClosedLeg, closeList}
+use Rattle.route_spec.specs.Leg.{Leg, legMap, closedLeg, countedPairs}
+use Rattle.route_spec.proofs.Theorem.{map-ends}
+use Rattle.route_spec.proofs.RelocateLaws.{closed-parts, closed-few, closed-short, closed-ends}
+use Rattle.close_leg.specs.Close.{LegStore, storeHasLegRoom, storeHasByteRoom, validateClose, legEntry, withLeg, closedStore, validateCloseOf, closeStore}
+use Rattle.frames_spec.specs.State.{State, refuse, hasLegRoom, hasByteRoom, withClosedLeg, closeList, closeOpened}
 use Rattle.frames_memory.specs.Memory.{FramesMemory, openListOf, legStoreOf, closeAfter, closeIn}
 use Rattle.frames_memory.specs.Represents.{LargeEnough, Represents, SameStep}
 use Rattle.frames_memory.proofs.LegLaws.{Room, legs-more}
@@ -55,13 +53,25 @@ module _ (m : FramesMemory) (st : State) (g : Represents m st) where
           rw (le-leb (m .kept .legs .bytes + n) 32768 l, le-leb (m .kept .legs .bytes + n) (length (m .store)) (omega (arith, g .large .store))) refl
       go false h = rw (lt-leb (m .kept .legs .bytes + n) 32768 (omega (arith, g .used, leb-false (st .used + n) 32768 h))) refl
 
-  module _ (relocates : Bool) (x : Leg) (e : legMap x ≡ closedMap relocates (st .opened)) (few : length ((legMap x) .pairs) ≤ 64)
-      (ends : allEnds ((legMap x) .pairs) ≡ true) (short : allShort ((legMap x) .pairs) ≡ true) where
+  -- Closing as a relocate leg if the flag is set, otherwise as a map leg.
+  module _ (relocates : Bool) where
+    abbrev x : Leg
+    x = closedLeg relocates (st .opened)
+
     abbrev n : ℕ
     n = endBytes (countedPairs relocates (st .opened))
 
+    few : length ((legMap x) .pairs) ≤ 64
+    few = omega (arith, closed-few relocates (st .opened), g .within .pairs)
+
+    ends : allEnds ((legMap x) .pairs) ≡ true
+    ends = map-ends x (closed-ends relocates (st .opened) (g .ends))
+
+    short : allShort ((legMap x) .pairs) ≡ true
+    short = closed-short relocates (st .opened) (g .short)
+
     size : endBytes ((legMap x) .pairs) ≤ n
-    size = rw e (fromParts-bytes (countedPairs relocates (st .opened)) relocates)
+    size = rw (closed-parts relocates (st .opened)) (fromParts-bytes (countedPairs relocates (st .opened)) relocates)
 
     close-validated : validateCloseOf relocates (openListOf m) (legStoreOf m) ≡ replied (hasLegRoom st) (hasByteRoom st n)
     unfolding validateCloseOf validateClose
@@ -69,7 +79,7 @@ module _ (m : FramesMemory) (st : State) (g : Represents m st) where
 
     close-store : closeStore relocates (openListOf m) (legStoreOf m) ≡ closedStore (replied (hasLegRoom st) (hasByteRoom st n)) (legStoreOf m) (legMap x) n
     unfolding closeStore
-    close-store = rw (close-validated, open-read m st g, e) refl
+    close-store = rw (close-validated, open-read m st g) refl
 
     module _ (h : hasLegRoom st ≡ true) (i : hasByteRoom st n ≡ true) where
       one-more : suc k ≤ 16
@@ -117,7 +127,7 @@ module _ (m : FramesMemory) (st : State) (g : Represents m st) where
         large = still-large;
       }
 
-    same-close : SameStep (closeIn relocates m) (closeList st x n)
+    pub same-close : SameStep (closeIn relocates m) (closeOpened relocates st)
     unfolding closeIn closeList closedStore after
     same-close =
         subst (λ (a : Validation). SameStep (closeAfter a m (closeStore relocates (openListOf m) (legStoreOf m))) (closeList st x n)) (sym close-validated)
@@ -129,18 +139,3 @@ module _ (m : FramesMemory) (st : State) (g : Represents m st) where
         go true h true i = record { answers = refl; holds = holds-more h i }
         go true h false i = record { answers = refl; holds = g }
         go false h b i = record { answers = refl; holds = g }
-
-  abbrev l : List Pair
-  l = st .opened
-
-  -- Closing as a map leg.
-  pub same-map : SameStep (closeIn false m) (closeList st (by-map (new l)) (endBytes l))
-  unfolding legMap countedPairs new allShort
-  same-map =
-      same-close false (by-map (new l)) refl (omega (arith, fromParts-length l false, g .within .pairs)) (new-ends l (g .ends)) (fromParts-every atMost255 l false (g .short))
-
-  -- Closing as a relocate leg.
-  pub same-relocates : SameStep (closeIn true m) (closeList st (by-relocates l) (endBytes (countedPairs true l)))
-  unfolding legMap countedPairs
-  same-relocates =
-      same-close true (by-relocates l) (relocate-parts l) (omega (arith, relocate-few l, g .within .pairs)) (relocate-ends l (g .ends)) (relocate-short l (g .short))

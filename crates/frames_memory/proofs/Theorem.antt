@@ -15,7 +15,6 @@ use Rattle.pair_list.specs.Pair.{Pair, allEnds, allShort}
 use Rattle.pair_list.specs.Places.{listText, listPlaces, endBytes}
 use Rattle.refusal.specs.Outcome.{Outcome}
 use Rattle.relocates.specs.Status.{statusList}
-use Rattle.close_leg.specs.Close.{countedPairs}
 use Rattle.frames_spec.specs.Frame.{Frame, pair, statuses, close-map, close-relocates, out, home, count, kind}
 use Rattle.frames_spec.specs.State.{State, Answer, success, answerBytes, outcomeAnswer, initialState, routePath, countOutcome, answerOut, bigEndian32, stepFrame}
 use Rattle.frames_spec.specs.Run.{nextState, answerFrame}
@@ -25,7 +24,7 @@ use Rattle.frames_memory.specs.Represents.{LargeEnough, Represents, Same
 use Rattle.frames_memory.proofs.RouteLaws.{same-routes}
 use Rattle.frames_memory.proofs.ValidateLaws.{open-read, list-passes}
 use Rattle.frames_memory.proofs.AddLaws.{same-add}
-use Rattle.frames_memory.proofs.CloseLaws.{same-map, same-relocates}
+use Rattle.frames_memory.proofs.CloseLaws.{same-close}
 
 begins : (m : FramesMemory) → LargeEnough m → m .kept ≡ initialCounters → Represents m initialState
 unfolding allEnds allShort listText listPlaces endBytes
@@ -64,11 +63,11 @@ module _ (m : FramesMemory) (st : State) (g : Represents m st) where
   }
 
   steps : (f : Frame) → SameStep (stepFrameIn m f) (stepFrame st f)
-  unfolding stepFrameIn stepFrame countedPairs
+  unfolding stepFrameIn stepFrame
   steps (pair s t) = same-add m st g s t
   steps statuses = record { answers = same-statuses; holds = g }
-  steps close-map = same-map m st g
-  steps close-relocates = same-relocates m st g
+  steps close-map = same-close m st g false
+  steps close-relocates = same-close m st g true
   steps (out p) = rw (same-routes m st g false p) (same-count (routePath false st p))
   steps (home p) = record { answers = ap outcomeAnswer (same-routes m st g true p); holds = g }
   steps count = record { answers = ap (λ (n : ℕ). success (bigEndian32 n)) (g .outs); holds = g }

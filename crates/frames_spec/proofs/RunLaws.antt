@@ -22,15 +22,13 @@ use Rattle.refusal.specs.Outcome.{Outcome, path, refused}
 use Rattle.path.specs.Calls.{pathNewCall}
 use Rattle.validate.specs.Validate.{validateCall}
 use Rattle.validate.proofs.PassedLaws.{text-end, second-end}
-use Rattle.map_spec.specs.New.{new}
 use Rattle.map_spec.specs.Leg.{SelectionFreePath}
-use Rattle.map_spec.proofs.EndLaws.{new-ends}
-use Rattle.relocates.specs.Status.{activePairs}
-use Rattle.route_spec.specs.Leg.{Leg, by-map, by-relocates, legEnds}
+use Rattle.route_spec.specs.Leg.{Leg, legEnds, closedLeg, countedPairs}
 use Rattle.route_spec.specs.Route.{routeEnds, runRoute}
 use Rattle.route_spec.proofs.Theorem.{round-trip, run-next}
+use Rattle.route_spec.proofs.RelocateLaws.{closed-ends}
 use Rattle.frames_spec.specs.Frame.{Frame, pair, statuses, close-map, close-relocates, out, home, count}
-use Rattle.frames_spec.specs.State.{State, initialState, success, refusal, refuse, hasPairRoom, withPair, addPair, hasLegRoom, hasByteRoom, withClosedLeg, closeList, routePath, outcomeAnswer, countUp, countOutcome, answerOut, bigEndian32, stepFrame}
+use Rattle.frames_spec.specs.State.{State, initialState, success, refusal, refuse, hasPairRoom, withPair, addPair, hasLegRoom, hasByteRoom, withClosedLeg, closeList, closeOpened, routePath, outcomeAnswer, countUp, countOutcome, answerOut, bigEndian32, stepFrame}
 use Rattle.frames_spec.specs.Run.{nextState, stateAfterFrames, countIfPath, countOut, countOuts, saturate32, WithinLimits, RunTheorems}
 use Rattle.route_spec.proofs.RouteLaws.{legs-more}
 use Rattle.path.proofs.PathLaws.{new-passed}
@@ -124,13 +122,17 @@ saturated-most n = go (leb n 4294967295) refl
 counts-few : (o : Outcome) (n : ℕ) → n ≤ 4294967295 → countOutcome o n ≤ 4294967295
 counts-few o n h = rw (counts-saturated o n h) (saturated-most (n + countIfPath o))
 
+closed-keeps : (relocates : Bool) (st : State) → Kept st → Kept ((closeOpened relocates st) .state)
+closed-keeps relocates st k =
+    closes-keeps st (closedLeg relocates (st .opened)) (endBytes (countedPairs relocates (st .opened))) (closed-ends relocates (st .opened) (k .ends)) k
+
 next-keeps : (st : State) (f : Option Frame) → Kept st → Kept (nextState stepFrame st f)
-unfolding stepFrame legEnds
+unfolding stepFrame
 next-keeps st none k = k
 next-keeps st (some (pair s t)) k = adds-keeps st s t k
 next-keeps st (some statuses) k = k
-next-keeps st (some close-map) k = closes-keeps st (by-map (new (st .opened))) (endBytes (st .opened)) (new-ends (st .opened) (k .ends)) k
-next-keeps st (some close-relocates) k = closes-keeps st (by-relocates (st .opened)) (endBytes (activePairs (st .opened) (length (st .opened)))) (k .ends) k
+next-keeps st (some close-map) k = closed-keeps false st k
+next-keeps st (some close-relocates) k = closed-keeps true st k
 next-keeps st (some (out p)) k = record { ends = k .ends; leg-ends = k .leg-ends; few = counts-few (routePath false st p) (st .outs) (k .few); within = record { pairs = k .within .pairs; legs = k .within .legs; bytes = k .within .bytes } }
 next-keeps st (some (home p)) k = k
 next-keeps st (some count) k = k
@@ -158,6 +160,9 @@ closes-same st x n = go (hasLegRoom st) (hasByteRoom st n)
     go true false = refl
     go false b = refl
 
+closed-same : (relocates : Bool) (st : State) → (closeOpened relocates st) .state .outs ≡ st .outs
+closed-same relocates st = closes-same st (closedLeg relocates (st .opened)) (endBytes (countedPairs relocates (st .opened)))
+
 next-counts : (st : State) (f : Option Frame) → st .outs ≤ 4294967295 → (nextState stepFrame st f) .outs ≡ saturate32 (st .outs + countOut st f)
 unfolding stepFrame
 next-counts st f h = go f
@@ -169,8 +174,8 @@ next-counts st f h = go f
     go none = still
     go (some (pair s t)) = adds-same st s t ∙ still
     go (some statuses) = still
-    go (some close-map) = closes-same st (by-map (new (st .opened))) (endBytes (st .opened)) ∙ still
-    go (some close-relocates) = closes-same st (by-relocates (st .opened)) (endBytes (activePairs (st .opened) (length (st .opened)))) ∙ still
+    go (some close-map) = closed-same false st ∙ still
+    go (some close-relocates) = closed-same true st ∙ still
     go (some (out p)) = counts-saturated (routePath false st p) (st .outs) h
     go (some (home p)) = still
     go (some count) = still
@@ -247,6 +252,9 @@ closes-still st l n x = go (hasLegRoom st) (hasByteRoom st n)
     go true false e = refl
     go false b e = refl
 
+closed-still : (relocates : Bool) (st : State) (x : Refusal) → (closeOpened relocates st) .answer ≡ refusal x → (closeOpened relocates st) .state ≡ st
+closed-still relocates st x = closes-still st (closedLeg relocates (st .opened)) (endBytes (countedPairs relocates (st .opened))) x
+
 out-still : (st : State) (o : Outcome) (x : Refusal) → (answerOut st o) .answer ≡ refusal x → (answerOut st o) .state ≡ st
 out-still st (path q) x e = absurd (success-refused q x e)
 out-still st (refused y) x e = refl
@@ -255,8 +263,8 @@ still : (st : State) (f : Frame) (x : Refusal) → (stepFrame st f) .answer ≡ 
 unfolding stepFrame
 still st (pair s t) x = adds-still st s t x
 still st statuses x = λ e. refl
-still st close-map x = closes-still st (by-map (new (st .opened))) (endBytes (st .opened)) x
-still st close-relocates x = closes-still st (by-relocates (st .opened)) (endBytes (activePairs (st .opened) (length (st .opened)))) x
+still st close-map x = closed-still false st x
+still st close-relocates x = closed-still true st x
 still st (out p) x = out-still st (routePath false st p) x
 still st (home p) x = λ e. refl
 still st count x = λ e. refl

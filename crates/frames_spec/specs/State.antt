@@ -13,9 +13,8 @@ use Rattle.refusal.specs.Refusal.{refusalNumber, refusedOr}
 use Rattle.refusal.specs.Outcome.{Outcome, path, refused}
 use Rattle.path.specs.Calls.{pathNewCall}
 use Rattle.validate.specs.Validate.{validateCall}
-use Rattle.map_spec.specs.New.{new}
-use Rattle.relocates.specs.Status.{activePairs, statusList}
-use Rattle.route_spec.specs.Leg.{Leg, by-map, by-relocates}
+use Rattle.relocates.specs.Status.{statusList}
+use Rattle.route_spec.specs.Leg.{Leg, closedLeg, countedPairs}
 use Rattle.route_spec.specs.Route.{runRoute}
 use Rattle.frames_spec.specs.Frame.{Frame, pair, statuses, close-map, close-relocates, out, home, count}
 
@@ -79,9 +78,14 @@ hasByteRoom st n = leb (st .used + n) 32768
 abbrev pub withClosedLeg : State → Leg → ℕ → Transition State
 withClosedLeg st x n = record { state = record { opened = []; legs = st .legs ++ x ∷ []; used = st .used + n; outs = st .outs }; answer = success [] }
 
--- The step of an 03 or 04 frame. Requirements: "An accepted close empties the open list; a refused one changes nothing."
+-- The step of a close, with the leg and the length of its ends. Requirements: "An accepted close empties the open list; a refused one
+-- changes nothing."
 unfoldable pub closeList : State → Leg → ℕ → Transition State
 closeList st x n = cond (hasLegRoom st) (cond (hasByteRoom st n) (withClosedLeg st x n) (refuse st NoRoom)) (refuse st TooMany)
+
+-- The step of an 04 frame if the flag is set, otherwise of an 03 frame: the open list is closed as a relocate list or as a map.
+abbrev pub closeOpened : Bool → State → Transition State
+closeOpened relocates st = closeList st (closedLeg relocates (st .opened)) (endBytes (countedPairs relocates (st .opened)))
 
 -- The outcome of an 05 or 06 frame: questions 1 and 2 for the path, then the route over the legs, home if `back` is set.
 unfoldable pub routePath : Bool → State → Text → Outcome
@@ -113,11 +117,11 @@ bigEndian32 n = n / 16777216 % 256 ∷ n / 65536 % 256 ∷ n / 256 % 256 ∷ n %
 
 -- The step of each frame.
 unfoldable pub stepFrame : State → Frame → Transition State
-unfolding addPair closeList routePath new activePairs endBytes statusList
+unfolding addPair closeList closedLeg countedPairs routePath endBytes statusList
 stepFrame st (pair s t) = addPair st s t
 stepFrame st statuses = record { state = st; answer = success (statusList (st .opened) (length (st .opened))) }
-stepFrame st close-map = closeList st (by-map (new (st .opened))) (endBytes (st .opened))
-stepFrame st close-relocates = closeList st (by-relocates (st .opened)) (endBytes (activePairs (st .opened) (length (st .opened))))
+stepFrame st close-map = closeOpened false st
+stepFrame st close-relocates = closeOpened true st
 stepFrame st (out p) = answerOut st (routePath false st p)
 stepFrame st (home p) = record { state = st; answer = outcomeAnswer (routePath true st p) }
 stepFrame st count = record { state = st; answer = success (bigEndian32 (st .outs)) }

@@ -30,7 +30,7 @@ use Rattle.pair_list_write.proofs.WriteBranches.{source-key, target-key}
 use Rattle.validate.specs.Validate.{lentList, countWithinLimit}
 use Rattle.validate.specs.Select.{canSelect, pairsIfSelectable}
 use Rattle.map_spec.specs.Map.{Map, lentMap, mapSource, mapTarget}
-use Rattle.map_spec.specs.New.{isRootPair, anyRootPair, withoutRootPairs, mapViaPair, mapVia, isSomeText, isRedundant, canonicalize, fromParts}
+use Rattle.map_spec.specs.New.{isRootPair, anyRootPair, withoutRootPairs, mapViaPair, mapVia, isSomeText, isRedundant, fromPartsBy}
 use Rattle.map_spec.proofs.LentLaws.{matched-long, out-keys, ends-by}
 use Rattle.map_canonical.specs.Canonical.{sourceElements, maxElements, HoldsElementCounts, keepsPair}
 use Rattle.pair_list.proofs.LongestMatchLaws.{served}
@@ -167,13 +167,13 @@ module _ (store : Text) (kept : List ℕ) (n : ℕ) (mark : Bool) (s t : Text) (
     implied-mark l r m = m ∙ sym (implied-by none left-out ∙ rw (not-false mark l) refl)
 
 -- Lemmas for `keep_pair`.
-module _ (store : Text) (places : List ℕ) (i key e : ℕ) (mark : Bool) (kept : List ℕ) (w : ℕ) where
+module _ (store : Text) (places : List ℕ) (i key e : ℕ) (implies : Map → Pair → Bool) (mark : Bool) (kept : List ℕ) (w : ℕ) where
   abbrev pair : Pair
   pair = pairIn store places i
 
   abbrev Leaves : ℕ → List ℕ → Type 0
   Leaves r kept′ =
-      (r ≡ cond (keepsPair store places i key e mark kept w) (w + 1) w) × (kept′ ≡ cond (keepsPair store places i key e mark kept w) (copyEntry places i w kept) kept)
+      (r ≡ cond (keepsPair implies store places i key e mark kept w) (w + 1) w) × (kept′ ≡ cond (keepsPair implies store places i key e mark kept w) (copyEntry places i w kept) kept)
 
   pub pair-other : key ≢ e → Leaves w kept
   unfolding keepsPair
@@ -185,11 +185,11 @@ module _ (store : Text) (places : List ℕ) (i key e : ℕ) (mark : Bool) (kept 
     pair-roots l = rw (eq-eqb key e k, told r l) (refl, refl)
 
     module _ (l : b ≡ false) (s t : Text) (f : s ≡ keyAt store places false i) (g : t ≡ keyAt store places true i) (c : Bool)
-        (m : c ≡ isRedundant (lentMap store kept w mark) (record { source = s; target = t })) where
-      keeps-unless : keepsPair store places i key e mark kept w ≡ not c
+        (m : c ≡ implies (lentMap store kept w mark) (record { source = s; target = t })) where
+      keeps-unless : keepsPair implies store places i key e mark kept w ≡ not c
       unfolding keepsPair
       keeps-unless =
-          let z : c ≡ isRedundant (lentMap store kept w mark) pair = m ∙ ap (λ (x : Pair). isRedundant (lentMap store kept w mark) x) (pair-is store places i s t f g) in
+          let z : c ≡ implies (lentMap store kept w mark) pair = m ∙ ap (λ (x : Pair). implies (lentMap store kept w mark) x) (pair-is store places i s t f g) in
           rw (eq-eqb key e k, told r l, ← z) refl
 
       pub pair-implied : c ≡ true → Leaves w kept
@@ -202,10 +202,10 @@ module _ (store : Text) (places : List ℕ) (i key e : ℕ) (mark : Bool) (kept 
 pub marked-so : (mark any r : Bool) → mark ≡ false → r ≡ any → r ≡ (mark || any)
 marked-so mark any r h e = rw h e
 
--- For at most 64 pairs that the slice holds, `canonical_places` writes the pairs of the map.
-pub pairs-made : (store : Text) (places : List ℕ) (n : ℕ) (l : List Pair) (mark : Bool) → n ≤ 64 → n ≤ length places / 4 → (marked : Bool) → marked ≡ (mark || anyRootPair l)
-    → (room : ℕ) → room ≡ 256 → (kept : List ℕ) (w : ℕ) → pairsIn store kept w ≡ pairsIfSelectable (lentList store places n) room (canonicalize marked (withoutRootPairs l))
-    → pairsIn store kept w ≡ (fromParts l mark) .pairs
-unfolding pairsIfSelectable canSelect countWithinLimit fromParts
-pairs-made store places n l mark few held marked f room enough kept w c =
-    c ∙ rw (le-leb n 64 few, le-leb n (length places / 4) held, le-leb 256 room (omega (arith, enough))) (ap (λ (b : Bool). canonicalize b (withoutRootPairs l)) f)
+-- For at most 64 pairs that the slice holds, the selected pairs are those of the map, for any canonical form.
+pub pairs-made : (form : Bool → List Pair → List Pair) (store : Text) (places : List ℕ) (n : ℕ) (l : List Pair) (mark : Bool) → n ≤ 64 → n ≤ length places / 4 → (marked : Bool) → marked ≡ (mark || anyRootPair l)
+    → (room : ℕ) → room ≡ 256 → (kept : List ℕ) (w : ℕ) → pairsIn store kept w ≡ pairsIfSelectable (lentList store places n) room (form marked (withoutRootPairs l))
+    → pairsIn store kept w ≡ (fromPartsBy form l mark) .pairs
+unfolding pairsIfSelectable canSelect countWithinLimit
+pairs-made form store places n l mark few held marked f room enough kept w c =
+    c ∙ rw (le-leb n 64 few, le-leb n (length places / 4) held, le-leb 256 room (omega (arith, enough))) (ap (λ (b : Bool). form b (withoutRootPairs l)) f)

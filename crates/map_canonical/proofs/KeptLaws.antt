@@ -14,10 +14,12 @@ use Rattle.pair_list_write.specs.Select.{indicesWhere, HoldsEntries, selectedPa
 use Rattle.pair_list_write.proofs.SelectLaws.{passing-few, selected-read}
 use Rattle.validate.specs.Validate.{lentList}
 use Rattle.validate.specs.Select.{canSelect, pairsIfSelectable}
-use Rattle.map_spec.specs.New.{isRootPair, withoutRootPairs, isRedundant, dropRedundant, canonicalize}
+use Rattle.map_spec.specs.Map.{Map}
+use Rattle.map_spec.specs.New.{isRootPair, withoutRootPairs, isRedundant, dropRedundant, sortAndDrop, canonicalize}
+use Rattle.map_spec.proofs.DropLaws.{canonical-keeps}
 use Rattle.map_canonical.specs.ByKey.{byKey}
-use Rattle.map_canonical.specs.Canonical.{sourceElements, maxElements, nonRootPairs, keptIndices, canonicalIndices, canonicalSelection}
-use Rattle.map_canonical.proofs.LevelLaws.{key, Below, sorted-levels, levels-map, noRoots-append, canonical-keeps}
+use Rattle.map_canonical.specs.Canonical.{sourceElements, maxElements, nonRootPairs, keptIndices, canonicalIndices, keptSelection, canonicalSelection}
+use Rattle.map_canonical.proofs.LevelLaws.{key, Below, sorted-levels, levels-map, noRoots-append}
 
 below-snoc : (e : ℕ) (l : List Pair) (x : Pair) → Below e l → elementCount (x .source) < e → Below e (l ++ x ∷ [])
 unfolding Below
@@ -65,52 +67,59 @@ module _ (store : Text) (places : List ℕ) where
   all-below (suc n) top f =
       below-snoc (suc top) (pairsIn store places n) (pairIn store places n) (all-below n top (λ i h. f i (omega arith))) (omega (arith, f n (omega arith)))
 
-  module _ (mark : Bool) where
+  -- For any test of which pairs are redundant.
+  module _ (implies : Map → Pair → Bool) (mark : Bool) where
     -- Selecting from a concatenation is selecting from its parts one after another.
-    pub kept-append : (k a b : List ℕ) → keptIndices store places mark k (a ++ b) ≡ keptIndices store places mark (keptIndices store places mark k a) b
+    pub kept-append : (k a b : List ℕ) → keptIndices implies store places mark k (a ++ b) ≡ keptIndices implies store places mark (keptIndices implies store places mark k a) b
     unfolding keptIndices
     kept-append k [] b = refl
-    kept-append k (i ∷ a) b = kept-append (cond (isRedundant (record { pairs = selectedPairs store places k; mark = mark }) (pairIn store places i)) k (k ++ i ∷ [])) a b
+    kept-append k (i ∷ a) b = kept-append (cond (implies (record { pairs = selectedPairs store places k; mark = mark }) (pairIn store places i)) k (k ++ i ∷ [])) a b
 
-    pub kept-few : (k a : List ℕ) → length (keptIndices store places mark k a) ≤ length k + length a
+    pub kept-few : (k a : List ℕ) → length (keptIndices implies store places mark k a) ≤ length k + length a
     unfolding keptIndices
     kept-few k [] = omega arith
-    kept-few k (i ∷ a) = go (isRedundant (record { pairs = selectedPairs store places k; mark = mark }) (pairIn store places i)) (λ j. kept-few j a)
+    kept-few k (i ∷ a) = go (implies (record { pairs = selectedPairs store places k; mark = mark }) (pairIn store places i)) (λ j. kept-few j a)
       where
-        go : (t : Bool) → ((j : List ℕ) → length (keptIndices store places mark j a) ≤ length j + length a) → length (keptIndices store places mark (cond t k (k ++ i ∷ [])) a) ≤ length k + suc (length a)
+        go : (t : Bool) → ((j : List ℕ) → length (keptIndices implies store places mark j a) ≤ length j + length a) → length (keptIndices implies store places mark (cond t k (k ++ i ∷ [])) a) ≤ length k + suc (length a)
         go true ih = omega (arith, ih k)
         go false ih = omega (arith, ih (k ++ i ∷ []), length-append k (i ∷ []))
 
-    kept-read : (k a : List ℕ) → selectedPairs store places (keptIndices store places mark k a) ≡ dropRedundant mark (selectedPairs store places k) (selectedPairs store places a)
+    kept-read : (k a : List ℕ) → selectedPairs store places (keptIndices implies store places mark k a) ≡ dropRedundant implies mark (selectedPairs store places k) (selectedPairs store places a)
     unfolding keptIndices dropRedundant
     kept-read k [] = refl
-    kept-read k (i ∷ a) = go (isRedundant (record { pairs = selectedPairs store places k; mark = mark }) (pairIn store places i)) (λ j. kept-read j a)
+    kept-read k (i ∷ a) = go (implies (record { pairs = selectedPairs store places k; mark = mark }) (pairIn store places i)) (λ j. kept-read j a)
       where
         x : Pair
         x = pairIn store places i
 
-        go : (t : Bool) → ((j : List ℕ) → selectedPairs store places (keptIndices store places mark j a) ≡ dropRedundant mark (selectedPairs store places j) (selectedPairs store places a))
-            → selectedPairs store places (keptIndices store places mark (cond t k (k ++ i ∷ [])) a) ≡ dropRedundant mark (cond t (selectedPairs store places k) (selectedPairs store places k ++ x ∷ [])) (selectedPairs store places a)
+        go : (t : Bool) → ((j : List ℕ) → selectedPairs store places (keptIndices implies store places mark j a) ≡ dropRedundant implies mark (selectedPairs store places j) (selectedPairs store places a))
+            → selectedPairs store places (keptIndices implies store places mark (cond t k (k ++ i ∷ [])) a) ≡ dropRedundant implies mark (cond t (selectedPairs store places k) (selectedPairs store places k ++ x ∷ [])) (selectedPairs store places a)
         go true ih = ih k
-        go false ih = ih (k ++ i ∷ []) ∙ ap (λ (l : List Pair). dropRedundant mark l (selectedPairs store places a)) (map-append (pairIn store places) k (i ∷ []))
+        go false ih = ih (k ++ i ∷ []) ∙ ap (λ (l : List Pair). dropRedundant implies mark l (selectedPairs store places a)) (map-append (pairIn store places) k (i ∷ []))
 
-    all-kept : (n : ℕ) → selectedPairs store places (canonicalIndices store places n mark) ≡ canonicalize mark (withoutRootPairs (pairsIn store places n))
-    unfolding canonicalIndices sourceElements
+    all-kept : (n : ℕ) → selectedPairs store places (canonicalIndices implies store places n mark) ≡ sortAndDrop implies mark (withoutRootPairs (pairsIn store places n))
+    unfolding canonicalIndices sourceElements sortAndDrop
     all-kept n =
         let e : ℕ = suc (maxElements store places n) in
         kept-read [] (byKey (sourceElements store places) e (nonRootPairs store places n))
-        ∙ ap (λ (l : List Pair). dropRedundant mark [] l) (levels-map (pairIn store places) key e (nonRootPairs store places n)
+        ∙ ap (λ (l : List Pair). dropRedundant implies mark [] l) (levels-map (pairIn store places) key e (nonRootPairs store places n)
         ∙ ap (λ (l : List Pair). byKey key e l) (others-read n)
         ∙ sym (sorted-levels e (withoutRootPairs (pairsIn store places n)) (below-noRoots e (pairsIn store places n) (all-below n (maxElements store places n) (most-at n)))))
-        ∙ sym (canonical-keeps mark (withoutRootPairs (pairsIn store places n)))
 
-    -- The places that `canonical_places` writes are read as the pairs of the map.
-    pub canonical-read : (n room : ℕ) (kept kept′ : List ℕ) (w : ℕ) → HoldsEntries places (canonicalSelection (lentList store places n) mark room) kept kept′ w
-        → pairsIn store kept′ w ≡ pairsIfSelectable (lentList store places n) room (canonicalize mark (withoutRootPairs (pairsIn store places n)))
-    unfolding canonicalSelection pairsIfSelectable
-    canonical-read n room kept kept′ w h =
-        selected-read places store (canonicalSelection (lentList store places n) mark room) kept kept′ w h ∙ go (canSelect (lentList store places n) room)
+    -- The places of the selected pairs are read as the pairs that are left after dropping.
+    pub kept-selection-read : (n room : ℕ) (kept kept′ : List ℕ) (w : ℕ) → HoldsEntries places (keptSelection implies (lentList store places n) mark room) kept kept′ w
+        → pairsIn store kept′ w ≡ pairsIfSelectable (lentList store places n) room (sortAndDrop implies mark (withoutRootPairs (pairsIn store places n)))
+    unfolding keptSelection pairsIfSelectable
+    kept-selection-read n room kept kept′ w h =
+        selected-read places store (keptSelection implies (lentList store places n) mark room) kept kept′ w h ∙ go (canSelect (lentList store places n) room)
       where
-        go : (b : Bool) → selectedPairs store places (cond b (canonicalIndices store places n mark) []) ≡ cond b (canonicalize mark (withoutRootPairs (pairsIn store places n))) []
+        go : (b : Bool) → selectedPairs store places (cond b (canonicalIndices implies store places n mark) []) ≡ cond b (sortAndDrop implies mark (withoutRootPairs (pairsIn store places n))) []
         go true = all-kept n
         go false = refl
+
+  -- The places that `canonical_places` writes are read as the pairs of the map.
+  pub canonical-read : (mark : Bool) (n room : ℕ) (kept kept′ : List ℕ) (w : ℕ) → HoldsEntries places (canonicalSelection (lentList store places n) mark room) kept kept′ w
+      → pairsIn store kept′ w ≡ pairsIfSelectable (lentList store places n) room (canonicalize mark (withoutRootPairs (pairsIn store places n)))
+  canonical-read mark n room kept kept′ w h =
+      kept-selection-read isRedundant mark n room kept kept′ w h
+      ∙ ap (λ (l : List Pair). pairsIfSelectable (lentList store places n) room l) (sym (canonical-keeps mark (withoutRootPairs (pairsIn store places n))))

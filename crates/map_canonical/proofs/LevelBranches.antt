@@ -10,16 +10,17 @@ use lib.Dec.{eqb}
 use lib.ListN.{length, length-append}
 use Rattle.text.specs.Text.{Text}
 use Rattle.text.proofs.BoolLaws.{known-false, known-true, not-true, and-l, and-r}
+use Rattle.pair_list.specs.Pair.{Pair}
 use Rattle.pair_list.specs.Places.{pairIn, pairsIn}
 use Rattle.pair_list_write.specs.Lists.{copyEntry}
 use Rattle.pair_list_write.specs.Select.{indicesWhere, HoldsEntries, selectedPairs}
 use Rattle.pair_list_write.proofs.SelectLaws.{selected-none, selected-read, selected-turn}
 use Rattle.validate.specs.Validate.{lentList, countWithinLimit}
 use Rattle.validate.specs.Select.{canSelect}
-use Rattle.map_spec.specs.Map.{lentMap}
-use Rattle.map_spec.specs.New.{isRootPair, isRedundant}
+use Rattle.map_spec.specs.Map.{Map, lentMap}
+use Rattle.map_spec.specs.New.{isRootPair}
 use Rattle.map_canonical.specs.ByKey.{withKey, byKey}
-use Rattle.map_canonical.specs.Canonical.{sourceElements, maxElements, nonRootPairs, nonRootWithElements, keptIndices, canonicalIndices, canonicalSelection, keepsPair}
+use Rattle.map_canonical.specs.Canonical.{sourceElements, maxElements, nonRootPairs, nonRootWithElements, keptIndices, canonicalIndices, keptSelection, keepsPair}
 use Rattle.map_canonical.proofs.LevelLaws.{level-append, levels-few}
 use Rattle.map_canonical.proofs.KeptLaws.{others-few, kept-append, kept-few}
 
@@ -54,21 +55,21 @@ module _ (store : Text) (places : List ℕ) (e : ℕ) where
   pub level-held : (w₀ n size i w : ℕ) → 4 * (w₀ + length (first n)) ≤ size → i < n → w ≤ w₀ + length (first i) → w ≤ size
   level-held w₀ n size i w room l f = omega (arith, own-grows n i (omega arith))
 
-  module _ (mark : Bool) where
+  module _ (implies : Map → Pair → Bool) (mark : Bool) where
     -- One more pair is considered.
     one-more : (picks : List ℕ) (i : ℕ)
-        → keptIndices store places mark picks (alone i)
-        ≡ cond (eqb (sourceElements store places i) e && (not (isRootPair (pairIn store places i)) && not (isRedundant (record { pairs = selectedPairs store places picks; mark = mark }) (pairIn store places i)))) (picks ++ i ∷ []) picks
+        → keptIndices implies store places mark picks (alone i)
+        ≡ cond (eqb (sourceElements store places i) e && (not (isRootPair (pairIn store places i)) && not (implies (record { pairs = selectedPairs store places picks; mark = mark }) (pairIn store places i)))) (picks ++ i ∷ []) picks
     unfolding keptIndices
     one-more picks i =
         go (isRootPair (pairIn store places i)) (eqb (sourceElements store places i) e)
       where
         go : (t s : Bool)
-            → keptIndices store places mark picks (cond t [] (cond s (i ∷ []) []))
-            ≡ cond (s && (not t && not (isRedundant (record { pairs = selectedPairs store places picks; mark = mark }) (pairIn store places i)))) (picks ++ i ∷ []) picks
+            → keptIndices implies store places mark picks (cond t [] (cond s (i ∷ []) []))
+            ≡ cond (s && (not t && not (implies (record { pairs = selectedPairs store places picks; mark = mark }) (pairIn store places i)))) (picks ++ i ∷ []) picks
         go true true = refl
         go true false = refl
-        go false true = flip (isRedundant (record { pairs = selectedPairs store places picks; mark = mark }) (pairIn store places i))
+        go false true = flip (implies (record { pairs = selectedPairs store places picks; mark = mark }) (pairIn store places i))
           where
             flip : (u : Bool) → cond u picks (picks ++ i ∷ []) ≡ cond (not u) (picks ++ i ∷ []) picks
             flip true = refl
@@ -78,13 +79,13 @@ module _ (store : Text) (places : List ℕ) (e : ℕ) where
     -- The w kept pairs are those from before, and at most those of the level.
     module _ (i key : ℕ) (kept : List ℕ) (w : ℕ) (k : key ≡ sourceElements store places i) where
       abbrev kept-here : Bool
-      kept-here = keepsPair store places i key e mark kept w
+      kept-here = keepsPair implies store places i key e mark kept w
 
       alone-one : kept-here ≡ true → length (first (suc i)) ≡ length (first i) + 1
       unfolding keepsPair
       alone-one h =
           let r : Bool = not (isRootPair (pairIn store places i)) in
-          let u : Bool = not (isRedundant (lentMap store kept w mark) (pairIn store places i)) in
+          let u : Bool = not (implies (lentMap store kept w mark) (pairIn store places i)) in
           let p : isRootPair (pairIn store places i) ≡ false = not-true (isRootPair (pairIn store places i)) (and-l r u (and-r (eqb key e) (r && u) h)) in
           ap length (own-next i) ∙ rw (length-append (first i) (alone i), p, ← k, and-l (eqb key e) (r && u) h) refl
 
@@ -102,31 +103,31 @@ module _ (store : Text) (places : List ℕ) (e : ℕ) where
     module _ (kept₀ : List ℕ) (w₀ : ℕ) where
       -- What the buffer holds after the first i pairs, whatever it held before.
       abbrev pub After : ℕ → List ℕ → ℕ → Type 0
-      After i kept w = (picks old : List ℕ) → HoldsEntries places picks old kept₀ w₀ → HoldsEntries places (keptIndices store places mark picks (first i)) old kept w
+      After i kept w = (picks old : List ℕ) → HoldsEntries places picks old kept₀ w₀ → HoldsEntries places (keptIndices implies store places mark picks (first i)) old kept w
 
       pub level-none : After 0 kept₀ w₀
       unfolding nonRootWithElements nonRootPairs indicesWhere withKey keptIndices
       level-none picks old h = h
 
       pub level-on : (i key : ℕ) (kept : List ℕ) (w : ℕ) → key ≡ sourceElements store places i → After i kept w → 4 * i + 4 ≤ length places
-          → (keepsPair store places i key e mark kept w ≡ true → 4 * w + 4 ≤ length kept) → (kept′ : List ℕ) (w′ : ℕ) → w′ ≡ cond (keepsPair store places i key e mark kept w) (w + 1) w
-          → kept′ ≡ cond (keepsPair store places i key e mark kept w) (copyEntry places i w kept) kept → After (i + 1) kept′ w′
+          → (keepsPair implies store places i key e mark kept w ≡ true → 4 * w + 4 ≤ length kept) → (kept′ : List ℕ) (w′ : ℕ) → w′ ≡ cond (keepsPair implies store places i key e mark kept w) (w + 1) w
+          → kept′ ≡ cond (keepsPair implies store places i key e mark kept w) (copyEntry places i w kept) kept → After (i + 1) kept′ w′
       unfolding keepsPair
       level-on i key kept w k a held room kept′ w′ f t picks old h =
-          let now : List ℕ = keptIndices store places mark picks (first i) in
+          let now : List ℕ = keptIndices implies store places mark picks (first i) in
           let g : HoldsEntries places now old kept w = a picks old h in
           let r : pairsIn store kept w ≡ selectedPairs store places now = selected-read places store now old kept w g in
-          rw (add-one i, own-next i, kept-append store places mark picks (first i) (alone i), one-more now i, ← r, ← k)
-          (selected-turn places i now old kept w held g (keepsPair store places i key e mark kept w) room w′ kept′ f t)
+          rw (add-one i, own-next i, kept-append store places implies mark picks (first i) (alone i), one-more now i, ← r, ← k)
+          (selected-turn places i now old kept w held g (keepsPair implies store places i key e mark kept w) room w′ kept′ f t)
 
       pub level-end : (n i : ℕ) (kept : List ℕ) (w : ℕ) → n ≤ i → i ≤ n → After i kept w → After n kept w
       level-end n i kept w h k a = let z : i ≡ n = omega arith in rw z at a
 
 -- Lemmas for `canonicalize`.
-module _ (store : Text) (places : List ℕ) (n : ℕ) (mark : Bool) (kept₀ : List ℕ) where
+module _ (store : Text) (places : List ℕ) (n : ℕ) (implies : Map → Pair → Bool) (mark : Bool) (kept₀ : List ℕ) where
   -- The kept pairs of the levels below e.
   abbrev pub below : ℕ → List ℕ
-  below e = keptIndices store places mark [] (byKey (sourceElements store places) e (nonRootPairs store places n))
+  below e = keptIndices implies store places mark [] (byKey (sourceElements store places) e (nonRootPairs store places n))
 
   pub levels-none : HoldsEntries places (below 0) kept₀ kept₀ 0
   unfolding byKey keptIndices
@@ -134,10 +135,10 @@ module _ (store : Text) (places : List ℕ) (n : ℕ) (mark : Bool) (kept₀ : L
 
   module _ (e : ℕ) (kept : List ℕ) (w : ℕ) (h : HoldsEntries places (below e) kept₀ kept w) where
     pub levels-on : (kept′ : List ℕ) (w′ : ℕ)
-        → ((picks old : List ℕ) → HoldsEntries places picks old kept w → HoldsEntries places (keptIndices store places mark picks (nonRootWithElements store places e n)) old kept′ w′) → HoldsEntries places (below (e + 1)) kept₀ kept′ w′
+        → ((picks old : List ℕ) → HoldsEntries places picks old kept w → HoldsEntries places (keptIndices implies store places mark picks (nonRootWithElements store places e n)) old kept′ w′) → HoldsEntries places (below (e + 1)) kept₀ kept′ w′
     unfolding nonRootWithElements byKey
     levels-on kept′ w′ f =
-        rw (add-one e, kept-append store places mark [] (byKey (sourceElements store places) e (nonRootPairs store places n)) (nonRootWithElements store places e n)) (f (below e) kept₀ h)
+        rw (add-one e, kept-append store places implies mark [] (byKey (sourceElements store places) e (nonRootPairs store places n)) (nonRootWithElements store places e n)) (f (below e) kept₀ h)
 
     pub levels-room : n ≤ 64 → 256 ≤ length kept → 4 * (w + length (nonRootWithElements store places e n)) ≤ length kept
     unfolding nonRootWithElements byKey
@@ -146,15 +147,15 @@ module _ (store : Text) (places : List ℕ) (n : ℕ) (mark : Bool) (kept₀ : L
         omega (
           arith,
           h .0,
-          kept-few store places mark [] (byKey (sourceElements store places) e all),
+          kept-few store places implies mark [] (byKey (sourceElements store places) e all),
           length-append (byKey (sourceElements store places) e all) (withKey (sourceElements store places) e all),
           levels-few (sourceElements store places) (suc e) all,
           others-few store places n,
         )
 
     pub levels-end : (top : ℕ) → top ≡ maxElements store places n → top ≤ e → e ≤ top → (kept′ : List ℕ) (w′ : ℕ)
-        → ((picks old : List ℕ) → HoldsEntries places picks old kept w → HoldsEntries places (keptIndices store places mark picks (nonRootWithElements store places top n)) old kept′ w′)
-        → HoldsEntries places (canonicalIndices store places n mark) kept₀ kept′ w′
+        → ((picks old : List ℕ) → HoldsEntries places picks old kept w → HoldsEntries places (keptIndices implies store places mark picks (nonRootWithElements store places top n)) old kept′ w′)
+        → HoldsEntries places (canonicalIndices implies store places n mark) kept₀ kept′ w′
     unfolding canonicalIndices
     levels-end top m k l kept′ w′ f =
         let z : e ≡ top = omega arith in
@@ -164,14 +165,14 @@ module _ (store : Text) (places : List ℕ) (n : ℕ) (mark : Bool) (kept₀ : L
     top-room top k l m o = let z : top ≡ e = omega arith in rw z (levels-room m o)
 
 -- Lemmas for `canonical_places`.
-module _ (store : Text) (places : List ℕ) (n : ℕ) (mark : Bool) (kept : List ℕ) (b : Bool) (e : b ≡ canSelect (lentList [] places n) (length kept)) where
+module _ (store : Text) (places : List ℕ) (n : ℕ) (implies : Map → Pair → Bool) (mark : Bool) (kept : List ℕ) (b : Bool) (e : b ≡ canSelect (lentList [] places n) (length kept)) where
   abbrev picks : List ℕ
-  picks = canonicalSelection (lentList store places n) mark (length kept)
+  picks = keptSelection implies (lentList store places n) mark (length kept)
 
   pub places-none : not b ≡ true → HoldsEntries places picks kept kept 0
-  unfolding canonicalSelection canSelect countWithinLimit
+  unfolding keptSelection canSelect countWithinLimit
   places-none h = rw (known-false e h) (selected-none places kept)
 
-  pub places-made : not b ≡ false → (kept′ : List ℕ) (w : ℕ) → HoldsEntries places (canonicalIndices store places n mark) kept kept′ w → HoldsEntries places picks kept kept′ w
-  unfolding canonicalSelection canSelect countWithinLimit
+  pub places-made : not b ≡ false → (kept′ : List ℕ) (w : ℕ) → HoldsEntries places (canonicalIndices implies store places n mark) kept kept′ w → HoldsEntries places picks kept kept′ w
+  unfolding keptSelection canSelect countWithinLimit
   places-made h kept′ w f = rw (known-true e h) f

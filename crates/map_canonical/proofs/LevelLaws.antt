@@ -1,6 +1,6 @@
 -- The theorem that going through the levels in turn is the stable sort by source elements.
 use mathlib.Core.Path.{_≡_, refl, sym, ap, _∙_}
-use mathlib.Core.Bool.{Bool, true, false, cond, _&&_}
+use mathlib.Core.Bool.{Bool, true, false, cond}
 use mathlib.Core.List.{List, [], _∷_, _++_, append-assoc, map, map-append}
 use Prim.Native.Nat.{ℕ, zero, suc, _≤_, _<_}
 use native.Mathlib.Omega.{arith}
@@ -8,11 +8,9 @@ use native.Mathlib.Decide.{ℕ-discrete}
 use lib.Dec.{eqb, leb}
 use lib.ListN.{length, length-append}
 use borrow.Author.Tests.{eq-eqb, ne-eqb, le-leb, lt-leb}
-use Rattle.text.specs.Text.{equal}
 use Rattle.path_prefix.specs.Elements.{elementCount}
 use Rattle.pair_list.specs.Pair.{Pair}
-use Rattle.map_spec.specs.Map.{matchSource}
-use Rattle.map_spec.specs.New.{insertSorted, sortBySource, mapVia, isRedundant, dropRedundant, canonicalize, isRootPair, withoutRootPairs}
+use Rattle.map_spec.specs.New.{insertSorted, sortBySource, isRootPair, withoutRootPairs}
 use Rattle.map_canonical.specs.ByKey.{withKey, byKey}
 
 -- The levels of a list of any type.
@@ -163,18 +161,3 @@ noRoots-append (x ∷ a) b = go (isRootPair x) (noRoots-append a b)
     go : (t : Bool) → withoutRootPairs (a ++ b) ≡ withoutRootPairs a ++ withoutRootPairs b → cond t (withoutRootPairs (a ++ b)) (x ∷ withoutRootPairs (a ++ b)) ≡ cond t (withoutRootPairs a) (x ∷ withoutRootPairs a) ++ withoutRootPairs b
     go true ih = ih
     go false ih = ap (λ (z : List Pair). x ∷ z) ih
-
--- A single pair needs no rule of its own.
-lone : (mark : Bool) (x : Pair) → isRedundant (record { pairs = []; mark = mark }) x ≡ (mark && equal (x .source) (x .target))
-unfolding isRedundant mapVia matchSource
-lone true x = refl
-lone false x = refl
-
-pub canonical-keeps : (mark : Bool) (l : List Pair) → canonicalize mark l ≡ dropRedundant mark [] (sortBySource l)
-unfolding canonicalize
-canonical-keeps mark [] = refl
-canonical-keeps mark (x ∷ []) = sym (go (isRedundant (record { pairs = []; mark = mark }) x) (lone mark x))
-  where
-    go : (t : Bool) → t ≡ (mark && equal (x .source) (x .target)) → cond t [] (x ∷ []) ≡ cond (mark && equal (x .source) (x .target)) [] (x ∷ [])
-    go t h = rw h refl
-canonical-keeps mark (x ∷ y ∷ l) = refl

@@ -102,8 +102,8 @@ fn keep_pair(
     w: usize,
 ) -> usize
     requires { ⌜ w ≤ length (now kept) ⌝ }
-    ensures { λ r. ⌜ r ≡ cond (keepsPair (now (store .entry)) (now (places .entry)) i key e mark (now (kept .entry)) w) (w + 1) w ⌝ }
-    ensures { λ r. ⌜ now (kept .exit) ≡ cond (keepsPair (now (store .entry)) (now (places .entry)) i key e mark (now (kept .entry)) w) (copyEntry (now (places .entry)) i w (now (kept .entry))) (now (kept .entry)) ⌝ }
+    ensures { λ r. ⌜ r ≡ cond (keepsPair isRedundant (now (store .entry)) (now (places .entry)) i key e mark (now (kept .entry)) w) (w + 1) w ⌝ }
+    ensures { λ r. ⌜ now (kept .exit) ≡ cond (keepsPair isRedundant (now (store .entry)) (now (places .entry)) i key e mark (now (kept .entry)) w) (copyEntry (now (places .entry)) i w (now (kept .entry))) (now (kept .entry)) ⌝ }
 {
     if key != e {
         return w;
@@ -135,7 +135,7 @@ fn keep_level(
     requires { ⌜ (4 * n ≤ length (now places)) × (n ≤ length (now keys)) ⌝ }
     requires { ⌜ HoldsElementCounts (now store) (now places) n (now keys) ⌝ }
     requires { ⌜ 4 * (w + length (nonRootWithElements (now store) (now places) e n)) ≤ length (now kept) ⌝ }
-    ensures { λ r. ⌜ ((picks old : List ℕ) → HoldsEntries (now (places .entry)) picks old (now (kept .entry)) w → HoldsEntries (now (places .entry)) (keptIndices (now (store .entry)) (now (places .entry)) mark picks (nonRootWithElements (now (store .entry)) (now (places .entry)) e n)) old (now (kept .exit)) r) ⌝ }
+    ensures { λ r. ⌜ ((picks old : List ℕ) → HoldsEntries (now (places .entry)) picks old (now (kept .entry)) w → HoldsEntries (now (places .entry)) (keptIndices isRedundant (now (store .entry)) (now (places .entry)) mark picks (nonRootWithElements (now (store .entry)) (now (places .entry)) e n)) old (now (kept .exit)) r) ⌝ }
 {
     let mut k = w;
     let mut i = 0;
@@ -152,7 +152,7 @@ fn keep_level(
 fn canonicalize(store: &[u8], places: &[usize], n: usize, mark: bool, kept: &mut [usize]) -> usize
     requires { ⌜ (n ≤ 64) × (4 * n ≤ length (now places)) ⌝ }
     requires { ⌜ 256 ≤ length (now kept) ⌝ }
-    ensures { λ r. ⌜ HoldsEntries (now (places .entry)) (canonicalIndices (now (store .entry)) (now (places .entry)) n mark) (now (kept .entry)) (now (kept .exit)) r ⌝ }
+    ensures { λ r. ⌜ HoldsEntries (now (places .entry)) (canonicalIndices isRedundant (now (store .entry)) (now (places .entry)) n mark) (now (kept .entry)) (now (kept .exit)) r ⌝ }
 {
     let mut keys = [0usize; 64];
     let top = fill_element_counts(store, places, n, &mut keys);

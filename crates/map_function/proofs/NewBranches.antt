@@ -131,7 +131,8 @@ module _ (store : Text) (places : List ℕ) (n : ℕ) (mark : Bool) (time : Laye
         mark-is = f
 
         pairs-are : pairsIn store kept w ≡ (fromParts list mark) .pairs
-        pairs-are = pairs-made store places n list mark few h marked f room enough kept w c
+        unfolding fromParts
+        pairs-are = pairs-made canonicalize store places n list mark few h marked f room enough kept w c
 
         count-is : w ≡ length ((fromParts list mark) .pairs)
         count-is = sym (pairsIn-length store kept w) ∙ ap length pairs-are

@@ -1,7 +1,7 @@
 -- Lemmas about the ends of a map: a map built from ends has only ends.
 use mathlib.Core.Path.{_≡_, refl, sym, ap, _∙_}
 use mathlib.Core.Bool.{Bool, true, false, not, cond, _&&_}
-use mathlib.Core.List.{List, [], _∷_, map}
+use mathlib.Core.List.{List, [], _∷_, _++_, map}
 use Prim.Native.Nat.{ℕ, zero, suc, _+_, _≤_, _<_}
 use native.Mathlib.Omega.{arith}
 use native.Mathlib.Nat.{not-suc-le-zero}
@@ -11,9 +11,10 @@ use Rattle.text.proofs.BoolLaws.{and-l, and-r, not-true}
 use Rattle.path_grammar.specs.Legal.{isEnd}
 use Rattle.pair_list.specs.Pair.{Pair, sourceAt, targetAt, everyEnd, allEnds, noEmptySource}
 use Rattle.map_spec.specs.Map.{Map}
-use Rattle.map_spec.specs.New.{fromParts, new, fromPair, fromPairIdentity}
+use Rattle.map_spec.specs.New.{sortBySource, sortAndDrop, canonicalize, fromPartsBy, fromParts, new, fromPair, fromPairIdentity}
 use Rattle.map_spec.specs.Derive.{droppingSource, swappedPair, inverse, withRootIdentity}
-use Rattle.map_spec.proofs.WeightLaws.{weight, weight-length, fromParts-weight, droppingSource-weight}
+use Rattle.map_spec.proofs.DropLaws.{dropped-by}
+use Rattle.map_spec.proofs.WeightLaws.{weight, OnlyDrops, weight-length, canonical-weight, parts-weight, droppingSource-weight}
 
 -- In a list of ends, every source is an end.
 pub ends-source : (l : List Pair) → allEnds l ≡ true → (i : ℕ) → isEnd (sourceAt l i) ≡ true
@@ -63,9 +64,17 @@ module _ (ok : Pair → Bool) where
   fewer-pass : (l k : List Pair) → failing k ≤ failing l → all ok l ≡ true → all ok k ≡ true
   fewer-pass l k h e = all-pass k (omega (arith, none-fail l e))
 
-  -- If every given pair passes a test, so does every pair of the map built from them.
-  pub fromParts-keeps : (l : List Pair) (mark : Bool) → all ok l ≡ true → all ok ((fromParts l mark) .pairs) ≡ true
-  fromParts-keeps l mark = fewer-pass l ((fromParts l mark) .pairs) (fromParts-weight (λ x. cond (ok x) 0 1) l mark)
+  pub all-more : (l : List Pair) (x : Pair) → all ok l ≡ true → ok x ≡ true → all ok (l ++ x ∷ []) ≡ true
+  unfolding all
+  all-more [] x e h = rw h
+  all-more (y ∷ l) x e h = rw (and-l (ok y) (all ok l) e) (all-more l x (and-r (ok y) (all ok l) e) h)
+
+  -- If every pair that is not redundant passes a test, so does every pair that is left after dropping.
+  pub undropped-pass : (implies : Map → Pair → Bool) (mark : Bool) → ((kept : List Pair) (x : Pair) → implies (record { pairs = kept; mark = mark }) x ≡ false → ok x ≡ true)
+      → (l : List Pair) → all ok (sortAndDrop implies mark l) ≡ true
+  unfolding sortAndDrop all
+  undropped-pass implies mark passes l =
+      dropped-by implies mark (λ (kept rest : List Pair). all ok kept ≡ true) (λ kept x rest e h. h) (λ kept x rest e h. all-more kept x h (passes kept x e)) [] (sortBySource l) refl
 
   -- If every pair of a map passes a test, so does every pair of the map without a source.
   pub droppingSource-keeps : (m : Map) (s : Text) → all ok (m .pairs) ≡ true → all ok ((droppingSource m s) .pairs) ≡ true
@@ -85,15 +94,43 @@ pub ends-all : (l : List Pair) → allEnds l ≡ all areEnds l
 unfolding allEnds
 ends-all = every-all isEnd
 
--- If every given end passes a test, so does every end of the map built from them.
-pub fromParts-every : (passes : Text → Bool) (l : List Pair) (mark : Bool) → everyEnd passes l ≡ true → everyEnd passes ((fromParts l mark) .pairs) ≡ true
-fromParts-every passes l mark e =
-    every-all passes ((fromParts l mark) .pairs)
-    ∙ fromParts-keeps (λ (x : Pair). passes (x .source) && passes (x .target)) l mark (sym (every-all passes l) ∙ e)
+-- A map whose canonical form only drops pairs.
+module _ (form : Bool → List Pair → List Pair) (drops : OnlyDrops form) where
+  -- If every given pair passes a test, so does every pair of the map built from them.
+  pub parts-keeps : (ok : Pair → Bool) (l : List Pair) (mark : Bool) → all ok l ≡ true → all ok ((fromPartsBy form l mark) .pairs) ≡ true
+  parts-keeps ok l mark = fewer-pass ok l ((fromPartsBy form l mark) .pairs) (parts-weight (λ x. cond (ok x) 0 1) form drops l mark)
 
--- A map built from ends by `fromParts` has only ends.
+  -- If every given end passes a test, so does every end of the map built from them.
+  pub parts-every : (passes : Text → Bool) (l : List Pair) (mark : Bool) → everyEnd passes l ≡ true → everyEnd passes ((fromPartsBy form l mark) .pairs) ≡ true
+  parts-every passes l mark e =
+      every-all passes ((fromPartsBy form l mark) .pairs)
+      ∙ parts-keeps (λ (x : Pair). passes (x .source) && passes (x .target)) l mark (sym (every-all passes l) ∙ e)
+
+  -- A map built from ends has only ends.
+  pub parts-ends : (l : List Pair) (mark : Bool) → allEnds l ≡ true → allEnds ((fromPartsBy form l mark) .pairs) ≡ true
+  unfolding allEnds
+  parts-ends = parts-every isEnd
+
+  -- A map has no more pairs than the list it was built from.
+  pub parts-length : (l : List Pair) (mark : Bool) → length ((fromPartsBy form l mark) .pairs) ≤ length l
+  parts-length l mark = omega (arith, parts-weight (λ x. 1) form drops l mark, weight-length l, weight-length ((fromPartsBy form l mark) .pairs))
+
+-- The same for maps built by `fromParts`.
+pub fromParts-keeps : (ok : Pair → Bool) (l : List Pair) (mark : Bool) → all ok l ≡ true → all ok ((fromParts l mark) .pairs) ≡ true
+unfolding fromParts
+fromParts-keeps = parts-keeps canonicalize canonical-weight
+
+pub fromParts-every : (passes : Text → Bool) (l : List Pair) (mark : Bool) → everyEnd passes l ≡ true → everyEnd passes ((fromParts l mark) .pairs) ≡ true
+unfolding fromParts
+fromParts-every = parts-every canonicalize canonical-weight
+
 pub fromParts-ends : (l : List Pair) (mark : Bool) → allEnds l ≡ true → allEnds ((fromParts l mark) .pairs) ≡ true
-fromParts-ends l mark e = ends-all ((fromParts l mark) .pairs) ∙ fromParts-keeps areEnds l mark (sym (ends-all l) ∙ e)
+unfolding fromParts
+fromParts-ends = parts-ends canonicalize canonical-weight
+
+pub fromParts-length : (l : List Pair) (mark : Bool) → length ((fromParts l mark) .pairs) ≤ length l
+unfolding fromParts
+fromParts-length = parts-length canonicalize canonical-weight
 
 -- A map built from ends by `new` has only ends.
 pub new-ends : (l : List Pair) → allEnds l ≡ true → allEnds ((new l) .pairs) ≡ true
@@ -140,7 +177,3 @@ pub full-all : (l : List Pair) → noEmptySource l ≡ all isFull l
 unfolding noEmptySource all
 full-all [] = refl
 full-all (x ∷ l) = ap (λ (b : Bool). isFull x && b) (full-all l)
-
--- A map has no more pairs than the list it was built from.
-pub fromParts-length : (l : List Pair) (mark : Bool) → length ((fromParts l mark) .pairs) ≤ length l
-fromParts-length l mark = omega (arith, fromParts-weight (λ x. 1) l mark, weight-length l, weight-length ((fromParts l mark) .pairs))

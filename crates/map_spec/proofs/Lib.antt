@@ -1,4 +1,5 @@
 -- The lemmas of this crate. The proof of each function is in the folder of its name.
+pub mod DropLaws
 pub mod WeightLaws
 pub mod EndLaws
 pub mod OutcomeLaws

@@ -10,14 +10,19 @@ use Rattle.text.specs.Text.{Text, equal}
 use Rattle.path_prefix.specs.Elements.{elementCount}
 use Rattle.pair_list.specs.Pair.{Pair}
 use Rattle.map_spec.specs.Map.{Map}
-use Rattle.map_spec.specs.New.{isRootPair, anyRootPair, withoutRootPairs, insertSorted, sortBySource, isRedundant, dropRedundant, canonicalize, fromParts}
+use Rattle.map_spec.specs.New.{isRootPair, anyRootPair, withoutRootPairs, insertSorted, sortBySource, isRedundant, dropRedundant, sortAndDrop, canonicalize, fromPartsBy, fromParts}
 use Rattle.map_spec.specs.Compose.{hasSource}
 use Rattle.map_spec.specs.Derive.{withoutSource, droppingSource}
+use Rattle.map_spec.proofs.DropLaws.{dropped-by}
 
 -- The total weight of a list of pairs, for a weight of each pair.
 unfoldable pub weight : (Pair → ℕ) → List Pair → ℕ
 weight w [] = 0
 weight w (x ∷ l) = w x + weight w l
+
+-- A canonical form adds no weight, whatever each pair weighs: it only drops pairs and moves them.
+abbrev pub OnlyDrops : (Bool → List Pair → List Pair) → Type 0
+OnlyDrops form = (w : Pair → ℕ) (mark : Bool) (l : List Pair) → weight w (form mark l) ≤ weight w l
 
 -- If each pair weighs one, the total weight is the number of pairs.
 pub weight-length : (l : List Pair) → weight (λ x. 1) l ≡ length l
@@ -62,31 +67,36 @@ module _ (w : Pair → ℕ) where
   sorted-weight [] = refl
   sorted-weight (x ∷ l) = insert-weight x (sortBySource l) ∙ ap (λ (n : ℕ). w x + n) (sorted-weight l)
 
-  keep-weight : (mark : Bool) (kept l : List Pair) → weight w (dropRedundant mark kept l) ≤ weight w kept + weight w l
-  unfolding weight dropRedundant
-  keep-weight mark kept [] = omega arith
-  keep-weight mark kept (x ∷ l) =
-      let b : Bool = isRedundant (record { pairs = kept; mark = mark }) x in
-      let k = either b kept (kept ++ x ∷ []) (weight w kept + w x) (omega arith) (omega (arith, weight-snoc x kept)) in
-      omega (arith, keep-weight mark (cond b kept (kept ++ x ∷ [])) l)
+  -- Sorting and dropping add no weight, whatever the test: at every step the kept pairs and those to come weigh at most what the list does.
+  pub sorted-dropped-weight : (implies : Map → Pair → Bool) (mark : Bool) (l : List Pair) → weight w (sortAndDrop implies mark l) ≤ weight w l
+  unfolding weight sortAndDrop
+  sorted-dropped-weight implies mark l =
+      let at-end : weight w (dropRedundant implies mark [] (sortBySource l)) + 0 ≤ weight w l
+      = dropped-by implies mark (λ (kept rest : List Pair). weight w kept + weight w rest ≤ weight w l) (λ kept x rest e h. omega arith) (λ kept x rest e h. omega (arith, weight-snoc x kept)) [] (sortBySource l) (omega (arith, sorted-weight l)) in
+      omega arith
 
-  canonical-weight : (mark : Bool) (l : List Pair) → weight w (canonicalize mark l) ≤ weight w l
+  pub canonical-weight : (mark : Bool) (l : List Pair) → weight w (canonicalize mark l) ≤ weight w l
   unfolding weight canonicalize
   canonical-weight mark [] = omega arith
   canonical-weight mark (x ∷ []) = either (mark && equal (x .source) (x .target)) [] (x ∷ []) (w x + 0) (omega arith) (omega arith)
-  canonical-weight mark (x ∷ y ∷ l) = omega (arith, keep-weight mark [] (sortBySource (x ∷ y ∷ l)), sorted-weight (x ∷ y ∷ l))
+  canonical-weight mark (x ∷ y ∷ l) = sorted-dropped-weight isRedundant mark (x ∷ y ∷ l)
 
-  -- Building a map adds no weight.
-  pub fromParts-weight : (l : List Pair) (mark : Bool) → weight w ((fromParts l mark) .pairs) ≤ weight w l
-  unfolding fromParts
-  fromParts-weight l mark = omega (arith, canonical-weight (mark || anyRootPair l) (withoutRootPairs l), noRoots-weight l)
+  -- Building a map adds no weight if its canonical form adds none.
+  pub parts-weight : (form : Bool → List Pair → List Pair) → OnlyDrops form → (l : List Pair) (mark : Bool) → weight w ((fromPartsBy form l mark) .pairs) ≤ weight w l
+  parts-weight form drops l mark = omega (arith, drops w (mark || anyRootPair l) (withoutRootPairs l), noRoots-weight l)
 
+-- So building a map by `fromParts` adds none.
+pub fromParts-weight : (w : Pair → ℕ) (l : List Pair) (mark : Bool) → weight w ((fromParts l mark) .pairs) ≤ weight w l
+unfolding fromParts
+fromParts-weight w = parts-weight w canonicalize canonical-weight
+
+module _ (w : Pair → ℕ) where
   withoutSource-weight : (s : Text) (l : List Pair) → weight w (withoutSource s l) ≤ weight w l
   unfolding weight withoutSource
   withoutSource-weight s [] = omega arith
   withoutSource-weight s (x ∷ l) =
       let ih = withoutSource-weight s l in
-      either (equal (x .source) s) (withoutSource s l) (x ∷ withoutSource s l) (w x + weight w l) (omega arith) (omega arith)
+      either w (equal (x .source) s) (withoutSource s l) (x ∷ withoutSource s l) (w x + weight w l) (omega arith) (omega arith)
 
   -- Removing the pairs with a source adds no weight.
   pub droppingSource-weight : (m : Map) (s : Text) → weight w ((droppingSource m s) .pairs) ≤ weight w (m .pairs)
@@ -94,5 +104,5 @@ module _ (w : Pair → ℕ) where
   droppingSource-weight m s = go (hasSource (m .pairs) s)
     where
       go : (b : Bool) → weight w ((cond b (fromParts (withoutSource s (m .pairs)) (m .mark)) m) .pairs) ≤ weight w (m .pairs)
-      go true = omega (arith, fromParts-weight (withoutSource s (m .pairs)) (m .mark), withoutSource-weight s (m .pairs))
+      go true = omega (arith, fromParts-weight w (withoutSource s (m .pairs)) (m .mark), withoutSource-weight s (m .pairs))
       go false = omega arith

@@ -61,23 +61,34 @@ unfoldable pub isRedundant : Map → Pair → Bool
 unfolding isSomeText mapVia
 isRedundant m x = isSomeText (mapVia m (x .source)) (x .target)
 
--- The kept pairs, followed by the other pairs in their order without the redundant ones.
-unfoldable pub dropRedundant : Bool → List Pair → List Pair → List Pair
-unfolding isRedundant
-dropRedundant mark kept [] = kept
-dropRedundant mark kept (x ∷ xs) = dropRedundant mark (cond (isRedundant (record { pairs = kept; mark = mark }) x) kept (kept ++ x ∷ [])) xs
+-- The kept pairs, followed by the other pairs in their order without the redundant ones. The test `implies` decides which are redundant: it
+-- is given the map of the pairs kept so far and the mark, and a pair.
+unfoldable pub dropRedundant : (Map → Pair → Bool) → Bool → List Pair → List Pair → List Pair
+dropRedundant implies mark kept [] = kept
+dropRedundant implies mark kept (x ∷ xs) =
+    dropRedundant implies mark (cond (implies (record { pairs = kept; mark = mark }) x) kept (kept ++ x ∷ [])) xs
+
+-- The pairs sorted, then without the redundant ones. Requirements: "pairs are sorted by source elements, stably, and a pair is dropped when
+-- the kept ones ..".
+unfoldable pub sortAndDrop : (Map → Pair → Bool) → Bool → List Pair → List Pair
+unfolding dropRedundant sortBySource
+sortAndDrop implies mark l = dropRedundant implies mark [] (sortBySource l)
 
 -- The pairs in canonical form. Requirements: "A single pair stays unless marked and equal. Otherwise pairs are sorted ..".
 unfoldable pub canonicalize : Bool → List Pair → List Pair
-unfolding equal dropRedundant sortBySource
+unfolding equal isRedundant sortAndDrop
 canonicalize mark [] = []
 canonicalize mark (x ∷ []) = cond (mark && equal (x .source) (x .target)) [] (x ∷ [])
-canonicalize mark (x ∷ y ∷ l) = dropRedundant mark [] (sortBySource (x ∷ y ∷ l))
+canonicalize mark (x ∷ y ∷ l) = sortAndDrop isRedundant mark (x ∷ y ∷ l)
+
+-- The map of these pairs and this mark: each `/`→`/` becomes the mark, and `form` brings the other pairs into canonical form.
+abbrev pub fromPartsBy : (Bool → List Pair → List Pair) → List Pair → Bool → Map
+fromPartsBy form l mark = record { pairs = form (mark || anyRootPair l) (withoutRootPairs l); mark = mark || anyRootPair l }
 
 -- The map of these pairs and this mark, in canonical form (Rust: from_parts).
 unfoldable pub fromParts : List Pair → Bool → Map
 unfolding anyRootPair withoutRootPairs canonicalize
-fromParts l mark = record { pairs = canonicalize (mark || anyRootPair l) (withoutRootPairs l); mark = mark || anyRootPair l }
+fromParts l mark = fromPartsBy canonicalize l mark
 
 -- The map of these pairs (Rust: new).
 unfoldable pub new : List Pair → Map

@@ -10,6 +10,7 @@ use native.Mathlib.Decide.{ℕ-discrete}
 use lib.Dec.{eqb}
 use lib.ListN.{length, getD, set, drop, length-append, List·getD-append}
 use lib.Seq.{drop-cons, set-at, getD-at}
+use borrow.Author.Tests.{ne-eqb}
 use Rattle.text.specs.Text.{Text, written}
 use Rattle.text.proofs.BoolLaws.{told}
 use Rattle.pair_list.specs.Pair.{Pair, pair, pairAt}
@@ -17,7 +18,7 @@ use Rattle.pair_list.specs.Places.{pairIn, pairsIn, keyAt}
 use Rattle.pair_list.proofs.PlaceLaws.{pair-is, pairsIn-at, pairsIn-length}
 use Rattle.relocates.specs.declared.RelocateOccurrence.{RelocateOccurrence}
 use Rattle.relocates.specs.declared.RelocateOccurrence.the-variants.{Active, DroppedStructural, DroppedDuplicateSource, DroppedConflict}
-use Rattle.relocates.specs.Status.{statusByte, anyBelow, isStructural, claimsSource, isDuplicate, canConflict, conflictsWith, hasConflict, occurrenceOr, occurrence, statusBytes, statusList}
+use Rattle.relocates.specs.Status.{statusByte, anyBelow, isStructural, claimsSource, isDuplicate, canConflict, conflictsWith, hasConflictAmong, hasConflict, occurrenceOr, occurrence, statusBytes, statusList}
 use Rattle.relocates.specs.Initial.{initialStatuses, HoldsInitialStatuses}
 use Rattle.relocates.proofs.StatusBranches.{some-same, some-hit, some-on, duplicate-in}
 
@@ -105,32 +106,62 @@ has-initial store places n buf mem e =
     λ i h. rw e (bytes-at (occurrenceOr Active (pairsIn store places n)) buf n i (rw (pairsIn-length store places n) at h))
 
 module _ (l : List Pair) (i : ℕ) where
-  -- A first status other than 0 is the final status; if it is 0, the conflicts decide.
-  kept : (a b : Bool) (m : ℕ) → isStructural (pairAt l i) ≡ a → isDuplicate l i ≡ b → m ≡ statusByte (occurrenceOr Active l i) → m ≢ 0 → m ≡ statusByte (occurrence l i)
-  unfolding occurrenceOr occurrence
-  kept true b m ea eb e d = rw ea (rw ea at e)
-  kept false true m ea eb e d = rw (ea, eb) (rw (ea, eb) at e)
-  kept false false m ea eb e d = absurd (d (rw (ea, eb) at e))
+  abbrev first-status : RelocateOccurrence
+  first-status = occurrenceOr Active l i
 
-  decided : (a b : Bool) → isStructural (pairAt l i) ≡ a → isDuplicate l i ≡ b → 0 ≡ statusByte (occurrenceOr Active l i) → occurrence l i ≡ cond (hasConflict l i) DroppedConflict Active
-  unfolding occurrenceOr occurrence
-  decided true b ea eb e = absurd (let z : _≡_ {A = ℕ} 0 1 = rw ea at e in omega arith)
-  decided false true ea eb e = absurd (let z : _≡_ {A = ℕ} 0 2 = rw (ea, eb) at e in omega arith)
-  decided false false ea eb e = rw (ea, eb)
-
-  conflicting : (a b : Bool) → isStructural (pairAt l i) ≡ a → isDuplicate l i ≡ b → eqb (statusByte (occurrenceOr Active l i)) 0 ≡ canConflict l i
+  -- A first status of 0 means that the pair takes part in the search for conflicts.
+  conflicting : eqb (statusByte first-status) 0 ≡ canConflict l i
   unfolding occurrenceOr canConflict
-  conflicting true b ea eb = rw ea
-  conflicting false true ea eb = rw (ea, eb)
-  conflicting false false ea eb = rw (ea, eb)
+  conflicting = go (isStructural (pairAt l i)) (isDuplicate l i)
+    where
+      go : (a b : Bool) → eqb (statusByte (cond a DroppedStructural (cond b DroppedDuplicateSource Active))) 0 ≡ (not a && not b)
+      go true b = refl
+      go false true = refl
+      go false false = refl
 
-conflict-is : (l : List Pair) (i : ℕ) → hasConflict l i ≡ anyBelow (length l) (λ (j : ℕ). not (eqb i j) && canConflict l j && conflictsWith (pairAt l i) (pairAt l j))
-unfolding hasConflict
-conflict-is l i = refl
+  -- The search decides the status of such a pair; another keeps its first status.
+  by-first : occurrence l i ≡ cond (canConflict l i) (cond (hasConflict l i) DroppedConflict Active) first-status
+  unfolding occurrence canConflict
+  by-first = go (isStructural (pairAt l i)) (isDuplicate l i) (cond (hasConflict l i) DroppedConflict Active)
+    where
+      go : (a b : Bool) (kept : RelocateOccurrence) → cond a DroppedStructural (cond b DroppedDuplicateSource kept)
+          ≡ cond (not a && not b) kept (cond a DroppedStructural (cond b DroppedDuplicateSource Active))
+      go true b kept = refl
+      go false true kept = refl
+      go false false kept = refl
+
+  kept : (m : ℕ) → m ≡ statusByte first-status → m ≢ 0 → m ≡ statusByte (occurrence l i)
+  kept m e d =
+      let z : canConflict l i ≡ false = sym conflicting ∙ ap (λ (v : ℕ). eqb v 0) (sym e) ∙ ne-eqb m 0 d in
+      e ∙ ap statusByte (sym (by-first ∙ ap (λ (b : Bool). cond b (cond (hasConflict l i) DroppedConflict Active) first-status) z))
+
+  decided : 0 ≡ statusByte first-status → occurrence l i ≡ cond (hasConflict l i) DroppedConflict Active
+  decided e =
+      let z : canConflict l i ≡ true = sym conflicting ∙ ap (λ (v : ℕ). eqb v 0) (sym e) in
+      by-first ∙ ap (λ (b : Bool). cond b (cond (hasConflict l i) DroppedConflict Active) first-status) z
+
+  conflict-is : hasConflict l i ≡ hasConflictAmong (canConflict l) l i
+  unfolding hasConflict
+  conflict-is = refl
+
+conflict-found : (takesPart : ℕ → Bool) (l : List Pair) (i : ℕ)
+    → hasConflictAmong takesPart l i ≡ anyBelow (length l) (λ (j : ℕ). not (eqb i j) && takesPart j && conflictsWith (pairAt l i) (pairAt l j))
+unfolding hasConflictAmong
+conflict-found takesPart l i = refl
 
 -- Pair j is a reason to drop pair i.
 abbrev pub reason : Text → List ℕ → List ℕ → ℕ → ℕ → Bool
 reason store places first i j = not (eqb i j) && eqb (getD first j 0) 0 && conflictsWith (pairIn store places i) (pairIn store places j)
+
+-- The search over the lent list, for any predicate that a buffer of numbers decides: a pair takes part if its number is 0.
+conflict-among : (store : Text) (places : List ℕ) (n : ℕ) (first : List ℕ) (takesPart : ℕ → Bool) → ((j : ℕ) → j < n → eqb (getD first j 0) 0 ≡ takesPart j)
+    → (i : ℕ) → i < n → hasConflictAmong takesPart (pairsIn store places n) i ≡ anyBelow n (reason store places first i)
+conflict-among store places n first takesPart decides i h =
+    let l : List Pair = pairsIn store places n in
+    conflict-found takesPart l i
+    ∙ ap (λ (k : ℕ). anyBelow k (λ (j : ℕ). not (eqb i j) && takesPart j && conflictsWith (pairAt l i) (pairAt l j))) (pairsIn-length store places n)
+    ∙ some-same (λ (j : ℕ). not (eqb i j) && takesPart j && conflictsWith (pairAt l i) (pairAt l j)) (reason store places first i) n
+    (λ j k. rw (pairsIn-at store places n i h, pairsIn-at store places n j k, decides j k))
 
 -- `write_conflicts`
 module _ (store : Text) (places : List ℕ) (n : ℕ) (out₀ : Text) where
@@ -154,22 +185,17 @@ module _ (store : Text) (places : List ℕ) (n : ℕ) (out₀ : Text) where
     conflict-in : (i : ℕ) → i < n → hasConflict (pairsIn store places n) i ≡ anyBelow n (reason store places first i)
     conflict-in i h =
         let l : List Pair = pairsIn store places n in
-        conflict-is l i ∙ ap (λ (k : ℕ). anyBelow k (λ (j : ℕ). not (eqb i j) && canConflict l j && conflictsWith (pairAt l i) (pairAt l j))) (pairsIn-length store places n)
-        ∙ some-same (λ (j : ℕ). not (eqb i j) && canConflict l j && conflictsWith (pairAt l i) (pairAt l j)) (reason store places first i) n
-        (λ j k. rw (pairsIn-at store places n i h, pairsIn-at store places n j k, at-initial j k, conflicting l j (isStructural (pairAt l j)) (isDuplicate l j) refl refl))
+        conflict-is l i
+        ∙ conflict-among store places n first (canConflict l) (λ j k. ap (λ (v : ℕ). eqb v 0) (at-initial j k) ∙ conflicting l j) i h
 
     -- At pair i, with the statuses before it written.
     module _ (i : ℕ) (h : i < n) (out : Text) (e : out ≡ written (statusList (pairsIn store places n) i) out₀) (g : n ≤ length out₀) where
       pub settle-dropped : getD first i 0 ≢ 0 → set out i (getD first i 0) ≡ written (statusList (pairsIn store places n) (i + 1)) out₀
-      settle-dropped d =
-          let l : List Pair = pairsIn store places n in
-          settle-by out i (getD first i 0) g h e (kept l i (isStructural (pairAt l i)) (isDuplicate l i) (getD first i 0) refl refl (at-initial i h) d)
+      settle-dropped d = settle-by out i (getD first i 0) g h e (kept (pairsIn store places n) i (getD first i 0) (at-initial i h) d)
 
       module _ (z : getD first i 0 ≡ 0) (now : Text) (at j v : ℕ) (s : at ≡ i) (u : now ≡ out) where
         settled : (b : Bool) → anyBelow n (reason store places first i) ≡ b → occurrence (pairsIn store places n) i ≡ cond b DroppedConflict Active
-        settled b k =
-            let l : List Pair = pairsIn store places n in
-            decided l i (isStructural (pairAt l i)) (isDuplicate l i) refl refl (sym z ∙ at-initial i h) ∙ rw (conflict-in i h, k)
+        settled b k = decided (pairsIn store places n) i (sym z ∙ at-initial i h) ∙ rw (conflict-in i h, k)
 
         pub settle-conflict : j < n → (b : Bool) → b ≡ reason store places first at j → b ≡ true → v ≡ 3 → set now at v ≡ written (statusList (pairsIn store places n) (at + 1)) out₀
         settle-conflict k b r t w =

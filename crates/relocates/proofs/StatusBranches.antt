@@ -18,7 +18,7 @@ use Rattle.path_prefix.specs.Elements.{primElementCount}
 use Rattle.pair_list.specs.Pair.{Pair, pair, pairAt}
 use Rattle.pair_list.specs.Places.{pairIn, pairsIn, keyAt}
 use Rattle.pair_list.proofs.PlaceLaws.{pairsIn-at, pair-is}
-use Rattle.relocates.specs.Status.{anyBelow, isStructural, claimsSource, isDuplicate, equalNonEmpty, pairConflicts, conflictsWith}
+use Rattle.relocates.specs.Status.{anyBelow, isStructural, claimsSource, isDuplicateAmong, isDuplicate, equalNonEmpty, pairConflicts, conflictsWith}
 
 -- `is_structural`
 module _ (s t : Text) where
@@ -83,12 +83,20 @@ some-on f k h e = rw (add-one k, h, e)
 
 -- `is_duplicate`: the sources are those of the list in lent memory.
 module _ (store : Text) (places : List ℕ) (n i : ℕ) (h : i < n) where
+  -- For any two predicates that agree on the earlier pairs.
+  duplicate-among : (counts counts′ : ℕ → Bool) → ((k : ℕ) → k < i → counts k ≡ counts′ k)
+      → isDuplicateAmong counts (pairsIn store places n) i ≡ anyBelow i (λ (k : ℕ). counts′ k && equal ((pairIn store places k) .source) ((pairIn store places i) .source))
+  unfolding isDuplicateAmong
+  duplicate-among counts counts′ same =
+      some-same (λ (k : ℕ). counts k && equal ((pairAt (pairsIn store places n) k) .source) ((pairAt (pairsIn store places n) i) .source))
+      (λ (k : ℕ). counts′ k && equal ((pairIn store places k) .source) ((pairIn store places i) .source)) i
+      (λ k l. rw (pairsIn-at store places n k (omega arith), pairsIn-at store places n i h, same k l))
+
   pub duplicate-in : isDuplicate (pairsIn store places n) i ≡ anyBelow i (λ (k : ℕ). claimsSource (pairIn store places k) ((pairIn store places i) .source))
-  unfolding isDuplicate
+  unfolding isDuplicate claimsSource
   duplicate-in =
-      some-same (λ (k : ℕ). claimsSource (pairAt (pairsIn store places n) k) ((pairAt (pairsIn store places n) i) .source))
-      (λ (k : ℕ). claimsSource (pairIn store places k) ((pairIn store places i) .source)) i
-      (λ k l. rw (pairsIn-at store places n k (omega arith), pairsIn-at store places n i h))
+      duplicate-among (λ (k : ℕ). not (isStructural (pairAt (pairsIn store places n) k))) (λ (k : ℕ). not (isStructural (pairIn store places k)))
+      (λ k l. ap (λ (x : Pair). not (isStructural x)) (pairsIn-at store places n k (omega arith)))
 
 -- No pair before k reserves the source of pair i.
 abbrev pub NoneBefore : Text → List ℕ → ℕ → Text → ℕ → Type 0

@@ -40,10 +40,15 @@ unfoldable pub claimsSource : Pair → Text → Bool
 unfolding isStructural equal
 claimsSource x s = not (isStructural x) && equal (x .source) s
 
+-- Whether an earlier pair that counts has the source of the pair at i; `counts` says which pairs count, by their indices.
+unfoldable pub isDuplicateAmong : (ℕ → Bool) → List Pair → ℕ → Bool
+unfolding anyBelow equal
+isDuplicateAmong counts l i = anyBelow i (λ (k : ℕ). counts k && equal ((pairAt l k) .source) ((pairAt l i) .source))
+
 -- Whether the pair at i is a duplicate. Requirements: "2: an earlier non-structural pair has this source." (Rust: duplicate_source_mask)
 unfoldable pub isDuplicate : List Pair → ℕ → Bool
-unfolding anyBelow claimsSource
-isDuplicate l i = anyBelow i (λ (k : ℕ). claimsSource (pairAt l k) ((pairAt l i) .source))
+unfolding isStructural isDuplicateAmong
+isDuplicate l i = isDuplicateAmong (λ (k : ℕ). not (isStructural (pairAt l k))) l i
 
 -- Whether the pair at i takes part in the search for conflicts. Requirements: "pairs neither 1 nor 2".
 unfoldable pub canConflict : List Pair → ℕ → Bool
@@ -69,11 +74,16 @@ unfoldable pub conflictsWith : Pair → Pair → Bool
 unfolding equalNonEmpty pairConflicts
 conflictsWith a b = equalNonEmpty (a .target) (b .target) || pairConflicts a b
 
+-- Whether the pair at i conflicts with another pair that takes part in the search; `takesPart` says which pairs do, by their indices.
+unfoldable pub hasConflictAmong : (ℕ → Bool) → List Pair → ℕ → Bool
+unfolding anyBelow conflictsWith
+hasConflictAmong takesPart l i = anyBelow (length l) (λ (j : ℕ). not (eqb i j) && takesPart j && conflictsWith (pairAt l i) (pairAt l j))
+
 -- Whether the pair at i conflicts with another pair. Requirements: "3: among pairs neither 1 nor 2, another has the same non-empty target
 -- or gives a reason"; "A pair that is itself 3 still conflicts with others."
 unfoldable pub hasConflict : List Pair → ℕ → Bool
-unfolding anyBelow canConflict conflictsWith
-hasConflict l i = anyBelow (length l) (λ (j : ℕ). not (eqb i j) && canConflict l j && conflictsWith (pairAt l i) (pairAt l j))
+unfolding canConflict hasConflictAmong
+hasConflict l i = hasConflictAmong (canConflict l) l i
 
 -- The status of the pair at i: structural, duplicate, or otherwise `kept`.
 unfoldable pub occurrenceOr : RelocateOccurrence → List Pair → ℕ → RelocateOccurrence

@@ -9,7 +9,7 @@ use Rattle.text.specs.Text.{writtenAt}
 use Rattle.pair_list_write.specs.Select.{indicesWhere, writtenEntries}
 use Rattle.validate.specs.Validate.{LentList, lentList}
 use Rattle.validate.specs.Select.{canSelect}
-use Rattle.map_canonical.specs.Canonical.{canonicalSelection}
+use Rattle.map_canonical.specs.Canonical.{keptSelection, canonicalSelection}
 use Rattle.relocates.specs.Select.{activeSelection}
 use Rattle.route_legs.specs.LentRoute.{LentRoute, kindAt, listAt}
 
@@ -26,7 +26,7 @@ legSourceList kind l = cond (leb 2 kind) (activeList l) l
 -- The indices of the pairs selected: those that `new` keeps of a relocate list, all of a map; none if question 4 refuses the list or the
 -- capacity is less than 64 pairs.
 unfoldable pub legSelection : ℕ → LentList → ℕ → List ℕ
-unfolding canonicalSelection activeList canSelect indicesWhere
+unfolding keptSelection activeList canSelect indicesWhere
 legSelection kind l room = cond (leb 2 kind) (canonicalSelection (activeList l) true room) (cond (canSelect l room) (indicesWhere (λ (i : ℕ). true) (l .count)) [])
 
 -- The block of the leg: the places of the selected pairs over its beginning.

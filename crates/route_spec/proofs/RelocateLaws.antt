@@ -1,4 +1,4 @@
--- Lemmas about the map of a relocate list: its ends are ends of the list, and none of its sources is empty.
+-- Lemmas about the map of a relocate list: its ends are ends of the list, and none of its sources is empty. Lemmas about closed legs.
 use mathlib.Core.Path.{_≡_, refl, sym, _∙_}
 use mathlib.Core.Bool.{Bool, true, false, not, cond, _&&_, _||_, false≢true}
 use mathlib.Core.List.{List, [], _∷_, _++_}
@@ -17,16 +17,13 @@ use Rattle.path_prefix.proofs.PrefixLaws.{legal-prefix-empty}
 use Rattle.pair_list.specs.Pair.{Pair, emptyPair, pairAt, sourceAt, everyEnd, allEnds, allShort, noEmptySource}
 use Rattle.pair_list.specs.LongestMatch.{longestBy, matches, longestMatch}
 use Rattle.map_spec.specs.Map.{matchSource}
-use Rattle.map_spec.specs.New.{isRootPair, anyRootPair, withoutRootPairs, sortBySource, mapVia, isRedundant, dropRedundant, canonicalize, fromParts, new}
-use Rattle.map_spec.proofs.EndLaws.{ends-target, all, every-all, isFull, full-all, fromParts-keeps, fromParts-length}
+use Rattle.map_spec.specs.New.{isRootPair, anyRootPair, withoutRootPairs, mapVia, isRedundant, canonicalize, fromParts, new}
+use Rattle.map_spec.proofs.DropLaws.{canonical-keeps}
+use Rattle.map_spec.proofs.EndLaws.{ends-target, all, all-more, undropped-pass, every-all, isFull, full-all, fromParts-keeps, fromParts-every, fromParts-length, new-ends}
 use Rattle.relocates.specs.Status.{isStructural, statusByte, occurrence, activePairs, rootPair, relocateMap}
+use Rattle.route_spec.specs.Leg.{legMap, legEnds, closedLeg, countedPairs}
 
 module _ (ok : Pair → Bool) where
-  all-more : (l : List Pair) (x : Pair) → all ok l ≡ true → ok x ≡ true → all ok (l ++ x ∷ []) ≡ true
-  unfolding all
-  all-more [] x e h = rw h
-  all-more (y ∷ l) x e h = rw (and-l (ok y) (all ok l) e) (all-more l x (and-r (ok y) (all ok l) e) h)
-
   -- A test that each Active pair and `/`→`/` pass is passed by every pair of the map.
   active-keeps : (l : List Pair) → ((n : ℕ) → eqb (statusByte (occurrence l n)) 0 ≡ true → ok (pairAt l n) ≡ true)
       → (n : ℕ) → all ok (activePairs l n) ≡ true
@@ -36,14 +33,14 @@ module _ (ok : Pair → Bool) where
     where
       go : (b : Bool) → eqb (statusByte (occurrence l n)) 0 ≡ b → all ok (activePairs l n) ≡ true
           → all ok (cond b (activePairs l n ++ pairAt l n ∷ []) (activePairs l n)) ≡ true
-      go true h ih = all-more (activePairs l n) (pairAt l n) ih (each n h)
+      go true h ih = all-more ok (activePairs l n) (pairAt l n) ih (each n h)
       go false h ih = ih
 
   relocate-keeps : (l : List Pair) → ((n : ℕ) → eqb (statusByte (occurrence l n)) 0 ≡ true → ok (pairAt l n) ≡ true) → ok rootPair ≡ true
       → all ok ((relocateMap l) .pairs) ≡ true
   unfolding relocateMap new
   relocate-keeps l each h =
-      fromParts-keeps ok (activePairs l (length l) ++ rootPair ∷ []) false (all-more (activePairs l (length l)) rootPair (active-keeps l each (length l)) h)
+      fromParts-keeps ok (activePairs l (length l) ++ rootPair ∷ []) false (all-more ok (activePairs l (length l)) rootPair (active-keeps l each (length l)) h)
 
 -- A test of texts that the empty text, `/` and every end of the list pass is passed by every end of the map.
 module _ (passes : Text → Bool) (none-passes : passes [] ≡ true) where
@@ -114,34 +111,8 @@ not-implied kept x h = go (x .source) (x .target) h
     go [] (a ∷ t) h = refl
     go (a ∷ s) t h = refl
 
-keep-there : (kept l : List Pair) → all isThere kept ≡ true → all isThere (dropRedundant true kept l) ≡ true
-unfolding dropRedundant
-keep-there kept [] h = h
-keep-there kept (x ∷ l) h = go (isRedundant (record { pairs = kept; mark = true }) x) refl (λ k. keep-there k l)
-  where
-    go : (b : Bool) → isRedundant (record { pairs = kept; mark = true }) x ≡ b → ((k : List Pair) → all isThere k ≡ true → all isThere (dropRedundant true k l) ≡ true)
-        → all isThere (dropRedundant true (cond b kept (kept ++ x ∷ [])) l) ≡ true
-    go true e ih = ih kept h
-    go false e ih = ih (kept ++ x ∷ []) (all-more isThere kept x h (not-implied kept x e))
-
-alone-there : (x : Pair) → all isThere (cond (equal (x .source) (x .target)) [] (x ∷ [])) ≡ true
-unfolding all equal
-alone-there x = go (x .source) (x .target)
-  where
-    go : (s t : Text) → all isThere (cond (equal s t) [] (record { source = s; target = t } ∷ [])) ≡ true
-    go [] [] = refl
-    go [] (a ∷ t) = refl
-    go (a ∷ s) t = either (equal (a ∷ s) t)
-      where
-        either : (b : Bool) → all isThere (cond b [] (record { source = a ∷ s; target = t } ∷ [])) ≡ true
-        either true = refl
-        either false = refl
-
 canonical-there : (l : List Pair) → all isThere (canonicalize true l) ≡ true
-unfolding canonicalize all
-canonical-there [] = refl
-canonical-there (x ∷ []) = alone-there x
-canonical-there (x ∷ y ∷ l) = keep-there [] (sortBySource (x ∷ y ∷ l)) refl
+canonical-there l = rw (canonical-keeps true l) (undropped-pass isThere isRedundant true not-implied l)
 
 marked-by-roots : (l : List Pair) → anyRootPair (l ++ rootPair ∷ []) ≡ true
 unfolding anyRootPair
@@ -192,3 +163,24 @@ pub relocate-full : (l : List Pair) → allEnds l ≡ true → noEmptySource ((r
 relocate-full l e =
     full-all ((relocateMap l) .pairs)
     ∙ both-full ((relocateMap l) .pairs) (relocate-keeps fullOrGone l (active-loose l e) refl) (relocate-there l)
+
+-- A closed leg of either kind: its map is built from the counted pairs, with the mark for a relocate list.
+pub closed-parts : (relocates : Bool) (l : List Pair) → legMap (closedLeg relocates l) ≡ fromParts (countedPairs relocates l) relocates
+unfolding closedLeg legMap countedPairs new
+closed-parts false l = refl
+closed-parts true l = relocate-parts l
+
+pub closed-few : (relocates : Bool) (l : List Pair) → length ((legMap (closedLeg relocates l)) .pairs) ≤ length l
+unfolding closedLeg legMap new
+closed-few false l = fromParts-length l false
+closed-few true l = relocate-few l
+
+pub closed-short : (relocates : Bool) (l : List Pair) → allShort l ≡ true → allShort ((legMap (closedLeg relocates l)) .pairs) ≡ true
+unfolding closedLeg legMap new allShort
+closed-short false l = fromParts-every atMost255 l false
+closed-short true l = relocate-short l
+
+pub closed-ends : (relocates : Bool) (l : List Pair) → allEnds l ≡ true → legEnds (closedLeg relocates l) ≡ true
+unfolding closedLeg legEnds
+closed-ends false l = new-ends l
+closed-ends true l = λ e. e

@@ -1,3 +1,4 @@
+use Rattle.map_spec.specs.New.{isRedundant}
 use Rattle.validate.proofs.SelectLaws.{select-few, select-present, select-room}
 use Rattle.map_canonical.proofs.LevelBranches.{places-none, places-made}
 use borrow.Author.Needs.{needs}
@@ -8,7 +9,7 @@ can-select-requires : tie.Need-can-select-requires
 can-select-requires c κs = search needs
 
 returns : tie.Need-returns
-returns c = places-none _ _ _ _ _ _ (c .before .can-select .ensures) (c .if1 .taken)
+returns c = places-none _ _ _ isRedundant _ _ _ (c .before .can-select .ensures) (c .if1 .taken)
 
 canonicalize-requires : tie.Need-canonicalize-requires
 canonicalize-requires c κs = ((select-few _ _ _ _ (c .before .before .can-select .ensures) (c .before .if1 .left), select-present _ _ _ _ (c .before .before .can-select .ensures) (c .before .if1 .left)), select-room _ _ _ _ (c .before .before .can-select .ensures) (c .before .if1 .left))
@@ -17,7 +18,7 @@ same-length : tie.Need-same-length
 same-length c = search needs
 
 returns-2 : tie.Need-returns-2
-returns-2 c = places-made _ _ _ _ _ _ (c .before .before .before .before .before .can-select .ensures) (c .before .before .before .before .if1 .left) _ _ (c .before .before .canonicalize .ensures)
+returns-2 c = places-made _ _ _ isRedundant _ _ _ (c .before .before .before .before .before .can-select .ensures) (c .before .before .before .before .if1 .left) _ _ (c .before .before .canonicalize .ensures)
 
 pub canonical-places-spec : {M : Type 1} → statement M
 canonical-places-spec =

@@ -3,6 +3,7 @@ use native.Mathlib.Omega.{arith}
 use Prim.Native.Nat.{_≤_, _-_}
 use lib.ListN.{length}
 use Rattle.pair_list_write.specs.Select.{HoldsEntries}
+use Rattle.map_spec.specs.New.{isRedundant}
 use Rattle.map_canonical.specs.Canonical.{maxElements, HoldsElementCounts}
 use Rattle.map_canonical.proofs.LevelBranches.{below, levels-none, levels-on, levels-room, levels-end, top-room}
 use borrow.Author.Needs.{needs}
@@ -10,7 +11,7 @@ use Rattle.map_canonical.proofs.canonicalize.Statement.{statement}
 use Rattle.map_canonical.proofs.canonicalize.Tie as tie
 
 abbrev Inv-loop : tie.InvT-loop
-Inv-loop store places n mark kept₀ keys top w₀ e₀ kept w e = (e ≤ top) × HoldsEntries places (below store places n mark kept₀ e) kept₀ kept w × HoldsElementCounts store places n keys × (top ≡ maxElements store places n) × (256 ≤ length kept) × (length kept ≡ length kept₀)
+Inv-loop store places n mark kept₀ keys top w₀ e₀ kept w e = (e ≤ top) × HoldsEntries places (below store places n isRedundant mark kept₀ e) kept₀ kept w × HoldsElementCounts store places n keys × (top ≡ maxElements store places n) × (256 ≤ length kept) × (length kept ≡ length kept₀)
 
 abbrev μ-loop : tie.MeasureT-loop
 μ-loop store places n mark kept₀ keys top w₀ e₀ kept w e = top - e
@@ -22,13 +23,16 @@ fill-element-counts-requires : tie.Need-fill-element-counts-requires Inv-loop μ
 fill-element-counts-requires c κs = omega (arith, c .before .before .before .before .pre .0 .0)
 
 loop-holds : tie.Need-loop-holds Inv-loop μ-loop
-loop-holds c = (search needs, levels-none _ _ _ _ _, c .before .fill-element-counts .ensures .0, c .before .fill-element-counts .ensures .1, c .before .before .before .before .before .before .pre .1, refl)
+loop-holds c = (search needs, levels-none _ _ _ isRedundant _ _, c .before .fill-element-counts .ensures .0, c .before .fill-element-counts .ensures .1, c .before .before .before .before .before .before .pre .1, refl)
 
 slice-aggregate-keep-level : tie.Need-slice-aggregate-keep-level Inv-loop μ-loop
 slice-aggregate-keep-level c = search needs
 
 keep-level-requires : tie.Need-keep-level-requires Inv-loop μ-loop
-keep-level-requires c κs = ((c .before .before .before .before .before .before .before .before .before .before .pre .0 .1, omega (arith, c .before .before .before .before .before .before .before .before .before .before .pre .0 .0)), (c .before .before .before .loop .inv .2, levels-room _ _ _ _ _ _ _ _ (c .before .before .before .loop .inv .1) (c .before .before .before .before .before .before .before .before .before .before .pre .0 .0) (c .before .before .before .loop .inv .4)))
+keep-level-requires c κs =
+    let l = c .before .before .before .loop in
+    let p = c .before .before .before .before .before .before .before .before .before .before .pre in
+    ((p .0 .1, omega (arith, p .0 .0)), (l .inv .2, levels-room _ _ _ isRedundant _ _ _ _ _ (l .inv .1) (p .0 .0) (l .inv .4)))
 
 add-e : tie.Need-add-e Inv-loop μ-loop
 add-e c = search needs
@@ -37,19 +41,22 @@ loop-less : tie.Need-loop-less Inv-loop μ-loop
 loop-less c = search needs
 
 loop-again : tie.Need-loop-again Inv-loop μ-loop
-loop-again c = (search needs, levels-on _ _ _ _ _ _ _ _ (c .before .before .before .before .before .before .loop .inv .1) _ _ (c .before .before .keep-level .ensures), c .before .before .before .before .before .before .loop .inv .2, c .before .before .before .before .before .before .loop .inv .3, search needs, search needs)
+loop-again c = (search needs, levels-on _ _ _ isRedundant _ _ _ _ _ (c .before .before .before .before .before .before .loop .inv .1) _ _ (c .before .before .keep-level .ensures), c .before .before .before .before .before .before .loop .inv .2, c .before .before .before .before .before .before .loop .inv .3, search needs, search needs)
 
 slice-aggregate-keep-level-2 : tie.Need-slice-aggregate-keep-level-2 Inv-loop μ-loop
 slice-aggregate-keep-level-2 c = search needs
 
 keep-level-requires-2 : tie.Need-keep-level-requires-2 Inv-loop μ-loop
-keep-level-requires-2 c κs = ((c .before .before .before .before .before .before .before .before .before .before .pre .0 .1, omega (arith, c .before .before .before .before .before .before .before .before .before .before .pre .0 .0)), (c .before .before .before .loop .inv .2, top-room _ _ _ _ _ _ _ _ (c .before .before .before .loop .inv .1) _ (c .before .before .loop-test .left) (c .before .before .before .loop .inv .0) (c .before .before .before .before .before .before .before .before .before .before .pre .0 .0) (c .before .before .before .loop .inv .4)))
+keep-level-requires-2 c κs =
+    let l = c .before .before .before .loop in
+    let p = c .before .before .before .before .before .before .before .before .before .before .pre in
+    ((p .0 .1, omega (arith, p .0 .0)), (l .inv .2, top-room _ _ _ isRedundant _ _ _ _ _ (l .inv .1) _ (c .before .before .loop-test .left) (l .inv .0) (p .0 .0) (l .inv .4)))
 
 same-length : tie.Need-same-length Inv-loop μ-loop
 same-length c = search needs
 
 returns : tie.Need-returns Inv-loop μ-loop
-returns c = levels-end _ _ _ _ _ _ _ _ (c .before .before .before .before .before .before .loop .inv .1) _ (c .before .before .before .before .before .before .loop .inv .3) (c .before .before .before .before .before .loop-test .left) (c .before .before .before .before .before .before .loop .inv .0) _ _ (c .before .before .keep-level2 .ensures)
+returns c = levels-end _ _ _ isRedundant _ _ _ _ _ (c .before .before .before .before .before .before .loop .inv .1) _ (c .before .before .before .before .before .before .loop .inv .3) (c .before .before .before .before .before .loop-test .left) (c .before .before .before .before .before .before .loop .inv .0) _ _ (c .before .before .keep-level2 .ensures)
 
 pub canonicalize-spec : {M : Type 1} → statement M
 canonicalize-spec =

@@ -2,6 +2,7 @@ use mathlib.Core.Path.{_≡_, refl}
 use native.Mathlib.Omega.{arith}
 use Prim.Native.Nat.{_≤_, _+_, _-_}
 use lib.ListN.{length}
+use Rattle.map_spec.specs.New.{isRedundant}
 use Rattle.map_canonical.specs.Canonical.{nonRootWithElements}
 use Rattle.map_canonical.proofs.KeepBranches.{counted-at}
 use Rattle.map_canonical.proofs.LevelBranches.{After, level-none, level-held, level-room, level-count, level-on, level-end}
@@ -10,13 +11,13 @@ use Rattle.map_canonical.proofs.keep_level.Statement.{statement}
 use Rattle.map_canonical.proofs.keep_level.Tie as tie
 
 abbrev Inv-loop : tie.InvT-loop
-Inv-loop store places n keys e mark kept₀ w k₀ i₀ kept k i = (i ≤ n) × After store places e mark kept₀ w i kept k × (k ≤ w + length (nonRootWithElements store places e i)) × (length kept ≡ length kept₀)
+Inv-loop store places n keys e mark kept₀ w k₀ i₀ kept k i = (i ≤ n) × After store places e isRedundant mark kept₀ w i kept k × (k ≤ w + length (nonRootWithElements store places e i)) × (length kept ≡ length kept₀)
 
 abbrev μ-loop : tie.MeasureT-loop
 μ-loop store places n keys e mark kept₀ w k₀ i₀ kept k i = n - i
 
 loop-holds : tie.Need-loop-holds Inv-loop μ-loop
-loop-holds c = (search needs, level-none _ _ _ _ _ _, omega arith, refl)
+loop-holds c = (search needs, level-none _ _ _ isRedundant _ _ _, omega arith, refl)
 
 mul-keep-pair : tie.Need-mul-keep-pair Inv-loop μ-loop
 mul-keep-pair c = search needs
@@ -43,13 +44,13 @@ loop-again c =
     let k = counted-at _ _ _ _ _ (c .before .before .before .before .before .loop-test .taken) (p .1 .0) in
     let t = c .before .before .keep-pair .ensures in
     let more = c .before .before .before .before .before .loop-test .taken in
-    (search needs, level-on _ _ _ _ _ _ _ _ _ _ k (l .inv .1) (omega (arith, more, p .0 .0)) (level-room _ _ _ _ _ _ _ _ k _ (l .inv .2) _ _ more (p .1 .1) (l .inv .3)) _ _ (t .0) (t .1), level-count _ _ _ _ _ _ _ _ k _ (l .inv .2) _ (t .0), search needs)
+    (search needs, level-on _ _ _ isRedundant _ _ _ _ _ _ _ k (l .inv .1) (omega (arith, more, p .0 .0)) (level-room _ _ _ isRedundant _ _ _ _ _ k _ (l .inv .2) _ _ more (p .1 .1) (l .inv .3)) _ _ (t .0) (t .1), level-count _ _ _ isRedundant _ _ _ _ _ k _ (l .inv .2) _ (t .0), search needs)
 
 same-length : tie.Need-same-length Inv-loop μ-loop
 same-length c = search needs
 
 returns : tie.Need-returns Inv-loop μ-loop
-returns c = level-end _ _ _ _ _ _ _ _ _ _ (c .loop-test .left) (c .before .loop .inv .0) (c .before .loop .inv .1)
+returns c = level-end _ _ _ isRedundant _ _ _ _ _ _ _ (c .loop-test .left) (c .before .loop .inv .0) (c .before .loop .inv .1)
 
 pub keep-level-spec : {M : Type 1} → statement M
 keep-level-spec =
