@@ -19,7 +19,8 @@ use Rattle.path_join.proofs.JoinBranches.{join-length, separator-short, body-sh
 use Rattle.path_join.proofs.JoinLegal.{join-legal}
 use Rattle.pair_list.specs.Pair.{allShort, allEnds}
 use Rattle.pair_list.specs.LongestMatch.{longestMatch, matches}
-use Rattle.pair_list.proofs.PlaceLaws.{chosen-best, short-at}
+use Rattle.pair_list.proofs.LongestMatchLaws.{chosen-best}
+use Rattle.pair_list.proofs.PlaceLaws.{short-at}
 use Rattle.refusal.specs.declared.Refusal.the-variants.{NoPath}
 use Rattle.refusal.specs.Outcome.{refused, checked, checkedOption}
 use Rattle.map_spec.specs.Map.{Map, mapSource, mapTarget, mapSize, matchSource, matchTarget, mapBy, mapSourceToTarget, mapTargetToSource, eqIndex, requireInvertible}

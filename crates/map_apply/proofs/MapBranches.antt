@@ -21,7 +21,7 @@ use Rattle.pair_list.specs.Places.{keyAt}
 use Rattle.pair_list.specs.LongestMatch.{longestMatch, matches}
 use Rattle.map_lookup.specs.LookupStep.{foundOf}
 use Rattle.map_lookup.proofs.FoundLaws.{found-none, found-some}
-use Rattle.pair_list.proofs.PlaceLaws.{chosen-best}
+use Rattle.pair_list.proofs.LongestMatchLaws.{chosen-best}
 use Rattle.map_lookup.specs.declared.Found.{Found}
 use Rattle.refusal.specs.declared.Refusal.the-variants.{NoPath, MadeTooLong, MadeIllegal}
 use Rattle.refusal.specs.declared.Reply.{Reply}

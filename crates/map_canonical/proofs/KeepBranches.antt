@@ -25,7 +25,7 @@ use Rattle.pair_list.specs.LongestMatch.{longestMatch, matches}
 use Rattle.map_lookup.specs.LookupStep.{foundOf}
 use Rattle.map_lookup.proofs.FoundLaws.{found-none, found-some}
 use Rattle.map_lookup.specs.declared.Found.{Found}
-use Rattle.pair_list.proofs.PlaceLaws.{chosen-best, pair-is}
+use Rattle.pair_list.proofs.PlaceLaws.{pair-is}
 use Rattle.pair_list_write.proofs.WriteBranches.{source-key, target-key}
 use Rattle.validate.specs.Validate.{lentList, countWithinLimit}
 use Rattle.validate.specs.Select.{canSelect, pairsIfSelectable}
@@ -33,7 +33,7 @@ use Rattle.map_spec.specs.Map.{Map, lentMap, mapSource, mapTarget}
 use Rattle.map_spec.specs.New.{isRootPair, anyRootPair, withoutRootPairs, mapViaPair, mapVia, isSomeText, isRedundant, fromPartsBy}
 use Rattle.map_spec.proofs.LentLaws.{matched-long, out-keys, ends-by}
 use Rattle.map_canonical.specs.Canonical.{sourceElements, maxElements, HoldsElementCounts, keepsPair}
-use Rattle.pair_list.proofs.LongestMatchLaws.{served}
+use Rattle.pair_list.proofs.LongestMatchLaws.{chosen-best, served}
 
 -- Lemmas for `is_root_pair`.
 module _ (store : Text) (places : List ℕ) (i : ℕ) (k : Text) (e : k ≡ keyAt store places false i) (b : Bool) (h : b ≡ isRoot k) where

@@ -18,7 +18,7 @@ use Rattle.path_join.proofs.ReplaceLaws.{replace-prefix}
 use Rattle.path_join.proofs.JoinLegal.{join-legal}
 use Rattle.pair_list.specs.Pair.{Pair, everyEnd, allEnds}
 use Rattle.pair_list.specs.LongestMatch.{longestMatch, matches}
-use Rattle.pair_list.proofs.PlaceLaws.{chosen-best}
+use Rattle.pair_list.proofs.LongestMatchLaws.{chosen-best}
 use Rattle.map_spec.specs.Map.{Map, mapSource, mapTarget, mapSize, mapBy, matchSource, matchTarget, mapSourceToTarget, mapTargetToSource}
 use Rattle.map_spec.proofs.EndLaws.{ends-source, ends-target}
 use Rattle.map_compose.specs.Calls.{ComposedEnds}

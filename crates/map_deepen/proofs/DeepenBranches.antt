@@ -1,21 +1,18 @@
 -- Lemmas about the branches of the functions of `deepen_to`.
 use mathlib.Core.Path.{_≡_, refl, sym, ap, _∙_}
-use mathlib.Core.Bool.{Bool, true, false, not, cond, false≢true}
+use mathlib.Core.Bool.{Bool, true, false, not, cond}
 use mathlib.Core.List.{List, [], _∷_, _++_}
 use mathlib.Core.Option.{Option, none, some, Option·getD}
-use Prim.Native.Nat.{ℕ, suc, _+_, _*_, _≤_, _<_}
+use Prim.Native.Nat.{ℕ, _+_, _*_, _≤_, _<_}
 use native.Mathlib.Omega.{arith}
-use native.Mathlib.Numerals.{add-one}
-use lib.Dec.{leb}
 use lib.ListN.{length, take}
-use borrow.Author.Tests.{le-leb, lt-leb}
+use borrow.Author.Tests.{lt-leb}
 use Rattle.text.specs.Text.{Text, equal, writtenAt}
 use Rattle.text.specs.declared.Fit.{Fit}
 use Rattle.text.specs.declared.Fit.the-variants.{Written}
-use Rattle.text.proofs.BoolLaws.{told, known-true, known-false, not-true, not-false}
+use Rattle.text.proofs.BoolLaws.{told, not-true, not-false}
 use Rattle.path_grammar.specs.Legal.{legal, atMost255, isEnd}
 use Rattle.path_prefix.specs.Prefix.{hasPrefix}
-use Rattle.path_prefix.specs.Elements.{elementCount}
 use Rattle.path_join.specs.Join.{replacePrefix}
 use Rattle.path_join.proofs.ReplaceLaws.{replace-prefix}
 use Rattle.path_parts.specs.Strip.{strip, stripFit, stripBuffer}
@@ -24,9 +21,11 @@ use Rattle.layer_offset.specs.declared.LayerOffset.{LayerOffset}
 use Rattle.map_deepen.specs.declared.ClassSoFar.{ClassSoFar}
 use Rattle.pair_list.specs.Pair.{Pair, pair, allShort}
 use Rattle.pair_list.specs.Places.{keyAt, pairIn, pairsIn, pairEntry}
+use Rattle.pair_list.specs.BestStep.{bestKept, indexKept}
 use Rattle.pair_list.specs.LongestMatch.{longestBy}
-use Rattle.pair_list.proofs.LongestMatchLaws.{Best}
-use Rattle.pair_list.proofs.PlaceLaws.{pairsIn-length, pairsIn-source, pairsIn-target, chosen-best, best-same}
+use Rattle.pair_list.proofs.BestLaws.{search-none, step-fails, step-lighter, step-heavier, step-first}
+use Rattle.pair_list.proofs.LongestMatchLaws.{IsLongest, chosen-best, best-same}
+use Rattle.pair_list.proofs.PlaceLaws.{pairsIn-length, pairsIn-source, pairsIn-target}
 use Rattle.pair_list_write.proofs.WriteBranches.{source-key, target-key}
 use Rattle.refusal.specs.declared.Refusal.{Refusal}
 use Rattle.refusal.specs.declared.Refusal.the-variants.{TooLong}
@@ -43,7 +42,7 @@ use Rattle.map_function.specs.MapFunction.{listOf, mapOf}
 use Rattle.map_function.specs.MapOutcome.{MapOutcome, map, refused, withinLimits, withoutDropping, countInSlice}
 use Rattle.pair_buffer.specs.Ends.{replacedOrSame, fromEnds}
 use Rattle.pair_buffer.proofs.MapLaws.{held-all, limited-map, fromEnds-map}
-use Rattle.map_deepen.specs.FindClass.{considerClass, classIndex}
+use Rattle.map_deepen.specs.FindClass.{classIndex}
 use Rattle.map_deepen.specs.Calls.{deepenedPairs, deepenOutcomeBy, deepenOutcome, DeepensTo, deepenToCall}
 
 -- `deepen_pair`
@@ -85,55 +84,8 @@ module _ (q : Text) (k : ℕ) (made : Text) (e : k ≡ length q) (f : take k mad
       → fromEnds (deepenedPairs node a (replacedOrSame node a b) l) mark time out slots ≡ fromEnds (deepenedPairs node above (take k made) l) mark time out slots
   deepen-same node above new a b g h i l mark time out slots = rw (f, i, g, h) refl
 
--- `consider_class`
-module _ (f : ClassSoFar) (p k : Text) (i : ℕ) (b : Bool) (h : b ≡ hasPrefix p k) where
-  pub above-other : not b ≡ true → f ≡ considerClass f p k i
-  unfolding considerClass
-  above-other l = rw (known-false h l)
-
-  module _ (l : not b ≡ false) (n : ℕ) (e : n ≡ elementCount k) where
-    pub above-worse : f .found ≡ true → n < f .elements → f ≡ considerClass f p k i
-    unfolding considerClass
-    above-worse g m = rw (known-true h l, g, ← e, lt-leb (f .elements) n m)
-
-    pub above-better : f .found ≡ true → f .elements ≤ n → record { found = true; at = i; elements = n } ≡ considerClass f p k i
-    unfolding considerClass
-    above-better g m = rw (known-true h l, g, ← e, le-leb (f .elements) n m)
-
-    pub above-first : f .found ≡ false → record { found = true; at = i; elements = n } ≡ considerClass f p k i
-    unfolding considerClass
-    above-first g = rw (known-true h l, g, ← e)
-
--- The loop invariant: the pair found is the one that `longestBy` selects among the first i sources.
-pub record Above (p : Text) (key : ℕ → Text) (i : ℕ) (f : ClassSoFar) : Type 0 where
-  pub chosen : classIndex f ≡ longestBy (hasPrefix p) key i
-  pub counted : f .found ≡ true → f .elements ≡ elementCount (key (f .at))
-
-pub above-none : (p : Text) (key : ℕ → Text) → Above p key 0 (record { found = false; at = 0; elements = 0 })
-unfolding longestBy
-above-none p key = record { chosen = refl; counted = λ h. absurd (false≢true h) }
-
-module _ (p : Text) (key : ℕ → Text) (i : ℕ) where
-  compared : (at e : ℕ) (c : Bool) → some at ≡ longestBy (hasPrefix p) key i → e ≡ elementCount (key at) → hasPrefix p (key i) ≡ true → leb e (elementCount (key i)) ≡ c
-      → Above p key (suc i) (cond c (record { found = true; at = i; elements = elementCount (key i) }) (record { found = true; at = at; elements = e }))
-  unfolding longestBy
-  compared at e true h k s t = record { chosen = rw (s, ← h, ← k, t); counted = λ z. refl }
-  compared at e false h k s t = record { chosen = rw (s, ← h, ← k, t); counted = λ z. k }
-
-  cases : (found : Bool) (at e : ℕ) (b : Bool) → Above p key i (record { found = found; at = at; elements = e }) → hasPrefix p (key i) ≡ b
-      → Above p key (suc i) (considerClass (record { found = found; at = at; elements = e }) p (key i) i)
-  unfolding longestBy considerClass
-  cases true at e true h s = rw s (compared at e (leb e (elementCount (key i))) (h .chosen) (h .counted refl) s refl)
-  cases false at e true h s = rw s (record { chosen = rw (s, ← (h .chosen)); counted = λ z. refl })
-  cases found at e false h s = rw s (record { chosen = rw s (h .chosen); counted = h .counted })
-
-  pub above-on : (f f′ : ClassSoFar) (k : Text) → Above p key i f → k ≡ key i → f′ ≡ considerClass f p k i → Above p key (i + 1) f′
-  above-on f f′ k h e c = rw (c, e, add-one i) (cases (f .found) (f .at) (f .elements) (hasPrefix p (key i)) h refl)
-
-pub above-end : (p : Text) (key : ℕ → Text) (i n : ℕ) (f : ClassSoFar) → Above p key i f → n ≤ i → i ≤ n → classIndex f ≡ longestBy (hasPrefix p) key n
-above-end p key i n f h l m = let e : n ≡ i = omega arith in rw e (h .chosen)
-
-pub ruleset classes = (above-other, above-worse, above-better, above-first, above-none, above-on, above-end)
+-- `consider_class` and `find_class`
+pub ruleset classes = (step-fails, step-lighter, step-heavier, step-first, search-none)
 
 -- `strip_node`
 pub node-done : (p out : Text) (f : Fit) → length p ≤ length out → f ≡ stripFit p out → (n : ℕ) → f ≡ Written n → (out′ : Text) → out′ ≡ stripBuffer p out
@@ -201,13 +153,13 @@ module _ (store : Text) (places : List ℕ) (f : MapFunction) (p node : Text) (o
 
         pub deepen-none : not (c .found) ≡ true → deepenToCall store places f p out slots ≡ asItStands
         unfolding deepenOutcomeBy
-        deepen-none n = opened ∙ ap (λ (x : Bool). deepenOutcomeBy m node (cond x (some (c .at)) none) (f .«time_offset») out slots) (not-true (c .found) n) ∙ stands
+        deepen-none n = opened ∙ ap (λ (x : Bool). deepenOutcomeBy m node (indexKept (bestKept x (c .at) (c .elements .0))) (f .«time_offset») out slots) (not-true (c .found) n) ∙ stands
 
         module _ (n : not (c .found) ≡ false) where
           chosen-is : longestBy (hasPrefix node) (keyAt store places false) (f .count) ≡ some (c .at)
-          chosen-is = sym i ∙ ap (λ (x : Bool). cond x (some (c .at)) none) (not-false (c .found) n)
+          chosen-is = sym i ∙ ap (λ (x : Bool). indexKept (bestKept x (c .at) (c .elements .0))) (not-false (c .found) n)
 
-          best : Best (hasPrefix node) (keyAt store places false) (f .count) (c .at)
+          best : IsLongest (hasPrefix node) (keyAt store places false) (f .count) (c .at)
           best = chosen-best (hasPrefix node) (keyAt store places false) (f .count) (c .at) chosen-is
 
           pub deepen-inside : c .at < f .count
@@ -230,7 +182,7 @@ module _ (store : Text) (places : List ℕ) (f : MapFunction) (p node : Text) (o
           unfolding deepenOutcomeBy
           deepen-made =
               opened
-              ∙ ap (λ (x : Bool). deepenOutcomeBy m node (cond x (some (c .at)) none) (f .«time_offset») out slots) (not-false (c .found) n)
+              ∙ ap (λ (x : Bool). deepenOutcomeBy m node (indexKept (bestKept x (c .at) (c .elements .0))) (f .«time_offset») out slots) (not-false (c .found) n)
               ∙ ap (λ (y : Text). fromEnds (deepenedPairs node (mapSource m (c .at)) y (pairsIn store places (f .count))) (f .«has_root_identity») (f .«time_offset») out slots) below-is
               ∙ ap (λ (y : Text). fromEnds (deepenedPairs node y (replacedOrSame node above (keyAt store places true (c .at))) (pairsIn store places (f .count)))
               (f .«has_root_identity») (f .«time_offset») out slots) (pairsIn-source store places (f .count) (c .at) deepen-inside)

@@ -7,15 +7,17 @@ ghost use Prim.Native.Nat.{_+_, _*_, _≤_, _<_};
 ghost use lib.ListN.{length, take};
 ghost use Rattle.text.specs.Text.{writtenAt};
 ghost use Rattle.path_prefix.specs.Prefix.{hasPrefix};
+ghost use Rattle.path_prefix.specs.Elements.{elementCount};
 ghost use Rattle.path_parts.specs.Strip.{strip};
 ghost use Rattle.pair_list.specs.Pair.{pair, allShort};
 ghost use Rattle.pair_list.specs.Places.{keyAt, pairsIn, pairEntry};
+ghost use Rattle.pair_list.specs.BestStep.{considerIndex};
 ghost use Rattle.pair_list.specs.LongestMatch.{longestBy};
 ghost use Rattle.map_spec.specs.Derive.{deepenedPair};
 ghost use Rattle.map_function.specs.MapOutcome.{ReturnsMap};
 ghost use Rattle.pair_buffer.specs.PairBuffer.{HoldsList};
 ghost use Rattle.pair_buffer.specs.Ends.{replacedOrSame, fromEnds};
-ghost use Rattle.map_deepen.specs.FindClass.{considerClass, classIndex};
+ghost use Rattle.map_deepen.specs.FindClass.{classKept, classIndex};
 ghost use Rattle.map_deepen.specs.Calls.{deepenedPairs, deepenToCall};
 
 // Appends a pair and returns the offset after it: the pair itself, or, if its source is the class's, the pair
@@ -200,19 +202,20 @@ fn deepen_by(
 struct ClassSoFar {
     found: bool,
     at: usize,
-    elements: usize,
+    elements: path_prefix::Elements,
 }
 
-// The search result after the source at i. An empty source counts.
+// The search result after the source at i: that source if it is a prefix of the node with at least as many
+// elements as the one found so far. An empty source is a prefix like any other.
 fn consider_class(f: ClassSoFar, node: &[u8], source: &[u8], i: usize) -> ClassSoFar
-    ensures { λ r. ⌜ r ≡ considerClass f (now (node .entry)) (now (source .entry)) i ⌝ }
+    ensures { λ r. ⌜ classKept r ≡ considerIndex (classKept f) (hasPrefix (now (node .entry)) (now (source .entry))) i (elementCount (now (source .entry))) ⌝ }
 {
     if !path_prefix::has_prefix(node, source) {
         return f;
     }
-    let n = path_prefix::element_count(source).0;
+    let n = path_prefix::element_count(source);
     if f.found {
-        if n < f.elements {
+        if n.0 < f.elements.0 {
             return f;
         }
     }
@@ -230,7 +233,7 @@ fn find_class(store: &[u8], places: &[usize], n: usize, node: &[u8]) -> ClassSoF
     let mut f = ClassSoFar {
         found: false,
         at: 0,
-        elements: 0,
+        elements: path_prefix::Elements(0),
     };
     let mut i = 0;
     while i < n {

@@ -1,17 +1,16 @@
 -- Lemmas for the branches of `matches`, `better_of`, `consider` and `best_prefix`.
 use mathlib.Core.Path.{_≡_, refl, sym, ap, _∙_}
 use mathlib.Core.Logic.{_≢_}
-use mathlib.Core.Bool.{Bool, true, false, not, cond, _||_, false≢true}
+use mathlib.Core.Bool.{Bool, true, false, not, cond, _&&_, _||_, false≢true}
 use mathlib.Core.List.{List, [], _∷_, _++_}
 use mathlib.Core.Option.{Option, none, some}
-use Prim.Native.Nat.{ℕ, zero, suc, _+_, _*_, _-_, _/_, _≤_, _<_}
+use Prim.Native.Nat.{ℕ, suc, _+_, _*_, _-_, _/_, _≤_, _<_}
 use native.Mathlib.Numerals.{add-one}
 use native.Mathlib.Omega.{arith}
-use native.Mathlib.Decide.{ℕ-discrete}
 use lib.Dec.{eqb, leb}
 use lib.ListN.{length, getD, take, drop, length-drop, take-append-drop}
 use lib.Seq.{length-take-le, take-append-seam, take-append-le, getD-take, getD-drop}
-use borrow.Author.Tests.{eqb-true, ne-eqb, le-leb, lt-leb, leb-true, leb-false}
+use borrow.Author.Tests.{ne-eqb, le-leb, lt-leb, leb-true, leb-false}
 use Rattle.text.specs.Text.{Text}
 use Rattle.text.proofs.BoolLaws.{known-false, known-true}
 use Rattle.text.proofs.TextLaws.{starts-at}
@@ -22,9 +21,11 @@ use Rattle.path_prefix.proofs.PrefixLaws.{prefix-rest, prefix-starts, prefix-lo
 use Rattle.map_lookup.specs.declared.BestSoFar.{BestSoFar}
 use Rattle.map_lookup.specs.LookupStep.{substring, keyCount, minimum, foundOf, notWorse, considerKey}
 use Rattle.pair_list.specs.Places.{textAt, keyAt}
+use Rattle.pair_list.specs.Best.{notLighter}
 use Rattle.pair_list.specs.LongestMatch.{matches, longestMatch}
 use Rattle.pair_list.proofs.PlaceBranches.{text-missing}
-use Rattle.pair_list.proofs.LongestMatchLaws.{served}
+use Rattle.pair_list.proofs.BestLaws.{best-rest, keep-step}
+use Rattle.pair_list.proofs.LongestMatchLaws.{SaysLongest, best-says, served}
 
 pub matches-empty : (p k : Text) → length k ≡ 0 → false ≡ matches p k
 unfolding matches
@@ -206,56 +207,50 @@ offset-target invert h = rw h
 pub offset-source : (invert : Bool) → invert ≡ false → 0 ≡ 2 * cond invert 1 0
 offset-source invert h = rw h
 
--- The loop invariant: the match so far is what `longestMatch` selects of the first i keys.
-abbrev keptIn : BestSoFar → Option ℕ
-keptIn f = cond (eqb (f .bytes) 0) none (some (f .at))
-
-pub record Holds (p : Text) (key : ℕ → Text) (i : ℕ) (f : BestSoFar) : Type 0 where
-  pub chosen : keptIn f ≡ longestMatch p key i
-  pub blank : f .bytes ≡ 0 → f .at ≡ 0
-  pub kept : f .bytes ≢ 0 → (f .bytes ≡ length (key (f .at))) × (matches p (key (f .at)) ≡ true)
-  pub short : f .bytes ≤ length p
-
-pub holds-none : (p : Text) (key : ℕ → Text) → Holds p key 0 (record { at = 0; bytes = 0 })
-unfolding longestMatch
-holds-none p key = record { chosen = refl; blank = λ e. refl; kept = λ h. absurd (h refl); short = omega arith }
+-- The match so far, given the index that is selected.
+abbrev pub matchKept : (ℕ → Text) → Option ℕ → BestSoFar
+matchKept key none = record { at = 0; bytes = 0 }
+matchKept key (some j) = record { at = j; bytes = length (key j) }
 
 -- A key that matches is not empty.
 matched-long : (p k : Text) → matches p k ≡ true → length k ≢ 0
 matched-long p k s e = false≢true (matches-empty p k e ∙ s)
 
+-- The loop invariant is that the match so far is the longest match among the first i keys.
+pub kept-none : (p : Text) (key : ℕ → Text) → record { at = 0; bytes = 0 } ≡ matchKept key (longestMatch p key 0)
+unfolding longestMatch
+kept-none p key = refl
+
 module _ (p : Text) (key : ℕ → Text) (i : ℕ) where
-  now-best : matches p (key i) ≡ true → some i ≡ longestMatch p key (suc i) → Holds p key (suc i) (record { at = i; bytes = length (key i) })
-  now-best s e = record {
-    chosen = rw (ne-eqb (length (key i)) 0 (matched-long p (key i) s)) e;
-    blank = λ e. absurd (matched-long p (key i) s e);
-    kept = λ z. (refl, s);
-    short = prefix-long p (key i) (served p (key i) s);
-  }
-
-  compared : (at e : ℕ) (c : Bool) → e ≢ 0 → Holds p key i (record { at = at; bytes = e }) → matches p (key i) ≡ true → notWorse p e (key i) ≡ c
-      → Holds p key (suc i) (cond c (record { at = i; bytes = length (key i) }) (record { at = at; bytes = e }))
-  unfolding longestMatch
-  compared at e c z h s t =
-      let k : (e ≡ length (key at)) × (matches p (key at) ≡ true) = h .kept z in
-      go c (sym (decides p (key at) (key i) (served p (key at) (k .1)) (served p (key i) s)) ∙ rw (← (k .0)) t)
+  step : considerKey (matchKept key (longestMatch p key i)) p (key i) i ≡ matchKept key (longestMatch p key (suc i))
+  unfolding considerKey longestMatch notWorse
+  step = go (longestMatch p key i) (best-says p key i) ∙ keep-step (λ (j : ℕ). matches p (key j)) (λ (j : ℕ). elementCount (key j)) (matchKept key) i
     where
-      found : some at ≡ longestMatch p key i
-      found = rw (ne-eqb e 0 z) at (h .chosen)
+      -- If the key matches, the step compares the elements of two prefixes of the path.
+      compared : (j : ℕ) → matches p (key j) ≡ true → (b : Bool) → matches p (key i) ≡ b
+          → cond (b && notWorse p (length (key j)) (key i)) (matchKept key (some i)) (matchKept key (some j))
+          ≡ cond (b && leb (elementCount (key j)) (elementCount (key i))) (matchKept key (some i)) (matchKept key (some j))
+      compared j h true s = ap (λ (c : Bool). cond c (matchKept key (some i)) (matchKept key (some j))) (decides p (key j) (key i) (served p (key j) h) (served p (key i) s))
+      compared j h false s = refl
 
-      go : (c : Bool) → leb (elementCount (key at)) (elementCount (key i)) ≡ c
-          → Holds p key (suc i) (cond c (record { at = i; bytes = length (key i) }) (record { at = at; bytes = e }))
-      go true d = now-best s (rw (s, ← found, d))
-      go false d = record { chosen = rw (ne-eqb e 0 z, s, ← found, d); blank = h .blank; kept = h .kept; short = h .short }
+      go : (o : Option ℕ) → SaysLongest (matches p) key i o
+          → considerKey (matchKept key o) p (key i) i ≡ cond (matches p (key i) && notLighter (λ (j : ℕ). elementCount (key j)) o i) (matchKept key (some i)) (matchKept key o)
+      go none w = rw (le-leb 0 (length (key i)) (omega arith))
+      go (some j) w = compared j (w .does-pass) (matches p (key i)) refl
 
-  cases : (at e : ℕ) (b : Bool) → Holds p key i (record { at = at; bytes = e }) → matches p (key i) ≡ b
-      → Holds p key (suc i) (considerKey (record { at = at; bytes = e }) p (key i) i)
-  unfolding longestMatch considerKey notWorse
-  cases at e true h s = elim (ℕ-discrete e 0) [
-    | yes z ↦ rw (s, z, le-leb 0 (length (key i)) (omega arith)) (now-best s (rw (s, ← (rw z at (h .chosen)))))
-    | no z ↦ rw s (compared at e (notWorse p e (key i)) z h s refl)
-  ]
-  cases at e false h s = rw s (record { chosen = rw s (h .chosen); blank = h .blank; kept = h .kept; short = h .short })
+  pub kept-short : (f : BestSoFar) → f ≡ matchKept key (longestMatch p key i) → f .bytes ≤ length p
+  kept-short f e = rw e (go (longestMatch p key i) (best-says p key i))
+    where
+      go : (o : Option ℕ) → SaysLongest (matches p) key i o → (matchKept key o) .bytes ≤ length p
+      go none w = omega arith
+      go (some j) w = prefix-long p (key j) (served p (key j) (w .does-pass))
+
+  found-kept : (f : BestSoFar) → f ≡ matchKept key (longestMatch p key i) → record { found = not (eqb (f .bytes) 0); at = f .at } ≡ foundOf (longestMatch p key i)
+  found-kept f e = rw e (go (longestMatch p key i) (best-says p key i))
+    where
+      go : (o : Option ℕ) → SaysLongest (matches p) key i o → record { found = not (eqb ((matchKept key o) .bytes) 0); at = (matchKept key o) .at } ≡ foundOf o
+      go none w = refl
+      go (some j) w = rw (ne-eqb (length (key j)) 0 (matched-long p (key j) (w .does-pass)))
 
 -- The numbers of the keys that count lie in the slice.
 pub held-there : (places : List ℕ) (n held offset : ℕ) (invert : Bool) → held ≡ minimum n (keyCount places invert) → offset ≡ 2 * cond invert 1 0
@@ -269,38 +264,24 @@ module _ (store : Text) (places : List ℕ) (invert : Bool) (offset i : ℕ) (o 
   unfolding substring textAt
   key-is = let z : 2 * (2 * i + cond invert 1 0) ≡ 4 * i + offset = omega arith in rw z
 
-  pub holds-on : (p : Text) (f f′ : BestSoFar) → Holds p (keyAt store places invert) i f
-      → f′ ≡ considerKey f p (substring store (getD places (4 * i + offset) 0) (getD places (4 * i + offset + 1) 0)) i → Holds p (keyAt store places invert) (i + 1) f′
-  holds-on p f f′ h c =
-      rw (c, key-is, add-one i) (cases p (keyAt store places invert) i (f .at) (f .bytes) (matches p (keyAt store places invert i)) h refl)
+  pub kept-on : (p : Text) (f f′ : BestSoFar) → f ≡ matchKept (keyAt store places invert) (longestMatch p (keyAt store places invert) i)
+      → f′ ≡ considerKey f p (substring store (getD places (4 * i + offset) 0) (getD places (4 * i + offset + 1) 0)) i
+      → f′ ≡ matchKept (keyAt store places invert) (longestMatch p (keyAt store places invert) (i + 1))
+  kept-on p f f′ h c = rw (c, key-is, h, add-one i) (step p (keyAt store places invert) i)
 
 -- Beyond the keys that the slice holds, no key matches.
-best-rest : (p : Text) (key : ℕ → Text) (m n : ℕ) → m ≤ n → ((k : ℕ) → m ≤ k → key k ≡ []) → longestMatch p key m ≡ longestMatch p key n
-unfolding longestMatch
-best-rest p key m zero l f = let e : m ≡ 0 = omega arith in rw e
-best-rest p key m (suc n) l f = elim (ℕ-discrete m (suc n)) [
-  | yes e ↦ rw e
-  | no d ↦ rw (f n (omega arith)) (best-rest p key m n (omega arith) f)
-]
-
 pub key-after : (store : Text) (places : List ℕ) (invert : Bool) (k : ℕ) → keyCount places invert ≤ k → keyAt store places invert k ≡ []
 unfolding keyCount
 key-after store places true k h = sym (text-missing store places (2 * k + 1) (omega arith))
 key-after store places false k h = sym (text-missing store places (2 * k + 0) (omega arith))
 
-found-kept : (f : BestSoFar) → (f .bytes ≡ 0 → f .at ≡ 0) → record { found = not (eqb (f .bytes) 0); at = f .at } ≡ foundOf (keptIn f)
-found-kept f z = go (eqb (f .bytes) 0) refl
-  where
-    go : (b : Bool) → eqb (f .bytes) 0 ≡ b → record { found = not b; at = f .at } ≡ foundOf (cond b none (some (f .at)))
-    go true e = ap (λ (i : ℕ). record { found = false; at = i }) (z (eqb-true (f .bytes) 0 e))
-    go false e = refl
-
-pub holds-end : (p store : Text) (places : List ℕ) (n : ℕ) (invert : Bool) (held i : ℕ) (f : BestSoFar) → held ≡ minimum n (keyCount places invert)
-    → Holds p (keyAt store places invert) i f → held ≤ i → i ≤ held
+pub kept-end : (p store : Text) (places : List ℕ) (n : ℕ) (invert : Bool) (held i : ℕ) (f : BestSoFar) → held ≡ minimum n (keyCount places invert)
+    → f ≡ matchKept (keyAt store places invert) (longestMatch p (keyAt store places invert) i) → held ≤ i → i ≤ held
     → record { found = not (eqb (f .bytes) 0); at = f .at } ≡ foundOf (longestMatch p (keyAt store places invert) n)
-holds-end p store places n invert held i f m h l r =
+unfolding longestMatch
+kept-end p store places n invert held i f m h l r =
     let e : i ≡ minimum n (keyCount places invert) = omega arith in
-    found-kept f (h .blank) ∙ ap (λ (o : Option ℕ). foundOf o) ((rw e at (h .chosen)) ∙ go (leb n (keyCount places invert)) refl)
+    found-kept p key i f h ∙ rw e (ap (λ (o : Option ℕ). foundOf o) (go (leb n (keyCount places invert)) refl))
   where
     key : ℕ → Text
     key = keyAt store places invert
@@ -309,6 +290,7 @@ holds-end p store places n invert held i f m h l r =
     go true t = refl
     go false t =
         let q : keyCount places invert < n = leb-false n (keyCount places invert) t in
-        best-rest p key (keyCount places invert) n (omega arith) (key-after store places invert)
+        best-rest (λ (k : ℕ). matches p (key k)) (λ (k : ℕ). elementCount (key k)) (keyCount places invert) n (omega arith)
+        (λ k h. rw (key-after store places invert k h) (sym (matches-empty p [] refl)))
 
-pub ruleset searching = (matches-empty, matches-prefix, choose-other, choose-longer, choose-fewer, choose-more, least-first, least-second, consider-none, consider-long, consider-outside, consider-differs, consider-chosen, held-targets, held-sources, offset-target, offset-source, least-left, least-right, holds-end)
+pub ruleset searching = (matches-empty, matches-prefix, choose-other, choose-longer, choose-fewer, choose-more, least-first, least-second, consider-none, consider-long, consider-outside, consider-differs, consider-chosen, held-targets, held-sources, offset-target, offset-source, least-left, least-right, kept-end)

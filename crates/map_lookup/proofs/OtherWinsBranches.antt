@@ -16,7 +16,7 @@ use Rattle.path_prefix.specs.Elements.{elementCount}
 use Rattle.map_lookup.specs.LookupStep.{substring, keyCount, minimum, isIndex, wins, otherWins}
 use Rattle.pair_list.specs.Places.{keyAt}
 use Rattle.pair_list.specs.LongestMatch.{matches, longestMatch}
-use Rattle.pair_list.proofs.LongestMatchLaws.{Best, Says, best-says}
+use Rattle.pair_list.proofs.LongestMatchLaws.{IsLongest, SaysLongest, best-says}
 use Rattle.map_lookup.proofs.LookupBranches.{matches-empty, cut-none, cut-long, cut-outside, cut-differs, cut-is, key-is, key-after, least-left}
 
 -- Lemmas for `wins`.
@@ -85,27 +85,25 @@ unbeaten-on p key i k b t s e f r n u =
 -- Lemmas for `is_longest_match`.
 module _ (p : Text) (key : ℕ → Text) (n i : ℕ) where
   pub best-after : n ≤ i → false ≡ isIndex i (longestMatch p key n)
-  unfolding Says
   best-after l = go (longestMatch p key n) (best-says p key n)
     where
-      go : (o : Option ℕ) → Says (matches p) key n o → false ≡ isIndex i o
+      go : (o : Option ℕ) → SaysLongest (matches p) key n o → false ≡ isIndex i o
       go none w = refl
       go (some j) w = sym (ne-eqb i j (λ e. omega (arith, w .in-range)))
 
   module _ (s : Text) (b : Bool) (e : s ≡ key i) (h : b ≡ matches p s) where
     pub best-unserved : not b ≡ true → false ≡ isIndex i (longestMatch p key n)
-    unfolding Says
     best-unserved k = go (longestMatch p key n) (best-says p key n)
       where
         unserved : matches p (key i) ≡ false
         unserved = rw (← e) (known-false h k)
 
-        go : (o : Option ℕ) → Says (matches p) key n o → false ≡ isIndex i o
+        go : (o : Option ℕ) → SaysLongest (matches p) key n o → false ≡ isIndex i o
         go none w = refl
         go (some j) w = sym (ne-eqb i j (λ q. false≢true (sym unserved ∙ rw q (w .does-pass))))
 
     pub best-rivalled : (k : ℕ) (r : Bool) (t : Text) → k < n → t ≡ key k → r ≡ otherWins p t k i s → r ≡ true → false ≡ isIndex i (longestMatch p key n)
-    unfolding Says otherWins wins
+    unfolding otherWins wins
     best-rivalled k r t l f g y = go (longestMatch p key n) (best-says p key n)
       where
         it-wins : (not (eqb k i) && (matches p (key k) && cond (ltb k i) (ltb (elementCount (key i)) (elementCount (key k))) (leb (elementCount (key i)) (elementCount (key k))))) ≡ true
@@ -120,13 +118,13 @@ module _ (p : Text) (key : ℕ → Text) (n i : ℕ) where
         apart : eqb k i ≡ false
         apart = not-true (eqb k i) (and-l (not (eqb k i)) _ it-wins)
 
-        beaten : Best (matches p) key n i → (c : Bool) → ltb k i ≡ c → ⊥
+        beaten : IsLongest (matches p) key n i → (c : Bool) → ltb k i ≡ c → ⊥
         beaten w true q =
             omega (arith, w .most k l passes, ltb-true (elementCount (key i)) (elementCount (key k)) (rw q at more))
         beaten w false q =
             omega (arith, ltb-false k i q, eqb-false k i apart, w .last k l passes (leb-true (elementCount (key i)) (elementCount (key k)) (rw q at more)))
 
-        go : (o : Option ℕ) → Says (matches p) key n o → false ≡ isIndex i o
+        go : (o : Option ℕ) → SaysLongest (matches p) key n o → false ≡ isIndex i o
         go none w = refl
         go (some j) w = sym (ne-eqb i j (λ q. beaten (rw q w) (ltb k i) refl))
 
@@ -139,13 +137,13 @@ module _ (p : Text) (key : ℕ → Text) (n i : ℕ) where
           go false q = u .so-far m (leb-false held m q)
 
       best-alone : true ≡ isIndex i (longestMatch p key n)
-      unfolding Says otherWins wins
+      unfolding otherWins wins
       best-alone = go (longestMatch p key n) (best-says p key n)
         where
           mine : matches p (key i) ≡ true
           mine = rw (← e) (known-true h k)
 
-          lost : (j : ℕ) → Best (matches p) key n j → eqb j i ≡ false → (c : Bool) → ltb j i ≡ c → ⊥
+          lost : (j : ℕ) → IsLongest (matches p) key n j → eqb j i ≡ false → (c : Bool) → ltb j i ≡ c → ⊥
           lost j w d true q =
               let x : ltb (elementCount (key i)) (elementCount (key j)) ≡ false = rw (d, w .does-pass, q) at (none-others j (w .in-range)) in
               omega (arith, ltb-true j i q, w .last i l mine (ltb-false (elementCount (key i)) (elementCount (key j)) x))
@@ -153,7 +151,7 @@ module _ (p : Text) (key : ℕ → Text) (n i : ℕ) where
               let x : leb (elementCount (key i)) (elementCount (key j)) ≡ false = rw (d, w .does-pass, q) at (none-others j (w .in-range)) in
               omega (arith, w .most i l mine, leb-false (elementCount (key i)) (elementCount (key j)) x)
 
-          go : (o : Option ℕ) → Says (matches p) key n o → true ≡ isIndex i o
+          go : (o : Option ℕ) → SaysLongest (matches p) key n o → true ≡ isIndex i o
           go none w = absurd (w i l mine)
           go (some j) w = elim (ℕ-discrete i j) [
             | yes q ↦ sym (eq-eqb i j q)

@@ -46,7 +46,7 @@ otherWins p t k i key = not (eqb k i) && wins p t (ltb k i) key
 abbrev pub minimum : ℕ → ℕ → ℕ
 minimum a b = cond (leb a b) a b
 
--- The text of n bytes from `initialState`; empty if it reaches outside the store, as for `textAt`.
+-- The text of n bytes from `start`; empty if it reaches outside the store, as for `textAt`.
 unfoldable pub substring : Text → ℕ → ℕ → Text
 substring store start n = cond (leb (start + n) (length store)) (take n (drop start store)) []
 

@@ -52,7 +52,7 @@ fn better_of(f: BestSoFar, path: &[u8], key: &[u8], i: usize) -> BestSoFar
     BestSoFar { at: i, bytes: n }
 }
 
-// Like `better_of`, for the key of n bytes from `initialState` if it lies in the store. Most keys are rejected by
+// Like `better_of`, for the key of n bytes from `start` if it lies in the store. Most keys are rejected by
 // their length or their last byte.
 fn consider(
     f: BestSoFar,
@@ -153,7 +153,7 @@ fn wins(path: &[u8], t: &[u8], before: bool, key: &[u8]) -> bool
     n <= m
 }
 
-// Like `wins`, for the text of n bytes from `initialState`, at index `k`, and the key at index `i`. As in
+// Like `wins`, for the text of n bytes from `start`, at index `k`, and the key at index `i`. As in
 // `consider`, most texts are rejected by their length or their last byte; the last byte and the key
 // itself are tested in one branch.
 fn other_wins(

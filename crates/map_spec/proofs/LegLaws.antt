@@ -17,7 +17,7 @@ use Rattle.path_join.proofs.JoinLaws.{Rel, swap, back, weigh, replaced, still-l
 use Rattle.path_parts.proofs.StripLaws.{strip-same}
 use Rattle.pair_list.specs.Pair.{allEnds, noEmptySource}
 use Rattle.pair_list.specs.LongestMatch.{matches}
-use Rattle.pair_list.proofs.LongestMatchLaws.{Best, Says, best-says}
+use Rattle.pair_list.proofs.LongestMatchLaws.{IsLongest, SaysLongest, best-says}
 use Rattle.refusal.specs.Outcome.{path, checkedOption}
 use Rattle.map_spec.specs.Map.{Map, mapSource, mapTarget, mapSize, mapBy, matchSource, matchTarget, mapSourceToTarget, mapTargetToSource, eqIndex, requireInvertible, translateToTarget}
 use Rattle.map_spec.specs.Leg.{translateChecked, mapBackChecked, SelectionFreePath, PlainRoundTrip}
@@ -43,7 +43,7 @@ by-target m a b p q i e = go (isNil (mapTarget m i)) e
 
 -- The pair that maps p to q relates them, in the sense of `Rel`.
 by-rel : (m : Map) (a b : ℕ → Text) (p q : Text) (n i : ℕ) → ((k : ℕ) → isEnd (a k) ≡ true) → ((k : ℕ) → isEnd (b k) ≡ true)
-    → legal p ≡ true → lacksByte 123 p ≡ true → Best (matches p) a n i → mapBy m a b p (some i) ≡ some q → legal q ≡ true → Rel (a i) (b i) p q
+    → legal p ≡ true → lacksByte 123 p ≡ true → IsLongest (matches p) a n i → mapBy m a b p (some i) ≡ some q → legal q ≡ true → Rel (a i) (b i) p q
 by-rel m a b p q n i ea eb lp f c e lq =
     replaced p (a i) (b i) q (matches-full p (a i) (c .does-pass)) (ea i) (eb i) lp f (rw (by-target m a b p q i e) at e) lq
 
@@ -63,16 +63,15 @@ module _ (m : Map) (p q : Text) (em : allEnds (m .pairs) ≡ true) (lp : legal p
   et i = ends-target (m .pairs) em i
 
   -- The pair that maps p out relates p and q, and matches q on the way home.
-  out-rel : (i : ℕ) → Best (matches p) (mapSource m) (mapSize m) i → mapBy m (mapSource m) (mapTarget m) p (some i) ≡ some q → Rel (mapSource m i) (mapTarget m i) p q
+  out-rel : (i : ℕ) → IsLongest (matches p) (mapSource m) (mapSize m) i → mapBy m (mapSource m) (mapTarget m) p (some i) ≡ some q → Rel (mapSource m i) (mapTarget m i) p q
   out-rel i f e = by-rel m (mapSource m) (mapTarget m) p q (mapSize m) i es et lp fp f e lq
 
-  out-matches : (i : ℕ) → Best (matches p) (mapSource m) (mapSize m) i → mapBy m (mapSource m) (mapTarget m) p (some i) ≡ some q → matches q (mapTarget m i) ≡ true
+  out-matches : (i : ℕ) → IsLongest (matches p) (mapSource m) (mapSize m) i → mapBy m (mapSource m) (mapTarget m) p (some i) ≡ some q → matches q (mapTarget m i) ≡ true
   out-matches i f e = prefix-matches q (mapTarget m i) (by-target m (mapSource m) (mapTarget m) p q i e) ((back (swap (out-rel i f e)) (et i) (es i)) .0)
 
   -- That pair maps q back.
-  leg-back : (o o′ : Option ℕ) → Says (matches p) (mapSource m) (mapSize m) o → mapBy m (mapSource m) (mapTarget m) p o ≡ some q → eqIndex o o′ ≡ true
+  leg-back : (o o′ : Option ℕ) → SaysLongest (matches p) (mapSource m) (mapSize m) o → mapBy m (mapSource m) (mapTarget m) p o ≡ some q → eqIndex o o′ ≡ true
       → (mapBy m (mapTarget m) (mapSource m) q o′ ≡ some p) × (lacksByte 123 q ≡ true)
-  unfolding Says
   leg-back none none f e s =
       let k = by-mark m (mapSource m) (mapTarget m) p q e in
       rw (k .0, k .1) (refl, fp)
@@ -83,21 +82,20 @@ module _ (m : Map) (p q : Text) (em : allEnds (m .pairs) ≡ true) (lp : legal p
       rw (← (eqb-true i j s), by-target m (mapSource m) (mapTarget m) p q i e) ((back (swap r) (et i) (es i)) .1, still-lacks r (et i) fp)
 
   -- The pair that maps q home relates p and q too.
-  home-rel : (j : ℕ) → lacksByte 123 q ≡ true → Best (matches q) (mapTarget m) (mapSize m) j → mapBy m (mapTarget m) (mapSource m) q (some j) ≡ some p
+  home-rel : (j : ℕ) → lacksByte 123 q ≡ true → IsLongest (matches q) (mapTarget m) (mapSize m) j → mapBy m (mapTarget m) (mapSource m) q (some j) ≡ some p
       → Rel (mapSource m j) (mapTarget m j) p q
   home-rel j fq g h = swap (by-rel m (mapTarget m) (mapSource m) q p (mapSize m) j et es lq fq g h lp)
 
   module _ (full : noEmptySource (m .pairs) ≡ true) where
     -- If no source is empty, the pair that maps q home matches p on the way out.
-    home-matches : (j : ℕ) → lacksByte 123 q ≡ true → Best (matches q) (mapTarget m) (mapSize m) j → mapBy m (mapTarget m) (mapSource m) q (some j) ≡ some p
+    home-matches : (j : ℕ) → lacksByte 123 q ≡ true → IsLongest (matches q) (mapTarget m) (mapSize m) j → mapBy m (mapTarget m) (mapSource m) q (some j) ≡ some p
         → matches p (mapSource m j) ≡ true
     home-matches j fq g h =
         prefix-matches p (mapSource m j) (full-source (m .pairs) full j (g .in-range)) ((back (home-rel j fq g h) (es j) (et j)) .0)
 
     -- So the two pairs are the same.
-    leg-same : (o o′ : Option ℕ) → Says (matches p) (mapSource m) (mapSize m) o → Says (matches q) (mapTarget m) (mapSize m) o′
+    leg-same : (o o′ : Option ℕ) → SaysLongest (matches p) (mapSource m) (mapSize m) o → SaysLongest (matches q) (mapTarget m) (mapSize m) o′
         → mapBy m (mapSource m) (mapTarget m) p o ≡ some q → mapBy m (mapTarget m) (mapSource m) q o′ ≡ some p → eqIndex o o′ ≡ true
-    unfolding Says
     leg-same none none f g e h = refl
     leg-same none (some j) f g e h =
         let k = by-mark m (mapSource m) (mapTarget m) p q e in

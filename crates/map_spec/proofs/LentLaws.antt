@@ -9,9 +9,9 @@ use Rattle.text.specs.Text.{Text}
 use Rattle.path_prefix.proofs.PrefixLaws.{prefix-long}
 use Rattle.pair_list.specs.Places.{keyAt}
 use Rattle.pair_list.specs.LongestMatch.{longestMatch, matches}
-use Rattle.pair_list.proofs.PlaceLaws.{pairsIn-length, pairsIn-source, pairsIn-target, chosen-best, best-same}
+use Rattle.pair_list.proofs.PlaceLaws.{pairsIn-length, pairsIn-source, pairsIn-target}
 use Rattle.map_spec.specs.Map.{Map, lentMap, mapSource, mapTarget, mapSize, matchSource, matchTarget}
-use Rattle.pair_list.proofs.LongestMatchLaws.{served}
+use Rattle.pair_list.proofs.LongestMatchLaws.{chosen-best, best-same, served}
 
 -- A key that matches is no longer than the path.
 pub matched-long : (p k : Text) → matches p k ≡ true → length k ≤ length p

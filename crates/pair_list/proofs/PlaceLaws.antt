@@ -2,7 +2,6 @@
 use mathlib.Core.Path.{_≡_, refl, ap, _∙_}
 use mathlib.Core.Bool.{Bool, true, false, cond, _&&_, _||_}
 use mathlib.Core.List.{List, [], _∷_, _++_}
-use mathlib.Core.Option.{Option, none, some}
 use Prim.Native.Nat.{ℕ, zero, suc, _+_, _*_, _/_, _≤_, _<_}
 use native.Mathlib.Omega.{arith}
 use native.Mathlib.Decide.{ℕ-discrete}
@@ -16,8 +15,6 @@ use Rattle.text.proofs.BoolLaws.{and-l, and-r}
 use Rattle.path_grammar.specs.Legal.{atMost255}
 use Rattle.pair_list.specs.Pair.{Pair, pair, emptyPair, pairAt, sourceAt, targetAt, everyEnd, allShort}
 use Rattle.pair_list.specs.Places.{startAt, lengthAt, inStore, textAt, pairIn, pairsIn, keyAt, isShortAt, placesShort, placesAll}
-use Rattle.pair_list.specs.LongestMatch.{notFewerElements, longestBy}
-use Rattle.pair_list.proofs.LongestMatchLaws.{Best, Says, says}
 use Rattle.path_grammar.proofs.LegalLaws.{fits-short}
 
 module _ (store : Text) (places : List ℕ) where
@@ -48,26 +45,6 @@ module _ (store : Text) (places : List ℕ) where
   pub pairsIn-target : (n i : ℕ) → i < n → targetAt (pairsIn store places n) i ≡ keyAt store places true i
   unfolding pairIn
   pairsIn-target n i h = ap (λ (x : Pair). x .target) (pairsIn-at n i h)
-
--- The selected key is the longest match.
-pub chosen-best : (passes : Text → Bool) (key : ℕ → Text) (n i : ℕ) → longestBy passes key n ≡ some i → Best passes key n i
-unfolding Says
-chosen-best passes key n i e = rw e at (says passes key n)
-
--- The selection depends only on the first n keys.
-module _ (passes : Text → Bool) (key key′ : ℕ → Text) where
-  better-same : (n : ℕ) (o : Option ℕ) → longestBy passes key′ n ≡ o → ((i : ℕ) → i < suc n → key i ≡ key′ i) → notFewerElements key o n ≡ notFewerElements key′ o n
-  better-same n none e same = refl
-  better-same n (some i) e same =
-      let h : i < suc n = omega (arith, (chosen-best passes key′ n i e) .in-range) in
-      rw (same i h, same n (omega arith))
-
-  pub best-same : (n : ℕ) → ((i : ℕ) → i < n → key i ≡ key′ i) → longestBy passes key n ≡ longestBy passes key′ n
-  unfolding longestBy
-  best-same zero same = refl
-  best-same (suc n) same =
-      let e : longestBy passes key n ≡ longestBy passes key′ n = best-same n (λ i h. same i (omega arith)) in
-      rw (e, better-same n (longestBy passes key′ n) refl same, same n (omega arith))
 
 -- What the questions imply for the list, once its places have passed them.
 pub every-snoc : (passes : Text → Bool) (l : List Pair) (x : Pair) → everyEnd passes l ≡ true → passes (x .source) ≡ true → passes (x .target) ≡ true

@@ -1,15 +1,11 @@
 -- Lemmas about the branches of the search for the longest source.
 use mathlib.Core.Path.{_≡_, refl, sym, ap, _∙_}
 use mathlib.Core.Logic.{_≢_}
-use mathlib.Core.Bool.{Bool, true, false, not, cond, false≢true}
+use mathlib.Core.Bool.{Bool, true, false, not, cond}
 use mathlib.Core.List.{List}
 use mathlib.Core.Option.{Option, none, some}
-use Prim.Native.Nat.{ℕ, suc, _+_, _-_, _≤_, _<_}
-use native.Mathlib.Numerals.{add-one}
-use native.Mathlib.Omega.{arith}
-use lib.Dec.{leb}
+use Prim.Native.Nat.{ℕ, _+_, _-_, _≤_, _<_}
 use lib.ListN.{length, take, drop}
-use borrow.Author.Tests.{le-leb, lt-leb}
 use Rattle.text.specs.Text.{Text, isSome, equal}
 use Rattle.text.proofs.BoolLaws.{told, known-false, known-true, not-true, not-false}
 use Rattle.text.proofs.WriteLaws.{rest-whole}
@@ -17,12 +13,13 @@ use Rattle.path_prefix.specs.Prefix.{hasPrefix}
 use Rattle.path_join.specs.Join.{join, replacePrefix}
 use Rattle.path_prefix.proofs.PrefixLaws.{prefix-long}
 use Rattle.path_join.proofs.ReplaceLaws.{replace-prefix, replace-other}
-use Rattle.pair_list.specs.Pair.{Pair, pair, pairAt}
+use Rattle.pair_list.specs.Pair.{Pair, pair, pairAt, sourceAt}
 use Rattle.pair_list.specs.Places.{pairsIn, keyAt}
+use Rattle.pair_list.specs.BestStep.{considerIndex, bestBelow}
+use Rattle.pair_list.proofs.BestLaws.{search-none, search-on, step-fails, step-lighter, step-heavier, step-first}
 use Rattle.pair_list.proofs.PlaceLaws.{pairsIn-at, pair-is}
-use Rattle.relocate_chain.specs.declared.steps.Longest.{Longest}
-use Rattle.relocate_chain.specs.Chain.{notShorter, longestSource, isSkipped, ifAltered, replacement}
-use Rattle.relocate_chain.specs.ChainStep.{skippedSource, longestIndex, considerSource}
+use Rattle.relocate_chain.specs.Chain.{isSkipped, ifAltered, replacement}
+use Rattle.relocate_chain.specs.ChainStep.{skippedSource}
 use Rattle.text.proofs.TextLaws.{nil-length, nil-not}
 
 -- `is_skipped`
@@ -77,61 +74,16 @@ module _ (alters skips : Bool) (k p s t : Text) where
     unfolding replacement
     tries-replaced l r e = rw (nil-not t h, told hx l) e
 
--- `consider_source`
-module _ (f : Longest) (b : Bool) (k : Text) (i : ℕ) where
-  pub consider-other : not b ≡ true → f ≡ considerSource f b k i
-  unfolding considerSource
-  consider-other l = rw (not-true b l)
+-- `longest_source`: of the first n pairs that yield a path, the one with the longest source, and its number of bytes.
+unfoldable pub sourceBelow : (Pair → Option Text) → List Pair → ℕ → Option (ℕ × ℕ)
+sourceBelow t l n = bestBelow (λ (i : ℕ). isSome (t (pairAt l i))) (λ (i : ℕ). length (sourceAt l i)) n
 
-  pub consider-shorter : not b ≡ false → f .found ≡ true → length k < f .bytes .0 → f ≡ considerSource f b k i
-  unfolding considerSource
-  consider-shorter l g m = rw (not-false b l, g, lt-leb (f .bytes .0) (length k) m)
+pub source-on : (t : Pair → Option Text) (store : Text) (places : List ℕ) (n i : ℕ) (a a′ : Option (ℕ × ℕ)) (b : Bool) (s u : Text)
+    → a ≡ sourceBelow t (pairsIn store places n) i → i < n → s ≡ keyAt store places false i → u ≡ keyAt store places true i
+    → b ≡ isSome (t (pair s u)) → a′ ≡ considerIndex a b i (length s) → a′ ≡ sourceBelow t (pairsIn store places n) (i + 1)
+unfolding sourceBelow
+source-on t store places n i a a′ b s u h m hs hu e c =
+    let x : pair s u ≡ pairAt (pairsIn store places n) i = pair-is store places i s u hs hu ∙ sym (pairsIn-at store places n i m) in
+    search-on _ _ i a a′ b (length s) h (e ∙ ap (λ (y : Pair). isSome (t y)) x) (ap (λ (y : Pair). length (y .source)) x) c
 
-  pub consider-longer : not b ≡ false → f .found ≡ true → f .bytes .0 ≤ length k → record { found = true; at = i; bytes = record { 0 = length k } } ≡ considerSource f b k i
-  unfolding considerSource
-  consider-longer l g m = rw (not-false b l, g, le-leb (f .bytes .0) (length k) m)
-
-  pub consider-first : not b ≡ false → f .found ≡ false → record { found = true; at = i; bytes = record { 0 = length k } } ≡ considerSource f b k i
-  unfolding considerSource
-  consider-first l g = rw (not-false b l, g)
-
--- The loop invariant: the pair found is the one that `longestSource` selects among the first i pairs.
-pub record Holds (t : Pair → Option Text) (l : List Pair) (i : ℕ) (f : Longest) : Type 0 where
-  pub chosen : longestIndex f ≡ longestSource t l i
-  pub counted : f .found ≡ true → f .bytes .0 ≡ length ((pairAt l (f .at)) .source)
-
-pub holds-none : (t : Pair → Option Text) (l : List Pair) → Holds t l 0 (record { found = false; at = 0; bytes = record { 0 = 0 } })
-unfolding longestSource
-holds-none t l = record { chosen = refl; counted = λ h. absurd (false≢true h) }
-
-module _ (t : Pair → Option Text) (l : List Pair) (i : ℕ) where
-  tested : (at e : ℕ) (c : Bool) → e ≡ length ((pairAt l at) .source) → leb e (length ((pairAt l i) .source)) ≡ c → notShorter l (some at) i ≡ c
-  tested at e c k g = ap (λ (m : ℕ). leb m (length ((pairAt l i) .source))) (sym k) ∙ g
-
-  compared : (at e : ℕ) (c : Bool) → some at ≡ longestSource t l i → e ≡ length ((pairAt l at) .source) → isSome (t (pairAt l i)) ≡ true → leb e (length ((pairAt l i) .source)) ≡ c
-      → Holds t l (suc i) (cond c (record { found = true; at = i; bytes = record { 0 = length ((pairAt l i) .source) } }) (record { found = true; at = at; bytes = record { 0 = e } }))
-  unfolding longestSource
-  compared at e true h k s c = record { chosen = rw (s, ← h, tested at e true k c); counted = λ z. refl }
-  compared at e false h k s c = record { chosen = rw (s, ← h, tested at e false k c); counted = λ z. k }
-
-  cases : (found : Bool) (at e : ℕ) (b : Bool) → Holds t l i (record { found = found; at = at; bytes = record { 0 = e } }) → isSome (t (pairAt l i)) ≡ b
-      → Holds t l (suc i) (considerSource (record { found = found; at = at; bytes = record { 0 = e } }) b ((pairAt l i) .source) i)
-  unfolding longestSource considerSource
-  cases true at e true h s = compared at e (leb e (length ((pairAt l i) .source))) (h .chosen) (h .counted refl) s refl
-  cases false at e true h s = record { chosen = rw (s, ← (h .chosen)); counted = λ z. refl }
-  cases found at e false h s = record { chosen = rw s (h .chosen); counted = h .counted }
-
-  holds-by : (f f′ : Longest) (b : Bool) → Holds t l i f → b ≡ isSome (t (pairAt l i)) → f′ ≡ considerSource f b ((pairAt l i) .source) i → Holds t l (i + 1) f′
-  holds-by f f′ b h e c = rw (c, add-one i) (cases (f .found) (f .at) (f .bytes .0) b h (sym e))
-
-pub holds-on : (t : Pair → Option Text) (store : Text) (places : List ℕ) (n i : ℕ) (f f′ : Longest) (b : Bool) (s u : Text)
-    → Holds t (pairsIn store places n) i f → i < n → s ≡ keyAt store places false i → u ≡ keyAt store places true i → b ≡ isSome (t (pair s u)) → f′ ≡ considerSource f b s i
-    → Holds t (pairsIn store places n) (i + 1) f′
-holds-on t store places n i f f′ b s u h m hs hu e c =
-    let x : pairAt (pairsIn store places n) i ≡ pair s u = pairsIn-at store places n i m ∙ sym (pair-is store places i s u hs hu) in
-    holds-by t (pairsIn store places n) i f f′ b h (rw x e) (rw x c)
-
-pub holds-end : (t : Pair → Option Text) (l : List Pair) (i n : ℕ) (f : Longest) → Holds t l i f → n ≤ i → i ≤ n → longestIndex f ≡ longestSource t l n
-holds-end t l i n f h g m = let e : i ≡ n = omega arith in rw e at (h .chosen)
-
-pub ruleset searching = (skips-none, skips-equal, replaces-not, replaces-any, replaces-long, replaces-other, tries-deleted, tries-skipped, tries-replaced, consider-other, consider-shorter, consider-longer, consider-first, holds-none, holds-on, holds-end)
+pub ruleset searching = (skips-none, skips-equal, replaces-not, replaces-any, replaces-long, replaces-other, tries-deleted, tries-skipped, tries-replaced, step-fails, step-lighter, step-heavier, step-first, search-none)

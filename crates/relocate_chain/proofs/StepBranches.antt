@@ -1,50 +1,32 @@
 -- Lemmas about the branches of one replacement.
 use mathlib.Core.Path.{_≡_, refl, sym, ap, _∙_}
-use mathlib.Core.Bool.{Bool, true, false, not, cond, _&&_, false≢true}
+use mathlib.Core.Bool.{Bool, true, false, not, cond, false≢true}
 use mathlib.Core.List.{List}
 use mathlib.Core.Option.{Option, none, some}
-use Prim.Native.Nat.{ℕ, zero, suc, _-_, _≤_, _<_}
+use Prim.Native.Nat.{ℕ, _-_, _≤_}
 use native.Mathlib.Omega.{arith}
 use lib.ListN.{length, take, drop}
 use borrow.Author.Tests.{le-leb, lt-leb}
 use Rattle.text.specs.Text.{Text, isNil, isSome, equal, writtenIfFits, fitOf}
 use Rattle.text.specs.declared.Fit.{Fit}
 use Rattle.text.specs.declared.Fit.the-variants.{Written, Over}
-use Rattle.text.proofs.BoolLaws.{known-false, known-true, not-true, not-false, and-l}
+use Rattle.text.proofs.BoolLaws.{known-false, known-true, not-true, not-false}
 use Rattle.text.proofs.WriteLaws.{rest-whole, fit-room, fit-over, fit-is, fit-back}
 use Rattle.path_grammar.specs.Legal.{legal, atMost255}
 use Rattle.path_prefix.specs.Prefix.{hasPrefix}
 use Rattle.path_join.specs.Join.{join, replacePrefix}
 use Rattle.path_prefix.proofs.PrefixLaws.{prefix-long}
 use Rattle.path_join.proofs.ReplaceLaws.{replace-prefix, replace-other}
-use Rattle.pair_list.specs.Pair.{Pair, pair, pairAt}
+use Rattle.pair_list.specs.Pair.{Pair, pair, pairAt, sourceAt}
 use Rattle.pair_list.specs.Places.{pairsIn, keyAt}
+use Rattle.pair_list.proofs.BestLaws.{Best, best-chosen}
 use Rattle.pair_list.proofs.PlaceLaws.{pairsIn-at, pairsIn-length, pair-is}
 use Rattle.refusal.specs.declared.Refusal.the-variants.{MadeTooLong, MadeIllegal}
 use Rattle.refusal.specs.Outcome.{checked}
 use Rattle.relocate_chain.specs.declared.steps.Longest.{Longest}
 use Rattle.relocate_chain.specs.declared.steps.Step.the-variants.{Still, Made, Refused}
-use Rattle.relocate_chain.specs.Chain.{notShorter, longestSource, replacementAt, longestReplacement, isSkipped, ifAltered, replacement}
+use Rattle.relocate_chain.specs.Chain.{longestSource, replacementAt, longestReplacement, isSkipped, ifAltered, replacement}
 use Rattle.relocate_chain.specs.ChainStep.{longestIndex, stepReply, stepBuffer}
-
--- The selected pair is a pair of the list, and yields a path.
-chosen-is : (n i : ℕ) → some n ≡ some i → n ≡ i
-chosen-is n i e = cc
-
-no-number : {i : ℕ} → none ≡ some i → ⊥
-no-number {i} e = let z : _≡_ {A = ℕ} 0 1 = cc in omega arith
-
-longest-says : (t : Pair → Option Text) (l : List Pair) (n i : ℕ) → longestSource t l n ≡ some i → (i < n) × (isSome (t (pairAt l i)) ≡ true)
-unfolding longestSource
-longest-says t l zero i e = absurd (no-number e)
-longest-says t l (suc n) i e = go (isSome (t (pairAt l n)) && notShorter l (longestSource t l n) n) refl (longest-says t l n i)
-  where
-    go : (b : Bool) → (isSome (t (pairAt l n)) && notShorter l (longestSource t l n) n) ≡ b → (longestSource t l n ≡ some i → (i < n) × (isSome (t (pairAt l i)) ≡ true))
-        → (i < suc n) × (isSome (t (pairAt l i)) ≡ true)
-    go true h ih =
-        let z : n ≡ i = chosen-is n i (rw h at e) in
-        (omega arith, rw z at (and-l (isSome (t (pairAt l n))) (notShorter l (longestSource t l n) n) h))
-    go false h ih = let r = ih (rw h at e) in let a = r .0 in (omega arith, r .1)
 
 -- A pair that yields a path replaces a prefix.
 all-none : (a b c : Bool) → isSome (cond a none (cond b none (cond c none none))) ≡ true → ⊥
@@ -93,14 +75,16 @@ module _ (alters : Bool) (skip : Option Text) (p store : Text) (places : List �
   once-still g mem = rw (nearest-is, not-true (f .found) g) (refl, refl)
 
   module _ (g : not (f .found) ≡ false) (s t : Text) (hs : s ≡ keyAt store places false (f .at)) (ht : t ≡ keyAt store places true (f .at)) where
-    says : ((f .at) < n) × (isSome (replacement alters skip p (pairAt (pairsIn store places n) (f .at))) ≡ true)
-    says = longest-says (replacement alters skip p) (pairsIn store places n) n (f .at) (sym h ∙ rw (not-false (f .found) g))
+    -- The selected pair is a pair of the list, and yields a path.
+    chosen : Best (λ (i : ℕ). isSome (replacement alters skip p (pairAt (pairsIn store places n) i))) (λ (i : ℕ). length (sourceAt (pairsIn store places n) i)) n (f .at)
+    unfolding longestSource
+    chosen = best-chosen _ _ n (f .at) (sym h ∙ rw (not-false (f .found) g))
 
     pair-here : pairAt (pairsIn store places n) (f .at) ≡ pair s t
-    pair-here = pairsIn-at store places n (f .at) (says .0) ∙ sym (pair-is store places (f .at) s t hs ht)
+    pair-here = pairsIn-at store places n (f .at) (chosen .in-range) ∙ sym (pair-is store places (f .at) s t hs ht)
 
     gives : isSome (replacement alters skip p (pair s t)) ≡ true
-    gives = rw pair-here at (says .1)
+    gives = rw pair-here at (chosen .does-pass)
 
     pub once-long : length s ≤ length p
     once-long = prefix-long p s (replaced-prefix alters skip p s t gives)

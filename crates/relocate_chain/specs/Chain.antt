@@ -1,26 +1,21 @@
 -- Chaining: replacing prefixes of a path by the pairs of a relocate list, one pair after another. Requirements: "maps measure a key in
 -- elements, chaining measures it in bytes".
 use Prim.Native.Nat.{ℕ, zero, suc}
-use mathlib.Core.Bool.{Bool, true, false, cond, _&&_}
+use mathlib.Core.Bool.{Bool, true, false, cond}
 use mathlib.Core.List.{List}
 use mathlib.Core.Option.{Option, none, some, Option·getD}
-use lib.Dec.{leb}
 use lib.ListN.{length}
 use Rattle.text.specs.Text.{Text, isNil, isSome, equal}
 use Rattle.path_join.specs.Join.{replacePrefix}
-use Rattle.pair_list.specs.Pair.{Pair, pairAt}
+use Rattle.pair_list.specs.Pair.{Pair, pairAt, sourceAt}
+use Rattle.pair_list.specs.Best.{bestIndex}
 use Rattle.refusal.specs.declared.Refusal.{Refusal}
 use Rattle.refusal.specs.Outcome.{Outcome, path, refused, checked}
 
--- Whether pair n supersedes the pair found so far: none was found, or the source of pair n is at least as long in bytes.
-abbrev pub notShorter : List Pair → Option ℕ → ℕ → Bool
-notShorter l none n = true
-notShorter l (some i) n = leb (length ((pairAt l i) .source)) (length ((pairAt l n) .source))
-
 -- The index of the pair among the first n that yields a path and whose source is "longest in bytes, the last on a tie".
 unfoldable pub longestSource : (Pair → Option Text) → List Pair → ℕ → Option ℕ
-longestSource replacement l zero = none
-longestSource replacement l (suc n) = cond (isSome (replacement (pairAt l n)) && notShorter l (longestSource replacement l n) n) (some n) (longestSource replacement l n)
+unfolding bestIndex
+longestSource replacement l n = bestIndex (λ (i : ℕ). isSome (replacement (pairAt l i))) (λ (i : ℕ). length (sourceAt l i)) n
 
 -- The path that the pair found yields; none if no pair was found.
 abbrev pub replacementAt : (Pair → Option Text) → List Pair → Option ℕ → Option Text

@@ -1,11 +1,11 @@
 -- The intermediate values of the code for chaining: the result of the search, the result of one replacement, and the contents of the
 -- scratch buffers.
 use Prim.Native.Nat.{ℕ, _≤_}
-use mathlib.Core.Bool.{Bool, true, not, cond, _&&_, _||_}
+use mathlib.Core.Bool.{Bool, cond}
 use mathlib.Core.Option.{Option, none, some}
-use lib.Dec.{leb}
 use lib.ListN.{length, take}
 use Rattle.text.specs.Text.{Text, writtenIfFits}
+use Rattle.pair_list.specs.BestStep.{bestKept, indexKept}
 use Rattle.refusal.specs.Outcome.{Outcome, path, refused, checked}
 use Rattle.relocate_chain.specs.declared.steps.Longest.{Longest}
 use Rattle.relocate_chain.specs.declared.steps.Step.{Step}
@@ -18,14 +18,13 @@ use Rattle.relocate_chain.specs.Chain.{Chained, chained, stopped}
 abbrev pub skippedSource : Bool → Text → Option Text
 skippedSource skips skipped = cond skips (some skipped) none
 
+-- The longest source so far: the index of its pair and its number of bytes.
+abbrev pub sourceKept : Longest → Option (ℕ × ℕ)
+sourceKept f = bestKept (f .found) (f .at) (f .bytes .0)
+
 -- The index of the pair found, if one was found.
 abbrev pub longestIndex : Longest → Option ℕ
-longestIndex f = cond (f .found) (some (f .at)) none
-
--- The search result after pair i, whose source is k: pair i if it yields a path and k is at least as long as the source found so far.
-unfoldable pub considerSource : Longest → Bool → Text → ℕ → Longest
-considerSource f tries k i =
-    cond (tries && (not (f .found) || leb (f .bytes .0) (length k))) (record { found = true; at = i; bytes = record { 0 = length k } }) f
+longestIndex f = indexKept (sourceKept f)
 
 -- The result of a replacement that was validated by questions 7 and 8.
 abbrev pub stepOutcome : Outcome → Step

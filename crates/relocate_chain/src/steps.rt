@@ -8,8 +8,9 @@ ghost use Rattle.text.specs.Text.{isSome};
 ghost use Rattle.path_join.specs.Join.{replacePrefix};
 ghost use Rattle.pair_list.specs.Places.{pairsIn};
 ghost use Rattle.relocate_chain.specs.Chain.{isSkipped, ifAltered, replacement, longestSource, longestReplacement, chain};
-ghost use Rattle.relocate_chain.specs.ChainStep.{skippedSource, longestIndex, considerSource, stepReply, stepBuffer, chainInBuffer, chainWithin};
+ghost use Rattle.relocate_chain.specs.ChainStep.{skippedSource, sourceKept, longestIndex, stepReply, stepBuffer, chainInBuffer, chainWithin};
 ghost use Rattle.pair_list.specs.Pair.{pair};
+ghost use Rattle.pair_list.specs.BestStep.{considerIndex};
 
 // A number of bytes: the measure of a key in chaining.
 pub struct Bytes(pub usize);
@@ -78,7 +79,7 @@ fn is_candidate(
 // The search result after the key at i: that key if it yields a path and is at least as long as the one found
 // so far.
 fn consider_source(f: Longest, tries: bool, key: &[u8], i: usize) -> Longest
-    ensures { λ r. ⌜ r ≡ considerSource f tries (now (key .entry)) i ⌝ }
+    ensures { λ r. ⌜ sourceKept r ≡ considerIndex (sourceKept f) tries i (length (now (key .entry))) ⌝ }
 {
     if !tries {
         return f;

@@ -12,10 +12,11 @@ use Rattle.text.proofs.BoolLaws.{and-l, and-r, or-right}
 use Rattle.path_grammar.specs.Legal.{isEnd, atMost255}
 use Rattle.path_grammar.proofs.LegalLaws.{end-legal}
 use Rattle.path_prefix.specs.Prefix.{hasPrefix}
-use Rattle.path_prefix.specs.Elements.{primElementCount}
+use Rattle.path_prefix.specs.Elements.{elementCount, primElementCount}
 use Rattle.path_prefix.proofs.PrefixLaws.{legal-prefix-empty}
 use Rattle.pair_list.specs.Pair.{Pair, emptyPair, pairAt, sourceAt, everyEnd, allEnds, allShort, noEmptySource}
-use Rattle.pair_list.specs.LongestMatch.{longestBy, matches, longestMatch}
+use Rattle.pair_list.specs.LongestMatch.{matches, longestMatch}
+use Rattle.pair_list.proofs.BestLaws.{best-rest}
 use Rattle.map_spec.specs.Map.{matchSource}
 use Rattle.map_spec.specs.New.{isRootPair, anyRootPair, withoutRootPairs, mapVia, isRedundant, canonicalize, fromParts, new}
 use Rattle.map_spec.proofs.DropLaws.{canonical-keeps}
@@ -95,9 +96,8 @@ no-match [] = refl
 no-match (a ∷ k) = refl
 
 no-key : (key : ℕ → Text) (n : ℕ) → longestMatch [] key n ≡ none
-unfolding longestMatch longestBy
-no-key key zero = refl
-no-key key (suc n) = rw (no-match (key n)) (no-key key n)
+unfolding longestMatch
+no-key key n = sym (best-rest (λ (k : ℕ). matches [] (key k)) (λ (k : ℕ). elementCount (key k)) 0 n (omega arith) (λ k h. no-match (key k)))
 
 implies-nothing : (kept : List Pair) → isRedundant (record { pairs = kept; mark = true }) emptyPair ≡ true
 unfolding isRedundant mapVia matchSource equal

@@ -1,13 +1,22 @@
 use Rattle.pair_list.specs.Places.{keyAt}
 use mathlib.Core.Bool.{false}
-use Prim.Native.Nat.{_≤_, _-_}
-use Rattle.map_deepen.proofs.DeepenBranches.{classes, Above}
+use Prim.Native.Nat.{ℕ, _≤_, _-_}
+use mathlib.Core.Path.{_≡_, ap}
+use Rattle.text.specs.Text.{Text}
+use Rattle.path_prefix.specs.Prefix.{hasPrefix}
+use Rattle.path_prefix.specs.Elements.{elementCount}
+use Rattle.pair_list.specs.BestStep.{bestBelow}
+use Rattle.pair_list.specs.LongestMatch.{longestBy}
+use Rattle.pair_list.proofs.BestLaws.{search-on, search-end}
+use Rattle.map_deepen.specs.FindClass.{classKept}
+use Rattle.map_deepen.proofs.DeepenBranches.{classes}
 use borrow.Author.Needs.{needs}
 use Rattle.map_deepen.proofs.find_class.Statement.{statement}
 use Rattle.map_deepen.proofs.find_class.Tie as tie
 
 abbrev Inv-loop : tie.InvT-loop
-Inv-loop store places n node f₀ i₀ f i = (i ≤ n) × Above node (keyAt store places false) i f
+Inv-loop store places n node f₀ i₀ f i =
+    (i ≤ n) × (classKept f ≡ bestBelow (λ (j : ℕ). hasPrefix node (keyAt store places false j)) (λ (j : ℕ). elementCount (keyAt store places false j)) i)
 
 abbrev μ-loop : tie.MeasureT-loop
 μ-loop store places n node f₀ i₀ f i = n - i
@@ -28,10 +37,13 @@ loop-less : tie.Need-loop-less Inv-loop μ-loop
 loop-less c = search (needs, classes)
 
 loop-again : tie.Need-loop-again Inv-loop μ-loop
-loop-again c = search (needs, classes)
+loop-again c =
+    let e = c .before .key-at .ensures in
+    (search needs, search-on _ _ _ _ _ _ _ (c .before .before .before .loop .inv .1) (ap (hasPrefix _) e) (ap (λ (s : Text). elementCount s) e) (c .consider-class .ensures))
 
 returns : tie.Need-returns Inv-loop μ-loop
-returns c = search (needs, classes)
+unfolding longestBy
+returns c = search-end _ _ _ _ _ (c .before .loop .inv .1) (c .loop-test .left) (c .before .loop .inv .0)
 
 pub find-class-spec : {M : Type 1} → statement M
 find-class-spec =

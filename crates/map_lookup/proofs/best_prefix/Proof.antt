@@ -1,14 +1,17 @@
-use Rattle.map_lookup.proofs.LookupBranches.{searching, Holds, held-there, least-left, least-right, holds-none, holds-on}
+use Rattle.map_lookup.proofs.LookupBranches.{searching, matchKept, held-there, least-left, least-right, kept-none, kept-short, kept-on}
 use borrow.Author.Needs.{needs}
+use mathlib.Core.Path.{_≡_}
 use Prim.Native.Nat.{_+_, _*_, _≤_, _-_}
 use lib.ListN.{length}
 use Rattle.pair_list.specs.Places.{keyAt}
+use Rattle.pair_list.specs.LongestMatch.{longestMatch}
 use Rattle.map_lookup.proofs.best_prefix.Statement.{statement}
 use Rattle.map_lookup.proofs.best_prefix.Tie as tie
 
 abbrev Inv-loop : tie.InvT-loop
 Inv-loop store places n invert path present offset limit f₀ i₀ f i =
-    (i ≤ present) × (4 * present + offset ≤ length places + 2) × (limit ≤ length store) × (limit ≤ length path) × Holds path (keyAt store places invert) i f
+    (i ≤ present) × (4 * present + offset ≤ length places + 2) × (limit ≤ length store) × (limit ≤ length path)
+    × (f ≡ matchKept (keyAt store places invert) (longestMatch path (keyAt store places invert) i))
 
 abbrev μ-loop : tie.MeasureT-loop
 μ-loop store places n invert path present offset limit f₀ i₀ f i = present - i
@@ -28,7 +31,7 @@ loop-holds c = (
   held-there _ _ _ _ _ (c .before .before .key-count .ensures) (c .before .key-offset .ensures),
   least-left _ _ _ (c .min .ensures),
   least-right _ _ _ (c .min .ensures),
-  holds-none _ _,
+  kept-none _ _,
 )
 
 mul-j : tie.Need-mul-j Inv-loop μ-loop
@@ -53,7 +56,8 @@ shared-slice-read-consider-2 : tie.Need-shared-slice-read-consider-2 Inv-loop μ
 shared-slice-read-consider-2 c = search (needs, searching)
 
 consider-requires : tie.Need-consider-requires Inv-loop μ-loop
-consider-requires c κs = search (needs, searching)
+consider-requires c κs =
+    let l = c .before .before .before .loop in (l .inv .2, (l .inv .3, (search needs, kept-short _ _ _ _ (l .inv .4))))
 
 add-i : tie.Need-add-i Inv-loop μ-loop
 add-i c = search (needs, searching)
@@ -68,7 +72,7 @@ loop-again c =
       l .inv .1,
       l .inv .2,
       l .inv .3,
-      holds-on _ _ (c .before .before .before .before .before .before .before .before .before .before .before .args .invert) _ _ (c .before .before .before .before .before .before .key-offset .ensures) _ _ _ (l .inv .4) (c .consider .ensures),
+      kept-on _ _ (c .before .before .before .before .before .before .before .before .before .before .before .args .invert) _ _ (c .before .before .before .before .before .before .key-offset .ensures) _ _ _ (l .inv .4) (c .consider .ensures),
     )
 
 returns : tie.Need-returns Inv-loop μ-loop

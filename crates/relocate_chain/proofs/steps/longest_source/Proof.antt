@@ -1,19 +1,22 @@
-use Rattle.relocate_chain.proofs.SearchBranches.{searching, Holds, holds-on}
+use Rattle.relocate_chain.proofs.SearchBranches.{searching, sourceBelow, source-on}
+use mathlib.Core.Path.{_≡_}
 use Prim.Native.Nat.{_≤_, _-_}
 use Rattle.pair_list.specs.Places.{pairsIn}
-use Rattle.relocate_chain.specs.Chain.{replacement}
-use Rattle.relocate_chain.specs.ChainStep.{skippedSource}
+use Rattle.pair_list.proofs.BestLaws.{search-end}
+use Rattle.relocate_chain.specs.Chain.{replacement, longestSource}
+use Rattle.relocate_chain.specs.ChainStep.{skippedSource, sourceKept}
 use borrow.Author.Needs.{needs}
 use Rattle.relocate_chain.proofs.steps.longest_source.Statement.{statement}
 use Rattle.relocate_chain.proofs.steps.longest_source.Tie as tie
 
 abbrev Inv-loop : tie.InvT-loop
-Inv-loop store places n alters skips skipped path f₀ i₀ f i = (i ≤ n) × Holds (replacement alters (skippedSource skips skipped) path) (pairsIn store places n) i f
+Inv-loop store places n alters skips skipped path f₀ i₀ f i = (i ≤ n) × (sourceKept f ≡ sourceBelow (replacement alters (skippedSource skips skipped) path) (pairsIn store places n) i)
 
 abbrev μ-loop : tie.MeasureT-loop
 μ-loop store places n alters skips skipped path f₀ i₀ f i = n - i
 
 loop-holds : tie.Need-loop-holds Inv-loop μ-loop
+unfolding sourceBelow
 loop-holds c = search (needs, searching)
 
 key-at-requires : tie.Need-key-at-requires Inv-loop μ-loop
@@ -35,10 +38,11 @@ loop-less : tie.Need-loop-less Inv-loop μ-loop
 loop-less c = search (needs, searching)
 
 loop-again : tie.Need-loop-again Inv-loop μ-loop
-loop-again c = (search needs, holds-on _ _ _ _ _ _ _ _ _ _ (c .before .before .before .before .before .loop .inv .1) (c .before .before .before .before .loop-test .taken) (c .before .before .before .key-at .ensures) (c .before .before .key-at2 .ensures) (c .before .is-candidate .ensures) (c .consider-source .ensures))
+loop-again c = (search needs, source-on _ _ _ _ _ _ _ _ _ _ (c .before .before .before .before .before .loop .inv .1) (c .before .before .before .before .loop-test .taken) (c .before .before .before .key-at .ensures) (c .before .before .key-at2 .ensures) (c .before .is-candidate .ensures) (c .consider-source .ensures))
 
 returns : tie.Need-returns Inv-loop μ-loop
-returns c = search (needs, searching)
+unfolding sourceBelow longestSource
+returns c = search-end _ _ _ _ _ (c .before .loop .inv .1) (c .loop-test .left) (c .before .loop .inv .0)
 
 pub longest-source-spec : {M : Type 1} → statement M
 longest-source-spec =
