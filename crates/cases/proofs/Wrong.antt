@@ -6,8 +6,9 @@ use mathlib.Core.List.{List, [], _∷_, _++_, reverse, reverse-cons}
 use Prim.Native.Nat.{ℕ}
 use lib.Dec.{eqb}
 use lib.ListN.{getD}
-use Rattle.text.specs.Text.{Text, bytes, lacksByte}
+use Rattle.text.specs.Text.{Text, bytes}
 use Rattle.text.proofs.BoolLaws.{eqb-self}
+use Rattle.path_grammar.specs.Own.{hasVariantSelection}
 use Rattle.path_grammar.specs.Legal.{legal, atMost255}
 use Rattle.refusal.specs.Refusal.{refusalNumber}
 use Rattle.refusal.specs.Outcome.{Outcome, path, refused, outcomeBuffer}
@@ -58,7 +59,7 @@ no-path-returns (x ∷ xs) p q e = absurd (no-path e)
 
 -- Through `/A`→`/B` the path `/A/D` maps plainly to `/B/D` and back.
 plain : SelectionFreePath (bytes "/A/D")
-unfolding legal atMost255 lacksByte
+unfolding legal atMost255 hasVariantSelection
 plain = record { is-legal = refl; is-short = refl; is-plain = refl }
 
 there-and-back : PlainRoundTrip (legMap (by-map aToB)) (bytes "/A/D") (bytes "/B/D")

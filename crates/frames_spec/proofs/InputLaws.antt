@@ -1,10 +1,11 @@
 -- The proofs of the theorems about the lines of every input.
 use mathlib.Core.Path.{_≡_, refl, sym, ap, _∙_}
-use mathlib.Core.Bool.{true}
+use mathlib.Core.Bool.{false}
 use mathlib.Core.List.{List, [], _∷_, _++_, map, append-assoc, append-nil}
 use mathlib.Core.Option.{Option, some}
 use Prim.Native.Nat.{ℕ}
-use Rattle.text.specs.Text.{Text, lacksByte}
+use Rattle.text.specs.Text.{Text}
+use Rattle.path_grammar.specs.Own.{hasVariantSelection}
 use Rattle.line_reader.specs.Lines.{Line, foldAnswers}
 use Rattle.hex.specs.Hex.{encodeHex}
 use Rattle.frames_spec.specs.Frame.{Frame, out, home}
@@ -41,7 +42,7 @@ says : (st : State) (l : Line) (f : Frame) (k : ℕ) (q : Text) → parseLine l 
 unfolding answerLine
 says st l f k q h e = ap (λ (o : Option Frame). encodeHex (answerFrame stepFrame st o) ++ 10 ∷ []) h ∙ ap (λ (b : Text). encodeHex b ++ 10 ∷ []) e
 
-module _ (ls : List Line) (l k : Line) (p q : Text) (h : parseLine l ≡ some (out p)) (plain : lacksByte 123 p ≡ true)
+module _ (ls : List Line) (l k : Line) (p q : Text) (h : parseLine l ≡ some (out p)) (plain : hasVariantSelection p ≡ false)
     (e : (stepFrame (stateAfter ls) (out p)) .answer ≡ success q) (g : parseLine k ≡ some (home q)) where
   routes-out : answerLine stepFrame (stateAfter ls) l ≡ acceptedLine 133 q
   routes-out = says (stateAfter ls) l (out p) 133 q h (ap (λ (a : Answer). 133 ∷ answerBytes a) e)

@@ -8,7 +8,8 @@ use native.Mathlib.Omega.{arith}
 use lib.Dec.{leb}
 use lib.ListN.{length, length-append}
 use borrow.Author.Tests.{le-leb, lt-leb, leb-true, leb-false}
-use Rattle.text.specs.Text.{Text, lacksByte}
+use Rattle.text.specs.Text.{Text}
+use Rattle.path_grammar.specs.Own.{hasVariantSelection}
 use Rattle.path_grammar.specs.Legal.{legal, atMost255, isEnd}
 use Rattle.pair_list.specs.Pair.{Pair, allEnds, pair as pairOf}
 use Rattle.pair_list.specs.Places.{endBytes}
@@ -216,7 +217,7 @@ passed-routes : (back : Bool) (st : State) (p : Text) → pathNewCall p ≡ Pass
 unfolding routePath
 passed-routes back st p h = rw h
 
-module _ (st : State) (k : Kept st) (p q : Text) (plain : lacksByte 123 p ≡ true) where
+module _ (st : State) (k : Kept st) (p q : Text) (plain : hasVariantSelection p ≡ false) where
   returns : routePath false st p ≡ path q → (st′ : State) → st′ .legs ≡ st .legs → routePath true st′ q ≡ path p
   unfolding runRoute
   returns e st′ same =

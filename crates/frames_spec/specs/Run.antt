@@ -1,13 +1,13 @@
 -- A run: the frames of an input in order, with none for a bad frame; and the theorems about every run.
 use mathlib.Core.Path.{_≡_}
 use Prim.Native.Nat.{ℕ, _+_, _≤_}
-use mathlib.Core.Bool.{true, false, cond}
+use mathlib.Core.Bool.{false, cond}
 use mathlib.Core.List.{List, [], _∷_}
 use mathlib.Core.Option.{Option, none, some}
 use lib.Dec.{leb}
 use lib.ListN.{length}
-use Rattle.text.specs.Text.{Text, lacksByte}
-use Rattle.text.specs.Bytes.{openBrace}
+use Rattle.text.specs.Text.{Text}
+use Rattle.path_grammar.specs.Own.{hasVariantSelection}
 use Rattle.refusal.specs.declared.Refusal.{Refusal}
 use Rattle.refusal.specs.Outcome.{Outcome, path, refused}
 use Rattle.frames_spec.specs.Frame.{Frame, pair, statuses, close-map, close-relocates, out, home, count, kind}
@@ -71,7 +71,7 @@ pub record RunTheorems : Type 0 where
   -- A refused frame changes nothing.
   pub refused-still : (st : State) (f : Frame) (x : Refusal) → (stepFrame st f) .answer ≡ refusal x → (stepFrame st f) .state ≡ st
   -- In every run: if 05 with a path without selections is answered 00 with q, the next frame, 06 with q, is answered 00 with that path.
-  pub comes-home : (fs : List (Option Frame)) (p q : Text) → lacksByte openBrace p ≡ true
+  pub comes-home : (fs : List (Option Frame)) (p q : Text) → hasVariantSelection p ≡ false
       → (stepFrame (stateAfterFrames initialState fs) (out p)) .answer ≡ success q → (stepFrame (nextState stepFrame (stateAfterFrames initialState fs) (some (out p))) (home q)) .answer ≡ success p
   -- 07 returns the number of 05 frames answered 00 in the input so far.
   pub counts-outs : (fs : List (Option Frame)) → (stepFrame (stateAfterFrames initialState fs) count) .answer ≡ success (bigEndian32 (saturate32 (countOuts initialState fs)))

@@ -10,7 +10,7 @@ use Rattle.text.specs.Text.{Text, isNil, lacksByte}
 use Rattle.text.proofs.BoolLaws.{and-l, and-r, and-no, not-true}
 use Rattle.text.proofs.TextLaws.{no-text, lacks-first, lacks-rest, lacks-after, lacks-join}
 use Rattle.path_grammar.specs.Legal.{isRoot, legal, isEnd}
-use Rattle.path_grammar.proofs.LegalLaws.{end-legal, end-lacks, end-undotted}
+use Rattle.path_grammar.proofs.LegalLaws.{end-scan, end-legal, end-lacks, end-undotted}
 use Rattle.path_prefix.specs.Prefix.{hasPrefix, canFollow}
 use Rattle.path_join.specs.Join.{isChild, endsWithSeparator, slashUnless, separator, body, join, replacePrefix, startsSuffix, joinIllegal}
 use Rattle.path_prefix.proofs.PrefixLaws.{prefix-rest}
@@ -57,13 +57,13 @@ no-suffix (a ∷ r) e f = rw (lacks-first 46 a r f, lacks-first 123 a r e)
 
 -- The join of ends is an end.
 join-end : (s t r : Text) → isEnd (s ++ r) ≡ true → isEnd s ≡ true → isNil s ≡ false → isEnd t ≡ true → canFollow s r ≡ true → isEnd (join s t r) ≡ true
-unfolding isEnd joinIllegal
+unfolding joinIllegal
 join-end s t r ep es ns et f =
     let e : lacksByte 123 r ≡ true = lacks-after 123 s r (end-lacks (s ++ r) ep) in
     let g : lacksByte 46 r ≡ true = lacks-after 46 s r (end-undotted (s ++ r) ep) in
     let l : legal (join s t r) ≡ true
     = join-legal s t r (end-legal (s ++ r) ep) es ns et f ∙ ap not (ap (λ (b : Bool). (isNil t || isRoot t) && b) (no-suffix r e g) ∙ and-no (isNil t || isRoot t)) in
-    rw (l, join-lacks 123 refl s t r (end-lacks t et) e, join-lacks 46 refl s t r (end-undotted t et) g)
+    rw (end-scan (join s t r), l, join-lacks 123 refl s t r (end-lacks t et) e, join-lacks 46 refl s t r (end-undotted t et) g)
 
 replaced-end : (p s t q : Text) → isEnd p ≡ true → isEnd s ≡ true → isNil s ≡ false → isEnd t ≡ true → hasPrefix p s ≡ true → replacePrefix p s t ≡ some q
     → isEnd q ≡ true

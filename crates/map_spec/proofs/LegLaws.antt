@@ -7,13 +7,14 @@ use mathlib.Core.Option.{Option, none, some}
 use Prim.Native.Nat.{ℕ}
 use native.Mathlib.Omega.{arith}
 use borrow.Author.Tests.{eqb-true, eq-eqb}
-use Rattle.text.specs.Text.{Text, isNil, lacksByte}
+use Rattle.text.specs.Text.{Text, isNil}
 use Rattle.text.proofs.BoolLaws.{and-l, not-true}
 use Rattle.text.proofs.TextLaws.{no-text}
+use Rattle.path_grammar.specs.Own.{hasVariantSelection}
 use Rattle.path_grammar.specs.Legal.{legal, atMost255, isEnd}
 use Rattle.path_prefix.specs.Prefix.{hasPrefix}
 use Rattle.path_join.specs.Join.{replacePrefix}
-use Rattle.path_join.proofs.JoinLaws.{Rel, swap, back, weigh, replaced, still-lacks}
+use Rattle.path_join.proofs.JoinLaws.{Rel, swap, back, weigh, replaced, still-free}
 use Rattle.path_parts.proofs.StripLaws.{strip-same}
 use Rattle.pair_list.specs.Pair.{allEnds, noEmptySource}
 use Rattle.pair_list.specs.LongestMatch.{matches}
@@ -43,7 +44,7 @@ by-target m a b p q i e = go (isNil (mapTarget m i)) e
 
 -- The pair that maps p to q relates them, in the sense of `Rel`.
 by-rel : (m : Map) (a b : ℕ → Text) (p q : Text) (n i : ℕ) → ((k : ℕ) → isEnd (a k) ≡ true) → ((k : ℕ) → isEnd (b k) ≡ true)
-    → legal p ≡ true → lacksByte 123 p ≡ true → IsLongest (matches p) a n i → mapBy m a b p (some i) ≡ some q → legal q ≡ true → Rel (a i) (b i) p q
+    → legal p ≡ true → hasVariantSelection p ≡ false → IsLongest (matches p) a n i → mapBy m a b p (some i) ≡ some q → legal q ≡ true → Rel (a i) (b i) p q
 by-rel m a b p q n i ea eb lp f c e lq =
     replaced p (a i) (b i) q (matches-full p (a i) (c .does-pass)) (ea i) (eb i) lp f (rw (by-target m a b p q i e) at e) lq
 
@@ -55,7 +56,7 @@ by-mark m a b p q e = go (m .mark) refl e
     go true h e = (h, cc)
     go false h e = absurd (no-text e)
 
-module _ (m : Map) (p q : Text) (em : allEnds (m .pairs) ≡ true) (lp : legal p ≡ true) (fp : lacksByte 123 p ≡ true) (lq : legal q ≡ true) where
+module _ (m : Map) (p q : Text) (em : allEnds (m .pairs) ≡ true) (lp : legal p ≡ true) (fp : hasVariantSelection p ≡ false) (lq : legal q ≡ true) where
   es : (i : ℕ) → isEnd (mapSource m i) ≡ true
   es i = ends-source (m .pairs) em i
 
@@ -71,7 +72,7 @@ module _ (m : Map) (p q : Text) (em : allEnds (m .pairs) ≡ true) (lp : legal p
 
   -- That pair maps q back.
   leg-back : (o o′ : Option ℕ) → SaysLongest (matches p) (mapSource m) (mapSize m) o → mapBy m (mapSource m) (mapTarget m) p o ≡ some q → eqIndex o o′ ≡ true
-      → (mapBy m (mapTarget m) (mapSource m) q o′ ≡ some p) × (lacksByte 123 q ≡ true)
+      → (mapBy m (mapTarget m) (mapSource m) q o′ ≡ some p) × (hasVariantSelection q ≡ false)
   leg-back none none f e s =
       let k = by-mark m (mapSource m) (mapTarget m) p q e in
       rw (k .0, k .1) (refl, fp)
@@ -79,16 +80,16 @@ module _ (m : Map) (p q : Text) (em : allEnds (m .pairs) ≡ true) (lp : legal p
   leg-back (some i) none f e s = absurd (false≢true s)
   leg-back (some i) (some j) f e s =
       let r = out-rel i f e in
-      rw (← (eqb-true i j s), by-target m (mapSource m) (mapTarget m) p q i e) ((back (swap r) (et i) (es i)) .1, still-lacks r (et i) fp)
+      rw (← (eqb-true i j s), by-target m (mapSource m) (mapTarget m) p q i e) ((back (swap r) (et i) (es i)) .1, still-free r (et i) fp)
 
   -- The pair that maps q home relates p and q too.
-  home-rel : (j : ℕ) → lacksByte 123 q ≡ true → IsLongest (matches q) (mapTarget m) (mapSize m) j → mapBy m (mapTarget m) (mapSource m) q (some j) ≡ some p
+  home-rel : (j : ℕ) → hasVariantSelection q ≡ false → IsLongest (matches q) (mapTarget m) (mapSize m) j → mapBy m (mapTarget m) (mapSource m) q (some j) ≡ some p
       → Rel (mapSource m j) (mapTarget m j) p q
   home-rel j fq g h = swap (by-rel m (mapTarget m) (mapSource m) q p (mapSize m) j et es lq fq g h lp)
 
   module _ (full : noEmptySource (m .pairs) ≡ true) where
     -- If no source is empty, the pair that maps q home matches p on the way out.
-    home-matches : (j : ℕ) → lacksByte 123 q ≡ true → IsLongest (matches q) (mapTarget m) (mapSize m) j → mapBy m (mapTarget m) (mapSource m) q (some j) ≡ some p
+    home-matches : (j : ℕ) → hasVariantSelection q ≡ false → IsLongest (matches q) (mapTarget m) (mapSize m) j → mapBy m (mapTarget m) (mapSource m) q (some j) ≡ some p
         → matches p (mapSource m j) ≡ true
     home-matches j fq g h =
         prefix-matches p (mapSource m j) (full-source (m .pairs) full j (g .in-range)) ((back (home-rel j fq g h) (es j) (et j)) .0)
@@ -103,7 +104,7 @@ module _ (m : Map) (p q : Text) (em : allEnds (m .pairs) ≡ true) (lp : legal p
     leg-same (some i) none f g e h = absurd (g i (f .in-range) (out-matches i f e))
     leg-same (some i) (some j) f g e h =
         let r = out-rel i f e in
-        let fq = still-lacks r (et i) fp in
+        let fq = still-free r (et i) fp in
         let sp = home-matches j fq g h in
         let sq = out-matches i f e in
         let w = weigh true r (es i) (et i) in
@@ -133,7 +134,7 @@ module _ (m : Map) (em : allEnds (m .pairs) ≡ true) (p q : Text) (c : Selectio
   kept : translateChecked m p ≡ path q → (requireInvertible m (matchSource m p) (mapSourceToTarget m p) ≡ some q) × (atMost255 q ≡ true) × (legal q ≡ true)
   kept e = checked-path (requireInvertible m (matchSource m p) (mapSourceToTarget m p)) q (rw opened at e)
 
-  returns : translateChecked m p ≡ path q → (mapTargetToSource m q ≡ some p) × (lacksByte 123 q ≡ true)
+  returns : translateChecked m p ≡ path q → (mapTargetToSource m q ≡ some p) × (hasVariantSelection q ≡ false)
   unfolding mapSourceToTarget mapTargetToSource matchSource
   returns e =
       let k = kept e in

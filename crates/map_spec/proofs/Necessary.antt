@@ -3,7 +3,8 @@
 use mathlib.Core.Path.{_≡_, refl, sym, _∙_}
 use mathlib.Core.Bool.{true}
 use mathlib.Core.List.{[], _∷_}
-use Rattle.text.specs.Text.{Text, bytes, lacksByte}
+use Rattle.text.specs.Text.{Text, bytes}
+use Rattle.path_grammar.specs.Own.{hasVariantSelection}
 use Rattle.path_grammar.specs.Legal.{legal, atMost255}
 use Rattle.pair_list.specs.Pair.{allEnds}
 use Rattle.refusal.specs.declared.Refusal.the-variants.{NoPath}
@@ -21,7 +22,7 @@ unfolding allEnds
 marked-ends = refl
 
 plain : SelectionFreePath (bytes "/A")
-unfolding legal atMost255 lacksByte
+unfolding legal atMost255 hasVariantSelection
 plain = record { is-legal = refl; is-short = refl; is-plain = refl }
 
 there-and-back : PlainRoundTrip marked (bytes "/A") (bytes "/A")

@@ -14,6 +14,7 @@ use Rattle.text.specs.declared.Fit.the-variants.{Written as WrittenFit}
 use Rattle.text.proofs.BoolLaws.{told}
 use Rattle.text.proofs.WriteLaws.{placed-first, read-back}
 use Rattle.path_grammar.specs.Legal.{atMost255}
+use Rattle.path_grammar.proofs.OwnLaws.{lacks-free}
 use Rattle.path_join.specs.Join.{join, joinIllegal}
 use Rattle.path_parts.specs.Strip.{strip, stripFit, stripBuffer}
 use Rattle.path_parts.proofs.StripLaws.{strip-same, strip-back}
@@ -118,7 +119,7 @@ module _ (o : Outcome) (r : Reply) (buf made : Text) (h : r ≡ outcomeReply o) 
 
 -- Lemmas for `translate_stripped`.
 pub translate-plain : (m : Map) (p : Text) (b : Bool) → b ≡ lacksByte 123 p → b ≡ true → translateFast m (strip p) ≡ translateFast m p
-translate-plain m p b h k = ap (translateFast m) (strip-same p (told h k))
+translate-plain m p b h k = ap (translateFast m) (strip-same p (lacks-free p (told h k)))
 
 pub translate-back : (p buf : Text) (f : Fit) → length p ≤ length buf → f ≡ stripFit p buf → (k : ℕ) → f ≡ WrittenFit k → (mem : Text) → mem ≡ stripBuffer p buf → (o : Map)
     → translateFast o (strip p) ≡ translateFast o (take k mem)

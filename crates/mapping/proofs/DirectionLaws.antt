@@ -72,8 +72,8 @@ module _ (list : Validation) (direction : Direction) (store : Text) (places : Li
   unfolding afterListValidated
   after-passed k l = answered-passed (firstRefusal list (pathNewCall p)) room (mapFastIn direction (mapOf store places f) p) q both k l
 
--- Validating a list and a path yields the refusal with the lower number of the two results, so the call equals the one that is given the
--- result for the list.
+-- Validating a list and a path yields, of the two results, the refusal whose question is put first, so the call equals the one that is
+-- given the result for the list.
 pub after-is-call : (direction : Direction) (store : Text) (places : List ℕ) (f : MapFunction) (p : Text) (room : ℕ)
     → afterListValidated (validateCall (lentList store places (f .count) ∷ []) [] []) direction store places f p room ≡ directionCall direction store places f p room
 unfolding afterListValidated directionCall mapFastIn

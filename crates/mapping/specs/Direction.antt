@@ -30,8 +30,8 @@ mapFastIn Out m p = mapFast false m p
 mapFastIn Home m p = mapFast true m p
 mapFastIn Translated m p = translateFast m (strip p)
 
--- The call with `list`, the result of validating the list, given: the path is validated, and the refusal with the lower number decides. If
--- `list` is the result for this list, this equals `directionCall` (proofs/DirectionLaws.antt).
+-- The call with `list`, the result of validating the list, given: the path is validated, and the refusal whose question is put first
+-- decides. If `list` is the result for this list, this equals `directionCall` (proofs/DirectionLaws.antt).
 unfoldable pub afterListValidated : Validation → Direction → Text → List ℕ → MapFunction → Text → ℕ → Outcome
 unfolding firstRefusal pathNewCall afterChecks mapFastIn
 afterListValidated list direction store places f p room = afterChecks (firstRefusal list (pathNewCall p)) room (mapFastIn direction (mapOf store places f) p)

@@ -1,9 +1,10 @@
--- Each call as the code validates it: always with three texts, the missing ones empty.
-use mathlib.Core.Path.{_≡_, refl}
-use mathlib.Core.Bool.{not}
+-- Each call as the code validates it, always with three texts, the missing ones empty; a selection as the code finds it, by its `{`.
+use mathlib.Core.Path.{_≡_, refl, ap}
+use mathlib.Core.Bool.{Bool, not}
 use mathlib.Core.List.{[], _∷_}
 use Rattle.text.specs.Text.{Text, lacksByte}
 use Rattle.path_grammar.specs.Legal.{isEnd}
+use Rattle.path_grammar.proofs.OwnLaws.{selection-scan}
 use Rattle.path_prefix.specs.Prefix.{hasPrefix}
 use Rattle.path_prefix.specs.Elements.{elementCount, primElementCount}
 use Rattle.path.specs.declared.Test.the-variants.{Holds, Refused as RefusedTest}
@@ -18,7 +19,7 @@ module _ (p : Text) where
 
   pub selection-unfolded : hasVariantSelectionCall p ≡ refusedOr (validateTexts (p ∷ [] ∷ [] ∷ [])) RefusedTest (Holds (not (lacksByte 123 p)))
   unfolding hasVariantSelectionCall
-  selection-unfolded = refl
+  selection-unfolded = ap (λ (b : Bool). refusedOr (validateTexts (p ∷ [] ∷ [] ∷ [])) RefusedTest (Holds b)) (selection-scan p)
 
   pub elements-unfolded : elementCountCall p ≡ refusedOr (validateTexts (p ∷ [] ∷ [] ∷ [])) RefusedCount (Counted (record { 0 = elementCount p }))
   unfolding elementCountCall

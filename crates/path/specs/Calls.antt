@@ -1,9 +1,9 @@
 -- The calls that test a path or count its elements: validation in the order of the questions, then the result.
 use Prim.Native.Nat.{ℕ}
-use mathlib.Core.Bool.{Bool, not}
+use mathlib.Core.Bool.{Bool}
 use mathlib.Core.List.{List, [], _∷_}
-use Rattle.text.specs.Text.{Text, lacksByte}
-use Rattle.text.specs.Bytes.{openBrace}
+use Rattle.text.specs.Text.{Text}
+use Rattle.path_grammar.specs.Own.{hasVariantSelection}
 use Rattle.path_grammar.specs.Legal.{isEnd}
 use Rattle.path_prefix.specs.Prefix.{hasPrefix}
 use Rattle.path_prefix.specs.Elements.{elementCount, primElementCount}
@@ -31,8 +31,8 @@ isEndCall p = testCall (p ∷ []) (isEnd p)
 
 -- The call `has_variant_selection`. OpenUSD: SdfPath::ContainsPrimVariantSelection.
 unfoldable pub hasVariantSelectionCall : Text → Test
-unfolding testCall lacksByte
-hasVariantSelectionCall p = testCall (p ∷ []) (not (lacksByte openBrace p))
+unfolding testCall hasVariantSelection
+hasVariantSelectionCall p = testCall (p ∷ []) (hasVariantSelection p)
 
 -- The call `has_prefix`.
 unfoldable pub hasPrefixCall : Text → Text → Test

@@ -14,6 +14,7 @@ use Rattle.text.proofs.BoolLaws.{and-no, and-yes, upTo}
 use Rattle.path_grammar.specs.Legal.{ScanState, Slash, Name, Opened, Set, Equals, Sel, Closed, Dot, Prop, Dead, step, run, accept, legal, isEnd}
 use Rattle.path_grammar.specs.PackedScan.{packedSteps, endByte, EndsByScan}
 use Rattle.path_grammar.proofs.RunLaws.{run-dead}
+use Rattle.path_grammar.proofs.LegalLaws.{end-scan}
 use Rattle.path_grammar.proofs.ScanLaws.{upper-1, lower-1, more-1, upper-2, lower-2, more-2, digits-1, digits-2, listed, Reads, first, on, none, other, root, whole}
 
 -- No path contains the byte 0.
@@ -45,10 +46,10 @@ run-plain s (a ∷ r) = go (eqb a 46) (eqb a 123) refl refl (run-plain (step s a
     go false true h k ih = rw (h, k, and-no (accept (run (step s a) r))) (sym (null-refused s (map endByte r)))
     go false false h k ih = rw (h, k) ih
 
-pub ends-by-plain : EndsByScan
-unfolding isEnd legal lacksByte
-ends-by-plain [] = refl
-ends-by-plain (a ∷ r) = go (eqb a 47) refl
+legal-plain : (s : Text) → (legal s && (lacksByte 123 s && lacksByte 46 s)) ≡ legal (map endByte s)
+unfolding legal lacksByte
+legal-plain [] = refl
+legal-plain (a ∷ r) = go (eqb a 47) refl
   where
     rest : (r : Text) → ((isNil r || accept (run Slash r)) && (lacksByte 123 r && lacksByte 46 r)) ≡ (isNil (map endByte r) || accept (run Slash (map endByte r)))
     rest [] = refl
@@ -58,9 +59,12 @@ ends-by-plain (a ∷ r) = go (eqb a 47) refl
     other-head true h = refl
     other-head false h = h
 
-    go : (b : Bool) → eqb a 47 ≡ b → isEnd (a ∷ r) ≡ legal (map endByte (a ∷ r))
+    go : (b : Bool) → eqb a 47 ≡ b → (legal (a ∷ r) && (lacksByte 123 (a ∷ r) && lacksByte 46 (a ∷ r))) ≡ legal (map endByte (a ∷ r))
     go true h = rw (eqb-true a 47 h) (rest r)
     go false h = rw (h, other-head (eqb a 46 || eqb a 123) h)
+
+pub ends-by-plain : EndsByScan
+ends-by-plain s = end-scan s ∙ legal-plain s
 
 -- Lemmas for `end_row`.
 abbrev pub end-pack : ℕ → ℕ

@@ -1,6 +1,6 @@
 -- Lemmas about legal texts and ends, mainly about what they cannot contain.
 use mathlib.Core.Path.{_≡_, refl, sym, ap, _∙_}
-use mathlib.Core.Bool.{Bool, true, false, not, cond, _&&_, true≢false, false≢true}
+use mathlib.Core.Bool.{Bool, true, false, not, cond, _&&_, true≢false, false≢true, Bool·not-not}
 use mathlib.Core.List.{[], _∷_}
 use Prim.Native.Nat.{ℕ, _≤_}
 use lib.Dec.{eqb}
@@ -8,7 +8,9 @@ use borrow.Author.Tests.{eqb-true, leb-true, le-leb}
 use Rattle.text.specs.Text.{Text, endsWithByte, lacksByte}
 use Rattle.text.proofs.BoolLaws.{and-l, and-r, not-true}
 use Rattle.path_grammar.specs.Legal.{ScanState, Slash, Name, Opened, Set, Equals, Sel, Closed, Dot, Prop, Dead, isIdentifierStart, isIdentifierCont, step, run, accept, isRoot, legal, isEnd, atMost255}
+use Rattle.path_grammar.specs.Own.{hasVariantSelection, hasProperty}
 use Rattle.path_grammar.proofs.RunLaws.{run-dead}
+use Rattle.path_grammar.proofs.OwnLaws.{lacks-free, property-scan}
 use lib.ListN.{length}
 
 -- A legal text other than `/` does not end in a slash.
@@ -101,17 +103,28 @@ legal-last (a ∷ []) e n = absurd (true≢false (sym e ∙ n))
 legal-last (a ∷ b ∷ r) e n = run-last Slash (b ∷ r) (and-r (eqb a 47) (accept (run Slash (b ∷ r))) e)
 
 -- Lemmas about the ends of pairs.
-pub end-legal : (s : Text) → isEnd s ≡ true → legal s ≡ true
+pub end-scan : (s : Text) → isEnd s ≡ (legal s && (lacksByte 123 s && lacksByte 46 s))
 unfolding isEnd
-end-legal s e = and-l (legal s) (lacksByte 123 s && lacksByte 46 s) e
+end-scan s = rw (Bool·not-not (lacksByte 123 s), Bool·not-not (lacksByte 46 s))
+
+pub end-legal : (s : Text) → isEnd s ≡ true → legal s ≡ true
+end-legal s e = and-l (legal s) (lacksByte 123 s && lacksByte 46 s) (sym (end-scan s) ∙ e)
+
+-- The whole text of an end lacks both bytes, so an end has neither a selection nor a property.
+end-free : (s : Text) → isEnd s ≡ true → (lacksByte 123 s && lacksByte 46 s) ≡ true
+end-free s e = and-r (legal s) (lacksByte 123 s && lacksByte 46 s) (sym (end-scan s) ∙ e)
 
 pub end-lacks : (s : Text) → isEnd s ≡ true → lacksByte 123 s ≡ true
-unfolding isEnd
-end-lacks s e = and-l (lacksByte 123 s) (lacksByte 46 s) (and-r (legal s) (lacksByte 123 s && lacksByte 46 s) e)
+end-lacks s e = and-l (lacksByte 123 s) (lacksByte 46 s) (end-free s e)
 
 pub end-undotted : (s : Text) → isEnd s ≡ true → lacksByte 46 s ≡ true
-unfolding isEnd
-end-undotted s e = and-r (lacksByte 123 s) (lacksByte 46 s) (and-r (legal s) (lacksByte 123 s && lacksByte 46 s) e)
+end-undotted s e = and-r (lacksByte 123 s) (lacksByte 46 s) (end-free s e)
+
+pub end-no-selection : (s : Text) → isEnd s ≡ true → hasVariantSelection s ≡ false
+end-no-selection s e = lacks-free s (end-lacks s e)
+
+pub end-no-property : (s : Text) → isEnd s ≡ true → hasProperty s ≡ false
+end-no-property s e = property-scan s ∙ ap not (end-undotted s e)
 
 free-close : (s : Text) → legal s ≡ true → lacksByte 123 s ≡ true → endsWithByte 125 s ≡ false
 unfolding legal endsWithByte lacksByte

@@ -1,5 +1,6 @@
 -- The lemmas of this crate. The proof of each function is in the folder of its name.
 pub mod RunLaws
+pub mod OwnLaws
 pub mod LegalLaws
 mod Render
 mod Parse

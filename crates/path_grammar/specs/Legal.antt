@@ -1,12 +1,13 @@
 -- Legal path texts, as an automaton that reads a text byte by byte. Grammar.antt defines the same texts by data types; proofs/Theorem.antt
 -- proves that the two agree. The bytes: . is 46, / is 47, : is 58, = is 61, _ is 95, { is 123, } is 125.
 use Prim.Native.Nat.{ℕ}
-use mathlib.Core.Bool.{Bool, true, false, cond, _&&_, _||_}
+use mathlib.Core.Bool.{Bool, true, false, not, cond, _&&_, _||_}
 use mathlib.Core.List.{[], _∷_}
 use lib.Dec.{eqb, leb}
 use lib.ListN.{length}
-use Rattle.text.specs.Text.{Text, isNil, lacksByte}
+use Rattle.text.specs.Text.{Text, isNil}
 use Rattle.text.specs.Bytes.{closeBrace, colon, digit0, digit9, dot, equalsSign, lowerA, lowerZ, openBrace, slash, underscore, upperA, upperZ}
+use Rattle.path_grammar.specs.Own.{hasVariantSelection, hasProperty}
 
 -- The byte may begin a name (Rust: is_identifier_start). Requirements: "A name is a letter or `_`, then letters, digits, `_`."
 unfoldable pub isIdentifierStart : ℕ → Bool
@@ -97,5 +98,5 @@ atMost255 p = leb (length p) 255
 -- The text may be an end of a pair: a prim path, `/` or empty, that is, a legal text with no selection and no property. Requirements: "A
 -- prim path has names only."
 unfoldable pub isEnd : Text → Bool
-unfolding legal lacksByte
-isEnd s = legal s && (lacksByte openBrace s && lacksByte dot s)
+unfolding legal hasVariantSelection hasProperty
+isEnd s = legal s && (not (hasVariantSelection s) && not (hasProperty s))

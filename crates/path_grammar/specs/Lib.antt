@@ -1,4 +1,5 @@
 -- The definitions of this crate.
 pub mod Grammar
+pub mod Own
 pub mod Legal
 pub mod PackedScan

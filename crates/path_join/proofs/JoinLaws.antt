@@ -11,7 +11,9 @@ use borrow.Author.Tests.{eqb-true}
 use Rattle.text.specs.Text.{Text, isNil, endsWithByte, lacksByte}
 use Rattle.text.proofs.BoolLaws.{and-no, or-false}
 use Rattle.text.proofs.TextLaws.{last-snoc, lacks-first, lacks-after, lacks-join}
+use Rattle.path_grammar.specs.Own.{hasVariantSelection}
 use Rattle.path_grammar.specs.Legal.{isIdentifierCont, isRoot, legal, isEnd}
+use Rattle.path_grammar.proofs.OwnLaws.{free-lacks, lacks-free}
 use Rattle.path_grammar.proofs.LegalLaws.{no-root-dot, legal-last, end-lacks, end-close, root-is}
 use Rattle.path_prefix.specs.Prefix.{canFollow, hasPrefix}
 use Rattle.path_join.specs.Join.{slashUnless, join, replacePrefix}
@@ -129,7 +131,7 @@ rests s t (a ∷ r) n es et lp f j lq = root (isRoot s) refl
     root false h = slash (eqb a 47) h refl
 
 -- So a path is related to the result of prefix replacement.
-pub replaced : (p s t q : Text) → isNil s ≡ false → isEnd s ≡ true → isEnd t ≡ true → legal p ≡ true → lacksByte 123 p ≡ true
+pub replaced : (p s t q : Text) → isNil s ≡ false → isEnd s ≡ true → isEnd t ≡ true → legal p ≡ true → hasVariantSelection p ≡ false
     → replacePrefix p s t ≡ some q → legal q ≡ true → Rel s t p q
 replaced p s t q n es et lp f e lq = go (drop (length s) p) (prefix-rest p s h .0) (prefix-rest p s h .1) (sym (replace-prefix p s t h) ∙ e)
   where
@@ -137,7 +139,7 @@ replaced p s t q n es et lp f e lq = go (drop (length s) p) (prefix-rest p s h .
     h = replaced-prefix p s t q e
 
     go : (r : Text) → p ≡ s ++ r → canFollow s r ≡ true → some (join s t r) ≡ some q → Rel s t p q
-    go r k j i = let m : join s t r ≡ q = cc in rw (k, ← m) (rests s t r n es et (rw k at lp) (rw k at f) j (rw (← m) at lq))
+    go r k j i = let m : join s t r ≡ q = cc in rw (k, ← m) (rests s t r n es et (rw k at lp) (rw k at (free-lacks p f)) j (rw (← m) at lq))
 
 count-stem : (f : Bool) (s y : Text) → isEnd s ≡ true → countElements f (stem s ++ 47 ∷ y) ≡ countElements f s + countElements f (47 ∷ y)
 unfolding isIdentifierCont
@@ -163,8 +165,11 @@ stem-lacks t f = go (isRoot t)
     go false = f
 
 -- If p has no selection, q has none.
-pub still-lacks : {s t p q : Text} → Rel s t p q → isEnd t ≡ true → lacksByte 123 p ≡ true → lacksByte 123 q ≡ true
+still-lacks : {s t p q : Text} → Rel s t p q → isEnd t ≡ true → lacksByte 123 p ≡ true → lacksByte 123 q ≡ true
 still-lacks {s} {t} whole et f = end-lacks t et
 still-lacks {s} {t} (under x r) et f =
     lacks-join 123 (stem t) (47 ∷ x ∷ r) (stem-lacks t (end-lacks t et)) (lacks-after 123 (stem s) (47 ∷ x ∷ r) f)
 still-lacks {s} {t} (dotted r h k) et f = lacks-join 123 t (46 ∷ r) (end-lacks t et) (lacks-after 123 s (46 ∷ r) f)
+
+pub still-free : {s t p q : Text} → Rel s t p q → isEnd t ≡ true → hasVariantSelection p ≡ false → hasVariantSelection q ≡ false
+still-free {s} {t} {p} {q} r et f = lacks-free q (still-lacks r et (free-lacks p f))

@@ -10,6 +10,7 @@ use lib.Seq.{take-length}
 use Rattle.text.specs.Text.{Text, isNil, endsWithByte, lacksByte}
 use Rattle.text.proofs.BoolLaws.{not-true, or-right}
 use Rattle.text.proofs.TextLaws.{no-text}
+use Rattle.path_grammar.specs.Own.{hasProperty}
 use Rattle.path_grammar.specs.Legal.{Slash, run, accept, legal}
 use Rattle.path_parts.specs.Parent.{lastPartStart, parentEnd, parentLen, hasParent, parent, isProperty, primLen, primPath}
 use Rattle.path_parts.proofs.ReadLaws.{Shape, empty, root, below, shape}
@@ -27,7 +28,7 @@ parent-len-le p = go (lastPartStart p) refl
 
 pub prim-len-le : (p : Text) → primLen p ≤ length p
 unfolding primLen
-prim-len-le p = go (isProperty p || endsWithByte 125 p)
+prim-len-le p = go (hasProperty p || endsWithByte 125 p)
   where
     go : (t : Bool) → cond t (parentLen p) (length p) ≤ length p
     go true = parent-len-le p
@@ -78,14 +79,14 @@ parent-shorter p q e f = rw (parent-is p q f .1) (parent-less p e (parent-is p q
 -- Lemmas about prim paths.
 pub prim-legal : (p : Text) → legal p ≡ true → legal (primPath p) ≡ true
 unfolding primPath primLen
-prim-legal p e = go (isProperty p || endsWithByte 125 p)
+prim-legal p e = go (hasProperty p || endsWithByte 125 p)
   where
     go : (t : Bool) → legal (take (cond t (parentLen p) (length p)) p) ≡ true
     go true = parent-take p e
     go false = rw (take-length p) e
 
 -- A property path is its prim path, a dot and the property's name.
-property-len : (p : Text) → isProperty p ≡ true → primLen p ≡ parentLen p
+property-len : (p : Text) → hasProperty p ≡ true → primLen p ≡ parentLen p
 unfolding primLen
 property-len p f = rw f
 
@@ -97,7 +98,7 @@ slash-joins r e f d =
     rw n (ap (λ (x : Text). 47 ∷ x) (d .joins))
 
 pub split-joins : (p : Text) → legal p ≡ true → isProperty p ≡ true → p ≡ primPath p ++ 46 ∷ drop (suc (primLen p)) p
-unfolding lacksByte
+unfolding hasProperty
 split-joins p e f = go (shape p e) f
   where
     go : {q : Text} → Shape q → isProperty q ≡ true → q ≡ primPath q ++ 46 ∷ drop (suc (primLen q)) q

@@ -15,6 +15,8 @@ use Rattle.text.proofs.BoolLaws.{or-right}
 use Rattle.text.proofs.TextLaws.{lacks-first, lacks-rest, lacks-join}
 use Rattle.text.proofs.WriteLaws.{read-back}
 use Rattle.path_grammar.specs.Legal.{ScanState, Slash, Name, Opened, Set, Equals, Sel, Closed, Dot, Prop, Dead, isIdentifierStart, isIdentifierCont, startsName, step, run, accept, legal}
+use Rattle.path_grammar.specs.Own.{hasVariantSelection}
+use Rattle.path_grammar.proofs.OwnLaws.{free-lacks, lacks-free}
 use Rattle.path_grammar.proofs.RunLaws.{run-app}
 use Rattle.path_parts.specs.Parent.{startsNameAfter}
 use Rattle.path_parts.specs.Strip.{strippedByte, insideAfter, stripFrom, strip, stripFit, stripBuffer}
@@ -60,15 +62,19 @@ unfolding stripFrom lacksByte
 from-lacks m [] = refl
 from-lacks m (a ∷ r) = lacks-join 123 (strippedByte m a r) (stripFrom (insideAfter m a) r) (piece-lacks m a r) (from-lacks (insideAfter m a) r)
 
-pub strip-lacks : (p : Text) → lacksByte 123 (strip p) ≡ true
+-- So a stripped path has no selection.
+pub strip-free : (p : Text) → hasVariantSelection (strip p) ≡ false
 unfolding strip
-strip-lacks p = from-lacks false p
+strip-free p = lacks-free (strip p) (from-lacks false p)
 
--- A text without `{` is unchanged.
-pub strip-same : (p : Text) → lacksByte 123 p ≡ true → strip p ≡ p
+-- A text without `{` is unchanged, and so is a path without selections.
+lacks-same : (p : Text) → lacksByte 123 p ≡ true → strip p ≡ p
 unfolding strip
-strip-same [] f = refl
-strip-same (a ∷ r) f = rw (lacks-first 123 a r f) (ap (λ (t : Text). a ∷ t) (strip-same r (lacks-rest 123 a r f)))
+lacks-same [] f = refl
+lacks-same (a ∷ r) f = rw (lacks-first 123 a r f) (ap (λ (t : Text). a ∷ t) (lacks-same r (lacks-rest 123 a r f)))
+
+pub strip-same : (p : Text) → hasVariantSelection p ≡ false → strip p ≡ p
+strip-same p f = lacks-same p (free-lacks p f)
 
 -- The stripped text is read in parallel with the text. Inside a selection, its automaton stays in the name before the selection.
 abbrev within : ScanState → Bool

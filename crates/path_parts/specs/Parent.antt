@@ -6,8 +6,9 @@ use mathlib.Core.List.{List, [], _∷_, map}
 use mathlib.Core.Option.{Option, none, some}
 use lib.Dec.{eqb}
 use lib.ListN.{length, take}
-use Rattle.text.specs.Text.{Text, isNil, endsWithByte, lacksByte}
+use Rattle.text.specs.Text.{Text, isNil, endsWithByte}
 use Rattle.text.specs.Bytes.{closeBrace, dot, openBrace, slash}
+use Rattle.path_grammar.specs.Own.{hasProperty}
 use Rattle.path_grammar.specs.Legal.{isRoot, isIdentifierCont, startsName}
 
 -- A part (an element or the property) begins at the byte a followed by r.
@@ -57,14 +58,15 @@ unfoldable pub parent : Text → Option Text
 unfolding parentLen
 parent p = cond (hasParent p) (some (take (parentLen p) p)) none
 
--- The path has a property: in a legal path only a property contains a dot.
+-- The path is a property path (Rust: is_property): it ends in its property. A path with a target path in brackets after its property would
+-- have a property and not be one.
 abbrev pub isProperty : Text → Bool
-isProperty p = not (lacksByte dot p)
+isProperty p = hasProperty p
 
 -- The length of the prim path: without the property, or without the last selection if the path ends in one; otherwise the whole path.
 unfoldable pub primLen : Text → ℕ
-unfolding parentLen lacksByte endsWithByte
-primLen p = cond (isProperty p || endsWithByte closeBrace p) (parentLen p) (length p)
+unfolding parentLen hasProperty endsWithByte
+primLen p = cond (hasProperty p || endsWithByte closeBrace p) (parentLen p) (length p)
 
 -- The prim path (Rust: prim_path).
 unfoldable pub primPath : Text → Text
@@ -74,7 +76,7 @@ primPath p = take (primLen p) p
 -- The prim path of a property path. Requirements: "`split_property` writes the prim path, the name being the text after its dot; without a
 -- property it gives no path."
 unfoldable pub splitProperty : Text → Option Text
-unfolding primPath lacksByte
+unfolding primPath hasProperty
 splitProperty p = cond (isProperty p) (some (primPath p)) none
 
 -- The list that `go` yields for a path, or the empty list if there is no path.

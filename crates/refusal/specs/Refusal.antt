@@ -1,4 +1,4 @@
--- Refusals, and the validation of texts (questions 1 and 2). Requirements: "The first 'no' gives its number".
+-- Refusals, their numbers and their order, and the validation of texts (questions 1 and 2). Requirements: "The first 'no' gives its number".
 use Prim.Native.Nat.{ℕ}
 use mathlib.Core.Bool.{Bool, true, cond, _&&_}
 use mathlib.Core.List.{List, [], _∷_}
@@ -19,6 +19,19 @@ refusalNumber NoRoom = 5
 refusalNumber NoPath = 6
 refusalNumber MadeTooLong = 7
 refusalNumber MadeIllegal = 8
+
+-- The rank of a refusal: the position of its question in the order in which the questions are put. Of two failed questions the one with the
+-- lower rank decides. The order need not be that of the numbers, so it has this table of its own; ranks are ten apart, so that a question
+-- that is added between two others leaves theirs unchanged.
+abbrev pub refusalRank : Refusal → ℕ
+refusalRank TooLong = 10
+refusalRank Illegal = 20
+refusalRank NotAnEnd = 30
+refusalRank TooMany = 40
+refusalRank NoRoom = 50
+refusalRank NoPath = 60
+refusalRank MadeTooLong = 70
+refusalRank MadeIllegal = 80
 
 -- Question 1. Requirements: "Is every path text at most 255 bytes?"
 unfoldable pub allTextsShort : List Text → Bool

@@ -1,10 +1,10 @@
-// Refusals: why a call is refused, the numbers that docs/REQUIREMENTS.md gives them, and the reply of a call
-// that writes a path. Validates the texts of a call: questions 1 (at most 255 bytes) and 2 (a legal path).
+// Refusals: why a call is refused, the numbers that docs/REQUIREMENTS.md gives them, their order, and the reply of
+// a call that writes a path. Validates the texts of a call: questions 1 (at most 255 bytes) and 2 (a legal path).
 ghost use mathlib.Core.Path.{_≡_};
 ghost use mathlib.Core.List.{[], _∷_};
-ghost use Rattle.refusal.specs.Refusal.{refusalNumber, allTextsShort, allTextsLegal, validateTexts};
+ghost use Rattle.refusal.specs.Refusal.{refusalNumber, refusalRank, allTextsShort, allTextsLegal, validateTexts};
 
-// Why a call is refused; `refusalNumber` in specs/Refusal.antt defines the number of each.
+// Why a call is refused; specs/Refusal.antt defines the number (`refusalNumber`) and the rank (`refusalRank`) of each.
 pub enum Refusal {
     // 1: a text has more than 255 bytes.
     TooLong,
@@ -52,6 +52,22 @@ pub fn number_of(x: Refusal) -> usize
         Refusal::NoPath => 6,
         Refusal::MadeTooLong => 7,
         Refusal::MadeIllegal => 8,
+    }
+}
+
+// The rank of a refusal: the position of its question in the order in which the questions are put.
+pub fn rank_of(x: Refusal) -> usize
+    ensures { λ r. ⌜ r ≡ refusalRank x ⌝ }
+{
+    match x {
+        Refusal::TooLong => 10,
+        Refusal::Illegal => 20,
+        Refusal::NotAnEnd => 30,
+        Refusal::TooMany => 40,
+        Refusal::NoRoom => 50,
+        Refusal::NoPath => 60,
+        Refusal::MadeTooLong => 70,
+        Refusal::MadeIllegal => 80,
     }
 }
 

@@ -15,6 +15,7 @@ use Rattle.text.proofs.BoolLaws.{not-true}
 use Rattle.text.proofs.WriteLaws.{placed-first, read-back}
 use Rattle.path_grammar.specs.Legal.{atMost255}
 use Rattle.path_parts.specs.Strip.{strip, stripFit, stripBuffer}
+use Rattle.path_grammar.proofs.OwnLaws.{lacks-free}
 use Rattle.path_parts.proofs.StripLaws.{strip-same, strip-back, strip-inside}
 use Rattle.refusal.specs.declared.Refusal.{Refusal}
 use Rattle.refusal.specs.declared.Refusal.the-variants.{NoRoom}
@@ -57,7 +58,7 @@ module _ (home : Bool) (n : ℕ) (p : Text) where
     where
       go : (n : ℕ) → n ≢ 0 → (b : Bool) → b ≡ lacksByte 123 p → enteringPath false n p ≡ cond b p (strip p)
       go zero k b e = absurd (k refl)
-      go (suc n) k true e = strip-same p (sym e)
+      go (suc n) k true e = strip-same p (lacks-free p (sym e))
       go (suc n) k false e = refl
 
 pub ruleset keeping = (keeps-home, keeps-none, keeps-lacks)

@@ -8,9 +8,10 @@ use native.Mathlib.Omega.{arith}
 use lib.Dec.{leb}
 use lib.ListN.{length, take}
 use borrow.Author.Tests.{le-leb, leb-true}
-use Rattle.text.specs.Text.{Text, lacksByte}
+use Rattle.text.specs.Text.{Text}
 use Rattle.text.proofs.BoolLaws.{and-l, and-r}
 use Rattle.text.proofs.WriteLaws.{read-back}
+use Rattle.path_grammar.specs.Own.{hasVariantSelection}
 use Rattle.path_grammar.specs.Legal.{atMost255}
 use Rattle.pair_list.specs.Pair.{noEmptySource}
 use Rattle.refusal.specs.declared.Refusal.the-variants.{NoRoom}
@@ -61,7 +62,7 @@ passes : firstRefusal Passed Passed ≡ Passed
 unfolding firstRefusal
 passes = refl
 
-module _ (r : LentRoute) (p : Text) (plain : lacksByte 123 p ≡ true) where
+module _ (r : LentRoute) (p : Text) (plain : hasVariantSelection p ≡ false) where
   module _ (h : validateRoute r (p ∷ []) ≡ Passed) where
     plain-path : SelectionFreePath p
     unfolding atMost255
@@ -91,7 +92,7 @@ unfolding routeEnds
 last-ends [] x e = and-l (legEnds x) true e
 last-ends (y ∷ xs) x e = last-ends xs x (and-r (legEnds y) (routeEnds (xs ++ x ∷ [])) e)
 
-module _ (r : LentRoute) (p : Text) (plain : lacksByte 123 p ≡ true) (k room : ℕ) (t : Text) (e : routeCall false (firstLegs r k) p room ≡ path t)
+module _ (r : LentRoute) (p : Text) (plain : hasVariantSelection p ≡ false) (k room : ℕ) (t : Text) (e : routeCall false (firstLegs r k) p room ≡ path t)
     (h : validateRoute (firstLegs r (suc k)) [] ≡ Passed) where
   reached : (validateRoute (firstLegs r k) (p ∷ []) ≡ Passed) × (255 ≤ room) × (foldLegs outward (legsIn r k) p ≡ path t)
   unfolding routeCall runRoute

@@ -10,7 +10,7 @@ use Rattle.text.specs.Text.{Text}
 use Rattle.text.proofs.BoolLaws.{and-l, and-r}
 use Rattle.path_grammar.specs.Legal.{legal, atMost255}
 use Rattle.path_parts.specs.Strip.{strip}
-use Rattle.path_parts.proofs.StripLaws.{strip-shorter, strip-lacks, strip-same, strip-legal}
+use Rattle.path_parts.proofs.StripLaws.{strip-shorter, strip-free, strip-same, strip-legal}
 use Rattle.pair_list.specs.Pair.{Pair, allEnds, allShort}
 use Rattle.refusal.specs.Outcome.{Outcome, path, refused}
 use Rattle.validate.specs.Validate.{pairsOf, every}
@@ -97,14 +97,14 @@ fast-home-run = fold-same Whole soundMap mapBackChecked (legFast true) home-leg 
 -- The first leg strips the selections, so they may be stripped before it.
 strip-first : (m : Map) (ms : List Map) (p : Text) → foldLegs translateChecked (m ∷ ms) p ≡ foldLegs translateChecked (m ∷ ms) (strip p)
 unfolding foldLegs translateChecked translateToTarget
-strip-first m ms p = rw (strip-same (strip p) (strip-lacks p))
+strip-first m ms p = rw (strip-same (strip p) (strip-free p))
 
 strip-plain : (p : Text) → Whole p → SelectionFreePath (strip p)
 unfolding atMost255
 strip-plain p c = record {
   is-legal = strip-legal p (c .is-legal);
   is-short = le-leb (length (strip p)) 255 (omega (arith, strip-shorter p, fits-short p (c .is-short)));
-  is-plain = strip-lacks p;
+  is-plain = strip-free p;
 }
 
 -- The maps of legs whose lists passed validation.

@@ -6,8 +6,8 @@ use mathlib.Core.Bool.{true, false}
 use mathlib.Core.List.{[]}
 use Prim.Native.Nat.{ℕ, suc, _≤_}
 use lib.ListN.{length, take}
-use Rattle.text.specs.Text.{Text, lacksByte}
-use Rattle.text.specs.Bytes.{openBrace}
+use Rattle.text.specs.Text.{Text}
+use Rattle.path_grammar.specs.Own.{hasVariantSelection}
 use Rattle.pair_list.specs.Pair.{noEmptySource}
 use Rattle.refusal.specs.declared.Validation.the-variants.{Passed}
 use Rattle.refusal.specs.declared.Reply.the-variants.{Written}
@@ -37,4 +37,4 @@ pub record CallsReturn (r : LentRoute) (p : Text) : Type 0 where
 
 -- The property holds for every route in lent memory and every path without variant selections.
 abbrev pub CallsReturnAlways : Type 0
-CallsReturnAlways = (r : LentRoute) (p : Text) → lacksByte openBrace p ≡ true → CallsReturn r p
+CallsReturnAlways = (r : LentRoute) (p : Text) → hasVariantSelection p ≡ false → CallsReturn r p

@@ -1,4 +1,4 @@
--- Validating lists and texts one at a time: of their results, the refusal with the lower number decides.
+-- Validating lists and texts one at a time: of their results, the refusal whose question is put first decides.
 use mathlib.Core.Path.{_≡_, refl, sym, ap, _∙_}
 use mathlib.Core.Bool.{Bool, true, false, cond, _&&_}
 use mathlib.Core.List.{List, [], _∷_, _++_}
@@ -12,7 +12,7 @@ use Rattle.path_grammar.specs.Legal.{legal, atMost255, isEnd}
 use Rattle.refusal.specs.declared.Refusal.{Refusal}
 use Rattle.refusal.specs.declared.Validation.{Validation}
 use Rattle.refusal.specs.declared.Validation.the-variants.{Passed, Refused}
-use Rattle.refusal.specs.Refusal.{refusalNumber, allTextsShort, allTextsLegal, validateTexts}
+use Rattle.refusal.specs.Refusal.{refusalRank, allTextsShort, allTextsLegal, validateTexts}
 use Rattle.path.specs.Calls.{pathNewCall}
 use Rattle.validate.specs.Validate.{LentList, listShort, listAll, countWithinLimit, every, firstFailed, validateCall, firstRefusal}
 
@@ -27,7 +27,7 @@ module _ (a b : Validation) where
     unfolding firstRefusal
     earlier-only k = rw (h, k)
 
-    module _ (y : Refusal) (k : b ≡ Refused y) (m n : ℕ) (e : m ≡ refusalNumber x) (f : n ≡ refusalNumber y) where
+    module _ (y : Refusal) (k : b ≡ Refused y) (m n : ℕ) (e : m ≡ refusalRank x) (f : n ≡ refusalRank y) where
       pub earlier-first : m ≤ n → Refused x ≡ firstRefusal a b
       unfolding firstRefusal
       earlier-first l = rw (h, k, ← e, ← f, le-leb m n l)
@@ -45,7 +45,7 @@ pub none-earlier : (a b : Validation) → firstRefusal a b ≡ Passed → (a ≡
 unfolding firstRefusal
 none-earlier Passed b h = (refl, h)
 none-earlier (Refused x) Passed h = absurd (never x h)
-none-earlier (Refused x) (Refused y) h = absurd (go (leb (refusalNumber x) (refusalNumber y)) h)
+none-earlier (Refused x) (Refused y) h = absurd (go (leb (refusalRank x) (refusalRank y)) h)
   where
     go : (t : Bool) → cond t (Refused x) (Refused y) ≡ Passed → ⊥
     go true k = never x k
@@ -57,7 +57,7 @@ unfolding firstRefusal
 one-passed Passed = refl
 one-passed (Refused x) = refl
 
--- Validating two things yields the refusal with the lower number of the two results.
+-- Validating two things yields, of the two results, the refusal whose question is put first.
 pub each : (a b c d f l e k : Bool) → firstRefusal (firstFailed f l e k) (firstFailed a b c d) ≡ firstFailed (a && f) (b && l) (c && e) (d && k)
 unfolding firstRefusal firstFailed
 each true true true true f l e k = one-passed (firstFailed f l e k)

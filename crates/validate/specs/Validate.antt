@@ -11,7 +11,7 @@ use Rattle.pair_list.specs.Places.{pairsIn, placesShort, placesAll}
 use Rattle.refusal.specs.declared.Refusal.the-variants.{TooLong, Illegal, NotAnEnd, TooMany}
 use Rattle.refusal.specs.declared.Validation.{Validation}
 use Rattle.refusal.specs.declared.Validation.the-variants.{Passed, Refused}
-use Rattle.refusal.specs.Refusal.{refusalNumber}
+use Rattle.refusal.specs.Refusal.{refusalRank}
 
 -- A list of pairs as a caller lends it: a store of bytes, the places in it, and the number of pairs.
 pub record LentList : Type 0 where
@@ -63,8 +63,8 @@ validateCall lists texts ends =
     firstFailed (every atMost255 texts && every listShort lists) (every legal texts && every (listAll legal) lists)
     (every isEnd ends && every (listAll isEnd) lists) (every countWithinLimit lists)
 
--- Of two results, the refusal with the lower number. Requirements: "The first 'no' gives its number".
+-- Of two results, the refusal whose question is put first, the one with the lower rank. Requirements: "The first 'no' gives its number".
 unfoldable pub firstRefusal : Validation → Validation → Validation
 firstRefusal Passed b = b
 firstRefusal (Refused x) Passed = Refused x
-firstRefusal (Refused x) (Refused y) = cond (leb (refusalNumber x) (refusalNumber y)) (Refused x) (Refused y)
+firstRefusal (Refused x) (Refused y) = cond (leb (refusalRank x) (refusalRank y)) (Refused x) (Refused y)

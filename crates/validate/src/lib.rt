@@ -112,7 +112,7 @@ pub fn both(a: bool, b: bool) -> bool
     b
 }
 
-// Of two results, the refusal with the lower number.
+// Of two results, the refusal whose question is put first.
 pub fn first_refusal(a: refusal::Validation, b: refusal::Validation) -> refusal::Validation
     ensures { λ r. ⌜ r ≡ firstRefusal a b ⌝ }
 {
@@ -122,7 +122,7 @@ pub fn first_refusal(a: refusal::Validation, b: refusal::Validation) -> refusal:
     let refusal::Validation::Refused(y) = b else {
         return a;
     };
-    if refusal::number_of(x) <= refusal::number_of(y) {
+    if refusal::rank_of(x) <= refusal::rank_of(y) {
         return a;
     }
     b

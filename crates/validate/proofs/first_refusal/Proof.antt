@@ -21,17 +21,17 @@ enum-told-2 c = search needs
 returns-2 : tie.Need-returns-2
 returns-2 c = earlier-only _ _ _ (c .before .before .before .a .given .1) (c .enum-told2 .given .1)
 
-number-of-requires : tie.Need-number-of-requires
-number-of-requires c κs = search needs
+rank-of-requires : tie.Need-rank-of-requires
+rank-of-requires c κs = search needs
 
-number-of-requires-2 : tie.Need-number-of-requires-2
-number-of-requires-2 c κs = search needs
+rank-of-requires-2 : tie.Need-rank-of-requires-2
+rank-of-requires-2 c κs = search needs
 
 returns-3 : tie.Need-returns-3
-returns-3 c = earlier-first _ _ _ (c .before .before .before .before .before .before .before .a .given .1) _ (c .before .before .before .before .b .given .1) _ _ (c .before .before .number-of .ensures) (c .before .number-of2 .ensures) (c .if1 .taken)
+returns-3 c = earlier-first _ _ _ (c .before .before .before .before .before .before .before .a .given .1) _ (c .before .before .before .before .b .given .1) _ _ (c .before .before .rank-of .ensures) (c .before .rank-of2 .ensures) (c .if1 .taken)
 
 returns-4 : tie.Need-returns-4
-returns-4 c = earlier-second _ _ _ (c .before .before .before .before .before .before .before .a .given .1) _ (c .before .before .before .before .b .given .1) _ _ (c .before .before .number-of .ensures) (c .before .number-of2 .ensures) (c .if1 .left)
+returns-4 c = earlier-second _ _ _ (c .before .before .before .before .before .before .before .a .given .1) _ (c .before .before .before .before .b .given .1) _ _ (c .before .before .rank-of .ensures) (c .before .rank-of2 .ensures) (c .if1 .left)
 
 pub first-refusal-spec : {M : Type 1} → statement M
 first-refusal-spec =
@@ -43,7 +43,7 @@ first-refusal-spec =
     enum-known-b
     enum-told-2
     returns-2
-    number-of-requires
-    number-of-requires-2
+    rank-of-requires
+    rank-of-requires-2
     returns-3
     returns-4)
