@@ -5,7 +5,7 @@ ghost use mathlib.Core.Bool.{true};
 ghost use Prim.Native.Nat.{_+_, _*_, _≤_, _<_};
 ghost use lib.ListN.{length, set};
 ghost use Rattle.pair_list.specs.Places.{inStore};
-ghost use Rattle.refusal.specs.Outcome.{outcomeReply, outcomeBuffer};
+ghost use Rattle.refusal.specs.Outcome.{outcomeReply, ReturnsPath};
 ghost use Rattle.ffi_values.specs.Code.{replyCode};
 ghost use mathlib.Core.List.{[]};
 ghost use Rattle.route_legs.specs.LentRoute.{lentRoute, validateRoute};
@@ -55,8 +55,7 @@ fn map_one(
     path: &[u8],
     out: &mut [u8],
 ) -> refusal::Reply
-    ensures { λ r. ⌜ r ≡ outcomeReply (mapPathBy list by (now (store .entry)) (now (places .entry)) (now (legs .entry)) (length (now (out .entry))) (now (path .entry))) ⌝ }
-    ensures { λ r. ⌜ now (out .exit) ≡ outcomeBuffer (mapPathBy list by (now (store .entry)) (now (places .entry)) (now (legs .entry)) (length (now (out .entry))) (now (path .entry))) (now (out .entry)) ⌝ }
+    ensures { λ r. ⌜ ReturnsPath (mapPathBy list by (now (store .entry)) (now (places .entry)) (now (legs .entry)) (length (now (out .entry))) (now (path .entry))) r (now (out .entry)) (now (out .exit)) ⌝ }
 {
     match by {
         Mapper::Map(map, direction) => mapping::map_after_list(
@@ -87,8 +86,7 @@ fn map_spot(
     out: &mut [u8],
 ) -> refusal::Reply
     requires { ⌜ 2 * i + 2 ≤ length (now spots) ⌝ }
-    ensures { λ r. ⌜ r ≡ outcomeReply (mapSpotBy list by (now (store .entry)) (now (places .entry)) (now (legs .entry)) (now (texts .entry)) (now (spots .entry)) (length (now (out .entry))) i) ⌝ }
-    ensures { λ r. ⌜ now (out .exit) ≡ outcomeBuffer (mapSpotBy list by (now (store .entry)) (now (places .entry)) (now (legs .entry)) (now (texts .entry)) (now (spots .entry)) (length (now (out .entry))) i) (now (out .entry)) ⌝ }
+    ensures { λ r. ⌜ ReturnsPath (mapSpotBy list by (now (store .entry)) (now (places .entry)) (now (legs .entry)) (now (texts .entry)) (now (spots .entry)) (length (now (out .entry))) i) r (now (out .entry)) (now (out .exit)) ⌝ }
 {
     if !is_inside(texts, spots, i) {
         return refusal::Reply::Refused(refusal::Refusal::TooLong);

@@ -4,15 +4,14 @@
 ghost use mathlib.Core.Path.{_≡_};
 ghost use Prim.Native.Nat.{_≤_};
 ghost use lib.ListN.{length, drop};
-ghost use Rattle.refusal.specs.Outcome.{outcomeReply, outcomeBuffer};
+ghost use Rattle.refusal.specs.Outcome.{ReturnsPath};
 ghost use Rattle.map_spec.specs.Map.{lentMap};
 ghost use Rattle.map_apply.specs.Fast.{joinChecked, keepPath, mapFast, translateByMark, checkedJoin, translateByPair, translateFast};
 
 // Writes the path with its old prefix replaced by the new one, with questions 7 and 8.
 fn apply_pair(old: &[u8], new: &[u8], path: &[u8], out: &mut [u8; 255]) -> refusal::Reply
     requires { ⌜ length (now old) ≤ length (now path) ⌝ }
-    ensures { λ r. ⌜ r ≡ outcomeReply (joinChecked (now (old .entry)) (now (new .entry)) (drop (length (now (old .entry))) (now (path .entry)))) ⌝ }
-    ensures { λ r. ⌜ now (out .exit) ≡ outcomeBuffer (joinChecked (now (old .entry)) (now (new .entry)) (drop (length (now (old .entry))) (now (path .entry)))) (now (out .entry)) ⌝ }
+    ensures { λ r. ⌜ ReturnsPath (joinChecked (now (old .entry)) (now (new .entry)) (drop (length (now (old .entry))) (now (path .entry)))) r (now (out .entry)) (now (out .exit)) ⌝ }
 {
     let k = old.len();
     if path_join::is_join_illegal(new, &path[k..]) {
@@ -27,8 +26,7 @@ fn apply_pair(old: &[u8], new: &[u8], path: &[u8], out: &mut [u8; 255]) -> refus
 
 // Writes the path itself if the map has the mark.
 fn keep_path(mark: bool, path: &[u8], out: &mut [u8; 255]) -> refusal::Reply
-    ensures { λ r. ⌜ r ≡ outcomeReply (keepPath mark (now (path .entry))) ⌝ }
-    ensures { λ r. ⌜ now (out .exit) ≡ outcomeBuffer (keepPath mark (now (path .entry))) (now (out .entry)) ⌝ }
+    ensures { λ r. ⌜ ReturnsPath (keepPath mark (now (path .entry))) r (now (out .entry)) (now (out .exit)) ⌝ }
 {
     if !mark {
         return refusal::Reply::Refused(refusal::Refusal::NoPath);
@@ -50,8 +48,7 @@ pub fn map_text(
     path: &[u8],
     out: &mut [u8; 255],
 ) -> refusal::Reply
-    ensures { λ r. ⌜ r ≡ outcomeReply (mapFast invert (lentMap (now (store .entry)) (now (places .entry)) n mark) (now (path .entry))) ⌝ }
-    ensures { λ r. ⌜ now (out .exit) ≡ outcomeBuffer (mapFast invert (lentMap (now (store .entry)) (now (places .entry)) n mark) (now (path .entry))) (now (out .entry)) ⌝ }
+    ensures { λ r. ⌜ ReturnsPath (mapFast invert (lentMap (now (store .entry)) (now (places .entry)) n mark) (now (path .entry))) r (now (out .entry)) (now (out .exit)) ⌝ }
 {
     let f = map_lookup::best_prefix(store, places, n, invert, path);
     if !f.found {
@@ -77,8 +74,7 @@ fn translate_by_mark(
     path: &[u8],
     out: &mut [u8; 255],
 ) -> refusal::Reply
-    ensures { λ r. ⌜ r ≡ outcomeReply (translateByMark (lentMap (now (store .entry)) (now (places .entry)) n mark) (now (path .entry))) ⌝ }
-    ensures { λ r. ⌜ now (out .exit) ≡ outcomeBuffer (translateByMark (lentMap (now (store .entry)) (now (places .entry)) n mark) (now (path .entry))) (now (out .entry)) ⌝ }
+    ensures { λ r. ⌜ ReturnsPath (translateByMark (lentMap (now (store .entry)) (now (places .entry)) n mark) (now (path .entry))) r (now (out .entry)) (now (out .exit)) ⌝ }
 {
     if !mark {
         return refusal::Reply::Refused(refusal::Refusal::NoPath);
@@ -92,8 +88,7 @@ fn translate_by_mark(
 
 // Writes the path that was built, with questions 8 and 7.
 fn finish_join(illegal: bool, made: &[u8], out: &mut [u8; 255]) -> refusal::Reply
-    ensures { λ r. ⌜ r ≡ outcomeReply (checkedJoin illegal (now (made .entry))) ⌝ }
-    ensures { λ r. ⌜ now (out .exit) ≡ outcomeBuffer (checkedJoin illegal (now (made .entry))) (now (out .entry)) ⌝ }
+    ensures { λ r. ⌜ ReturnsPath (checkedJoin illegal (now (made .entry))) r (now (out .entry)) (now (out .exit)) ⌝ }
 {
     if illegal {
         return refusal::Reply::Refused(refusal::Refusal::MadeIllegal);
@@ -114,8 +109,7 @@ fn translate_by_pair(
     rest: &[u8],
     out: &mut [u8; 255],
 ) -> refusal::Reply
-    ensures { λ r. ⌜ r ≡ outcomeReply (translateByPair (lentMap (now (store .entry)) (now (places .entry)) n mark) i (now (old .entry)) (now (new .entry)) (now (rest .entry))) ⌝ }
-    ensures { λ r. ⌜ now (out .exit) ≡ outcomeBuffer (translateByPair (lentMap (now (store .entry)) (now (places .entry)) n mark) i (now (old .entry)) (now (new .entry)) (now (rest .entry))) (now (out .entry)) ⌝ }
+    ensures { λ r. ⌜ ReturnsPath (translateByPair (lentMap (now (store .entry)) (now (places .entry)) n mark) i (now (old .entry)) (now (new .entry)) (now (rest .entry))) r (now (out .entry)) (now (out .exit)) ⌝ }
 {
     let mut made = [0u8; 512];
     let fit = path_join::join(old, new, rest, &mut made);
@@ -138,8 +132,7 @@ pub fn translate_text(
     path: &[u8],
     out: &mut [u8; 255],
 ) -> refusal::Reply
-    ensures { λ r. ⌜ r ≡ outcomeReply (translateFast (lentMap (now (store .entry)) (now (places .entry)) n mark) (now (path .entry))) ⌝ }
-    ensures { λ r. ⌜ now (out .exit) ≡ outcomeBuffer (translateFast (lentMap (now (store .entry)) (now (places .entry)) n mark) (now (path .entry))) (now (out .entry)) ⌝ }
+    ensures { λ r. ⌜ ReturnsPath (translateFast (lentMap (now (store .entry)) (now (places .entry)) n mark) (now (path .entry))) r (now (out .entry)) (now (out .exit)) ⌝ }
 {
     let f = map_lookup::best_prefix(store, places, n, false, path);
     if !f.found {

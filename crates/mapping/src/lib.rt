@@ -5,7 +5,7 @@ ghost use mathlib.Core.Path.{_≡_};
 ghost use Prim.Native.Nat.{_≤_};
 ghost use lib.ListN.{length};
 ghost use Rattle.path_parts.specs.Strip.{strip};
-ghost use Rattle.refusal.specs.Outcome.{outcomeReply, outcomeBuffer};
+ghost use Rattle.refusal.specs.Outcome.{ReturnsPath};
 ghost use Rattle.map_spec.specs.Map.{lentMap};
 ghost use Rattle.map_apply.specs.Fast.{mapFast, translateFast};
 ghost use Rattle.mapping.specs.CopyOut.{replyWithin, copiedOut};
@@ -47,8 +47,7 @@ fn map_into(
     out: &mut [u8],
 ) -> refusal::Reply
     requires { ⌜ 255 ≤ length (now out) ⌝ }
-    ensures { λ r. ⌜ r ≡ outcomeReply (mapFast invert (lentMap (now (store .entry)) (now (places .entry)) n mark) (now (path .entry))) ⌝ }
-    ensures { λ r. ⌜ now (out .exit) ≡ outcomeBuffer (mapFast invert (lentMap (now (store .entry)) (now (places .entry)) n mark) (now (path .entry))) (now (out .entry)) ⌝ }
+    ensures { λ r. ⌜ ReturnsPath (mapFast invert (lentMap (now (store .entry)) (now (places .entry)) n mark) (now (path .entry))) r (now (out .entry)) (now (out .exit)) ⌝ }
 {
     let mut made = [0u8; 255];
     let r = map_apply::map_text(store, places, n, mark, invert, path, &mut made);
@@ -65,8 +64,7 @@ fn translate_into(
     out: &mut [u8],
 ) -> refusal::Reply
     requires { ⌜ 255 ≤ length (now out) ⌝ }
-    ensures { λ r. ⌜ r ≡ outcomeReply (translateFast (lentMap (now (store .entry)) (now (places .entry)) n mark) (now (path .entry))) ⌝ }
-    ensures { λ r. ⌜ now (out .exit) ≡ outcomeBuffer (translateFast (lentMap (now (store .entry)) (now (places .entry)) n mark) (now (path .entry))) (now (out .entry)) ⌝ }
+    ensures { λ r. ⌜ ReturnsPath (translateFast (lentMap (now (store .entry)) (now (places .entry)) n mark) (now (path .entry))) r (now (out .entry)) (now (out .exit)) ⌝ }
 {
     let mut made = [0u8; 255];
     let r = map_apply::translate_text(store, places, n, mark, path, &mut made);
@@ -83,8 +81,7 @@ fn translate_stripped(
     out: &mut [u8],
 ) -> refusal::Reply
     requires { ⌜ (length (now path) ≤ 255) × (255 ≤ length (now out)) ⌝ }
-    ensures { λ r. ⌜ r ≡ outcomeReply (translateFast (lentMap (now (store .entry)) (now (places .entry)) n mark) (strip (now (path .entry)))) ⌝ }
-    ensures { λ r. ⌜ now (out .exit) ≡ outcomeBuffer (translateFast (lentMap (now (store .entry)) (now (places .entry)) n mark) (strip (now (path .entry)))) (now (out .entry)) ⌝ }
+    ensures { λ r. ⌜ ReturnsPath (translateFast (lentMap (now (store .entry)) (now (places .entry)) n mark) (strip (now (path .entry)))) r (now (out .entry)) (now (out .exit)) ⌝ }
 {
     if text::lacks_byte(path, b'{') {
         return translate_into(store, places, n, mark, path, out);
@@ -108,8 +105,7 @@ fn map_in_direction(
     out: &mut [u8],
 ) -> refusal::Reply
     requires { ⌜ (length (now path) ≤ 255) × (255 ≤ length (now out)) ⌝ }
-    ensures { λ r. ⌜ r ≡ outcomeReply (mapFastIn direction (lentMap (now (store .entry)) (now (places .entry)) n mark) (now (path .entry))) ⌝ }
-    ensures { λ r. ⌜ now (out .exit) ≡ outcomeBuffer (mapFastIn direction (lentMap (now (store .entry)) (now (places .entry)) n mark) (now (path .entry))) (now (out .entry)) ⌝ }
+    ensures { λ r. ⌜ ReturnsPath (mapFastIn direction (lentMap (now (store .entry)) (now (places .entry)) n mark) (now (path .entry))) r (now (out .entry)) (now (out .exit)) ⌝ }
 {
     match direction {
         Direction::Out => map_into(store, places, n, mark, false, path, out),
@@ -129,8 +125,7 @@ pub fn map_after_list(
     path: &[u8],
     out: &mut [u8],
 ) -> refusal::Reply
-    ensures { λ r. ⌜ r ≡ outcomeReply (afterListValidated list direction (now (store .entry)) (now (places .entry)) map (now (path .entry)) (length (now (out .entry)))) ⌝ }
-    ensures { λ r. ⌜ now (out .exit) ≡ outcomeBuffer (afterListValidated list direction (now (store .entry)) (now (places .entry)) map (now (path .entry)) (length (now (out .entry)))) (now (out .entry)) ⌝ }
+    ensures { λ r. ⌜ ReturnsPath (afterListValidated list direction (now (store .entry)) (now (places .entry)) map (now (path .entry)) (length (now (out .entry)))) r (now (out .entry)) (now (out .exit)) ⌝ }
 {
     let count = map.count;
     let mark = map.has_root_identity;
@@ -153,8 +148,7 @@ fn call(
     path: &[u8],
     out: &mut [u8],
 ) -> refusal::Reply
-    ensures { λ r. ⌜ r ≡ outcomeReply (directionCall direction (now (store .entry)) (now (places .entry)) map (now (path .entry)) (length (now (out .entry)))) ⌝ }
-    ensures { λ r. ⌜ now (out .exit) ≡ outcomeBuffer (directionCall direction (now (store .entry)) (now (places .entry)) map (now (path .entry)) (length (now (out .entry)))) (now (out .entry)) ⌝ }
+    ensures { λ r. ⌜ ReturnsPath (directionCall direction (now (store .entry)) (now (places .entry)) map (now (path .entry)) (length (now (out .entry)))) r (now (out .entry)) (now (out .exit)) ⌝ }
 {
     let list = validate::validate_list_and_path(store, places, map.count, &path[..0]);
     map_after_list(list, store, places, map, direction, path, out)
@@ -168,8 +162,7 @@ pub fn map_source_to_target(
     path: &[u8],
     out: &mut [u8],
 ) -> refusal::Reply
-    ensures { λ r. ⌜ r ≡ outcomeReply (mapSourceToTargetCall (now (store .entry)) (now (places .entry)) map (now (path .entry)) (length (now (out .entry)))) ⌝ }
-    ensures { λ r. ⌜ now (out .exit) ≡ outcomeBuffer (mapSourceToTargetCall (now (store .entry)) (now (places .entry)) map (now (path .entry)) (length (now (out .entry)))) (now (out .entry)) ⌝ }
+    ensures { λ r. ⌜ ReturnsPath (mapSourceToTargetCall (now (store .entry)) (now (places .entry)) map (now (path .entry)) (length (now (out .entry)))) r (now (out .entry)) (now (out .exit)) ⌝ }
 {
     call(store, places, map, Direction::Out, path, out)
 }
@@ -182,8 +175,7 @@ pub fn map_target_to_source(
     path: &[u8],
     out: &mut [u8],
 ) -> refusal::Reply
-    ensures { λ r. ⌜ r ≡ outcomeReply (mapTargetToSourceCall (now (store .entry)) (now (places .entry)) map (now (path .entry)) (length (now (out .entry)))) ⌝ }
-    ensures { λ r. ⌜ now (out .exit) ≡ outcomeBuffer (mapTargetToSourceCall (now (store .entry)) (now (places .entry)) map (now (path .entry)) (length (now (out .entry)))) (now (out .entry)) ⌝ }
+    ensures { λ r. ⌜ ReturnsPath (mapTargetToSourceCall (now (store .entry)) (now (places .entry)) map (now (path .entry)) (length (now (out .entry)))) r (now (out .entry)) (now (out .exit)) ⌝ }
 {
     call(store, places, map, Direction::Home, path, out)
 }
@@ -197,8 +189,7 @@ pub fn translate_to_target(
     path: &[u8],
     out: &mut [u8],
 ) -> refusal::Reply
-    ensures { λ r. ⌜ r ≡ outcomeReply (translateToTargetCall (now (store .entry)) (now (places .entry)) map (now (path .entry)) (length (now (out .entry)))) ⌝ }
-    ensures { λ r. ⌜ now (out .exit) ≡ outcomeBuffer (translateToTargetCall (now (store .entry)) (now (places .entry)) map (now (path .entry)) (length (now (out .entry)))) (now (out .entry)) ⌝ }
+    ensures { λ r. ⌜ ReturnsPath (translateToTargetCall (now (store .entry)) (now (places .entry)) map (now (path .entry)) (length (now (out .entry)))) r (now (out .entry)) (now (out .exit)) ⌝ }
 {
     call(store, places, map, Direction::Translated, path, out)
 }

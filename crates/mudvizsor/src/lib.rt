@@ -4,13 +4,13 @@
 ghost use mathlib.Core.Path.{_≡_};
 ghost use lib.ListN.{length};
 ghost use Rattle.path_parts.specs.Parent.{ancestorLens};
-ghost use Rattle.refusal.specs.Outcome.{outcomeReply, outcomeBuffer, writtenIfAccepted};
+ghost use Rattle.refusal.specs.Outcome.{writtenIfAccepted};
 ghost use Rattle.path.specs.Calls.{pathNewCall, isEndCall, hasVariantSelectionCall, elementCountCall, primElementCountCall, hasPrefixCall};
 ghost use Rattle.path_derive.specs.Calls.{replacePrefixCall, parentCall, primPathCall, splitPropertyCall, stripCall, ancestorsReply};
 ghost use Rattle.mapping.specs.Calls.{mapSourceToTargetCall, mapTargetToSourceCall, translateToTargetCall};
 ghost use Rattle.batch.specs.Batch.{mappedAt, batchFits, validateBatch, batchBytes, batchReplies};
 ghost use Rattle.ffi_values.specs.Map.{untimedMap, directionOf};
-ghost use Rattle.ffi_values.specs.Code.{validationCode, testCode, countCode, replyCode};
+ghost use Rattle.ffi_values.specs.Code.{validationCode, testCode, countCode, replyCode, ReturnsPathCode};
 
 mod frames;
 mod map_build;
@@ -75,8 +75,7 @@ pub extern "C" fn mudvizsor_path_replace_prefix(
     new: &[u8],
     out: &mut [u8],
 ) -> usize
-    ensures { λ r. ⌜ r ≡ replyCode (outcomeReply (replacePrefixCall (now (path .entry)) (now (old .entry)) (now (new .entry)) (length (now (out .entry))))) ⌝ }
-    ensures { λ r. ⌜ now (out .exit) ≡ outcomeBuffer (replacePrefixCall (now (path .entry)) (now (old .entry)) (now (new .entry)) (length (now (out .entry)))) (now (out .entry)) ⌝ }
+    ensures { λ r. ⌜ ReturnsPathCode (replacePrefixCall (now (path .entry)) (now (old .entry)) (now (new .entry)) (length (now (out .entry)))) r (now (out .entry)) (now (out .exit)) ⌝ }
 {
     ffi_values::reply_code(path_derive::replace_prefix(path, old, new, out))
 }
@@ -84,8 +83,7 @@ pub extern "C" fn mudvizsor_path_replace_prefix(
 // Writes the parent to out: the path without its last element or its property.
 #[no_mangle]
 pub extern "C" fn mudvizsor_path_parent(path: &[u8], out: &mut [u8]) -> usize
-    ensures { λ r. ⌜ r ≡ replyCode (outcomeReply (parentCall (now (path .entry)) (length (now (out .entry))))) ⌝ }
-    ensures { λ r. ⌜ now (out .exit) ≡ outcomeBuffer (parentCall (now (path .entry)) (length (now (out .entry)))) (now (out .entry)) ⌝ }
+    ensures { λ r. ⌜ ReturnsPathCode (parentCall (now (path .entry)) (length (now (out .entry)))) r (now (out .entry)) (now (out .exit)) ⌝ }
 {
     ffi_values::reply_code(path_derive::parent(path, out))
 }
@@ -93,8 +91,7 @@ pub extern "C" fn mudvizsor_path_parent(path: &[u8], out: &mut [u8]) -> usize
 // Writes the path without its property, or without the last selection if it ends in one, to out.
 #[no_mangle]
 pub extern "C" fn mudvizsor_path_prim_path(path: &[u8], out: &mut [u8]) -> usize
-    ensures { λ r. ⌜ r ≡ replyCode (outcomeReply (primPathCall (now (path .entry)) (length (now (out .entry))))) ⌝ }
-    ensures { λ r. ⌜ now (out .exit) ≡ outcomeBuffer (primPathCall (now (path .entry)) (length (now (out .entry)))) (now (out .entry)) ⌝ }
+    ensures { λ r. ⌜ ReturnsPathCode (primPathCall (now (path .entry)) (length (now (out .entry)))) r (now (out .entry)) (now (out .exit)) ⌝ }
 {
     ffi_values::reply_code(path_derive::prim_path(path, out))
 }
@@ -102,8 +99,7 @@ pub extern "C" fn mudvizsor_path_prim_path(path: &[u8], out: &mut [u8]) -> usize
 // Writes the prim path of a property to out; the name is the text after the dot that follows it.
 #[no_mangle]
 pub extern "C" fn mudvizsor_path_split_property(path: &[u8], out: &mut [u8]) -> usize
-    ensures { λ r. ⌜ r ≡ replyCode (outcomeReply (splitPropertyCall (now (path .entry)) (length (now (out .entry))))) ⌝ }
-    ensures { λ r. ⌜ now (out .exit) ≡ outcomeBuffer (splitPropertyCall (now (path .entry)) (length (now (out .entry)))) (now (out .entry)) ⌝ }
+    ensures { λ r. ⌜ ReturnsPathCode (splitPropertyCall (now (path .entry)) (length (now (out .entry)))) r (now (out .entry)) (now (out .exit)) ⌝ }
 {
     ffi_values::reply_code(path_derive::split_property(path, out))
 }
@@ -111,8 +107,7 @@ pub extern "C" fn mudvizsor_path_split_property(path: &[u8], out: &mut [u8]) -> 
 // Writes the path without its selections to out.
 #[no_mangle]
 pub extern "C" fn mudvizsor_path_strip_variant_selections(path: &[u8], out: &mut [u8]) -> usize
-    ensures { λ r. ⌜ r ≡ replyCode (outcomeReply (stripCall (now (path .entry)) (length (now (out .entry))))) ⌝ }
-    ensures { λ r. ⌜ now (out .exit) ≡ outcomeBuffer (stripCall (now (path .entry)) (length (now (out .entry)))) (now (out .entry)) ⌝ }
+    ensures { λ r. ⌜ ReturnsPathCode (stripCall (now (path .entry)) (length (now (out .entry)))) r (now (out .entry)) (now (out .exit)) ⌝ }
 {
     ffi_values::reply_code(path_derive::strip_variant_selections(path, out))
 }
@@ -136,8 +131,7 @@ pub extern "C" fn mudvizsor_map_source_to_target(
     path: &[u8],
     out: &mut [u8],
 ) -> usize
-    ensures { λ r. ⌜ r ≡ replyCode (outcomeReply (mapSourceToTargetCall (now (store .entry)) (now (places .entry)) (untimedMap count mark) (now (path .entry)) (length (now (out .entry))))) ⌝ }
-    ensures { λ r. ⌜ now (out .exit) ≡ outcomeBuffer (mapSourceToTargetCall (now (store .entry)) (now (places .entry)) (untimedMap count mark) (now (path .entry)) (length (now (out .entry)))) (now (out .entry)) ⌝ }
+    ensures { λ r. ⌜ ReturnsPathCode (mapSourceToTargetCall (now (store .entry)) (now (places .entry)) (untimedMap count mark) (now (path .entry)) (length (now (out .entry)))) r (now (out .entry)) (now (out .exit)) ⌝ }
 {
     let map = ffi_values::untimed_map(count, mark);
     ffi_values::reply_code(mapping::map_source_to_target(store, places, map, path, out))
@@ -153,8 +147,7 @@ pub extern "C" fn mudvizsor_map_target_to_source(
     path: &[u8],
     out: &mut [u8],
 ) -> usize
-    ensures { λ r. ⌜ r ≡ replyCode (outcomeReply (mapTargetToSourceCall (now (store .entry)) (now (places .entry)) (untimedMap count mark) (now (path .entry)) (length (now (out .entry))))) ⌝ }
-    ensures { λ r. ⌜ now (out .exit) ≡ outcomeBuffer (mapTargetToSourceCall (now (store .entry)) (now (places .entry)) (untimedMap count mark) (now (path .entry)) (length (now (out .entry)))) (now (out .entry)) ⌝ }
+    ensures { λ r. ⌜ ReturnsPathCode (mapTargetToSourceCall (now (store .entry)) (now (places .entry)) (untimedMap count mark) (now (path .entry)) (length (now (out .entry)))) r (now (out .entry)) (now (out .exit)) ⌝ }
 {
     let map = ffi_values::untimed_map(count, mark);
     ffi_values::reply_code(mapping::map_target_to_source(store, places, map, path, out))
@@ -171,8 +164,7 @@ pub extern "C" fn mudvizsor_translate_to_target(
     path: &[u8],
     out: &mut [u8],
 ) -> usize
-    ensures { λ r. ⌜ r ≡ replyCode (outcomeReply (translateToTargetCall (now (store .entry)) (now (places .entry)) (untimedMap count mark) (now (path .entry)) (length (now (out .entry))))) ⌝ }
-    ensures { λ r. ⌜ now (out .exit) ≡ outcomeBuffer (translateToTargetCall (now (store .entry)) (now (places .entry)) (untimedMap count mark) (now (path .entry)) (length (now (out .entry)))) (now (out .entry)) ⌝ }
+    ensures { λ r. ⌜ ReturnsPathCode (translateToTargetCall (now (store .entry)) (now (places .entry)) (untimedMap count mark) (now (path .entry)) (length (now (out .entry)))) r (now (out .entry)) (now (out .exit)) ⌝ }
 {
     let map = ffi_values::untimed_map(count, mark);
     ffi_values::reply_code(mapping::translate_to_target(store, places, map, path, out))

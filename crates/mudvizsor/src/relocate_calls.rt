@@ -2,12 +2,11 @@
 // of pairs.
 ghost use mathlib.Core.Path.{_≡_};
 ghost use lib.ListN.{length};
-ghost use Rattle.refusal.specs.Outcome.{outcomeReply, outcomeBuffer};
 ghost use Rattle.validate.specs.Validate.{lentList};
 ghost use Rattle.relocate_chain.specs.ChainStep.{skippedSource};
 ghost use Rattle.relocates.specs.Calls.{analyzeReply, analyzeBuffer};
 ghost use Rattle.relocate_chain.specs.Calls.{shiftCall, chainCall, chainReply, chainBuffer};
-ghost use Rattle.ffi_values.specs.Code.{replyCode};
+ghost use Rattle.ffi_values.specs.Code.{replyCode, ReturnsPathCode};
 ghost use Rattle.ffi_values.specs.MapCode.{chainCode};
 
 // Writes the status byte of each pair to out.
@@ -60,8 +59,7 @@ pub extern "C" fn mudvizsor_shift_through_nearest_ancestor(
     endpoint: &[u8],
     out: &mut [u8],
 ) -> usize
-    ensures { λ r. ⌜ r ≡ replyCode (outcomeReply (shiftCall (lentList (now (store .entry)) (now (places .entry)) count) (now (endpoint .entry)) (length (now (out .entry))))) ⌝ }
-    ensures { λ r. ⌜ now (out .exit) ≡ outcomeBuffer (shiftCall (lentList (now (store .entry)) (now (places .entry)) count) (now (endpoint .entry)) (length (now (out .entry)))) (now (out .entry)) ⌝ }
+    ensures { λ r. ⌜ ReturnsPathCode (shiftCall (lentList (now (store .entry)) (now (places .entry)) count) (now (endpoint .entry)) (length (now (out .entry)))) r (now (out .entry)) (now (out .exit)) ⌝ }
 {
     ffi_values::reply_code(relocate_chain::shift_through_nearest_ancestor(
         store,

@@ -5,8 +5,7 @@
 ghost use mathlib.Core.Path.{_≡_};
 ghost use mathlib.Core.Bool.{true, false};
 ghost use lib.ListN.{length};
-ghost use Rattle.refusal.specs.Outcome.{outcomeReply, outcomeBuffer};
-ghost use Rattle.ffi_values.specs.Code.{validationCode, replyCode};
+ghost use Rattle.ffi_values.specs.Code.{validationCode, ReturnsPathCode};
 ghost use Rattle.route_legs.specs.LentRoute.{lentRoute};
 ghost use Rattle.route.specs.Calls.{routeCall};
 ghost use Rattle.batch.specs.Batch.{routedAt, batchFits, validateBatch, batchBytes, batchReplies};
@@ -21,8 +20,7 @@ pub extern "C" fn mudvizsor_route_out(
     path: &[u8],
     out: &mut [u8],
 ) -> usize
-    ensures { λ r. ⌜ r ≡ replyCode (outcomeReply (routeCall false (lentRoute (now (store .entry)) (now (places .entry)) (now (legs .entry)) count) (now (path .entry)) (length (now (out .entry))))) ⌝ }
-    ensures { λ r. ⌜ now (out .exit) ≡ outcomeBuffer (routeCall false (lentRoute (now (store .entry)) (now (places .entry)) (now (legs .entry)) count) (now (path .entry)) (length (now (out .entry)))) (now (out .entry)) ⌝ }
+    ensures { λ r. ⌜ ReturnsPathCode (routeCall false (lentRoute (now (store .entry)) (now (places .entry)) (now (legs .entry)) count) (now (path .entry)) (length (now (out .entry)))) r (now (out .entry)) (now (out .exit)) ⌝ }
 {
     ffi_values::reply_code(route::route_out(store, places, legs, count, path, out))
 }
@@ -37,8 +35,7 @@ pub extern "C" fn mudvizsor_route_home(
     path: &[u8],
     out: &mut [u8],
 ) -> usize
-    ensures { λ r. ⌜ r ≡ replyCode (outcomeReply (routeCall true (lentRoute (now (store .entry)) (now (places .entry)) (now (legs .entry)) count) (now (path .entry)) (length (now (out .entry))))) ⌝ }
-    ensures { λ r. ⌜ now (out .exit) ≡ outcomeBuffer (routeCall true (lentRoute (now (store .entry)) (now (places .entry)) (now (legs .entry)) count) (now (path .entry)) (length (now (out .entry)))) (now (out .entry)) ⌝ }
+    ensures { λ r. ⌜ ReturnsPathCode (routeCall true (lentRoute (now (store .entry)) (now (places .entry)) (now (legs .entry)) count) (now (path .entry)) (length (now (out .entry)))) r (now (out .entry)) (now (out .exit)) ⌝ }
 {
     ffi_values::reply_code(route::route_home(store, places, legs, count, path, out))
 }

@@ -6,16 +6,14 @@ ghost use Prim.Native.Nat.{_≤_};
 ghost use lib.ListN.{length};
 ghost use Rattle.path_join.specs.Join.{join};
 ghost use Rattle.path_parts.specs.Parent.{ancestorLens};
-ghost use Rattle.refusal.specs.Outcome.{outcomeReply, outcomeBuffer, checked};
+ghost use Rattle.refusal.specs.Outcome.{checked, ReturnsPath, writtenIfAccepted};
 ghost use Rattle.path_derive.specs.Calls.{replacePrefixCall, parentCall, primPathCall, splitPropertyCall, stripCall, ancestorsReply};
-ghost use Rattle.refusal.specs.Outcome.{writtenIfAccepted};
 
 // Writes the new prefix followed by the remainder after the old prefix, with questions 7 and 8. The path
 // is built in a scratch buffer, so that a refused call writes nothing.
 fn write_joined(old: &[u8], new: &[u8], rest: &[u8], out: &mut [u8]) -> refusal::Reply
     requires { ⌜ 255 ≤ length (now out) ⌝ }
-    ensures { λ r. ⌜ r ≡ outcomeReply (checked (join (now (old .entry)) (now (new .entry)) (now (rest .entry)))) ⌝ }
-    ensures { λ r. ⌜ now (out .exit) ≡ outcomeBuffer (checked (join (now (old .entry)) (now (new .entry)) (now (rest .entry)))) (now (out .entry)) ⌝ }
+    ensures { λ r. ⌜ ReturnsPath (checked (join (now (old .entry)) (now (new .entry)) (now (rest .entry)))) r (now (out .entry)) (now (out .exit)) ⌝ }
 {
     let mut made = [0u8; 255];
     let fit = path_join::join(old, new, rest, &mut made);
@@ -31,8 +29,7 @@ fn write_joined(old: &[u8], new: &[u8], rest: &[u8], out: &mut [u8]) -> refusal:
 
 // Writes the path with its old prefix replaced by the new one.
 pub fn replace_prefix(path: &[u8], old: &[u8], new: &[u8], out: &mut [u8]) -> refusal::Reply
-    ensures { λ r. ⌜ r ≡ outcomeReply (replacePrefixCall (now (path .entry)) (now (old .entry)) (now (new .entry)) (length (now (out .entry)))) ⌝ }
-    ensures { λ r. ⌜ now (out .exit) ≡ outcomeBuffer (replacePrefixCall (now (path .entry)) (now (old .entry)) (now (new .entry)) (length (now (out .entry)))) (now (out .entry)) ⌝ }
+    ensures { λ r. ⌜ ReturnsPath (replacePrefixCall (now (path .entry)) (now (old .entry)) (now (new .entry)) (length (now (out .entry)))) r (now (out .entry)) (now (out .exit)) ⌝ }
 {
     let q = refusal::validate_texts(path, old, new);
     if let refusal::Validation::Refused(x) = q {
@@ -50,8 +47,7 @@ pub fn replace_prefix(path: &[u8], old: &[u8], new: &[u8], out: &mut [u8]) -> re
 
 // Writes the path without its last element or its property.
 pub fn parent(path: &[u8], out: &mut [u8]) -> refusal::Reply
-    ensures { λ r. ⌜ r ≡ outcomeReply (parentCall (now (path .entry)) (length (now (out .entry)))) ⌝ }
-    ensures { λ r. ⌜ now (out .exit) ≡ outcomeBuffer (parentCall (now (path .entry)) (length (now (out .entry)))) (now (out .entry)) ⌝ }
+    ensures { λ r. ⌜ ReturnsPath (parentCall (now (path .entry)) (length (now (out .entry)))) r (now (out .entry)) (now (out .exit)) ⌝ }
 {
     let q = refusal::validate_texts(path, b"", b"");
     if let refusal::Validation::Refused(x) = q {
@@ -73,8 +69,7 @@ pub fn parent(path: &[u8], out: &mut [u8]) -> refusal::Reply
 
 // Writes the path without its property, or without the last selection if it ends in one.
 pub fn prim_path(path: &[u8], out: &mut [u8]) -> refusal::Reply
-    ensures { λ r. ⌜ r ≡ outcomeReply (primPathCall (now (path .entry)) (length (now (out .entry)))) ⌝ }
-    ensures { λ r. ⌜ now (out .exit) ≡ outcomeBuffer (primPathCall (now (path .entry)) (length (now (out .entry)))) (now (out .entry)) ⌝ }
+    ensures { λ r. ⌜ ReturnsPath (primPathCall (now (path .entry)) (length (now (out .entry)))) r (now (out .entry)) (now (out .exit)) ⌝ }
 {
     let q = refusal::validate_texts(path, b"", b"");
     if let refusal::Validation::Refused(x) = q {
@@ -91,8 +86,7 @@ pub fn prim_path(path: &[u8], out: &mut [u8]) -> refusal::Reply
 // Writes the prim path of a property path; the property's name is the text after the dot that follows
 // it.
 pub fn split_property(path: &[u8], out: &mut [u8]) -> refusal::Reply
-    ensures { λ r. ⌜ r ≡ outcomeReply (splitPropertyCall (now (path .entry)) (length (now (out .entry)))) ⌝ }
-    ensures { λ r. ⌜ now (out .exit) ≡ outcomeBuffer (splitPropertyCall (now (path .entry)) (length (now (out .entry)))) (now (out .entry)) ⌝ }
+    ensures { λ r. ⌜ ReturnsPath (splitPropertyCall (now (path .entry)) (length (now (out .entry)))) r (now (out .entry)) (now (out .exit)) ⌝ }
 {
     let q = refusal::validate_texts(path, b"", b"");
     if let refusal::Validation::Refused(x) = q {
@@ -111,8 +105,7 @@ pub fn split_property(path: &[u8], out: &mut [u8]) -> refusal::Reply
 
 // Writes the path without its variant selections.
 pub fn strip_variant_selections(path: &[u8], out: &mut [u8]) -> refusal::Reply
-    ensures { λ r. ⌜ r ≡ outcomeReply (stripCall (now (path .entry)) (length (now (out .entry)))) ⌝ }
-    ensures { λ r. ⌜ now (out .exit) ≡ outcomeBuffer (stripCall (now (path .entry)) (length (now (out .entry)))) (now (out .entry)) ⌝ }
+    ensures { λ r. ⌜ ReturnsPath (stripCall (now (path .entry)) (length (now (out .entry)))) r (now (out .entry)) (now (out .exit)) ⌝ }
 {
     let q = refusal::validate_texts(path, b"", b"");
     if let refusal::Validation::Refused(x) = q {

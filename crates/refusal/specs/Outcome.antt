@@ -1,4 +1,5 @@
 -- The outcome of a call that writes a path. Its reply and the contents of the lent buffer afterwards are both derived from this one value.
+use mathlib.Core.Path.{_≡_}
 use Prim.Native.Nat.{ℕ}
 use mathlib.Core.Bool.{cond}
 use mathlib.Core.List.{List}
@@ -55,3 +56,7 @@ checkedOption (some q) = checked q
 abbrev pub writtenIfAccepted : Reply → List ℕ → List ℕ → List ℕ
 writtenIfAccepted (Written n) lens out = written lens out
 writtenIfAccepted (Refused x) lens out = out
+
+-- A call that writes a path returned what the outcome says: its reply, and the lent buffer before and after the call.
+abbrev pub ReturnsPath : Outcome → Reply → Text → Text → Type 0
+ReturnsPath o r before after = (r ≡ outcomeReply o) × (after ≡ outcomeBuffer o before)

@@ -9,7 +9,7 @@ ghost use mathlib.Core.List.{[]};
 ghost use Prim.Native.Nat.{_≤_};
 ghost use lib.ListN.{length};
 ghost use Rattle.pair_list.specs.Places.{pairsIn};
-ghost use Rattle.refusal.specs.Outcome.{path, outcomeReply, outcomeBuffer, checked};
+ghost use Rattle.refusal.specs.Outcome.{path, checked, ReturnsPath};
 ghost use Rattle.validate.specs.Validate.{lentList};
 ghost use Rattle.relocate_chain.specs.Chain.{chain, shiftThroughNearestAncestor};
 ghost use Rattle.relocate_chain.specs.ChainStep.{skippedSource};
@@ -32,8 +32,7 @@ fn shift_and_copy(
     out: &mut [u8],
 ) -> refusal::Reply
     requires { ⌜ (checked (now endpoint) ≡ path (now endpoint)) × (255 ≤ length (now out)) ⌝ }
-    ensures { λ r. ⌜ r ≡ outcomeReply (checked (shiftThroughNearestAncestor (pairsIn (now (store .entry)) (now (places .entry)) n) (now (endpoint .entry)))) ⌝ }
-    ensures { λ r. ⌜ now (out .exit) ≡ outcomeBuffer (checked (shiftThroughNearestAncestor (pairsIn (now (store .entry)) (now (places .entry)) n) (now (endpoint .entry)))) (now (out .entry)) ⌝ }
+    ensures { λ r. ⌜ ReturnsPath (checked (shiftThroughNearestAncestor (pairsIn (now (store .entry)) (now (places .entry)) n) (now (endpoint .entry)))) r (now (out .entry)) (now (out .exit)) ⌝ }
 {
     let mut made = [0u8; 255];
     let s = steps::replace_once(store, places, n, false, true, endpoint, endpoint, &mut made);
@@ -59,8 +58,7 @@ pub fn shift_through_nearest_ancestor(
     endpoint: &[u8],
     out: &mut [u8],
 ) -> refusal::Reply
-    ensures { λ r. ⌜ r ≡ outcomeReply (shiftCall (lentList (now (store .entry)) (now (places .entry)) count) (now (endpoint .entry)) (length (now (out .entry)))) ⌝ }
-    ensures { λ r. ⌜ now (out .exit) ≡ outcomeBuffer (shiftCall (lentList (now (store .entry)) (now (places .entry)) count) (now (endpoint .entry)) (length (now (out .entry)))) (now (out .entry)) ⌝ }
+    ensures { λ r. ⌜ ReturnsPath (shiftCall (lentList (now (store .entry)) (now (places .entry)) count) (now (endpoint .entry)) (length (now (out .entry)))) r (now (out .entry)) (now (out .exit)) ⌝ }
 {
     let q = validate::validate_list_and_path(store, places, count, endpoint);
     if let refusal::Validation::Refused(x) = q {

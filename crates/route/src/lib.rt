@@ -4,7 +4,7 @@ ghost use mathlib.Core.Path.{_≡_};
 ghost use mathlib.Core.Bool.{true, false};
 ghost use Prim.Native.Nat.{_≤_};
 ghost use lib.ListN.{length, take};
-ghost use Rattle.refusal.specs.Outcome.{outcomeReply, outcomeBuffer};
+ghost use Rattle.refusal.specs.Outcome.{ReturnsPath};
 ghost use Rattle.route_legs.specs.LentRoute.{lentRoute};
 ghost use Rattle.route_maps.specs.Prepared.{mapAt};
 ghost use Rattle.route.specs.Calls.{routeCall};
@@ -20,8 +20,7 @@ fn map_leg(
     path: &[u8],
     made: &mut [u8; 255],
 ) -> refusal::Reply
-    ensures { λ r. ⌜ r ≡ outcomeReply (legFast home (mapAt (lentRoute (now (store .entry)) (now (places .entry)) (now (legs .entry)) k) k) (now (path .entry))) ⌝ }
-    ensures { λ r. ⌜ now (made .exit) ≡ outcomeBuffer (legFast home (mapAt (lentRoute (now (store .entry)) (now (places .entry)) (now (legs .entry)) k) k) (now (path .entry))) (now (made .entry)) ⌝ }
+    ensures { λ r. ⌜ ReturnsPath (legFast home (mapAt (lentRoute (now (store .entry)) (now (places .entry)) (now (legs .entry)) k) k) (now (path .entry))) r (now (made .entry)) (now (made .exit)) ⌝ }
 {
     let list = route_legs::leg_places(places, legs, k);
     let n = route_legs::size_at(legs, k);
@@ -163,8 +162,7 @@ fn run_path(
     out: &mut [u8],
 ) -> refusal::Reply
     requires { ⌜ (length (now path) ≤ 255) × (255 ≤ length (now out)) ⌝ }
-    ensures { λ r. ⌜ r ≡ outcomeReply (runRouteFast home (lentRoute (now (store .entry)) (now (places .entry)) (now (legs .entry)) n) n (enteringPath home n (now (path .entry)))) ⌝ }
-    ensures { λ r. ⌜ now (out .exit) ≡ outcomeBuffer (runRouteFast home (lentRoute (now (store .entry)) (now (places .entry)) (now (legs .entry)) n) n (enteringPath home n (now (path .entry)))) (now (out .entry)) ⌝ }
+    ensures { λ r. ⌜ ReturnsPath (runRouteFast home (lentRoute (now (store .entry)) (now (places .entry)) (now (legs .entry)) n) n (enteringPath home n (now (path .entry)))) r (now (out .entry)) (now (out .exit)) ⌝ }
 {
     let mut here = [0u8; 255];
     let len = enter_route(home, n, path, &mut here);
@@ -188,8 +186,7 @@ pub fn route_after(
     path: &[u8],
     out: &mut [u8],
 ) -> refusal::Reply
-    ensures { λ r. ⌜ r ≡ outcomeReply (afterRouteValidated list home (lentRoute (now (store .entry)) (now (places .entry)) (now (legs .entry)) n) (now (path .entry)) (length (now (out .entry)))) ⌝ }
-    ensures { λ r. ⌜ now (out .exit) ≡ outcomeBuffer (afterRouteValidated list home (lentRoute (now (store .entry)) (now (places .entry)) (now (legs .entry)) n) (now (path .entry)) (length (now (out .entry)))) (now (out .entry)) ⌝ }
+    ensures { λ r. ⌜ ReturnsPath (afterRouteValidated list home (lentRoute (now (store .entry)) (now (places .entry)) (now (legs .entry)) n) (now (path .entry)) (length (now (out .entry)))) r (now (out .entry)) (now (out .exit)) ⌝ }
 {
     let q = validate::first_refusal(list, path::new(path));
     if let refusal::Validation::Refused(x) = q {
@@ -222,8 +219,7 @@ fn route_call(
     path: &[u8],
     out: &mut [u8],
 ) -> refusal::Reply
-    ensures { λ r. ⌜ r ≡ outcomeReply (routeCall home (lentRoute (now (store .entry)) (now (places .entry)) (now (legs .entry)) n) (now (path .entry)) (length (now (out .entry)))) ⌝ }
-    ensures { λ r. ⌜ now (out .exit) ≡ outcomeBuffer (routeCall home (lentRoute (now (store .entry)) (now (places .entry)) (now (legs .entry)) n) (now (path .entry)) (length (now (out .entry)))) (now (out .entry)) ⌝ }
+    ensures { λ r. ⌜ ReturnsPath (routeCall home (lentRoute (now (store .entry)) (now (places .entry)) (now (legs .entry)) n) (now (path .entry)) (length (now (out .entry)))) r (now (out .entry)) (now (out .exit)) ⌝ }
 {
     let list = route_legs::validate_legs(store, places, legs, n);
     if !needs_maps(list, legs, n) {
@@ -244,8 +240,7 @@ pub fn route_out(
     path: &[u8],
     out: &mut [u8],
 ) -> refusal::Reply
-    ensures { λ r. ⌜ r ≡ outcomeReply (routeCall false (lentRoute (now (store .entry)) (now (places .entry)) (now (legs .entry)) n) (now (path .entry)) (length (now (out .entry)))) ⌝ }
-    ensures { λ r. ⌜ now (out .exit) ≡ outcomeBuffer (routeCall false (lentRoute (now (store .entry)) (now (places .entry)) (now (legs .entry)) n) (now (path .entry)) (length (now (out .entry)))) (now (out .entry)) ⌝ }
+    ensures { λ r. ⌜ ReturnsPath (routeCall false (lentRoute (now (store .entry)) (now (places .entry)) (now (legs .entry)) n) (now (path .entry)) (length (now (out .entry)))) r (now (out .entry)) (now (out .exit)) ⌝ }
 {
     route_call(store, places, legs, n, false, path, out)
 }
@@ -259,8 +254,7 @@ pub fn route_home(
     path: &[u8],
     out: &mut [u8],
 ) -> refusal::Reply
-    ensures { λ r. ⌜ r ≡ outcomeReply (routeCall true (lentRoute (now (store .entry)) (now (places .entry)) (now (legs .entry)) n) (now (path .entry)) (length (now (out .entry)))) ⌝ }
-    ensures { λ r. ⌜ now (out .exit) ≡ outcomeBuffer (routeCall true (lentRoute (now (store .entry)) (now (places .entry)) (now (legs .entry)) n) (now (path .entry)) (length (now (out .entry)))) (now (out .entry)) ⌝ }
+    ensures { λ r. ⌜ ReturnsPath (routeCall true (lentRoute (now (store .entry)) (now (places .entry)) (now (legs .entry)) n) (now (path .entry)) (length (now (out .entry)))) r (now (out .entry)) (now (out .exit)) ⌝ }
 {
     route_call(store, places, legs, n, true, path, out)
 }

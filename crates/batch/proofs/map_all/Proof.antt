@@ -18,7 +18,10 @@ validate-list-and-path-requires : tie.Need-validate-list-and-path-requires
 validate-list-and-path-requires c κs = search needs
 
 map-each-requires : tie.Need-map-each-requires
-map-each-requires c κs = known-true (c .before .before .before .before .before .batch-fits .ensures) (c .before .before .before .before .if1 .left)
+map-each-requires c κs =
+    let at-if1 = c .before .before .before .before in
+    let at-batch-fits = at-if1 .before in
+    known-true (at-batch-fits .batch-fits .ensures) (at-if1 .if1 .left)
 
 same-length : tie.Need-same-length
 same-length c = search needs
@@ -27,7 +30,13 @@ same-length-2 : tie.Need-same-length-2
 same-length-2 c = search needs
 
 returns-2 : tie.Need-returns-2
-returns-2 c = all-done _ _ _ _ (c .before .before .before .before .before .before .before .before .before .before .batch-fits .ensures) _ _ _ _ (c .before .before .before .before .before .before .before .before .before .if1 .left) (all-same _ _ (map-step _ _ _ _ _ _ _ _ (c .before .before .before .before .before .before .before .validate-list-and-path .ensures)) _ _ _ _ _ (c .before .before .before .before .map-each .ensures))
+returns-2 c =
+    let at-map-each = c .before .before .before .before in
+    let at-validate-list-and-path = at-map-each .before .before .before in
+    let at-if1 = at-validate-list-and-path .before .before in
+    let at-batch-fits = at-if1 .before in
+    all-done _ _ _ _ (at-batch-fits .batch-fits .ensures) _ _ _ _ (at-if1 .if1 .left)
+    (all-same _ _ (map-step _ _ _ _ _ _ _ _ (at-validate-list-and-path .validate-list-and-path .ensures)) _ _ _ _ _ (at-map-each .map-each .ensures))
 
 pub map-all-spec : {M : Type 1} → statement M
 map-all-spec =

@@ -40,7 +40,13 @@ same-length-2 : tie.Need-same-length-2
 same-length-2 c = search needs
 
 returns : tie.Need-returns
-returns c = (block-bytes _ _ _ _ _ _ _ _ _ (c .before .before .before .before .before .before .before .before .before .before .before .before .pre .1 .0) _ (c .before .before .before .map-spot .ensures .1), ap (λ (x : ℕ). set (c .before .before .before .before .before .before .before .before .before .before .before .before .args .replies .now) (c .before .before .before .before .before .before .before .before .before .before .before .before .args .i) x) (block-reply _ _ _ _ _ _ _ _ _ (c .before .before .before .before .before .before .before .before .before .before .before .before .pre .1 .0) _ _ (c .before .before .before .map-spot .ensures .0) (c .reply-code .ensures)))
+returns c =
+    let at-map-spot = c .before .before .before in
+    let at-start = at-map-spot .before .before .before .before .before .before .before .before .before in (
+      block-bytes _ _ _ _ _ _ _ _ _ (at-start .pre .1 .0) _ (at-map-spot .map-spot .ensures .1),
+      ap (λ (x : ℕ). set (at-start .args .replies .now) (at-start .args .i) x)
+          (block-reply _ _ _ _ _ _ _ _ _ (at-start .pre .1 .0) _ _ (at-map-spot .map-spot .ensures .0) (c .reply-code .ensures)),
+    )
 
 pub map-block-spec : {M : Type 1} → statement M
 map-block-spec =

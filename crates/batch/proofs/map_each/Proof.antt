@@ -20,7 +20,17 @@ unfolding pathBuffers replyNumbers
 loop-holds c = (search needs, refl, refl, refl, refl)
 
 map-block-requires : tie.Need-map-block-requires Inv-loop μ-loop
-map-block-requires c κs = (room-spot _ _ _ _ (c .before .before .before .before .before .before .before .before .before .before .before .pre) _ (c .before .before .loop-test .taken), (omega (arith, c .before .before .before .loop .inv .3, room-block _ _ _ _ (c .before .before .before .before .before .before .before .before .before .before .before .pre) _ (c .before .before .loop-test .taken)), omega (arith, c .before .before .before .loop .inv .4, room-number _ _ _ _ (c .before .before .before .before .before .before .before .before .before .before .before .pre) _ (c .before .before .loop-test .taken))))
+map-block-requires c κs =
+    let at-loop-test = c .before .before in
+    let at-loop = at-loop-test .before in
+    let at-start = at-loop .before .before .before .before .before .before .before .before in
+    let pre = at-start .pre in (
+      room-spot _ _ _ _ (pre) _ (at-loop-test .loop-test .taken),
+      (
+        omega (arith, at-loop .loop .inv .3, room-block _ _ _ _ (pre) _ (at-loop-test .loop-test .taken)),
+        omega (arith, at-loop .loop .inv .4, room-number _ _ _ _ (pre) _ (at-loop-test .loop-test .taken)),
+      ),
+    )
 
 add-i : tie.Need-add-i Inv-loop μ-loop
 add-i c = search needs
@@ -29,7 +39,23 @@ loop-less : tie.Need-loop-less Inv-loop μ-loop
 loop-less c = search needs
 
 loop-again : tie.Need-loop-again Inv-loop μ-loop
-loop-again c = (search needs, step-bytes _ _ _ _ _ _ _ _ _ _ _ (room-block _ _ _ _ (c .before .before .before .before .before .before .before .before .before .before .before .before .before .before .before .before .pre) _ (c .before .before .before .before .before .before .before .loop-test .taken)) (c .before .before .before .before .before .before .before .before .loop .inv .1) (c .before .before .before .before .map-block .ensures .0), step-numbers _ _ _ _ _ _ _ _ _ _ _ (room-number _ _ _ _ (c .before .before .before .before .before .before .before .before .before .before .before .before .before .before .before .before .pre) _ (c .before .before .before .before .before .before .before .loop-test .taken)) (c .before .before .before .before .before .before .before .before .loop .inv .2) (c .before .before .before .before .map-block .ensures .1), search needs, search needs)
+loop-again c = (
+  search needs,
+  (let at-map-block = c .before .before .before .before in
+      let at-loop-test = at-map-block .before .before .before in
+      let at-loop = at-loop-test .before in
+      let at-start = at-loop .before .before .before .before .before .before .before .before in
+      step-bytes _ _ _ _ _ _ _ _ _ _ _ (room-block _ _ _ _ (at-start .pre) _ (at-loop-test .loop-test .taken)) (at-loop .loop .inv .1)
+      (at-map-block .map-block .ensures .0)),
+  (let at-map-block = c .before .before .before .before in
+      let at-loop-test = at-map-block .before .before .before in
+      let at-loop = at-loop-test .before in
+      let at-start = at-loop .before .before .before .before .before .before .before .before in
+      step-numbers _ _ _ _ _ _ _ _ _ _ _ (room-number _ _ _ _ (at-start .pre) _ (at-loop-test .loop-test .taken)) (at-loop .loop .inv .2)
+      (at-map-block .map-block .ensures .1)),
+  search needs,
+  search needs,
+)
 
 same-length : tie.Need-same-length Inv-loop μ-loop
 same-length c = search needs

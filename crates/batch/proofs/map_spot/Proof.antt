@@ -20,7 +20,13 @@ same-length : tie.Need-same-length
 same-length c = search needs
 
 returns-2 : tie.Need-returns-2
-returns-2 c = answering _ _ (spot-inside _ _ _ _ _ _ _ _ _ _ (c .before .before .before .before .before .before .is-inside .ensures) _ (c .before .before .before .before .before .if1 .left) (c .before .before .before .before .text-at .ensures)) _ _ _ (c .before .before .map-one .ensures)
+returns-2 c =
+    let at-map-one = c .before .before in
+    let at-text-at = at-map-one .before .before in
+    let at-if1 = at-text-at .before in
+    let at-is-inside = at-if1 .before in
+    answering _ _ (spot-inside _ _ _ _ _ _ _ _ _ _ (at-is-inside .is-inside .ensures) _ (at-if1 .if1 .left) (at-text-at .text-at .ensures)) _ _ _
+    (at-map-one .map-one .ensures)
 
 pub map-spot-spec : {M : Type 1} → statement M
 map-spot-spec =

@@ -14,7 +14,11 @@ validate-legs-requires : tie.Need-validate-legs-requires
 validate-legs-requires c κs = search needs
 
 route-each-requires : tie.Need-route-each-requires
-route-each-requires c κs = (known-true (c .before .before .before .before .batch-fits .ensures) (c .before .before .before .if1 .left), c .before .before .validate-legs .ensures)
+route-each-requires c κs =
+    let at-validate-legs = c .before .before in
+    let at-if1 = at-validate-legs .before in
+    let at-batch-fits = at-if1 .before in
+    (known-true (at-batch-fits .batch-fits .ensures) (at-if1 .if1 .left), at-validate-legs .validate-legs .ensures)
 
 same-length : tie.Need-same-length
 same-length c = search needs
@@ -23,7 +27,11 @@ same-length-2 : tie.Need-same-length-2
 same-length-2 c = search needs
 
 returns-2 : tie.Need-returns-2
-returns-2 c = all-done _ _ _ _ (c .before .before .before .before .before .before .before .before .before .batch-fits .ensures) _ _ _ _ (c .before .before .before .before .before .before .before .before .if1 .left) (c .before .before .before .before .route-each .ensures)
+returns-2 c =
+    let at-route-each = c .before .before .before .before in
+    let at-if1 = at-route-each .before .before .before .before in
+    let at-batch-fits = at-if1 .before in
+    all-done _ _ _ _ (at-batch-fits .batch-fits .ensures) _ _ _ _ (at-if1 .if1 .left) (at-route-each .route-each .ensures)
 
 pub route-all-spec : {M : Type 1} → statement M
 route-all-spec =

@@ -16,7 +16,13 @@ same-length-2 : tie.Need-same-length-2
 same-length-2 c = search needs
 
 returns : tie.Need-returns
-returns c = all-same _ _ (route-step _ _ _ _ _ (c .before .before .before .before .before .before .before .before .before .before .before .before .before .before .before .before .pre .1) _ (c .before .before .before .before .before .before .before .before .needs-maps .ensures) (c .before .before .before .before .before .before .before .if1 .taken)) _ _ _ _ _ (c .before .before .before .before .map-each .ensures)
+returns c =
+    let at-map-each = c .before .before .before .before in
+    let at-if1 = at-map-each .before .before .before in
+    let at-needs-maps = at-if1 .before in
+    let at-start = at-needs-maps .before .before .before .before .before .before .before .before in
+    all-same _ _ (route-step _ _ _ _ _ (at-start .pre .1) _ (at-needs-maps .needs-maps .ensures) (at-if1 .if1 .taken)) _ _ _ _ _
+    (at-map-each .map-each .ensures)
 
 route-prepared-requires : tie.Need-route-prepared-requires
 route-prepared-requires c κs = search needs

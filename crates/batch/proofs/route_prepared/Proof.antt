@@ -29,7 +29,14 @@ same-length-2 : tie.Need-same-length-2
 same-length-2 c = search needs
 
 returns : tie.Need-returns
-returns c = all-same _ _ (prepared-step _ _ _ _ _ (c .before .before .before .before .before .before .before .before .before .before .before .before .before .before .before .before .before .before .before .before .before .pre .1) _ _ (search needs) (search needs) (prepared-read _ _ _ _ _ (c .before .before .before .before .before .before .before .before .before .before .before .prepare-legs .ensures .0) (c .before .before .before .before .before .before .before .before .before .before .before .prepare-legs .ensures .1))) _ _ _ _ _ (c .before .before .before .before .map-each .ensures)
+returns c =
+    all-same _ _
+    (prepared-step _ _ _ _ _
+    (c .before .before .before .before .before .before .before .before .before .before .before .before .before .before .before .before .before .before .before .before .before .pre .1)
+    _ _ (search needs) (search needs)
+    (prepared-read _ _ _ _ _ (c .before .before .before .before .before .before .before .before .before .before .before .prepare-legs .ensures .0)
+    (c .before .before .before .before .before .before .before .before .before .before .before .prepare-legs .ensures .1)))
+    _ _ _ _ _ (c .before .before .before .before .map-each .ensures)
 
 pub route-prepared-spec : {M : Type 1} → statement M
 route-prepared-spec =

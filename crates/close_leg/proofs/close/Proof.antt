@@ -14,7 +14,12 @@ returns : tie.Need-returns
 returns c = close-damaged _ _ _ _ _ _ (c .before .can-select .ensures) (c .if1 .taken)
 
 close-list-requires : tie.Need-close-list-requires
-close-list-requires c κs = (select-few _ _ _ _ (c .before .before .before .before .before .can-select .ensures) (c .before .before .before .before .if1 .left), select-present _ _ _ _ (c .before .before .before .before .before .can-select .ensures) (c .before .before .before .before .if1 .left))
+close-list-requires c κs =
+    let at-if1 = c .before .before .before .before in
+    let at-can-select = at-if1 .before in (
+      select-few _ _ _ _ (at-can-select .can-select .ensures) (at-if1 .if1 .left),
+      select-present _ _ _ _ (at-can-select .can-select .ensures) (at-if1 .if1 .left),
+    )
 
 same-length : tie.Need-same-length
 same-length c = search needs
@@ -26,7 +31,13 @@ same-length-3 : tie.Need-same-length-3
 same-length-3 c = search needs
 
 returns-2 : tie.Need-returns-2
-returns-2 c = close-as _ _ _ _ _ _ (c .before .before .before .before .before .before .before .before .before .before .before .before .can-select .ensures) (c .before .before .before .before .before .before .before .before .before .before .before .if1 .left) _ (not-true _ (c .before .before .before .before .before .before .before .before .before .before .if2 .taken)) _ (all-counted _ _ _) _ _ _ _ (c .before .before .before .before .before .before .close-list .ensures)
+returns-2 c =
+    let at-close-list = c .before .before .before .before .before .before in
+    let at-if2 = at-close-list .before .before .before .before in
+    let at-if1 = at-if2 .before in
+    let at-can-select = at-if1 .before in
+    close-as _ _ _ _ _ _ (at-can-select .can-select .ensures) (at-if1 .if1 .left) _ (not-true _ (at-if2 .if2 .taken)) _ (all-counted _ _ _) _ _ _ _
+    (at-close-list .close-list .ensures)
 
 slice-aggregate-active-pairs : tie.Need-slice-aggregate-active-pairs
 slice-aggregate-active-pairs c = search needs
@@ -50,7 +61,18 @@ same-length-6 : tie.Need-same-length-6
 same-length-6 c = search needs
 
 returns-3 : tie.Need-returns-3
-returns-3 c = close-as _ _ _ _ _ _ (c .before .before .before .before .before .before .before .before .before .before .before .before .before .before .before .before .can-select .ensures) (c .before .before .before .before .before .before .before .before .before .before .before .before .before .before .before .if1 .left) _ (not-false _ (c .before .before .before .before .before .before .before .before .before .before .before .before .before .before .if2 .left)) _ (active-counted _ _ _ _ (c .before .before .before .before .before .before .before .before .before .before .before .before .before .before .before .before .can-select .ensures) (c .before .before .before .before .before .before .before .before .before .before .before .before .before .before .before .if1 .left) _ _ _ (search needs) (active-read _ _ _ _ _ _ _ (c .before .before .before .before .before .before .before .before .before .before .before .before .active-pairs .ensures))) _ _ _ _ (c .before .before .before .before .before .before .close-list2 .ensures)
+returns-3 c =
+    close-as _ _ _ _ _ _
+    (c .before .before .before .before .before .before .before .before .before .before .before .before .before .before .before .before .can-select .ensures)
+    (c .before .before .before .before .before .before .before .before .before .before .before .before .before .before .before .if1 .left) _
+    (not-false _ (c .before .before .before .before .before .before .before .before .before .before .before .before .before .before .if2 .left)) _
+    (active-counted _ _ _ _
+    (c .before .before .before .before .before .before .before .before .before .before .before .before .before .before .before .before .can-select .ensures)
+    (c .before .before .before .before .before .before .before .before .before .before .before .before .before .before .before .if1 .left) _ _ _
+    (search needs)
+    (active-read _ _ _ _ _ _ _
+    (c .before .before .before .before .before .before .before .before .before .before .before .before .active-pairs .ensures)))
+    _ _ _ _ (c .before .before .before .before .before .before .close-list2 .ensures)
 
 pub close-spec : {M : Type 1} → statement M
 close-spec =

@@ -37,16 +37,31 @@ canonical-places-requires : tie.Need-canonical-places-requires
 canonical-places-requires c κs = search needs
 
 mul-at : tie.Need-mul-at
-mul-at c = let f = list-fits (c .before .before .before .before .before .before .before .before .before .before .before .before .before .before .before .before .args .mark) _ _ _ _ _ _ (c .before .before .before .before .before .before .before .validate-close .ensures) _ (c .before .before .before .before .before .enum-told .given .1) in omega (arith, f .0)
+mul-at c =
+    let at-enum-told = c .before .before .before .before .before in
+    let at-validate-close = at-enum-told .before .before in
+    let at-start = at-validate-close .before .before .before .before .before .before .before .before .before in
+    let f = list-fits (at-start .args .mark) _ _ _ _ _ _ (at-validate-close .validate-close .ensures) _ (at-enum-told .enum-told .given .1) in
+    omega (arith, f .0)
 
 add-end : tie.Need-add-end
-add-end c = let f = list-fits (c .before .before .before .before .before .before .before .before .before .before .before .before .before .before .before .before .args .mark) _ _ _ _ _ _ (c .before .before .before .before .before .before .before .validate-close .ensures) _ (c .before .before .before .before .before .enum-told .given .1) in omega (arith, f .0)
+add-end c =
+    let at-enum-told = c .before .before .before .before .before in
+    let at-validate-close = at-enum-told .before .before in
+    let at-start = at-validate-close .before .before .before .before .before .before .before .before .before in
+    let f = list-fits (at-start .args .mark) _ _ _ _ _ _ (at-validate-close .validate-close .ensures) _ (at-enum-told .enum-told .given .1) in
+    omega (arith, f .0)
 
 slice-aggregate-append-list : tie.Need-slice-aggregate-append-list
 slice-aggregate-append-list c = search needs
 
 mul-append-list : tie.Need-mul-append-list
-mul-append-list c = let f = list-fits (c .before .before .before .before .before .before .before .before .before .before .before .before .before .before .before .before .before .before .args .mark) _ _ _ _ _ _ (c .before .before .before .before .before .before .before .before .before .validate-close .ensures) _ (c .before .before .before .before .before .before .before .enum-told .given .1) in omega (arith, f .0)
+mul-append-list c =
+    let at-enum-told = c .before .before .before .before .before .before .before in
+    let at-validate-close = at-enum-told .before .before in
+    let at-start = at-validate-close .before .before .before .before .before .before .before .before .before in
+    let f = list-fits (at-start .args .mark) _ _ _ _ _ _ (at-validate-close .validate-close .ensures) _ (at-enum-told .enum-told .given .1) in
+    omega (arith, f .0)
 
 sub-append-list : tie.Need-sub-append-list
 sub-append-list c = search needs
@@ -55,13 +70,23 @@ part-append-list-start : tie.Need-part-append-list-start
 part-append-list-start c = search needs
 
 part-append-list-end : tie.Need-part-append-list-end
-part-append-list-end c = let f = list-fits (c .before .before .before .before .before .before .before .before .before .before .before .before .before .before .before .before .before .before .args .mark) _ _ _ _ _ _ (c .before .before .before .before .before .before .before .before .before .validate-close .ensures) _ (c .before .before .before .before .before .before .before .enum-told .given .1) in omega (arith, f .1)
+part-append-list-end c =
+    let at-enum-told = c .before .before .before .before .before .before .before in
+    let at-validate-close = at-enum-told .before .before in
+    let at-start = at-validate-close .before .before .before .before .before .before .before .before .before in
+    let f = list-fits (at-start .args .mark) _ _ _ _ _ _ (at-validate-close .validate-close .ensures) _ (at-enum-told .enum-told .given .1) in
+    omega (arith, f .1)
 
 append-list-requires : tie.Need-append-list-requires
 append-list-requires c κs = search needs
 
 write-leg-entry-requires : tie.Need-write-leg-entry-requires
-write-leg-entry-requires c κs = let f = list-fits (c .before .before .before .before .before .before .before .before .before .before .before .before .before .before .before .before .before .before .before .before .before .before .before .before .before .args .mark) _ _ _ _ _ _ (c .before .before .before .before .before .before .before .before .before .before .before .before .before .before .before .before .validate-close .ensures) _ (c .before .before .before .before .before .before .before .before .before .before .before .before .before .before .enum-told .given .1) in (f .0, f .2)
+write-leg-entry-requires c κs =
+    let at-enum-told = c .before .before .before .before .before .before .before .before .before .before .before .before .before .before in
+    let at-validate-close = at-enum-told .before .before in
+    let at-start = at-validate-close .before .before .before .before .before .before .before .before .before in
+    let f = list-fits (at-start .args .mark) _ _ _ _ _ _ (at-validate-close .validate-close .ensures) _ (at-enum-told .enum-told .given .1) in
+    (f .0, f .2)
 
 same-length-4 : tie.Need-same-length-4
 same-length-4 c = search needs
@@ -73,7 +98,21 @@ same-length-6 : tie.Need-same-length-6
 same-length-6 c = search needs
 
 returns-2 : tie.Need-returns-2
-returns-2 c = list-closed _ _ _ _ _ _ _ (c .before .before .before .before .before .before .before .before .before .before .before .before .before .before .before .before .before .before .before .validate-close .ensures) _ (c .before .before .before .before .before .before .before .before .before .before .before .before .before .before .before .before .before .enum-told .given .1) _ _ _ refl (c .before .before .before .before .before .before .before .before .before .before .before .before .before .before .before .before .before .before .before .before .before .before .before .before .before .before .before .before .pre .0) (c .before .before .before .before .before .before .before .before .before .before .before .before .before .before .before .before .before .before .before .before .before .before .before .before .before .before .before .before .pre .1) _ (c .before .before .before .before .before .before .before .before .before .before .before .before .before .before .before .before .is-marked .ensures) _ (search needs) _ _ (canonical-read _ _ _ _ _ _ _ _ (c .before .before .before .before .before .before .before .before .before .before .before .before .before .before .canonical-places .ensures)) _ _ _ (c .before .before .before .before .before .before .before .before .append-list .ensures .1 .0) (c .before .before .before .before .before .before .before .before .append-list .ensures .1 .1) (c .before .before .write-leg-entry .ensures)
+returns-2 c =
+    list-closed _ _ _ _ _ _ _
+    (c .before .before .before .before .before .before .before .before .before .before .before .before .before .before .before .before .before .before .before .validate-close .ensures)
+    _
+    (c .before .before .before .before .before .before .before .before .before .before .before .before .before .before .before .before .before .enum-told .given .1)
+    _ _ _ refl
+    (c .before .before .before .before .before .before .before .before .before .before .before .before .before .before .before .before .before .before .before .before .before .before .before .before .before .before .before .before .pre .0)
+    (c .before .before .before .before .before .before .before .before .before .before .before .before .before .before .before .before .before .before .before .before .before .before .before .before .before .before .before .before .pre .1)
+    _
+    (c .before .before .before .before .before .before .before .before .before .before .before .before .before .before .before .before .is-marked .ensures)
+    _ (search needs) _ _
+    (canonical-read _ _ _ _ _ _ _ _
+    (c .before .before .before .before .before .before .before .before .before .before .before .before .before .before .canonical-places .ensures))
+    _ _ _ (c .before .before .before .before .before .before .before .before .append-list .ensures .1 .0)
+    (c .before .before .before .before .before .before .before .before .append-list .ensures .1 .1) (c .before .before .write-leg-entry .ensures)
 
 pub close-list-spec : {M : Type 1} → statement M
 close-list-spec =

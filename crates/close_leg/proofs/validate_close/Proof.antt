@@ -24,19 +24,45 @@ enum-told : tie.Need-enum-told
 enum-told c = search needs
 
 returns-3 : tie.Need-returns-3
-returns-3 c = validate-over _ _ _ _ _ _ (c .before .before .before .before .before .has-leg-room .ensures) (c .before .before .before .before .if1 .left) (c .before .before .before .if2 .left) _ (c .before .before .remaining-room .ensures) (c .enum-told .given .1)
+returns-3 c =
+    let at-remaining-room = c .before .before in
+    let at-if2 = at-remaining-room .before in
+    let at-if1 = at-if2 .before in
+    let at-has-leg-room = at-if1 .before in
+    validate-over _ _ _ _ _ _ (at-has-leg-room .has-leg-room .ensures) (at-if1 .if1 .left) (at-if2 .if2 .left) _
+    (at-remaining-room .remaining-room .ensures) (c .enum-told .given .1)
 
 sub-total : tie.Need-sub-total
 sub-total c = omega (arith, left-fits _ _ _ (c .before .before .before .remaining-room .ensures) _ (c .before .room .given .1))
 
 returns-4 : tie.Need-returns-4
-returns-4 c = validate-short _ _ _ _ _ _ (c .before .before .before .before .before .before .before .has-leg-room .ensures) (c .before .before .before .before .before .before .if1 .left) (c .before .before .before .before .before .if2 .left) _ (c .before .before .before .before .remaining-room .ensures) _ (c .before .before .room .given .1) (c .if3 .taken)
+returns-4 c =
+    let at-room = c .before .before in
+    let at-remaining-room = at-room .before .before in
+    let at-if2 = at-remaining-room .before in
+    let at-if1 = at-if2 .before in
+    let at-has-leg-room = at-if1 .before in
+    validate-short _ _ _ _ _ _ (at-has-leg-room .has-leg-room .ensures) (at-if1 .if1 .left) (at-if2 .if2 .left) _
+    (at-remaining-room .remaining-room .ensures) _ (at-room .room .given .1) (c .if3 .taken)
 
 add-t16 : tie.Need-add-t16
-add-t16 c = omega (arith, leg-few (c .before .before .before .before .before .before .before .before .before .before .before .before .before .before .args .v) (c .before .before .before .before .before .before .before .before .before .before .before .before .before .before .args .slots .now) (c .before .before .before .before .before .before .before .before .before .before .before .before .before .before .args .table .now) _ (c .before .before .before .before .before .before .before .before .has-leg-room .ensures) (c .before .before .before .before .before .before .before .if1 .left))
+add-t16 c =
+    let at-if1 = c .before .before .before .before .before .before .before in
+    let at-has-leg-room = at-if1 .before in
+    let at-start = at-has-leg-room .before .before .before .before .before .before in
+    let args = at-start .args in
+    omega (arith, leg-few (args .v) (args .slots .now) (args .table .now) _ (at-has-leg-room .has-leg-room .ensures) (at-if1 .if1 .left))
 
 returns-5 : tie.Need-returns-5
-returns-5 c = validate-done _ _ _ _ _ _ (c .before .before .before .before .before .before .before .before .has-leg-room .ensures) (c .before .before .before .before .before .before .before .if1 .left) (c .before .before .before .before .before .before .if2 .left) _ (c .before .before .before .before .before .remaining-room .ensures) _ (c .before .before .before .room .given .1) (c .before .if3 .left)
+returns-5 c =
+    let at-if3 = c .before in
+    let at-room = at-if3 .before .before in
+    let at-remaining-room = at-room .before .before in
+    let at-if2 = at-remaining-room .before in
+    let at-if1 = at-if2 .before in
+    let at-has-leg-room = at-if1 .before in
+    validate-done _ _ _ _ _ _ (at-has-leg-room .has-leg-room .ensures) (at-if1 .if1 .left) (at-if2 .if2 .left) _
+    (at-remaining-room .remaining-room .ensures) _ (at-room .room .given .1) (at-if3 .if3 .left)
 
 pub validate-close-spec : {M : Type 1} → statement M
 validate-close-spec =

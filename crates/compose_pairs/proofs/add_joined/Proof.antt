@@ -16,8 +16,12 @@ same-length-2 c = search needs
 
 returns : tie.Need-returns
 returns c =
-    let z = c .before .before .before .before .before .before .before .before .before .before in
-    add-there (pairsIn (z .args .bytes .now) (z .args .slots .now) (z .args .b .n)) (z .args .b .n) (z .args .b .at) (z .args .bytes .now) (z .args .slots .now) (z .pre .0) (z .args .t .now) (join (z .args .old .now) (z .args .new .now) (z .args .rest .now)) _ (c .before .has-joined .ensures) (c .if1 .taken)
+    let at-has-joined = c .before in
+    let at-start = at-has-joined .before .before .before .before .before .before .before .before .before in
+    let args = at-start .args in
+    add-there (pairsIn (args .bytes .now) (args .slots .now) (args .b .n)) (args .b .n) (args .b .at) (args .bytes .now) (args .slots .now)
+    (at-start .pre .0) (args .t .now) (join (args .old .now) (args .new .now) (args .rest .now)) _ (at-has-joined .has-joined .ensures)
+    (c .if1 .taken)
 
 join-at-requires : tie.Need-join-at-requires
 join-at-requires c κs = search needs
@@ -45,8 +49,18 @@ same-length-4 c = search needs
 
 returns-2 : tie.Need-returns-2
 returns-2 c =
-    let z = c .before .before .before .before .before .before .before .before .before .before .before .before .before .before .before .before .before .before .before .before .before .before in
-    add-new (pairsIn (z .args .bytes .now) (z .args .slots .now) (z .args .b .n)) (z .args .b .n) (z .args .b .at) (z .args .bytes .now) (z .args .slots .now) (z .pre .0) (z .args .t .now) (join (z .args .old .now) (z .args .new .now) (z .args .rest .now)) _ (c .before .before .before .before .before .before .before .before .before .before .before .before .before .has-joined .ensures) (c .before .before .before .before .before .before .before .before .before .before .before .before .if1 .left) (z .pre .1 .0) (z .pre .1 .1) _ (c .before .before .before .before .before .before .before .before .before .before .join-at .ensures .0) _ _ _ (c .before .before .before .before .before .before .before .before .before .before .join-at .ensures .1) (c .before .before .before .before .before .before .write-at .ensures) (c .before .before .write-entry .ensures)
+    let at-write-entry = c .before .before in
+    let at-write-at = at-write-entry .before .before .before .before in
+    let at-join-at = at-write-at .before .before .before .before in
+    let at-if1 = at-join-at .before .before in
+    let at-has-joined = at-if1 .before in
+    let at-start = at-has-joined .before .before .before .before .before .before .before .before .before in
+    let args = at-start .args in
+    let pre = at-start .pre in
+    add-new (pairsIn (args .bytes .now) (args .slots .now) (args .b .n)) (args .b .n) (args .b .at) (args .bytes .now) (args .slots .now) (pre .0)
+    (args .t .now) (join (args .old .now) (args .new .now) (args .rest .now)) _ (at-has-joined .has-joined .ensures) (at-if1 .if1 .left) (pre .1 .0)
+    (pre .1 .1) _ (at-join-at .join-at .ensures .0) _ _ _ (at-join-at .join-at .ensures .1) (at-write-at .write-at .ensures)
+    (at-write-entry .write-entry .ensures)
 
 pub add-joined-spec : {M : Type 1} → statement M
 add-joined-spec =

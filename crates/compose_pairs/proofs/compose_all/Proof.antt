@@ -19,7 +19,15 @@ abbrev μ-loop : tie.MeasureT-loop
 μ-loop store places count mark istore iplaces inner bytes₀ slots₀ at₀ i₀ bytes slots at i = inner - i
 
 loop-holds : tie.Need-loop-holds Inv-loop μ-loop
-loop-holds c = (search needs, search needs, compose-begin (lentMap (c .before .before .before .before .before .before .args .store .now) (c .before .before .before .before .before .before .args .places .now) (c .before .before .before .before .before .before .args .count) (c .before .before .before .before .before .before .args .mark)) (c .before .before .before .before .before .before .args .istore .now) (c .before .before .before .before .before .before .args .iplaces .now) _ _, refl, refl)
+loop-holds c = (
+  search needs,
+  search needs,
+  (let at-start = c .before .before .before .before .before .before in
+      let args = at-start .args in
+      compose-begin (lentMap (args .store .now) (args .places .now) (args .count) (args .mark)) (args .istore .now) (args .iplaces .now) _ _),
+  refl,
+  refl,
+)
 
 key-at-requires : tie.Need-key-at-requires Inv-loop μ-loop
 key-at-requires c κs = search needs
@@ -28,7 +36,19 @@ key-at-requires-2 : tie.Need-key-at-requires-2 Inv-loop μ-loop
 key-at-requires-2 c κs = search needs
 
 compose-pair-requires : tie.Need-compose-pair-requires Inv-loop μ-loop
-compose-pair-requires c κs = (compose-room (lentMap (c .before .before .before .before .before .before .before .before .before .before .before .before .args .store .now) (c .before .before .before .before .before .before .before .before .before .before .before .before .args .places .now) (c .before .before .before .before .before .before .before .before .before .before .before .before .args .count) (c .before .before .before .before .before .before .before .before .before .before .before .before .args .mark)) (c .before .before .before .before .before .before .before .before .before .before .before .before .pre .0) (c .before .before .before .before .before .before .before .before .before .before .before .before .args .istore .now) (c .before .before .before .before .before .before .before .before .before .before .before .before .args .iplaces .now) (c .before .before .before .before .before .before .before .before .before .before .before .before .args .inner) (c .before .before .before .before .before .before .before .before .before .before .before .before .pre .1 .0) (c .before .before .before .before .before .loop .i) (c .before .before .before .before .before .loop .at) (c .before .before .before .before .loop-test .taken) (c .before .before .before .before .before .loop .inv .1) _ _ (c .before .before .before .key-at .ensures) (c .before .before .key-at2 .ensures) _ (omega (arith, c .before .before .before .before .before .before .before .before .before .before .before .before .pre .1 .1 .0, c .before .before .before .before .before .loop .inv .3)), omega (arith, c .before .before .before .before .before .before .before .before .before .before .before .before .pre .1 .1 .1, c .before .before .before .before .before .loop .inv .4, c .before .before .before .before .loop-test .taken))
+compose-pair-requires c κs =
+    let at-key-at2 = c .before .before in
+    let at-key-at = at-key-at2 .before in
+    let at-loop-test = at-key-at .before in
+    let at-loop = at-loop-test .before in
+    let at-start = at-loop .before .before .before .before .before .before .before in
+    let args = at-start .args in
+    let pre = at-start .pre in (
+      compose-room (lentMap (args .store .now) (args .places .now) (args .count) (args .mark)) (pre .0) (args .istore .now) (args .iplaces .now)
+          (args .inner) (pre .1 .0) (at-loop .loop .i) (at-loop .loop .at) (at-loop-test .loop-test .taken) (at-loop .loop .inv .1) _ _
+          (at-key-at .key-at .ensures) (at-key-at2 .key-at2 .ensures) _ (omega (arith, pre .1 .1 .0, at-loop .loop .inv .3)),
+      omega (arith, pre .1 .1 .1, at-loop .loop .inv .4, at-loop-test .loop-test .taken),
+    )
 
 add-i : tie.Need-add-i Inv-loop μ-loop
 add-i c = search needs
@@ -37,7 +57,32 @@ loop-less : tie.Need-loop-less Inv-loop μ-loop
 loop-less c = search needs
 
 loop-again : tie.Need-loop-again Inv-loop μ-loop
-loop-again c = (search needs, compose-bound (lentMap (c .before .before .before .before .before .before .before .before .before .before .before .before .before .before .before .before .before .args .store .now) (c .before .before .before .before .before .before .before .before .before .before .before .before .before .before .before .before .before .args .places .now) (c .before .before .before .before .before .before .before .before .before .before .before .before .before .before .before .before .before .args .count) (c .before .before .before .before .before .before .before .before .before .before .before .before .before .before .before .before .before .args .mark)) (c .before .before .before .before .before .before .before .before .before .before .before .before .before .before .before .before .before .pre .0) (c .before .before .before .before .before .before .before .before .before .before .before .before .before .before .before .before .before .args .istore .now) (c .before .before .before .before .before .before .before .before .before .before .before .before .before .before .before .before .before .args .iplaces .now) (c .before .before .before .before .before .before .before .before .before .before .before .before .before .before .before .before .before .args .inner) (c .before .before .before .before .before .before .before .before .before .before .before .before .before .before .before .before .before .pre .1 .0) (c .before .before .before .before .before .before .before .before .before .before .loop .i) (c .before .before .before .before .before .before .before .before .before .before .loop .at) (c .before .before .before .before .before .before .before .before .before .loop-test .taken) (c .before .before .before .before .before .before .before .before .before .before .loop .inv .1) _ _ (c .before .before .before .before .before .before .before .before .key-at .ensures) (c .before .before .before .before .before .before .before .key-at2 .ensures) _ (c .before .before .before .before .compose-pair .ensures .0), compose-next (lentMap (c .before .before .before .before .before .before .before .before .before .before .before .before .before .before .before .before .before .args .store .now) (c .before .before .before .before .before .before .before .before .before .before .before .before .before .before .before .before .before .args .places .now) (c .before .before .before .before .before .before .before .before .before .before .before .before .before .before .before .before .before .args .count) (c .before .before .before .before .before .before .before .before .before .before .before .before .before .before .before .before .before .args .mark)) (c .before .before .before .before .before .before .before .before .before .before .before .before .before .before .before .before .before .pre .0) (c .before .before .before .before .before .before .before .before .before .before .before .before .before .before .before .before .before .args .istore .now) (c .before .before .before .before .before .before .before .before .before .before .before .before .before .before .before .before .before .args .iplaces .now) (c .before .before .before .before .before .before .before .before .before .before .before .before .before .before .before .before .before .args .inner) (c .before .before .before .before .before .before .before .before .before .before .before .before .before .before .before .before .before .pre .1 .0) (c .before .before .before .before .before .before .before .before .before .before .loop .i) (c .before .before .before .before .before .before .before .before .before .before .loop .at) (c .before .before .before .before .before .before .before .before .before .loop-test .taken) (c .before .before .before .before .before .before .before .before .before .before .loop .inv .1) _ _ (c .before .before .before .before .before .before .before .before .key-at .ensures) (c .before .before .before .before .before .before .before .key-at2 .ensures) _ _ _ _ _ _ _ (c .before .before .before .before .before .before .before .before .before .before .loop .inv .2) (c .before .before .before .before .compose-pair .ensures .0) (c .before .before .before .before .compose-pair .ensures .1 .0) (c .before .before .before .before .compose-pair .ensures .1 .1), search needs, search needs)
+loop-again c = (
+  search needs,
+  (let at-compose-pair = c .before .before .before .before in
+      let at-key-at2 = at-compose-pair .before .before .before in
+      let at-key-at = at-key-at2 .before in
+      let at-loop-test = at-key-at .before in
+      let at-loop = at-loop-test .before in
+      let at-start = at-loop .before .before .before .before .before .before .before in
+      let args = at-start .args in
+      compose-bound (lentMap (args .store .now) (args .places .now) (args .count) (args .mark)) (at-start .pre .0) (args .istore .now)
+      (args .iplaces .now) (args .inner) (at-start .pre .1 .0) (at-loop .loop .i) (at-loop .loop .at) (at-loop-test .loop-test .taken)
+      (at-loop .loop .inv .1) _ _ (at-key-at .key-at .ensures) (at-key-at2 .key-at2 .ensures) _ (at-compose-pair .compose-pair .ensures .0)),
+  (let at-compose-pair = c .before .before .before .before in
+      let at-key-at2 = at-compose-pair .before .before .before in
+      let at-key-at = at-key-at2 .before in
+      let at-loop-test = at-key-at .before in
+      let at-loop = at-loop-test .before in
+      let at-start = at-loop .before .before .before .before .before .before .before in
+      let args = at-start .args in
+      compose-next (lentMap (args .store .now) (args .places .now) (args .count) (args .mark)) (at-start .pre .0) (args .istore .now)
+      (args .iplaces .now) (args .inner) (at-start .pre .1 .0) (at-loop .loop .i) (at-loop .loop .at) (at-loop-test .loop-test .taken)
+      (at-loop .loop .inv .1) _ _ (at-key-at .key-at .ensures) (at-key-at2 .key-at2 .ensures) _ _ _ _ _ _ _ (at-loop .loop .inv .2)
+      (at-compose-pair .compose-pair .ensures .0) (at-compose-pair .compose-pair .ensures .1 .0) (at-compose-pair .compose-pair .ensures .1 .1)),
+  search needs,
+  search needs,
+)
 
 same-length : tie.Need-same-length Inv-loop μ-loop
 same-length c = search needs
@@ -46,7 +91,12 @@ same-length-2 : tie.Need-same-length-2 Inv-loop μ-loop
 same-length-2 c = search needs
 
 returns : tie.Need-returns Inv-loop μ-loop
-returns c = compose-end (lentMap (c .before .before .before .before .before .before .before .before .args .store .now) (c .before .before .before .before .before .before .before .before .args .places .now) (c .before .before .before .before .before .before .before .before .args .count) (c .before .before .before .before .before .before .before .before .args .mark)) (c .before .before .before .before .before .before .before .before .args .istore .now) (c .before .before .before .before .before .before .before .before .args .iplaces .now) _ _ _ _ _ _ _ (c .loop-test .left) (c .before .loop .inv .0) (c .before .loop .inv .2) (c .before .loop .inv .1)
+returns c =
+    let at-loop = c .before in
+    let at-start = at-loop .before .before .before .before .before .before .before in
+    let args = at-start .args in
+    compose-end (lentMap (args .store .now) (args .places .now) (args .count) (args .mark)) (args .istore .now) (args .iplaces .now) _ _ _ _ _ _ _
+    (c .loop-test .left) (at-loop .loop .inv .0) (at-loop .loop .inv .2) (at-loop .loop .inv .1)
 
 pub compose-all-spec : {M : Type 1} → statement M
 compose-all-spec =

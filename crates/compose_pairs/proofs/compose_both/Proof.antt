@@ -7,10 +7,28 @@ use Rattle.compose_pairs.proofs.compose_both.Statement.{statement}
 use Rattle.compose_pairs.proofs.compose_both.Tie as tie
 
 compose-all-requires : tie.Need-compose-all-requires
-compose-all-requires c κs = (c .before .before .before .before .before .before .before .before .pre .0, (c .before .before .before .before .before .before .before .before .pre .1 .0, (omega (arith, c .before .before .before .before .before .before .before .before .pre .1 .1 .0), omega (arith, c .before .before .before .before .before .before .before .before .pre .1 .1 .1))))
+compose-all-requires c κs =
+    let at-start = c .before .before .before .before .before .before .before .before in
+    let pre = at-start .pre in
+    (pre .0, (pre .1 .0, (omega (arith, pre .1 .1 .0), omega (arith, pre .1 .1 .1))))
 
 pull-back-all-requires : tie.Need-pull-back-all-requires
-pull-back-all-requires c κs = (c .before .before .before .before .before .before .before .before .before .before .before .before .before .before .before .pre .0, (c .before .before .before .before .before .before .before .before .before .before .before .before .before .before .before .pre .1 .0, (omega (arith, c .before .before .before .before .before .before .before .before .before .before .before .before .before .before .before .pre .1 .1 .0), (omega (arith, c .before .before .before .before .before .before .before .before .before .before .before .before .before .before .before .pre .1 .1 .1), (packed-stored _ _ _ _ _ _ _ (c .before .before .before .before .before .before .compose-all .ensures .0), c .before .before .before .before .before .before .compose-all .ensures .1)))))
+pull-back-all-requires c κs =
+    let at-compose-all = c .before .before .before .before .before .before in
+    let at-start = at-compose-all .before .before .before .before .before .before .before .before .before in
+    let pre = at-start .pre in (
+      pre .0,
+      (
+        pre .1 .0,
+        (
+          omega (arith, pre .1 .1 .0),
+          (
+            omega (arith, pre .1 .1 .1),
+            (packed-stored _ _ _ _ _ _ _ (at-compose-all .compose-all .ensures .0), at-compose-all .compose-all .ensures .1),
+          ),
+        ),
+      ),
+    )
 
 same-length : tie.Need-same-length
 same-length c = search needs
@@ -19,7 +37,14 @@ same-length-2 : tie.Need-same-length-2
 same-length-2 c = search needs
 
 returns : tie.Need-returns
-returns c = composed (lentMap (c .before .before .before .before .before .before .before .before .before .before .before .before .before .before .before .before .before .before .before .before .args .store .now) (c .before .before .before .before .before .before .before .before .before .before .before .before .before .before .before .before .before .before .before .before .args .places .now) (c .before .before .before .before .before .before .before .before .before .before .before .before .before .before .before .before .before .before .before .before .args .count) (c .before .before .before .before .before .before .before .before .before .before .before .before .before .before .before .before .before .before .before .before .args .mark)) (lentMap (c .before .before .before .before .before .before .before .before .before .before .before .before .before .before .before .before .before .before .before .before .args .istore .now) (c .before .before .before .before .before .before .before .before .before .before .before .before .before .before .before .before .before .before .before .before .args .iplaces .now) (c .before .before .before .before .before .before .before .before .before .before .before .before .before .before .before .before .before .before .before .before .args .inner) (c .before .before .before .before .before .before .before .before .before .before .before .before .before .before .before .before .before .before .before .before .args .imark)) _ _ _ _ _ _ _ _ _ _ (c .before .before .before .before .before .before .before .before .before .before .before .compose-all .ensures .0) (c .before .before .before .before .pull-back-all .ensures)
+returns c =
+    let at-pull-back-all = c .before .before .before .before in
+    let at-compose-all = at-pull-back-all .before .before .before .before .before .before .before in
+    let at-start = at-compose-all .before .before .before .before .before .before .before .before .before in
+    let args = at-start .args in
+    composed (lentMap (args .store .now) (args .places .now) (args .count) (args .mark))
+    (lentMap (args .istore .now) (args .iplaces .now) (args .inner) (args .imark)) _ _ _ _ _ _ _ _ _ _ (at-compose-all .compose-all .ensures .0)
+    (at-pull-back-all .pull-back-all .ensures)
 
 pub compose-both-spec : {M : Type 1} → statement M
 compose-both-spec =

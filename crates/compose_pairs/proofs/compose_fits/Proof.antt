@@ -7,25 +7,58 @@ sum-at-most-requires : tie.Need-sum-at-most-requires
 sum-at-most-requires c κs = search needs
 
 returns : tie.Need-returns
-returns c = enough-room (c .before .before .before .before .before .before .args .store .now) (c .before .before .before .before .before .before .args .places .now) (c .before .before .before .before .before .before .args .count) (c .before .before .before .before .before .before .args .istore .now) (c .before .before .before .before .before .before .args .iplaces .now) (c .before .before .before .before .before .before .args .inner) (c .before .before .before .before .before .before .args .room) (c .before .before .before .before .before .before .args .slots) _ (c .before .sum-at-most .ensures) (c .if1 .taken)
+returns c =
+    let at-sum-at-most = c .before in
+    let at-start = at-sum-at-most .before .before .before .before .before in
+    let args = at-start .args in
+    enough-room (args .store .now) (args .places .now) (args .count) (args .istore .now) (args .iplaces .now) (args .inner) (args .room) (args .slots)
+    _ (at-sum-at-most .sum-at-most .ensures) (c .if1 .taken)
 
 sum-at-most-requires-2 : tie.Need-sum-at-most-requires-2
 sum-at-most-requires-2 c κs = search needs
 
 returns-2 : tie.Need-returns-2
-returns-2 c = enough-slots (c .before .before .before .before .before .before .before .before .args .store .now) (c .before .before .before .before .before .before .before .before .args .places .now) (c .before .before .before .before .before .before .before .before .args .count) (c .before .before .before .before .before .before .before .before .args .istore .now) (c .before .before .before .before .before .before .before .before .args .iplaces .now) (c .before .before .before .before .before .before .before .before .args .inner) (c .before .before .before .before .before .before .before .before .args .room) (c .before .before .before .before .before .before .before .before .args .slots) _ (c .before .before .before .sum-at-most .ensures) (c .before .before .if1 .left) _ (c .before .sum-at-most2 .ensures) (c .if2 .taken)
+returns-2 c =
+    let at-sum-at-most2 = c .before in
+    let at-if1 = at-sum-at-most2 .before in
+    let at-sum-at-most = at-if1 .before in
+    let at-start = at-sum-at-most .before .before .before .before .before in
+    let args = at-start .args in
+    enough-slots (args .store .now) (args .places .now) (args .count) (args .istore .now) (args .iplaces .now) (args .inner) (args .room)
+    (args .slots) _ (at-sum-at-most .sum-at-most .ensures) (at-if1 .if1 .left) _ (at-sum-at-most2 .sum-at-most2 .ensures) (c .if2 .taken)
 
 all-at-most-requires : tie.Need-all-at-most-requires
 all-at-most-requires c κs = search needs
 
 returns-3 : tie.Need-returns-3
-returns-3 c = enough-outer (c .before .before .before .before .before .before .before .before .before .before .args .store .now) (c .before .before .before .before .before .before .before .before .before .before .args .places .now) (c .before .before .before .before .before .before .before .before .before .before .args .count) (c .before .before .before .before .before .before .before .before .before .before .args .istore .now) (c .before .before .before .before .before .before .before .before .before .before .args .iplaces .now) (c .before .before .before .before .before .before .before .before .before .before .args .inner) (c .before .before .before .before .before .before .before .before .before .before .args .room) (c .before .before .before .before .before .before .before .before .before .before .args .slots) _ (c .before .before .before .before .before .sum-at-most .ensures) (c .before .before .before .before .if1 .left) _ (c .before .before .before .sum-at-most2 .ensures) (c .before .before .if2 .left) _ (c .before .all-at-most .ensures) (c .if3 .taken)
+returns-3 c =
+    let at-all-at-most = c .before in
+    let at-if2 = at-all-at-most .before in
+    let at-sum-at-most2 = at-if2 .before in
+    let at-if1 = at-sum-at-most2 .before in
+    let at-sum-at-most = at-if1 .before in
+    let at-start = at-sum-at-most .before .before .before .before .before in
+    let args = at-start .args in
+    enough-outer (args .store .now) (args .places .now) (args .count) (args .istore .now) (args .iplaces .now) (args .inner) (args .room)
+    (args .slots) _ (at-sum-at-most .sum-at-most .ensures) (at-if1 .if1 .left) _ (at-sum-at-most2 .sum-at-most2 .ensures) (at-if2 .if2 .left) _
+    (at-all-at-most .all-at-most .ensures) (c .if3 .taken)
 
 all-at-most-requires-2 : tie.Need-all-at-most-requires-2
 all-at-most-requires-2 c κs = search needs
 
 returns-4 : tie.Need-returns-4
-returns-4 c = enough-inner (c .before .before .before .before .before .before .before .before .before .before .before .args .store .now) (c .before .before .before .before .before .before .before .before .before .before .before .args .places .now) (c .before .before .before .before .before .before .before .before .before .before .before .args .count) (c .before .before .before .before .before .before .before .before .before .before .before .args .istore .now) (c .before .before .before .before .before .before .before .before .before .before .before .args .iplaces .now) (c .before .before .before .before .before .before .before .before .before .before .before .args .inner) (c .before .before .before .before .before .before .before .before .before .before .before .args .room) (c .before .before .before .before .before .before .before .before .before .before .before .args .slots) _ (c .before .before .before .before .before .before .sum-at-most .ensures) (c .before .before .before .before .before .if1 .left) _ (c .before .before .before .before .sum-at-most2 .ensures) (c .before .before .before .if2 .left) _ (c .before .before .all-at-most .ensures) (c .before .if3 .left) _ (c .all-at-most2 .ensures)
+returns-4 c =
+    let at-if3 = c .before in
+    let at-all-at-most = at-if3 .before in
+    let at-if2 = at-all-at-most .before in
+    let at-sum-at-most2 = at-if2 .before in
+    let at-if1 = at-sum-at-most2 .before in
+    let at-sum-at-most = at-if1 .before in
+    let at-start = at-sum-at-most .before .before .before .before .before in
+    let args = at-start .args in
+    enough-inner (args .store .now) (args .places .now) (args .count) (args .istore .now) (args .iplaces .now) (args .inner) (args .room)
+    (args .slots) _ (at-sum-at-most .sum-at-most .ensures) (at-if1 .if1 .left) _ (at-sum-at-most2 .sum-at-most2 .ensures) (at-if2 .if2 .left) _
+    (at-all-at-most .all-at-most .ensures) (at-if3 .if3 .left) _ (c .all-at-most2 .ensures)
 
 pub compose-fits-spec : {M : Type 1} → statement M
 compose-fits-spec =

@@ -11,11 +11,21 @@ compose-fits-requires c κs = search needs
 
 returns : tie.Need-returns
 returns c =
-    let z = c .before .before .before .before .before .before .before .before in
-    into-none (lentMap (z .args .store .now) (z .args .places .now) (z .args .count) (z .args .mark)) (lentMap (z .args .istore .now) (z .args .iplaces .now) (z .args .inner) (z .args .imark)) (z .args .bytes .now) (z .args .slots .now) (known-false (c .before .compose-fits .ensures) (c .if1 .taken))
+    let at-compose-fits = c .before in
+    let at-start = at-compose-fits .before .before .before .before .before .before .before in
+    let args = at-start .args in
+    into-none (lentMap (args .store .now) (args .places .now) (args .count) (args .mark))
+    (lentMap (args .istore .now) (args .iplaces .now) (args .inner) (args .imark)) (args .bytes .now) (args .slots .now)
+    (known-false (at-compose-fits .compose-fits .ensures) (c .if1 .taken))
 
 compose-both-requires : tie.Need-compose-both-requires
-compose-both-requires c κs = enough-back (c .before .before .before .before .before .before .before .before .before .before .args .store .now) (c .before .before .before .before .before .before .before .before .before .before .args .places .now) (c .before .before .before .before .before .before .before .before .before .before .args .count) (c .before .before .before .before .before .before .before .before .before .before .args .istore .now) (c .before .before .before .before .before .before .before .before .before .before .args .iplaces .now) (c .before .before .before .before .before .before .before .before .before .before .args .inner) _ _ (known-true (c .before .before .before .compose-fits .ensures) (c .before .before .if1 .left))
+compose-both-requires c κs =
+    let at-if1 = c .before .before in
+    let at-compose-fits = at-if1 .before in
+    let at-start = at-compose-fits .before .before .before .before .before .before .before in
+    let args = at-start .args in
+    enough-back (args .store .now) (args .places .now) (args .count) (args .istore .now) (args .iplaces .now) (args .inner) _ _
+    (known-true (at-compose-fits .compose-fits .ensures) (at-if1 .if1 .left))
 
 same-length : tie.Need-same-length
 same-length c = search needs
@@ -25,8 +35,14 @@ same-length-2 c = search needs
 
 returns-2 : tie.Need-returns-2
 returns-2 c =
-    let z = c .before .before .before .before .before .before .before .before .before .before .before .before .before .before .before in
-    into-packed (lentMap (z .args .store .now) (z .args .places .now) (z .args .count) (z .args .mark)) (lentMap (z .args .istore .now) (z .args .iplaces .now) (z .args .inner) (z .args .imark)) (z .args .bytes .now) (z .args .slots .now) (known-true (c .before .before .before .before .before .before .before .before .compose-fits .ensures) (c .before .before .before .before .before .before .before .if1 .left)) _ _ _ (c .before .before .before .before .compose-both .ensures)
+    let at-compose-both = c .before .before .before .before in
+    let at-if1 = at-compose-both .before .before .before in
+    let at-compose-fits = at-if1 .before in
+    let at-start = at-compose-fits .before .before .before .before .before .before .before in
+    let args = at-start .args in
+    into-packed (lentMap (args .store .now) (args .places .now) (args .count) (args .mark))
+    (lentMap (args .istore .now) (args .iplaces .now) (args .inner) (args .imark)) (args .bytes .now) (args .slots .now)
+    (known-true (at-compose-fits .compose-fits .ensures) (at-if1 .if1 .left)) _ _ _ (at-compose-both .compose-both .ensures)
 
 pub compose-into-spec : {M : Type 1} → statement M
 compose-into-spec =

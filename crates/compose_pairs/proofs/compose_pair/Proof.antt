@@ -25,7 +25,15 @@ same-length-2 : tie.Need-same-length-2
 same-length-2 c = search needs
 
 returns : tie.Need-returns
-returns c = pair-done (c .before .before .before .before .before .before .before .before .before .before .before .before .before .before .before .before .before .before .args .s .now) _ (c .before .before .before .before .before .before .before .before .before .before .before .before .before .before .before .before .before .before .args .at) (c .before .before .before .before .before .before .before .before .before .before .before .before .before .before .before .before .before .before .args .n) _ (c .before .before .before .before .before .before .before .before .before .before .before .before .before .before .before .before .before .before .args .bytes .now) _ _ (c .before .before .before .before .before .before .before .before .before .before .before .before .before .before .before .before .before .before .args .slots .now) _ (c .before .before .before .before .before .before .before .before .before .before .before .before .before .before .before .before .before .before .pre .0) (c .before .before .before .before .before .before .before .before .before .before .before .before .before .before .before .before .before .before .pre .1) (c .before .before .before .before .before .before .composed-target-at .ensures .0) (c .before .before .before .before .before .before .before .before .before .before .write-at .ensures) (c .before .before .before .before .before .before .composed-target-at .ensures .1) (c .before .before .write-entry .ensures)
+returns c =
+    let at-write-entry = c .before .before in
+    let at-composed-target-at = at-write-entry .before .before .before .before in
+    let at-write-at = at-composed-target-at .before .before .before .before in
+    let at-start = at-write-at .before .before .before .before .before .before .before .before in
+    let args = at-start .args in
+    pair-done (args .s .now) _ (args .at) (args .n) _ (args .bytes .now) _ _ (args .slots .now) _ (at-start .pre .0) (at-start .pre .1)
+    (at-composed-target-at .composed-target-at .ensures .0) (at-write-at .write-at .ensures) (at-composed-target-at .composed-target-at .ensures .1)
+    (at-write-entry .write-entry .ensures)
 
 pub compose-pair-spec : {M : Type 1} → statement M
 compose-pair-spec =

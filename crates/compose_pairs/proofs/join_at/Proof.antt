@@ -25,13 +25,22 @@ same-length : tie.Need-same-length
 same-length c = search needs
 
 returns : tie.Need-returns
-returns c = (part-length _ (c .before .before .before .before .before .before .before .before .before .before .before .args .bytes .now) _ (c .before .before .before .before .before .before .before .before .before .before .before .pre) _ (c .before .before .before .before .before .join .ensures .0) _ (c .before .fit .given .1), part-put _ (c .before .before .before .before .before .before .before .before .before .before .before .args .bytes .now) _ (c .before .before .before .before .before .before .before .before .before .before .before .pre) _ (c .before .before .before .before .before .join .ensures .0) _ (c .before .before .before .before .before .join .ensures .1))
+returns c =
+    let at-fit = c .before in
+    let at-join = at-fit .before .before .before .before in
+    let at-start = at-join .before .before .before .before .before .before in (
+      part-length _ (at-start .args .bytes .now) _ (at-start .pre) _ (at-join .join .ensures .0) _ (at-fit .fit .given .1),
+      part-put _ (at-start .args .bytes .now) _ (at-start .pre) _ (at-join .join .ensures .0) _ (at-join .join .ensures .1),
+    )
 
 same-length-2 : tie.Need-same-length-2
 same-length-2 c = search needs
 
 returns-2 : tie.Need-returns-2
-returns-2 c = absurd (part-over _ (c .before .before .before .before .before .before .before .before .before .before .args .bytes .now) _ (c .before .before .before .before .before .before .before .before .before .before .pre) _ (c .before .before .before .before .join .ensures .0) (c .enum-told .given .1))
+returns-2 c =
+    let at-join = c .before .before .before .before in
+    let at-start = at-join .before .before .before .before .before .before in
+    absurd (part-over _ (at-start .args .bytes .now) _ (at-start .pre) _ (at-join .join .ensures .0) (c .enum-told .given .1))
 
 pub join-at-spec : {M : Type 1} → statement M
 join-at-spec =

@@ -19,7 +19,17 @@ abbrev μ-loop : tie.MeasureT-loop
 μ-loop store places count istore iplaces inner mark at bytes₀ slots₀ b₀ i₀ bytes slots b i = count - i
 
 loop-holds : tie.Need-loop-holds Inv-loop μ-loop
-loop-holds c = (search needs, omega arith, omega (arith, c .before .before .before .before .before .before .pre .1 .1 .1 .1 .1), pull-begin (lentMap (c .before .before .before .before .before .before .args .istore .now) (c .before .before .before .before .before .before .args .iplaces .now) (c .before .before .before .before .before .before .args .inner) (c .before .before .before .before .before .before .args .mark)) (pairsIn (c .before .before .before .before .before .before .args .bytes .now) (c .before .before .before .before .before .before .args .slots .now) (c .before .before .before .before .before .before .args .inner)) (c .before .before .before .before .before .before .args .store .now) (c .before .before .before .before .before .before .args .places .now) _ _ _ _ _ _ (c .before .before .before .before .before .before .pre .1 .1 .1 .1 .0), refl, refl)
+loop-holds c = (
+  search needs,
+  omega arith,
+  omega (arith, c .before .before .before .before .before .before .pre .1 .1 .1 .1 .1),
+  (let at-start = c .before .before .before .before .before .before in
+      let args = at-start .args in
+      pull-begin (lentMap (args .istore .now) (args .iplaces .now) (args .inner) (args .mark))
+      (pairsIn (args .bytes .now) (args .slots .now) (args .inner)) (args .store .now) (args .places .now) _ _ _ _ _ _ (at-start .pre .1 .1 .1 .1 .0)),
+  refl,
+  refl,
+)
 
 key-at-requires : tie.Need-key-at-requires Inv-loop μ-loop
 key-at-requires c κs = search needs
@@ -28,7 +38,26 @@ key-at-requires-2 : tie.Need-key-at-requires-2 Inv-loop μ-loop
 key-at-requires-2 c κs = search needs
 
 pull-back-pair-requires : tie.Need-pull-back-pair-requires Inv-loop μ-loop
-pull-back-pair-requires c κs = (packed-stored _ _ _ _ _ _ _ (c .before .before .before .before .before .loop .inv .3), (pull-room (lentMap (c .before .before .before .before .before .before .before .before .before .before .before .before .args .istore .now) (c .before .before .before .before .before .before .before .before .before .before .before .before .args .iplaces .now) (c .before .before .before .before .before .before .before .before .before .before .before .before .args .inner) (c .before .before .before .before .before .before .before .before .before .before .before .before .args .mark)) (c .before .before .before .before .before .before .before .before .before .before .before .before .pre .1 .0) (pairsIn (c .before .before .before .before .before .before .before .before .before .before .before .before .args .bytes .now) (c .before .before .before .before .before .before .before .before .before .before .before .before .args .slots .now) (c .before .before .before .before .before .before .before .before .before .before .before .before .args .inner)) (c .before .before .before .before .before .before .before .before .before .before .before .before .args .store .now) (c .before .before .before .before .before .before .before .before .before .before .before .before .args .places .now) (c .before .before .before .before .before .before .before .before .before .before .before .before .args .count) (c .before .before .before .before .before .before .before .before .before .before .before .before .pre .0) (c .before .before .before .before .before .before .before .before .before .before .before .before .args .inner) (c .before .before .before .before .before .loop .i) (c .before .before .before .before .loop-test .taken) (c .before .before .before .before .before .loop .b .n) (c .before .before .before .before .before .loop .b .at) (c .before .before .before .before .before .loop .inv .1) (c .before .before .before .before .before .loop .inv .2) _ _ (c .before .before .before .key-at .ensures) (c .before .before .key-at2 .ensures) _ (omega (arith, c .before .before .before .before .before .before .before .before .before .before .before .before .pre .1 .1 .0, c .before .before .before .before .before .loop .inv .4)), pull-slot (lentMap (c .before .before .before .before .before .before .before .before .before .before .before .before .args .istore .now) (c .before .before .before .before .before .before .before .before .before .before .before .before .args .iplaces .now) (c .before .before .before .before .before .before .before .before .before .before .before .before .args .inner) (c .before .before .before .before .before .before .before .before .before .before .before .before .args .mark)) (c .before .before .before .before .before .before .before .before .before .before .before .before .pre .1 .0) (pairsIn (c .before .before .before .before .before .before .before .before .before .before .before .before .args .bytes .now) (c .before .before .before .before .before .before .before .before .before .before .before .before .args .slots .now) (c .before .before .before .before .before .before .before .before .before .before .before .before .args .inner)) (c .before .before .before .before .before .before .before .before .before .before .before .before .args .store .now) (c .before .before .before .before .before .before .before .before .before .before .before .before .args .places .now) (c .before .before .before .before .before .before .before .before .before .before .before .before .args .count) (c .before .before .before .before .before .before .before .before .before .before .before .before .pre .0) (c .before .before .before .before .before .before .before .before .before .before .before .before .args .inner) (c .before .before .before .before .before .loop .i) (c .before .before .before .before .loop-test .taken) (c .before .before .before .before .before .loop .b .n) (c .before .before .before .before .before .loop .b .at) (c .before .before .before .before .before .loop .inv .1) (c .before .before .before .before .before .loop .inv .2) _ _ (c .before .before .before .key-at .ensures) (c .before .before .key-at2 .ensures) _ (omega (arith, c .before .before .before .before .before .before .before .before .before .before .before .before .pre .1 .1 .1 .0, c .before .before .before .before .before .loop .inv .5))))
+pull-back-pair-requires c κs =
+    let at-key-at2 = c .before .before in
+    let at-key-at = at-key-at2 .before in
+    let at-loop-test = at-key-at .before in
+    let at-loop = at-loop-test .before in
+    let at-start = at-loop .before .before .before .before .before .before .before in
+    let args = at-start .args in
+    let pre = at-start .pre in
+    let its-lentMap = lentMap (args .istore .now) (args .iplaces .now) (args .inner) (args .mark) in
+    let its-pairsIn = pairsIn (args .bytes .now) (args .slots .now) (args .inner) in (
+      packed-stored _ _ _ _ _ _ _ (at-loop .loop .inv .3),
+      (
+        pull-room its-lentMap (pre .1 .0) its-pairsIn (args .store .now) (args .places .now) (args .count) (pre .0) (args .inner) (at-loop .loop .i)
+            (at-loop-test .loop-test .taken) (at-loop .loop .b .n) (at-loop .loop .b .at) (at-loop .loop .inv .1) (at-loop .loop .inv .2) _ _
+            (at-key-at .key-at .ensures) (at-key-at2 .key-at2 .ensures) _ (omega (arith, pre .1 .1 .0, at-loop .loop .inv .4)),
+        pull-slot its-lentMap (pre .1 .0) its-pairsIn (args .store .now) (args .places .now) (args .count) (pre .0) (args .inner) (at-loop .loop .i)
+            (at-loop-test .loop-test .taken) (at-loop .loop .b .n) (at-loop .loop .b .at) (at-loop .loop .inv .1) (at-loop .loop .inv .2) _ _
+            (at-key-at .key-at .ensures) (at-key-at2 .key-at2 .ensures) _ (omega (arith, pre .1 .1 .1 .0, at-loop .loop .inv .5)),
+      ),
+    )
 
 add-i : tie.Need-add-i Inv-loop μ-loop
 add-i c = search needs
@@ -37,7 +66,47 @@ loop-less : tie.Need-loop-less Inv-loop μ-loop
 loop-less c = search needs
 
 loop-again : tie.Need-loop-again Inv-loop μ-loop
-loop-again c = (search needs, pull-number (lentMap (c .before .before .before .before .before .before .before .before .before .before .before .before .before .before .before .before .before .args .istore .now) (c .before .before .before .before .before .before .before .before .before .before .before .before .before .before .before .before .before .args .iplaces .now) (c .before .before .before .before .before .before .before .before .before .before .before .before .before .before .before .before .before .args .inner) (c .before .before .before .before .before .before .before .before .before .before .before .before .before .before .before .before .before .args .mark)) (c .before .before .before .before .before .before .before .before .before .before .before .before .before .before .before .before .before .pre .1 .0) (pairsIn (c .before .before .before .before .before .before .before .before .before .before .before .before .before .before .before .before .before .args .bytes .now) (c .before .before .before .before .before .before .before .before .before .before .before .before .before .before .before .before .before .args .slots .now) (c .before .before .before .before .before .before .before .before .before .before .before .before .before .before .before .before .before .args .inner)) (c .before .before .before .before .before .before .before .before .before .before .before .before .before .before .before .before .before .args .store .now) (c .before .before .before .before .before .before .before .before .before .before .before .before .before .before .before .before .before .args .places .now) (c .before .before .before .before .before .before .before .before .before .before .before .before .before .before .before .before .before .args .count) (c .before .before .before .before .before .before .before .before .before .before .before .before .before .before .before .before .before .pre .0) (c .before .before .before .before .before .before .before .before .before .before .before .before .before .before .before .before .before .args .inner) (c .before .before .before .before .before .before .before .before .before .before .loop .i) (c .before .before .before .before .before .before .before .before .before .loop-test .taken) (c .before .before .before .before .before .before .before .before .before .before .loop .b .n) (c .before .before .before .before .before .before .before .before .before .before .loop .b .at) (c .before .before .before .before .before .before .before .before .before .before .loop .inv .1) (c .before .before .before .before .before .before .before .before .before .before .loop .inv .2) _ _ (c .before .before .before .before .before .before .before .before .key-at .ensures) (c .before .before .before .before .before .before .before .key-at2 .ensures) _ _ _ _ (c .before .before .before .before .before .before .before .before .before .before .loop .inv .3) _ _ _ _ (c .before .before .before .before .pull-back-pair .ensures), pull-bound (lentMap (c .before .before .before .before .before .before .before .before .before .before .before .before .before .before .before .before .before .args .istore .now) (c .before .before .before .before .before .before .before .before .before .before .before .before .before .before .before .before .before .args .iplaces .now) (c .before .before .before .before .before .before .before .before .before .before .before .before .before .before .before .before .before .args .inner) (c .before .before .before .before .before .before .before .before .before .before .before .before .before .before .before .before .before .args .mark)) (c .before .before .before .before .before .before .before .before .before .before .before .before .before .before .before .before .before .pre .1 .0) (pairsIn (c .before .before .before .before .before .before .before .before .before .before .before .before .before .before .before .before .before .args .bytes .now) (c .before .before .before .before .before .before .before .before .before .before .before .before .before .before .before .before .before .args .slots .now) (c .before .before .before .before .before .before .before .before .before .before .before .before .before .before .before .before .before .args .inner)) (c .before .before .before .before .before .before .before .before .before .before .before .before .before .before .before .before .before .args .store .now) (c .before .before .before .before .before .before .before .before .before .before .before .before .before .before .before .before .before .args .places .now) (c .before .before .before .before .before .before .before .before .before .before .before .before .before .before .before .before .before .args .count) (c .before .before .before .before .before .before .before .before .before .before .before .before .before .before .before .before .before .pre .0) (c .before .before .before .before .before .before .before .before .before .before .before .before .before .before .before .before .before .args .inner) (c .before .before .before .before .before .before .before .before .before .before .loop .i) (c .before .before .before .before .before .before .before .before .before .loop-test .taken) (c .before .before .before .before .before .before .before .before .before .before .loop .b .n) (c .before .before .before .before .before .before .before .before .before .before .loop .b .at) (c .before .before .before .before .before .before .before .before .before .before .loop .inv .1) (c .before .before .before .before .before .before .before .before .before .before .loop .inv .2) _ _ (c .before .before .before .before .before .before .before .before .key-at .ensures) (c .before .before .before .before .before .before .before .key-at2 .ensures) _ _ _ _ (c .before .before .before .before .before .before .before .before .before .before .loop .inv .3) _ _ _ _ (c .before .before .before .before .pull-back-pair .ensures), pull-next (lentMap (c .before .before .before .before .before .before .before .before .before .before .before .before .before .before .before .before .before .args .istore .now) (c .before .before .before .before .before .before .before .before .before .before .before .before .before .before .before .before .before .args .iplaces .now) (c .before .before .before .before .before .before .before .before .before .before .before .before .before .before .before .before .before .args .inner) (c .before .before .before .before .before .before .before .before .before .before .before .before .before .before .before .before .before .args .mark)) (c .before .before .before .before .before .before .before .before .before .before .before .before .before .before .before .before .before .pre .1 .0) (pairsIn (c .before .before .before .before .before .before .before .before .before .before .before .before .before .before .before .before .before .args .bytes .now) (c .before .before .before .before .before .before .before .before .before .before .before .before .before .before .before .before .before .args .slots .now) (c .before .before .before .before .before .before .before .before .before .before .before .before .before .before .before .before .before .args .inner)) (c .before .before .before .before .before .before .before .before .before .before .before .before .before .before .before .before .before .args .store .now) (c .before .before .before .before .before .before .before .before .before .before .before .before .before .before .before .before .before .args .places .now) (c .before .before .before .before .before .before .before .before .before .before .before .before .before .before .before .before .before .args .count) (c .before .before .before .before .before .before .before .before .before .before .before .before .before .before .before .before .before .pre .0) (c .before .before .before .before .before .before .before .before .before .before .before .before .before .before .before .before .before .args .inner) (c .before .before .before .before .before .before .before .before .before .before .loop .i) (c .before .before .before .before .before .before .before .before .before .loop-test .taken) (c .before .before .before .before .before .before .before .before .before .before .loop .b .n) (c .before .before .before .before .before .before .before .before .before .before .loop .b .at) (c .before .before .before .before .before .before .before .before .before .before .loop .inv .1) (c .before .before .before .before .before .before .before .before .before .before .loop .inv .2) _ _ (c .before .before .before .before .before .before .before .before .key-at .ensures) (c .before .before .before .before .before .before .before .key-at2 .ensures) _ _ _ _ (c .before .before .before .before .before .before .before .before .before .before .loop .inv .3) _ _ _ _ (c .before .before .before .before .pull-back-pair .ensures), search needs, search needs)
+loop-again c = (
+  search needs,
+  (let at-pull-back-pair = c .before .before .before .before in
+      let at-key-at2 = at-pull-back-pair .before .before .before in
+      let at-key-at = at-key-at2 .before in
+      let at-loop-test = at-key-at .before in
+      let at-loop = at-loop-test .before in
+      let at-start = at-loop .before .before .before .before .before .before .before in
+      let args = at-start .args in
+      pull-number (lentMap (args .istore .now) (args .iplaces .now) (args .inner) (args .mark)) (at-start .pre .1 .0)
+      (pairsIn (args .bytes .now) (args .slots .now) (args .inner)) (args .store .now) (args .places .now) (args .count) (at-start .pre .0)
+      (args .inner) (at-loop .loop .i) (at-loop-test .loop-test .taken) (at-loop .loop .b .n) (at-loop .loop .b .at) (at-loop .loop .inv .1)
+      (at-loop .loop .inv .2) _ _ (at-key-at .key-at .ensures) (at-key-at2 .key-at2 .ensures) _ _ _ _ (at-loop .loop .inv .3) _ _ _ _
+      (at-pull-back-pair .pull-back-pair .ensures)),
+  (let at-pull-back-pair = c .before .before .before .before in
+      let at-key-at2 = at-pull-back-pair .before .before .before in
+      let at-key-at = at-key-at2 .before in
+      let at-loop-test = at-key-at .before in
+      let at-loop = at-loop-test .before in
+      let at-start = at-loop .before .before .before .before .before .before .before in
+      let args = at-start .args in
+      pull-bound (lentMap (args .istore .now) (args .iplaces .now) (args .inner) (args .mark)) (at-start .pre .1 .0)
+      (pairsIn (args .bytes .now) (args .slots .now) (args .inner)) (args .store .now) (args .places .now) (args .count) (at-start .pre .0)
+      (args .inner) (at-loop .loop .i) (at-loop-test .loop-test .taken) (at-loop .loop .b .n) (at-loop .loop .b .at) (at-loop .loop .inv .1)
+      (at-loop .loop .inv .2) _ _ (at-key-at .key-at .ensures) (at-key-at2 .key-at2 .ensures) _ _ _ _ (at-loop .loop .inv .3) _ _ _ _
+      (at-pull-back-pair .pull-back-pair .ensures)),
+  (let at-pull-back-pair = c .before .before .before .before in
+      let at-key-at2 = at-pull-back-pair .before .before .before in
+      let at-key-at = at-key-at2 .before in
+      let at-loop-test = at-key-at .before in
+      let at-loop = at-loop-test .before in
+      let at-start = at-loop .before .before .before .before .before .before .before in
+      let args = at-start .args in
+      pull-next (lentMap (args .istore .now) (args .iplaces .now) (args .inner) (args .mark)) (at-start .pre .1 .0)
+      (pairsIn (args .bytes .now) (args .slots .now) (args .inner)) (args .store .now) (args .places .now) (args .count) (at-start .pre .0)
+      (args .inner) (at-loop .loop .i) (at-loop-test .loop-test .taken) (at-loop .loop .b .n) (at-loop .loop .b .at) (at-loop .loop .inv .1)
+      (at-loop .loop .inv .2) _ _ (at-key-at .key-at .ensures) (at-key-at2 .key-at2 .ensures) _ _ _ _ (at-loop .loop .inv .3) _ _ _ _
+      (at-pull-back-pair .pull-back-pair .ensures)),
+  search needs,
+  search needs,
+)
 
 same-length : tie.Need-same-length Inv-loop μ-loop
 same-length c = search needs
@@ -46,7 +115,13 @@ same-length-2 : tie.Need-same-length-2 Inv-loop μ-loop
 same-length-2 c = search needs
 
 returns : tie.Need-returns Inv-loop μ-loop
-returns c = pull-end (lentMap (c .before .before .before .before .before .before .before .before .args .istore .now) (c .before .before .before .before .before .before .before .before .args .iplaces .now) (c .before .before .before .before .before .before .before .before .args .inner) (c .before .before .before .before .before .before .before .before .args .mark)) (pairsIn (c .before .before .before .before .before .before .before .before .args .bytes .now) (c .before .before .before .before .before .before .before .before .args .slots .now) (c .before .before .before .before .before .before .before .before .args .inner)) (c .before .before .before .before .before .before .before .before .args .store .now) (c .before .before .before .before .before .before .before .before .args .places .now) _ _ _ _ _ _ _ _ (c .loop-test .left) (c .before .loop .inv .0) (c .before .loop .inv .3)
+returns c =
+    let at-loop = c .before in
+    let at-start = at-loop .before .before .before .before .before .before .before in
+    let args = at-start .args in
+    pull-end (lentMap (args .istore .now) (args .iplaces .now) (args .inner) (args .mark))
+    (pairsIn (args .bytes .now) (args .slots .now) (args .inner)) (args .store .now) (args .places .now) _ _ _ _ _ _ _ _ (c .loop-test .left)
+    (at-loop .loop .inv .0) (at-loop .loop .inv .3)
 
 pub pull-back-all-spec : {M : Type 1} → statement M
 pull-back-all-spec =

@@ -15,8 +15,18 @@ best-prefix-requires c κs = search needs
 
 returns : tie.Need-returns
 returns c =
-    let z = c .before .before .before .before .before .before .before .before .before .before in
-    pull-none (pairsIn (z .args .bytes .now) (z .args .slots .now) (z .args .b .n)) (z .args .t .now) (mapPlainly true (lentMap (z .args .store .now) (z .args .places .now) (z .args .count) (z .args .mark)) (z .args .s .now)) (z .args .b .n) (z .args .b .at) (z .args .bytes .now) (z .args .slots .now) (pull-unmarked (z .args .s .now) (mapPlainly true (lentMap (z .args .store .now) (z .args .places .now) (z .args .count) (z .args .mark)) (z .args .s .now)) (z .args .mark) (map-none (z .args .store .now) (z .args .places .now) (z .args .count) (z .args .mark) (z .args .s .now) true (c .before .before .before .best-prefix .result) (c .before .before .before .best-prefix .ensures) (c .before .if1 .taken)) (c .if2 .taken)) (z .pre .0)
+    let at-if1 = c .before in
+    let at-best-prefix = at-if1 .before .before in
+    let at-start = at-best-prefix .before .before .before .before .before .before .before in
+    let args = at-start .args in
+    let its-mapPlainly = mapPlainly true (lentMap (args .store .now) (args .places .now) (args .count) (args .mark)) (args .s .now) in
+    pull-none (pairsIn (args .bytes .now) (args .slots .now) (args .b .n)) (args .t .now) its-mapPlainly (args .b .n) (args .b .at) (args .bytes .now)
+    (args .slots .now)
+    (pull-unmarked (args .s .now) its-mapPlainly (args .mark)
+    (map-none (args .store .now) (args .places .now) (args .count) (args .mark) (args .s .now) true (at-best-prefix .best-prefix .result)
+    (at-best-prefix .best-prefix .ensures) (at-if1 .if1 .taken))
+    (c .if2 .taken))
+    (at-start .pre .0)
 
 slice-aggregate-add-joined : tie.Need-slice-aggregate-add-joined
 slice-aggregate-add-joined c = search needs
@@ -26,8 +36,25 @@ slice-aggregate-add-joined-2 c = search needs
 
 add-joined-requires : tie.Need-add-joined-requires
 add-joined-requires c κs =
-    let z = c .before .before .before .before .before .before .before .before .before .before .before .before .before .before in
-    (z .pre .0, (pull-fits (pairsIn (z .args .bytes .now) (z .args .slots .now) (z .args .b .n)) (z .args .t .now) (mapPlainly true (lentMap (z .args .store .now) (z .args .places .now) (z .args .count) (z .args .mark)) (z .args .s .now)) (z .args .b .n) (z .args .b .at) (z .args .bytes .now) (z .args .slots .now) _ (pull-marked (z .args .s .now) (mapPlainly true (lentMap (z .args .store .now) (z .args .places .now) (z .args .count) (z .args .mark)) (z .args .s .now)) (z .args .mark) (map-none (z .args .store .now) (z .args .places .now) (z .args .count) (z .args .mark) (z .args .s .now) true (c .before .before .before .before .before .before .before .best-prefix .result) (c .before .before .before .before .before .before .before .best-prefix .ensures) (c .before .before .before .before .before .if1 .taken)) (c .before .before .before .before .if2 .left)) (z .pre .1 .0), z .pre .1 .1))
+    let at-if2 = c .before .before .before .before in
+    let at-if1 = at-if2 .before in
+    let at-best-prefix = at-if1 .before .before in
+    let at-start = at-best-prefix .before .before .before .before .before .before .before in
+    let args = at-start .args in
+    let pre = at-start .pre in
+    let its-mapPlainly = mapPlainly true (lentMap (args .store .now) (args .places .now) (args .count) (args .mark)) (args .s .now) in (
+      pre .0,
+      (
+        pull-fits (pairsIn (args .bytes .now) (args .slots .now) (args .b .n)) (args .t .now) its-mapPlainly (args .b .n) (args .b .at)
+            (args .bytes .now) (args .slots .now) _
+            (pull-marked (args .s .now) its-mapPlainly (args .mark)
+            (map-none (args .store .now) (args .places .now) (args .count) (args .mark) (args .s .now) true (at-best-prefix .best-prefix .result)
+            (at-best-prefix .best-prefix .ensures) (at-if1 .if1 .taken))
+            (at-if2 .if2 .left))
+            (pre .1 .0),
+        pre .1 .1,
+      ),
+    )
 
 same-length : tie.Need-same-length
 same-length c = search needs
@@ -37,8 +64,20 @@ same-length-2 c = search needs
 
 returns-2 : tie.Need-returns-2
 returns-2 c =
-    let z = c .before .before .before .before .before .before .before .before .before .before .before .before .before .before .before .before .before .before .before in
-    pull-some (pairsIn (z .args .bytes .now) (z .args .slots .now) (z .args .b .n)) (z .args .t .now) (mapPlainly true (lentMap (z .args .store .now) (z .args .places .now) (z .args .count) (z .args .mark)) (z .args .s .now)) (z .args .b .n) (z .args .b .at) (z .args .bytes .now) (z .args .slots .now) _ (pull-marked (z .args .s .now) (mapPlainly true (lentMap (z .args .store .now) (z .args .places .now) (z .args .count) (z .args .mark)) (z .args .s .now)) (z .args .mark) (map-none (z .args .store .now) (z .args .places .now) (z .args .count) (z .args .mark) (z .args .s .now) true (c .before .before .before .before .before .before .before .before .before .before .before .before .best-prefix .result) (c .before .before .before .before .before .before .before .before .before .before .before .before .best-prefix .ensures) (c .before .before .before .before .before .before .before .before .before .before .if1 .taken)) (c .before .before .before .before .before .before .before .before .before .if2 .left)) _ _ _ _ (c .before .before .before .before .add-joined .ensures)
+    let at-add-joined = c .before .before .before .before in
+    let at-if2 = at-add-joined .before .before .before .before .before in
+    let at-if1 = at-if2 .before in
+    let at-best-prefix = at-if1 .before .before in
+    let at-start = at-best-prefix .before .before .before .before .before .before .before in
+    let args = at-start .args in
+    let its-mapPlainly = mapPlainly true (lentMap (args .store .now) (args .places .now) (args .count) (args .mark)) (args .s .now) in
+    pull-some (pairsIn (args .bytes .now) (args .slots .now) (args .b .n)) (args .t .now) its-mapPlainly (args .b .n) (args .b .at) (args .bytes .now)
+    (args .slots .now) _
+    (pull-marked (args .s .now) its-mapPlainly (args .mark)
+    (map-none (args .store .now) (args .places .now) (args .count) (args .mark) (args .s .now) true (at-best-prefix .best-prefix .result)
+    (at-best-prefix .best-prefix .ensures) (at-if1 .if1 .taken))
+    (at-if2 .if2 .left))
+    _ _ _ _ (at-add-joined .add-joined .ensures)
 
 key-at-requires : tie.Need-key-at-requires
 key-at-requires c κs = search needs
@@ -48,21 +87,47 @@ key-at-requires-2 c κs = search needs
 
 sub-add-joined : tie.Need-sub-add-joined
 sub-add-joined c =
-    let z = c .before .before .before .before .before .before .before .before .before .before .before in
-    map-inside (z .args .store .now) (z .args .places .now) (z .args .count) (z .args .mark) (z .args .s .now) true (c .before .before .before .before .best-prefix .result) (c .before .before .before .before .best-prefix .ensures) (c .before .before .if1 .left) _ (c .before .key-at .ensures)
+    let at-key-at = c .before in
+    let at-if1 = at-key-at .before in
+    let at-best-prefix = at-if1 .before .before in
+    let at-start = at-best-prefix .before .before .before .before .before .before .before in
+    let args = at-start .args in
+    map-inside (args .store .now) (args .places .now) (args .count) (args .mark) (args .s .now) true (at-best-prefix .best-prefix .result)
+    (at-best-prefix .best-prefix .ensures) (at-if1 .if1 .left) _ (at-key-at .key-at .ensures)
 
 part-add-joined-start : tie.Need-part-add-joined-start
 part-add-joined-start c =
-    let z = c .before .before .before .before .before .before .before .before .before .before .before in
-    map-inside (z .args .store .now) (z .args .places .now) (z .args .count) (z .args .mark) (z .args .s .now) true (c .before .before .before .before .best-prefix .result) (c .before .before .before .before .best-prefix .ensures) (c .before .before .if1 .left) _ (c .before .key-at .ensures)
+    let at-key-at = c .before in
+    let at-if1 = at-key-at .before in
+    let at-best-prefix = at-if1 .before .before in
+    let at-start = at-best-prefix .before .before .before .before .before .before .before in
+    let args = at-start .args in
+    map-inside (args .store .now) (args .places .now) (args .count) (args .mark) (args .s .now) true (at-best-prefix .best-prefix .result)
+    (at-best-prefix .best-prefix .ensures) (at-if1 .if1 .left) _ (at-key-at .key-at .ensures)
 
 part-add-joined-end : tie.Need-part-add-joined-end
 part-add-joined-end c = search needs
 
 add-joined-requires-2 : tie.Need-add-joined-requires-2
 add-joined-requires-2 c κs =
-    let z = c .before .before .before .before .before .before .before .before .before .before .before .before .before .before in
-    (z .pre .0, (pull-fits (pairsIn (z .args .bytes .now) (z .args .slots .now) (z .args .b .n)) (z .args .t .now) (mapPlainly true (lentMap (z .args .store .now) (z .args .places .now) (z .args .count) (z .args .mark)) (z .args .s .now)) (z .args .b .n) (z .args .b .at) (z .args .bytes .now) (z .args .slots .now) _ (home-join (z .args .store .now) (z .args .places .now) (z .args .count) (z .args .mark) (z .args .s .now) true (c .before .before .before .before .before .before .before .best-prefix .result) (c .before .before .before .before .before .before .before .best-prefix .ensures) (c .before .before .before .before .before .if1 .left) refl _ _ (c .before .before .before .before .key-at .ensures) (c .before .before .before .key-at2 .ensures)) (z .pre .1 .0), z .pre .1 .1))
+    let at-key-at2 = c .before .before .before in
+    let at-key-at = at-key-at2 .before in
+    let at-if1 = at-key-at .before in
+    let at-best-prefix = at-if1 .before .before in
+    let at-start = at-best-prefix .before .before .before .before .before .before .before in
+    let args = at-start .args in
+    let pre = at-start .pre in (
+      pre .0,
+      (
+        pull-fits (pairsIn (args .bytes .now) (args .slots .now) (args .b .n)) (args .t .now)
+            (mapPlainly true (lentMap (args .store .now) (args .places .now) (args .count) (args .mark)) (args .s .now)) (args .b .n) (args .b .at)
+            (args .bytes .now) (args .slots .now) _
+            (home-join (args .store .now) (args .places .now) (args .count) (args .mark) (args .s .now) true (at-best-prefix .best-prefix .result)
+            (at-best-prefix .best-prefix .ensures) (at-if1 .if1 .left) refl _ _ (at-key-at .key-at .ensures) (at-key-at2 .key-at2 .ensures))
+            (pre .1 .0),
+        pre .1 .1,
+      ),
+    )
 
 same-length-3 : tie.Need-same-length-3
 same-length-3 c = search needs
@@ -72,8 +137,19 @@ same-length-4 c = search needs
 
 returns-3 : tie.Need-returns-3
 returns-3 c =
-    let z = c .before .before .before .before .before .before .before .before .before .before .before .before .before .before .before .before .before .before .before in
-    pull-some (pairsIn (z .args .bytes .now) (z .args .slots .now) (z .args .b .n)) (z .args .t .now) (mapPlainly true (lentMap (z .args .store .now) (z .args .places .now) (z .args .count) (z .args .mark)) (z .args .s .now)) (z .args .b .n) (z .args .b .at) (z .args .bytes .now) (z .args .slots .now) _ (home-join (z .args .store .now) (z .args .places .now) (z .args .count) (z .args .mark) (z .args .s .now) true (c .before .before .before .before .before .before .before .before .before .before .before .before .best-prefix .result) (c .before .before .before .before .before .before .before .before .before .before .before .before .best-prefix .ensures) (c .before .before .before .before .before .before .before .before .before .before .if1 .left) refl _ _ (c .before .before .before .before .before .before .before .before .before .key-at .ensures) (c .before .before .before .before .before .before .before .before .key-at2 .ensures)) _ _ _ _ (c .before .before .before .before .add-joined2 .ensures)
+    let at-add-joined2 = c .before .before .before .before in
+    let at-key-at2 = at-add-joined2 .before .before .before .before in
+    let at-key-at = at-key-at2 .before in
+    let at-if1 = at-key-at .before in
+    let at-best-prefix = at-if1 .before .before in
+    let at-start = at-best-prefix .before .before .before .before .before .before .before in
+    let args = at-start .args in
+    pull-some (pairsIn (args .bytes .now) (args .slots .now) (args .b .n)) (args .t .now)
+    (mapPlainly true (lentMap (args .store .now) (args .places .now) (args .count) (args .mark)) (args .s .now)) (args .b .n) (args .b .at)
+    (args .bytes .now) (args .slots .now) _
+    (home-join (args .store .now) (args .places .now) (args .count) (args .mark) (args .s .now) true (at-best-prefix .best-prefix .result)
+    (at-best-prefix .best-prefix .ensures) (at-if1 .if1 .left) refl _ _ (at-key-at .key-at .ensures) (at-key-at2 .key-at2 .ensures))
+    _ _ _ _ (at-add-joined2 .add-joined2 .ensures)
 
 pub pull-back-pair-spec : {M : Type 1} → statement M
 pull-back-pair-spec =

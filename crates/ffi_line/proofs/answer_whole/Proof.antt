@@ -18,19 +18,38 @@ same-length-2 : tie.Need-same-length-2
 same-length-2 c = search needs
 
 returns : tie.Need-returns
-returns c = call-refused (wholeLine (c .before .before .before .before .before .before .before .before .before .before .before .before .before .before .args .line .now)) (c .before .before .before .before .before .before .before .before .before .before .before .before .before .before .args .kept .now) (framesMemory (countersOf (c .before .before .before .before .before .before .before .before .before .before .before .before .before .before .args .kept .now)) (c .before .before .before .before .before .before .before .before .before .before .before .before .before .before .args .bytes .now) (c .before .before .before .before .before .before .before .before .before .before .before .before .before .before .args .places .now) (c .before .before .before .before .before .before .before .before .before .before .before .before .before .before .args .store .now) (c .before .before .before .before .before .before .before .before .before .before .before .before .before .before .args .slots .now) (c .before .before .before .before .before .before .before .before .before .before .before .before .before .before .args .table .now)) (c .before .before .before .before .before .before .before .before .before .before .before .before .before .before .args .out .now) _ (c .before .before .before .validate-room .ensures) _ (c .before .q .given .1)
+returns c =
+    let at-q = c .before in
+    let at-validate-room = at-q .before .before in
+    let at-start = at-validate-room .before .before .before .before .before .before .before .before .before .before .before in
+    let args = at-start .args in
+    call-refused (wholeLine (args .line .now)) (args .kept .now)
+    (framesMemory (countersOf (args .kept .now)) (args .bytes .now) (args .places .now) (args .store .now) (args .slots .now) (args .table .now))
+    (args .out .now) _ (at-validate-room .validate-room .ensures) _ (at-q .q .given .1)
 
 enum-told : tie.Need-enum-told
 enum-told c = search needs
 
 counters-of-requires : tie.Need-counters-of-requires
-counters-of-requires c κs = passed-kept (c .before .before .before .before .before .before .before .before .before .before .before .before .before .before .args .kept .now) (c .before .before .before .before .before .before .before .before .before .before .before .before .before .before .args .out .now) _ (c .before .before .before .validate-room .ensures) (c .before .enum-told .given .1)
+counters-of-requires c κs =
+    let at-enum-told = c .before in
+    let at-validate-room = at-enum-told .before .before in
+    let at-start = at-validate-room .before .before .before .before .before .before .before .before .before .before .before in
+    passed-kept (at-start .args .kept .now) (at-start .args .out .now) _ (at-validate-room .validate-room .ensures)
+    (at-enum-told .enum-told .given .1)
 
 answer-line-requires : tie.Need-answer-line-requires
 answer-line-requires c κs = search needs
 
 write-counters-requires : tie.Need-write-counters-requires
-write-counters-requires c κs = passed-kept (c .before .before .before .before .before .before .before .before .before .before .before .before .before .before .before .before .before .before .before .before .before .before .before .before .before .before .before .before .before .before .before .before .before .before .before .before .args .kept .now) (c .before .before .before .before .before .before .before .before .before .before .before .before .before .before .before .before .before .before .before .before .before .before .before .before .before .before .before .before .before .before .before .before .before .before .before .before .args .out .now) _ (c .before .before .before .before .before .before .before .before .before .before .before .before .before .before .before .before .before .before .before .before .before .before .before .before .before .validate-room .ensures) (c .before .before .before .before .before .before .before .before .before .before .before .before .before .before .before .before .before .before .before .before .before .before .before .enum-told .given .1)
+write-counters-requires c κs =
+    let at-enum-told =
+    c .before .before .before .before .before .before .before .before .before .before .before .before .before .before .before .before .before .before .before .before .before .before .before
+    in
+    let at-validate-room = at-enum-told .before .before in
+    let at-start = at-validate-room .before .before .before .before .before .before .before .before .before .before .before in
+    passed-kept (at-start .args .kept .now) (at-start .args .out .now) _ (at-validate-room .validate-room .ensures)
+    (at-enum-told .enum-told .given .1)
 
 same-length-3 : tie.Need-same-length-3
 same-length-3 c = search needs
@@ -55,7 +74,19 @@ same-length-9 c = search needs
 
 returns-2 : tie.Need-returns-2
 unfolding wholeLine
-returns-2 c = call-done (wholeLine (c .before .before .before .before .before .before .before .before .before .before .before .before .before .before .before .before .before .before .before .before .before .before .before .before .before .before .before .before .before .before .before .before .before .before .before .before .before .before .before .args .line .now)) (c .before .before .before .before .before .before .before .before .before .before .before .before .before .before .before .before .before .before .before .before .before .before .before .before .before .before .before .before .before .before .before .before .before .before .before .before .before .before .before .args .kept .now) (c .before .before .before .before .before .before .before .before .before .before .before .before .before .before .before .before .before .before .before .before .before .before .before .before .before .before .before .before .before .before .before .before .before .before .before .before .before .before .before .args .bytes .now) (c .before .before .before .before .before .before .before .before .before .before .before .before .before .before .before .before .before .before .before .before .before .before .before .before .before .before .before .before .before .before .before .before .before .before .before .before .before .before .before .args .places .now) (c .before .before .before .before .before .before .before .before .before .before .before .before .before .before .before .before .before .before .before .before .before .before .before .before .before .before .before .before .before .before .before .before .before .before .before .before .before .before .before .args .store .now) (c .before .before .before .before .before .before .before .before .before .before .before .before .before .before .before .before .before .before .before .before .before .before .before .before .before .before .before .before .before .before .before .before .before .before .before .before .before .before .before .args .slots .now) (c .before .before .before .before .before .before .before .before .before .before .before .before .before .before .before .before .before .before .before .before .before .before .before .before .before .before .before .before .before .before .before .before .before .before .before .before .before .before .before .args .table .now) (c .before .before .before .before .before .before .before .before .before .before .before .before .before .before .before .before .before .before .before .before .before .before .before .before .before .before .before .before .before .before .before .before .before .before .before .before .before .before .before .args .out .now) _ (c .before .before .before .before .before .before .before .before .before .before .before .before .before .before .before .before .before .before .before .before .before .before .before .before .before .before .before .before .validate-room .ensures) (c .before .before .before .before .before .before .before .before .before .before .before .before .before .before .before .before .before .before .before .before .before .before .before .before .before .before .enum-told .given .1) _ (c .before .before .before .before .before .before .before .before .before .before .before .before .before .before .before .before .before .before .before .before .before .before .before .before .counters-of .ensures) _ _ _ _ _ _ _ _ _ (c .before .before .before .before .before .before .before .before .before .before .before .before .before .before .before .before .before .answer-line .ensures .0) (c .before .before .before .before .before .before .before .before .before .before .before .before .before .before .before .before .before .answer-line .ensures .1 .0) (c .before .before .before .before .before .before .before .before .before .before .before .before .before .before .before .before .before .answer-line .ensures .1 .1) (c .before .before .write-counters .ensures)
+returns-2 c =
+    let at-write-counters = c .before .before in
+    let at-answer-line =
+    at-write-counters .before .before .before .before .before .before .before .before .before .before .before .before .before .before .before in
+    let at-counters-of = at-answer-line .before .before .before .before .before .before .before in
+    let at-enum-told = at-counters-of .before .before in
+    let at-validate-room = at-enum-told .before .before in
+    let at-start = at-validate-room .before .before .before .before .before .before .before .before .before .before .before in
+    let args = at-start .args in
+    call-done (wholeLine (args .line .now)) (args .kept .now) (args .bytes .now) (args .places .now) (args .store .now) (args .slots .now)
+    (args .table .now) (args .out .now) _ (at-validate-room .validate-room .ensures) (at-enum-told .enum-told .given .1) _
+    (at-counters-of .counters-of .ensures) _ _ _ _ _ _ _ _ _ (at-answer-line .answer-line .ensures .0) (at-answer-line .answer-line .ensures .1 .0)
+    (at-answer-line .answer-line .ensures .1 .1) (at-write-counters .write-counters .ensures)
 
 pub answer-whole-spec : {M : Type 1} → statement M
 answer-whole-spec =

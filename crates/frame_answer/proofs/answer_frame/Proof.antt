@@ -21,7 +21,13 @@ same-length : tie.Need-same-length
 same-length c = search needs
 
 returns : tie.Need-returns
-returns c = frame-bad _ _ (c .before .before .before .before .before .before .before .decode-frame .ensures) _ (c .before .before .before .before .before .before .kind-of .ensures) _ _ _ _ _ (c .before .before .before .before .before .if1 .taken) (c .before .before .write-line .ensures)
+returns c =
+    let at-write-line = c .before .before in
+    let at-if1 = at-write-line .before .before .before in
+    let at-kind-of = at-if1 .before in
+    let at-decode-frame = at-kind-of .before in
+    frame-bad _ _ (at-decode-frame .decode-frame .ensures) _ (at-kind-of .kind-of .ensures) _ _ _ _ _ (at-if1 .if1 .taken)
+    (at-write-line .write-line .ensures)
 
 slice-aggregate-apply-frame : tie.Need-slice-aggregate-apply-frame
 slice-aggregate-apply-frame c = search needs
@@ -30,13 +36,29 @@ apply-frame-requires : tie.Need-apply-frame-requires
 apply-frame-requires c κs = search needs
 
 add-write-reply : tie.Need-add-write-reply
-add-write-reply c = omega (arith, kind-few (c .before .before .before .before .before .before .before .before .before .before .before .before .before .before .before .before .before .before .before .before .before .decode-frame .result), c .before .before .before .before .before .before .before .before .before .before .before .before .before .before .before .before .before .before .before .before .kind-of .ensures)
+add-write-reply c =
+    let at-kind-of =
+    c .before .before .before .before .before .before .before .before .before .before .before .before .before .before .before .before .before .before .before .before
+    in
+    let at-decode-frame = at-kind-of .before in
+    omega (arith, kind-few (at-decode-frame .decode-frame .result), at-kind-of .kind-of .ensures)
 
 slice-aggregate-write-reply : tie.Need-slice-aggregate-write-reply
 slice-aggregate-write-reply c = search needs
 
 write-reply-requires : tie.Need-write-reply-requires
-write-reply-requires c κs = (frame-fits _ _ (c .before .before .before .before .before .before .before .before .before .before .before .before .before .before .before .before .before .before .before .before .before .before .before .decode-frame .ensures) _ (c .before .before .before .before .before .before .before .before .before .before .before .before .before .before .before .before .before .before .before .before .before .before .kind-of .ensures) _ 0 0 [] [] _ _ _ _ (c .before .before .before .before .before .before .before .before .before .before .before .before .before .before .apply-frame .ensures) (c .before .before .before .before .before .before .before .before .before .before .before .before .before .before .before .before .before .before .before .before .before .if1 .left), (search needs, c .before .before .before .before .before .before .before .before .before .before .before .before .before .before .before .before .before .before .before .before .before .before .before .before .before .before .before .before .before .before .before .pre))
+write-reply-requires c κs = (
+  (let at-apply-frame = c .before .before .before .before .before .before .before .before .before .before .before .before .before .before in
+      let at-if1 = at-apply-frame .before .before .before .before .before .before .before in
+      let at-kind-of = at-if1 .before in
+      let at-decode-frame = at-kind-of .before in
+      frame-fits _ _ (at-decode-frame .decode-frame .ensures) _ (at-kind-of .kind-of .ensures) _ 0 0 [] [] _ _ _ _
+      (at-apply-frame .apply-frame .ensures) (at-if1 .if1 .left)),
+  (
+    search needs,
+    c .before .before .before .before .before .before .before .before .before .before .before .before .before .before .before .before .before .before .before .before .before .before .before .before .before .before .before .before .before .before .before .pre,
+  ),
+)
 
 same-length-2 : tie.Need-same-length-2
 same-length-2 c = search needs
@@ -57,7 +79,15 @@ same-length-7 : tie.Need-same-length-7
 same-length-7 c = search needs
 
 returns-2 : tie.Need-returns-2
-returns-2 c = frame-acted _ _ (c .before .before .before .before .before .before .before .before .before .before .before .before .before .before .before .before .before .before .before .before .before .before .before .before .before .before .decode-frame .ensures) _ (c .before .before .before .before .before .before .before .before .before .before .before .before .before .before .before .before .before .before .before .before .before .before .before .before .before .kind-of .ensures) _ _ _ _ _ _ _ _ _ (c .before .before .before .before .before .before .before .before .before .before .before .before .before .before .before .before .before .apply-frame .ensures) (c .before .before .before .before .before .before .before .before .before .before .before .before .before .before .before .before .before .before .before .before .before .before .before .before .if1 .left) (c .before .before .write-reply .ensures)
+returns-2 c =
+    let at-write-reply = c .before .before in
+    let at-apply-frame =
+    at-write-reply .before .before .before .before .before .before .before .before .before .before .before .before .before .before .before in
+    let at-if1 = at-apply-frame .before .before .before .before .before .before .before in
+    let at-kind-of = at-if1 .before in
+    let at-decode-frame = at-kind-of .before in
+    frame-acted _ _ (at-decode-frame .decode-frame .ensures) _ (at-kind-of .kind-of .ensures) _ _ _ _ _ _ _ _ _ (at-apply-frame .apply-frame .ensures)
+    (at-if1 .if1 .left) (at-write-reply .write-reply .ensures)
 
 pub answer-frame-spec : {M : Type 1} → statement M
 answer-frame-spec =

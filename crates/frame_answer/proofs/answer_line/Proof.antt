@@ -23,7 +23,11 @@ slice-aggregate-answer-frame : tie.Need-slice-aggregate-answer-frame
 slice-aggregate-answer-frame c = part-size _ _ (parsed-few _ _ _ (c .before .before .decode-line .ensures))
 
 answer-frame-requires : tie.Need-answer-frame-requires
-answer-frame-requires c κs = line-room _ (c .before .before .before .before .before .before .before .before .before .before .before .before .before .before .before .before .before .before .before .args .out .now) _ (c .before .before .before .before .before .before .before .before .before .before .before .has-room .ensures) (c .before .before .before .before .before .before .before .before .before .before .if1 .left)
+answer-frame-requires c κs =
+    let at-if1 = c .before .before .before .before .before .before .before .before .before .before in
+    let at-has-room = at-if1 .before in
+    let at-start = at-has-room .before .before .before .before .before .before .before .before in
+    line-room _ (at-start .args .out .now) _ (at-has-room .has-room .ensures) (at-if1 .if1 .left)
 
 same-length : tie.Need-same-length
 same-length c = search needs
@@ -44,7 +48,13 @@ same-length-6 : tie.Need-same-length-6
 same-length-6 c = search needs
 
 returns-2 : tie.Need-returns-2
-returns-2 c = line-answered _ _ _ _ _ (c .before .before .before .before .before .before .before .before .before .before .before .before .before .before .before .before .before .before .before .before .before .before .before .before .has-room .ensures) (c .before .before .before .before .before .before .before .before .before .before .before .before .before .before .before .before .before .before .before .before .before .before .before .if1 .left) _ _ (c .before .before .before .before .before .before .before .before .before .before .before .before .before .before .before .before .before .before .before .before .before .decode-line .ensures) _ _ _ (c .before .before .before .before .before .before .before .before .before .before .before .before .answer-frame .ensures)
+returns-2 c =
+    let at-answer-frame = c .before .before .before .before .before .before .before .before .before .before .before .before in
+    let at-decode-line = at-answer-frame .before .before .before .before .before .before .before .before .before in
+    let at-if1 = at-decode-line .before .before in
+    let at-has-room = at-if1 .before in
+    line-answered _ _ _ _ _ (at-has-room .has-room .ensures) (at-if1 .if1 .left) _ _ (at-decode-line .decode-line .ensures) _ _ _
+    (at-answer-frame .answer-frame .ensures)
 
 pub answer-line-spec : {M : Type 1} → statement M
 answer-line-spec =

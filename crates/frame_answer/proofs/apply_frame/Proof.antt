@@ -8,7 +8,10 @@ enum-known-r : tie.Need-enum-known-r
 enum-known-r c = search needs
 
 apply-pair-in-requires : tie.Need-apply-pair-in-requires
-apply-pair-in-requires c κs = pair-within (c .before .before .before .before .before .before .before .before .before .before .before .before .args .frame .now) _ _ _ (c .before .before .before .before .before .before .before .before .before .before .before .before .pre .1) (c .before .before .before .r .given .1)
+apply-pair-in-requires c κs =
+    let at-r = c .before .before .before in
+    let at-start = at-r .before .before .before .before .before .before .before .before .before in
+    pair-within (at-start .args .frame .now) _ _ _ (at-start .pre .1) (at-r .r .given .1)
 
 enum-told : tie.Need-enum-told
 enum-told c = search needs
@@ -59,7 +62,11 @@ same-length-2 : tie.Need-same-length-2
 same-length-2 c = search needs
 
 returns : tie.Need-returns
-returns c = as-pair _ _ _ _ _ _ _ _ _ (c .before .before .before .before .before .before .before .before .before .before .before .before .before .before .before .before .before .args .payload .now) _ _ (c .before .before .before .before .before .before .before .before .r .given .1) _ _ _ _ (c .before .before .before .before .apply-pair-in .ensures)
+returns c =
+    let at-apply-pair-in = c .before .before .before .before in
+    let at-r = at-apply-pair-in .before .before .before .before in
+    let at-start = at-r .before .before .before .before .before .before .before .before .before in
+    as-pair _ _ _ _ _ _ _ _ _ (at-start .args .payload .now) _ _ (at-r .r .given .1) _ _ _ _ (at-apply-pair-in .apply-pair-in .ensures)
 
 same-length-3 : tie.Need-same-length-3
 same-length-3 c = search needs
@@ -89,7 +96,11 @@ same-length-10 : tie.Need-same-length-10
 same-length-10 c = search needs
 
 returns-3 : tie.Need-returns-3
-returns-3 c = as-map _ _ _ _ _ _ _ _ _ (c .before .before .before .before .before .before .before .before .before .before .before .before .before .before .before .before .before .before .before .before .before .args .payload .now) (c .before .before .before .before .before .before .before .before .before .before .before .before .enum-told2 .given .1) _ _ (c .before .before .before .before .before .before .apply-close .ensures)
+returns-3 c =
+    let at-apply-close = c .before .before .before .before .before .before in
+    let at-enum-told2 = at-apply-close .before .before .before .before .before .before in
+    let at-start = at-enum-told2 .before .before .before .before .before .before .before .before .before in
+    as-map _ _ _ _ _ _ _ _ _ (at-start .args .payload .now) (at-enum-told2 .enum-told2 .given .1) _ _ (at-apply-close .apply-close .ensures)
 
 same-length-11 : tie.Need-same-length-11
 same-length-11 c = search needs
@@ -107,7 +118,11 @@ same-length-15 : tie.Need-same-length-15
 same-length-15 c = search needs
 
 returns-4 : tie.Need-returns-4
-returns-4 c = as-relocates _ _ _ _ _ _ _ _ _ (c .before .before .before .before .before .before .before .before .before .before .before .before .before .before .before .before .before .before .before .before .before .args .payload .now) (c .before .before .before .before .before .before .before .before .before .before .before .before .enum-told3 .given .1) _ _ (c .before .before .before .before .before .before .apply-close2 .ensures)
+returns-4 c =
+    let at-apply-close2 = c .before .before .before .before .before .before in
+    let at-enum-told3 = at-apply-close2 .before .before .before .before .before .before in
+    let at-start = at-enum-told3 .before .before .before .before .before .before .before .before .before in
+    as-relocates _ _ _ _ _ _ _ _ _ (at-start .args .payload .now) (at-enum-told3 .enum-told3 .given .1) _ _ (at-apply-close2 .apply-close2 .ensures)
 
 same-length-16 : tie.Need-same-length-16
 same-length-16 c = search needs
@@ -122,7 +137,10 @@ same-length-19 : tie.Need-same-length-19
 same-length-19 c = search needs
 
 returns-5 : tie.Need-returns-5
-returns-5 c = as-out _ _ _ _ _ _ _ _ _ _ (c .before .before .before .before .before .before .before .before .enum-told4 .given .1) _ (c .before .before .before .apply-route .ensures) _ (c .count-out .ensures)
+returns-5 c =
+    let at-apply-route = c .before .before .before in
+    let at-enum-told4 = at-apply-route .before .before .before .before .before in
+    as-out _ _ _ _ _ _ _ _ _ _ (at-enum-told4 .enum-told4 .given .1) _ (at-apply-route .apply-route .ensures) _ (c .count-out .ensures)
 
 same-length-20 : tie.Need-same-length-20
 same-length-20 c = search needs
@@ -137,7 +155,10 @@ same-length-23 : tie.Need-same-length-23
 same-length-23 c = search needs
 
 returns-6 : tie.Need-returns-6
-returns-6 c = as-home _ _ _ _ _ _ _ _ _ _ (c .before .before .before .before .before .before .before .enum-told5 .given .1) _ (c .before .before .apply-route2 .ensures)
+returns-6 c =
+    let at-apply-route2 = c .before .before in
+    let at-enum-told5 = at-apply-route2 .before .before .before .before .before in
+    as-home _ _ _ _ _ _ _ _ _ _ (at-enum-told5 .enum-told5 .given .1) _ (at-apply-route2 .apply-route2 .ensures)
 
 same-length-24 : tie.Need-same-length-24
 same-length-24 c = search needs
@@ -146,7 +167,9 @@ returns-7 : tie.Need-returns-7
 returns-7 c = as-count _ _ _ _ _ _ _ _ _ _ (c .before .before .before .before .enum-told6 .given .1) (c .before .before .write-count .ensures)
 
 returns-8 : tie.Need-returns-8
-returns-8 c = as-bad _ _ _ _ _ _ _ _ _ (c .before .before .before .before .before .before .before .before .before .args .payload .now) (c .enum-told7 .given .1) _
+returns-8 c =
+    let at-start = c .before .before .before .before .before .before .before .before .before in
+    as-bad _ _ _ _ _ _ _ _ _ (at-start .args .payload .now) (c .enum-told7 .given .1) _
 
 pub apply-frame-spec : {M : Type 1} → statement M
 apply-frame-spec =

@@ -41,9 +41,12 @@ same-length-2 c = search needs
 
 returns : tie.Need-returns
 returns c =
-    let a = c .before .before .before .before .before .before .before .before .before .before .before .before .args in
-    let r = c .before .before .before .before .apply-pair in
-    pair-cut (a .frame .now) (a .n) (a .m) (a .k) (a .bytes .now) (a .places .now) (r .result .kept) (r .result .reply) (r .last .1 .1 .1 .0) (r .last .1 .1 .1 .1 .0) (r .ensures)
+    let at-apply-pair = c .before .before .before .before in
+    let at-start = at-apply-pair .before .before .before .before .before .before .before .before in
+    let args = at-start .args in
+    let r = at-apply-pair .apply-pair in
+    pair-cut (args .frame .now) (args .n) (args .m) (args .k) (args .bytes .now) (args .places .now) (r .result .kept) (r .result .reply)
+    (r .last .1 .1 .1 .0) (r .last .1 .1 .1 .1 .0) (r .ensures)
 
 pub apply-pair-in-spec : {M : Type 1} → statement M
 apply-pair-in-spec =

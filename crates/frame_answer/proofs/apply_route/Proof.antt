@@ -13,7 +13,12 @@ same-length : tie.Need-same-length
 same-length c = search needs
 
 returns : tie.Need-returns
-returns c = way-given _ (c .before .before .before .before .before .before .before .before .before .before .before .args .frame .now) _ _ _ _ _ _ _ _ (c .before .before .before .before .before .before .before .before .before .before .before .pre) (c .before .before .before .before .after-kind .ensures) (c .before .before .route-after .ensures .0) (c .before .before .route-after .ensures .1)
+returns c =
+    let at-route-after = c .before .before in
+    let at-after-kind = at-route-after .before .before in
+    let at-start = at-after-kind .before .before .before .before .before .before .before in
+    way-given _ (at-start .args .frame .now) _ _ _ _ _ _ _ _ (at-start .pre) (at-after-kind .after-kind .ensures)
+    (at-route-after .route-after .ensures .0) (at-route-after .route-after .ensures .1)
 
 pub apply-route-spec : {M : Type 1} → statement M
 apply-route-spec = tie.close (tie.spec after-kind-requires route-after-requires same-length returns)

@@ -10,7 +10,11 @@ same-length : tie.Need-same-length
 same-length c = search needs
 
 returns : tie.Need-returns
-returns c = statuses-given _ _ _ _ _ (c .before .before .before .before .before .before .before .before .pre) _ (c .before .before .analyze-relocate-occurrences .ensures .0) (c .before .before .analyze-relocate-occurrences .ensures .1)
+returns c =
+    let at-analyze-relocate-occurrences = c .before .before in
+    let at-start = at-analyze-relocate-occurrences .before .before .before .before .before .before in
+    statuses-given _ _ _ _ _ (at-start .pre) _ (at-analyze-relocate-occurrences .analyze-relocate-occurrences .ensures .0)
+    (at-analyze-relocate-occurrences .analyze-relocate-occurrences .ensures .1)
 
 pub apply-statuses-spec : {M : Type 1} → statement M
 apply-statuses-spec = tie.close (tie.spec analyze-relocate-occurrences-requires same-length returns)

@@ -29,19 +29,38 @@ same-length : tie.Need-same-length
 same-length c = search needs
 
 returns-3 : tie.Need-returns-3
-returns-3 c = parse-bytes _ _ (c .before .before .before .before .before .before .before .before .before .if1 .left) (c .before .before .before .before .before .before .before .before .if2 .left) _ _ _ (c .before .before .before .before .before .before .before .before .before .before .before .before .pre) (c .before .before .before .before .before .decode .ensures .0) (c .before .before .before .before .before .decode .ensures .1) _ (c .before .d .given .1)
+returns-3 c =
+    let at-d = c .before in
+    let at-decode = at-d .before .before .before .before in
+    let at-if2 = at-decode .before .before .before in
+    let at-if1 = at-if2 .before in
+    let at-start = at-if1 .before .before .before in
+    parse-bytes _ _ (at-if1 .if1 .left) (at-if2 .if2 .left) _ _ _ (at-start .pre) (at-decode .decode .ensures .0) (at-decode .decode .ensures .1) _
+    (at-d .d .given .1)
 
 same-length-2 : tie.Need-same-length-2
 same-length-2 c = search needs
 
 returns-4 : tie.Need-returns-4
-returns-4 c = parse-bad _ _ (c .before .before .before .before .before .before .before .before .if1 .left) (c .before .before .before .before .before .before .before .if2 .left) _ _ _ (c .before .before .before .before .before .before .before .before .before .before .before .pre) (c .before .before .before .before .decode .ensures .0) (c .before .before .before .before .decode .ensures .1) (c .enum-told .given .1)
+returns-4 c =
+    let at-decode = c .before .before .before .before in
+    let at-if2 = at-decode .before .before .before in
+    let at-if1 = at-if2 .before in
+    let at-start = at-if1 .before .before .before in
+    parse-bad _ _ (at-if1 .if1 .left) (at-if2 .if2 .left) _ _ _ (at-start .pre) (at-decode .decode .ensures .0) (at-decode .decode .ensures .1)
+    (c .enum-told .given .1)
 
 same-length-3 : tie.Need-same-length-3
 same-length-3 c = search needs
 
 returns-5 : tie.Need-returns-5
-returns-5 c = parse-over _ _ (c .before .before .before .before .before .before .before .before .if1 .left) (c .before .before .before .before .before .before .before .if2 .left) _ _ _ (c .before .before .before .before .before .before .before .before .before .before .before .pre) (c .before .before .before .before .decode .ensures .0) (c .before .before .before .before .decode .ensures .1) (c .enum-told2 .given .1)
+returns-5 c =
+    let at-decode = c .before .before .before .before in
+    let at-if2 = at-decode .before .before .before in
+    let at-if1 = at-if2 .before in
+    let at-start = at-if1 .before .before .before in
+    parse-over _ _ (at-if1 .if1 .left) (at-if2 .if2 .left) _ _ _ (at-start .pre) (at-decode .decode .ensures .0) (at-decode .decode .ensures .1)
+    (c .enum-told2 .given .1)
 
 pub decode-line-spec : {M : Type 1} → statement M
 decode-line-spec =

@@ -40,7 +40,12 @@ same-length : tie.Need-same-length
 same-length c = search needs
 
 returns : tie.Need-returns
-returns c = line-written _ _ _ _ _ (c .before .before .before .before .before .before .before .before .before .before .before .before .before .before .before .before .pre) _ _ _ (c .before .before .before .before .before .before .before .before .before .before .before .encode .ensures) (c .before .before .before .before .before .before .before .encode2 .ensures) (c .before .before .write-at .ensures)
+returns c =
+    let at-write-at = c .before .before in
+    let at-encode2 = at-write-at .before .before .before .before .before in
+    let at-encode = at-encode2 .before .before .before .before in
+    let at-start = at-encode .before .before .before .before .before in
+    line-written _ _ _ _ _ (at-start .pre) _ _ _ (at-encode .encode .ensures) (at-encode2 .encode2 .ensures) (at-write-at .write-at .ensures)
 
 pub write-line-spec : {M : Type 1} → statement M
 write-line-spec =

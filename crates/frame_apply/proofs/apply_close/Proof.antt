@@ -23,7 +23,14 @@ same-length-3 : tie.Need-same-length-3
 same-length-3 c = search needs
 
 returns : tie.Need-returns
-returns c = close-done _ (framesMemory (c .before .before .before .before .before .before .before .before .before .before .before .before .before .before .before .before .before .before .before .before .args .k) (c .before .before .before .before .before .before .before .before .before .before .before .before .before .before .before .before .before .before .before .before .args .bytes .now) (c .before .before .before .before .before .before .before .before .before .before .before .before .before .before .before .before .before .before .before .before .args .places .now) (c .before .before .before .before .before .before .before .before .before .before .before .before .before .before .before .before .before .before .before .before .args .store .now) (c .before .before .before .before .before .before .before .before .before .before .before .before .before .before .before .before .before .before .before .before .args .slots .now) (c .before .before .before .before .before .before .before .before .before .before .before .before .before .before .before .before .before .before .before .before .args .table .now)) _ (c .before .before .before .before .before .before .before .before .before .close .ensures .0) _ (c .before .before .before .before .before .before .before .before .before .close .ensures .1 .0) _ (c .before .before .before .before .before .before .before .before .before .close .ensures .1 .1 .0) _ (c .before .before .before .before .before .before .before .before .before .close .ensures .1 .1 .1) _ (c .before .c .given .1)
+returns c =
+    let at-c = c .before in
+    let at-close = at-c .before .before .before .before .before .before .before .before in
+    let at-start = at-close .before .before .before .before .before .before .before .before .before .before .before in
+    let args = at-start .args in
+    close-done _ (framesMemory (args .k) (args .bytes .now) (args .places .now) (args .store .now) (args .slots .now) (args .table .now)) _
+    (at-close .close .ensures .0) _ (at-close .close .ensures .1 .0) _ (at-close .close .ensures .1 .1 .0) _ (at-close .close .ensures .1 .1 .1) _
+    (at-c .c .given .1)
 
 same-length-4 : tie.Need-same-length-4
 same-length-4 c = search needs
@@ -35,7 +42,14 @@ same-length-6 : tie.Need-same-length-6
 same-length-6 c = search needs
 
 returns-2 : tie.Need-returns-2
-returns-2 c = close-refused _ (framesMemory (c .before .before .before .before .before .before .before .before .before .before .before .before .before .before .before .before .before .before .before .before .args .k) (c .before .before .before .before .before .before .before .before .before .before .before .before .before .before .before .before .before .before .before .before .args .bytes .now) (c .before .before .before .before .before .before .before .before .before .before .before .before .before .before .before .before .before .before .before .before .args .places .now) (c .before .before .before .before .before .before .before .before .before .before .before .before .before .before .before .before .before .before .before .before .args .store .now) (c .before .before .before .before .before .before .before .before .before .before .before .before .before .before .before .before .before .before .before .before .args .slots .now) (c .before .before .before .before .before .before .before .before .before .before .before .before .before .before .before .before .before .before .before .before .args .table .now)) _ (c .before .before .before .before .before .before .before .before .before .close .ensures .0) _ (c .before .before .before .before .before .before .before .before .before .close .ensures .1 .0) _ (c .before .before .before .before .before .before .before .before .before .close .ensures .1 .1 .0) _ (c .before .before .before .before .before .before .before .before .before .close .ensures .1 .1 .1) _ (c .before .c2 .given .1)
+returns-2 c =
+    let at-c2 = c .before in
+    let at-close = at-c2 .before .before .before .before .before .before .before .before in
+    let at-start = at-close .before .before .before .before .before .before .before .before .before .before .before in
+    let args = at-start .args in
+    close-refused _ (framesMemory (args .k) (args .bytes .now) (args .places .now) (args .store .now) (args .slots .now) (args .table .now)) _
+    (at-close .close .ensures .0) _ (at-close .close .ensures .1 .0) _ (at-close .close .ensures .1 .1 .0) _ (at-close .close .ensures .1 .1 .1) _
+    (at-c2 .c2 .given .1)
 
 pub apply-close-spec : {M : Type 1} → statement M
 apply-close-spec =

@@ -19,7 +19,11 @@ same-length-2 : tie.Need-same-length-2
 same-length-2 c = search needs
 
 returns : tie.Need-returns
-returns c = pair-done _ _ _ _ _ _ (c .before .before .before .before .before .before .before .add-pair .ensures .0) _ (c .before .before .before .before .before .before .before .add-pair .ensures .1 .0) _ (c .before .before .before .before .before .before .before .add-pair .ensures .1 .1) _ (c .before .a .given .1)
+returns c =
+    let at-a = c .before in
+    let at-add-pair = at-a .before .before .before .before .before .before in
+    pair-done _ _ _ _ _ _ (at-add-pair .add-pair .ensures .0) _ (at-add-pair .add-pair .ensures .1 .0) _ (at-add-pair .add-pair .ensures .1 .1) _
+    (at-a .a .given .1)
 
 same-length-3 : tie.Need-same-length-3
 same-length-3 c = search needs
@@ -28,7 +32,11 @@ same-length-4 : tie.Need-same-length-4
 same-length-4 c = search needs
 
 returns-2 : tie.Need-returns-2
-returns-2 c = pair-refused _ _ _ _ _ _ (c .before .before .before .before .before .before .before .add-pair .ensures .0) _ (c .before .before .before .before .before .before .before .add-pair .ensures .1 .0) _ (c .before .before .before .before .before .before .before .add-pair .ensures .1 .1) _ (c .before .a2 .given .1)
+returns-2 c =
+    let at-a2 = c .before in
+    let at-add-pair = at-a2 .before .before .before .before .before .before in
+    pair-refused _ _ _ _ _ _ (at-add-pair .add-pair .ensures .0) _ (at-add-pair .add-pair .ensures .1 .0) _ (at-add-pair .add-pair .ensures .1 .1) _
+    (at-a2 .a2 .given .1)
 
 pub apply-pair-spec : {M : Type 1} → statement M
 apply-pair-spec =

@@ -11,7 +11,11 @@ use Rattle.frame_stream.proofs.process_block.Tie as tie
 
 abbrev Inv-loop : tie.InvT-loop
 Inv-loop block line₀ len bytes₀ places₀ store₀ slots₀ table₀ out₀ used₀ n₀ kept₀ end₀ line bytes places store slots table out used n kept end =
-    (used ≤ length block) × (end ≤ length out₀) × (processBlock block (streamState (record { used = used; len = n; kept = kept; end = end }) line bytes places store slots table out) ≡ processBlock block (streamState (streamStart n₀ kept₀ 0) line₀ bytes₀ places₀ store₀ slots₀ table₀ out₀)) × (length line ≡ length line₀) × (length bytes ≡ length bytes₀) × (length places ≡ length places₀) × (length store ≡ length store₀) × (length slots ≡ length slots₀) × (length table ≡ length table₀) × (length out ≡ length out₀)
+    (used ≤ length block) × (end ≤ length out₀) ×
+    (processBlock block (streamState (record { used = used; len = n; kept = kept; end = end }) line bytes places store slots table out) ≡
+    processBlock block (streamState (streamStart n₀ kept₀ 0) line₀ bytes₀ places₀ store₀ slots₀ table₀ out₀))
+    × (length line ≡ length line₀) × (length bytes ≡ length bytes₀) × (length places ≡ length places₀) × (length store ≡ length store₀) ×
+    (length slots ≡ length slots₀) × (length table ≡ length table₀) × (length out ≡ length out₀)
 
 abbrev μ-loop : tie.MeasureT-loop
 μ-loop block line₀ len bytes₀ places₀ store₀ slots₀ table₀ out₀ used₀ n₀ kept₀ end₀ line bytes places store slots table out used n kept end =
@@ -34,35 +38,52 @@ part-stream-step-end c = search needs
 
 stream-step-requires : tie.Need-stream-step-requires Inv-loop μ-loop
 stream-step-requires c κs =
-    let l = c .before .before .before .before .before .before .before .before .before .before .loop in
-    let q : 515 ≤ length (l .out) - l .end = leb-true 515 (length (l .out) - l .end) (c .before .before .before .before .before .before .before .before .if1 .taken) in
-    omega (arith, l .inv .1, l .inv .9)
+    let at-if1 = c .before .before .before .before .before .before .before .before in
+    let at-loop = at-if1 .before .before in
+    let l = at-loop .loop in let q : 515 ≤ length (l .out) - l .end = leb-true 515 (length (l .out) - l .end) (at-if1 .if1 .taken) in omega
+    (arith, l .inv .1, l .inv .9)
 
 add-used : tie.Need-add-used Inv-loop μ-loop
 add-used c =
-    let l = c .before .before .before .before .before .before .before .before .before .before .before .before .before .before .before .before .before .before .before .before .before .before .before .before .before .before .loop in
-    let t = c .before .before .before .before .before .before .before .before .before .before .before .before .before .before .before .stream-step in
-    let a = c .before .before .before .before .before .before .before .before .before .before .before .before .before .before .before .before .before .before .before .before .before .before .before .before .before .before .before .before .before .before .before .before .before .before .before .args in
-    let q : 515 ≤ length (l .out) - l .end = leb-true 515 (length (l .out) - l .end) (c .before .before .before .before .before .before .before .before .before .before .before .before .before .before .before .before .before .before .before .before .before .before .before .before .if1 .taken) in
-    let m = process-step (a .block .now) (streamState (record { used = l .used; len = l .n; kept = l .kept; end = l .end }) (l .line) (l .bytes) (l .places) (l .store) (l .slots) (l .table) (l .out)) _ (omega (arith, c .before .before .before .before .before .before .before .before .before .before .before .before .before .before .before .before .before .before .before .before .before .before .before .before .before .loop-test .taken)) (omega (arith, q, l .inv .1, l .inv .9)) (t .ensures) in
-    omega (arith, m .inside, c .before .before .before .before .before .before .before .before .before .before .before .before .before .before .before .before .before .before .before .before .before .before .before .before .before .before .before .before .before .before .before .before .before .before .before .good)
+    let at-stream-step = c .before .before .before .before .before .before .before .before .before .before .before .before .before .before .before in
+    let at-if1 = at-stream-step .before .before .before .before .before .before .before .before .before in
+    let at-loop-test = at-if1 .before in
+    let at-loop = at-loop-test .before in
+    let at-start = at-loop .before .before .before .before .before .before .before .before .before in
+    let l = at-loop .loop in let t = at-stream-step .stream-step in let q : 515 ≤ length (l .out) - l .end = leb-true 515 (length (l .out) - l .end)
+    (at-if1 .if1 .taken) in let m = process-step (at-start .args .block .now)
+    (streamState (record { used = l .used; len = l .n; kept = l .kept; end = l .end }) (l .line) (l .bytes) (l .places) (l .store) (l .slots)
+    (l .table) (l .out))
+    _ (omega (arith, at-loop-test .loop-test .taken)) (omega (arith, q, l .inv .1, l .inv .9)) (t .ensures) in omega
+    (arith, m .inside, at-start .good)
 
 loop-less : tie.Need-loop-less Inv-loop μ-loop
 loop-less c =
-    let l = c .before .before .before .before .before .before .before .before .before .before .before .before .before .before .before .before .before .before .before .before .before .before .before .before .before .before .before .loop in
-    let t = c .before .before .before .before .before .before .before .before .before .before .before .before .before .before .before .before .stream-step in
-    let a = c .before .before .before .before .before .before .before .before .before .before .before .before .before .before .before .before .before .before .before .before .before .before .before .before .before .before .before .before .before .before .before .before .before .before .before .before .args in
-    let q : 515 ≤ length (l .out) - l .end = leb-true 515 (length (l .out) - l .end) (c .before .before .before .before .before .before .before .before .before .before .before .before .before .before .before .before .before .before .before .before .before .before .before .before .before .if1 .taken) in
-    let m = process-step (a .block .now) (streamState (record { used = l .used; len = l .n; kept = l .kept; end = l .end }) (l .line) (l .bytes) (l .places) (l .store) (l .slots) (l .table) (l .out)) _ (omega (arith, c .before .before .before .before .before .before .before .before .before .before .before .before .before .before .before .before .before .before .before .before .before .before .before .before .before .before .loop-test .taken)) (omega (arith, q, l .inv .1, l .inv .9)) (t .ensures) in
-    omega (arith, m .inside, m .further)
+    let at-stream-step =
+    c .before .before .before .before .before .before .before .before .before .before .before .before .before .before .before .before in
+    let at-if1 = at-stream-step .before .before .before .before .before .before .before .before .before in
+    let at-loop-test = at-if1 .before in
+    let at-loop = at-loop-test .before in
+    let at-start = at-loop .before .before .before .before .before .before .before .before .before in
+    let l = at-loop .loop in let t = at-stream-step .stream-step in let q : 515 ≤ length (l .out) - l .end = leb-true 515 (length (l .out) - l .end)
+    (at-if1 .if1 .taken) in let m = process-step (at-start .args .block .now)
+    (streamState (record { used = l .used; len = l .n; kept = l .kept; end = l .end }) (l .line) (l .bytes) (l .places) (l .store) (l .slots)
+    (l .table) (l .out))
+    _ (omega (arith, at-loop-test .loop-test .taken)) (omega (arith, q, l .inv .1, l .inv .9)) (t .ensures) in omega (arith, m .inside, m .further)
 
 loop-again : tie.Need-loop-again Inv-loop μ-loop
 loop-again c =
-    let l = c .before .before .before .before .before .before .before .before .before .before .before .before .before .before .before .before .before .before .before .before .before .before .before .before .before .before .before .loop in
-    let t = c .before .before .before .before .before .before .before .before .before .before .before .before .before .before .before .before .stream-step in
-    let a = c .before .before .before .before .before .before .before .before .before .before .before .before .before .before .before .before .before .before .before .before .before .before .before .before .before .before .before .before .before .before .before .before .before .before .before .before .args in
-    let q : 515 ≤ length (l .out) - l .end = leb-true 515 (length (l .out) - l .end) (c .before .before .before .before .before .before .before .before .before .before .before .before .before .before .before .before .before .before .before .before .before .before .before .before .before .if1 .taken) in
-    let m = process-step (a .block .now) (streamState (record { used = l .used; len = l .n; kept = l .kept; end = l .end }) (l .line) (l .bytes) (l .places) (l .store) (l .slots) (l .table) (l .out)) _ (omega (arith, c .before .before .before .before .before .before .before .before .before .before .before .before .before .before .before .before .before .before .before .before .before .before .before .before .before .before .loop-test .taken)) (omega (arith, q, l .inv .1, l .inv .9)) (t .ensures) in (
+    let at-stream-step =
+    c .before .before .before .before .before .before .before .before .before .before .before .before .before .before .before .before in
+    let at-if1 = at-stream-step .before .before .before .before .before .before .before .before .before in
+    let at-loop-test = at-if1 .before in
+    let at-loop = at-loop-test .before in
+    let at-start = at-loop .before .before .before .before .before .before .before .before .before in
+    let l = at-loop .loop in let t = at-stream-step .stream-step in let q : 515 ≤ length (l .out) - l .end = leb-true 515 (length (l .out) - l .end)
+    (at-if1 .if1 .taken) in let m = process-step (at-start .args .block .now)
+    (streamState (record { used = l .used; len = l .n; kept = l .kept; end = l .end }) (l .line) (l .bytes) (l .places) (l .store) (l .slots)
+    (l .table) (l .out))
+    _ (omega (arith, at-loop-test .loop-test .taken)) (omega (arith, q, l .inv .1, l .inv .9)) (t .ensures) in (
       m .inside,
       omega (arith, m .fits, l .inv .9),
       m .same ∙ l .inv .2,
@@ -98,9 +119,15 @@ same-length-7 c = c .before .before .loop .inv .9
 
 returns : tie.Need-returns Inv-loop μ-loop
 returns c =
-    let l = c .before .before .loop in
-    let a = c .before .before .before .before .before .before .before .before .before .before .before .args in
-    sym (process-full (a .block .now) (streamState (record { used = l .used; len = l .n; kept = l .kept; end = l .end }) (l .line) (l .bytes) (l .places) (l .store) (l .slots) (l .table) (l .out)) (omega (arith, leb-false 515 (length (l .out) - l .end) (c .if1 .left), l .inv .1, l .inv .9))) ∙ l .inv .2
+    let at-loop = c .before .before in
+    let at-start = at-loop .before .before .before .before .before .before .before .before .before in
+    let l = at-loop .loop in
+    sym
+    (process-full (at-start .args .block .now)
+    (streamState (record { used = l .used; len = l .n; kept = l .kept; end = l .end }) (l .line) (l .bytes) (l .places) (l .store) (l .slots)
+    (l .table) (l .out))
+    (omega (arith, leb-false 515 (length (l .out) - l .end) (c .if1 .left), l .inv .1, l .inv .9)))
+    ∙ l .inv .2
 
 same-length-8 : tie.Need-same-length-8 Inv-loop μ-loop
 same-length-8 c = c .before .loop .inv .3
@@ -125,9 +152,15 @@ same-length-14 c = c .before .loop .inv .9
 
 returns-2 : tie.Need-returns-2 Inv-loop μ-loop
 returns-2 c =
-    let l = c .before .loop in
-    let a = c .before .before .before .before .before .before .before .before .before .before .args in
-    sym (process-used (a .block .now) (streamState (record { used = l .used; len = l .n; kept = l .kept; end = l .end }) (l .line) (l .bytes) (l .places) (l .store) (l .slots) (l .table) (l .out)) (omega (arith, c .loop-test .left))) ∙ l .inv .2
+    let at-loop = c .before in
+    let at-start = at-loop .before .before .before .before .before .before .before .before .before in
+    let l = at-loop .loop in
+    sym
+    (process-used (at-start .args .block .now)
+    (streamState (record { used = l .used; len = l .n; kept = l .kept; end = l .end }) (l .line) (l .bytes) (l .places) (l .store) (l .slots)
+    (l .table) (l .out))
+    (omega (arith, c .loop-test .left)))
+    ∙ l .inv .2
 
 pub process-block-spec : {M : Type 1} → statement M
 process-block-spec =

@@ -13,9 +13,13 @@ same-length c = search needs
 
 returns : tie.Need-returns
 returns c =
-    let a = c .before .before .before .before .before .before .before .before .before .before .before .before .before .before .args in
-    let t = c .before .before .before .before .take-line in
-    step-part (a .block .now) (a .line .now) (t .last .1 .0) (a .len) (a .end) (a .out .now) (framesMemory (a .k) (a .bytes .now) (a .places .now) (a .store .now) (a .slots .now) (a .table .now)) (t .result) (t .ensures .0) (t .ensures .1) (not-true (t .result .done) (c .if1 .taken))
+    let at-take-line = c .before .before .before .before in
+    let at-start = at-take-line .before .before .before .before .before .before .before .before .before .before in
+    let args = at-start .args in
+    let t = at-take-line .take-line in
+    step-part (args .block .now) (args .line .now) (t .last .1 .0) (args .len) (args .end) (args .out .now)
+    (framesMemory (args .k) (args .bytes .now) (args .places .now) (args .store .now) (args .slots .now) (args .table .now)) (t .result)
+    (t .ensures .0) (t .ensures .1) (not-true (t .result .done) (c .if1 .taken))
 
 answer-line-requires : tie.Need-answer-line-requires
 answer-line-requires c κs = search needs
@@ -43,10 +47,17 @@ same-length-8 c = search needs
 
 returns-2 : tie.Need-returns-2
 returns-2 c =
-    let a = c .before .before .before .before .before .before .before .before .before .before .before .before .before .before .before .before .before .before .before .before .before .before .before .before .before .before .before .before .before .before .before .before .before .before .before .args in
-    let t = c .before .before .before .before .before .before .before .before .before .before .before .before .before .before .before .before .before .before .before .before .before .before .before .before .before .take-line in
-    let r = c .before .before .before .before .before .before .before .before .before .before .before .before .before .answer-line in
-    step-line (a .block .now) (a .line .now) (t .last .1 .0) (a .len) (a .end) (a .out .now) (framesMemory (a .k) (a .bytes .now) (a .places .now) (a .store .now) (a .slots .now) (a .table .now)) (t .result) (t .ensures .0) (t .ensures .1) (c .before .before .before .before .before .before .before .before .before .before .before .before .before .before .before .before .before .before .before .before .before .before .before .before .before .before .before .before .before .before .before .before .before .before .before .pre) (not-false (t .result .done) (c .before .before .before .before .before .before .before .before .before .before .before .before .before .before .before .before .before .before .before .before .before .if1 .left)) _ (r .result .end) (r .last .1 .1 .1 .1 .1 .1 .1 .1 .1 .0) (r .ensures .0) (r .ensures .1 .0) (r .ensures .1 .1)
+    let at-answer-line = c .before .before .before .before .before .before .before .before .before .before .before .before .before in
+    let at-if1 = at-answer-line .before .before .before .before .before .before .before .before in
+    let at-take-line = at-if1 .before .before .before .before in
+    let at-start = at-take-line .before .before .before .before .before .before .before .before .before .before in
+    let args = at-start .args in
+    let t = at-take-line .take-line in
+    let r = at-answer-line .answer-line in
+    step-line (args .block .now) (args .line .now) (t .last .1 .0) (args .len) (args .end) (args .out .now)
+    (framesMemory (args .k) (args .bytes .now) (args .places .now) (args .store .now) (args .slots .now) (args .table .now)) (t .result)
+    (t .ensures .0) (t .ensures .1) (at-start .pre) (not-false (t .result .done) (at-if1 .if1 .left)) _ (r .result .end)
+    (r .last .1 .1 .1 .1 .1 .1 .1 .1 .1 .0) (r .ensures .0) (r .ensures .1 .0) (r .ensures .1 .1)
 
 pub stream-step-spec : {M : Type 1} → statement M
 stream-step-spec =

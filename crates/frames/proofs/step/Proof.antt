@@ -19,7 +19,19 @@ answer-requires : tie.Need-answer-requires
 answer-requires c κs = search needs
 
 add-t23 : tie.Need-add-t23
-add-t23 c = let a = c .before .before .before .before .before .before .before .before .before .before .before .before .before .before .before .args in omega (arith, c .before .before .before .before .before .before .before .before .before .before .before .before .before .before .if1 .taken, leb-true (a .end) 65536 (c .before .before .before .before .before .before .before .before .before .before .before .before .before .if2 .taken), c .before .before .answer .ensures, length-take (a .end - a .at) (drop (a .at) (a .block .now)))
+add-t23 c =
+    let at-answer = c .before .before in
+    let at-if2 = at-answer .before .before .before .before .before .before .before .before .before .before .before in
+    let at-if1 = at-if2 .before in
+    let at-start = at-if1 .before in
+    let args = at-start .args in
+    omega (
+      arith,
+      at-if1 .if1 .taken,
+      leb-true (args .end) 65536 (at-if2 .if2 .taken),
+      at-answer .answer .ensures,
+      length-take (args .end - args .at) (drop (args .at) (args .block .now)),
+    )
 
 returns : tie.Need-returns
 returns c = search needs

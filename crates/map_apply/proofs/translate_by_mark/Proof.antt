@@ -18,7 +18,11 @@ keep-path-requires c κs = search needs
 
 returns-3 : tie.Need-returns-3
 returns-3 c =
-    answering _ _ (marked-kept _ _ _ _ _ (c .before .before .before .best-prefix .result) (c .before .before .before .best-prefix .ensures) (c .before .before .before .before .if1 .left) (c .before .before .if2 .left)) _ _ _
+    let at-if2 = c .before .before in
+    let at-best-prefix = at-if2 .before in
+    let at-if1 = at-best-prefix .before in
+    answering _ _
+    (marked-kept _ _ _ _ _ (at-best-prefix .best-prefix .result) (at-best-prefix .best-prefix .ensures) (at-if1 .if1 .left) (at-if2 .if2 .left)) _ _ _
     (c .keep-path .ensures)
 
 pub translate-by-mark-spec : {M : Type 1} → statement M

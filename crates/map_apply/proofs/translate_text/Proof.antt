@@ -15,23 +15,42 @@ translate-by-mark-requires c κs = search needs
 
 returns : tie.Need-returns
 returns c =
-    answering _ _ (text-none _ _ _ _ _ (c .before .before .before .before .best-prefix .result) (c .before .before .before .before .best-prefix .ensures) (c .before .before .if1 .taken)) _ _ _ (c .translate-by-mark .ensures)
+    let at-if1 = c .before .before in
+    let at-best-prefix = at-if1 .before .before in
+    answering _ _ (text-none _ _ _ _ _ (at-best-prefix .best-prefix .result) (at-best-prefix .best-prefix .ensures) (at-if1 .if1 .taken)) _ _ _
+    (c .translate-by-mark .ensures)
 
 key-at-requires : tie.Need-key-at-requires
 key-at-requires c κs = search needs
 
 returns-2 : tie.Need-returns-2
 returns-2 c =
-    refusing _ _ (text-block _ _ _ _ _ (c .before .before .before .before .best-prefix .result) (c .before .before .before .before .best-prefix .ensures) (c .before .before .if1 .left) _ (c .before .key-at .ensures) (c .if2 .taken)) _
+    let at-key-at = c .before in
+    let at-if1 = at-key-at .before in
+    let at-best-prefix = at-if1 .before .before in
+    refusing _ _
+    (text-block _ _ _ _ _ (at-best-prefix .best-prefix .result) (at-best-prefix .best-prefix .ensures) (at-if1 .if1 .left) _
+    (at-key-at .key-at .ensures) (c .if2 .taken))
+    _
 
 key-at-requires-2 : tie.Need-key-at-requires-2
 key-at-requires-2 c κs = search needs
 
 sub-translate-by-pair : tie.Need-sub-translate-by-pair
-sub-translate-by-pair c = map-inside _ _ _ (c .before .before .before .before .before .before .before .before .before .args .mark) _ false (c .before .before .before .before .before .best-prefix .result) (c .before .before .before .before .before .best-prefix .ensures) (c .before .before .before .if1 .left) _ (c .key-at2 .ensures)
+sub-translate-by-pair c =
+    let at-if1 = c .before .before .before in
+    let at-best-prefix = at-if1 .before .before in
+    let at-start = at-best-prefix .before .before .before .before in
+    map-inside _ _ _ (at-start .args .mark) _ false (at-best-prefix .best-prefix .result) (at-best-prefix .best-prefix .ensures) (at-if1 .if1 .left) _
+    (c .key-at2 .ensures)
 
 part-translate-by-pair-start : tie.Need-part-translate-by-pair-start
-part-translate-by-pair-start c = map-inside _ _ _ (c .before .before .before .before .before .before .before .before .before .args .mark) _ false (c .before .before .before .before .before .best-prefix .result) (c .before .before .before .before .before .best-prefix .ensures) (c .before .before .before .if1 .left) _ (c .key-at2 .ensures)
+part-translate-by-pair-start c =
+    let at-if1 = c .before .before .before in
+    let at-best-prefix = at-if1 .before .before in
+    let at-start = at-best-prefix .before .before .before .before in
+    map-inside _ _ _ (at-start .args .mark) _ false (at-best-prefix .best-prefix .result) (at-best-prefix .best-prefix .ensures) (at-if1 .if1 .left) _
+    (c .key-at2 .ensures)
 
 part-translate-by-pair-end : tie.Need-part-translate-by-pair-end
 part-translate-by-pair-end c = search needs
@@ -41,9 +60,15 @@ translate-by-pair-requires c κs = search needs
 
 returns-3 : tie.Need-returns-3
 returns-3 c =
+    let at-key-at2 = c .before .before .before in
+    let at-if2 = at-key-at2 .before in
+    let at-key-at = at-if2 .before in
+    let at-if1 = at-key-at .before in
+    let at-best-prefix = at-if1 .before .before in
     answering _ _
-    (text-pair _ _ _ _ _ (c .before .before .before .before .before .before .before .before .best-prefix .result) (c .before .before .before .before .before .before .before .before .best-prefix .ensures) (c .before .before .before .before .before .before .if1 .left) _ _ (c .before .before .before .before .before .key-at .ensures) (c .before .before .before .before .if2 .left)
-    (c .before .before .before .key-at2 .ensures)) _ _ _ (rw rest-whole at (c .translate-by-pair .ensures))
+    (text-pair _ _ _ _ _ (at-best-prefix .best-prefix .result) (at-best-prefix .best-prefix .ensures) (at-if1 .if1 .left) _ _
+    (at-key-at .key-at .ensures) (at-if2 .if2 .left) (at-key-at2 .key-at2 .ensures))
+    _ _ _ (rw rest-whole at (c .translate-by-pair .ensures))
 
 pub translate-text-spec : {M : Type 1} → statement M
 translate-text-spec =

@@ -30,9 +30,11 @@ slice-aggregate-keep-level c = search needs
 
 keep-level-requires : tie.Need-keep-level-requires Inv-loop μ-loop
 keep-level-requires c κs =
-    let l = c .before .before .before .loop in
-    let p = c .before .before .before .before .before .before .before .before .before .before .pre in
-    ((p .0 .1, omega (arith, p .0 .0)), (l .inv .2, levels-room _ _ _ isRedundant _ _ _ _ _ (l .inv .1) (p .0 .0) (l .inv .4)))
+    let at-loop = c .before .before .before in
+    let at-start = at-loop .before .before .before .before .before .before .before in
+    let pre = at-start .pre in
+    let l = at-loop .loop in
+    ((pre .0 .1, omega (arith, pre .0 .0)), (l .inv .2, levels-room _ _ _ isRedundant _ _ _ _ _ (l .inv .1) (pre .0 .0) (l .inv .4)))
 
 add-e : tie.Need-add-e Inv-loop μ-loop
 add-e c = search needs
@@ -48,15 +50,25 @@ slice-aggregate-keep-level-2 c = search needs
 
 keep-level-requires-2 : tie.Need-keep-level-requires-2 Inv-loop μ-loop
 keep-level-requires-2 c κs =
-    let l = c .before .before .before .loop in
-    let p = c .before .before .before .before .before .before .before .before .before .before .pre in
-    ((p .0 .1, omega (arith, p .0 .0)), (l .inv .2, top-room _ _ _ isRedundant _ _ _ _ _ (l .inv .1) _ (c .before .before .loop-test .left) (l .inv .0) (p .0 .0) (l .inv .4)))
+    let at-loop-test = c .before .before in
+    let at-loop = at-loop-test .before in
+    let at-start = at-loop .before .before .before .before .before .before .before in
+    let pre = at-start .pre in
+    let l = at-loop .loop in (
+      (pre .0 .1, omega (arith, pre .0 .0)),
+      (l .inv .2, top-room _ _ _ isRedundant _ _ _ _ _ (l .inv .1) _ (at-loop-test .loop-test .left) (l .inv .0) (pre .0 .0) (l .inv .4)),
+    )
 
 same-length : tie.Need-same-length Inv-loop μ-loop
 same-length c = search needs
 
 returns : tie.Need-returns Inv-loop μ-loop
-returns c = levels-end _ _ _ isRedundant _ _ _ _ _ (c .before .before .before .before .before .before .loop .inv .1) _ (c .before .before .before .before .before .before .loop .inv .3) (c .before .before .before .before .before .loop-test .left) (c .before .before .before .before .before .before .loop .inv .0) _ _ (c .before .before .keep-level2 .ensures)
+returns c =
+    let at-keep-level2 = c .before .before in
+    let at-loop-test = at-keep-level2 .before .before .before in
+    let at-loop = at-loop-test .before in
+    levels-end _ _ _ isRedundant _ _ _ _ _ (at-loop .loop .inv .1) _ (at-loop .loop .inv .3) (at-loop-test .loop-test .left) (at-loop .loop .inv .0) _
+    _ (at-keep-level2 .keep-level2 .ensures)
 
 pub canonicalize-spec : {M : Type 1} → statement M
 canonicalize-spec =

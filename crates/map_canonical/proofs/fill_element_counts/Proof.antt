@@ -39,7 +39,19 @@ loop-less : tie.Need-loop-less Inv-loop μ-loop
 loop-less c = search needs
 
 loop-again : tie.Need-loop-again Inv-loop μ-loop
-loop-again c = (search needs, simp length-set (omega (arith, c .before .before .before .before .loop .inv .1)), counted-on _ _ _ _ _ _ (omega (arith, c .before .before .before .loop-test .taken, c .before .before .before .before .loop .inv .1)) (c .before .before .key-at .ensures) (c .before .element-count .ensures) (c .before .before .before .before .loop .inv .2), most-on _ _ _ _ _ _ _ (c .before .before .key-at .ensures) (c .before .element-count .ensures) (c .max .ensures) (c .before .before .before .before .loop .inv .3), simp length-set (c .before .before .before .before .loop .inv .4))
+loop-again c = (
+  search needs,
+  simp length-set (omega (arith, c .before .before .before .before .loop .inv .1)),
+  (let at-element-count = c .before in
+      let at-key-at = at-element-count .before in
+      let at-loop-test = at-key-at .before in
+      let at-loop = at-loop-test .before in
+      counted-on _ _ _ _ _ _ (omega (arith, at-loop-test .loop-test .taken, at-loop .loop .inv .1)) (at-key-at .key-at .ensures)
+      (at-element-count .element-count .ensures) (at-loop .loop .inv .2)),
+  most-on _ _ _ _ _ _ _ (c .before .before .key-at .ensures) (c .before .element-count .ensures) (c .max .ensures)
+      (c .before .before .before .before .loop .inv .3),
+  simp length-set (c .before .before .before .before .loop .inv .4),
+)
 
 same-length : tie.Need-same-length Inv-loop μ-loop
 same-length c = search needs

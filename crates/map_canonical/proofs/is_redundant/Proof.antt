@@ -13,10 +13,22 @@ key-at-requires-2 : tie.Need-key-at-requires-2
 key-at-requires-2 c κs = search needs
 
 sub-is-join : tie.Need-sub-is-join
-sub-is-join c = implied-inside _ _ _ (c .before .before .before .before .before .before .before .before .args .mark) _ (c .before .before .before .before .before .before .before .before .args .t .now) (c .before .before .before .best-prefix .result) (c .before .before .before .best-prefix .ensures) (c .before .before .if1 .taken) _ (c .before .key-at .ensures)
+sub-is-join c =
+    let at-key-at = c .before in
+    let at-if1 = at-key-at .before in
+    let at-best-prefix = at-if1 .before in
+    let at-start = at-best-prefix .before .before .before .before .before in
+    implied-inside _ _ _ (at-start .args .mark) _ (at-start .args .t .now) (at-best-prefix .best-prefix .result)
+    (at-best-prefix .best-prefix .ensures) (at-if1 .if1 .taken) _ (at-key-at .key-at .ensures)
 
 part-is-join-start : tie.Need-part-is-join-start
-part-is-join-start c = implied-inside _ _ _ (c .before .before .before .before .before .before .before .before .args .mark) _ (c .before .before .before .before .before .before .before .before .args .t .now) (c .before .before .before .best-prefix .result) (c .before .before .before .best-prefix .ensures) (c .before .before .if1 .taken) _ (c .before .key-at .ensures)
+part-is-join-start c =
+    let at-key-at = c .before in
+    let at-if1 = at-key-at .before in
+    let at-best-prefix = at-if1 .before in
+    let at-start = at-best-prefix .before .before .before .before .before in
+    implied-inside _ _ _ (at-start .args .mark) _ (at-start .args .t .now) (at-best-prefix .best-prefix .result)
+    (at-best-prefix .best-prefix .ensures) (at-if1 .if1 .taken) _ (at-key-at .key-at .ensures)
 
 part-is-join-end : tie.Need-part-is-join-end
 part-is-join-end c = search needs
@@ -25,7 +37,13 @@ is-join-requires : tie.Need-is-join-requires
 is-join-requires c κs = search needs
 
 returns : tie.Need-returns
-returns c = implied-join _ _ _ _ _ _ (c .before .before .before .before .before .best-prefix .result) (c .before .before .before .before .before .best-prefix .ensures) (c .before .before .before .before .if1 .taken) _ _ (c .before .before .before .key-at .ensures) (c .before .before .key-at2 .ensures) _ (c .is-join .ensures)
+returns c =
+    let at-key-at2 = c .before .before in
+    let at-key-at = at-key-at2 .before in
+    let at-if1 = at-key-at .before in
+    let at-best-prefix = at-if1 .before in
+    implied-join _ _ _ _ _ _ (at-best-prefix .best-prefix .result) (at-best-prefix .best-prefix .ensures) (at-if1 .if1 .taken) _ _
+    (at-key-at .key-at .ensures) (at-key-at2 .key-at2 .ensures) _ (c .is-join .ensures)
 
 returns-2 : tie.Need-returns-2
 returns-2 c = implied-none _ _ _ _ _ _ (c .before .before .best-prefix .result) (c .before .before .best-prefix .ensures) (c .before .if1 .left) (c .if2 .taken)
@@ -34,7 +52,12 @@ is-equal-requires : tie.Need-is-equal-requires
 is-equal-requires c κs = search needs
 
 returns-3 : tie.Need-returns-3
-returns-3 c = implied-mark _ _ _ _ _ _ (c .before .before .before .best-prefix .result) (c .before .before .before .best-prefix .ensures) (c .before .before .if1 .left) (c .before .if2 .left) _ (c .is-equal .ensures)
+returns-3 c =
+    let at-if2 = c .before in
+    let at-if1 = at-if2 .before in
+    let at-best-prefix = at-if1 .before in
+    implied-mark _ _ _ _ _ _ (at-best-prefix .best-prefix .result) (at-best-prefix .best-prefix .ensures) (at-if1 .if1 .left) (at-if2 .if2 .left) _
+    (c .is-equal .ensures)
 
 pub is-redundant-spec : {M : Type 1} → statement M
 is-redundant-spec =

@@ -19,7 +19,13 @@ is-root-requires-2 : tie.Need-is-root-requires-2
 is-root-requires-2 c κs = search needs
 
 returns-2 : tie.Need-returns-2
-returns-2 c = roots-both _ _ _ _ (c .before .before .before .before .key-at .ensures) _ (c .before .before .before .is-root .ensures) (c .before .before .if1 .left) _ (c .before .key-at2 .ensures) _ (c .is-root2 .ensures)
+returns-2 c =
+    let at-key-at2 = c .before in
+    let at-if1 = at-key-at2 .before in
+    let at-is-root = at-if1 .before in
+    let at-key-at = at-is-root .before in
+    roots-both _ _ _ _ (at-key-at .key-at .ensures) _ (at-is-root .is-root .ensures) (at-if1 .if1 .left) _ (at-key-at2 .key-at2 .ensures) _
+    (c .is-root2 .ensures)
 
 pub is-root-pair-spec : {M : Type 1} → statement M
 is-root-pair-spec =

@@ -27,9 +27,11 @@ shared-slice-read-keep-pair c = search needs
 
 keep-pair-requires : tie.Need-keep-pair-requires Inv-loop μ-loop
 keep-pair-requires c κs =
-    let l = c .before .before .before .loop in
-    let p = c .before .before .before .before .before .before .before .before .pre in
-    omega (arith, level-held _ _ _ _ _ _ _ _ (p .1 .1) (c .before .before .loop-test .taken) (l .inv .2), l .inv .3)
+    let at-loop-test = c .before .before in
+    let at-loop = at-loop-test .before in
+    let at-start = at-loop .before .before .before .before .before in
+    let l = at-loop .loop in
+    omega (arith, level-held _ _ _ _ _ _ _ _ (at-start .pre .1 .1) (at-loop-test .loop-test .taken) (l .inv .2), l .inv .3)
 
 add-i : tie.Need-add-i Inv-loop μ-loop
 add-i c = search needs

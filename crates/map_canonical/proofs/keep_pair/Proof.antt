@@ -27,9 +27,14 @@ same-length c = search needs
 
 returns-3 : tie.Need-returns-3
 returns-3 c =
-    let k = c .before .before .before .before in
-    let r = k .before .before in
-    pair-implied _ _ _ _ _ isRedundant _ _ _ (r .before .if1 .left) _ (r .is-root-pair .ensures) (k .before .if2 .left) _ _ (k .key-at .ensures) (c .before .before .before .key-at2 .ensures) _ (c .before .is-redundant .ensures) (c .if3 .taken)
+    let at-is-redundant = c .before in
+    let at-key-at2 = at-is-redundant .before .before in
+    let at-key-at = at-key-at2 .before in
+    let at-if2 = at-key-at .before in
+    let at-is-root-pair = at-if2 .before in
+    let at-if1 = at-is-root-pair .before in
+    pair-implied _ _ _ _ _ isRedundant _ _ _ (at-if1 .if1 .left) _ (at-is-root-pair .is-root-pair .ensures) (at-if2 .if2 .left) _ _
+    (at-key-at .key-at .ensures) (at-key-at2 .key-at2 .ensures) _ (at-is-redundant .is-redundant .ensures) (c .if3 .taken)
 
 copy-entry-requires : tie.Need-copy-entry-requires
 copy-entry-requires c κs = search needs
@@ -42,10 +47,17 @@ same-length-2 c = search needs
 
 returns-4 : tie.Need-returns-4
 returns-4 c =
-    let t = c .before .before .before .before in
-    let k = t .before .before .before .before in
-    let r = k .before .before in
-    pair-kept _ _ _ _ _ isRedundant _ _ _ (r .before .if1 .left) _ (r .is-root-pair .ensures) (k .before .if2 .left) _ _ (k .key-at .ensures) (t .before .before .before .key-at2 .ensures) _ (t .before .is-redundant .ensures) (t .if3 .left) _ (c .before .before .copy-entry .ensures)
+    let at-copy-entry = c .before .before in
+    let at-if3 = at-copy-entry .before .before in
+    let at-is-redundant = at-if3 .before in
+    let at-key-at2 = at-is-redundant .before .before in
+    let at-key-at = at-key-at2 .before in
+    let at-if2 = at-key-at .before in
+    let at-is-root-pair = at-if2 .before in
+    let at-if1 = at-is-root-pair .before in
+    pair-kept _ _ _ _ _ isRedundant _ _ _ (at-if1 .if1 .left) _ (at-is-root-pair .is-root-pair .ensures) (at-if2 .if2 .left) _ _
+    (at-key-at .key-at .ensures) (at-key-at2 .key-at2 .ensures) _ (at-is-redundant .is-redundant .ensures) (at-if3 .if3 .left) _
+    (at-copy-entry .copy-entry .ensures)
 
 pub keep-pair-spec : {M : Type 1} → statement M
 keep-pair-spec =

@@ -12,7 +12,15 @@ enum-known-q : tie.Need-enum-known-q
 enum-known-q c = search needs
 
 returns : tie.Need-returns
-returns c = refusing-map _ _ (call-refused (c .before .before .before .before .before .before .before .before .before .before .args .store .now) (c .before .before .before .before .before .before .before .before .before .before .args .places .now) (c .before .before .before .before .before .before .before .before .before .before .args .outer) (c .before .before .before .before .before .before .before .before .before .before .args .istore .now) (c .before .before .before .before .before .before .before .before .before .before .args .iplaces .now) (c .before .before .before .before .before .before .before .before .before .before .args .inner) (c .before .before .before .before .before .before .before .before .before .before .args .out .now) (c .before .before .before .before .before .before .before .before .before .before .args .slots .now) _ (c .before .before .before .validate-lists .ensures) _ (c .before .q .given .1)) _ _
+returns c =
+    let at-q = c .before in
+    let at-validate-lists = at-q .before .before in
+    let at-start = at-validate-lists .before .before .before .before .before .before .before in
+    let args = at-start .args in
+    refusing-map _ _
+    (call-refused (args .store .now) (args .places .now) (args .outer) (args .istore .now) (args .iplaces .now) (args .inner) (args .out .now)
+    (args .slots .now) _ (at-validate-lists .validate-lists .ensures) _ (at-q .q .given .1))
+    _ _
 
 enum-told : tie.Need-enum-told
 enum-told c = search needs
@@ -33,7 +41,20 @@ same-length-2 : tie.Need-same-length-2
 same-length-2 c = search needs
 
 returns-2 : tie.Need-returns-2
-returns-2 c = gives-map _ _ (call-inner (c .before .before .before .before .before .before .before .before .before .before .before .before .before .before .before .before .before .before .before .args .store .now) (c .before .before .before .before .before .before .before .before .before .before .before .before .before .before .before .before .before .before .before .args .places .now) (c .before .before .before .before .before .before .before .before .before .before .before .before .before .before .before .before .before .before .before .args .outer) (c .before .before .before .before .before .before .before .before .before .before .before .before .before .before .before .before .before .before .before .args .istore .now) (c .before .before .before .before .before .before .before .before .before .before .before .before .before .before .before .before .before .before .before .args .iplaces .now) (c .before .before .before .before .before .before .before .before .before .before .before .before .before .before .before .before .before .before .before .args .inner) (c .before .before .before .before .before .before .before .before .before .before .before .before .before .before .before .before .before .before .before .args .out .now) (c .before .before .before .before .before .before .before .before .before .before .before .before .before .before .before .before .before .before .before .args .slots .now) _ (c .before .before .before .before .before .before .before .before .before .before .before .before .validate-lists .ensures) (c .before .before .before .before .before .before .before .before .before .before .enum-told .given .1) _ (c .before .before .before .before .before .before .before .before .before .composed-time .ensures) _ (c .before .before .before .before .before .before .before .before .both .ensures) (c .before .before .before .before .before .before .before .if1 .taken)) _ _ _ _ _ (c .before .before .before .before .without-dropping .ensures)
+returns-2 c =
+    let at-without-dropping = c .before .before .before .before in
+    let at-if1 = at-without-dropping .before .before .before in
+    let at-both = at-if1 .before in
+    let at-composed-time = at-both .before in
+    let at-enum-told = at-composed-time .before in
+    let at-validate-lists = at-enum-told .before .before in
+    let at-start = at-validate-lists .before .before .before .before .before .before .before in
+    let args = at-start .args in
+    gives-map _ _
+    (call-inner (args .store .now) (args .places .now) (args .outer) (args .istore .now) (args .iplaces .now) (args .inner) (args .out .now)
+    (args .slots .now) _ (at-validate-lists .validate-lists .ensures) (at-enum-told .enum-told .given .1) _
+    (at-composed-time .composed-time .ensures) _ (at-both .both .ensures) (at-if1 .if1 .taken))
+    _ _ _ _ _ (at-without-dropping .without-dropping .ensures)
 
 both-requires-2 : tie.Need-both-requires-2
 both-requires-2 c κs = search needs
@@ -48,13 +69,58 @@ same-length-4 : tie.Need-same-length-4
 same-length-4 c = search needs
 
 returns-3 : tie.Need-returns-3
-returns-3 c = gives-map _ _ (call-outer (c .before .before .before .before .before .before .before .before .before .before .before .before .before .before .before .before .before .before .before .before .before .args .store .now) (c .before .before .before .before .before .before .before .before .before .before .before .before .before .before .before .before .before .before .before .before .before .args .places .now) (c .before .before .before .before .before .before .before .before .before .before .before .before .before .before .before .before .before .before .before .before .before .args .outer) (c .before .before .before .before .before .before .before .before .before .before .before .before .before .before .before .before .before .before .before .before .before .args .istore .now) (c .before .before .before .before .before .before .before .before .before .before .before .before .before .before .before .before .before .before .before .before .before .args .iplaces .now) (c .before .before .before .before .before .before .before .before .before .before .before .before .before .before .before .before .before .before .before .before .before .args .inner) (c .before .before .before .before .before .before .before .before .before .before .before .before .before .before .before .before .before .before .before .before .before .args .out .now) (c .before .before .before .before .before .before .before .before .before .before .before .before .before .before .before .before .before .before .before .before .before .args .slots .now) _ (c .before .before .before .before .before .before .before .before .before .before .before .before .before .before .validate-lists .ensures) (c .before .before .before .before .before .before .before .before .before .before .before .before .enum-told .given .1) _ (c .before .before .before .before .before .before .before .before .before .before .before .composed-time .ensures) _ (c .before .before .before .before .before .before .before .before .before .before .both .ensures) (c .before .before .before .before .before .before .before .before .before .if1 .left) _ (c .before .before .before .before .before .before .before .before .both2 .ensures) (c .before .before .before .before .before .before .before .if2 .taken)) _ _ _ _ _ (c .before .before .before .before .without-dropping2 .ensures)
+returns-3 c =
+    let at-without-dropping2 = c .before .before .before .before in
+    let at-if2 = at-without-dropping2 .before .before .before in
+    let at-both2 = at-if2 .before in
+    let at-if1 = at-both2 .before in
+    let at-both = at-if1 .before in
+    let at-composed-time = at-both .before in
+    let at-enum-told = at-composed-time .before in
+    let at-validate-lists = at-enum-told .before .before in
+    let at-start = at-validate-lists .before .before .before .before .before .before .before in
+    let args = at-start .args in
+    gives-map _ _
+    (call-outer (args .store .now) (args .places .now) (args .outer) (args .istore .now) (args .iplaces .now) (args .inner) (args .out .now)
+    (args .slots .now) _ (at-validate-lists .validate-lists .ensures) (at-enum-told .enum-told .given .1) _
+    (at-composed-time .composed-time .ensures) _ (at-both .both .ensures) (at-if1 .if1 .left) _ (at-both2 .both2 .ensures) (at-if2 .if2 .taken))
+    _ _ _ _ _ (at-without-dropping2 .without-dropping2 .ensures)
 
 add-if3 : tie.Need-add-if3
-add-if3 c = omega (arith, call-few (c .before .before .before .before .before .before .before .before .before .before .before .before .before .before .args .store .now) (c .before .before .before .before .before .before .before .before .before .before .before .before .before .before .args .places .now) (c .before .before .before .before .before .before .before .before .before .before .before .before .before .before .args .outer) (c .before .before .before .before .before .before .before .before .before .before .before .before .before .before .args .istore .now) (c .before .before .before .before .before .before .before .before .before .before .before .before .before .before .args .iplaces .now) (c .before .before .before .before .before .before .before .before .before .before .before .before .before .before .args .inner) (c .before .before .before .before .before .before .before .before .before .before .before .before .before .before .args .out .now) (c .before .before .before .before .before .before .before .before .before .before .before .before .before .before .args .slots .now) _ (c .before .before .before .before .before .before .before .validate-lists .ensures) (c .before .before .before .before .before .enum-told .given .1))
+add-if3 c =
+    let at-enum-told = c .before .before .before .before .before in
+    let at-validate-lists = at-enum-told .before .before in
+    let at-start = at-validate-lists .before .before .before .before .before .before .before in
+    let args = at-start .args in
+    omega (
+      arith,
+      call-few (args .store .now) (args .places .now) (args .outer) (args .istore .now) (args .iplaces .now) (args .inner) (args .out .now)
+          (args .slots .now) _ (at-validate-lists .validate-lists .ensures) (at-enum-told .enum-told .given .1),
+    )
 
 compose-small-requires : tie.Need-compose-small-requires
-compose-small-requires c κs = (call-bounded (c .before .before .before .before .before .before .before .before .before .before .before .before .before .before .before .before .before .args .store .now) (c .before .before .before .before .before .before .before .before .before .before .before .before .before .before .before .before .before .args .places .now) (c .before .before .before .before .before .before .before .before .before .before .before .before .before .before .before .before .before .args .outer) (c .before .before .before .before .before .before .before .before .before .before .before .before .before .before .before .before .before .args .istore .now) (c .before .before .before .before .before .before .before .before .before .before .before .before .before .before .before .before .before .args .iplaces .now) (c .before .before .before .before .before .before .before .before .before .before .before .before .before .before .before .before .before .args .inner) (c .before .before .before .before .before .before .before .before .before .before .before .before .before .before .before .before .before .args .out .now) (c .before .before .before .before .before .before .before .before .before .before .before .before .before .before .before .before .before .args .slots .now) _ (c .before .before .before .before .before .before .before .before .before .before .validate-lists .ensures) (c .before .before .before .before .before .before .before .before .enum-told .given .1), (call-bounded-inner (c .before .before .before .before .before .before .before .before .before .before .before .before .before .before .before .before .before .args .store .now) (c .before .before .before .before .before .before .before .before .before .before .before .before .before .before .before .before .before .args .places .now) (c .before .before .before .before .before .before .before .before .before .before .before .before .before .before .before .before .before .args .outer) (c .before .before .before .before .before .before .before .before .before .before .before .before .before .before .before .before .before .args .istore .now) (c .before .before .before .before .before .before .before .before .before .before .before .before .before .before .before .before .before .args .iplaces .now) (c .before .before .before .before .before .before .before .before .before .before .before .before .before .before .before .before .before .args .inner) (c .before .before .before .before .before .before .before .before .before .before .before .before .before .before .before .before .before .args .out .now) (c .before .before .before .before .before .before .before .before .before .before .before .before .before .before .before .before .before .args .slots .now) _ (c .before .before .before .before .before .before .before .before .before .before .validate-lists .ensures) (c .before .before .before .before .before .before .before .before .enum-told .given .1), (call-ends (c .before .before .before .before .before .before .before .before .before .before .before .before .before .before .before .before .before .args .store .now) (c .before .before .before .before .before .before .before .before .before .before .before .before .before .before .before .before .before .args .places .now) (c .before .before .before .before .before .before .before .before .before .before .before .before .before .before .before .before .before .args .outer) (c .before .before .before .before .before .before .before .before .before .before .before .before .before .before .before .before .before .args .istore .now) (c .before .before .before .before .before .before .before .before .before .before .before .before .before .before .before .before .before .args .iplaces .now) (c .before .before .before .before .before .before .before .before .before .before .before .before .before .before .before .before .before .args .inner) (c .before .before .before .before .before .before .before .before .before .before .before .before .before .before .before .before .before .args .out .now) (c .before .before .before .before .before .before .before .before .before .before .before .before .before .before .before .before .before .args .slots .now) _ (c .before .before .before .before .before .before .before .before .before .before .validate-lists .ensures) (c .before .before .before .before .before .before .before .before .enum-told .given .1), (call-ends-inner (c .before .before .before .before .before .before .before .before .before .before .before .before .before .before .before .before .before .args .store .now) (c .before .before .before .before .before .before .before .before .before .before .before .before .before .before .before .before .before .args .places .now) (c .before .before .before .before .before .before .before .before .before .before .before .before .before .before .before .before .before .args .outer) (c .before .before .before .before .before .before .before .before .before .before .before .before .before .before .before .before .before .args .istore .now) (c .before .before .before .before .before .before .before .before .before .before .before .before .before .before .before .before .before .args .iplaces .now) (c .before .before .before .before .before .before .before .before .before .before .before .before .before .before .before .before .before .args .inner) (c .before .before .before .before .before .before .before .before .before .before .before .before .before .before .before .before .before .args .out .now) (c .before .before .before .before .before .before .before .before .before .before .before .before .before .before .before .before .before .args .slots .now) _ (c .before .before .before .before .before .before .before .before .before .before .validate-lists .ensures) (c .before .before .before .before .before .before .before .before .enum-told .given .1), c .before .before .if3 .taken))))
+compose-small-requires c κs =
+    let at-if3 = c .before .before in
+    let at-enum-told = at-if3 .before .before .before .before .before .before in
+    let at-validate-lists = at-enum-told .before .before in
+    let at-start = at-validate-lists .before .before .before .before .before .before .before in
+    let args = at-start .args in (
+      call-bounded (args .store .now) (args .places .now) (args .outer) (args .istore .now) (args .iplaces .now) (args .inner) (args .out .now)
+          (args .slots .now) _ (at-validate-lists .validate-lists .ensures) (at-enum-told .enum-told .given .1),
+      (
+        call-bounded-inner (args .store .now) (args .places .now) (args .outer) (args .istore .now) (args .iplaces .now) (args .inner)
+            (args .out .now) (args .slots .now) _ (at-validate-lists .validate-lists .ensures) (at-enum-told .enum-told .given .1),
+        (
+          call-ends (args .store .now) (args .places .now) (args .outer) (args .istore .now) (args .iplaces .now) (args .inner) (args .out .now)
+              (args .slots .now) _ (at-validate-lists .validate-lists .ensures) (at-enum-told .enum-told .given .1),
+          (
+            call-ends-inner (args .store .now) (args .places .now) (args .outer) (args .istore .now) (args .iplaces .now) (args .inner)
+                (args .out .now) (args .slots .now) _ (at-validate-lists .validate-lists .ensures) (at-enum-told .enum-told .given .1),
+            at-if3 .if3 .taken,
+          ),
+        ),
+      ),
+    )
 
 same-length-5 : tie.Need-same-length-5
 same-length-5 c = search needs
@@ -63,10 +129,46 @@ same-length-6 : tie.Need-same-length-6
 same-length-6 c = search needs
 
 returns-4 : tie.Need-returns-4
-returns-4 c = gives-map _ _ (call-composed (c .before .before .before .before .before .before .before .before .before .before .before .before .before .before .before .before .before .before .before .before .before .before .args .store .now) (c .before .before .before .before .before .before .before .before .before .before .before .before .before .before .before .before .before .before .before .before .before .before .args .places .now) (c .before .before .before .before .before .before .before .before .before .before .before .before .before .before .before .before .before .before .before .before .before .before .args .outer) (c .before .before .before .before .before .before .before .before .before .before .before .before .before .before .before .before .before .before .before .before .before .before .args .istore .now) (c .before .before .before .before .before .before .before .before .before .before .before .before .before .before .before .before .before .before .before .before .before .before .args .iplaces .now) (c .before .before .before .before .before .before .before .before .before .before .before .before .before .before .before .before .before .before .before .before .before .before .args .inner) (c .before .before .before .before .before .before .before .before .before .before .before .before .before .before .before .before .before .before .before .before .before .before .args .out .now) (c .before .before .before .before .before .before .before .before .before .before .before .before .before .before .before .before .before .before .before .before .before .before .args .slots .now) _ (c .before .before .before .before .before .before .before .before .before .before .before .before .before .before .before .validate-lists .ensures) (c .before .before .before .before .before .before .before .before .before .before .before .before .before .enum-told .given .1) _ (c .before .before .before .before .before .before .before .before .before .before .before .before .composed-time .ensures) _ (c .before .before .before .before .before .before .before .before .before .before .before .both .ensures) (c .before .before .before .before .before .before .before .before .before .before .if1 .left) _ (c .before .before .before .before .before .before .before .before .before .both2 .ensures) (c .before .before .before .before .before .before .before .before .if2 .left)) _ _ _ _ _ (c .before .before .before .before .compose-small .ensures)
+returns-4 c =
+    let at-compose-small = c .before .before .before .before in
+    let at-if2 = at-compose-small .before .before .before .before in
+    let at-both2 = at-if2 .before in
+    let at-if1 = at-both2 .before in
+    let at-both = at-if1 .before in
+    let at-composed-time = at-both .before in
+    let at-enum-told = at-composed-time .before in
+    let at-validate-lists = at-enum-told .before .before in
+    let at-start = at-validate-lists .before .before .before .before .before .before .before in
+    let args = at-start .args in
+    gives-map _ _
+    (call-composed (args .store .now) (args .places .now) (args .outer) (args .istore .now) (args .iplaces .now) (args .inner) (args .out .now)
+    (args .slots .now) _ (at-validate-lists .validate-lists .ensures) (at-enum-told .enum-told .given .1) _
+    (at-composed-time .composed-time .ensures) _ (at-both .both .ensures) (at-if1 .if1 .left) _ (at-both2 .both2 .ensures) (at-if2 .if2 .left))
+    _ _ _ _ _ (at-compose-small .compose-small .ensures)
 
 compose-large-requires : tie.Need-compose-large-requires
-compose-large-requires c κs = (call-bounded (c .before .before .before .before .before .before .before .before .before .before .before .before .before .before .before .before .before .args .store .now) (c .before .before .before .before .before .before .before .before .before .before .before .before .before .before .before .before .before .args .places .now) (c .before .before .before .before .before .before .before .before .before .before .before .before .before .before .before .before .before .args .outer) (c .before .before .before .before .before .before .before .before .before .before .before .before .before .before .before .before .before .args .istore .now) (c .before .before .before .before .before .before .before .before .before .before .before .before .before .before .before .before .before .args .iplaces .now) (c .before .before .before .before .before .before .before .before .before .before .before .before .before .before .before .before .before .args .inner) (c .before .before .before .before .before .before .before .before .before .before .before .before .before .before .before .before .before .args .out .now) (c .before .before .before .before .before .before .before .before .before .before .before .before .before .before .before .before .before .args .slots .now) _ (c .before .before .before .before .before .before .before .before .before .before .validate-lists .ensures) (c .before .before .before .before .before .before .before .before .enum-told .given .1), (call-bounded-inner (c .before .before .before .before .before .before .before .before .before .before .before .before .before .before .before .before .before .args .store .now) (c .before .before .before .before .before .before .before .before .before .before .before .before .before .before .before .before .before .args .places .now) (c .before .before .before .before .before .before .before .before .before .before .before .before .before .before .before .before .before .args .outer) (c .before .before .before .before .before .before .before .before .before .before .before .before .before .before .before .before .before .args .istore .now) (c .before .before .before .before .before .before .before .before .before .before .before .before .before .before .before .before .before .args .iplaces .now) (c .before .before .before .before .before .before .before .before .before .before .before .before .before .before .before .before .before .args .inner) (c .before .before .before .before .before .before .before .before .before .before .before .before .before .before .before .before .before .args .out .now) (c .before .before .before .before .before .before .before .before .before .before .before .before .before .before .before .before .before .args .slots .now) _ (c .before .before .before .before .before .before .before .before .before .before .validate-lists .ensures) (c .before .before .before .before .before .before .before .before .enum-told .given .1), (call-ends (c .before .before .before .before .before .before .before .before .before .before .before .before .before .before .before .before .before .args .store .now) (c .before .before .before .before .before .before .before .before .before .before .before .before .before .before .before .before .before .args .places .now) (c .before .before .before .before .before .before .before .before .before .before .before .before .before .before .before .before .before .args .outer) (c .before .before .before .before .before .before .before .before .before .before .before .before .before .before .before .before .before .args .istore .now) (c .before .before .before .before .before .before .before .before .before .before .before .before .before .before .before .before .before .args .iplaces .now) (c .before .before .before .before .before .before .before .before .before .before .before .before .before .before .before .before .before .args .inner) (c .before .before .before .before .before .before .before .before .before .before .before .before .before .before .before .before .before .args .out .now) (c .before .before .before .before .before .before .before .before .before .before .before .before .before .before .before .before .before .args .slots .now) _ (c .before .before .before .before .before .before .before .before .before .before .validate-lists .ensures) (c .before .before .before .before .before .before .before .before .enum-told .given .1), (call-ends-inner (c .before .before .before .before .before .before .before .before .before .before .before .before .before .before .before .before .before .args .store .now) (c .before .before .before .before .before .before .before .before .before .before .before .before .before .before .before .before .before .args .places .now) (c .before .before .before .before .before .before .before .before .before .before .before .before .before .before .before .before .before .args .outer) (c .before .before .before .before .before .before .before .before .before .before .before .before .before .before .before .before .before .args .istore .now) (c .before .before .before .before .before .before .before .before .before .before .before .before .before .before .before .before .before .args .iplaces .now) (c .before .before .before .before .before .before .before .before .before .before .before .before .before .before .before .before .before .args .inner) (c .before .before .before .before .before .before .before .before .before .before .before .before .before .before .before .before .before .args .out .now) (c .before .before .before .before .before .before .before .before .before .before .before .before .before .before .before .before .before .args .slots .now) _ (c .before .before .before .before .before .before .before .before .before .before .validate-lists .ensures) (c .before .before .before .before .before .before .before .before .enum-told .given .1), call-few (c .before .before .before .before .before .before .before .before .before .before .before .before .before .before .before .before .before .args .store .now) (c .before .before .before .before .before .before .before .before .before .before .before .before .before .before .before .before .before .args .places .now) (c .before .before .before .before .before .before .before .before .before .before .before .before .before .before .before .before .before .args .outer) (c .before .before .before .before .before .before .before .before .before .before .before .before .before .before .before .before .before .args .istore .now) (c .before .before .before .before .before .before .before .before .before .before .before .before .before .before .before .before .before .args .iplaces .now) (c .before .before .before .before .before .before .before .before .before .before .before .before .before .before .before .before .before .args .inner) (c .before .before .before .before .before .before .before .before .before .before .before .before .before .before .before .before .before .args .out .now) (c .before .before .before .before .before .before .before .before .before .before .before .before .before .before .before .before .before .args .slots .now) _ (c .before .before .before .before .before .before .before .before .before .before .validate-lists .ensures) (c .before .before .before .before .before .before .before .before .enum-told .given .1)))))
+compose-large-requires c κs =
+    let at-enum-told = c .before .before .before .before .before .before .before .before in
+    let at-validate-lists = at-enum-told .before .before in
+    let at-start = at-validate-lists .before .before .before .before .before .before .before in
+    let args = at-start .args in (
+      call-bounded (args .store .now) (args .places .now) (args .outer) (args .istore .now) (args .iplaces .now) (args .inner) (args .out .now)
+          (args .slots .now) _ (at-validate-lists .validate-lists .ensures) (at-enum-told .enum-told .given .1),
+      (
+        call-bounded-inner (args .store .now) (args .places .now) (args .outer) (args .istore .now) (args .iplaces .now) (args .inner)
+            (args .out .now) (args .slots .now) _ (at-validate-lists .validate-lists .ensures) (at-enum-told .enum-told .given .1),
+        (
+          call-ends (args .store .now) (args .places .now) (args .outer) (args .istore .now) (args .iplaces .now) (args .inner) (args .out .now)
+              (args .slots .now) _ (at-validate-lists .validate-lists .ensures) (at-enum-told .enum-told .given .1),
+          (
+            call-ends-inner (args .store .now) (args .places .now) (args .outer) (args .istore .now) (args .iplaces .now) (args .inner)
+                (args .out .now) (args .slots .now) _ (at-validate-lists .validate-lists .ensures) (at-enum-told .enum-told .given .1),
+            call-few (args .store .now) (args .places .now) (args .outer) (args .istore .now) (args .iplaces .now) (args .inner) (args .out .now)
+                (args .slots .now) _ (at-validate-lists .validate-lists .ensures) (at-enum-told .enum-told .given .1),
+          ),
+        ),
+      ),
+    )
 
 same-length-7 : tie.Need-same-length-7
 same-length-7 c = search needs
@@ -75,7 +177,22 @@ same-length-8 : tie.Need-same-length-8
 same-length-8 c = search needs
 
 returns-5 : tie.Need-returns-5
-returns-5 c = gives-map _ _ (call-composed (c .before .before .before .before .before .before .before .before .before .before .before .before .before .before .before .before .before .before .before .before .before .before .args .store .now) (c .before .before .before .before .before .before .before .before .before .before .before .before .before .before .before .before .before .before .before .before .before .before .args .places .now) (c .before .before .before .before .before .before .before .before .before .before .before .before .before .before .before .before .before .before .before .before .before .before .args .outer) (c .before .before .before .before .before .before .before .before .before .before .before .before .before .before .before .before .before .before .before .before .before .before .args .istore .now) (c .before .before .before .before .before .before .before .before .before .before .before .before .before .before .before .before .before .before .before .before .before .before .args .iplaces .now) (c .before .before .before .before .before .before .before .before .before .before .before .before .before .before .before .before .before .before .before .before .before .before .args .inner) (c .before .before .before .before .before .before .before .before .before .before .before .before .before .before .before .before .before .before .before .before .before .before .args .out .now) (c .before .before .before .before .before .before .before .before .before .before .before .before .before .before .before .before .before .before .before .before .before .before .args .slots .now) _ (c .before .before .before .before .before .before .before .before .before .before .before .before .before .before .before .validate-lists .ensures) (c .before .before .before .before .before .before .before .before .before .before .before .before .before .enum-told .given .1) _ (c .before .before .before .before .before .before .before .before .before .before .before .before .composed-time .ensures) _ (c .before .before .before .before .before .before .before .before .before .before .before .both .ensures) (c .before .before .before .before .before .before .before .before .before .before .if1 .left) _ (c .before .before .before .before .before .before .before .before .before .both2 .ensures) (c .before .before .before .before .before .before .before .before .if2 .left)) _ _ _ _ _ (c .before .before .before .before .compose-large .ensures)
+returns-5 c =
+    let at-compose-large = c .before .before .before .before in
+    let at-if2 = at-compose-large .before .before .before .before in
+    let at-both2 = at-if2 .before in
+    let at-if1 = at-both2 .before in
+    let at-both = at-if1 .before in
+    let at-composed-time = at-both .before in
+    let at-enum-told = at-composed-time .before in
+    let at-validate-lists = at-enum-told .before .before in
+    let at-start = at-validate-lists .before .before .before .before .before .before .before in
+    let args = at-start .args in
+    gives-map _ _
+    (call-composed (args .store .now) (args .places .now) (args .outer) (args .istore .now) (args .iplaces .now) (args .inner) (args .out .now)
+    (args .slots .now) _ (at-validate-lists .validate-lists .ensures) (at-enum-told .enum-told .given .1) _
+    (at-composed-time .composed-time .ensures) _ (at-both .both .ensures) (at-if1 .if1 .left) _ (at-both2 .both2 .ensures) (at-if2 .if2 .left))
+    _ _ _ _ _ (at-compose-large .compose-large .ensures)
 
 pub compose-spec : {M : Type 1} → statement M
 compose-spec =

@@ -20,12 +20,18 @@ both-requires c κs = search needs
 
 from-scratch-requires : tie.Need-from-scratch-requires
 from-scratch-requires c κs =
-    let a = c .before .before .before .before .before .before .before .before .before .before .before .before .before .before .before .before .before .before .before .before .before .args in
-    let p = c .before .before .before .before .before .before .before .before .before .before .before .before .before .before .before .before .before .before .before .before .before .pre in
-    let outer = mapOf (a .store .now) (a .places .now) (a .outer) in
-    let inner = mapOf (a .istore .now) (a .iplaces .now) (a .inner) in
-    let held = into-holds outer inner (a .bytes .now) (a .own .now) (enough-yes (a .store .now) (a .places .now) (a .outer .count) (a .istore .now) (a .iplaces .now) (a .inner .count) _ _ (p .0) (p .1 .0) (p .1 .1 .1 .1 .0) (p .1 .1 .1 .1 .1)) _ _ _ (c .before .before .before .before .before .before .before .before .before .before .compose-into .ensures) in
-    (built-held _ _ _ _ _ held, made-ends outer inner (p .1 .1 .0) (p .1 .1 .1 .0) _ _ _ _ held)
+    let at-compose-into = c .before .before .before .before .before .before .before .before .before .before in
+    let at-start = at-compose-into .before .before .before .before .before .before .before .before .before .before .before in
+    let args = at-start .args in
+    let pre = at-start .pre in
+    let outer = mapOf (args .store .now) (args .places .now) (args .outer) in
+    let inner = mapOf (args .istore .now) (args .iplaces .now) (args .inner) in
+    let held =
+    into-holds outer inner (args .bytes .now) (args .own .now)
+    (enough-yes (args .store .now) (args .places .now) (args .outer .count) (args .istore .now) (args .iplaces .now) (args .inner .count) _ _
+    (pre .0) (pre .1 .0) (pre .1 .1 .1 .1 .0) (pre .1 .1 .1 .1 .1))
+    _ _ _ (at-compose-into .compose-into .ensures) in
+    (built-held _ _ _ _ _ held, made-ends outer inner (pre .1 .1 .0) (pre .1 .1 .1 .0) _ _ _ _ held)
 
 same-length : tie.Need-same-length
 same-length c = search needs
@@ -40,7 +46,24 @@ same-length-4 : tie.Need-same-length-4
 same-length-4 c = search needs
 
 returns : tie.Need-returns
-returns c = gives-map _ _ (built-map (mapOf (c .before .before .before .before .before .before .before .before .before .before .before .before .before .before .before .before .before .before .before .before .before .before .before .before .before .before .args .store .now) (c .before .before .before .before .before .before .before .before .before .before .before .before .before .before .before .before .before .before .before .before .before .before .before .before .before .before .args .places .now) (c .before .before .before .before .before .before .before .before .before .before .before .before .before .before .before .before .before .before .before .before .before .before .before .before .before .before .args .outer)) (mapOf (c .before .before .before .before .before .before .before .before .before .before .before .before .before .before .before .before .before .before .before .before .before .before .before .before .before .before .args .istore .now) (c .before .before .before .before .before .before .before .before .before .before .before .before .before .before .before .before .before .before .before .before .before .before .before .before .before .before .args .iplaces .now) (c .before .before .before .before .before .before .before .before .before .before .before .before .before .before .before .before .before .before .before .before .before .before .before .before .before .before .args .inner)) (composedTimeOf (c .before .before .before .before .before .before .before .before .before .before .before .before .before .before .before .before .before .before .before .before .before .before .before .before .before .before .args .outer) (c .before .before .before .before .before .before .before .before .before .before .before .before .before .before .before .before .before .before .before .before .before .before .before .before .before .before .args .inner)) (c .before .before .before .before .before .before .before .before .before .before .before .before .before .before .before .before .before .before .before .before .before .before .before .before .before .before .args .out .now) (c .before .before .before .before .before .before .before .before .before .before .before .before .before .before .before .before .before .before .before .before .before .before .before .before .before .before .args .slots .now) _ _ _ _ (into-holds (mapOf (c .before .before .before .before .before .before .before .before .before .before .before .before .before .before .before .before .before .before .before .before .before .before .before .before .before .before .args .store .now) (c .before .before .before .before .before .before .before .before .before .before .before .before .before .before .before .before .before .before .before .before .before .before .before .before .before .before .args .places .now) (c .before .before .before .before .before .before .before .before .before .before .before .before .before .before .before .before .before .before .before .before .before .before .before .before .before .before .args .outer)) (mapOf (c .before .before .before .before .before .before .before .before .before .before .before .before .before .before .before .before .before .before .before .before .before .before .before .before .before .before .args .istore .now) (c .before .before .before .before .before .before .before .before .before .before .before .before .before .before .before .before .before .before .before .before .before .before .before .before .before .before .args .iplaces .now) (c .before .before .before .before .before .before .before .before .before .before .before .before .before .before .before .before .before .before .before .before .before .before .before .before .before .before .args .inner)) (c .before .before .before .before .before .before .before .before .before .before .before .before .before .before .before .before .before .before .before .before .before .before .before .before .before .before .args .bytes .now) (c .before .before .before .before .before .before .before .before .before .before .before .before .before .before .before .before .before .before .before .before .before .before .before .before .before .before .args .own .now) (enough-yes (c .before .before .before .before .before .before .before .before .before .before .before .before .before .before .before .before .before .before .before .before .before .before .before .before .before .before .args .store .now) (c .before .before .before .before .before .before .before .before .before .before .before .before .before .before .before .before .before .before .before .before .before .before .before .before .before .before .args .places .now) (c .before .before .before .before .before .before .before .before .before .before .before .before .before .before .before .before .before .before .before .before .before .before .before .before .before .before .args .outer .count) (c .before .before .before .before .before .before .before .before .before .before .before .before .before .before .before .before .before .before .before .before .before .before .before .before .before .before .args .istore .now) (c .before .before .before .before .before .before .before .before .before .before .before .before .before .before .before .before .before .before .before .before .before .before .before .before .before .before .args .iplaces .now) (c .before .before .before .before .before .before .before .before .before .before .before .before .before .before .before .before .before .before .before .before .before .before .before .before .before .before .args .inner .count) _ _ (c .before .before .before .before .before .before .before .before .before .before .before .before .before .before .before .before .before .before .before .before .before .before .before .before .before .before .pre .0) (c .before .before .before .before .before .before .before .before .before .before .before .before .before .before .before .before .before .before .before .before .before .before .before .before .before .before .pre .1 .0) (c .before .before .before .before .before .before .before .before .before .before .before .before .before .before .before .before .before .before .before .before .before .before .before .before .before .before .pre .1 .1 .1 .1 .0) (c .before .before .before .before .before .before .before .before .before .before .before .before .before .before .before .before .before .before .before .before .before .before .before .before .before .before .pre .1 .1 .1 .1 .1)) _ _ _ (c .before .before .before .before .before .before .before .before .before .before .before .before .before .before .before .compose-into .ensures)) _ (c .before .before .before .before .before .before .before .both .ensures) _ (c .before .before .before .before .before .before .before .before .before .before .composed-time .ensures)) _ _ _ _ _ (c .before .before .before .before .from-scratch .ensures)
+returns c =
+    let at-from-scratch = c .before .before .before .before in
+    let at-both = at-from-scratch .before .before .before in
+    let at-composed-time = at-both .before .before .before in
+    let at-compose-into = at-composed-time .before .before .before .before .before in
+    let at-start = at-compose-into .before .before .before .before .before .before .before .before .before .before .before in
+    let args = at-start .args in
+    let pre = at-start .pre in
+    let its-mapOf = mapOf (args .istore .now) (args .iplaces .now) (args .inner) in
+    let its-mapOf-2 = mapOf (args .store .now) (args .places .now) (args .outer) in
+    gives-map _ _
+    (built-map its-mapOf-2 its-mapOf (composedTimeOf (args .outer) (args .inner)) (args .out .now) (args .slots .now) _ _ _ _
+    (into-holds its-mapOf-2 its-mapOf (args .bytes .now) (args .own .now)
+    (enough-yes (args .store .now) (args .places .now) (args .outer .count) (args .istore .now) (args .iplaces .now) (args .inner .count) _ _
+    (pre .0) (pre .1 .0) (pre .1 .1 .1 .1 .0) (pre .1 .1 .1 .1 .1))
+    _ _ _ (at-compose-into .compose-into .ensures))
+    _ (at-both .both .ensures) _ (at-composed-time .composed-time .ensures))
+    _ _ _ _ _ (at-from-scratch .from-scratch .ensures)
 
 pub compose-in-spec : {M : Type 1} → statement M
 compose-in-spec =

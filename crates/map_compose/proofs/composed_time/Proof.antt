@@ -21,7 +21,13 @@ concatenate-requires : tie.Need-concatenate-requires
 concatenate-requires c κs = search needs
 
 returns-2 : tie.Need-returns-2
-returns-2 c = time-other _ _ _ _ _ (c .before .before .before .before .is-identity .ensures) (c .before .before .before .is-identity2 .ensures) (c .before .before .both .ensures) (c .before .if1 .left) _ (c .concatenate .ensures)
+returns-2 c =
+    let at-if1 = c .before in
+    let at-both = at-if1 .before in
+    let at-is-identity2 = at-both .before in
+    let at-is-identity = at-is-identity2 .before in
+    time-other _ _ _ _ _ (at-is-identity .is-identity .ensures) (at-is-identity2 .is-identity2 .ensures) (at-both .both .ensures) (at-if1 .if1 .left)
+    _ (c .concatenate .ensures)
 
 pub composed-time-spec : {M : Type 1} → statement M
 composed-time-spec =

@@ -17,22 +17,67 @@ same-length-2 : tie.Need-same-length-2
 same-length-2 c = search needs
 
 returns : tie.Need-returns
-returns c = gives-map _ _ (made-parts (c .before .before .before .before .before .before .before .before .before .before .before .before .before .args .store .now) (c .before .before .before .before .before .before .before .before .before .before .before .before .before .args .places .now) (c .before .before .before .before .before .before .before .before .before .before .before .before .before .args .n) (c .before .before .before .before .before .before .before .before .before .before .before .before .before .args .mark) (c .before .before .before .before .before .before .before .before .before .before .before .before .before .args .time) (c .before .before .before .before .before .before .before .before .before .before .before .before .before .args .out .now) (c .before .before .before .before .before .before .before .before .before .before .before .before .before .args .slots .now) _ (c .before .before .before .before .before .before .before .before .all-short .ensures) (c .before .before .before .before .before .before .before .if1 .taken) (c .before .before .before .before .before .before .before .before .before .before .before .before .before .pre .0) (c .before .before .before .before .before .before .before .before .before .before .before .before .before .pre .1)) _ _ _ _ _ (c .before .before .before .before .from-parts .ensures)
+returns c =
+    let at-from-parts = c .before .before .before .before in
+    let at-if1 = at-from-parts .before .before .before in
+    let at-all-short = at-if1 .before in
+    let at-start = at-all-short .before .before .before .before .before in
+    let args = at-start .args in
+    gives-map _ _
+    (made-parts (args .store .now) (args .places .now) (args .n) (args .mark) (args .time) (args .out .now) (args .slots .now) _
+    (at-all-short .all-short .ensures) (at-if1 .if1 .taken) (at-start .pre .0) (at-start .pre .1))
+    _ _ _ _ _ (at-from-parts .from-parts .ensures)
 
 returns-2 : tie.Need-returns-2
-returns-2 c = refusing-map _ _ (made-many (c .before .before .before .before .before .before .before .args .store .now) (c .before .before .before .before .before .before .before .args .places .now) (c .before .before .before .before .before .before .before .args .n) (c .before .before .before .before .before .before .before .args .mark) (c .before .before .before .before .before .before .before .args .time) (c .before .before .before .before .before .before .before .args .out .now) (c .before .before .before .before .before .before .before .args .slots .now) _ (c .before .before .all-short .ensures) (c .if2 .taken)) _ _
+returns-2 c =
+    let at-all-short = c .before .before in
+    let at-start = at-all-short .before .before .before .before .before in
+    let args = at-start .args in
+    refusing-map _ _
+    (made-many (args .store .now) (args .places .now) (args .n) (args .mark) (args .time) (args .out .now) (args .slots .now) _
+    (at-all-short .all-short .ensures) (c .if2 .taken))
+    _ _
 
 returns-3 : tie.Need-returns-3
-returns-3 c = refusing-map _ _ (made-slots (c .before .before .before .before .before .before .before .before .args .store .now) (c .before .before .before .before .before .before .before .before .args .places .now) (c .before .before .before .before .before .before .before .before .args .n) (c .before .before .before .before .before .before .before .before .args .mark) (c .before .before .before .before .before .before .before .before .args .time) (c .before .before .before .before .before .before .before .before .args .out .now) (c .before .before .before .before .before .before .before .before .args .slots .now) _ (c .before .before .before .all-short .ensures) (c .before .if2 .left) (c .if3 .taken)) _ _
+returns-3 c =
+    let at-if2 = c .before in
+    let at-all-short = at-if2 .before .before in
+    let at-start = at-all-short .before .before .before .before .before in
+    let args = at-start .args in
+    refusing-map _ _
+    (made-slots (args .store .now) (args .places .now) (args .n) (args .mark) (args .time) (args .out .now) (args .slots .now) _
+    (at-all-short .all-short .ensures) (at-if2 .if2 .left) (c .if3 .taken))
+    _ _
 
 list-fits-requires : tie.Need-list-fits-requires
 list-fits-requires c κs = search needs
 
 returns-4 : tie.Need-returns-4
-returns-4 c = refusing-map _ _ (made-bytes (c .before .before .before .before .before .before .before .before .before .before .args .store .now) (c .before .before .before .before .before .before .before .before .before .before .args .places .now) (c .before .before .before .before .before .before .before .before .before .before .args .n) (c .before .before .before .before .before .before .before .before .before .before .args .mark) (c .before .before .before .before .before .before .before .before .before .before .args .time) (c .before .before .before .before .before .before .before .before .before .before .args .out .now) (c .before .before .before .before .before .before .before .before .before .before .args .slots .now) _ (c .before .before .before .before .before .all-short .ensures) (c .before .before .before .if2 .left) _ (c .before .list-fits .ensures) (c .if4 .taken)) _ _
+returns-4 c =
+    let at-list-fits = c .before in
+    let at-if2 = at-list-fits .before .before in
+    let at-all-short = at-if2 .before .before in
+    let at-start = at-all-short .before .before .before .before .before in
+    let args = at-start .args in
+    refusing-map _ _
+    (made-bytes (args .store .now) (args .places .now) (args .n) (args .mark) (args .time) (args .out .now) (args .slots .now) _
+    (at-all-short .all-short .ensures) (at-if2 .if2 .left) _ (at-list-fits .list-fits .ensures) (c .if4 .taken))
+    _ _
 
 returns-5 : tie.Need-returns-5
-returns-5 c = refusing-map _ _ (made-long (c .before .before .before .before .before .before .before .before .before .before .args .store .now) (c .before .before .before .before .before .before .before .before .before .before .args .places .now) (c .before .before .before .before .before .before .before .before .before .before .args .n) (c .before .before .before .before .before .before .before .before .before .before .args .mark) (c .before .before .before .before .before .before .before .before .before .before .args .time) (c .before .before .before .before .before .before .before .before .before .before .args .out .now) (c .before .before .before .before .before .before .before .before .before .before .args .slots .now) _ (c .before .before .before .before .before .all-short .ensures) (c .before .before .before .if2 .left) _ (c .before .list-fits .ensures) (c .before .before .before .before .if1 .left) (c .before .before .if3 .left) (c .if4 .left)) _ _
+returns-5 c =
+    let at-list-fits = c .before in
+    let at-if3 = at-list-fits .before in
+    let at-if2 = at-if3 .before in
+    let at-if1 = at-if2 .before in
+    let at-all-short = at-if1 .before in
+    let at-start = at-all-short .before .before .before .before .before in
+    let args = at-start .args in
+    refusing-map _ _
+    (made-long (args .store .now) (args .places .now) (args .n) (args .mark) (args .time) (args .out .now) (args .slots .now) _
+    (at-all-short .all-short .ensures) (at-if2 .if2 .left) _ (at-list-fits .list-fits .ensures) (at-if1 .if1 .left) (at-if3 .if3 .left)
+    (c .if4 .left))
+    _ _
 
 pub from-scratch-spec : {M : Type 1} → statement M
 from-scratch-spec =

@@ -21,7 +21,15 @@ abbrev μ-loop : tie.MeasureT-loop
 μ-loop store places n node above below bytes₀ slots₀ at₀ i₀ bytes slots at i = n - i
 
 loop-holds : tie.Need-loop-holds Inv-loop μ-loop
-loop-holds c = (search needs, search needs, build-begin (λ (x : Pair). deepenedPair (c .before .before .before .before .before .before .before .args .node .now) (c .before .before .before .before .before .before .before .args .above .now) (c .before .before .before .before .before .before .before .args .below .now) x) (c .before .before .before .before .before .before .before .args .store .now) (c .before .before .before .before .before .before .before .args .places .now) _ _, refl, refl)
+loop-holds c = (
+  search needs,
+  search needs,
+  (let at-start = c .before .before .before .before .before .before .before in
+      let args = at-start .args in
+      build-begin (λ (x : Pair). deepenedPair (args .node .now) (args .above .now) (args .below .now) x) (args .store .now) (args .places .now) _ _),
+  refl,
+  refl,
+)
 
 key-at-requires : tie.Need-key-at-requires Inv-loop μ-loop
 key-at-requires c κs = search needs
@@ -30,7 +38,31 @@ key-at-requires-2 : tie.Need-key-at-requires-2 Inv-loop μ-loop
 key-at-requires-2 c κs = search needs
 
 deepen-pair-requires : tie.Need-deepen-pair-requires Inv-loop μ-loop
-deepen-pair-requires c κs = (short-source (c .before .before .before .before .before .before .before .before .before .before .before .before .before .args .store .now) (c .before .before .before .before .before .before .before .before .before .before .before .before .before .args .places .now) (c .before .before .before .before .before .before .before .before .before .before .before .before .before .args .n) (c .before .before .before .before .before .loop .i) (c .before .before .before .before .loop-test .taken) (c .before .before .before .before .before .before .before .before .before .before .before .before .before .pre .0) _ (c .before .before .before .key-at .ensures), (short-target (c .before .before .before .before .before .before .before .before .before .before .before .before .before .args .store .now) (c .before .before .before .before .before .before .before .before .before .before .before .before .before .args .places .now) (c .before .before .before .before .before .before .before .before .before .before .before .before .before .args .n) (c .before .before .before .before .before .loop .i) (c .before .before .before .before .loop-test .taken) (c .before .before .before .before .before .before .before .before .before .before .before .before .before .pre .0) _ (c .before .before .key-at2 .ensures), (c .before .before .before .before .before .before .before .before .before .before .before .before .before .pre .1 .0, (c .before .before .before .before .before .before .before .before .before .before .before .before .before .pre .1 .1 .0, (omega (arith, c .before .before .before .before .before .before .before .before .before .before .before .before .before .pre .1 .1 .1 .0, c .before .before .before .before .before .loop .inv .1, c .before .before .before .before .before .loop .inv .3, c .before .before .before .before .loop-test .taken), omega (arith, c .before .before .before .before .before .before .before .before .before .before .before .before .before .pre .1 .1 .1 .1, c .before .before .before .before .before .loop .inv .4, c .before .before .before .before .loop-test .taken))))))
+deepen-pair-requires c κs =
+    let at-key-at2 = c .before .before in
+    let at-key-at = at-key-at2 .before in
+    let at-loop-test = at-key-at .before in
+    let at-loop = at-loop-test .before in
+    let at-start = at-loop .before .before .before .before .before .before .before .before in
+    let args = at-start .args in
+    let pre = at-start .pre in (
+      short-source (args .store .now) (args .places .now) (args .n) (at-loop .loop .i) (at-loop-test .loop-test .taken) (pre .0) _
+          (at-key-at .key-at .ensures),
+      (
+        short-target (args .store .now) (args .places .now) (args .n) (at-loop .loop .i) (at-loop-test .loop-test .taken) (pre .0) _
+            (at-key-at2 .key-at2 .ensures),
+        (
+          pre .1 .0,
+          (
+            pre .1 .1 .0,
+            (
+              omega (arith, pre .1 .1 .1 .0, at-loop .loop .inv .1, at-loop .loop .inv .3, at-loop-test .loop-test .taken),
+              omega (arith, pre .1 .1 .1 .1, at-loop .loop .inv .4, at-loop-test .loop-test .taken),
+            ),
+          ),
+        ),
+      ),
+    )
 
 add-i : tie.Need-add-i Inv-loop μ-loop
 add-i c = search needs
@@ -39,7 +71,25 @@ loop-less : tie.Need-loop-less Inv-loop μ-loop
 loop-less c = search needs
 
 loop-again : tie.Need-loop-again Inv-loop μ-loop
-loop-again c = (search needs, omega (arith, c .before .before .before .before .deepen-pair .ensures .0 .1, c .before .before .before .before .before .before .before .before .before .before .loop .inv .1), build-next (λ (x : Pair). deepenedPair (c .before .before .before .before .before .before .before .before .before .before .before .before .before .before .before .before .before .before .args .node .now) (c .before .before .before .before .before .before .before .before .before .before .before .before .before .before .before .before .before .before .args .above .now) (c .before .before .before .before .before .before .before .before .before .before .before .before .before .before .before .before .before .before .args .below .now) x) (c .before .before .before .before .before .before .before .before .before .before .before .before .before .before .before .before .before .before .args .store .now) (c .before .before .before .before .before .before .before .before .before .before .before .before .before .before .before .before .before .before .args .places .now) (c .before .before .before .before .before .before .before .before .before .before .loop .i) (c .before .before .before .before .before .before .before .before .before .before .loop .at) _ _ (c .before .before .before .before .before .before .before .before .before .before .loop .inv .2) _ _ (deepened-pair (c .before .before .before .before .before .before .before .before .before .before .before .before .before .before .before .before .before .before .args .store .now) (c .before .before .before .before .before .before .before .before .before .before .before .before .before .before .before .before .before .before .args .places .now) (c .before .before .before .before .before .before .before .before .before .before .loop .i) (c .before .before .before .before .before .before .before .before .before .before .before .before .before .before .before .before .before .before .args .node .now) (c .before .before .before .before .before .before .before .before .before .before .before .before .before .before .before .before .before .before .args .above .now) (c .before .before .before .before .before .before .before .before .before .before .before .before .before .before .before .before .before .before .args .below .now) _ _ (c .before .before .before .before .before .before .before .before .key-at .ensures) (c .before .before .before .before .before .before .before .key-at2 .ensures)) _ _ _ (c .before .before .before .before .deepen-pair .ensures .0 .0) (c .before .before .before .before .deepen-pair .ensures .1 .0) (c .before .before .before .before .deepen-pair .ensures .1 .1), search needs, search needs)
+loop-again c = (
+  search needs,
+  (let at-deepen-pair = c .before .before .before .before in
+      let at-loop = at-deepen-pair .before .before .before .before .before .before in
+      omega (arith, at-deepen-pair .deepen-pair .ensures .0 .1, at-loop .loop .inv .1)),
+  (let at-deepen-pair = c .before .before .before .before in
+      let at-key-at2 = at-deepen-pair .before .before .before in
+      let at-key-at = at-key-at2 .before in
+      let at-loop = at-key-at .before .before in
+      let at-start = at-loop .before .before .before .before .before .before .before .before in
+      let args = at-start .args in
+      build-next (λ (x : Pair). deepenedPair (args .node .now) (args .above .now) (args .below .now) x) (args .store .now) (args .places .now)
+      (at-loop .loop .i) (at-loop .loop .at) _ _ (at-loop .loop .inv .2) _ _
+      (deepened-pair (args .store .now) (args .places .now) (at-loop .loop .i) (args .node .now) (args .above .now) (args .below .now) _ _
+      (at-key-at .key-at .ensures) (at-key-at2 .key-at2 .ensures))
+      _ _ _ (at-deepen-pair .deepen-pair .ensures .0 .0) (at-deepen-pair .deepen-pair .ensures .1 .0) (at-deepen-pair .deepen-pair .ensures .1 .1)),
+  search needs,
+  search needs,
+)
 
 same-length : tie.Need-same-length Inv-loop μ-loop
 same-length c = search needs
@@ -48,7 +98,12 @@ same-length-2 : tie.Need-same-length-2 Inv-loop μ-loop
 same-length-2 c = search needs
 
 returns : tie.Need-returns Inv-loop μ-loop
-returns c = build-end (λ (x : Pair). deepenedPair (c .before .before .before .before .before .before .before .before .before .args .node .now) (c .before .before .before .before .before .before .before .before .before .args .above .now) (c .before .before .before .before .before .before .before .before .before .args .below .now) x) (c .before .before .before .before .before .before .before .before .before .args .store .now) (c .before .before .before .before .before .before .before .before .before .args .places .now) (c .before .before .before .before .before .before .before .before .before .args .n) (c .before .loop .i) _ _ _ (c .loop-test .left) (c .before .loop .inv .0) (c .before .loop .inv .2)
+returns c =
+    let at-loop = c .before in
+    let at-start = at-loop .before .before .before .before .before .before .before .before in
+    let args = at-start .args in
+    build-end (λ (x : Pair). deepenedPair (args .node .now) (args .above .now) (args .below .now) x) (args .store .now) (args .places .now) (args .n)
+    (at-loop .loop .i) _ _ _ (c .loop-test .left) (at-loop .loop .inv .0) (at-loop .loop .inv .2)
 
 pub deepen-all-spec : {M : Type 1} → statement M
 deepen-all-spec =

@@ -22,13 +22,66 @@ replace-into-requires : tie.Need-replace-into-requires
 replace-into-requires c κs = search needs
 
 array-share-prefix-made : tie.Need-array-share-prefix-made
-array-share-prefix-made c = omega (arith, part-within (replacedOrSame (c .before .before .before .before .before .before .before .before .before .before .before .before .args .node .now) (c .before .before .before .before .before .before .key-at .result .now) (c .before .before .before .before .before .key-at2 .result .now)) _ (placed-back _ _ _ _ (c .before .before .before .replace-into .ensures) (replaced-short (c .before .before .before .before .before .before .before .before .before .before .before .before .args .node .now) (c .before .before .before .before .before .before .key-at .result .now) (c .before .before .before .before .before .key-at2 .result .now) (c .before .before .before .before .before .before .before .before .before .before .before .before .pre .1 .0) (short-target (c .before .before .before .before .before .before .before .before .before .before .before .before .args .store .now) (c .before .before .before .before .before .before .before .before .before .before .before .before .args .places .now) (c .before .before .before .before .before .before .before .before .before .before .before .before .args .map .count) (c .before .before .before .before .before .before .before .before .before .before .before .before .args .i) (c .before .before .before .before .before .before .before .before .before .before .before .before .pre .1 .1 .1) (c .before .before .before .before .before .before .before .before .before .before .before .before .pre .0) _ (c .before .before .before .before .before .key-at2 .ensures))) .0) 511 (replaced-short (c .before .before .before .before .before .before .before .before .before .before .before .before .args .node .now) (c .before .before .before .before .before .before .key-at .result .now) (c .before .before .before .before .before .key-at2 .result .now) (c .before .before .before .before .before .before .before .before .before .before .before .before .pre .1 .0) (short-target (c .before .before .before .before .before .before .before .before .before .before .before .before .args .store .now) (c .before .before .before .before .before .before .before .before .before .before .before .before .args .places .now) (c .before .before .before .before .before .before .before .before .before .before .before .before .args .map .count) (c .before .before .before .before .before .before .before .before .before .before .before .before .args .i) (c .before .before .before .before .before .before .before .before .before .before .before .before .pre .1 .1 .1) (c .before .before .before .before .before .before .before .before .before .before .before .before .pre .0) _ (c .before .before .before .before .before .key-at2 .ensures))))
+array-share-prefix-made c =
+    let at-replace-into = c .before .before .before in
+    let at-key-at2 = at-replace-into .before .before in
+    let at-key-at = at-key-at2 .before in
+    let at-start = at-key-at .before .before .before .before .before .before in
+    let args = at-start .args in
+    let pre = at-start .pre in
+    omega (
+      arith,
+      part-within (replacedOrSame (args .node .now) (at-key-at .key-at .result .now) (at-key-at2 .key-at2 .result .now)) _
+          (placed-back _ _ _ _ (at-replace-into .replace-into .ensures)
+          (replaced-short (args .node .now) (at-key-at .key-at .result .now) (at-key-at2 .key-at2 .result .now) (pre .1 .0)
+          (short-target (args .store .now) (args .places .now) (args .map .count) (args .i) (pre .1 .1 .1) (pre .0) _ (at-key-at2 .key-at2 .ensures))) .0)
+          511
+          (replaced-short (args .node .now) (at-key-at .key-at .result .now) (at-key-at2 .key-at2 .result .now) (pre .1 .0)
+          (short-target (args .store .now) (args .places .now) (args .map .count) (args .i) (pre .1 .1 .1) (pre .0) _ (at-key-at2 .key-at2 .ensures))),
+    )
 
 slice-aggregate-deepen-small : tie.Need-slice-aggregate-deepen-small
-slice-aggregate-deepen-small c = part-is _ _ (placed-back _ _ _ _ (c .before .before .before .before .replace-into .ensures) (replaced-short (c .before .before .before .before .before .before .before .before .before .before .before .before .before .args .node .now) _ _ (c .before .before .before .before .before .before .before .before .before .before .before .before .before .pre .1 .0) (short-target (c .before .before .before .before .before .before .before .before .before .before .before .before .before .args .store .now) (c .before .before .before .before .before .before .before .before .before .before .before .before .before .args .places .now) (c .before .before .before .before .before .before .before .before .before .before .before .before .before .args .map .count) (c .before .before .before .before .before .before .before .before .before .before .before .before .before .args .i) (c .before .before .before .before .before .before .before .before .before .before .before .before .before .pre .1 .1 .1) (c .before .before .before .before .before .before .before .before .before .before .before .before .before .pre .0) _ (c .before .before .before .before .before .before .key-at2 .ensures))) .0) _ (placed-back _ _ _ _ (c .before .before .before .before .replace-into .ensures) (replaced-short (c .before .before .before .before .before .before .before .before .before .before .before .before .before .args .node .now) _ _ (c .before .before .before .before .before .before .before .before .before .before .before .before .before .pre .1 .0) (short-target (c .before .before .before .before .before .before .before .before .before .before .before .before .before .args .store .now) (c .before .before .before .before .before .before .before .before .before .before .before .before .before .args .places .now) (c .before .before .before .before .before .before .before .before .before .before .before .before .before .args .map .count) (c .before .before .before .before .before .before .before .before .before .before .before .before .before .args .i) (c .before .before .before .before .before .before .before .before .before .before .before .before .before .pre .1 .1 .1) (c .before .before .before .before .before .before .before .before .before .before .before .before .before .pre .0) _ (c .before .before .before .before .before .before .key-at2 .ensures))) .1)
+slice-aggregate-deepen-small c =
+    let at-replace-into = c .before .before .before .before in
+    let at-key-at2 = at-replace-into .before .before in
+    let at-start = at-key-at2 .before .before .before .before .before .before .before in
+    let args = at-start .args in
+    let pre = at-start .pre in
+    part-is _ _
+    (placed-back _ _ _ _ (at-replace-into .replace-into .ensures)
+    (replaced-short (args .node .now) _ _ (pre .1 .0)
+    (short-target (args .store .now) (args .places .now) (args .map .count) (args .i) (pre .1 .1 .1) (pre .0) _ (at-key-at2 .key-at2 .ensures))) .0)
+    _
+    (placed-back _ _ _ _ (at-replace-into .replace-into .ensures)
+    (replaced-short (args .node .now) _ _ (pre .1 .0)
+    (short-target (args .store .now) (args .places .now) (args .map .count) (args .i) (pre .1 .1 .1) (pre .0) _ (at-key-at2 .key-at2 .ensures))) .1)
 
 deepen-small-requires : tie.Need-deepen-small-requires
-deepen-small-requires c κs = (c .before .before .before .before .before .before .before .before .before .before .before .before .before .before .before .pre .0, (c .before .before .before .before .before .before .before .before .before .before .before .before .before .before .before .pre .1 .0, (below-short _ _ _ (placed-back _ _ _ _ (c .before .before .before .before .before .before .replace-into .ensures) (replaced-short (c .before .before .before .before .before .before .before .before .before .before .before .before .before .before .before .args .node .now) _ _ (c .before .before .before .before .before .before .before .before .before .before .before .before .before .before .before .pre .1 .0) (short-target (c .before .before .before .before .before .before .before .before .before .before .before .before .before .before .before .args .store .now) (c .before .before .before .before .before .before .before .before .before .before .before .before .before .before .before .args .places .now) (c .before .before .before .before .before .before .before .before .before .before .before .before .before .before .before .args .map .count) (c .before .before .before .before .before .before .before .before .before .before .before .before .before .before .before .args .i) (c .before .before .before .before .before .before .before .before .before .before .before .before .before .before .before .pre .1 .1 .1) (c .before .before .before .before .before .before .before .before .before .before .before .before .before .before .before .pre .0) _ (c .before .before .before .before .before .before .before .before .key-at2 .ensures))) .0) (placed-back _ _ _ _ (c .before .before .before .before .before .before .replace-into .ensures) (replaced-short (c .before .before .before .before .before .before .before .before .before .before .before .before .before .before .before .args .node .now) _ _ (c .before .before .before .before .before .before .before .before .before .before .before .before .before .before .before .pre .1 .0) (short-target (c .before .before .before .before .before .before .before .before .before .before .before .before .before .before .before .args .store .now) (c .before .before .before .before .before .before .before .before .before .before .before .before .before .before .before .args .places .now) (c .before .before .before .before .before .before .before .before .before .before .before .before .before .before .before .args .map .count) (c .before .before .before .before .before .before .before .before .before .before .before .before .before .before .before .args .i) (c .before .before .before .before .before .before .before .before .before .before .before .before .before .before .before .pre .1 .1 .1) (c .before .before .before .before .before .before .before .before .before .before .before .before .before .before .before .pre .0) _ (c .before .before .before .before .before .before .before .before .key-at2 .ensures))) .1) (replaced-short (c .before .before .before .before .before .before .before .before .before .before .before .before .before .before .before .args .node .now) _ _ (c .before .before .before .before .before .before .before .before .before .before .before .before .before .before .before .pre .1 .0) (short-target (c .before .before .before .before .before .before .before .before .before .before .before .before .before .before .before .args .store .now) (c .before .before .before .before .before .before .before .before .before .before .before .before .before .before .before .args .places .now) (c .before .before .before .before .before .before .before .before .before .before .before .before .before .before .before .args .map .count) (c .before .before .before .before .before .before .before .before .before .before .before .before .before .before .before .args .i) (c .before .before .before .before .before .before .before .before .before .before .before .before .before .before .before .pre .1 .1 .1) (c .before .before .before .before .before .before .before .before .before .before .before .before .before .before .before .pre .0) _ (c .before .before .before .before .before .before .before .before .key-at2 .ensures))), c .before .before .before .if1 .taken)))
+deepen-small-requires c κs =
+    let at-if1 = c .before .before .before in
+    let at-replace-into = at-if1 .before .before .before in
+    let at-key-at2 = at-replace-into .before .before in
+    let at-start = at-key-at2 .before .before .before .before .before .before .before in
+    let args = at-start .args in
+    let pre = at-start .pre in (
+      pre .0,
+      (
+        pre .1 .0,
+        (
+          below-short _ _ _
+              (placed-back _ _ _ _ (at-replace-into .replace-into .ensures)
+              (replaced-short (args .node .now) _ _ (pre .1 .0)
+              (short-target (args .store .now) (args .places .now) (args .map .count) (args .i) (pre .1 .1 .1) (pre .0) _
+              (at-key-at2 .key-at2 .ensures))) .0)
+              (placed-back _ _ _ _ (at-replace-into .replace-into .ensures)
+              (replaced-short (args .node .now) _ _ (pre .1 .0)
+              (short-target (args .store .now) (args .places .now) (args .map .count) (args .i) (pre .1 .1 .1) (pre .0) _
+              (at-key-at2 .key-at2 .ensures))) .1)
+              (replaced-short (args .node .now) _ _ (pre .1 .0) (short-target (args .store .now) (args .places .now) (args .map .count) (args .i) (pre .1 .1 .1) (pre .0) _ (at-key-at2 .key-at2 .ensures))),
+          at-if1 .if1 .taken,
+        ),
+      ),
+    )
 
 same-length : tie.Need-same-length
 same-length c = search needs
@@ -37,16 +90,87 @@ same-length-2 : tie.Need-same-length-2
 same-length-2 c = search needs
 
 returns : tie.Need-returns
-returns c = gives-map _ _ (deepen-same _ _ _ (placed-back _ _ _ _ (c .before .before .before .before .before .before .before .before .before .before .before .replace-into .ensures) (replaced-short (c .before .before .before .before .before .before .before .before .before .before .before .before .before .before .before .before .before .before .before .before .args .node .now) _ _ (c .before .before .before .before .before .before .before .before .before .before .before .before .before .before .before .before .before .before .before .before .pre .1 .0) (short-target (c .before .before .before .before .before .before .before .before .before .before .before .before .before .before .before .before .before .before .before .before .args .store .now) (c .before .before .before .before .before .before .before .before .before .before .before .before .before .before .before .before .before .before .before .before .args .places .now) (c .before .before .before .before .before .before .before .before .before .before .before .before .before .before .before .before .before .before .before .before .args .map .count) (c .before .before .before .before .before .before .before .before .before .before .before .before .before .before .before .before .before .before .before .before .args .i) (c .before .before .before .before .before .before .before .before .before .before .before .before .before .before .before .before .before .before .before .before .pre .1 .1 .1) (c .before .before .before .before .before .before .before .before .before .before .before .before .before .before .before .before .before .before .before .before .pre .0) _ (c .before .before .before .before .before .before .before .before .before .before .before .before .before .key-at2 .ensures))) .0) (placed-back _ _ _ _ (c .before .before .before .before .before .before .before .before .before .before .before .replace-into .ensures) (replaced-short (c .before .before .before .before .before .before .before .before .before .before .before .before .before .before .before .before .before .before .before .before .args .node .now) _ _ (c .before .before .before .before .before .before .before .before .before .before .before .before .before .before .before .before .before .before .before .before .pre .1 .0) (short-target (c .before .before .before .before .before .before .before .before .before .before .before .before .before .before .before .before .before .before .before .before .args .store .now) (c .before .before .before .before .before .before .before .before .before .before .before .before .before .before .before .before .before .before .before .before .args .places .now) (c .before .before .before .before .before .before .before .before .before .before .before .before .before .before .before .before .before .before .before .before .args .map .count) (c .before .before .before .before .before .before .before .before .before .before .before .before .before .before .before .before .before .before .before .before .args .i) (c .before .before .before .before .before .before .before .before .before .before .before .before .before .before .before .before .before .before .before .before .pre .1 .1 .1) (c .before .before .before .before .before .before .before .before .before .before .before .before .before .before .before .before .before .before .before .before .pre .0) _ (c .before .before .before .before .before .before .before .before .before .before .before .before .before .key-at2 .ensures))) .1) (c .before .before .before .before .before .before .before .before .before .before .before .before .before .before .before .before .before .before .before .before .args .node .now) _ _ _ _ (c .before .before .before .before .before .before .before .before .before .before .before .before .before .before .key-at .ensures) (c .before .before .before .before .before .before .before .before .before .before .before .before .before .key-at2 .ensures) refl (pairsIn (c .before .before .before .before .before .before .before .before .before .before .before .before .before .before .before .before .before .before .before .before .args .store .now) (c .before .before .before .before .before .before .before .before .before .before .before .before .before .before .before .before .before .before .before .before .args .places .now) (c .before .before .before .before .before .before .before .before .before .before .before .before .before .before .before .before .before .before .before .before .args .map .count)) (c .before .before .before .before .before .before .before .before .before .before .before .before .before .before .before .before .before .before .before .before .args .map .«has_root_identity») (c .before .before .before .before .before .before .before .before .before .before .before .before .before .before .before .before .before .before .before .before .args .map .«time_offset») (c .before .before .before .before .before .before .before .before .before .before .before .before .before .before .before .before .before .before .before .before .args .out .now) (c .before .before .before .before .before .before .before .before .before .before .before .before .before .before .before .before .before .before .before .before .args .slots .now)) _ _ _ _ _ (c .before .before .before .before .deepen-small .ensures)
+returns c =
+    let at-deepen-small = c .before .before .before .before in
+    let at-replace-into = at-deepen-small .before .before .before .before .before .before .before in
+    let at-key-at2 = at-replace-into .before .before in
+    let at-key-at = at-key-at2 .before in
+    let at-start = at-key-at .before .before .before .before .before .before in
+    let args = at-start .args in
+    let pre = at-start .pre in
+    gives-map _ _
+    (deepen-same _ _ _
+    (placed-back _ _ _ _ (at-replace-into .replace-into .ensures)
+    (replaced-short (args .node .now) _ _ (pre .1 .0)
+    (short-target (args .store .now) (args .places .now) (args .map .count) (args .i) (pre .1 .1 .1) (pre .0) _ (at-key-at2 .key-at2 .ensures))) .0)
+    (placed-back _ _ _ _ (at-replace-into .replace-into .ensures)
+    (replaced-short (args .node .now) _ _ (pre .1 .0)
+    (short-target (args .store .now) (args .places .now) (args .map .count) (args .i) (pre .1 .1 .1) (pre .0) _ (at-key-at2 .key-at2 .ensures))) .1)
+    (args .node .now) _ _ _ _ (at-key-at .key-at .ensures) (at-key-at2 .key-at2 .ensures) refl
+    (pairsIn (args .store .now) (args .places .now) (args .map .count)) (args .map .«has_root_identity») (args .map .«time_offset») (args .out .now)
+    (args .slots .now))
+    _ _ _ _ _ (at-deepen-small .deepen-small .ensures)
 
 array-share-prefix-made-2 : tie.Need-array-share-prefix-made-2
-array-share-prefix-made-2 c = omega (arith, part-within (replacedOrSame (c .before .before .before .before .before .before .before .before .before .before .before .before .args .node .now) (c .before .before .before .before .before .before .key-at .result .now) (c .before .before .before .before .before .key-at2 .result .now)) _ (placed-back _ _ _ _ (c .before .before .before .replace-into .ensures) (replaced-short (c .before .before .before .before .before .before .before .before .before .before .before .before .args .node .now) (c .before .before .before .before .before .before .key-at .result .now) (c .before .before .before .before .before .key-at2 .result .now) (c .before .before .before .before .before .before .before .before .before .before .before .before .pre .1 .0) (short-target (c .before .before .before .before .before .before .before .before .before .before .before .before .args .store .now) (c .before .before .before .before .before .before .before .before .before .before .before .before .args .places .now) (c .before .before .before .before .before .before .before .before .before .before .before .before .args .map .count) (c .before .before .before .before .before .before .before .before .before .before .before .before .args .i) (c .before .before .before .before .before .before .before .before .before .before .before .before .pre .1 .1 .1) (c .before .before .before .before .before .before .before .before .before .before .before .before .pre .0) _ (c .before .before .before .before .before .key-at2 .ensures))) .0) 511 (replaced-short (c .before .before .before .before .before .before .before .before .before .before .before .before .args .node .now) (c .before .before .before .before .before .before .key-at .result .now) (c .before .before .before .before .before .key-at2 .result .now) (c .before .before .before .before .before .before .before .before .before .before .before .before .pre .1 .0) (short-target (c .before .before .before .before .before .before .before .before .before .before .before .before .args .store .now) (c .before .before .before .before .before .before .before .before .before .before .before .before .args .places .now) (c .before .before .before .before .before .before .before .before .before .before .before .before .args .map .count) (c .before .before .before .before .before .before .before .before .before .before .before .before .args .i) (c .before .before .before .before .before .before .before .before .before .before .before .before .pre .1 .1 .1) (c .before .before .before .before .before .before .before .before .before .before .before .before .pre .0) _ (c .before .before .before .before .before .key-at2 .ensures))))
+array-share-prefix-made-2 c =
+    let at-replace-into = c .before .before .before in
+    let at-key-at2 = at-replace-into .before .before in
+    let at-key-at = at-key-at2 .before in
+    let at-start = at-key-at .before .before .before .before .before .before in
+    let args = at-start .args in
+    let pre = at-start .pre in
+    omega (
+      arith,
+      part-within (replacedOrSame (args .node .now) (at-key-at .key-at .result .now) (at-key-at2 .key-at2 .result .now)) _
+          (placed-back _ _ _ _ (at-replace-into .replace-into .ensures)
+          (replaced-short (args .node .now) (at-key-at .key-at .result .now) (at-key-at2 .key-at2 .result .now) (pre .1 .0)
+          (short-target (args .store .now) (args .places .now) (args .map .count) (args .i) (pre .1 .1 .1) (pre .0) _ (at-key-at2 .key-at2 .ensures))) .0)
+          511
+          (replaced-short (args .node .now) (at-key-at .key-at .result .now) (at-key-at2 .key-at2 .result .now) (pre .1 .0)
+          (short-target (args .store .now) (args .places .now) (args .map .count) (args .i) (pre .1 .1 .1) (pre .0) _ (at-key-at2 .key-at2 .ensures))),
+    )
 
 slice-aggregate-deepen-large : tie.Need-slice-aggregate-deepen-large
-slice-aggregate-deepen-large c = part-is _ _ (placed-back _ _ _ _ (c .before .before .before .before .replace-into .ensures) (replaced-short (c .before .before .before .before .before .before .before .before .before .before .before .before .before .args .node .now) _ _ (c .before .before .before .before .before .before .before .before .before .before .before .before .before .pre .1 .0) (short-target (c .before .before .before .before .before .before .before .before .before .before .before .before .before .args .store .now) (c .before .before .before .before .before .before .before .before .before .before .before .before .before .args .places .now) (c .before .before .before .before .before .before .before .before .before .before .before .before .before .args .map .count) (c .before .before .before .before .before .before .before .before .before .before .before .before .before .args .i) (c .before .before .before .before .before .before .before .before .before .before .before .before .before .pre .1 .1 .1) (c .before .before .before .before .before .before .before .before .before .before .before .before .before .pre .0) _ (c .before .before .before .before .before .before .key-at2 .ensures))) .0) _ (placed-back _ _ _ _ (c .before .before .before .before .replace-into .ensures) (replaced-short (c .before .before .before .before .before .before .before .before .before .before .before .before .before .args .node .now) _ _ (c .before .before .before .before .before .before .before .before .before .before .before .before .before .pre .1 .0) (short-target (c .before .before .before .before .before .before .before .before .before .before .before .before .before .args .store .now) (c .before .before .before .before .before .before .before .before .before .before .before .before .before .args .places .now) (c .before .before .before .before .before .before .before .before .before .before .before .before .before .args .map .count) (c .before .before .before .before .before .before .before .before .before .before .before .before .before .args .i) (c .before .before .before .before .before .before .before .before .before .before .before .before .before .pre .1 .1 .1) (c .before .before .before .before .before .before .before .before .before .before .before .before .before .pre .0) _ (c .before .before .before .before .before .before .key-at2 .ensures))) .1)
+slice-aggregate-deepen-large c =
+    let at-replace-into = c .before .before .before .before in
+    let at-key-at2 = at-replace-into .before .before in
+    let at-start = at-key-at2 .before .before .before .before .before .before .before in
+    let args = at-start .args in
+    let pre = at-start .pre in
+    part-is _ _
+    (placed-back _ _ _ _ (at-replace-into .replace-into .ensures)
+    (replaced-short (args .node .now) _ _ (pre .1 .0)
+    (short-target (args .store .now) (args .places .now) (args .map .count) (args .i) (pre .1 .1 .1) (pre .0) _ (at-key-at2 .key-at2 .ensures))) .0)
+    _
+    (placed-back _ _ _ _ (at-replace-into .replace-into .ensures)
+    (replaced-short (args .node .now) _ _ (pre .1 .0)
+    (short-target (args .store .now) (args .places .now) (args .map .count) (args .i) (pre .1 .1 .1) (pre .0) _ (at-key-at2 .key-at2 .ensures))) .1)
 
 deepen-large-requires : tie.Need-deepen-large-requires
-deepen-large-requires c κs = (c .before .before .before .before .before .before .before .before .before .before .before .before .before .before .before .pre .0, (c .before .before .before .before .before .before .before .before .before .before .before .before .before .before .before .pre .1 .0, (below-short _ _ _ (placed-back _ _ _ _ (c .before .before .before .before .before .before .replace-into .ensures) (replaced-short (c .before .before .before .before .before .before .before .before .before .before .before .before .before .before .before .args .node .now) _ _ (c .before .before .before .before .before .before .before .before .before .before .before .before .before .before .before .pre .1 .0) (short-target (c .before .before .before .before .before .before .before .before .before .before .before .before .before .before .before .args .store .now) (c .before .before .before .before .before .before .before .before .before .before .before .before .before .before .before .args .places .now) (c .before .before .before .before .before .before .before .before .before .before .before .before .before .before .before .args .map .count) (c .before .before .before .before .before .before .before .before .before .before .before .before .before .before .before .args .i) (c .before .before .before .before .before .before .before .before .before .before .before .before .before .before .before .pre .1 .1 .1) (c .before .before .before .before .before .before .before .before .before .before .before .before .before .before .before .pre .0) _ (c .before .before .before .before .before .before .before .before .key-at2 .ensures))) .0) (placed-back _ _ _ _ (c .before .before .before .before .before .before .replace-into .ensures) (replaced-short (c .before .before .before .before .before .before .before .before .before .before .before .before .before .before .before .args .node .now) _ _ (c .before .before .before .before .before .before .before .before .before .before .before .before .before .before .before .pre .1 .0) (short-target (c .before .before .before .before .before .before .before .before .before .before .before .before .before .before .before .args .store .now) (c .before .before .before .before .before .before .before .before .before .before .before .before .before .before .before .args .places .now) (c .before .before .before .before .before .before .before .before .before .before .before .before .before .before .before .args .map .count) (c .before .before .before .before .before .before .before .before .before .before .before .before .before .before .before .args .i) (c .before .before .before .before .before .before .before .before .before .before .before .before .before .before .before .pre .1 .1 .1) (c .before .before .before .before .before .before .before .before .before .before .before .before .before .before .before .pre .0) _ (c .before .before .before .before .before .before .before .before .key-at2 .ensures))) .1) (replaced-short (c .before .before .before .before .before .before .before .before .before .before .before .before .before .before .before .args .node .now) _ _ (c .before .before .before .before .before .before .before .before .before .before .before .before .before .before .before .pre .1 .0) (short-target (c .before .before .before .before .before .before .before .before .before .before .before .before .before .before .before .args .store .now) (c .before .before .before .before .before .before .before .before .before .before .before .before .before .before .before .args .places .now) (c .before .before .before .before .before .before .before .before .before .before .before .before .before .before .before .args .map .count) (c .before .before .before .before .before .before .before .before .before .before .before .before .before .before .before .args .i) (c .before .before .before .before .before .before .before .before .before .before .before .before .before .before .before .pre .1 .1 .1) (c .before .before .before .before .before .before .before .before .before .before .before .before .before .before .before .pre .0) _ (c .before .before .before .before .before .before .before .before .key-at2 .ensures))), c .before .before .before .before .before .before .before .before .before .before .before .before .before .before .before .pre .1 .1 .0)))
+deepen-large-requires c κs =
+    let at-replace-into = c .before .before .before .before .before .before in
+    let at-key-at2 = at-replace-into .before .before in
+    let at-start = at-key-at2 .before .before .before .before .before .before .before in
+    let args = at-start .args in
+    let pre = at-start .pre in (
+      pre .0,
+      (
+        pre .1 .0,
+        (
+          below-short _ _ _
+              (placed-back _ _ _ _ (at-replace-into .replace-into .ensures)
+              (replaced-short (args .node .now) _ _ (pre .1 .0)
+              (short-target (args .store .now) (args .places .now) (args .map .count) (args .i) (pre .1 .1 .1) (pre .0) _
+              (at-key-at2 .key-at2 .ensures))) .0)
+              (placed-back _ _ _ _ (at-replace-into .replace-into .ensures)
+              (replaced-short (args .node .now) _ _ (pre .1 .0)
+              (short-target (args .store .now) (args .places .now) (args .map .count) (args .i) (pre .1 .1 .1) (pre .0) _
+              (at-key-at2 .key-at2 .ensures))) .1)
+              (replaced-short (args .node .now) _ _ (pre .1 .0) (short-target (args .store .now) (args .places .now) (args .map .count) (args .i) (pre .1 .1 .1) (pre .0) _ (at-key-at2 .key-at2 .ensures))),
+          pre .1 .1 .0,
+        ),
+      ),
+    )
 
 same-length-3 : tie.Need-same-length-3
 same-length-3 c = search needs
@@ -55,7 +179,26 @@ same-length-4 : tie.Need-same-length-4
 same-length-4 c = search needs
 
 returns-2 : tie.Need-returns-2
-returns-2 c = gives-map _ _ (deepen-same _ _ _ (placed-back _ _ _ _ (c .before .before .before .before .before .before .before .before .before .before .before .replace-into .ensures) (replaced-short (c .before .before .before .before .before .before .before .before .before .before .before .before .before .before .before .before .before .before .before .before .args .node .now) _ _ (c .before .before .before .before .before .before .before .before .before .before .before .before .before .before .before .before .before .before .before .before .pre .1 .0) (short-target (c .before .before .before .before .before .before .before .before .before .before .before .before .before .before .before .before .before .before .before .before .args .store .now) (c .before .before .before .before .before .before .before .before .before .before .before .before .before .before .before .before .before .before .before .before .args .places .now) (c .before .before .before .before .before .before .before .before .before .before .before .before .before .before .before .before .before .before .before .before .args .map .count) (c .before .before .before .before .before .before .before .before .before .before .before .before .before .before .before .before .before .before .before .before .args .i) (c .before .before .before .before .before .before .before .before .before .before .before .before .before .before .before .before .before .before .before .before .pre .1 .1 .1) (c .before .before .before .before .before .before .before .before .before .before .before .before .before .before .before .before .before .before .before .before .pre .0) _ (c .before .before .before .before .before .before .before .before .before .before .before .before .before .key-at2 .ensures))) .0) (placed-back _ _ _ _ (c .before .before .before .before .before .before .before .before .before .before .before .replace-into .ensures) (replaced-short (c .before .before .before .before .before .before .before .before .before .before .before .before .before .before .before .before .before .before .before .before .args .node .now) _ _ (c .before .before .before .before .before .before .before .before .before .before .before .before .before .before .before .before .before .before .before .before .pre .1 .0) (short-target (c .before .before .before .before .before .before .before .before .before .before .before .before .before .before .before .before .before .before .before .before .args .store .now) (c .before .before .before .before .before .before .before .before .before .before .before .before .before .before .before .before .before .before .before .before .args .places .now) (c .before .before .before .before .before .before .before .before .before .before .before .before .before .before .before .before .before .before .before .before .args .map .count) (c .before .before .before .before .before .before .before .before .before .before .before .before .before .before .before .before .before .before .before .before .args .i) (c .before .before .before .before .before .before .before .before .before .before .before .before .before .before .before .before .before .before .before .before .pre .1 .1 .1) (c .before .before .before .before .before .before .before .before .before .before .before .before .before .before .before .before .before .before .before .before .pre .0) _ (c .before .before .before .before .before .before .before .before .before .before .before .before .before .key-at2 .ensures))) .1) (c .before .before .before .before .before .before .before .before .before .before .before .before .before .before .before .before .before .before .before .before .args .node .now) _ _ _ _ (c .before .before .before .before .before .before .before .before .before .before .before .before .before .before .key-at .ensures) (c .before .before .before .before .before .before .before .before .before .before .before .before .before .key-at2 .ensures) refl (pairsIn (c .before .before .before .before .before .before .before .before .before .before .before .before .before .before .before .before .before .before .before .before .args .store .now) (c .before .before .before .before .before .before .before .before .before .before .before .before .before .before .before .before .before .before .before .before .args .places .now) (c .before .before .before .before .before .before .before .before .before .before .before .before .before .before .before .before .before .before .before .before .args .map .count)) (c .before .before .before .before .before .before .before .before .before .before .before .before .before .before .before .before .before .before .before .before .args .map .«has_root_identity») (c .before .before .before .before .before .before .before .before .before .before .before .before .before .before .before .before .before .before .before .before .args .map .«time_offset») (c .before .before .before .before .before .before .before .before .before .before .before .before .before .before .before .before .before .before .before .before .args .out .now) (c .before .before .before .before .before .before .before .before .before .before .before .before .before .before .before .before .before .before .before .before .args .slots .now)) _ _ _ _ _ (c .before .before .before .before .deepen-large .ensures)
+returns-2 c =
+    let at-deepen-large = c .before .before .before .before in
+    let at-replace-into = at-deepen-large .before .before .before .before .before .before .before in
+    let at-key-at2 = at-replace-into .before .before in
+    let at-key-at = at-key-at2 .before in
+    let at-start = at-key-at .before .before .before .before .before .before in
+    let args = at-start .args in
+    let pre = at-start .pre in
+    gives-map _ _
+    (deepen-same _ _ _
+    (placed-back _ _ _ _ (at-replace-into .replace-into .ensures)
+    (replaced-short (args .node .now) _ _ (pre .1 .0)
+    (short-target (args .store .now) (args .places .now) (args .map .count) (args .i) (pre .1 .1 .1) (pre .0) _ (at-key-at2 .key-at2 .ensures))) .0)
+    (placed-back _ _ _ _ (at-replace-into .replace-into .ensures)
+    (replaced-short (args .node .now) _ _ (pre .1 .0)
+    (short-target (args .store .now) (args .places .now) (args .map .count) (args .i) (pre .1 .1 .1) (pre .0) _ (at-key-at2 .key-at2 .ensures))) .1)
+    (args .node .now) _ _ _ _ (at-key-at .key-at .ensures) (at-key-at2 .key-at2 .ensures) refl
+    (pairsIn (args .store .now) (args .places .now) (args .map .count)) (args .map .«has_root_identity») (args .map .«time_offset») (args .out .now)
+    (args .slots .now))
+    _ _ _ _ _ (at-deepen-large .deepen-large .ensures)
 
 pub deepen-by-spec : {M : Type 1} → statement M
 deepen-by-spec =

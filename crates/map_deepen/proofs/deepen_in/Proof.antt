@@ -6,7 +6,10 @@ use Rattle.map_deepen.proofs.deepen_in.Tie as tie
 use Rattle.map_function.proofs.NewBranches.{gives-map}
 
 deepen-all-requires : tie.Need-deepen-all-requires
-deepen-all-requires c κs = (c .before .before .before .before .before .before .before .before .before .before .before .before .pre .0, (c .before .before .before .before .before .before .before .before .before .before .before .before .pre .1 .0, (c .before .before .before .before .before .before .before .before .before .before .before .before .pre .1 .1 .0, (omega (arith, c .before .before .before .before .before .before .before .before .before .before .before .before .pre .1 .1 .1 .1 .0), omega (arith, c .before .before .before .before .before .before .before .before .before .before .before .before .pre .1 .1 .1 .1 .1)))))
+deepen-all-requires c κs =
+    let at-start = c .before .before .before .before .before .before .before .before .before .before .before .before in
+    let pre = at-start .pre in
+    (pre .0, (pre .1 .0, (pre .1 .1 .0, (omega (arith, pre .1 .1 .1 .1 .0), omega (arith, pre .1 .1 .1 .1 .1)))))
 
 from-ends-requires : tie.Need-from-ends-requires
 from-ends-requires c κs = search needs
@@ -24,7 +27,10 @@ same-length-4 : tie.Need-same-length-4
 same-length-4 c = search needs
 
 returns : tie.Need-returns
-returns c = gives-map _ _ (built-ends _ _ _ _ _ (c .before .before .before .before .before .before .before .before .before .before .before .before .before .deepen-all .ensures) _ _ _ _) _ _ _ _ _ (c .before .before .before .before .from-ends .ensures)
+returns c =
+    let at-from-ends = c .before .before .before .before in
+    let at-deepen-all = at-from-ends .before .before .before .before .before .before .before .before .before in
+    gives-map _ _ (built-ends _ _ _ _ _ (at-deepen-all .deepen-all .ensures) _ _ _ _) _ _ _ _ _ (at-from-ends .from-ends .ensures)
 
 pub deepen-in-spec : {M : Type 1} → statement M
 deepen-in-spec =

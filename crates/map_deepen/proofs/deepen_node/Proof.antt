@@ -14,7 +14,15 @@ enum-known-q : tie.Need-enum-known-q
 enum-known-q c = search needs
 
 returns : tie.Need-returns
-returns c = refusing-map _ _ (deepen-refused (c .before .before .before .before .before .before .before .before .before .before .before .args .store .now) (c .before .before .before .before .before .before .before .before .before .before .before .args .places .now) (c .before .before .before .before .before .before .before .before .before .before .before .args .map) (c .before .before .before .before .before .before .before .before .before .before .before .args .path .now) (c .before .before .before .before .before .before .before .before .before .before .before .args .node .now) (c .before .before .before .before .before .before .before .before .before .before .before .args .out .now) (c .before .before .before .before .before .before .before .before .before .before .before .args .slots .now) (c .before .before .before .before .before .before .before .before .before .before .before .pre) _ (c .before .before .before .validate-call .ensures) _ (c .before .q .given .1)) _ _
+returns c =
+    let at-q = c .before in
+    let at-validate-call = at-q .before .before in
+    let at-start = at-validate-call .before .before .before .before .before .before .before .before in
+    let args = at-start .args in
+    refusing-map _ _
+    (deepen-refused (args .store .now) (args .places .now) (args .map) (args .path .now) (args .node .now) (args .out .now) (args .slots .now)
+    (at-start .pre) _ (at-validate-call .validate-call .ensures) _ (at-q .q .given .1))
+    _ _
 
 enum-told : tie.Need-enum-told
 enum-told c = search needs
@@ -32,7 +40,19 @@ same-length-2 : tie.Need-same-length-2
 same-length-2 c = search needs
 
 returns-2 : tie.Need-returns-2
-returns-2 c = gives-map _ _ (deepen-there (c .before .before .before .before .before .before .before .before .before .before .before .before .before .before .before .before .before .before .before .args .store .now) (c .before .before .before .before .before .before .before .before .before .before .before .before .before .before .before .before .before .before .before .args .places .now) (c .before .before .before .before .before .before .before .before .before .before .before .before .before .before .before .before .before .before .before .args .map) (c .before .before .before .before .before .before .before .before .before .before .before .before .before .before .before .before .before .before .before .args .path .now) (c .before .before .before .before .before .before .before .before .before .before .before .before .before .before .before .before .before .before .before .args .node .now) (c .before .before .before .before .before .before .before .before .before .before .before .before .before .before .before .before .before .before .before .args .out .now) (c .before .before .before .before .before .before .before .before .before .before .before .before .before .before .before .before .before .before .before .args .slots .now) (c .before .before .before .before .before .before .before .before .before .before .before .before .before .before .before .before .before .before .before .pre) _ (c .before .before .before .before .before .before .before .before .before .before .before .validate-call .ensures) (c .before .before .before .before .before .before .before .before .before .enum-told .given .1) _ (c .before .before .before .before .before .before .before .before .has-source .ensures) (c .before .before .before .before .before .before .before .if1 .taken)) _ _ _ _ _ (c .before .before .before .before .without-dropping .ensures)
+returns-2 c =
+    let at-without-dropping = c .before .before .before .before in
+    let at-if1 = at-without-dropping .before .before .before in
+    let at-has-source = at-if1 .before in
+    let at-enum-told = at-has-source .before in
+    let at-validate-call = at-enum-told .before .before in
+    let at-start = at-validate-call .before .before .before .before .before .before .before .before in
+    let args = at-start .args in
+    gives-map _ _
+    (deepen-there (args .store .now) (args .places .now) (args .map) (args .path .now) (args .node .now) (args .out .now) (args .slots .now)
+    (at-start .pre) _ (at-validate-call .validate-call .ensures) (at-enum-told .enum-told .given .1) _ (at-has-source .has-source .ensures)
+    (at-if1 .if1 .taken))
+    _ _ _ _ _ (at-without-dropping .without-dropping .ensures)
 
 find-class-requires : tie.Need-find-class-requires
 find-class-requires c κs = search needs
@@ -47,10 +67,47 @@ same-length-4 : tie.Need-same-length-4
 same-length-4 c = search needs
 
 returns-3 : tie.Need-returns-3
-returns-3 c = gives-map _ _ (deepen-none (c .before .before .before .before .before .before .before .before .before .before .before .before .before .before .before .before .before .before .before .before .before .before .args .store .now) (c .before .before .before .before .before .before .before .before .before .before .before .before .before .before .before .before .before .before .before .before .before .before .args .places .now) (c .before .before .before .before .before .before .before .before .before .before .before .before .before .before .before .before .before .before .before .before .before .before .args .map) (c .before .before .before .before .before .before .before .before .before .before .before .before .before .before .before .before .before .before .before .before .before .before .args .path .now) (c .before .before .before .before .before .before .before .before .before .before .before .before .before .before .before .before .before .before .before .before .before .before .args .node .now) (c .before .before .before .before .before .before .before .before .before .before .before .before .before .before .before .before .before .before .before .before .before .before .args .out .now) (c .before .before .before .before .before .before .before .before .before .before .before .before .before .before .before .before .before .before .before .before .before .before .args .slots .now) (c .before .before .before .before .before .before .before .before .before .before .before .before .before .before .before .before .before .before .before .before .before .before .pre) _ (c .before .before .before .before .before .before .before .before .before .before .before .before .before .before .validate-call .ensures) (c .before .before .before .before .before .before .before .before .before .before .before .before .enum-told .given .1) _ (c .before .before .before .before .before .before .before .before .before .before .before .has-source .ensures) (c .before .before .before .before .before .before .before .before .before .before .if1 .left) (c .before .before .before .before .before .before .before .before .before .find-class .result) (c .before .before .before .before .before .before .before .before .before .find-class .ensures) (c .before .before .before .before .before .before .before .if2 .taken)) _ _ _ _ _ (c .before .before .before .before .without-dropping2 .ensures)
+returns-3 c =
+    let at-without-dropping2 = c .before .before .before .before in
+    let at-if2 = at-without-dropping2 .before .before .before in
+    let at-find-class = at-if2 .before .before in
+    let at-if1 = at-find-class .before in
+    let at-has-source = at-if1 .before in
+    let at-enum-told = at-has-source .before in
+    let at-validate-call = at-enum-told .before .before in
+    let at-start = at-validate-call .before .before .before .before .before .before .before .before in
+    let args = at-start .args in
+    gives-map _ _
+    (deepen-none (args .store .now) (args .places .now) (args .map) (args .path .now) (args .node .now) (args .out .now) (args .slots .now)
+    (at-start .pre) _ (at-validate-call .validate-call .ensures) (at-enum-told .enum-told .given .1) _ (at-has-source .has-source .ensures)
+    (at-if1 .if1 .left) (at-find-class .find-class .result) (at-find-class .find-class .ensures) (at-if2 .if2 .taken))
+    _ _ _ _ _ (at-without-dropping2 .without-dropping2 .ensures)
 
 deepen-by-requires : tie.Need-deepen-by-requires
-deepen-by-requires c κs = (deepen-short (c .before .before .before .before .before .before .before .before .before .before .before .before .before .before .before .before .before .args .store .now) (c .before .before .before .before .before .before .before .before .before .before .before .before .before .before .before .before .before .args .places .now) (c .before .before .before .before .before .before .before .before .before .before .before .before .before .before .before .before .before .args .map) (c .before .before .before .before .before .before .before .before .before .before .before .before .before .before .before .before .before .args .path .now) (c .before .before .before .before .before .before .before .before .before .before .before .before .before .before .before .before .before .args .node .now) (c .before .before .before .before .before .before .before .before .before .before .before .before .before .before .before .before .before .args .out .now) (c .before .before .before .before .before .before .before .before .before .before .before .before .before .before .before .before .before .args .slots .now) (c .before .before .before .before .before .before .before .before .before .before .before .before .before .before .before .before .before .pre) _ (c .before .before .before .before .before .before .before .before .before .validate-call .ensures) (c .before .before .before .before .before .before .before .enum-told .given .1), (deepen-node-short (c .before .before .before .before .before .before .before .before .before .before .before .before .before .before .before .before .before .args .store .now) (c .before .before .before .before .before .before .before .before .before .before .before .before .before .before .before .before .before .args .places .now) (c .before .before .before .before .before .before .before .before .before .before .before .before .before .before .before .before .before .args .map) (c .before .before .before .before .before .before .before .before .before .before .before .before .before .before .before .before .before .args .path .now) (c .before .before .before .before .before .before .before .before .before .before .before .before .before .before .before .before .before .args .node .now) (c .before .before .before .before .before .before .before .before .before .before .before .before .before .before .before .before .before .args .out .now) (c .before .before .before .before .before .before .before .before .before .before .before .before .before .before .before .before .before .args .slots .now) (c .before .before .before .before .before .before .before .before .before .before .before .before .before .before .before .before .before .pre) _ (c .before .before .before .before .before .before .before .before .before .validate-call .ensures) (c .before .before .before .before .before .before .before .enum-told .given .1), (deepen-count (c .before .before .before .before .before .before .before .before .before .before .before .before .before .before .before .before .before .args .store .now) (c .before .before .before .before .before .before .before .before .before .before .before .before .before .before .before .before .before .args .places .now) (c .before .before .before .before .before .before .before .before .before .before .before .before .before .before .before .before .before .args .map) (c .before .before .before .before .before .before .before .before .before .before .before .before .before .before .before .before .before .args .path .now) (c .before .before .before .before .before .before .before .before .before .before .before .before .before .before .before .before .before .args .node .now) (c .before .before .before .before .before .before .before .before .before .before .before .before .before .before .before .before .before .args .out .now) (c .before .before .before .before .before .before .before .before .before .before .before .before .before .before .before .before .before .args .slots .now) (c .before .before .before .before .before .before .before .before .before .before .before .before .before .before .before .before .before .pre) _ (c .before .before .before .before .before .before .before .before .before .validate-call .ensures) (c .before .before .before .before .before .before .before .enum-told .given .1), deepen-inside (c .before .before .before .before .before .before .before .before .before .before .before .before .before .before .before .before .before .args .store .now) (c .before .before .before .before .before .before .before .before .before .before .before .before .before .before .before .before .before .args .places .now) (c .before .before .before .before .before .before .before .before .before .before .before .before .before .before .before .before .before .args .map) (c .before .before .before .before .before .before .before .before .before .before .before .before .before .before .before .before .before .args .path .now) (c .before .before .before .before .before .before .before .before .before .before .before .before .before .before .before .before .before .args .node .now) (c .before .before .before .before .before .before .before .before .before .before .before .before .before .before .before .before .before .args .out .now) (c .before .before .before .before .before .before .before .before .before .before .before .before .before .before .before .before .before .args .slots .now) (c .before .before .before .before .before .before .before .before .before .before .before .before .before .before .before .before .before .pre) _ (c .before .before .before .before .before .before .before .before .before .validate-call .ensures) (c .before .before .before .before .before .before .before .enum-told .given .1) _ (c .before .before .before .before .before .before .has-source .ensures) (c .before .before .before .before .before .if1 .left) (c .before .before .before .before .find-class .result) (c .before .before .before .before .find-class .ensures) (c .before .before .if2 .left))))
+deepen-by-requires c κs =
+    let at-if2 = c .before .before in
+    let at-find-class = at-if2 .before .before in
+    let at-if1 = at-find-class .before in
+    let at-has-source = at-if1 .before in
+    let at-enum-told = at-has-source .before in
+    let at-validate-call = at-enum-told .before .before in
+    let at-start = at-validate-call .before .before .before .before .before .before .before .before in
+    let args = at-start .args in
+    let pre = at-start .pre in (
+      deepen-short (args .store .now) (args .places .now) (args .map) (args .path .now) (args .node .now) (args .out .now) (args .slots .now) (pre) _
+          (at-validate-call .validate-call .ensures) (at-enum-told .enum-told .given .1),
+      (
+        deepen-node-short (args .store .now) (args .places .now) (args .map) (args .path .now) (args .node .now) (args .out .now) (args .slots .now)
+            (pre) _ (at-validate-call .validate-call .ensures) (at-enum-told .enum-told .given .1),
+        (
+          deepen-count (args .store .now) (args .places .now) (args .map) (args .path .now) (args .node .now) (args .out .now) (args .slots .now)
+              (pre) _ (at-validate-call .validate-call .ensures) (at-enum-told .enum-told .given .1),
+          deepen-inside (args .store .now) (args .places .now) (args .map) (args .path .now) (args .node .now) (args .out .now) (args .slots .now)
+              (pre) _ (at-validate-call .validate-call .ensures) (at-enum-told .enum-told .given .1) _ (at-has-source .has-source .ensures)
+              (at-if1 .if1 .left) (at-find-class .find-class .result) (at-find-class .find-class .ensures) (at-if2 .if2 .left),
+        ),
+      ),
+    )
 
 same-length-5 : tie.Need-same-length-5
 same-length-5 c = search needs
@@ -59,7 +116,21 @@ same-length-6 : tie.Need-same-length-6
 same-length-6 c = search needs
 
 returns-4 : tie.Need-returns-4
-returns-4 c = gives-map _ _ (deepen-made (c .before .before .before .before .before .before .before .before .before .before .before .before .before .before .before .before .before .before .before .before .before .before .args .store .now) (c .before .before .before .before .before .before .before .before .before .before .before .before .before .before .before .before .before .before .before .before .before .before .args .places .now) (c .before .before .before .before .before .before .before .before .before .before .before .before .before .before .before .before .before .before .before .before .before .before .args .map) (c .before .before .before .before .before .before .before .before .before .before .before .before .before .before .before .before .before .before .before .before .before .before .args .path .now) (c .before .before .before .before .before .before .before .before .before .before .before .before .before .before .before .before .before .before .before .before .before .before .args .node .now) (c .before .before .before .before .before .before .before .before .before .before .before .before .before .before .before .before .before .before .before .before .before .before .args .out .now) (c .before .before .before .before .before .before .before .before .before .before .before .before .before .before .before .before .before .before .before .before .before .before .args .slots .now) (c .before .before .before .before .before .before .before .before .before .before .before .before .before .before .before .before .before .before .before .before .before .before .pre) _ (c .before .before .before .before .before .before .before .before .before .before .before .before .before .before .validate-call .ensures) (c .before .before .before .before .before .before .before .before .before .before .before .before .enum-told .given .1) _ (c .before .before .before .before .before .before .before .before .before .before .before .has-source .ensures) (c .before .before .before .before .before .before .before .before .before .before .if1 .left) (c .before .before .before .before .before .before .before .before .before .find-class .result) (c .before .before .before .before .before .before .before .before .before .find-class .ensures) (c .before .before .before .before .before .before .before .if2 .left)) _ _ _ _ _ (c .before .before .before .before .deepen-by .ensures)
+returns-4 c =
+    let at-deepen-by = c .before .before .before .before in
+    let at-if2 = at-deepen-by .before .before .before in
+    let at-find-class = at-if2 .before .before in
+    let at-if1 = at-find-class .before in
+    let at-has-source = at-if1 .before in
+    let at-enum-told = at-has-source .before in
+    let at-validate-call = at-enum-told .before .before in
+    let at-start = at-validate-call .before .before .before .before .before .before .before .before in
+    let args = at-start .args in
+    gives-map _ _
+    (deepen-made (args .store .now) (args .places .now) (args .map) (args .path .now) (args .node .now) (args .out .now) (args .slots .now)
+    (at-start .pre) _ (at-validate-call .validate-call .ensures) (at-enum-told .enum-told .given .1) _ (at-has-source .has-source .ensures)
+    (at-if1 .if1 .left) (at-find-class .find-class .result) (at-find-class .find-class .ensures) (at-if2 .if2 .left))
+    _ _ _ _ _ (at-deepen-by .deepen-by .ensures)
 
 pub deepen-node-spec : {M : Type 1} → statement M
 deepen-node-spec =

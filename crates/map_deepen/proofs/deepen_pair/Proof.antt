@@ -18,7 +18,21 @@ same-length-2 : tie.Need-same-length-2
 same-length-2 c = search needs
 
 returns : tie.Need-returns
-returns c = deepen-class (c .before .before .before .before .before .before .before .before .before .before .before .before .before .before .before .before .args .s .now) (c .before .before .before .before .before .before .before .before .before .before .before .before .before .before .before .before .args .t .now) (c .before .before .before .before .before .before .before .before .before .before .before .before .before .before .before .before .args .node .now) (c .before .before .before .before .before .before .before .before .before .before .before .before .before .before .before .before .args .above .now) (c .before .before .before .before .before .before .before .before .before .before .before .before .before .before .before .before .args .below .now) _ (c .before .before .before .before .before .before .before .before .is-equal .ensures) (c .before .before .before .before .before .before .before .before .before .before .before .before .before .before .before .before .args .at) (c .before .before .before .before .before .before .before .before .before .before .before .before .before .before .before .before .args .n) _ (c .before .before .before .before .before .before .before .before .before .before .before .before .before .before .before .before .args .bytes .now) _ (c .before .before .before .before .before .before .before .before .before .before .before .before .before .before .before .before .args .slots .now) _ (c .before .before .before .before .before .before .before .if1 .taken) (c .before .before .before .before .before .before .before .before .before .before .before .before .before .before .before .before .pre .1 .1 .0) (c .before .before .before .before .before .before .before .before .before .before .before .before .before .before .before .before .pre .1 .1 .1 .0) (put-there _ _ _ _ _ _ _ _ _ (c .before .before .before .before .push-pair .ensures) (omega (arith, c .before .before .before .before .before .before .before .before .before .before .before .before .before .before .before .before .pre .1 .1 .0, c .before .before .before .before .before .before .before .before .before .before .before .before .before .before .before .before .pre .1 .1 .1 .0, c .before .before .before .before .before .before .before .before .before .before .before .before .before .before .before .before .pre .1 .1 .1 .1 .0)) (c .before .before .before .before .before .before .before .before .before .before .before .before .before .before .before .before .pre .1 .1 .1 .1 .1) .0) (put-there _ _ _ _ _ _ _ _ _ (c .before .before .before .before .push-pair .ensures) (omega (arith, c .before .before .before .before .before .before .before .before .before .before .before .before .before .before .before .before .pre .1 .1 .0, c .before .before .before .before .before .before .before .before .before .before .before .before .before .before .before .before .pre .1 .1 .1 .0, c .before .before .before .before .before .before .before .before .before .before .before .before .before .before .before .before .pre .1 .1 .1 .1 .0)) (c .before .before .before .before .before .before .before .before .before .before .before .before .before .before .before .before .pre .1 .1 .1 .1 .1) .1 .0) (put-there _ _ _ _ _ _ _ _ _ (c .before .before .before .before .push-pair .ensures) (omega (arith, c .before .before .before .before .before .before .before .before .before .before .before .before .before .before .before .before .pre .1 .1 .0, c .before .before .before .before .before .before .before .before .before .before .before .before .before .before .before .before .pre .1 .1 .1 .0, c .before .before .before .before .before .before .before .before .before .before .before .before .before .before .before .before .pre .1 .1 .1 .1 .0)) (c .before .before .before .before .before .before .before .before .before .before .before .before .before .before .before .before .pre .1 .1 .1 .1 .1) .1 .1)
+returns c =
+    let at-push-pair = c .before .before .before .before in
+    let at-if1 = at-push-pair .before .before .before in
+    let at-is-equal = at-if1 .before in
+    let at-start = at-is-equal .before .before .before .before .before .before .before .before in
+    let args = at-start .args in
+    let pre = at-start .pre in
+    deepen-class (args .s .now) (args .t .now) (args .node .now) (args .above .now) (args .below .now) _ (at-is-equal .is-equal .ensures) (args .at)
+    (args .n) _ (args .bytes .now) _ (args .slots .now) _ (at-if1 .if1 .taken) (pre .1 .1 .0) (pre .1 .1 .1 .0)
+    (put-there _ _ _ _ _ _ _ _ _ (at-push-pair .push-pair .ensures) (omega (arith, pre .1 .1 .0, pre .1 .1 .1 .0, pre .1 .1 .1 .1 .0))
+    (pre .1 .1 .1 .1 .1) .0)
+    (put-there _ _ _ _ _ _ _ _ _ (at-push-pair .push-pair .ensures) (omega (arith, pre .1 .1 .0, pre .1 .1 .1 .0, pre .1 .1 .1 .1 .0))
+    (pre .1 .1 .1 .1 .1) .1 .0)
+    (put-there _ _ _ _ _ _ _ _ _ (at-push-pair .push-pair .ensures) (omega (arith, pre .1 .1 .0, pre .1 .1 .1 .0, pre .1 .1 .1 .1 .0))
+    (pre .1 .1 .1 .1 .1) .1 .1)
 
 push-pair-requires-2 : tie.Need-push-pair-requires-2
 push-pair-requires-2 c κs = search needs
@@ -30,7 +44,20 @@ same-length-4 : tie.Need-same-length-4
 same-length-4 c = search needs
 
 returns-2 : tie.Need-returns-2
-returns-2 c = deepen-other (c .before .before .before .before .before .before .before .before .before .before .before .before .before .before .before .before .args .s .now) (c .before .before .before .before .before .before .before .before .before .before .before .before .before .before .before .before .args .t .now) (c .before .before .before .before .before .before .before .before .before .before .before .before .before .before .before .before .args .node .now) (c .before .before .before .before .before .before .before .before .before .before .before .before .before .before .before .before .args .above .now) (c .before .before .before .before .before .before .before .before .before .before .before .before .before .before .before .before .args .below .now) _ (c .before .before .before .before .before .before .before .before .is-equal .ensures) (c .before .before .before .before .before .before .before .before .before .before .before .before .before .before .before .before .args .at) (c .before .before .before .before .before .before .before .before .before .before .before .before .before .before .before .before .args .n) _ (c .before .before .before .before .before .before .before .before .before .before .before .before .before .before .before .before .args .bytes .now) _ (c .before .before .before .before .before .before .before .before .before .before .before .before .before .before .before .before .args .slots .now) _ (c .before .before .before .before .before .before .before .if1 .left) (c .before .before .before .before .before .before .before .before .before .before .before .before .before .before .before .before .pre .0) (c .before .before .before .before .before .before .before .before .before .before .before .before .before .before .before .before .pre .1 .0) (put-there _ _ _ _ _ _ _ _ _ (c .before .before .before .before .push-pair2 .ensures) (omega (arith, c .before .before .before .before .before .before .before .before .before .before .before .before .before .before .before .before .pre .0, c .before .before .before .before .before .before .before .before .before .before .before .before .before .before .before .before .pre .1 .0, c .before .before .before .before .before .before .before .before .before .before .before .before .before .before .before .before .pre .1 .1 .1 .1 .0)) (c .before .before .before .before .before .before .before .before .before .before .before .before .before .before .before .before .pre .1 .1 .1 .1 .1) .0) (put-there _ _ _ _ _ _ _ _ _ (c .before .before .before .before .push-pair2 .ensures) (omega (arith, c .before .before .before .before .before .before .before .before .before .before .before .before .before .before .before .before .pre .0, c .before .before .before .before .before .before .before .before .before .before .before .before .before .before .before .before .pre .1 .0, c .before .before .before .before .before .before .before .before .before .before .before .before .before .before .before .before .pre .1 .1 .1 .1 .0)) (c .before .before .before .before .before .before .before .before .before .before .before .before .before .before .before .before .pre .1 .1 .1 .1 .1) .1 .0) (put-there _ _ _ _ _ _ _ _ _ (c .before .before .before .before .push-pair2 .ensures) (omega (arith, c .before .before .before .before .before .before .before .before .before .before .before .before .before .before .before .before .pre .0, c .before .before .before .before .before .before .before .before .before .before .before .before .before .before .before .before .pre .1 .0, c .before .before .before .before .before .before .before .before .before .before .before .before .before .before .before .before .pre .1 .1 .1 .1 .0)) (c .before .before .before .before .before .before .before .before .before .before .before .before .before .before .before .before .pre .1 .1 .1 .1 .1) .1 .1)
+returns-2 c =
+    let at-push-pair2 = c .before .before .before .before in
+    let at-if1 = at-push-pair2 .before .before .before in
+    let at-is-equal = at-if1 .before in
+    let at-start = at-is-equal .before .before .before .before .before .before .before .before in
+    let args = at-start .args in
+    let pre = at-start .pre in
+    deepen-other (args .s .now) (args .t .now) (args .node .now) (args .above .now) (args .below .now) _ (at-is-equal .is-equal .ensures) (args .at)
+    (args .n) _ (args .bytes .now) _ (args .slots .now) _ (at-if1 .if1 .left) (pre .0) (pre .1 .0)
+    (put-there _ _ _ _ _ _ _ _ _ (at-push-pair2 .push-pair2 .ensures) (omega (arith, pre .0, pre .1 .0, pre .1 .1 .1 .1 .0)) (pre .1 .1 .1 .1 .1) .0)
+    (put-there _ _ _ _ _ _ _ _ _ (at-push-pair2 .push-pair2 .ensures) (omega (arith, pre .0, pre .1 .0, pre .1 .1 .1 .1 .0))
+    (pre .1 .1 .1 .1 .1) .1 .0)
+    (put-there _ _ _ _ _ _ _ _ _ (at-push-pair2 .push-pair2 .ensures) (omega (arith, pre .0, pre .1 .0, pre .1 .1 .1 .1 .0))
+    (pre .1 .1 .1 .1 .1) .1 .1)
 
 pub deepen-pair-spec : {M : Type 1} → statement M
 deepen-pair-spec =

@@ -6,7 +6,11 @@ use Rattle.map_deepen.proofs.deepen_to.Statement.{statement}
 use Rattle.map_deepen.proofs.deepen_to.Tie as tie
 
 returns : tie.Need-returns
-returns c = refusing-map _ _ (deepen-long (c .before .before .before .before .before .before .args .store .now) (c .before .before .before .before .before .before .args .places .now) (c .before .before .before .before .before .before .args .map) (c .before .before .before .before .before .before .args .path .now) (c .before .before .before .before .before .before .args .out .now) (c .before .before .before .before .before .before .args .slots .now) (c .if1 .taken)) _ _
+returns c =
+    let at-start = c .before .before .before .before .before .before in
+    let args = at-start .args in
+    refusing-map _ _
+    (deepen-long (args .store .now) (args .places .now) (args .map) (args .path .now) (args .out .now) (args .slots .now) (c .if1 .taken)) _ _
 
 slice-aggregate-strip-node : tie.Need-slice-aggregate-strip-node
 slice-aggregate-strip-node c = search needs

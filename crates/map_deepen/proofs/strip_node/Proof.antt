@@ -17,13 +17,23 @@ same-length : tie.Need-same-length
 same-length c = search needs
 
 returns : tie.Need-returns
-returns c = node-done (c .before .before .before .before .before .before .before .before .before .args .path .now) (c .before .before .before .before .before .before .before .before .before .args .out .now) _ (c .before .before .before .before .before .before .before .before .before .pre) (c .before .before .before .before .before .strip-into .ensures .0) _ (c .before .fit .given .1) _ (c .before .before .before .before .before .strip-into .ensures .1)
+returns c =
+    let at-fit = c .before in
+    let at-strip-into = at-fit .before .before .before .before in
+    let at-start = at-strip-into .before .before .before .before in
+    node-done (at-start .args .path .now) (at-start .args .out .now) _ (at-start .pre) (at-strip-into .strip-into .ensures .0) _
+    (at-fit .fit .given .1) _ (at-strip-into .strip-into .ensures .1)
 
 same-length-2 : tie.Need-same-length-2
 same-length-2 c = search needs
 
 returns-2 : tie.Need-returns-2
-returns-2 c = absurd (strip-never (c .before .before .before .before .before .before .before .before .args .path .now) (c .before .before .before .before .before .before .before .before .args .out .now) _ (c .before .before .before .before .before .before .before .before .pre) (c .before .before .before .before .strip-into .ensures .0) (c .enum-told .given .1))
+returns-2 c =
+    let at-strip-into = c .before .before .before .before in
+    let at-start = at-strip-into .before .before .before .before in
+    absurd
+    (strip-never (at-start .args .path .now) (at-start .args .out .now) _ (at-start .pre) (at-strip-into .strip-into .ensures .0)
+    (c .enum-told .given .1))
 
 pub strip-node-spec : {M : Type 1} → statement M
 strip-node-spec =

@@ -27,7 +27,13 @@ is-equal-requires : tie.Need-is-equal-requires Inv-loop μ-loop
 is-equal-requires c κs = search needs
 
 returns : tie.Need-returns Inv-loop μ-loop
-returns c = same-not _ _ _ _ _ (c .before .before .before .key-at .ensures) (c .before .before .key-at2 .ensures) _ (c .before .is-equal .ensures) _ (c .before .before .before .before .loop-test .taken) (c .if1 .taken)
+returns c =
+    let at-is-equal = c .before in
+    let at-key-at2 = at-is-equal .before in
+    let at-key-at = at-key-at2 .before in
+    let at-loop-test = at-key-at .before in
+    same-not _ _ _ _ _ (at-key-at .key-at .ensures) (at-key-at2 .key-at2 .ensures) _ (at-is-equal .is-equal .ensures) _
+    (at-loop-test .loop-test .taken) (c .if1 .taken)
 
 add-i : tie.Need-add-i Inv-loop μ-loop
 add-i c = search needs
@@ -36,7 +42,15 @@ loop-less : tie.Need-loop-less Inv-loop μ-loop
 loop-less c = search needs
 
 loop-again : tie.Need-loop-again Inv-loop μ-loop
-loop-again c = (search needs, same-on _ _ _ _ _ (c .before .before .before .key-at .ensures) (c .before .before .key-at2 .ensures) _ (c .before .is-equal .ensures) (c .before .before .before .before .before .loop .inv .1) (c .if1 .left))
+loop-again c = (
+  search needs,
+  (let at-is-equal = c .before in
+      let at-key-at2 = at-is-equal .before in
+      let at-key-at = at-key-at2 .before in
+      let at-loop = at-key-at .before .before in
+      same-on _ _ _ _ _ (at-key-at .key-at .ensures) (at-key-at2 .key-at2 .ensures) _ (at-is-equal .is-equal .ensures) (at-loop .loop .inv .1)
+      (c .if1 .left)),
+)
 
 returns-2 : tie.Need-returns-2 Inv-loop μ-loop
 returns-2 c = same-end _ _ _ _ (c .loop-test .left) (c .before .loop .inv .0) (c .before .loop .inv .1)

@@ -40,7 +40,18 @@ same-length-2 : tie.Need-same-length-2
 same-length-2 c = search needs
 
 returns-2 : tie.Need-returns-2
-returns-2 c = gives-map _ _ (dropping-unfolded _ _ _ _ _ _ ∙ made-passed _ _ _ _ _ _ _ (c .before .before .before .before .before .before .before .before .before .before .before .before .before .validate-call .ensures ∙ end-validated _ _ _ refl) (c .before .before .before .before .before .before .before .before .before .before .before .enum-told .given .1) ∙ dropped-none _ _ _ _ _ _ (left-all _ _ _ _ _ _ (c .before .before .before .before .before .before .before .before .before .without-source .ensures) (c .before .before .before .before .before .before .before .if1 .taken)) ∙ sym (held-passed _ _ _ (sym (c .before .before .before .before .before .before .before .before .before .before .before .before .before .validate-call .ensures) ∙ c .before .before .before .before .before .before .before .before .before .before .before .enum-told .given .1) _)) _ _ _ _ _ (c .before .before .before .before .without-dropping .ensures)
+returns-2 c =
+    let at-without-dropping = c .before .before .before .before in
+    let at-if1 = at-without-dropping .before .before .before in
+    let at-without-source = at-if1 .before .before in
+    let at-enum-told = at-without-source .before .before in
+    let at-validate-call = at-enum-told .before .before in
+    gives-map _ _
+    (dropping-unfolded _ _ _ _ _ _ ∙ made-passed _ _ _ _ _ _ _ (at-validate-call .validate-call .ensures ∙ end-validated _ _ _ refl)
+    (at-enum-told .enum-told .given .1) ∙ dropped-none _ _ _ _ _ _
+    (left-all _ _ _ _ _ _ (at-without-source .without-source .ensures) (at-if1 .if1 .taken)) ∙ sym
+    (held-passed _ _ _ (sym (at-validate-call .validate-call .ensures) ∙ at-enum-told .enum-told .given .1) _))
+    _ _ _ _ _ (at-without-dropping .without-dropping .ensures)
 
 slice-aggregate-from-parts : tie.Need-slice-aggregate-from-parts
 slice-aggregate-from-parts c = search needs
@@ -55,7 +66,23 @@ same-length-4 : tie.Need-same-length-4
 same-length-4 c = search needs
 
 returns-3 : tie.Need-returns-3
-returns-3 c = gives-map _ _ (dropping-unfolded _ _ _ _ _ _ ∙ made-passed _ _ _ _ _ _ _ (c .before .before .before .before .before .before .before .before .before .before .before .before .before .before .validate-call .ensures ∙ end-validated _ _ _ refl) (c .before .before .before .before .before .before .before .before .before .before .before .before .enum-told .given .1) ∙ dropped-some _ _ _ _ _ _ (left-some _ _ _ _ _ _ (c .before .before .before .before .before .before .before .before .before .before .without-source .ensures) (c .before .before .before .before .before .before .before .before .if1 .left)) ∙ own-parts _ _ _ _ _ _ _ _ (c .before .before .before .before .before .before .before .before .before .before .without-source .ensures) (omega (arith, left-few _ _ _ _ _ _ (c .before .before .before .before .before .before .before .before .before .before .without-source .ensures), (first-sound _ _ _ _ (sym (c .before .before .before .before .before .before .before .before .before .before .before .before .before .before .validate-call .ensures) ∙ c .before .before .before .before .before .before .before .before .before .before .before .before .enum-told .given .1)) .few))) _ _ _ _ _ (c .before .before .before .before .from-parts .ensures)
+returns-3 c =
+    let at-from-parts = c .before .before .before .before in
+    let at-if1 = at-from-parts .before .before .before .before in
+    let at-without-source = at-if1 .before .before in
+    let at-enum-told = at-without-source .before .before in
+    let at-validate-call = at-enum-told .before .before in
+    gives-map _ _
+    (dropping-unfolded _ _ _ _ _ _ ∙ made-passed _ _ _ _ _ _ _ (at-validate-call .validate-call .ensures ∙ end-validated _ _ _ refl)
+    (at-enum-told .enum-told .given .1) ∙ dropped-some _ _ _ _ _ _
+    (left-some _ _ _ _ _ _ (at-without-source .without-source .ensures) (at-if1 .if1 .left)) ∙ own-parts _ _ _ _ _ _ _ _
+    (at-without-source .without-source .ensures)
+    (omega (
+      arith,
+      left-few _ _ _ _ _ _ (at-without-source .without-source .ensures),
+      (first-sound _ _ _ _ (sym (at-validate-call .validate-call .ensures) ∙ at-enum-told .enum-told .given .1)) .few,
+    )))
+    _ _ _ _ _ (at-from-parts .from-parts .ensures)
 
 pub dropping-source-spec : {M : Type 1} → statement M
 dropping-source-spec =

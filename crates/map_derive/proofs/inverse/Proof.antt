@@ -42,7 +42,19 @@ same-length-2 c = search needs
 
 returns-2 : tie.Need-returns-2
 unfolding ofBits
-returns-2 c = gives-map _ _ (inverse-unfolded _ _ _ _ _ ∙ made-passed _ _ _ _ _ _ _ (c .before .before .before .before .before .before .before .before .before .before .before .before .before .validate-list .ensures) (c .before .before .before .before .before .before .before .before .before .before .before .enum-told .given .1) ∙ own-parts _ _ _ _ _ _ _ _ (swapped-list _ _ _ _ _ (c .before .before .before .before .before .before .before .before .before .swap-ends .ensures) (omega (arith, (first-sound _ _ _ _ (sym (c .before .before .before .before .before .before .before .before .before .before .before .before .before .validate-list .ensures) ∙ c .before .before .before .before .before .before .before .before .before .before .before .enum-told .given .1)) .held)) (omega (arith, (first-sound _ _ _ _ (sym (c .before .before .before .before .before .before .before .before .before .before .before .before .before .validate-list .ensures) ∙ c .before .before .before .before .before .before .before .before .before .before .before .enum-told .given .1)) .few))) (omega (arith, (first-sound _ _ _ _ (sym (c .before .before .before .before .before .before .before .before .before .before .before .before .before .validate-list .ensures) ∙ c .before .before .before .before .before .before .before .before .before .before .before .enum-told .given .1)) .few))) _ _ _ _ _ (c .before .before .before .before .from-parts .ensures)
+returns-2 c =
+    let at-from-parts = c .before .before .before .before in
+    let at-swap-ends = at-from-parts .before .before .before .before .before in
+    let at-enum-told = at-swap-ends .before .before in
+    let at-validate-list = at-enum-told .before .before in
+    let its-sym = sym (at-validate-list .validate-list .ensures) ∙ at-enum-told .enum-told .given .1 in
+    gives-map _ _
+    (inverse-unfolded _ _ _ _ _ ∙ made-passed _ _ _ _ _ _ _ (at-validate-list .validate-list .ensures) (at-enum-told .enum-told .given .1) ∙
+    own-parts _ _ _ _ _ _ _ _
+    (swapped-list _ _ _ _ _ (at-swap-ends .swap-ends .ensures) (omega (arith, (first-sound _ _ _ _ its-sym) .held))
+    (omega (arith, (first-sound _ _ _ _ its-sym) .few)))
+    (omega (arith, (first-sound _ _ _ _ its-sym) .few)))
+    _ _ _ _ _ (at-from-parts .from-parts .ensures)
 
 pub inverse-spec : {M : Type 1} → statement M
 inverse-spec =

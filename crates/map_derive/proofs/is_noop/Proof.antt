@@ -28,13 +28,32 @@ all-ends-equal-requires : tie.Need-all-ends-equal-requires
 all-ends-equal-requires c κs = search needs
 
 returns-3 : tie.Need-returns-3
-returns-3 c = unless-passed RefusedTest _ _ _ _ (c .before .before .before .before .before .before .validate-list .ensures) (c .before .before .before .before .enum-told .given .1) (ap Holds (noop-pairs _ _ _ (c .before .before .before .is-null .ensures) (c .before .before .if1 .left) _ (c .before .all-ends-equal .ensures) (c .if2 .taken))) ∙ sym (noop-unfolded _ _ _)
+returns-3 c =
+    let at-all-ends-equal = c .before in
+    let at-if1 = at-all-ends-equal .before in
+    let at-is-null = at-if1 .before in
+    let at-enum-told = at-is-null .before in
+    let at-validate-list = at-enum-told .before .before in
+    unless-passed RefusedTest _ _ _ _ (at-validate-list .validate-list .ensures) (at-enum-told .enum-told .given .1)
+    (ap Holds (noop-pairs _ _ _ (at-is-null .is-null .ensures) (at-if1 .if1 .left) _ (at-all-ends-equal .all-ends-equal .ensures) (c .if2 .taken))) ∙
+    sym (noop-unfolded _ _ _)
 
 is-identity-requires : tie.Need-is-identity-requires
 is-identity-requires c κs = search needs
 
 returns-4 : tie.Need-returns-4
-returns-4 c = unless-passed RefusedTest _ _ _ _ (c .before .before .before .before .before .before .before .validate-list .ensures) (c .before .before .before .before .before .enum-told .given .1) (ap Holds (noop-time _ _ _ (c .before .before .before .before .is-null .ensures) (c .before .before .before .if1 .left) _ (c .before .before .all-ends-equal .ensures) (c .before .if2 .left) _ (c .is-identity .ensures))) ∙ sym (noop-unfolded _ _ _)
+returns-4 c =
+    let at-if2 = c .before in
+    let at-all-ends-equal = at-if2 .before in
+    let at-if1 = at-all-ends-equal .before in
+    let at-is-null = at-if1 .before in
+    let at-enum-told = at-is-null .before in
+    let at-validate-list = at-enum-told .before .before in
+    unless-passed RefusedTest _ _ _ _ (at-validate-list .validate-list .ensures) (at-enum-told .enum-told .given .1)
+    (ap Holds
+    (noop-time _ _ _ (at-is-null .is-null .ensures) (at-if1 .if1 .left) _ (at-all-ends-equal .all-ends-equal .ensures) (at-if2 .if2 .left) _
+    (c .is-identity .ensures)))
+    ∙ sym (noop-unfolded _ _ _)
 
 pub is-noop-spec : {M : Type 1} → statement M
 is-noop-spec =

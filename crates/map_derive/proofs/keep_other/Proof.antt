@@ -22,7 +22,14 @@ same-length : tie.Need-same-length
 same-length c = search needs
 
 returns-2 : tie.Need-returns-2
-returns-2 c = other-kept _ _ _ _ _ _ _ (c .before .before .before .before .before .before .key-at .ensures) _ (c .before .before .before .before .before .is-equal .ensures) (c .before .before .before .before .if1 .left) (c .before .before .before .before .before .before .before .before .before .before .before .pre .0) (c .before .before .before .before .before .before .before .before .before .before .before .pre .1) _ (c .before .before .copy-entry .ensures)
+returns-2 c =
+    let at-copy-entry = c .before .before in
+    let at-if1 = at-copy-entry .before .before in
+    let at-is-equal = at-if1 .before in
+    let at-key-at = at-is-equal .before in
+    let at-start = at-key-at .before .before .before .before .before in
+    other-kept _ _ _ _ _ _ _ (at-key-at .key-at .ensures) _ (at-is-equal .is-equal .ensures) (at-if1 .if1 .left) (at-start .pre .0) (at-start .pre .1)
+    _ (at-copy-entry .copy-entry .ensures)
 
 pub keep-other-spec : {M : Type 1} → statement M
 keep-other-spec =

@@ -70,7 +70,13 @@ loop-less : tie.Need-loop-less Inv-loop μ-loop
 loop-less c = search needs
 
 loop-again : tie.Need-loop-again Inv-loop μ-loop
-loop-again c = (search needs, swap-on _ _ _ _ (c .before .before .before .before .before .before .before .before .before .loop .inv .1) (omega arith) _ (c .before .before .write-entry .ensures), search needs)
+loop-again c = (
+  search needs,
+  (let at-write-entry = c .before .before in
+      let at-loop = at-write-entry .before .before .before .before .before .before .before in
+      swap-on _ _ _ _ (at-loop .loop .inv .1) (omega arith) _ (at-write-entry .write-entry .ensures)),
+  search needs,
+)
 
 same-length : tie.Need-same-length Inv-loop μ-loop
 same-length c = search needs

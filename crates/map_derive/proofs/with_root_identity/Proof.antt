@@ -28,7 +28,14 @@ same-length-2 : tie.Need-same-length-2
 same-length-2 c = search needs
 
 returns-2 : tie.Need-returns-2
-returns-2 c = gives-map _ _ (marked-unfolded _ _ _ _ _ ∙ made-passed _ _ _ _ _ _ _ (c .before .before .before .before .before .before .before .before .before .validate-list .ensures) (c .before .before .before .before .before .before .before .enum-told .given .1) ∙ marked-copy _ _ _ _ _ ∙ sym (held-passed _ _ _ (sym (c .before .before .before .before .before .before .before .before .before .validate-list .ensures) ∙ c .before .before .before .before .before .before .before .enum-told .given .1) _)) _ _ _ _ _ (c .before .before .before .before .without-dropping .ensures)
+returns-2 c =
+    let at-without-dropping = c .before .before .before .before in
+    let at-enum-told = at-without-dropping .before .before .before in
+    let at-validate-list = at-enum-told .before .before in
+    gives-map _ _
+    (marked-unfolded _ _ _ _ _ ∙ made-passed _ _ _ _ _ _ _ (at-validate-list .validate-list .ensures) (at-enum-told .enum-told .given .1) ∙
+    marked-copy _ _ _ _ _ ∙ sym (held-passed _ _ _ (sym (at-validate-list .validate-list .ensures) ∙ at-enum-told .enum-told .given .1) _))
+    _ _ _ _ _ (at-without-dropping .without-dropping .ensures)
 
 pub with-root-identity-spec : {M : Type 1} → statement M
 with-root-identity-spec =

@@ -19,7 +19,13 @@ loop-holds : tie.Need-loop-holds Inv-loop μ-loop
 loop-holds c = (search needs, without-none _ _ _ _, refl)
 
 keep-other-requires : tie.Need-keep-other-requires Inv-loop μ-loop
-keep-other-requires c κs = (omega (arith, c .before .loop-test .taken, c .before .before .before .before .before .before .before .pre .0), without-room _ _ _ _ _ _ _ (c .before .loop-test .taken) (omega (arith, c .before .before .before .before .before .before .before .pre .1, c .before .before .loop .inv .2)) (c .before .before .loop .inv .1))
+keep-other-requires c κs =
+    let at-loop-test = c .before in
+    let at-loop = at-loop-test .before in
+    let at-start = at-loop .before .before .before .before .before in (
+      omega (arith, at-loop-test .loop-test .taken, at-start .pre .0),
+      without-room _ _ _ _ _ _ _ (at-loop-test .loop-test .taken) (omega (arith, at-start .pre .1, at-loop .loop .inv .2)) (at-loop .loop .inv .1),
+    )
 
 add-i : tie.Need-add-i Inv-loop μ-loop
 add-i c = search needs

@@ -17,7 +17,13 @@ list-fits-requires : tie.Need-list-fits-requires
 list-fits-requires c κs = search needs
 
 returns-4 : tie.Need-returns-4
-returns-4 c = refusing-map _ _ (parts-bytes _ _ _ _ _ _ _ (c .before .before .before .before .if1 .left) (c .before .before .before .if2 .left) (c .before .before .if3 .left) _ (c .before .list-fits .ensures) (c .if4 .taken)) _ _
+returns-4 c =
+    let at-list-fits = c .before in
+    let at-if3 = at-list-fits .before in
+    let at-if2 = at-if3 .before in
+    let at-if1 = at-if2 .before in
+    refusing-map _ _
+    (parts-bytes _ _ _ _ _ _ _ (at-if1 .if1 .left) (at-if2 .if2 .left) (at-if3 .if3 .left) _ (at-list-fits .list-fits .ensures) (c .if4 .taken)) _ _
 
 is-marked-requires : tie.Need-is-marked-requires
 is-marked-requires c κs = search needs
@@ -41,7 +47,16 @@ same-length-2 : tie.Need-same-length-2
 same-length-2 c = search needs
 
 returns-5 : tie.Need-returns-5
-returns-5 c = parts-made _ _ _ _ _ _ _ (c .before .before .before .before .before .before .before .before .before .before .before .before .before .before .before .before .if1 .left) (c .before .before .before .before .before .before .before .before .before .before .before .before .before .before .before .if2 .left) (c .before .before .before .before .before .before .before .before .before .before .before .before .before .before .if3 .left) _ (c .before .before .before .before .before .before .before .before .before .before .before .before .before .list-fits .ensures) (c .before .before .before .before .before .before .before .before .before .before .before .before .if4 .left) _ (c .before .before .before .before .before .before .before .before .before .before .before .is-marked .ensures) _ (search needs) _ _ (canonical-read _ _ _ _ _ _ _ _ (c .before .before .before .before .before .before .before .before .before .canonical-places .ensures)) _ _ (c .before .before .before .before .write-list .ensures .1 .0) (c .before .before .before .before .write-list .ensures .1 .1)
+returns-5 c =
+    parts-made _ _ _ _ _ _ _
+    (c .before .before .before .before .before .before .before .before .before .before .before .before .before .before .before .before .if1 .left)
+    (c .before .before .before .before .before .before .before .before .before .before .before .before .before .before .before .if2 .left)
+    (c .before .before .before .before .before .before .before .before .before .before .before .before .before .before .if3 .left) _
+    (c .before .before .before .before .before .before .before .before .before .before .before .before .before .list-fits .ensures)
+    (c .before .before .before .before .before .before .before .before .before .before .before .before .if4 .left) _
+    (c .before .before .before .before .before .before .before .before .before .before .before .is-marked .ensures) _ (search needs) _ _
+    (canonical-read _ _ _ _ _ _ _ _ (c .before .before .before .before .before .before .before .before .before .canonical-places .ensures)) _ _
+    (c .before .before .before .before .write-list .ensures .1 .0) (c .before .before .before .before .write-list .ensures .1 .1)
 
 pub from-parts-spec : {M : Type 1} → statement M
 from-parts-spec =

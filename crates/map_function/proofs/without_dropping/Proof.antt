@@ -25,7 +25,12 @@ same-length-2 : tie.Need-same-length-2
 same-length-2 c = search needs
 
 returns-3 : tie.Need-returns-3
-returns-3 c = copy-over _ _ _ _ _ _ _ (c .before .before .before .before .before .before .before .before .before .before .if1 .left) (c .before .before .before .before .before .before .before .before .before .if2 .left) _ (c .before .before .before .before .before .before .write-list .ensures .0) _ _ (c .enum-told .given .1) (c .before .before .before .before .before .before .write-list .ensures .1 .0) (c .before .before .before .before .before .before .write-list .ensures .1 .1)
+returns-3 c =
+    let at-write-list = c .before .before .before .before .before .before in
+    let at-if2 = at-write-list .before .before .before in
+    let at-if1 = at-if2 .before in
+    copy-over _ _ _ _ _ _ _ (at-if1 .if1 .left) (at-if2 .if2 .left) _ (at-write-list .write-list .ensures .0) _ _ (c .enum-told .given .1)
+    (at-write-list .write-list .ensures .1 .0) (at-write-list .write-list .ensures .1 .1)
 
 same-length-3 : tie.Need-same-length-3
 same-length-3 c = search needs
@@ -34,7 +39,13 @@ same-length-4 : tie.Need-same-length-4
 same-length-4 c = search needs
 
 returns-4 : tie.Need-returns-4
-returns-4 c = copy-made _ _ _ _ _ _ _ (c .before .before .before .before .before .before .before .before .before .before .before .if1 .left) (c .before .before .before .before .before .before .before .before .before .before .if2 .left) _ (c .before .before .before .before .before .before .before .write-list .ensures .0) _ _ _ (c .before .fit .given .1) (c .before .before .before .before .before .before .before .write-list .ensures .1 .0) (c .before .before .before .before .before .before .before .write-list .ensures .1 .1)
+returns-4 c =
+    let at-fit = c .before in
+    let at-write-list = at-fit .before .before .before .before .before .before in
+    let at-if2 = at-write-list .before .before .before in
+    let at-if1 = at-if2 .before in
+    copy-made _ _ _ _ _ _ _ (at-if1 .if1 .left) (at-if2 .if2 .left) _ (at-write-list .write-list .ensures .0) _ _ _ (at-fit .fit .given .1)
+    (at-write-list .write-list .ensures .1 .0) (at-write-list .write-list .ensures .1 .1)
 
 pub without-dropping-spec : {M : Type 1} → statement M
 without-dropping-spec =

@@ -20,7 +20,20 @@ same-length-2 : tie.Need-same-length-2
 same-length-2 c = search needs
 
 returns : tie.Need-returns
-returns c = build-other (c .before .before .before .before .before .before .before .before .before .before .before .before .before .before .before .args .store .now) (c .before .before .before .before .before .before .before .before .before .before .before .before .before .before .before .args .places .now) (c .before .before .before .before .before .before .before .before .before .before .before .before .before .before .before .args .outer) (c .before .before .before .before .before .before .before .before .before .before .before .before .before .before .before .args .istore .now) (c .before .before .before .before .before .before .before .before .before .before .before .before .before .before .before .args .iplaces .now) (c .before .before .before .before .before .before .before .before .before .before .before .before .before .before .before .args .inner) _ _ _ _ _ (c .before .before .before .before .before .before .before .before .path-is-identity .ensures) (c .before .before .before .before .before .before .before .if1 .taken) (into-holds (mapOf (c .before .before .before .before .before .before .before .before .before .before .before .before .before .before .before .args .istore .now) (c .before .before .before .before .before .before .before .before .before .before .before .before .before .before .before .args .iplaces .now) (c .before .before .before .before .before .before .before .before .before .before .before .before .before .before .before .args .inner)) (mapOf (c .before .before .before .before .before .before .before .before .before .before .before .before .before .before .before .args .store .now) (c .before .before .before .before .before .before .before .before .before .before .before .before .before .before .before .args .places .now) (c .before .before .before .before .before .before .before .before .before .before .before .before .before .before .before .args .outer)) (c .before .before .before .before .before .before .before .before .before .before .before .before .before .before .before .args .bytes .now) (c .before .before .before .before .before .before .before .before .before .before .before .before .before .before .before .args .own .now) (enough-yes (c .before .before .before .before .before .before .before .before .before .before .before .before .before .before .before .args .istore .now) (c .before .before .before .before .before .before .before .before .before .before .before .before .before .before .before .args .iplaces .now) (c .before .before .before .before .before .before .before .before .before .before .before .before .before .before .before .args .inner .count) (c .before .before .before .before .before .before .before .before .before .before .before .before .before .before .before .args .store .now) (c .before .before .before .before .before .before .before .before .before .before .before .before .before .before .before .args .places .now) (c .before .before .before .before .before .before .before .before .before .before .before .before .before .before .before .args .outer .count) _ _ (c .before .before .before .before .before .before .before .before .before .before .before .before .before .before .before .pre .1 .0) (c .before .before .before .before .before .before .before .before .before .before .before .before .before .before .before .pre .0) (omega (arith, c .before .before .before .before .before .before .before .before .before .before .before .before .before .before .before .pre .1 .1 .0)) (omega (arith, c .before .before .before .before .before .before .before .before .before .before .before .before .before .before .before .pre .1 .1 .1))) _ _ _ (c .before .before .before .before .compose-into .ensures))
+returns c =
+    let at-compose-into = c .before .before .before .before in
+    let at-if1 = at-compose-into .before .before .before in
+    let at-path-is-identity = at-if1 .before in
+    let at-start = at-path-is-identity .before .before .before .before .before .before .before in
+    let args = at-start .args in
+    let pre = at-start .pre in
+    build-other (args .store .now) (args .places .now) (args .outer) (args .istore .now) (args .iplaces .now) (args .inner) _ _ _ _ _
+    (at-path-is-identity .path-is-identity .ensures) (at-if1 .if1 .taken)
+    (into-holds (mapOf (args .istore .now) (args .iplaces .now) (args .inner)) (mapOf (args .store .now) (args .places .now) (args .outer))
+    (args .bytes .now) (args .own .now)
+    (enough-yes (args .istore .now) (args .iplaces .now) (args .inner .count) (args .store .now) (args .places .now) (args .outer .count) _ _
+    (pre .1 .0) (pre .0) (omega (arith, pre .1 .1 .0)) (omega (arith, pre .1 .1 .1)))
+    _ _ _ (at-compose-into .compose-into .ensures))
 
 compose-into-requires-2 : tie.Need-compose-into-requires-2
 compose-into-requires-2 c κs = search needs
@@ -32,7 +45,20 @@ same-length-4 : tie.Need-same-length-4
 same-length-4 c = search needs
 
 returns-2 : tie.Need-returns-2
-returns-2 c = build-both (c .before .before .before .before .before .before .before .before .before .before .before .before .before .before .before .args .store .now) (c .before .before .before .before .before .before .before .before .before .before .before .before .before .before .before .args .places .now) (c .before .before .before .before .before .before .before .before .before .before .before .before .before .before .before .args .outer) (c .before .before .before .before .before .before .before .before .before .before .before .before .before .before .before .args .istore .now) (c .before .before .before .before .before .before .before .before .before .before .before .before .before .before .before .args .iplaces .now) (c .before .before .before .before .before .before .before .before .before .before .before .before .before .before .before .args .inner) _ _ _ _ _ (c .before .before .before .before .before .before .before .before .path-is-identity .ensures) (c .before .before .before .before .before .before .before .if1 .left) (into-holds (mapOf (c .before .before .before .before .before .before .before .before .before .before .before .before .before .before .before .args .store .now) (c .before .before .before .before .before .before .before .before .before .before .before .before .before .before .before .args .places .now) (c .before .before .before .before .before .before .before .before .before .before .before .before .before .before .before .args .outer)) (mapOf (c .before .before .before .before .before .before .before .before .before .before .before .before .before .before .before .args .istore .now) (c .before .before .before .before .before .before .before .before .before .before .before .before .before .before .before .args .iplaces .now) (c .before .before .before .before .before .before .before .before .before .before .before .before .before .before .before .args .inner)) (c .before .before .before .before .before .before .before .before .before .before .before .before .before .before .before .args .bytes .now) (c .before .before .before .before .before .before .before .before .before .before .before .before .before .before .before .args .own .now) (enough-yes (c .before .before .before .before .before .before .before .before .before .before .before .before .before .before .before .args .store .now) (c .before .before .before .before .before .before .before .before .before .before .before .before .before .before .before .args .places .now) (c .before .before .before .before .before .before .before .before .before .before .before .before .before .before .before .args .outer .count) (c .before .before .before .before .before .before .before .before .before .before .before .before .before .before .before .args .istore .now) (c .before .before .before .before .before .before .before .before .before .before .before .before .before .before .before .args .iplaces .now) (c .before .before .before .before .before .before .before .before .before .before .before .before .before .before .before .args .inner .count) _ _ (c .before .before .before .before .before .before .before .before .before .before .before .before .before .before .before .pre .0) (c .before .before .before .before .before .before .before .before .before .before .before .before .before .before .before .pre .1 .0) (c .before .before .before .before .before .before .before .before .before .before .before .before .before .before .before .pre .1 .1 .0) (c .before .before .before .before .before .before .before .before .before .before .before .before .before .before .before .pre .1 .1 .1)) _ _ _ (c .before .before .before .before .compose-into2 .ensures))
+returns-2 c =
+    let at-compose-into2 = c .before .before .before .before in
+    let at-if1 = at-compose-into2 .before .before .before in
+    let at-path-is-identity = at-if1 .before in
+    let at-start = at-path-is-identity .before .before .before .before .before .before .before in
+    let args = at-start .args in
+    let pre = at-start .pre in
+    build-both (args .store .now) (args .places .now) (args .outer) (args .istore .now) (args .iplaces .now) (args .inner) _ _ _ _ _
+    (at-path-is-identity .path-is-identity .ensures) (at-if1 .if1 .left)
+    (into-holds (mapOf (args .store .now) (args .places .now) (args .outer)) (mapOf (args .istore .now) (args .iplaces .now) (args .inner))
+    (args .bytes .now) (args .own .now)
+    (enough-yes (args .store .now) (args .places .now) (args .outer .count) (args .istore .now) (args .iplaces .now) (args .inner .count) _ _
+    (pre .0) (pre .1 .0) (pre .1 .1 .0) (pre .1 .1 .1))
+    _ _ _ (at-compose-into2 .compose-into2 .ensures))
 
 pub compose-list-spec : {M : Type 1} → statement M
 compose-list-spec =

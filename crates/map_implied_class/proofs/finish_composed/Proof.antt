@@ -20,7 +20,14 @@ same-length-2 : tie.Need-same-length-2
 same-length-2 c = search needs
 
 returns : tie.Need-returns
-returns c = composed-finished (c .before .before .before .before .before .before .before .before .before .before .before .before .before .args .outer) (c .before .before .before .before .before .before .before .before .before .before .before .before .before .args .inner) (pairsIn (c .before .before .before .before .before .before .before .before .before .before .before .before .before .args .store .now) (c .before .before .before .before .before .before .before .before .before .before .before .before .before .args .places .now) (c .before .before .before .before .before .before .before .before .before .before .before .before .before .args .n)) _ _ (c .before .before .before .before .before .before .before .before .either-is-identity .ensures) (c .before .before .before .before .before .before .before .both .ensures) _ _ _ _ _ (c .before .before .before .before .finish-map .ensures)
+returns c =
+    let at-finish-map = c .before .before .before .before in
+    let at-both = at-finish-map .before .before .before in
+    let at-either-is-identity = at-both .before in
+    let at-start = at-either-is-identity .before .before .before .before .before in
+    let args = at-start .args in
+    composed-finished (args .outer) (args .inner) (pairsIn (args .store .now) (args .places .now) (args .n)) _ _
+    (at-either-is-identity .either-is-identity .ensures) (at-both .both .ensures) _ _ _ _ _ (at-finish-map .finish-map .ensures)
 
 pub finish-composed-spec : {M : Type 1} → statement M
 finish-composed-spec =

@@ -18,7 +18,16 @@ same-length-2 c = search needs
 
 returns : tie.Need-returns
 unfolding ofBits
-returns c = finish-done _ _ (finished-whole (c .before .before .before .before .before .before .before .before .before .before .before .before .before .args .store .now) (c .before .before .before .before .before .before .before .before .before .before .before .before .before .args .places .now) (c .before .before .before .before .before .before .before .before .before .before .before .before .before .args .n) (c .before .before .before .before .before .before .before .before .before .before .before .before .before .args .mark) (c .before .before .before .before .before .before .before .before .before .before .before .before .before .args .out .now) (c .before .before .before .before .before .before .before .before .before .before .before .before .before .args .slots .now) (c .before .before .before .before .before .before .before .before .before .before .before .before .before .pre .0 .0) (c .before .before .before .before .before .before .before .before .before .before .before .before .before .pre .0 .1) (c .before .before .before .before .before .before .before .before .before .before .before .before .before .pre .1) (c .before .before .before .before .before .before .before .before .before .before .before .before .before .args .whole) (c .before .before .before .before .before .before .before .before .if1 .taken)) _ _ _ _ _ _ (c .before .before .before .before .before .without-dropping .ensures) (c .map-of-reply .ensures)
+returns c =
+    let at-without-dropping = c .before .before .before .before .before in
+    let at-if1 = at-without-dropping .before .before .before in
+    let at-start = at-if1 .before .before .before .before .before in
+    let args = at-start .args in
+    let pre = at-start .pre in
+    finish-done _ _
+    (finished-whole (args .store .now) (args .places .now) (args .n) (args .mark) (args .out .now) (args .slots .now) (pre .0 .0) (pre .0 .1)
+    (pre .1) (args .whole) (at-if1 .if1 .taken))
+    _ _ _ _ _ _ (at-without-dropping .without-dropping .ensures) (c .map-of-reply .ensures)
 
 from-parts-requires : tie.Need-from-parts-requires
 from-parts-requires c κs = search needs
@@ -34,7 +43,16 @@ same-length-4 c = search needs
 
 returns-2 : tie.Need-returns-2
 unfolding ofBits
-returns-2 c = finish-done _ _ (finished-parts (c .before .before .before .before .before .before .before .before .before .before .before .before .before .args .store .now) (c .before .before .before .before .before .before .before .before .before .before .before .before .before .args .places .now) (c .before .before .before .before .before .before .before .before .before .before .before .before .before .args .n) (c .before .before .before .before .before .before .before .before .before .before .before .before .before .args .mark) (c .before .before .before .before .before .before .before .before .before .before .before .before .before .args .out .now) (c .before .before .before .before .before .before .before .before .before .before .before .before .before .args .slots .now) (c .before .before .before .before .before .before .before .before .before .before .before .before .before .pre .0 .0) (c .before .before .before .before .before .before .before .before .before .before .before .before .before .pre .0 .1) (c .before .before .before .before .before .before .before .before .before .before .before .before .before .pre .1) (c .before .before .before .before .before .before .before .before .before .before .before .before .before .args .whole) (c .before .before .before .before .before .before .before .before .if1 .left)) _ _ _ _ _ _ (c .before .before .before .before .before .from-parts .ensures) (c .map-of-reply2 .ensures)
+returns-2 c =
+    let at-from-parts = c .before .before .before .before .before in
+    let at-if1 = at-from-parts .before .before .before in
+    let at-start = at-if1 .before .before .before .before .before in
+    let args = at-start .args in
+    let pre = at-start .pre in
+    finish-done _ _
+    (finished-parts (args .store .now) (args .places .now) (args .n) (args .mark) (args .out .now) (args .slots .now) (pre .0 .0) (pre .0 .1)
+    (pre .1) (args .whole) (at-if1 .if1 .left))
+    _ _ _ _ _ _ (at-from-parts .from-parts .ensures) (c .map-of-reply2 .ensures)
 
 pub finish-map-spec : {M : Type 1} → statement M
 finish-map-spec =

@@ -12,19 +12,40 @@ add-if1-2 : tie.Need-add-if1-2
 add-if1-2 c = search needs
 
 returns : tie.Need-returns
-returns c = place-slots (pairsIn (c .before .before .before .before .before .args .store .now) (c .before .before .before .before .before .args .places .now) (c .before .before .before .before .before .args .n)) (c .before .before .before .before .before .args .n) (c .before .before .before .before .before .args .b .n) (c .before .before .before .before .before .args .d .n) (c .before .before .before .before .before .args .b .at) (c .before .before .before .before .before .args .d .at) (c .before .before .before .before .before .args .room) (c .before .before .before .before .before .args .slots) (pairsIn-length (c .before .before .before .before .before .args .store .now) (c .before .before .before .before .before .args .places .now) (c .before .before .before .before .before .args .n)) (c .if1 .taken)
+returns c =
+    let at-start = c .before .before .before .before .before in
+    let args = at-start .args in
+    place-slots (pairsIn (args .store .now) (args .places .now) (args .n)) (args .n) (args .b .n) (args .d .n) (args .b .at) (args .d .at)
+    (args .room) (args .slots) (pairsIn-length (args .store .now) (args .places .now) (args .n)) (c .if1 .taken)
 
 returns-2 : tie.Need-returns-2
-returns-2 c = place-first (pairsIn (c .before .before .before .before .before .before .before .args .store .now) (c .before .before .before .before .before .before .before .args .places .now) (c .before .before .before .before .before .before .before .args .n)) (c .before .before .before .before .before .before .before .args .n) (c .before .before .before .before .before .before .before .args .b .n) (c .before .before .before .before .before .before .before .args .d .n) (c .before .before .before .before .before .before .before .args .b .at) (c .before .before .before .before .before .before .before .args .d .at) (c .before .before .before .before .before .before .before .args .room) (c .before .before .before .before .before .before .before .args .slots) (pairsIn-length (c .before .before .before .before .before .before .before .args .store .now) (c .before .before .before .before .before .before .before .args .places .now) (c .before .before .before .before .before .before .before .args .n)) (c .if2 .taken)
+returns-2 c =
+    let at-start = c .before .before .before .before .before .before .before in
+    let args = at-start .args in
+    place-first (pairsIn (args .store .now) (args .places .now) (args .n)) (args .n) (args .b .n) (args .d .n) (args .b .at) (args .d .at)
+    (args .room) (args .slots) (pairsIn-length (args .store .now) (args .places .now) (args .n)) (c .if2 .taken)
 
 returns-3 : tie.Need-returns-3
-returns-3 c = place-second (pairsIn (c .before .before .before .before .before .before .before .before .before .before .args .store .now) (c .before .before .before .before .before .before .before .before .before .before .args .places .now) (c .before .before .before .before .before .before .before .before .before .before .args .n)) (c .before .before .before .before .before .before .before .before .before .before .args .n) (c .before .before .before .before .before .before .before .before .before .before .args .b .n) (c .before .before .before .before .before .before .before .before .before .before .args .d .n) (c .before .before .before .before .before .before .before .before .before .before .args .b .at) (c .before .before .before .before .before .before .before .before .before .before .args .d .at) (c .before .before .before .before .before .before .before .before .before .before .args .room) (c .before .before .before .before .before .before .before .before .before .before .args .slots) (pairsIn-length (c .before .before .before .before .before .before .before .before .before .before .args .store .now) (c .before .before .before .before .before .before .before .before .before .before .args .places .now) (c .before .before .before .before .before .before .before .before .before .before .args .n)) (c .before .before .before .if2 .left) (c .if3 .taken)
+returns-3 c =
+    let at-if2 = c .before .before .before in
+    let at-start = at-if2 .before .before .before .before .before .before .before in
+    let args = at-start .args in
+    place-second (pairsIn (args .store .now) (args .places .now) (args .n)) (args .n) (args .b .n) (args .d .n) (args .b .at) (args .d .at)
+    (args .room) (args .slots) (pairsIn-length (args .store .now) (args .places .now) (args .n)) (at-if2 .if2 .left) (c .if3 .taken)
 
 list-fits-requires : tie.Need-list-fits-requires
 list-fits-requires c κs = search needs
 
 returns-4 : tie.Need-returns-4
-returns-4 c = place-rest (pairsIn (c .before .before .before .before .before .before .before .before .before .before .before .before .args .store .now) (c .before .before .before .before .before .before .before .before .before .before .before .before .args .places .now) (c .before .before .before .before .before .before .before .before .before .before .before .before .args .n)) (c .before .before .before .before .before .before .before .before .before .before .before .before .args .n) (c .before .before .before .before .before .before .before .before .before .before .before .before .args .b .n) (c .before .before .before .before .before .before .before .before .before .before .before .before .args .d .n) (c .before .before .before .before .before .before .before .before .before .before .before .before .args .b .at) (c .before .before .before .before .before .before .before .before .before .before .before .before .args .d .at) (c .before .before .before .before .before .before .before .before .before .before .before .before .args .room) (c .before .before .before .before .before .before .before .before .before .before .before .before .args .slots) (pairsIn-length (c .before .before .before .before .before .before .before .before .before .before .before .before .args .store .now) (c .before .before .before .before .before .before .before .before .before .before .before .before .args .places .now) (c .before .before .before .before .before .before .before .before .before .before .before .before .args .n)) (c .before .before .before .before .before .before .before .if1 .left) (c .before .before .before .before .before .if2 .left) (c .before .before .if3 .left) _ (c .list-fits .ensures)
+returns-4 c =
+    let at-if3 = c .before .before in
+    let at-if2 = at-if3 .before .before .before in
+    let at-if1 = at-if2 .before .before in
+    let at-start = at-if1 .before .before .before .before .before in
+    let args = at-start .args in
+    place-rest (pairsIn (args .store .now) (args .places .now) (args .n)) (args .n) (args .b .n) (args .d .n) (args .b .at) (args .d .at) (args .room)
+    (args .slots) (pairsIn-length (args .store .now) (args .places .now) (args .n)) (at-if1 .if1 .left) (at-if2 .if2 .left) (at-if3 .if3 .left) _
+    (c .list-fits .ensures)
 
 pub has-room-beside-spec : {M : Type 1} → statement M
 has-room-beside-spec =

@@ -11,7 +11,15 @@ enum-known-q : tie.Need-enum-known-q
 enum-known-q c = search needs
 
 returns : tie.Need-returns
-returns c = refusing-map _ _ (implied-refused (c .before .before .before .before .before .before .before .before .before .before .args .store .now) (c .before .before .before .before .before .before .before .before .before .before .args .places .now) (c .before .before .before .before .before .before .before .before .before .before .args .transfer) (c .before .before .before .before .before .before .before .before .before .before .args .cstore .now) (c .before .before .before .before .before .before .before .before .before .before .args .cplaces .now) (c .before .before .before .before .before .before .before .before .before .before .args .class) (c .before .before .before .before .before .before .before .before .before .before .args .out .now) (c .before .before .before .before .before .before .before .before .before .before .args .slots .now) _ (c .before .before .before .validate-lists .ensures) _ (c .before .q .given .1)) _ _
+returns c =
+    let at-q = c .before in
+    let at-validate-lists = at-q .before .before in
+    let at-start = at-validate-lists .before .before .before .before .before .before .before in
+    let args = at-start .args in
+    refusing-map _ _
+    (implied-refused (args .store .now) (args .places .now) (args .transfer) (args .cstore .now) (args .cplaces .now) (args .class) (args .out .now)
+    (args .slots .now) _ (at-validate-lists .validate-lists .ensures) _ (at-q .q .given .1))
+    _ _
 
 enum-told : tie.Need-enum-told
 enum-told c = search needs
@@ -29,10 +37,50 @@ same-length-2 : tie.Need-same-length-2
 same-length-2 c = search needs
 
 returns-2 : tie.Need-returns-2
-returns-2 c = gives-map _ _ (implied-same (c .before .before .before .before .before .before .before .before .before .before .before .before .before .before .before .before .before .before .before .args .store .now) (c .before .before .before .before .before .before .before .before .before .before .before .before .before .before .before .before .before .before .before .args .places .now) (c .before .before .before .before .before .before .before .before .before .before .before .before .before .before .before .before .before .before .before .args .transfer) (c .before .before .before .before .before .before .before .before .before .before .before .before .before .before .before .before .before .before .before .args .cstore .now) (c .before .before .before .before .before .before .before .before .before .before .before .before .before .before .before .before .before .before .before .args .cplaces .now) (c .before .before .before .before .before .before .before .before .before .before .before .before .before .before .before .before .before .before .before .args .class) (c .before .before .before .before .before .before .before .before .before .before .before .before .before .before .before .before .before .before .before .args .out .now) (c .before .before .before .before .before .before .before .before .before .before .before .before .before .before .before .before .before .before .before .args .slots .now) _ (c .before .before .before .before .before .before .before .before .before .before .before .before .validate-lists .ensures) (c .before .before .before .before .before .before .before .before .before .before .enum-told .given .1) _ (c .before .before .before .before .before .before .before .before .before .is-identity .ensures) (c .before .before .before .before .before .before .before .before .if1 .taken)) _ _ _ _ _ (c .before .before .before .before .without-dropping .ensures)
+returns-2 c =
+    let at-without-dropping = c .before .before .before .before in
+    let at-if1 = at-without-dropping .before .before .before .before in
+    let at-is-identity = at-if1 .before in
+    let at-enum-told = at-is-identity .before in
+    let at-validate-lists = at-enum-told .before .before in
+    let at-start = at-validate-lists .before .before .before .before .before .before .before in
+    let args = at-start .args in
+    gives-map _ _
+    (implied-same (args .store .now) (args .places .now) (args .transfer) (args .cstore .now) (args .cplaces .now) (args .class) (args .out .now)
+    (args .slots .now) _ (at-validate-lists .validate-lists .ensures) (at-enum-told .enum-told .given .1) _ (at-is-identity .is-identity .ensures)
+    (at-if1 .if1 .taken))
+    _ _ _ _ _ (at-without-dropping .without-dropping .ensures)
 
 implied-in-requires : tie.Need-implied-in-requires
-implied-in-requires c κs = (((transfer-sound (c .before .before .before .before .before .before .before .before .before .before .before .before .before .args .store .now) (c .before .before .before .before .before .before .before .before .before .before .before .before .before .args .places .now) (c .before .before .before .before .before .before .before .before .before .before .before .before .before .args .transfer) (c .before .before .before .before .before .before .before .before .before .before .before .before .before .args .cstore .now) (c .before .before .before .before .before .before .before .before .before .before .before .before .before .args .cplaces .now) (c .before .before .before .before .before .before .before .before .before .before .before .before .before .args .class) (c .before .before .before .before .before .before .before .before .before .before .before .before .before .args .out .now) (c .before .before .before .before .before .before .before .before .before .before .before .before .before .args .slots .now) _ (c .before .before .before .before .before .before .validate-lists .ensures) (c .before .before .before .before .enum-told .given .1)) .few, (transfer-held (c .before .before .before .before .before .before .before .before .before .before .before .before .before .args .store .now) (c .before .before .before .before .before .before .before .before .before .before .before .before .before .args .places .now) (c .before .before .before .before .before .before .before .before .before .before .before .before .before .args .transfer) (c .before .before .before .before .before .before .before .before .before .before .before .before .before .args .cstore .now) (c .before .before .before .before .before .before .before .before .before .before .before .before .before .args .cplaces .now) (c .before .before .before .before .before .before .before .before .before .before .before .before .before .args .class) (c .before .before .before .before .before .before .before .before .before .before .before .before .before .args .out .now) (c .before .before .before .before .before .before .before .before .before .before .before .before .before .args .slots .now) _ (c .before .before .before .before .before .before .validate-lists .ensures) (c .before .before .before .before .enum-told .given .1), (class-sound (c .before .before .before .before .before .before .before .before .before .before .before .before .before .args .store .now) (c .before .before .before .before .before .before .before .before .before .before .before .before .before .args .places .now) (c .before .before .before .before .before .before .before .before .before .before .before .before .before .args .transfer) (c .before .before .before .before .before .before .before .before .before .before .before .before .before .args .cstore .now) (c .before .before .before .before .before .before .before .before .before .before .before .before .before .args .cplaces .now) (c .before .before .before .before .before .before .before .before .before .before .before .before .before .args .class) (c .before .before .before .before .before .before .before .before .before .before .before .before .before .args .out .now) (c .before .before .before .before .before .before .before .before .before .before .before .before .before .args .slots .now) _ (c .before .before .before .before .before .before .validate-lists .ensures) (c .before .before .before .before .enum-told .given .1)) .few)), ((transfer-sound (c .before .before .before .before .before .before .before .before .before .before .before .before .before .args .store .now) (c .before .before .before .before .before .before .before .before .before .before .before .before .before .args .places .now) (c .before .before .before .before .before .before .before .before .before .before .before .before .before .args .transfer) (c .before .before .before .before .before .before .before .before .before .before .before .before .before .args .cstore .now) (c .before .before .before .before .before .before .before .before .before .before .before .before .before .args .cplaces .now) (c .before .before .before .before .before .before .before .before .before .before .before .before .before .args .class) (c .before .before .before .before .before .before .before .before .before .before .before .before .before .args .out .now) (c .before .before .before .before .before .before .before .before .before .before .before .before .before .args .slots .now) _ (c .before .before .before .before .before .before .validate-lists .ensures) (c .before .before .before .before .enum-told .given .1)) .shorts, ((class-sound (c .before .before .before .before .before .before .before .before .before .before .before .before .before .args .store .now) (c .before .before .before .before .before .before .before .before .before .before .before .before .before .args .places .now) (c .before .before .before .before .before .before .before .before .before .before .before .before .before .args .transfer) (c .before .before .before .before .before .before .before .before .before .before .before .before .before .args .cstore .now) (c .before .before .before .before .before .before .before .before .before .before .before .before .before .args .cplaces .now) (c .before .before .before .before .before .before .before .before .before .before .before .before .before .args .class) (c .before .before .before .before .before .before .before .before .before .before .before .before .before .args .out .now) (c .before .before .before .before .before .before .before .before .before .before .before .before .before .args .slots .now) _ (c .before .before .before .before .before .before .validate-lists .ensures) (c .before .before .before .before .enum-told .given .1)) .shorts, ((transfer-sound (c .before .before .before .before .before .before .before .before .before .before .before .before .before .args .store .now) (c .before .before .before .before .before .before .before .before .before .before .before .before .before .args .places .now) (c .before .before .before .before .before .before .before .before .before .before .before .before .before .args .transfer) (c .before .before .before .before .before .before .before .before .before .before .before .before .before .args .cstore .now) (c .before .before .before .before .before .before .before .before .before .before .before .before .before .args .cplaces .now) (c .before .before .before .before .before .before .before .before .before .before .before .before .before .args .class) (c .before .before .before .before .before .before .before .before .before .before .before .before .before .args .out .now) (c .before .before .before .before .before .before .before .before .before .before .before .before .before .args .slots .now) _ (c .before .before .before .before .before .before .validate-lists .ensures) (c .before .before .before .before .enum-told .given .1)) .ends, (class-sound (c .before .before .before .before .before .before .before .before .before .before .before .before .before .args .store .now) (c .before .before .before .before .before .before .before .before .before .before .before .before .before .args .places .now) (c .before .before .before .before .before .before .before .before .before .before .before .before .before .args .transfer) (c .before .before .before .before .before .before .before .before .before .before .before .before .before .args .cstore .now) (c .before .before .before .before .before .before .before .before .before .before .before .before .before .args .cplaces .now) (c .before .before .before .before .before .before .before .before .before .before .before .before .before .args .class) (c .before .before .before .before .before .before .before .before .before .before .before .before .before .args .out .now) (c .before .before .before .before .before .before .before .before .before .before .before .before .before .args .slots .now) _ (c .before .before .before .before .before .before .validate-lists .ensures) (c .before .before .before .before .enum-told .given .1)) .ends))))
+implied-in-requires c κs =
+    let at-enum-told = c .before .before .before .before in
+    let at-validate-lists = at-enum-told .before .before in
+    let at-start = at-validate-lists .before .before .before .before .before .before .before in
+    let args = at-start .args in (
+      (
+        (transfer-sound (args .store .now) (args .places .now) (args .transfer) (args .cstore .now) (args .cplaces .now) (args .class)
+            (args .out .now) (args .slots .now) _ (at-validate-lists .validate-lists .ensures) (at-enum-told .enum-told .given .1)) .few,
+        (
+          transfer-held (args .store .now) (args .places .now) (args .transfer) (args .cstore .now) (args .cplaces .now) (args .class)
+              (args .out .now) (args .slots .now) _ (at-validate-lists .validate-lists .ensures) (at-enum-told .enum-told .given .1),
+          (class-sound (args .store .now) (args .places .now) (args .transfer) (args .cstore .now) (args .cplaces .now) (args .class) (args .out .now) (args .slots .now) _ (at-validate-lists .validate-lists .ensures) (at-enum-told .enum-told .given .1)) .few,
+        ),
+      ),
+      (
+        (transfer-sound (args .store .now) (args .places .now) (args .transfer) (args .cstore .now) (args .cplaces .now) (args .class)
+            (args .out .now) (args .slots .now) _ (at-validate-lists .validate-lists .ensures) (at-enum-told .enum-told .given .1)) .shorts,
+        (
+          (class-sound (args .store .now) (args .places .now) (args .transfer) (args .cstore .now) (args .cplaces .now) (args .class)
+              (args .out .now) (args .slots .now) _ (at-validate-lists .validate-lists .ensures) (at-enum-told .enum-told .given .1)) .shorts,
+          (
+            (transfer-sound (args .store .now) (args .places .now) (args .transfer) (args .cstore .now) (args .cplaces .now) (args .class)
+                (args .out .now) (args .slots .now) _ (at-validate-lists .validate-lists .ensures) (at-enum-told .enum-told .given .1)) .ends,
+            (class-sound (args .store .now) (args .places .now) (args .transfer) (args .cstore .now) (args .cplaces .now) (args .class)
+                (args .out .now) (args .slots .now) _ (at-validate-lists .validate-lists .ensures) (at-enum-told .enum-told .given .1)) .ends,
+          ),
+        ),
+      ),
+    )
 
 same-length-3 : tie.Need-same-length-3
 same-length-3 c = search needs
@@ -41,7 +89,19 @@ same-length-4 : tie.Need-same-length-4
 same-length-4 c = search needs
 
 returns-3 : tie.Need-returns-3
-returns-3 c = gives-map _ _ (implied-other (c .before .before .before .before .before .before .before .before .before .before .before .before .before .before .before .before .before .before .args .store .now) (c .before .before .before .before .before .before .before .before .before .before .before .before .before .before .before .before .before .before .args .places .now) (c .before .before .before .before .before .before .before .before .before .before .before .before .before .before .before .before .before .before .args .transfer) (c .before .before .before .before .before .before .before .before .before .before .before .before .before .before .before .before .before .before .args .cstore .now) (c .before .before .before .before .before .before .before .before .before .before .before .before .before .before .before .before .before .before .args .cplaces .now) (c .before .before .before .before .before .before .before .before .before .before .before .before .before .before .before .before .before .before .args .class) (c .before .before .before .before .before .before .before .before .before .before .before .before .before .before .before .before .before .before .args .out .now) (c .before .before .before .before .before .before .before .before .before .before .before .before .before .before .before .before .before .before .args .slots .now) _ (c .before .before .before .before .before .before .before .before .before .before .before .validate-lists .ensures) (c .before .before .before .before .before .before .before .before .before .enum-told .given .1) _ (c .before .before .before .before .before .before .before .before .is-identity .ensures) (c .before .before .before .before .before .before .before .if1 .left)) _ _ _ _ _ (c .before .before .before .before .implied-in .ensures)
+returns-3 c =
+    let at-implied-in = c .before .before .before .before in
+    let at-if1 = at-implied-in .before .before .before in
+    let at-is-identity = at-if1 .before in
+    let at-enum-told = at-is-identity .before in
+    let at-validate-lists = at-enum-told .before .before in
+    let at-start = at-validate-lists .before .before .before .before .before .before .before in
+    let args = at-start .args in
+    gives-map _ _
+    (implied-other (args .store .now) (args .places .now) (args .transfer) (args .cstore .now) (args .cplaces .now) (args .class) (args .out .now)
+    (args .slots .now) _ (at-validate-lists .validate-lists .ensures) (at-enum-told .enum-told .given .1) _ (at-is-identity .is-identity .ensures)
+    (at-if1 .if1 .left))
+    _ _ _ _ _ (at-implied-in .implied-in .ensures)
 
 pub implied-class-spec : {M : Type 1} → statement M
 implied-class-spec =

@@ -17,7 +17,11 @@ slice-aggregate-invert-2 : tie.Need-slice-aggregate-invert-2
 slice-aggregate-invert-2 c = search needs
 
 invert-requires : tie.Need-invert-requires
-invert-requires c κs = ((c .before .before .before .before .before .before .before .before .pre .0 .0, c .before .before .before .before .before .before .before .before .pre .0 .1 .0), (c .before .before .before .before .before .before .before .before .pre .1 .0, (search needs, search needs)))
+invert-requires c κs = (
+  (let at-start = c .before .before .before .before .before .before .before .before in
+      (at-start .pre .0 .0, at-start .pre .0 .1 .0)),
+  (c .before .before .before .before .before .before .before .before .pre .1 .0, (search needs, search needs)),
+)
 
 slice-aggregate-compose-list : tie.Need-slice-aggregate-compose-list
 slice-aggregate-compose-list c = search needs
@@ -32,10 +36,65 @@ slice-aggregate-compose-list-4 : tie.Need-slice-aggregate-compose-list-4
 slice-aggregate-compose-list-4 c = search needs
 
 compose-list-requires : tie.Need-compose-list-requires
-compose-list-requires c κs = (short-bounded (pairsIn (c .before .before .before .before .before .before .before .before .before .before .before .before .before .before .before .args .cstore .now) (c .before .before .before .before .before .before .before .before .before .before .before .before .before .before .before .args .cplaces .now) (c .before .before .before .before .before .before .before .before .before .before .before .before .before .before .before .args .class .count)) (c .before .before .before .before .before .before .before .before .before .before .before .before .before .before .before .pre .1 .1 .0), (back-bounded (c .before .before .before .before .before .before .before .before .before .before .before .before .before .before .before .args .store .now) (c .before .before .before .before .before .before .before .before .before .before .before .before .before .before .before .args .places .now) (c .before .before .before .before .before .before .before .before .before .before .before .before .before .before .before .args .transfer) (c .before .before .before .before .before .before .before .before .before .before .before .before .before .before .before .args .cstore .now) (c .before .before .before .before .before .before .before .before .before .before .before .before .before .before .before .args .cplaces .now) (c .before .before .before .before .before .before .before .before .before .before .before .before .before .before .before .args .class) (c .before .before .before .before .before .before .before .before .before .before .before .before .before .before .before .pre .0 .0) (c .before .before .before .before .before .before .before .before .before .before .before .before .before .before .before .pre .1 .0) (c .before .before .before .before .before .before .before .before .before .before .before .before .before .before .before .pre .1 .1 .0) _ _ (c .before .before .before .before .before .before .invert .result) (c .before .before .before .before .before .before .invert .ensures), (back-bytes (c .before .before .before .before .before .before .before .before .before .before .before .before .before .before .before .args .store .now) (c .before .before .before .before .before .before .before .before .before .before .before .before .before .before .before .args .places .now) (c .before .before .before .before .before .before .before .before .before .before .before .before .before .before .before .args .transfer) (c .before .before .before .before .before .before .before .before .before .before .before .before .before .before .before .args .cstore .now) (c .before .before .before .before .before .before .before .before .before .before .before .before .before .before .before .args .cplaces .now) (c .before .before .before .before .before .before .before .before .before .before .before .before .before .before .before .args .class) (c .before .before .before .before .before .before .before .before .before .before .before .before .before .before .before .pre .0 .0) (c .before .before .before .before .before .before .before .before .before .before .before .before .before .before .before .pre .1 .0) (c .before .before .before .before .before .before .before .before .before .before .before .before .before .before .before .pre .1 .1 .0) _ _ (c .before .before .before .before .before .before .invert .result) (c .before .before .before .before .before .before .invert .ensures) _ (c .before .before .before .before .before .before .before .before .before .before .before .before .before .before .before .pre .0 .1 .1) (search needs), back-places (c .before .before .before .before .before .before .before .before .before .before .before .before .before .before .before .args .store .now) (c .before .before .before .before .before .before .before .before .before .before .before .before .before .before .before .args .places .now) (c .before .before .before .before .before .before .before .before .before .before .before .before .before .before .before .args .transfer) (c .before .before .before .before .before .before .before .before .before .before .before .before .before .before .before .args .cstore .now) (c .before .before .before .before .before .before .before .before .before .before .before .before .before .before .before .args .cplaces .now) (c .before .before .before .before .before .before .before .before .before .before .before .before .before .before .before .args .class) (c .before .before .before .before .before .before .before .before .before .before .before .before .before .before .before .pre .0 .0) (c .before .before .before .before .before .before .before .before .before .before .before .before .before .before .before .pre .1 .0) (c .before .before .before .before .before .before .before .before .before .before .before .before .before .before .before .pre .1 .1 .0) _ _ (c .before .before .before .before .before .before .invert .result) (c .before .before .before .before .before .before .invert .ensures) _ (c .before .before .before .before .before .before .before .before .before .before .before .before .before .before .before .pre .0 .1 .1) (search needs))))
+compose-list-requires c κs = (
+  (let at-start = c .before .before .before .before .before .before .before .before .before .before .before .before .before .before .before in
+      let args = at-start .args in
+      short-bounded (pairsIn (args .cstore .now) (args .cplaces .now) (args .class .count)) (at-start .pre .1 .1 .0)),
+  (
+    back-bounded
+        (c .before .before .before .before .before .before .before .before .before .before .before .before .before .before .before .args .store .now)
+        (c .before .before .before .before .before .before .before .before .before .before .before .before .before .before .before .args .places .now)
+        (c .before .before .before .before .before .before .before .before .before .before .before .before .before .before .before .args .transfer)
+        (c .before .before .before .before .before .before .before .before .before .before .before .before .before .before .before .args .cstore .now)
+        (c .before .before .before .before .before .before .before .before .before .before .before .before .before .before .before .args .cplaces .now)
+        (c .before .before .before .before .before .before .before .before .before .before .before .before .before .before .before .args .class)
+        (c .before .before .before .before .before .before .before .before .before .before .before .before .before .before .before .pre .0 .0)
+        (c .before .before .before .before .before .before .before .before .before .before .before .before .before .before .before .pre .1 .0)
+        (c .before .before .before .before .before .before .before .before .before .before .before .before .before .before .before .pre .1 .1 .0) _ _
+        (c .before .before .before .before .before .before .invert .result) (c .before .before .before .before .before .before .invert .ensures),
+    (
+      back-bytes
+          (c .before .before .before .before .before .before .before .before .before .before .before .before .before .before .before .args .store .now)
+          (c .before .before .before .before .before .before .before .before .before .before .before .before .before .before .before .args .places .now)
+          (c .before .before .before .before .before .before .before .before .before .before .before .before .before .before .before .args .transfer)
+          (c .before .before .before .before .before .before .before .before .before .before .before .before .before .before .before .args .cstore .now)
+          (c .before .before .before .before .before .before .before .before .before .before .before .before .before .before .before .args .cplaces .now)
+          (c .before .before .before .before .before .before .before .before .before .before .before .before .before .before .before .args .class)
+          (c .before .before .before .before .before .before .before .before .before .before .before .before .before .before .before .pre .0 .0)
+          (c .before .before .before .before .before .before .before .before .before .before .before .before .before .before .before .pre .1 .0)
+          (c .before .before .before .before .before .before .before .before .before .before .before .before .before .before .before .pre .1 .1 .0) _
+          _ (c .before .before .before .before .before .before .invert .result) (c .before .before .before .before .before .before .invert .ensures) _
+          (c .before .before .before .before .before .before .before .before .before .before .before .before .before .before .before .pre .0 .1 .1)
+          (search needs),
+      back-places
+          (c .before .before .before .before .before .before .before .before .before .before .before .before .before .before .before .args .store .now)
+          (c .before .before .before .before .before .before .before .before .before .before .before .before .before .before .before .args .places .now)
+          (c .before .before .before .before .before .before .before .before .before .before .before .before .before .before .before .args .transfer)
+          (c .before .before .before .before .before .before .before .before .before .before .before .before .before .before .before .args .cstore .now)
+          (c .before .before .before .before .before .before .before .before .before .before .before .before .before .before .before .args .cplaces .now)
+          (c .before .before .before .before .before .before .before .before .before .before .before .before .before .before .before .args .class)
+          (c .before .before .before .before .before .before .before .before .before .before .before .before .before .before .before .pre .0 .0)
+          (c .before .before .before .before .before .before .before .before .before .before .before .before .before .before .before .pre .1 .0)
+          (c .before .before .before .before .before .before .before .before .before .before .before .before .before .before .before .pre .1 .1 .0) _
+          _ (c .before .before .before .before .before .before .invert .result) (c .before .before .before .before .before .before .invert .ensures) _
+          (c .before .before .before .before .before .before .before .before .before .before .before .before .before .before .before .pre .0 .1 .1)
+          (search needs),
+    ),
+  ),
+)
 
 returns : tie.Need-returns
-returns c = refusing-map _ _ (implied-many (c .before .before .before .before .before .before .before .before .before .before .before .before .before .before .before .before .before .before .before .before .args .store .now) (c .before .before .before .before .before .before .before .before .before .before .before .before .before .before .before .before .before .before .before .before .args .places .now) (c .before .before .before .before .before .before .before .before .before .before .before .before .before .before .before .before .before .before .before .before .args .transfer) (c .before .before .before .before .before .before .before .before .before .before .before .before .before .before .before .before .before .before .before .before .args .cstore .now) (c .before .before .before .before .before .before .before .before .before .before .before .before .before .before .before .before .before .before .before .before .args .cplaces .now) (c .before .before .before .before .before .before .before .before .before .before .before .before .before .before .before .before .before .before .before .before .args .class) (c .before .before .before .before .before .before .before .before .before .before .before .before .before .before .before .before .before .before .before .before .pre .0 .0) (c .before .before .before .before .before .before .before .before .before .before .before .before .before .before .before .before .before .before .before .before .pre .1 .0) (c .before .before .before .before .before .before .before .before .before .before .before .before .before .before .before .before .before .before .before .before .pre .1 .1 .0) _ _ (c .before .before .before .before .before .before .before .before .before .before .before .invert .result) (c .before .before .before .before .before .before .before .before .before .before .before .invert .ensures) _ _ _ _ (c .before .before .before .before .compose-list .ensures) (impliedTime (c .before .before .before .before .before .before .before .before .before .before .before .before .before .before .before .before .before .before .before .before .args .transfer) (c .before .before .before .before .before .before .before .before .before .before .before .before .before .before .before .before .before .before .before .before .args .class)) (c .before .before .before .before .before .before .before .before .before .before .before .before .before .before .before .before .before .before .before .before .args .out .now) (c .before .before .before .before .before .before .before .before .before .before .before .before .before .before .before .before .before .before .before .before .args .slots .now) (c .if1 .taken)) _ _
+returns c =
+    let at-compose-list = c .before .before .before .before in
+    let at-invert = at-compose-list .before .before .before .before .before .before .before in
+    let at-start = at-invert .before .before .before .before .before .before .before .before .before in
+    let args = at-start .args in
+    let pre = at-start .pre in
+    refusing-map _ _
+    (implied-many (args .store .now) (args .places .now) (args .transfer) (args .cstore .now) (args .cplaces .now) (args .class) (pre .0 .0)
+    (pre .1 .0) (pre .1 .1 .0) _ _ (at-invert .invert .result) (at-invert .invert .ensures) _ _ _ _ (at-compose-list .compose-list .ensures)
+    (impliedTime (args .transfer) (args .class)) (args .out .now) (args .slots .now) (c .if1 .taken))
+    _ _
 
 slice-aggregate-all-short : tie.Need-slice-aggregate-all-short
 slice-aggregate-all-short c = search needs
@@ -59,7 +118,19 @@ slice-aggregate-finish-composed-4 : tie.Need-slice-aggregate-finish-composed-4
 slice-aggregate-finish-composed-4 c = search needs
 
 finish-composed-requires : tie.Need-finish-composed-requires
-finish-composed-requires c κs = ((c .before .before .before .before .before .before .before .if1 .left, built-held _ _ _ _ _ (c .before .before .before .before .before .before .before .before .before .before .before .compose-list .ensures)), class-room (c .before .before .before .before .before .before .before .before .before .before .before .before .before .before .before .before .before .before .before .before .before .before .before .before .before .before .before .args .store .now) (c .before .before .before .before .before .before .before .before .before .before .before .before .before .before .before .before .before .before .before .before .before .before .before .before .before .before .before .args .places .now) (c .before .before .before .before .before .before .before .before .before .before .before .before .before .before .before .before .before .before .before .before .before .before .before .before .before .before .before .args .transfer) (c .before .before .before .before .before .before .before .before .before .before .before .before .before .before .before .before .before .before .before .before .before .before .before .before .before .before .before .args .cstore .now) (c .before .before .before .before .before .before .before .before .before .before .before .before .before .before .before .before .before .before .before .before .before .before .before .before .before .before .before .args .cplaces .now) (c .before .before .before .before .before .before .before .before .before .before .before .before .before .before .before .before .before .before .before .before .before .before .before .before .before .before .before .args .class) (c .before .before .before .before .before .before .before .before .before .before .before .before .before .before .before .before .before .before .before .before .before .before .before .before .before .before .before .pre .0 .0) (c .before .before .before .before .before .before .before .before .before .before .before .before .before .before .before .before .before .before .before .before .before .before .before .before .before .before .before .pre .1 .0) (c .before .before .before .before .before .before .before .before .before .before .before .before .before .before .before .before .before .before .before .before .before .before .before .before .before .before .before .pre .1 .1 .0) _ _ (c .before .before .before .before .before .before .before .before .before .before .before .before .before .before .before .before .before .before .invert .result) (c .before .before .before .before .before .before .before .before .before .before .before .before .before .before .before .before .before .before .invert .ensures) _ _ _ _ (c .before .before .before .before .before .before .before .before .before .before .before .compose-list .ensures) (c .before .before .before .before .before .before .before .if1 .left) (omega (arith, slice-aggregate-finish-composed-3 (c .before))) (omega (arith, slice-aggregate-finish-composed-4 c)))
+finish-composed-requires c κs =
+    let at-1 = c .before in
+    let at-if1 = at-1 .before .before .before .before .before .before in
+    let at-compose-list = at-if1 .before .before .before .before in
+    let at-invert = at-compose-list .before .before .before .before .before .before .before in
+    let at-start = at-invert .before .before .before .before .before .before .before .before .before in
+    let args = at-start .args in
+    let pre = at-start .pre in (
+      (at-if1 .if1 .left, built-held _ _ _ _ _ (at-compose-list .compose-list .ensures)),
+      class-room (args .store .now) (args .places .now) (args .transfer) (args .cstore .now) (args .cplaces .now) (args .class) (pre .0 .0)
+          (pre .1 .0) (pre .1 .1 .0) _ _ (at-invert .invert .result) (at-invert .invert .ensures) _ _ _ _ (at-compose-list .compose-list .ensures)
+          (at-if1 .if1 .left) (omega (arith, slice-aggregate-finish-composed-3 (at-1))) (omega (arith, slice-aggregate-finish-composed-4 c)),
+    )
 
 composed-time-requires : tie.Need-composed-time-requires
 composed-time-requires c κs = search needs
@@ -80,7 +151,27 @@ slice-aggregate-finish-4 : tie.Need-slice-aggregate-finish-4
 slice-aggregate-finish-4 c = search needs
 
 finish-requires : tie.Need-finish-requires
-finish-requires c κs = ((c .before .before .before .before .before .before .before .before .before .before .before .before .before .before .before .before .before .before .before .before .before .before .before .before .before .before .before .before .before .before .before .before .before .before .before .before .before .before .pre .0 .0, (part-few (c .before .before .before .before .before .before .before .before .before .before .before .before .before .before .before .before .before .before .before .before .before .before .before .before .before .before .before .before .before .before .before .before .before .before .before .before .before .before .args .store .now) (c .before .before .before .before .before .before .before .before .before .before .before .before .before .before .before .before .before .before .before .before .before .before .before .before .before .before .before .before .before .before .before .before .before .before .before .before .before .before .args .places .now) (c .before .before .before .before .before .before .before .before .before .before .before .before .before .before .before .before .before .before .before .before .before .before .before .before .before .before .before .before .before .before .before .before .before .before .before .before .before .before .args .transfer) (c .before .before .before .before .before .before .before .before .before .before .before .before .before .before .before .before .before .before .before .before .before .before .before .before .before .before .before .before .before .before .before .before .before .before .before .before .before .before .args .cstore .now) (c .before .before .before .before .before .before .before .before .before .before .before .before .before .before .before .before .before .before .before .before .before .before .before .before .before .before .before .before .before .before .before .before .before .before .before .before .before .before .args .cplaces .now) (c .before .before .before .before .before .before .before .before .before .before .before .before .before .before .before .before .before .before .before .before .before .before .before .before .before .before .before .before .before .before .before .before .before .before .before .before .before .before .args .class) (c .before .before .before .before .before .before .before .before .before .before .before .before .before .before .before .before .before .before .before .before .before .before .before .before .before .before .before .before .before .before .before .before .before .before .before .before .before .before .pre .0 .0) (c .before .before .before .before .before .before .before .before .before .before .before .before .before .before .before .before .before .before .before .before .before .before .before .before .before .before .before .before .before .before .before .before .before .before .before .before .before .before .pre .1 .0) (c .before .before .before .before .before .before .before .before .before .before .before .before .before .before .before .before .before .before .before .before .before .before .before .before .before .before .before .before .before .before .before .before .before .before .before .before .before .before .pre .1 .1 .0) _ _ (c .before .before .before .before .before .before .before .before .before .before .before .before .before .before .before .before .before .before .before .before .before .before .before .before .before .before .before .before .before .invert .result) (c .before .before .before .before .before .before .before .before .before .before .before .before .before .before .before .before .before .before .before .before .before .before .before .before .before .before .before .before .before .invert .ensures) _ _ _ _ (c .before .before .before .before .before .before .before .before .before .before .before .before .before .before .before .before .before .before .before .before .before .before .compose-list .ensures) (c .before .before .before .before .before .before .before .before .before .before .before .before .before .before .before .before .before .before .if1 .left) _ _ _ (c .before .before .before .before .before .before .before .before .before .before .finish-composed .ensures), c .before .before .before .before .before .before .before .before .before .before .before .before .before .before .before .before .before .before .if1 .left)), (short-bounded (pairsIn (c .before .before .before .before .before .before .before .before .before .before .before .before .before .before .before .before .before .before .before .before .before .before .before .before .before .before .before .before .before .before .before .before .before .before .before .before .before .before .args .store .now) (c .before .before .before .before .before .before .before .before .before .before .before .before .before .before .before .before .before .before .before .before .before .before .before .before .before .before .before .before .before .before .before .before .before .before .before .before .before .before .args .places .now) (c .before .before .before .before .before .before .before .before .before .before .before .before .before .before .before .before .before .before .before .before .before .before .before .before .before .before .before .before .before .before .before .before .before .before .before .before .before .before .args .transfer .count)) (c .before .before .before .before .before .before .before .before .before .before .before .before .before .before .before .before .before .before .before .before .before .before .before .before .before .before .before .before .before .before .before .before .before .before .before .before .before .before .pre .1 .0), (part-bounded (c .before .before .before .before .before .before .before .before .before .before .before .before .before .before .before .before .before .before .before .before .before .before .before .before .before .before .before .before .before .before .before .before .before .before .before .before .before .before .args .store .now) (c .before .before .before .before .before .before .before .before .before .before .before .before .before .before .before .before .before .before .before .before .before .before .before .before .before .before .before .before .before .before .before .before .before .before .before .before .before .before .args .places .now) (c .before .before .before .before .before .before .before .before .before .before .before .before .before .before .before .before .before .before .before .before .before .before .before .before .before .before .before .before .before .before .before .before .before .before .before .before .before .before .args .transfer) (c .before .before .before .before .before .before .before .before .before .before .before .before .before .before .before .before .before .before .before .before .before .before .before .before .before .before .before .before .before .before .before .before .before .before .before .before .before .before .args .cstore .now) (c .before .before .before .before .before .before .before .before .before .before .before .before .before .before .before .before .before .before .before .before .before .before .before .before .before .before .before .before .before .before .before .before .before .before .before .before .before .before .args .cplaces .now) (c .before .before .before .before .before .before .before .before .before .before .before .before .before .before .before .before .before .before .before .before .before .before .before .before .before .before .before .before .before .before .before .before .before .before .before .before .before .before .args .class) (c .before .before .before .before .before .before .before .before .before .before .before .before .before .before .before .before .before .before .before .before .before .before .before .before .before .before .before .before .before .before .before .before .before .before .before .before .before .before .pre .0 .0) (c .before .before .before .before .before .before .before .before .before .before .before .before .before .before .before .before .before .before .before .before .before .before .before .before .before .before .before .before .before .before .before .before .before .before .before .before .before .before .pre .1 .0) (c .before .before .before .before .before .before .before .before .before .before .before .before .before .before .before .before .before .before .before .before .before .before .before .before .before .before .before .before .before .before .before .before .before .before .before .before .before .before .pre .1 .1 .0) _ _ (c .before .before .before .before .before .before .before .before .before .before .before .before .before .before .before .before .before .before .before .before .before .before .before .before .before .before .before .before .before .invert .result) (c .before .before .before .before .before .before .before .before .before .before .before .before .before .before .before .before .before .before .before .before .before .before .before .before .before .before .before .before .before .invert .ensures) _ _ _ _ (c .before .before .before .before .before .before .before .before .before .before .before .before .before .before .before .before .before .before .before .before .before .before .compose-list .ensures) (c .before .before .before .before .before .before .before .before .before .before .before .before .before .before .before .before .before .before .if1 .left) _ _ _ (c .before .before .before .before .before .before .before .before .before .before .finish-composed .ensures), (omega (arith, slice-aggregate-finish-3 (c .before .before .before)), omega (arith, slice-aggregate-finish-4 (c .before .before))))))
+finish-requires c κs =
+    let at-2 = c .before .before in
+    let at-3 = at-2 .before in
+    let at-finish-composed = at-3 .before .before .before .before .before .before .before in
+    let at-if1 = at-finish-composed .before .before .before .before .before .before .before .before in
+    let at-compose-list = at-if1 .before .before .before .before in
+    let at-invert = at-compose-list .before .before .before .before .before .before .before in
+    let at-start = at-invert .before .before .before .before .before .before .before .before .before in
+    let args = at-start .args in
+    let pre = at-start .pre in (
+      (pre .0 .0, (part-few (args .store .now) (args .places .now) (args .transfer) (args .cstore .now) (args .cplaces .now) (args .class) (pre .0 .0) (pre .1 .0) (pre .1 .1 .0) _ _ (at-invert .invert .result) (at-invert .invert .ensures) _ _ _ _ (at-compose-list .compose-list .ensures) (at-if1 .if1 .left) _ _ _ (at-finish-composed .finish-composed .ensures), at-if1 .if1 .left)),
+      (
+        short-bounded (pairsIn (args .store .now) (args .places .now) (args .transfer .count)) (pre .1 .0),
+        (
+          part-bounded (args .store .now) (args .places .now) (args .transfer) (args .cstore .now) (args .cplaces .now) (args .class) (pre .0 .0)
+              (pre .1 .0) (pre .1 .1 .0) _ _ (at-invert .invert .result) (at-invert .invert .ensures) _ _ _ _ (at-compose-list .compose-list .ensures)
+              (at-if1 .if1 .left) _ _ _ (at-finish-composed .finish-composed .ensures),
+          (omega (arith, slice-aggregate-finish-3 (at-3)), omega (arith, slice-aggregate-finish-4 (at-2))),
+        ),
+      ),
+    )
 
 same-length : tie.Need-same-length
 same-length c = search needs
@@ -90,7 +181,25 @@ same-length-2 c = search needs
 
 returns-2 : tie.Need-returns-2
 unfolding ofBits
-returns-2 c = gives-map _ _ (implied-rest (c .before .before .before .before .before .before .before .before .before .before .before .before .before .before .before .before .before .before .before .before .before .before .before .before .before .before .before .before .before .before .before .before .before .before .before .before .before .before .before .before .before .before .before .before .before .args .store .now) (c .before .before .before .before .before .before .before .before .before .before .before .before .before .before .before .before .before .before .before .before .before .before .before .before .before .before .before .before .before .before .before .before .before .before .before .before .before .before .before .before .before .before .before .before .before .args .places .now) (c .before .before .before .before .before .before .before .before .before .before .before .before .before .before .before .before .before .before .before .before .before .before .before .before .before .before .before .before .before .before .before .before .before .before .before .before .before .before .before .before .before .before .before .before .before .args .transfer) (c .before .before .before .before .before .before .before .before .before .before .before .before .before .before .before .before .before .before .before .before .before .before .before .before .before .before .before .before .before .before .before .before .before .before .before .before .before .before .before .before .before .before .before .before .before .args .cstore .now) (c .before .before .before .before .before .before .before .before .before .before .before .before .before .before .before .before .before .before .before .before .before .before .before .before .before .before .before .before .before .before .before .before .before .before .before .before .before .before .before .before .before .before .before .before .before .args .cplaces .now) (c .before .before .before .before .before .before .before .before .before .before .before .before .before .before .before .before .before .before .before .before .before .before .before .before .before .before .before .before .before .before .before .before .before .before .before .before .before .before .before .before .before .before .before .before .before .args .class) (c .before .before .before .before .before .before .before .before .before .before .before .before .before .before .before .before .before .before .before .before .before .before .before .before .before .before .before .before .before .before .before .before .before .before .before .before .before .before .before .before .before .before .before .before .before .pre .0 .0) (c .before .before .before .before .before .before .before .before .before .before .before .before .before .before .before .before .before .before .before .before .before .before .before .before .before .before .before .before .before .before .before .before .before .before .before .before .before .before .before .before .before .before .before .before .before .pre .1 .0) (c .before .before .before .before .before .before .before .before .before .before .before .before .before .before .before .before .before .before .before .before .before .before .before .before .before .before .before .before .before .before .before .before .before .before .before .before .before .before .before .before .before .before .before .before .before .pre .1 .1 .0) _ _ (c .before .before .before .before .before .before .before .before .before .before .before .before .before .before .before .before .before .before .before .before .before .before .before .before .before .before .before .before .before .before .before .before .before .before .before .before .invert .result) (c .before .before .before .before .before .before .before .before .before .before .before .before .before .before .before .before .before .before .before .before .before .before .before .before .before .before .before .before .before .before .before .before .before .before .before .before .invert .ensures) _ _ _ _ (c .before .before .before .before .before .before .before .before .before .before .before .before .before .before .before .before .before .before .before .before .before .before .before .before .before .before .before .before .before .compose-list .ensures) (c .before .before .before .before .before .before .before .before .before .before .before .before .before .before .before .before .before .before .before .before .before .before .before .before .before .if1 .left) _ _ _ (c .before .before .before .before .before .before .before .before .before .before .before .before .before .before .before .before .before .finish-composed .ensures) (c .before .before .before .before .before .before .before .before .before .before .before .before .before .before .before .before .before .before .before .before .before .before .before .before .before .before .before .before .before .before .before .before .before .before .before .before .before .before .before .before .before .before .before .before .before .pre .1 .1 .1 .0) (c .before .before .before .before .before .before .before .before .before .before .before .before .before .before .before .before .before .before .before .before .before .before .before .before .before .before .before .before .before .before .before .before .before .before .before .before .before .before .before .before .before .before .before .before .before .pre .1 .1 .1 .1) _ (c .before .before .before .before .before .before .before .before .before .before .before .before .before .before .before .before .before .before .before .before .before .before .all-short .ensures) _ (time-twice _ _ _ _ (c .before .before .before .before .before .before .before .before .before .before .before .before .before .before .composed-time .ensures) (c .before .before .before .before .before .before .before .before .before .before .before .before .before .composed-time2 .ensures)) (c .before .before .before .before .before .before .before .before .before .before .before .before .before .before .before .before .before .before .before .before .before .before .before .before .before .before .before .before .before .before .before .before .before .before .before .before .before .before .before .before .before .before .before .before .before .args .out .now) (c .before .before .before .before .before .before .before .before .before .before .before .before .before .before .before .before .before .before .before .before .before .before .before .before .before .before .before .before .before .before .before .before .before .before .before .before .before .before .before .before .before .before .before .before .before .args .slots .now)) _ _ _ _ _ (c .before .before .before .before .before .before .finish .ensures)
+returns-2 c =
+    let at-finish = c .before .before .before .before .before .before in
+    let at-composed-time2 = at-finish .before .before .before .before .before .before .before in
+    let at-composed-time = at-composed-time2 .before in
+    let at-finish-composed = at-composed-time .before .before .before in
+    let at-all-short = at-finish-composed .before .before .before .before .before in
+    let at-if1 = at-all-short .before .before .before in
+    let at-compose-list = at-if1 .before .before .before .before in
+    let at-invert = at-compose-list .before .before .before .before .before .before .before in
+    let at-start = at-invert .before .before .before .before .before .before .before .before .before in
+    let args = at-start .args in
+    let pre = at-start .pre in
+    gives-map _ _
+    (implied-rest (args .store .now) (args .places .now) (args .transfer) (args .cstore .now) (args .cplaces .now) (args .class) (pre .0 .0)
+    (pre .1 .0) (pre .1 .1 .0) _ _ (at-invert .invert .result) (at-invert .invert .ensures) _ _ _ _ (at-compose-list .compose-list .ensures)
+    (at-if1 .if1 .left) _ _ _ (at-finish-composed .finish-composed .ensures) (pre .1 .1 .1 .0) (pre .1 .1 .1 .1) _
+    (at-all-short .all-short .ensures) _
+    (time-twice _ _ _ _ (at-composed-time .composed-time .ensures) (at-composed-time2 .composed-time2 .ensures)) (args .out .now) (args .slots .now))
+    _ _ _ _ _ (at-finish .finish .ensures)
 
 pub implied-in-spec : {M : Type 1} → statement M
 implied-in-spec =

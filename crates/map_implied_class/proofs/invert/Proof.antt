@@ -15,7 +15,16 @@ slice-aggregate-finish-map : tie.Need-slice-aggregate-finish-map
 slice-aggregate-finish-map c = search needs
 
 finish-map-requires : tie.Need-finish-map-requires
-finish-map-requires c κs = (search needs, invert-room (c .before .before .before .before .before .before .before .before .before .before .args .store .now) (c .before .before .before .before .before .before .before .before .before .before .args .places .now) _ (c .before .before .before .before .before .before .before .before .before .before .args .n) (swapped-list _ _ _ _ _ (c .before .before .before .before .swap-ends .ensures) (c .before .before .before .before .before .before .before .before .before .before .pre .0 .1) (omega (arith, c .before .before .before .before .before .before .before .before .before .before .pre .0 .0))) _ _ (c .before .before .before .before .before .before .before .before .before .before .pre .0 .0) (c .before .before .before .before .before .before .before .before .before .before .pre .1 .0) (c .before .before .before .before .before .before .before .before .before .before .pre .1 .1 .0) (c .before .before .before .before .before .before .before .before .before .before .pre .1 .1 .1))
+finish-map-requires c κs = (
+  search needs,
+  (let at-swap-ends = c .before .before .before .before in
+      let at-start = at-swap-ends .before .before .before .before .before .before in
+      let args = at-start .args in
+      let pre = at-start .pre in
+      invert-room (args .store .now) (args .places .now) _ (args .n)
+      (swapped-list _ _ _ _ _ (at-swap-ends .swap-ends .ensures) (pre .0 .1) (omega (arith, pre .0 .0))) _ _ (pre .0 .0) (pre .1 .0) (pre .1 .1 .0)
+      (pre .1 .1 .1)),
+)
 
 same-length : tie.Need-same-length
 same-length c = search needs
@@ -24,7 +33,14 @@ same-length-2 : tie.Need-same-length-2
 same-length-2 c = search needs
 
 returns : tie.Need-returns
-returns c = inverted (c .before .before .before .before .before .before .before .before .before .before .before .before .before .before .before .args .store .now) (c .before .before .before .before .before .before .before .before .before .before .before .before .before .before .before .args .places .now) _ (c .before .before .before .before .before .before .before .before .before .before .before .before .before .before .before .args .n) (swapped-list _ _ _ _ _ (c .before .before .before .before .before .before .before .before .before .swap-ends .ensures) (c .before .before .before .before .before .before .before .before .before .before .before .before .before .before .before .pre .0 .1) (omega (arith, c .before .before .before .before .before .before .before .before .before .before .before .before .before .before .before .pre .0 .0))) (c .before .before .before .before .before .before .before .before .before .before .before .before .before .before .before .args .mark) _ _ _ _ _ (c .before .before .before .before .finish-map .ensures)
+returns c =
+    let at-finish-map = c .before .before .before .before in
+    let at-swap-ends = at-finish-map .before .before .before .before .before in
+    let at-start = at-swap-ends .before .before .before .before .before .before in
+    let args = at-start .args in
+    inverted (args .store .now) (args .places .now) _ (args .n)
+    (swapped-list _ _ _ _ _ (at-swap-ends .swap-ends .ensures) (at-start .pre .0 .1) (omega (arith, at-start .pre .0 .0))) (args .mark) _ _ _ _ _
+    (at-finish-map .finish-map .ensures)
 
 pub invert-spec : {M : Type 1} → statement M
 invert-spec =

@@ -62,7 +62,16 @@ other-wins-requires : tie.Need-other-wins-requires Inv-loop μ-loop
 other-wins-requires c κs = search needs
 
 returns-3 : tie.Need-returns-3 Inv-loop μ-loop
-returns-3 c = best-lost _ (c .before .before .before .before .before .before .before .before .before .before .before .before .before .before .before .before .args .store .now) (c .before .before .before .before .before .before .before .before .before .before .before .before .before .before .before .before .args .places .now) _ (c .before .before .before .before .before .before .before .before .before .before .before .before .before .before .before .before .args .invert) _ _ _ (c .before .before .before .before .before .before .before .before .before .before .before .key-at .ensures) (c .before .before .before .before .before .before .before .before .before .before .matches .ensures) _ (c .before .before .before .before .before .before .before .before .key-count .ensures) _ _ (c .before .before .before .before .before .before .before .key-offset .ensures) (search needs) _ (c .before .other-wins .ensures) (c .if3 .taken)
+returns-3 c =
+    best-lost _
+    (c .before .before .before .before .before .before .before .before .before .before .before .before .before .before .before .before .args .store .now)
+    (c .before .before .before .before .before .before .before .before .before .before .before .before .before .before .before .before .args .places .now)
+    _
+    (c .before .before .before .before .before .before .before .before .before .before .before .before .before .before .before .before .args .invert)
+    _ _ _ (c .before .before .before .before .before .before .before .before .before .before .before .key-at .ensures)
+    (c .before .before .before .before .before .before .before .before .before .before .matches .ensures) _
+    (c .before .before .before .before .before .before .before .before .key-count .ensures) _ _
+    (c .before .before .before .before .before .before .before .key-offset .ensures) (search needs) _ (c .before .other-wins .ensures) (c .if3 .taken)
 
 add-k : tie.Need-add-k Inv-loop μ-loop
 add-k c = search needs
@@ -71,10 +80,34 @@ loop-less : tie.Need-loop-less Inv-loop μ-loop
 loop-less c = search needs
 
 loop-again : tie.Need-loop-again Inv-loop μ-loop
-loop-again c = let l = c .before .before .before .before .before .loop in (search needs, l .inv .1, l .inv .2, l .inv .3, unbeaten-on _ _ _ _ _ _ _ (key-is (c .before .before .before .before .before .before .before .before .before .before .before .before .before .before .before .before .args .store .now) (c .before .before .before .before .before .before .before .before .before .before .before .before .before .before .before .before .args .places .now) (c .before .before .before .before .before .before .before .before .before .before .before .before .before .before .before .before .args .invert) _ _ (c .before .before .before .before .before .before .before .key-offset .ensures)) (c .before .before .before .before .before .before .before .before .before .before .before .key-at .ensures) (c .before .other-wins .ensures) (c .if3 .left) (l .inv .4))
+loop-again c =
+    let l = c .before .before .before .before .before .loop in (
+      search needs,
+      l .inv .1,
+      l .inv .2,
+      l .inv .3,
+      unbeaten-on _ _ _ _ _ _ _
+          (key-is
+          (c .before .before .before .before .before .before .before .before .before .before .before .before .before .before .before .before .args .store .now)
+          (c .before .before .before .before .before .before .before .before .before .before .before .before .before .before .before .before .args .places .now)
+          (c .before .before .before .before .before .before .before .before .before .before .before .before .before .before .before .before .args .invert)
+          _ _ (c .before .before .before .before .before .before .before .key-offset .ensures))
+          (c .before .before .before .before .before .before .before .before .before .before .before .key-at .ensures) (c .before .other-wins .ensures)
+          (c .if3 .left) (l .inv .4),
+    )
 
 returns-4 : tie.Need-returns-4 Inv-loop μ-loop
-returns-4 c = best-found _ (c .before .before .before .before .before .before .before .before .before .before .before .before .args .store .now) (c .before .before .before .before .before .before .before .before .before .before .before .before .args .places .now) _ (c .before .before .before .before .before .before .before .before .before .before .before .before .args .invert) _ _ _ (c .before .before .before .before .before .before .before .key-at .ensures) (c .before .before .before .before .before .before .matches .ensures) _ (c .before .before .before .before .key-count .ensures) _ (c .before .before .before .before .before .before .before .before .if1 .left) (c .before .before .before .before .before .if2 .left) (c .loop-test .left) (c .before .loop .inv .0) (c .before .loop .inv .4)
+returns-4 c =
+    let at-loop = c .before in
+    let at-key-count = at-loop .before .before .before in
+    let at-if2 = at-key-count .before in
+    let at-matches = at-if2 .before in
+    let at-key-at = at-matches .before in
+    let at-if1 = at-key-at .before in
+    let at-start = at-if1 .before .before .before .before in
+    let args = at-start .args in
+    best-found _ (args .store .now) (args .places .now) _ (args .invert) _ _ _ (at-key-at .key-at .ensures) (at-matches .matches .ensures) _
+    (at-key-count .key-count .ensures) _ (at-if1 .if1 .left) (at-if2 .if2 .left) (c .loop-test .left) (at-loop .loop .inv .0) (at-loop .loop .inv .4)
 
 pub is-longest-match-spec : {M : Type 1} → statement M
 is-longest-match-spec =

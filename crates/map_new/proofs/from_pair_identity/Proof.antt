@@ -27,7 +27,11 @@ slice-aggregate-store-pair-2 : tie.Need-slice-aggregate-store-pair-2
 slice-aggregate-store-pair-2 c = search needs
 
 store-pair-requires : tie.Need-store-pair-requires
-store-pair-requires c κs = (omega (arith, text-short _ _ _ _ (sym (c .before .before .before .before .validate-ends .ensures) ∙ c .before .before .enum-told .given .1), second-short _ _ _ _ _ (sym (c .before .before .before .before .validate-ends .ensures) ∙ c .before .before .enum-told .given .1)), omega arith)
+store-pair-requires c κs =
+    let at-enum-told = c .before .before in
+    let at-validate-ends = at-enum-told .before .before in
+    let its-sym = sym (at-validate-ends .validate-ends .ensures) ∙ at-enum-told .enum-told .given .1 in
+    (omega (arith, text-short _ _ _ _ its-sym, second-short _ _ _ _ _ its-sym), omega arith)
 
 slice-aggregate-from-parts : tie.Need-slice-aggregate-from-parts
 slice-aggregate-from-parts c = search needs
@@ -46,7 +50,15 @@ same-length-2 c = search needs
 
 returns-2 : tie.Need-returns-2
 unfolding ofBits
-returns-2 c = gives-map _ _ (pair-identity-unfolded _ _ _ _ ∙ made-passed _ _ _ _ _ _ _ (c .before .before .before .before .before .before .before .before .before .before .before .before .before .before .before .before .validate-ends .ensures) (c .before .before .before .before .before .before .before .before .before .before .before .before .before .before .enum-told .given .1) ∙ own-parts _ _ _ _ _ _ _ _ (c .before .before .before .before .before .before .before .before .before .before .before .store-pair .ensures) (omega arith)) _ _ _ _ _ (c .before .before .before .before .from-parts .ensures)
+returns-2 c =
+    let at-from-parts = c .before .before .before .before in
+    let at-store-pair = at-from-parts .before .before .before .before .before .before .before in
+    let at-enum-told = at-store-pair .before .before .before in
+    let at-validate-ends = at-enum-told .before .before in
+    gives-map _ _
+    (pair-identity-unfolded _ _ _ _ ∙ made-passed _ _ _ _ _ _ _ (at-validate-ends .validate-ends .ensures) (at-enum-told .enum-told .given .1) ∙
+    own-parts _ _ _ _ _ _ _ _ (at-store-pair .store-pair .ensures) (omega arith))
+    _ _ _ _ _ (at-from-parts .from-parts .ensures)
 
 pub from-pair-identity-spec : {M : Type 1} → statement M
 from-pair-identity-spec =

@@ -29,7 +29,14 @@ same-length-2 c = search needs
 
 returns-2 : tie.Need-returns-2
 unfolding ofBits
-returns-2 c = gives-map _ _ (new-unfolded _ _ _ _ _ ∙ made-passed _ _ _ _ _ _ _ (c .before .before .before .before .before .before .before .before .before .validate-list .ensures) (c .before .before .before .before .before .before .before .enum-told .given .1) ∙ new-parts _ _ _ _ ∙ sym (held-passed _ _ _ (sym (c .before .before .before .before .before .before .before .before .before .validate-list .ensures) ∙ c .before .before .before .before .before .before .before .enum-told .given .1) _)) _ _ _ _ _ (c .before .before .before .before .from-parts .ensures)
+returns-2 c =
+    let at-from-parts = c .before .before .before .before in
+    let at-enum-told = at-from-parts .before .before .before in
+    let at-validate-list = at-enum-told .before .before in
+    gives-map _ _
+    (new-unfolded _ _ _ _ _ ∙ made-passed _ _ _ _ _ _ _ (at-validate-list .validate-list .ensures) (at-enum-told .enum-told .given .1) ∙ new-parts _
+    _ _ _ ∙ sym (held-passed _ _ _ (sym (at-validate-list .validate-list .ensures) ∙ at-enum-told .enum-told .given .1) _))
+    _ _ _ _ _ (at-from-parts .from-parts .ensures)
 
 pub new-spec : {M : Type 1} → statement M
 new-spec =

@@ -19,7 +19,13 @@ same-length-2 : tie.Need-same-length-2
 same-length-2 c = search needs
 
 returns : tie.Need-returns
-returns c = pair-stored _ _ _ _ (c .before .before .before .before .before .before .before .before .before .before .before .before .before .before .before .before .pre .0) (c .before .before .before .before .before .before .before .before .before .before .before .before .before .before .before .before .pre .1) _ _ _ (c .before .before .before .before .before .before .before .before .before .before .write-at .ensures) (c .before .before .before .before .before .before .write-at2 .ensures) (c .before .before .write-entry .ensures)
+returns c =
+    let at-write-entry = c .before .before in
+    let at-write-at2 = at-write-entry .before .before .before .before in
+    let at-write-at = at-write-at2 .before .before .before .before in
+    let at-start = at-write-at .before .before .before .before .before .before in
+    pair-stored _ _ _ _ (at-start .pre .0) (at-start .pre .1) _ _ _ (at-write-at .write-at .ensures) (at-write-at2 .write-at2 .ensures)
+    (at-write-entry .write-entry .ensures)
 
 pub store-pair-spec : {M : Type 1} → statement M
 store-pair-spec =

@@ -33,7 +33,17 @@ same-length-2 : tie.Need-same-length-2
 same-length-2 c = search needs
 
 returns : tie.Need-returns
-returns c = gives-map _ _ (one-pair (c .before .before .before .before .before .before .before .before .before .before .before .before .before .before .before .before .before .before .args .s .now) (c .before .before .before .before .before .before .before .before .before .before .before .before .before .before .before .before .before .before .args .t .now) (c .before .before .before .before .before .before .before .before .before .before .before .before .before .before .before .before .before .before .args .time) (c .before .before .before .before .before .before .before .before .before .before .before .before .before .before .before .before .before .before .args .out .now) (c .before .before .before .before .before .before .before .before .before .before .before .before .before .before .before .before .before .before .args .slots .now) _ _ (0 ∷ 0 ∷ 0 ∷ 0 ∷ []) _ refl (put-there _ _ _ _ _ _ _ _ _ (c .before .before .before .before .before .before .before .before .before .before .before .push-pair .ensures) (omega (arith, c .before .before .before .before .before .before .before .before .before .before .before .before .before .before .before .before .before .before .pre .0, c .before .before .before .before .before .before .before .before .before .before .before .before .before .before .before .before .before .before .pre .1)) (omega arith) .1 .0) (put-there _ _ _ _ _ _ _ _ _ (c .before .before .before .before .before .before .before .before .before .before .before .push-pair .ensures) (omega (arith, c .before .before .before .before .before .before .before .before .before .before .before .before .before .before .before .before .before .before .pre .0, c .before .before .before .before .before .before .before .before .before .before .before .before .before .before .before .before .before .before .pre .1)) (omega arith) .1 .1)) _ _ _ _ _ (c .before .before .before .before .from-parts .ensures)
+returns c =
+    let at-from-parts = c .before .before .before .before in
+    let at-push-pair = at-from-parts .before .before .before .before .before .before .before in
+    let at-start = at-push-pair .before .before .before .before .before .before .before in
+    let args = at-start .args in
+    let pre = at-start .pre in
+    gives-map _ _
+    (one-pair (args .s .now) (args .t .now) (args .time) (args .out .now) (args .slots .now) _ _ (0 ∷ 0 ∷ 0 ∷ 0 ∷ []) _ refl
+    (put-there _ _ _ _ _ _ _ _ _ (at-push-pair .push-pair .ensures) (omega (arith, pre .0, pre .1)) (omega arith) .1 .0)
+    (put-there _ _ _ _ _ _ _ _ _ (at-push-pair .push-pair .ensures) (omega (arith, pre .0, pre .1)) (omega arith) .1 .1))
+    _ _ _ _ _ (at-from-parts .from-parts .ensures)
 
 pub from-pair-identity-spec : {M : Type 1} → statement M
 from-pair-identity-spec =

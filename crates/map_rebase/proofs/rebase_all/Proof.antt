@@ -21,7 +21,15 @@ abbrev μ-loop : tie.MeasureT-loop
 μ-loop store places n from to bytes₀ slots₀ at₀ i₀ bytes slots at i = n - i
 
 loop-holds : tie.Need-loop-holds Inv-loop μ-loop
-loop-holds c = (search needs, search needs, build-begin (λ (x : Pair). rebasedPair (c .before .before .before .before .before .before .args .from .now) (c .before .before .before .before .before .before .args .to .now) x) (c .before .before .before .before .before .before .args .store .now) (c .before .before .before .before .before .before .args .places .now) _ _, refl, refl)
+loop-holds c = (
+  search needs,
+  search needs,
+  (let at-start = c .before .before .before .before .before .before in
+      let args = at-start .args in
+      build-begin (λ (x : Pair). rebasedPair (args .from .now) (args .to .now) x) (args .store .now) (args .places .now) _ _),
+  refl,
+  refl,
+)
 
 key-at-requires : tie.Need-key-at-requires Inv-loop μ-loop
 key-at-requires c κs = search needs
@@ -30,7 +38,28 @@ key-at-requires-2 : tie.Need-key-at-requires-2 Inv-loop μ-loop
 key-at-requires-2 c κs = search needs
 
 rebase-pair-requires : tie.Need-rebase-pair-requires Inv-loop μ-loop
-rebase-pair-requires c κs = (short-source (c .before .before .before .before .before .before .before .before .before .before .before .before .args .store .now) (c .before .before .before .before .before .before .before .before .before .before .before .before .args .places .now) (c .before .before .before .before .before .before .before .before .before .before .before .before .args .n) (c .before .before .before .before .before .loop .i) (c .before .before .before .before .loop-test .taken) (c .before .before .before .before .before .before .before .before .before .before .before .before .pre .0) _ (c .before .before .before .key-at .ensures), (short-target (c .before .before .before .before .before .before .before .before .before .before .before .before .args .store .now) (c .before .before .before .before .before .before .before .before .before .before .before .before .args .places .now) (c .before .before .before .before .before .before .before .before .before .before .before .before .args .n) (c .before .before .before .before .before .loop .i) (c .before .before .before .before .loop-test .taken) (c .before .before .before .before .before .before .before .before .before .before .before .before .pre .0) _ (c .before .before .key-at2 .ensures), (c .before .before .before .before .before .before .before .before .before .before .before .before .pre .1 .0, (omega (arith, c .before .before .before .before .before .before .before .before .before .before .before .before .pre .1 .1 .0, c .before .before .before .before .before .loop .inv .1, c .before .before .before .before .before .loop .inv .3, c .before .before .before .before .loop-test .taken), omega (arith, c .before .before .before .before .before .before .before .before .before .before .before .before .pre .1 .1 .1, c .before .before .before .before .before .loop .inv .4, c .before .before .before .before .loop-test .taken)))))
+rebase-pair-requires c κs =
+    let at-key-at2 = c .before .before in
+    let at-key-at = at-key-at2 .before in
+    let at-loop-test = at-key-at .before in
+    let at-loop = at-loop-test .before in
+    let at-start = at-loop .before .before .before .before .before .before .before in
+    let args = at-start .args in
+    let pre = at-start .pre in (
+      short-source (args .store .now) (args .places .now) (args .n) (at-loop .loop .i) (at-loop-test .loop-test .taken) (pre .0) _
+          (at-key-at .key-at .ensures),
+      (
+        short-target (args .store .now) (args .places .now) (args .n) (at-loop .loop .i) (at-loop-test .loop-test .taken) (pre .0) _
+            (at-key-at2 .key-at2 .ensures),
+        (
+          pre .1 .0,
+          (
+            omega (arith, pre .1 .1 .0, at-loop .loop .inv .1, at-loop .loop .inv .3, at-loop-test .loop-test .taken),
+            omega (arith, pre .1 .1 .1, at-loop .loop .inv .4, at-loop-test .loop-test .taken),
+          ),
+        ),
+      ),
+    )
 
 add-i : tie.Need-add-i Inv-loop μ-loop
 add-i c = search needs
@@ -39,7 +68,25 @@ loop-less : tie.Need-loop-less Inv-loop μ-loop
 loop-less c = search needs
 
 loop-again : tie.Need-loop-again Inv-loop μ-loop
-loop-again c = (search needs, omega (arith, c .before .before .before .before .rebase-pair .ensures .0 .1, c .before .before .before .before .before .before .before .before .before .before .loop .inv .1), build-next (λ (x : Pair). rebasedPair (c .before .before .before .before .before .before .before .before .before .before .before .before .before .before .before .before .before .args .from .now) (c .before .before .before .before .before .before .before .before .before .before .before .before .before .before .before .before .before .args .to .now) x) (c .before .before .before .before .before .before .before .before .before .before .before .before .before .before .before .before .before .args .store .now) (c .before .before .before .before .before .before .before .before .before .before .before .before .before .before .before .before .before .args .places .now) (c .before .before .before .before .before .before .before .before .before .before .loop .i) (c .before .before .before .before .before .before .before .before .before .before .loop .at) _ _ (c .before .before .before .before .before .before .before .before .before .before .loop .inv .2) _ _ (rebased-pair (c .before .before .before .before .before .before .before .before .before .before .before .before .before .before .before .before .before .args .store .now) (c .before .before .before .before .before .before .before .before .before .before .before .before .before .before .before .before .before .args .places .now) (c .before .before .before .before .before .before .before .before .before .before .loop .i) (c .before .before .before .before .before .before .before .before .before .before .before .before .before .before .before .before .before .args .from .now) (c .before .before .before .before .before .before .before .before .before .before .before .before .before .before .before .before .before .args .to .now) _ _ (c .before .before .before .before .before .before .before .before .key-at .ensures) (c .before .before .before .before .before .before .before .key-at2 .ensures)) _ _ _ (c .before .before .before .before .rebase-pair .ensures .0 .0) (c .before .before .before .before .rebase-pair .ensures .1 .0) (c .before .before .before .before .rebase-pair .ensures .1 .1), search needs, search needs)
+loop-again c = (
+  search needs,
+  (let at-rebase-pair = c .before .before .before .before in
+      let at-loop = at-rebase-pair .before .before .before .before .before .before in
+      omega (arith, at-rebase-pair .rebase-pair .ensures .0 .1, at-loop .loop .inv .1)),
+  (let at-rebase-pair = c .before .before .before .before in
+      let at-key-at2 = at-rebase-pair .before .before .before in
+      let at-key-at = at-key-at2 .before in
+      let at-loop = at-key-at .before .before in
+      let at-start = at-loop .before .before .before .before .before .before .before in
+      let args = at-start .args in
+      build-next (λ (x : Pair). rebasedPair (args .from .now) (args .to .now) x) (args .store .now) (args .places .now) (at-loop .loop .i)
+      (at-loop .loop .at) _ _ (at-loop .loop .inv .2) _ _
+      (rebased-pair (args .store .now) (args .places .now) (at-loop .loop .i) (args .from .now) (args .to .now) _ _ (at-key-at .key-at .ensures)
+      (at-key-at2 .key-at2 .ensures))
+      _ _ _ (at-rebase-pair .rebase-pair .ensures .0 .0) (at-rebase-pair .rebase-pair .ensures .1 .0) (at-rebase-pair .rebase-pair .ensures .1 .1)),
+  search needs,
+  search needs,
+)
 
 same-length : tie.Need-same-length Inv-loop μ-loop
 same-length c = search needs
@@ -48,7 +95,12 @@ same-length-2 : tie.Need-same-length-2 Inv-loop μ-loop
 same-length-2 c = search needs
 
 returns : tie.Need-returns Inv-loop μ-loop
-returns c = build-end (λ (x : Pair). rebasedPair (c .before .before .before .before .before .before .before .before .args .from .now) (c .before .before .before .before .before .before .before .before .args .to .now) x) (c .before .before .before .before .before .before .before .before .args .store .now) (c .before .before .before .before .before .before .before .before .args .places .now) (c .before .before .before .before .before .before .before .before .args .n) (c .before .loop .i) _ _ _ (c .loop-test .left) (c .before .loop .inv .0) (c .before .loop .inv .2)
+returns c =
+    let at-loop = c .before in
+    let at-start = at-loop .before .before .before .before .before .before .before in
+    let args = at-start .args in
+    build-end (λ (x : Pair). rebasedPair (args .from .now) (args .to .now) x) (args .store .now) (args .places .now) (args .n) (at-loop .loop .i) _ _
+    _ (c .loop-test .left) (at-loop .loop .inv .0) (at-loop .loop .inv .2)
 
 pub rebase-all-spec : {M : Type 1} → statement M
 rebase-all-spec =

@@ -23,7 +23,10 @@ same-length-4 : tie.Need-same-length-4
 same-length-4 c = search needs
 
 returns : tie.Need-returns
-returns c = gives-map _ _ (built-ends _ _ _ _ _ (c .before .before .before .before .before .before .before .before .before .before .before .before .before .rebase-all .ensures) _ _ _ _) _ _ _ _ _ (c .before .before .before .before .from-ends .ensures)
+returns c =
+    let at-from-ends = c .before .before .before .before in
+    let at-rebase-all = at-from-ends .before .before .before .before .before .before .before .before .before in
+    gives-map _ _ (built-ends _ _ _ _ _ (at-rebase-all .rebase-all .ensures) _ _ _ _) _ _ _ _ _ (at-from-ends .from-ends .ensures)
 
 pub rebase-in-spec : {M : Type 1} → statement M
 rebase-in-spec =

@@ -10,7 +10,10 @@ slice-aggregate-rebase-in-2 : tie.Need-slice-aggregate-rebase-in-2
 slice-aggregate-rebase-in-2 c = search needs
 
 rebase-in-requires : tie.Need-rebase-in-requires
-rebase-in-requires c κs = (c .before .before .before .before .before .before .before .before .before .before .pre .0, (c .before .before .before .before .before .before .before .before .before .before .pre .1 .0, (omega (arith, c .before .before .before .before .before .before .before .before .before .before .pre .1 .1), (omega (arith, c .before .before .before .before .before .before .before .before .before .before .pre .1 .1), omega (arith, c .before .before .before .before .before .before .before .before .before .before .pre .1 .1)))))
+rebase-in-requires c κs =
+    let at-start = c .before .before .before .before .before .before .before .before .before .before in
+    let pre = at-start .pre in
+    (pre .0, (pre .1 .0, (omega (arith, pre .1 .1), (omega (arith, pre .1 .1), omega (arith, pre .1 .1)))))
 
 same-length : tie.Need-same-length
 same-length c = search needs

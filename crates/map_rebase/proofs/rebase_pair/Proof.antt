@@ -14,10 +14,28 @@ replace-into-requires : tie.Need-replace-into-requires
 replace-into-requires c κs = search needs
 
 array-share-prefix-made : tie.Need-array-share-prefix-made
-array-share-prefix-made c = omega (arith, part-within (replacedOrSame (c .before .before .before .before .before .before .before .before .before .args .t .now) (c .before .before .before .before .before .before .before .before .before .args .from .now) (c .before .before .before .before .before .before .before .before .before .args .to .now)) _ (placed-back _ _ _ _ (c .before .replace-into .ensures) (replaced-short (c .before .before .before .before .before .before .before .before .before .args .t .now) (c .before .before .before .before .before .before .before .before .before .args .from .now) (c .before .before .before .before .before .before .before .before .before .args .to .now) (c .before .before .before .before .before .before .before .before .before .pre .1 .0) (c .before .before .before .before .before .before .before .before .before .pre .1 .1 .0)) .0) 511 (replaced-short (c .before .before .before .before .before .before .before .before .before .args .t .now) (c .before .before .before .before .before .before .before .before .before .args .from .now) (c .before .before .before .before .before .before .before .before .before .args .to .now) (c .before .before .before .before .before .before .before .before .before .pre .1 .0) (c .before .before .before .before .before .before .before .before .before .pre .1 .1 .0)))
+array-share-prefix-made c =
+    let at-replace-into = c .before in
+    let at-start = at-replace-into .before .before .before .before .before .before .before .before in
+    let args = at-start .args in
+    let pre = at-start .pre in
+    let its-replaced-short = replaced-short (args .t .now) (args .from .now) (args .to .now) (pre .1 .0) (pre .1 .1 .0) in
+    omega (
+      arith,
+      part-within (replacedOrSame (args .t .now) (args .from .now) (args .to .now)) _
+          (placed-back _ _ _ _ (at-replace-into .replace-into .ensures) its-replaced-short .0) 511 its-replaced-short,
+    )
 
 slice-aggregate-push-pair : tie.Need-slice-aggregate-push-pair
-slice-aggregate-push-pair c = part-is (replacedOrSame (c .before .before .before .before .before .before .before .before .before .before .args .t .now) (c .before .before .before .before .before .before .before .before .before .before .args .from .now) (c .before .before .before .before .before .before .before .before .before .before .args .to .now)) _ (placed-back _ _ _ _ (c .before .before .replace-into .ensures) (replaced-short (c .before .before .before .before .before .before .before .before .before .before .args .t .now) (c .before .before .before .before .before .before .before .before .before .before .args .from .now) (c .before .before .before .before .before .before .before .before .before .before .args .to .now) (c .before .before .before .before .before .before .before .before .before .before .pre .1 .0) (c .before .before .before .before .before .before .before .before .before .before .pre .1 .1 .0)) .0) _ (placed-back _ _ _ _ (c .before .before .replace-into .ensures) (replaced-short (c .before .before .before .before .before .before .before .before .before .before .args .t .now) (c .before .before .before .before .before .before .before .before .before .before .args .from .now) (c .before .before .before .before .before .before .before .before .before .before .args .to .now) (c .before .before .before .before .before .before .before .before .before .before .pre .1 .0) (c .before .before .before .before .before .before .before .before .before .before .pre .1 .1 .0)) .1)
+slice-aggregate-push-pair c =
+    let at-replace-into = c .before .before in
+    let at-start = at-replace-into .before .before .before .before .before .before .before .before in
+    let args = at-start .args in
+    let pre = at-start .pre in
+    let its-replaced-short = replaced-short (args .t .now) (args .from .now) (args .to .now) (pre .1 .0) (pre .1 .1 .0) in
+    part-is (replacedOrSame (args .t .now) (args .from .now) (args .to .now)) _
+    (placed-back _ _ _ _ (at-replace-into .replace-into .ensures) its-replaced-short .0) _
+    (placed-back _ _ _ _ (at-replace-into .replace-into .ensures) its-replaced-short .1)
 
 push-pair-requires : tie.Need-push-pair-requires
 push-pair-requires c κs = search needs
@@ -29,7 +47,22 @@ same-length-2 : tie.Need-same-length-2
 same-length-2 c = search needs
 
 returns : tie.Need-returns
-returns c = part-done (replacedOrSame (c .before .before .before .before .before .before .before .before .before .before .before .before .before .before .before .before .before .args .t .now) (c .before .before .before .before .before .before .before .before .before .before .before .before .before .before .before .before .before .args .from .now) (c .before .before .before .before .before .before .before .before .before .before .before .before .before .before .before .before .before .args .to .now)) _ _ (placed-back _ _ _ _ (c .before .before .before .before .before .before .before .before .before .replace-into .ensures) (replaced-short (c .before .before .before .before .before .before .before .before .before .before .before .before .before .before .before .before .before .args .t .now) (c .before .before .before .before .before .before .before .before .before .before .before .before .before .before .before .before .before .args .from .now) (c .before .before .before .before .before .before .before .before .before .before .before .before .before .before .before .before .before .args .to .now) (c .before .before .before .before .before .before .before .before .before .before .before .before .before .before .before .before .before .pre .1 .0) (c .before .before .before .before .before .before .before .before .before .before .before .before .before .before .before .before .before .pre .1 .1 .0)) .0) (placed-back _ _ _ _ (c .before .before .before .before .before .before .before .before .before .replace-into .ensures) (replaced-short (c .before .before .before .before .before .before .before .before .before .before .before .before .before .before .before .before .before .args .t .now) (c .before .before .before .before .before .before .before .before .before .before .before .before .before .before .before .before .before .args .from .now) (c .before .before .before .before .before .before .before .before .before .before .before .before .before .before .before .before .before .args .to .now) (c .before .before .before .before .before .before .before .before .before .before .before .before .before .before .before .before .before .pre .1 .0) (c .before .before .before .before .before .before .before .before .before .before .before .before .before .before .before .before .before .pre .1 .1 .0)) .1) (replaced-short (c .before .before .before .before .before .before .before .before .before .before .before .before .before .before .before .before .before .args .t .now) (c .before .before .before .before .before .before .before .before .before .before .before .before .before .before .before .before .before .args .from .now) (c .before .before .before .before .before .before .before .before .before .before .before .before .before .before .before .before .before .args .to .now) (c .before .before .before .before .before .before .before .before .before .before .before .before .before .before .before .before .before .pre .1 .0) (c .before .before .before .before .before .before .before .before .before .before .before .before .before .before .before .before .before .pre .1 .1 .0)) (c .before .before .before .before .before .before .before .before .before .before .before .before .before .before .before .before .before .args .s .now) (c .before .before .before .before .before .before .before .before .before .before .before .before .before .before .before .before .before .pre .0) (c .before .before .before .before .before .before .before .before .before .before .before .before .before .before .before .before .before .args .at) (c .before .before .before .before .before .before .before .before .before .before .before .before .before .before .before .before .before .args .n) _ (c .before .before .before .before .before .before .before .before .before .before .before .before .before .before .before .before .before .args .bytes .now) _ (c .before .before .before .before .before .before .before .before .before .before .before .before .before .before .before .before .before .args .slots .now) _ (put-there _ _ _ _ _ _ _ _ _ (c .before .before .before .before .push-pair .ensures) (part-room (replacedOrSame (c .before .before .before .before .before .before .before .before .before .before .before .before .before .before .before .before .before .args .t .now) (c .before .before .before .before .before .before .before .before .before .before .before .before .before .before .before .before .before .args .from .now) (c .before .before .before .before .before .before .before .before .before .before .before .before .before .before .before .before .before .args .to .now)) _ _ (placed-back _ _ _ _ (c .before .before .before .before .before .before .before .before .before .replace-into .ensures) (replaced-short (c .before .before .before .before .before .before .before .before .before .before .before .before .before .before .before .before .before .args .t .now) (c .before .before .before .before .before .before .before .before .before .before .before .before .before .before .before .before .before .args .from .now) (c .before .before .before .before .before .before .before .before .before .before .before .before .before .before .before .before .before .args .to .now) (c .before .before .before .before .before .before .before .before .before .before .before .before .before .before .before .before .before .pre .1 .0) (c .before .before .before .before .before .before .before .before .before .before .before .before .before .before .before .before .before .pre .1 .1 .0)) .0) (placed-back _ _ _ _ (c .before .before .before .before .before .before .before .before .before .replace-into .ensures) (replaced-short (c .before .before .before .before .before .before .before .before .before .before .before .before .before .before .before .before .before .args .t .now) (c .before .before .before .before .before .before .before .before .before .before .before .before .before .before .before .before .before .args .from .now) (c .before .before .before .before .before .before .before .before .before .before .before .before .before .before .before .before .before .args .to .now) (c .before .before .before .before .before .before .before .before .before .before .before .before .before .before .before .before .before .pre .1 .0) (c .before .before .before .before .before .before .before .before .before .before .before .before .before .before .before .before .before .pre .1 .1 .0)) .1) (replaced-short (c .before .before .before .before .before .before .before .before .before .before .before .before .before .before .before .before .before .args .t .now) (c .before .before .before .before .before .before .before .before .before .before .before .before .before .before .before .before .before .args .from .now) (c .before .before .before .before .before .before .before .before .before .before .before .before .before .before .before .before .before .args .to .now) (c .before .before .before .before .before .before .before .before .before .before .before .before .before .before .before .before .before .pre .1 .0) (c .before .before .before .before .before .before .before .before .before .before .before .before .before .before .before .before .before .pre .1 .1 .0)) (c .before .before .before .before .before .before .before .before .before .before .before .before .before .before .before .before .before .args .s .now) (c .before .before .before .before .before .before .before .before .before .before .before .before .before .before .before .before .before .pre .0) (c .before .before .before .before .before .before .before .before .before .before .before .before .before .before .before .before .before .args .at) _ (c .before .before .before .before .before .before .before .before .before .before .before .before .before .before .before .before .before .pre .1 .1 .1 .0)) (c .before .before .before .before .before .before .before .before .before .before .before .before .before .before .before .before .before .pre .1 .1 .1 .1))
+returns c =
+    let at-push-pair = c .before .before .before .before in
+    let at-replace-into = at-push-pair .before .before .before .before .before in
+    let at-start = at-replace-into .before .before .before .before .before .before .before .before in
+    let args = at-start .args in
+    let pre = at-start .pre in
+    let its-replaced-short = replaced-short (args .t .now) (args .from .now) (args .to .now) (pre .1 .0) (pre .1 .1 .0) in
+    let its-replacedOrSame = replacedOrSame (args .t .now) (args .from .now) (args .to .now) in
+    part-done its-replacedOrSame _ _ (placed-back _ _ _ _ (at-replace-into .replace-into .ensures) its-replaced-short .0)
+    (placed-back _ _ _ _ (at-replace-into .replace-into .ensures) its-replaced-short .1) its-replaced-short (args .s .now) (pre .0) (args .at)
+    (args .n) _ (args .bytes .now) _ (args .slots .now) _
+    (put-there _ _ _ _ _ _ _ _ _ (at-push-pair .push-pair .ensures)
+    (part-room its-replacedOrSame _ _ (placed-back _ _ _ _ (at-replace-into .replace-into .ensures) its-replaced-short .0)
+    (placed-back _ _ _ _ (at-replace-into .replace-into .ensures) its-replaced-short .1) its-replaced-short (args .s .now) (pre .0) (args .at) _
+    (pre .1 .1 .1 .0))
+    (pre .1 .1 .1 .1))
 
 pub rebase-pair-spec : {M : Type 1} → statement M
 rebase-pair-spec =

@@ -11,7 +11,15 @@ enum-known-q : tie.Need-enum-known-q
 enum-known-q c = search needs
 
 returns : tie.Need-returns
-returns c = refusing-map _ _ (rebase-refused (c .before .before .before .before .before .before .before .before .before .before .args .store .now) (c .before .before .before .before .before .before .before .before .before .before .args .places .now) (c .before .before .before .before .before .before .before .before .before .before .args .map) (c .before .before .before .before .before .before .before .before .before .before .args .from .now) (c .before .before .before .before .before .before .before .before .before .before .args .to .now) (c .before .before .before .before .before .before .before .before .before .before .args .out .now) (c .before .before .before .before .before .before .before .before .before .before .args .slots .now) _ (c .before .before .before .validate-call .ensures) _ (c .before .q .given .1)) _ _
+returns c =
+    let at-q = c .before in
+    let at-validate-call = at-q .before .before in
+    let at-start = at-validate-call .before .before .before .before .before .before .before in
+    let args = at-start .args in
+    refusing-map _ _
+    (rebase-refused (args .store .now) (args .places .now) (args .map) (args .from .now) (args .to .now) (args .out .now) (args .slots .now) _
+    (at-validate-call .validate-call .ensures) _ (at-q .q .given .1))
+    _ _
 
 enum-told : tie.Need-enum-told
 enum-told c = search needs
@@ -20,7 +28,16 @@ both-requires : tie.Need-both-requires
 both-requires c κs = search needs
 
 from-pair-identity-requires : tie.Need-from-pair-identity-requires
-from-pair-identity-requires c κs = (rebase-from (c .before .before .before .before .before .before .before .before .before .before .before .before .before .args .store .now) (c .before .before .before .before .before .before .before .before .before .before .before .before .before .args .places .now) (c .before .before .before .before .before .before .before .before .before .before .before .before .before .args .map) (c .before .before .before .before .before .before .before .before .before .before .before .before .before .args .from .now) (c .before .before .before .before .before .before .before .before .before .before .before .before .before .args .to .now) (c .before .before .before .before .before .before .before .before .before .before .before .before .before .args .out .now) (c .before .before .before .before .before .before .before .before .before .before .before .before .before .args .slots .now) _ (c .before .before .before .before .before .before .validate-call .ensures) (c .before .before .before .before .enum-told .given .1), rebase-to (c .before .before .before .before .before .before .before .before .before .before .before .before .before .args .store .now) (c .before .before .before .before .before .before .before .before .before .before .before .before .before .args .places .now) (c .before .before .before .before .before .before .before .before .before .before .before .before .before .args .map) (c .before .before .before .before .before .before .before .before .before .before .before .before .before .args .from .now) (c .before .before .before .before .before .before .before .before .before .before .before .before .before .args .to .now) (c .before .before .before .before .before .before .before .before .before .before .before .before .before .args .out .now) (c .before .before .before .before .before .before .before .before .before .before .before .before .before .args .slots .now) _ (c .before .before .before .before .before .before .validate-call .ensures) (c .before .before .before .before .enum-told .given .1))
+from-pair-identity-requires c κs =
+    let at-enum-told = c .before .before .before .before in
+    let at-validate-call = at-enum-told .before .before in
+    let at-start = at-validate-call .before .before .before .before .before .before .before in
+    let args = at-start .args in (
+      rebase-from (args .store .now) (args .places .now) (args .map) (args .from .now) (args .to .now) (args .out .now) (args .slots .now) _
+          (at-validate-call .validate-call .ensures) (at-enum-told .enum-told .given .1),
+      rebase-to (args .store .now) (args .places .now) (args .map) (args .from .now) (args .to .now) (args .out .now) (args .slots .now) _
+          (at-validate-call .validate-call .ensures) (at-enum-told .enum-told .given .1),
+    )
 
 same-length : tie.Need-same-length
 same-length c = search needs
@@ -29,7 +46,18 @@ same-length-2 : tie.Need-same-length-2
 same-length-2 c = search needs
 
 returns-2 : tie.Need-returns-2
-returns-2 c = gives-map _ _ (rebase-identity (c .before .before .before .before .before .before .before .before .before .before .before .before .before .before .before .before .before .before .args .store .now) (c .before .before .before .before .before .before .before .before .before .before .before .before .before .before .before .before .before .before .args .places .now) (c .before .before .before .before .before .before .before .before .before .before .before .before .before .before .before .before .before .before .args .map) (c .before .before .before .before .before .before .before .before .before .before .before .before .before .before .before .before .before .before .args .from .now) (c .before .before .before .before .before .before .before .before .before .before .before .before .before .before .before .before .before .before .args .to .now) (c .before .before .before .before .before .before .before .before .before .before .before .before .before .before .before .before .before .before .args .out .now) (c .before .before .before .before .before .before .before .before .before .before .before .before .before .before .before .before .before .before .args .slots .now) _ (c .before .before .before .before .before .before .before .before .before .before .before .validate-call .ensures) (c .before .before .before .before .before .before .before .before .before .enum-told .given .1) _ (c .before .before .before .before .before .before .before .before .both .ensures) (c .before .before .before .before .before .before .before .if1 .taken)) _ _ _ _ _ (c .before .before .before .before .from-pair-identity .ensures)
+returns-2 c =
+    let at-from-pair-identity = c .before .before .before .before in
+    let at-if1 = at-from-pair-identity .before .before .before in
+    let at-both = at-if1 .before in
+    let at-enum-told = at-both .before in
+    let at-validate-call = at-enum-told .before .before in
+    let at-start = at-validate-call .before .before .before .before .before .before .before in
+    let args = at-start .args in
+    gives-map _ _
+    (rebase-identity (args .store .now) (args .places .now) (args .map) (args .from .now) (args .to .now) (args .out .now) (args .slots .now) _
+    (at-validate-call .validate-call .ensures) (at-enum-told .enum-told .given .1) _ (at-both .both .ensures) (at-if1 .if1 .taken))
+    _ _ _ _ _ (at-from-pair-identity .from-pair-identity .ensures)
 
 any-target-requires : tie.Need-any-target-requires
 any-target-requires c κs = search needs
@@ -44,10 +72,37 @@ same-length-4 : tie.Need-same-length-4
 same-length-4 c = search needs
 
 returns-3 : tie.Need-returns-3
-returns-3 c = gives-map _ _ (rebase-same (c .before .before .before .before .before .before .before .before .before .before .before .before .before .before .before .before .before .before .before .before .args .store .now) (c .before .before .before .before .before .before .before .before .before .before .before .before .before .before .before .before .before .before .before .before .args .places .now) (c .before .before .before .before .before .before .before .before .before .before .before .before .before .before .before .before .before .before .before .before .args .map) (c .before .before .before .before .before .before .before .before .before .before .before .before .before .before .before .before .before .before .before .before .args .from .now) (c .before .before .before .before .before .before .before .before .before .before .before .before .before .before .before .before .before .before .before .before .args .to .now) (c .before .before .before .before .before .before .before .before .before .before .before .before .before .before .before .before .before .before .before .before .args .out .now) (c .before .before .before .before .before .before .before .before .before .before .before .before .before .before .before .before .before .before .before .before .args .slots .now) _ (c .before .before .before .before .before .before .before .before .before .before .before .before .before .validate-call .ensures) (c .before .before .before .before .before .before .before .before .before .before .before .enum-told .given .1) _ (c .before .before .before .before .before .before .before .before .before .before .both .ensures) (c .before .before .before .before .before .before .before .before .before .if1 .left) _ (c .before .before .before .before .before .before .before .before .any-target .ensures) (c .before .before .before .before .before .before .before .if2 .taken)) _ _ _ _ _ (c .before .before .before .before .without-dropping .ensures)
+returns-3 c =
+    let at-without-dropping = c .before .before .before .before in
+    let at-if2 = at-without-dropping .before .before .before in
+    let at-any-target = at-if2 .before in
+    let at-if1 = at-any-target .before in
+    let at-both = at-if1 .before in
+    let at-enum-told = at-both .before in
+    let at-validate-call = at-enum-told .before .before in
+    let at-start = at-validate-call .before .before .before .before .before .before .before in
+    let args = at-start .args in
+    gives-map _ _
+    (rebase-same (args .store .now) (args .places .now) (args .map) (args .from .now) (args .to .now) (args .out .now) (args .slots .now) _
+    (at-validate-call .validate-call .ensures) (at-enum-told .enum-told .given .1) _ (at-both .both .ensures) (at-if1 .if1 .left) _
+    (at-any-target .any-target .ensures) (at-if2 .if2 .taken))
+    _ _ _ _ _ (at-without-dropping .without-dropping .ensures)
 
 rebase-small-requires : tie.Need-rebase-small-requires
-rebase-small-requires c κs = (rebase-short (c .before .before .before .before .before .before .before .before .before .before .before .before .before .before .before .before .args .store .now) (c .before .before .before .before .before .before .before .before .before .before .before .before .before .before .before .before .args .places .now) (c .before .before .before .before .before .before .before .before .before .before .before .before .before .before .before .before .args .map) (c .before .before .before .before .before .before .before .before .before .before .before .before .before .before .before .before .args .from .now) (c .before .before .before .before .before .before .before .before .before .before .before .before .before .before .before .before .args .to .now) (c .before .before .before .before .before .before .before .before .before .before .before .before .before .before .before .before .args .out .now) (c .before .before .before .before .before .before .before .before .before .before .before .before .before .before .before .before .args .slots .now) _ (c .before .before .before .before .before .before .before .before .before .validate-call .ensures) (c .before .before .before .before .before .before .before .enum-told .given .1), (rebase-to (c .before .before .before .before .before .before .before .before .before .before .before .before .before .before .before .before .args .store .now) (c .before .before .before .before .before .before .before .before .before .before .before .before .before .before .before .before .args .places .now) (c .before .before .before .before .before .before .before .before .before .before .before .before .before .before .before .before .args .map) (c .before .before .before .before .before .before .before .before .before .before .before .before .before .before .before .before .args .from .now) (c .before .before .before .before .before .before .before .before .before .before .before .before .before .before .before .before .args .to .now) (c .before .before .before .before .before .before .before .before .before .before .before .before .before .before .before .before .args .out .now) (c .before .before .before .before .before .before .before .before .before .before .before .before .before .before .before .before .args .slots .now) _ (c .before .before .before .before .before .before .before .before .before .validate-call .ensures) (c .before .before .before .before .before .before .before .enum-told .given .1), c .before .before .if3 .taken))
+rebase-small-requires c κs =
+    let at-if3 = c .before .before in
+    let at-enum-told = at-if3 .before .before .before .before .before in
+    let at-validate-call = at-enum-told .before .before in
+    let at-start = at-validate-call .before .before .before .before .before .before .before in
+    let args = at-start .args in (
+      rebase-short (args .store .now) (args .places .now) (args .map) (args .from .now) (args .to .now) (args .out .now) (args .slots .now) _
+          (at-validate-call .validate-call .ensures) (at-enum-told .enum-told .given .1),
+      (
+        rebase-to (args .store .now) (args .places .now) (args .map) (args .from .now) (args .to .now) (args .out .now) (args .slots .now) _
+            (at-validate-call .validate-call .ensures) (at-enum-told .enum-told .given .1),
+        at-if3 .if3 .taken,
+      ),
+    )
 
 same-length-5 : tie.Need-same-length-5
 same-length-5 c = search needs
@@ -56,10 +111,37 @@ same-length-6 : tie.Need-same-length-6
 same-length-6 c = search needs
 
 returns-4 : tie.Need-returns-4
-returns-4 c = gives-map _ _ (rebase-made (c .before .before .before .before .before .before .before .before .before .before .before .before .before .before .before .before .before .before .before .before .before .args .store .now) (c .before .before .before .before .before .before .before .before .before .before .before .before .before .before .before .before .before .before .before .before .before .args .places .now) (c .before .before .before .before .before .before .before .before .before .before .before .before .before .before .before .before .before .before .before .before .before .args .map) (c .before .before .before .before .before .before .before .before .before .before .before .before .before .before .before .before .before .before .before .before .before .args .from .now) (c .before .before .before .before .before .before .before .before .before .before .before .before .before .before .before .before .before .before .before .before .before .args .to .now) (c .before .before .before .before .before .before .before .before .before .before .before .before .before .before .before .before .before .before .before .before .before .args .out .now) (c .before .before .before .before .before .before .before .before .before .before .before .before .before .before .before .before .before .before .before .before .before .args .slots .now) _ (c .before .before .before .before .before .before .before .before .before .before .before .before .before .before .validate-call .ensures) (c .before .before .before .before .before .before .before .before .before .before .before .before .enum-told .given .1) _ (c .before .before .before .before .before .before .before .before .before .before .before .both .ensures) (c .before .before .before .before .before .before .before .before .before .before .if1 .left) _ (c .before .before .before .before .before .before .before .before .before .any-target .ensures) (c .before .before .before .before .before .before .before .before .if2 .left)) _ _ _ _ _ (c .before .before .before .before .rebase-small .ensures)
+returns-4 c =
+    let at-rebase-small = c .before .before .before .before in
+    let at-if2 = at-rebase-small .before .before .before .before in
+    let at-any-target = at-if2 .before in
+    let at-if1 = at-any-target .before in
+    let at-both = at-if1 .before in
+    let at-enum-told = at-both .before in
+    let at-validate-call = at-enum-told .before .before in
+    let at-start = at-validate-call .before .before .before .before .before .before .before in
+    let args = at-start .args in
+    gives-map _ _
+    (rebase-made (args .store .now) (args .places .now) (args .map) (args .from .now) (args .to .now) (args .out .now) (args .slots .now) _
+    (at-validate-call .validate-call .ensures) (at-enum-told .enum-told .given .1) _ (at-both .both .ensures) (at-if1 .if1 .left) _
+    (at-any-target .any-target .ensures) (at-if2 .if2 .left))
+    _ _ _ _ _ (at-rebase-small .rebase-small .ensures)
 
 rebase-large-requires : tie.Need-rebase-large-requires
-rebase-large-requires c κs = (rebase-short (c .before .before .before .before .before .before .before .before .before .before .before .before .before .before .before .before .args .store .now) (c .before .before .before .before .before .before .before .before .before .before .before .before .before .before .before .before .args .places .now) (c .before .before .before .before .before .before .before .before .before .before .before .before .before .before .before .before .args .map) (c .before .before .before .before .before .before .before .before .before .before .before .before .before .before .before .before .args .from .now) (c .before .before .before .before .before .before .before .before .before .before .before .before .before .before .before .before .args .to .now) (c .before .before .before .before .before .before .before .before .before .before .before .before .before .before .before .before .args .out .now) (c .before .before .before .before .before .before .before .before .before .before .before .before .before .before .before .before .args .slots .now) _ (c .before .before .before .before .before .before .before .before .before .validate-call .ensures) (c .before .before .before .before .before .before .before .enum-told .given .1), (rebase-to (c .before .before .before .before .before .before .before .before .before .before .before .before .before .before .before .before .args .store .now) (c .before .before .before .before .before .before .before .before .before .before .before .before .before .before .before .before .args .places .now) (c .before .before .before .before .before .before .before .before .before .before .before .before .before .before .before .before .args .map) (c .before .before .before .before .before .before .before .before .before .before .before .before .before .before .before .before .args .from .now) (c .before .before .before .before .before .before .before .before .before .before .before .before .before .before .before .before .args .to .now) (c .before .before .before .before .before .before .before .before .before .before .before .before .before .before .before .before .args .out .now) (c .before .before .before .before .before .before .before .before .before .before .before .before .before .before .before .before .args .slots .now) _ (c .before .before .before .before .before .before .before .before .before .validate-call .ensures) (c .before .before .before .before .before .before .before .enum-told .given .1), rebase-count (c .before .before .before .before .before .before .before .before .before .before .before .before .before .before .before .before .args .store .now) (c .before .before .before .before .before .before .before .before .before .before .before .before .before .before .before .before .args .places .now) (c .before .before .before .before .before .before .before .before .before .before .before .before .before .before .before .before .args .map) (c .before .before .before .before .before .before .before .before .before .before .before .before .before .before .before .before .args .from .now) (c .before .before .before .before .before .before .before .before .before .before .before .before .before .before .before .before .args .to .now) (c .before .before .before .before .before .before .before .before .before .before .before .before .before .before .before .before .args .out .now) (c .before .before .before .before .before .before .before .before .before .before .before .before .before .before .before .before .args .slots .now) _ (c .before .before .before .before .before .before .before .before .before .validate-call .ensures) (c .before .before .before .before .before .before .before .enum-told .given .1)))
+rebase-large-requires c κs =
+    let at-enum-told = c .before .before .before .before .before .before .before in
+    let at-validate-call = at-enum-told .before .before in
+    let at-start = at-validate-call .before .before .before .before .before .before .before in
+    let args = at-start .args in (
+      rebase-short (args .store .now) (args .places .now) (args .map) (args .from .now) (args .to .now) (args .out .now) (args .slots .now) _
+          (at-validate-call .validate-call .ensures) (at-enum-told .enum-told .given .1),
+      (
+        rebase-to (args .store .now) (args .places .now) (args .map) (args .from .now) (args .to .now) (args .out .now) (args .slots .now) _
+            (at-validate-call .validate-call .ensures) (at-enum-told .enum-told .given .1),
+        rebase-count (args .store .now) (args .places .now) (args .map) (args .from .now) (args .to .now) (args .out .now) (args .slots .now) _
+            (at-validate-call .validate-call .ensures) (at-enum-told .enum-told .given .1),
+      ),
+    )
 
 same-length-7 : tie.Need-same-length-7
 same-length-7 c = search needs
@@ -68,7 +150,21 @@ same-length-8 : tie.Need-same-length-8
 same-length-8 c = search needs
 
 returns-5 : tie.Need-returns-5
-returns-5 c = gives-map _ _ (rebase-made (c .before .before .before .before .before .before .before .before .before .before .before .before .before .before .before .before .before .before .before .before .before .args .store .now) (c .before .before .before .before .before .before .before .before .before .before .before .before .before .before .before .before .before .before .before .before .before .args .places .now) (c .before .before .before .before .before .before .before .before .before .before .before .before .before .before .before .before .before .before .before .before .before .args .map) (c .before .before .before .before .before .before .before .before .before .before .before .before .before .before .before .before .before .before .before .before .before .args .from .now) (c .before .before .before .before .before .before .before .before .before .before .before .before .before .before .before .before .before .before .before .before .before .args .to .now) (c .before .before .before .before .before .before .before .before .before .before .before .before .before .before .before .before .before .before .before .before .before .args .out .now) (c .before .before .before .before .before .before .before .before .before .before .before .before .before .before .before .before .before .before .before .before .before .args .slots .now) _ (c .before .before .before .before .before .before .before .before .before .before .before .before .before .before .validate-call .ensures) (c .before .before .before .before .before .before .before .before .before .before .before .before .enum-told .given .1) _ (c .before .before .before .before .before .before .before .before .before .before .before .both .ensures) (c .before .before .before .before .before .before .before .before .before .before .if1 .left) _ (c .before .before .before .before .before .before .before .before .before .any-target .ensures) (c .before .before .before .before .before .before .before .before .if2 .left)) _ _ _ _ _ (c .before .before .before .before .rebase-large .ensures)
+returns-5 c =
+    let at-rebase-large = c .before .before .before .before in
+    let at-if2 = at-rebase-large .before .before .before .before in
+    let at-any-target = at-if2 .before in
+    let at-if1 = at-any-target .before in
+    let at-both = at-if1 .before in
+    let at-enum-told = at-both .before in
+    let at-validate-call = at-enum-told .before .before in
+    let at-start = at-validate-call .before .before .before .before .before .before .before in
+    let args = at-start .args in
+    gives-map _ _
+    (rebase-made (args .store .now) (args .places .now) (args .map) (args .from .now) (args .to .now) (args .out .now) (args .slots .now) _
+    (at-validate-call .validate-call .ensures) (at-enum-told .enum-told .given .1) _ (at-both .both .ensures) (at-if1 .if1 .left) _
+    (at-any-target .any-target .ensures) (at-if2 .if2 .left))
+    _ _ _ _ _ (at-rebase-large .rebase-large .ensures)
 
 pub rebase-target-spec : {M : Type 1} → statement M
 rebase-target-spec =

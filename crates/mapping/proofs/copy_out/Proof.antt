@@ -13,7 +13,10 @@ returns : tie.Need-returns
 returns c = search needs
 
 slice-aggregate-write-at : tie.Need-slice-aggregate-write-at
-slice-aggregate-write-at c = copy-part _ _ (c .before .before .before .before .before .before .pre) _ (c .before .before .before .r .given .1)
+slice-aggregate-write-at c =
+    let at-r = c .before .before .before in
+    let at-start = at-r .before .before .before in
+    copy-part _ _ (at-start .pre) _ (at-r .r .given .1)
 
 write-at-requires : tie.Need-write-at-requires
 write-at-requires c κs = search needs
@@ -22,7 +25,10 @@ same-length : tie.Need-same-length
 same-length c = search needs
 
 returns-2 : tie.Need-returns-2
-returns-2 c = copy-written _ _ _ _ (c .before .before .before .before .before .before .before .r .given .1) _ (c .before .before .write-at .ensures)
+returns-2 c =
+    let at-write-at = c .before .before in
+    let at-r = at-write-at .before .before .before .before .before in
+    copy-written _ _ _ _ (at-r .r .given .1) _ (at-write-at .write-at .ensures)
 
 pub copy-out-spec : {M : Type 1} → statement M
 copy-out-spec =

@@ -13,7 +13,12 @@ same-length : tie.Need-same-length
 same-length c = search needs
 
 returns : tie.Need-returns
-returns c = made-out _ _ _ _ (c .before .before .before .before .before .map-text .ensures .0) (c .before .before .before .before .before .map-text .ensures .1) _ _ _ (c .before .before .before .before .before .before .before .before .before .before .before .pre) (short-fast _ _ _) (c .before .before .copy-out .ensures)
+returns c =
+    let at-copy-out = c .before .before in
+    let at-map-text = at-copy-out .before .before .before in
+    let at-start = at-map-text .before .before .before .before .before .before in
+    made-out _ _ _ _ (at-map-text .map-text .ensures .0) (at-map-text .map-text .ensures .1) _ _ _ (at-start .pre) (short-fast _ _ _)
+    (at-copy-out .copy-out .ensures)
 
 pub map-into-spec : {M : Type 1} → statement M
 map-into-spec = tie.close (tie.spec map-text-requires copy-out-requires same-length returns)

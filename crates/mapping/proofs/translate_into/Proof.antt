@@ -13,7 +13,12 @@ same-length : tie.Need-same-length
 same-length c = search needs
 
 returns : tie.Need-returns
-returns c = made-out _ _ _ _ (c .before .before .before .before .before .translate-text .ensures .0) (c .before .before .before .before .before .translate-text .ensures .1) _ _ _ (c .before .before .before .before .before .before .before .before .before .before .before .pre) (short-translate _ _) (c .before .before .copy-out .ensures)
+returns c =
+    let at-copy-out = c .before .before in
+    let at-translate-text = at-copy-out .before .before .before in
+    let at-start = at-translate-text .before .before .before .before .before .before in
+    made-out _ _ _ _ (at-translate-text .translate-text .ensures .0) (at-translate-text .translate-text .ensures .1) _ _ _ (at-start .pre)
+    (short-translate _ _) (at-copy-out .copy-out .ensures)
 
 pub translate-into-spec : {M : Type 1} → statement M
 translate-into-spec =

@@ -15,7 +15,11 @@ same-length : tie.Need-same-length
 same-length c = search needs
 
 returns : tie.Need-returns
-returns c = answering _ _ (translate-plain _ _ _ (c .before .before .before .before .before .lacks-byte .ensures) (c .before .before .before .before .if1 .taken)) _ _ _ (c .before .before .translate-into .ensures)
+returns c =
+    let at-translate-into = c .before .before in
+    let at-if1 = at-translate-into .before .before in
+    let at-lacks-byte = at-if1 .before in
+    answering _ _ (translate-plain _ _ _ (at-lacks-byte .lacks-byte .ensures) (at-if1 .if1 .taken)) _ _ _ (at-translate-into .translate-into .ensures)
 
 slice-aggregate-strip-into : tie.Need-slice-aggregate-strip-into
 slice-aggregate-strip-into c = search needs
@@ -30,13 +34,24 @@ enum-told : tie.Need-enum-told
 enum-told c = search needs
 
 returns-2 : tie.Need-returns-2
-returns-2 c = absurd (strip-never _ _ _ (c .before .before .before .before .before .before .before .before .before .before .before .pre .0) (c .before .before .before .strip-into .ensures .0) (c .enum-told .given .1))
+returns-2 c =
+    let at-strip-into = c .before .before .before in
+    let at-start = at-strip-into .before .before .before .before .before .before .before .before in
+    absurd (strip-never _ _ _ (at-start .pre .0) (at-strip-into .strip-into .ensures .0) (c .enum-told .given .1))
 
 array-share-prefix-plain : tie.Need-array-share-prefix-plain
-array-share-prefix-plain c = strip-inside _ _ _ (c .before .before .before .before .before .before .before .before .before .before .before .before .pre .0) (c .before .before .before .before .strip-into .ensures .0) _ (c .before .fit .given .1) _ (c .before .before .before .before .strip-into .ensures .1)
+array-share-prefix-plain c =
+    let at-fit = c .before in
+    let at-strip-into = at-fit .before .before .before in
+    let at-start = at-strip-into .before .before .before .before .before .before .before .before in
+    strip-inside _ _ _ (at-start .pre .0) (at-strip-into .strip-into .ensures .0) _ (at-fit .fit .given .1) _ (at-strip-into .strip-into .ensures .1)
 
 slice-aggregate-translate-into : tie.Need-slice-aggregate-translate-into
-slice-aggregate-translate-into c = strip-part _ _ _ (c .before .before .before .before .before .before .before .before .before .before .before .before .before .pre .0) (c .before .before .before .before .before .strip-into .ensures .0) _ (c .before .before .fit .given .1) _ (c .before .before .before .before .before .strip-into .ensures .1)
+slice-aggregate-translate-into c =
+    let at-fit = c .before .before in
+    let at-strip-into = at-fit .before .before .before in
+    let at-start = at-strip-into .before .before .before .before .before .before .before .before in
+    strip-part _ _ _ (at-start .pre .0) (at-strip-into .strip-into .ensures .0) _ (at-fit .fit .given .1) _ (at-strip-into .strip-into .ensures .1)
 
 translate-into-requires-2 : tie.Need-translate-into-requires-2
 translate-into-requires-2 c κs = search needs
@@ -46,9 +61,14 @@ same-length-2 c = search needs
 
 returns-3 : tie.Need-returns-3
 returns-3 c =
+    let at-translate-into2 = c .before .before in
+    let at-fit = at-translate-into2 .before .before .before .before in
+    let at-strip-into = at-fit .before .before .before in
+    let at-start = at-strip-into .before .before .before .before .before .before .before .before in
     answering _ _
-    (translate-back _ _ _ (c .before .before .before .before .before .before .before .before .before .before .before .before .before .before .before .before .before .pre .0) (c .before .before .before .before .before .before .before .before .before .strip-into .ensures .0) _ (c .before .before .before .before .before .before .fit .given .1) _ (c .before .before .before .before .before .before .before .before .before .strip-into .ensures .1) _) _ _ _
-    (c .before .before .translate-into2 .ensures)
+    (translate-back _ _ _ (at-start .pre .0) (at-strip-into .strip-into .ensures .0) _ (at-fit .fit .given .1) _
+    (at-strip-into .strip-into .ensures .1) _)
+    _ _ _ (at-translate-into2 .translate-into2 .ensures)
 
 pub translate-stripped-spec : {M : Type 1} → statement M
 translate-stripped-spec =

@@ -24,8 +24,13 @@ same-length-2 c = search needs
 
 returns : tie.Need-returns
 returns c =
-    rw (← (c .before .before .before .before .before .before .before .before .before .untimed-map .ensures), ← (c .before .before .before .before .before .before .before .before .direction-of .ensures))
-    (c .validation-code .ensures ∙ ap validationCode (c .before .before .before .before .before .map-all .ensures .0), (c .before .before .before .before .before .map-all .ensures .1 .0, c .before .before .before .before .before .map-all .ensures .1 .1))
+    let at-map-all = c .before .before .before .before .before in
+    let at-direction-of = at-map-all .before .before .before in
+    let at-untimed-map = at-direction-of .before in
+    rw (← (at-untimed-map .untimed-map .ensures), ← (at-direction-of .direction-of .ensures)) (
+      c .validation-code .ensures ∙ ap validationCode (at-map-all .map-all .ensures .0),
+      (at-map-all .map-all .ensures .1 .0, at-map-all .map-all .ensures .1 .1),
+    )
 
 pub mudvizsor-map-all-spec : {M : Type 1} → statement M
 mudvizsor-map-all-spec =

@@ -17,7 +17,13 @@ same-length : tie.Need-same-length
 same-length c = search needs
 
 returns : tie.Need-returns
-returns c = rw (← (c .before .before .before .before .before .untimed-map .ensures)) (c .reply-code .ensures ∙ ap replyCode (c .before .before .before .map-source-to-target .ensures .0), c .before .before .before .map-source-to-target .ensures .1)
+returns c =
+    let at-map-source-to-target = c .before .before .before in
+    let at-untimed-map = at-map-source-to-target .before .before in
+    rw (← (at-untimed-map .untimed-map .ensures)) (
+      c .reply-code .ensures ∙ ap replyCode (at-map-source-to-target .map-source-to-target .ensures .0),
+      at-map-source-to-target .map-source-to-target .ensures .1,
+    )
 
 pub mudvizsor-map-source-to-target-spec : {M : Type 1} → statement M
 mudvizsor-map-source-to-target-spec =

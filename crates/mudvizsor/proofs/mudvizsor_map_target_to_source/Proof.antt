@@ -17,7 +17,13 @@ same-length : tie.Need-same-length
 same-length c = search needs
 
 returns : tie.Need-returns
-returns c = rw (← (c .before .before .before .before .before .untimed-map .ensures)) (c .reply-code .ensures ∙ ap replyCode (c .before .before .before .map-target-to-source .ensures .0), c .before .before .before .map-target-to-source .ensures .1)
+returns c =
+    let at-map-target-to-source = c .before .before .before in
+    let at-untimed-map = at-map-target-to-source .before .before in
+    rw (← (at-untimed-map .untimed-map .ensures)) (
+      c .reply-code .ensures ∙ ap replyCode (at-map-target-to-source .map-target-to-source .ensures .0),
+      at-map-target-to-source .map-target-to-source .ensures .1,
+    )
 
 pub mudvizsor-map-target-to-source-spec : {M : Type 1} → statement M
 mudvizsor-map-target-to-source-spec =

@@ -14,7 +14,11 @@ same-length : tie.Need-same-length
 same-length c = search needs
 
 returns : tie.Need-returns
-returns c = (c .reply-code .ensures ∙ ap replyCode (c .before .before .before .ancestors .ensures .0), rw (← (c .before .before .before .ancestors .ensures .0)) (c .before .before .before .ancestors .ensures .1))
+returns c =
+    let at-ancestors = c .before .before .before in (
+      c .reply-code .ensures ∙ ap replyCode (at-ancestors .ancestors .ensures .0),
+      rw (← (at-ancestors .ancestors .ensures .0)) (at-ancestors .ancestors .ensures .1),
+    )
 
 pub mudvizsor-path-ancestors-spec : {M : Type 1} → statement M
 mudvizsor-path-ancestors-spec =

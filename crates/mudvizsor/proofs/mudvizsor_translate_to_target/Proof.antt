@@ -17,7 +17,13 @@ same-length : tie.Need-same-length
 same-length c = search needs
 
 returns : tie.Need-returns
-returns c = rw (← (c .before .before .before .before .before .untimed-map .ensures)) (c .reply-code .ensures ∙ ap replyCode (c .before .before .before .translate-to-target .ensures .0), c .before .before .before .translate-to-target .ensures .1)
+returns c =
+    let at-translate-to-target = c .before .before .before in
+    let at-untimed-map = at-translate-to-target .before .before in
+    rw (← (at-untimed-map .untimed-map .ensures)) (
+      c .reply-code .ensures ∙ ap replyCode (at-translate-to-target .translate-to-target .ensures .0),
+      at-translate-to-target .translate-to-target .ensures .1,
+    )
 
 pub mudvizsor-translate-to-target-spec : {M : Type 1} → statement M
 mudvizsor-translate-to-target-spec =

@@ -17,7 +17,11 @@ enum-told : tie.Need-enum-told
 enum-told c = search needs
 
 add-m : tie.Need-add-m
-add-m c = let f = passed-fits _ _ _ _ _ _ (c .before .before .validate-add .ensures .1) (c .enum-told .given .1) in omega (arith, f, c .before .before .before .before .before .before .before .good)
+add-m c =
+    let at-validate-add = c .before .before in
+    let at-start = at-validate-add .before .before .before .before .before in
+    let f = passed-fits _ _ _ _ _ _ (at-validate-add .validate-add .ensures .1) (c .enum-told .given .1) in
+    omega (arith, f, at-start .good)
 
 write-at-requires : tie.Need-write-at-requires
 write-at-requires c κs = search needs
@@ -29,10 +33,20 @@ write-entry-requires : tie.Need-write-entry-requires
 write-entry-requires c κs = search needs
 
 add-t11 : tie.Need-add-t11
-add-t11 c = let f = passed-fits _ _ _ _ _ _ (c .before .before .before .before .before .before .before .before .before .before .before .before .before .before .before .validate-add .ensures .1) (c .before .before .before .before .before .before .before .before .before .before .before .before .before .enum-told .given .1) in omega (arith, f, c .before .before .before .before .before .before .before .before .before .before .before .before .before .before .before .before .before .before .before .before .good)
+add-t11 c =
+    let at-enum-told = c .before .before .before .before .before .before .before .before .before .before .before .before .before in
+    let at-validate-add = at-enum-told .before .before in
+    let at-start = at-validate-add .before .before .before .before .before in
+    let f = passed-fits _ _ _ _ _ _ (at-validate-add .validate-add .ensures .1) (at-enum-told .enum-told .given .1) in
+    omega (arith, f, at-start .good)
 
 add-t19 : tie.Need-add-t19
-add-t19 c = let f = passed-fits _ _ _ _ _ _ (c .before .before .before .before .before .before .before .before .before .before .before .before .before .before .before .validate-add .ensures .1) (c .before .before .before .before .before .before .before .before .before .before .before .before .before .enum-told .given .1) in omega (arith, f, c .before .before .before .before .before .before .before .before .before .before .before .before .before .before .before .before .before .before .before .before .good)
+add-t19 c =
+    let at-enum-told = c .before .before .before .before .before .before .before .before .before .before .before .before .before in
+    let at-validate-add = at-enum-told .before .before in
+    let at-start = at-validate-add .before .before .before .before .before in
+    let f = passed-fits _ _ _ _ _ _ (at-validate-add .validate-add .ensures .1) (at-enum-told .enum-told .given .1) in
+    omega (arith, f, at-start .good)
 
 same-length : tie.Need-same-length
 same-length c = search needs
@@ -41,7 +55,15 @@ same-length-2 : tie.Need-same-length-2
 same-length-2 c = search needs
 
 returns-2 : tie.Need-returns-2
-returns-2 c = pair-added _ _ _ _ _ _ _ (c .before .before .before .before .before .before .before .before .before .before .before .before .before .before .before .validate-add .ensures .0) (c .before .before .before .before .before .before .before .before .before .before .before .before .before .enum-told .given .1) (c .before .before .before .before .before .before .before .before .before .before .before .before .before .before .before .validate-add .ensures .1) _ _ _ (c .before .before .before .before .before .before .before .before .before .before .before .write-at .ensures) (c .before .before .before .before .before .before .before .write-at2 .ensures) (c .before .before .before .write-entry .ensures)
+returns-2 c =
+    let at-write-entry = c .before .before .before in
+    let at-write-at2 = at-write-entry .before .before .before .before in
+    let at-write-at = at-write-at2 .before .before .before .before in
+    let at-enum-told = at-write-at .before .before in
+    let at-validate-add = at-enum-told .before .before in
+    pair-added _ _ _ _ _ _ _ (at-validate-add .validate-add .ensures .0) (at-enum-told .enum-told .given .1)
+    (at-validate-add .validate-add .ensures .1) _ _ _ (at-write-at .write-at .ensures) (at-write-at2 .write-at2 .ensures)
+    (at-write-entry .write-entry .ensures)
 
 pub add-pair-spec : {M : Type 1} → statement M
 add-pair-spec =

@@ -22,19 +22,48 @@ returns-3 : tie.Need-returns-3
 returns-3 c = add-beyond _ _ _ _ _ _ (c .before .before .before .before .validate-ends .ensures) (c .before .before .enum-told .given .1) (c .before .if1 .left) (c .if2 .taken)
 
 returns-4 : tie.Need-returns-4
-returns-4 c = add-start _ _ _ _ _ _ (c .before .before .before .before .before .validate-ends .ensures) (c .before .before .before .enum-told .given .1) (c .before .before .if1 .left) (c .before .if2 .left) (c .if3 .taken)
+returns-4 c =
+    let at-if2 = c .before in
+    let at-if1 = at-if2 .before in
+    let at-enum-told = at-if1 .before in
+    let at-validate-ends = at-enum-told .before .before in
+    add-start _ _ _ _ _ _ (at-validate-ends .validate-ends .ensures) (at-enum-told .enum-told .given .1) (at-if1 .if1 .left) (at-if2 .if2 .left)
+    (c .if3 .taken)
 
 returns-5 : tie.Need-returns-5
-returns-5 c = add-source _ _ _ _ _ _ (c .before .before .before .before .before .before .validate-ends .ensures) (c .before .before .before .before .enum-told .given .1) (c .before .before .before .if1 .left) (c .before .before .if2 .left) (c .before .if3 .left) (c .if4 .taken)
+returns-5 c =
+    let at-if3 = c .before in
+    let at-if2 = at-if3 .before in
+    let at-if1 = at-if2 .before in
+    let at-enum-told = at-if1 .before in
+    let at-validate-ends = at-enum-told .before .before in
+    add-source _ _ _ _ _ _ (at-validate-ends .validate-ends .ensures) (at-enum-told .enum-told .given .1) (at-if1 .if1 .left) (at-if2 .if2 .left)
+    (at-if3 .if3 .left) (c .if4 .taken)
 
 sub-if5 : tie.Need-sub-if5
 sub-if5 c = search needs
 
 returns-6 : tie.Need-returns-6
-returns-6 c = add-target _ _ _ _ _ _ (c .before .before .before .before .before .before .before .validate-ends .ensures) (c .before .before .before .before .before .enum-told .given .1) (c .before .before .before .before .if1 .left) (c .before .before .before .if2 .left) (c .before .before .if3 .left) (c .before .if4 .left) (c .if5 .taken)
+returns-6 c =
+    let at-if4 = c .before in
+    let at-if3 = at-if4 .before in
+    let at-if2 = at-if3 .before in
+    let at-if1 = at-if2 .before in
+    let at-enum-told = at-if1 .before in
+    let at-validate-ends = at-enum-told .before .before in
+    add-target _ _ _ _ _ _ (at-validate-ends .validate-ends .ensures) (at-enum-told .enum-told .given .1) (at-if1 .if1 .left) (at-if2 .if2 .left)
+    (at-if3 .if3 .left) (at-if4 .if4 .left) (c .if5 .taken)
 
 returns-7 : tie.Need-returns-7
-returns-7 c = add-passed _ _ _ _ _ _ (c .before .before .before .before .before .before .before .validate-ends .ensures) (c .before .before .before .before .before .enum-told .given .1) (c .before .before .before .before .if1 .left) (c .before .before .before .if2 .left) (c .before .before .if3 .left) (c .before .if4 .left) (c .if5 .left)
+returns-7 c =
+    let at-if4 = c .before in
+    let at-if3 = at-if4 .before in
+    let at-if2 = at-if3 .before in
+    let at-if1 = at-if2 .before in
+    let at-enum-told = at-if1 .before in
+    let at-validate-ends = at-enum-told .before .before in
+    add-passed _ _ _ _ _ _ (at-validate-ends .validate-ends .ensures) (at-enum-told .enum-told .given .1) (at-if1 .if1 .left) (at-if2 .if2 .left)
+    (at-if3 .if3 .left) (at-if4 .if4 .left) (c .if5 .left)
 
 pub validate-add-spec : {M : Type 1} → statement M
 validate-add-spec =

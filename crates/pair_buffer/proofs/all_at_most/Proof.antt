@@ -37,7 +37,17 @@ loop-less : tie.Need-loop-less Inv-loop μ-loop
 loop-less c = search (needs, shorts)
 
 loop-again : tie.Need-loop-again Inv-loop μ-loop
-loop-again c = (search needs, short-on _ _ _ (c .before .before .before .before .before .before .before .before .args .n) _ (c .before .before .before .before .loop-test .taken) _ (c .before .before .before .key-at .ensures) _ (c .before .key-at2 .ensures) (c .before .before .if1 .left) (c .if2 .left) (c .before .before .before .before .before .loop .inv .1))
+loop-again c = (
+  search needs,
+  (let at-key-at2 = c .before in
+      let at-if1 = at-key-at2 .before in
+      let at-key-at = at-if1 .before in
+      let at-loop-test = at-key-at .before in
+      let at-loop = at-loop-test .before in
+      let at-start = at-loop .before .before .before in
+      short-on _ _ _ (at-start .args .n) _ (at-loop-test .loop-test .taken) _ (at-key-at .key-at .ensures) _ (at-key-at2 .key-at2 .ensures)
+      (at-if1 .if1 .left) (c .if2 .left) (at-loop .loop .inv .1)),
+)
 
 returns-3 : tie.Need-returns-3 Inv-loop μ-loop
 returns-3 c = search (needs, shorts)

@@ -7,29 +7,33 @@ use Rattle.pair_buffer.proofs.push_pair.Tie as tie
 
 returns : tie.Need-returns
 returns c =
-    let a = c .before .before .before .before .before .args in
-    put-long (a .s .now) (a .t .now) (a .n) (a .at) (a .bytes .now) (a .slots .now) (omega arith)
+    let at-start = c .before .before .before .before .before in
+    let args = at-start .args in
+    put-long (args .s .now) (args .t .now) (args .n) (args .at) (args .bytes .now) (args .slots .now) (omega arith)
 
 sub-room : tie.Need-sub-room
 sub-room c = search needs
 
 returns-2 : tie.Need-returns-2
 returns-2 c =
-    let a = c .before .before .before .before .before .before .args in
-    put-long (a .s .now) (a .t .now) (a .n) (a .at) (a .bytes .now) (a .slots .now) (omega arith)
+    let at-start = c .before .before .before .before .before .before in
+    let args = at-start .args in
+    put-long (args .s .now) (args .t .now) (args .n) (args .at) (args .bytes .now) (args .slots .now) (omega arith)
 
 sub-if3 : tie.Need-sub-if3
 sub-if3 c = search needs
 
 returns-3 : tie.Need-returns-3
 returns-3 c =
-    let a = c .before .before .before .before .before .before .before .args in
-    put-long (a .s .now) (a .t .now) (a .n) (a .at) (a .bytes .now) (a .slots .now) (omega arith)
+    let at-start = c .before .before .before .before .before .before .before in
+    let args = at-start .args in
+    put-long (args .s .now) (args .t .now) (args .n) (args .at) (args .bytes .now) (args .slots .now) (omega arith)
 
 returns-4 : tie.Need-returns-4
 returns-4 c =
-    let a = c .before .before .before .before .before .before .before .before .args in
-    put-many (a .s .now) (a .t .now) (a .n) (a .at) (a .bytes .now) (a .slots .now) (omega arith)
+    let at-start = c .before .before .before .before .before .before .before .before in
+    let args = at-start .args in
+    put-many (args .s .now) (args .t .now) (args .n) (args .at) (args .bytes .now) (args .slots .now) (omega arith)
 
 add-m : tie.Need-add-m
 add-m c = search needs
@@ -54,8 +58,13 @@ same-length-2 c = search needs
 
 returns-5 : tie.Need-returns-5
 returns-5 c =
-    let a = c .before .before .before .before .before .before .before .before .before .before .before .before .before .before .before .before .before .before .before .before .args in
-    put-done (a .s .now) (a .t .now) (a .n) (a .at) (a .bytes .now) (a .slots .now) _ _ _ _ (omega arith) (omega arith) refl (c .before .before .before .before .before .before .before .before .before .before .write-at .ensures) (c .before .before .before .before .before .before .write-at2 .ensures) (c .before .before .write-entry .ensures)
+    let at-write-entry = c .before .before in
+    let at-write-at2 = at-write-entry .before .before .before .before in
+    let at-write-at = at-write-at2 .before .before .before .before in
+    let at-start = at-write-at .before .before .before .before .before .before .before .before .before .before in
+    let args = at-start .args in
+    put-done (args .s .now) (args .t .now) (args .n) (args .at) (args .bytes .now) (args .slots .now) _ _ _ _ (omega arith) (omega arith) refl
+    (at-write-at .write-at .ensures) (at-write-at2 .write-at2 .ensures) (at-write-entry .write-entry .ensures)
 
 pub push-pair-spec : {M : Type 1} → statement M
 push-pair-spec =

@@ -9,8 +9,12 @@ has-prefix-requires c κs = search needs
 
 returns : tie.Need-returns
 returns c =
-    let a = c .before .before .before .before .before .before .before .args in
-    replace-long (a .path .now) (a .old .now) (a .new .now) _ (c .before .before .has-prefix .ensures) (a .out .now) (c .before .if1 .taken) (omega arith)
+    let at-if1 = c .before in
+    let at-has-prefix = at-if1 .before in
+    let at-start = at-has-prefix .before .before .before .before .before in
+    let args = at-start .args in
+    replace-long (args .path .now) (args .old .now) (args .new .now) _ (at-has-prefix .has-prefix .ensures) (args .out .now) (at-if1 .if1 .taken)
+    (omega arith)
 
 write-at-requires : tie.Need-write-at-requires
 write-at-requires c κs = search needs
@@ -20,18 +24,27 @@ same-length c = search needs
 
 returns-2 : tie.Need-returns-2
 returns-2 c =
-    let a = c .before .before .before .before .before .before .before .before .before .before .before .args in
-    replace-not (a .path .now) (a .old .now) (a .new .now) _ (c .before .before .before .before .before .before .has-prefix .ensures) (a .out .now) (c .before .before .before .before .before .if1 .taken) (omega arith) _ (c .before .before .write-at .ensures)
+    let at-write-at = c .before .before in
+    let at-if1 = at-write-at .before .before .before in
+    let at-has-prefix = at-if1 .before in
+    let at-start = at-has-prefix .before .before .before .before .before in
+    let args = at-start .args in
+    replace-not (args .path .now) (args .old .now) (args .new .now) _ (at-has-prefix .has-prefix .ensures) (args .out .now) (at-if1 .if1 .taken)
+    (omega arith) _ (at-write-at .write-at .ensures)
 
 sub-join : tie.Need-sub-join
 sub-join c =
-    let a = c .before .before .before .before .before .before .args in
-    replace-start (a .path .now) (a .old .now) (a .new .now) _ (c .before .has-prefix .ensures) (a .out .now) (c .if1 .left)
+    let at-has-prefix = c .before in
+    let at-start = at-has-prefix .before .before .before .before .before in
+    let args = at-start .args in
+    replace-start (args .path .now) (args .old .now) (args .new .now) _ (at-has-prefix .has-prefix .ensures) (args .out .now) (c .if1 .left)
 
 part-join-start : tie.Need-part-join-start
 part-join-start c =
-    let a = c .before .before .before .before .before .before .args in
-    replace-start (a .path .now) (a .old .now) (a .new .now) _ (c .before .has-prefix .ensures) (a .out .now) (c .if1 .left)
+    let at-has-prefix = c .before in
+    let at-start = at-has-prefix .before .before .before .before .before in
+    let args = at-start .args in
+    replace-start (args .path .now) (args .old .now) (args .new .now) _ (at-has-prefix .has-prefix .ensures) (args .out .now) (c .if1 .left)
 
 part-join-end : tie.Need-part-join-end
 part-join-end c = search needs
@@ -50,16 +63,27 @@ same-length-2 c = search needs
 
 returns-3 : tie.Need-returns-3
 returns-3 c =
-    let a = c .before .before .before .before .before .before .before .before .before .before .before .before .before .before .args in
-    replace-made (a .path .now) (a .old .now) (a .new .now) _ (c .before .before .before .before .before .before .before .before .before .has-prefix .ensures) (a .out .now) (c .before .before .before .before .before .before .before .before .if1 .left) _ _ (c .before .before .before .before .before .join .ensures) _ (c .before .fit .given .1)
+    let at-fit = c .before in
+    let at-join = at-fit .before .before .before .before in
+    let at-if1 = at-join .before .before .before in
+    let at-has-prefix = at-if1 .before in
+    let at-start = at-has-prefix .before .before .before .before .before in
+    let args = at-start .args in
+    replace-made (args .path .now) (args .old .now) (args .new .now) _ (at-has-prefix .has-prefix .ensures) (args .out .now) (at-if1 .if1 .left) _ _
+    (at-join .join .ensures) _ (at-fit .fit .given .1)
 
 same-length-3 : tie.Need-same-length-3
 same-length-3 c = search needs
 
 returns-4 : tie.Need-returns-4
 returns-4 c =
-    let a = c .before .before .before .before .before .before .before .before .before .before .before .before .before .args in
-    replace-over (a .path .now) (a .old .now) (a .new .now) _ (c .before .before .before .before .before .before .before .before .has-prefix .ensures) (a .out .now) (c .before .before .before .before .before .before .before .if1 .left) _ _ (c .before .before .before .before .join .ensures) (c .enum-told .given .1)
+    let at-join = c .before .before .before .before in
+    let at-if1 = at-join .before .before .before in
+    let at-has-prefix = at-if1 .before in
+    let at-start = at-has-prefix .before .before .before .before .before in
+    let args = at-start .args in
+    replace-over (args .path .now) (args .old .now) (args .new .now) _ (at-has-prefix .has-prefix .ensures) (args .out .now) (at-if1 .if1 .left) _ _
+    (at-join .join .ensures) (c .enum-told .given .1)
 
 pub replace-into-spec : {M : Type 1} → statement M
 replace-into-spec =

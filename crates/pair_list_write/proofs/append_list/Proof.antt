@@ -31,10 +31,26 @@ returns-3 : tie.Need-returns-3 Inv-loop μ-loop
 returns-3 c = list-full _ _ _ _ _ _ (c .before .before .if2 .left) _ (c .before .list-fits .ensures) (c .if3 .taken)
 
 loop-holds : tie.Need-loop-holds Inv-loop μ-loop
-loop-holds c = (search needs, list-fits _ _ _ _ _ (c .before .before .if2 .left) _ (c .before .list-fits .ensures) (c .if3 .left), at-begin _ _ _, text-begin (c .before .before .before .before .before .before .before .before .args .store .now) (c .before .before .before .before .before .before .before .before .args .places .now) (c .before .before .before .before .before .before .before .before .args .at) _, slots-begin _ _ _ _, refl, refl)
+loop-holds c = (
+  search needs,
+  list-fits _ _ _ _ _ (c .before .before .if2 .left) _ (c .before .list-fits .ensures) (c .if3 .left),
+  at-begin _ _ _,
+  (let at-start = c .before .before .before .before .before .before .before .before in
+      let args = at-start .args in
+      text-begin (args .store .now) (args .places .now) (args .at) _),
+  slots-begin _ _ _ _,
+  refl,
+  refl,
+)
 
 write-pair-requires : tie.Need-write-pair-requires Inv-loop μ-loop
-write-pair-requires c κs = (list-room _ _ _ _ _ (c .before .before .before .loop .inv .2) _ (c .before .before .loop-test .taken) _ _ (c .before .before .before .loop .inv .1) (c .before .before .before .loop .inv .5), omega (arith, c .before .before .before .before .before .before .before .if1 .left, c .before .before .loop-test .taken, c .before .before .before .loop .inv .6))
+write-pair-requires c κs =
+    let at-loop-test = c .before .before in
+    let at-loop = at-loop-test .before in
+    let at-if1 = at-loop .before .before .before .before in (
+      list-room _ _ _ _ _ (at-loop .loop .inv .2) _ (at-loop-test .loop-test .taken) _ _ (at-loop .loop .inv .1) (at-loop .loop .inv .5),
+      omega (arith, at-if1 .if1 .left, at-loop-test .loop-test .taken, at-loop .loop .inv .6),
+    )
 
 add-i : tie.Need-add-i Inv-loop μ-loop
 add-i c = search needs
@@ -43,7 +59,23 @@ loop-less : tie.Need-loop-less Inv-loop μ-loop
 loop-less c = search needs
 
 loop-again : tie.Need-loop-again Inv-loop μ-loop
-loop-again c = (search needs, c .before .before .before .before .before .before .before .before .loop .inv .1, list-at _ _ _ _ _ (c .before .before .before .before .before .before .before .before .loop .inv .2) _ (c .before .before .before .before .write-pair .ensures .0), list-text _ _ _ _ _ (c .before .before .before .before .before .before .before .before .loop .inv .2) _ (c .before .before .before .before .before .before .before .loop-test .taken) _ _ _ (c .before .before .before .before .before .before .before .before .loop .inv .1) (c .before .before .before .before .before .before .before .before .loop .inv .3) (c .before .before .before .before .write-pair .ensures .1 .0), list-slots _ _ _ _ _ (c .before .before .before .before .before .before .before .before .loop .inv .2) _ _ _ (c .before .before .before .before .before .before .before .before .loop .inv .4) (c .before .before .before .before .write-pair .ensures .1 .1), search needs, search needs)
+loop-again c = (
+  search needs,
+  c .before .before .before .before .before .before .before .before .loop .inv .1,
+  (let at-write-pair = c .before .before .before .before in
+      let at-loop = at-write-pair .before .before .before .before in
+      list-at _ _ _ _ _ (at-loop .loop .inv .2) _ (at-write-pair .write-pair .ensures .0)),
+  (let at-write-pair = c .before .before .before .before in
+      let at-loop-test = at-write-pair .before .before .before in
+      let at-loop = at-loop-test .before in
+      list-text _ _ _ _ _ (at-loop .loop .inv .2) _ (at-loop-test .loop-test .taken) _ _ _ (at-loop .loop .inv .1) (at-loop .loop .inv .3)
+      (at-write-pair .write-pair .ensures .1 .0)),
+  (let at-write-pair = c .before .before .before .before in
+      let at-loop = at-write-pair .before .before .before .before in
+      list-slots _ _ _ _ _ (at-loop .loop .inv .2) _ _ _ (at-loop .loop .inv .4) (at-write-pair .write-pair .ensures .1 .1)),
+  search needs,
+  search needs,
+)
 
 same-length : tie.Need-same-length Inv-loop μ-loop
 same-length c = search needs
@@ -52,7 +84,11 @@ same-length-2 : tie.Need-same-length-2 Inv-loop μ-loop
 same-length-2 c = search needs
 
 returns-4 : tie.Need-returns-4 Inv-loop μ-loop
-returns-4 c = list-done _ _ _ _ _ _ (c .before .before .before .before .before .if1 .left) (c .before .loop .inv .1) _ _ _ (c .loop-test .left) (c .before .loop .inv .0) (c .before .loop .inv .3) (c .before .loop .inv .4)
+returns-4 c =
+    let at-loop = c .before in
+    let at-if1 = at-loop .before .before .before .before in
+    list-done _ _ _ _ _ _ (at-if1 .if1 .left) (at-loop .loop .inv .1) _ _ _ (c .loop-test .left) (at-loop .loop .inv .0) (at-loop .loop .inv .3)
+    (at-loop .loop .inv .4)
 
 pub append-list-spec : {M : Type 1} → statement M
 append-list-spec =

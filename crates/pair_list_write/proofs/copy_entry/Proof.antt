@@ -52,7 +52,10 @@ same-length : tie.Need-same-length
 same-length c = search needs
 
 returns-2 : tie.Need-returns-2
-returns-2 c = copy-some _ _ _ _ (c .before .before .before .before .before .before .before .before .if1 .left) _ (c .before .before .write-entry .ensures)
+returns-2 c =
+    let at-write-entry = c .before .before in
+    let at-if1 = at-write-entry .before .before .before .before .before .before in
+    copy-some _ _ _ _ (at-if1 .if1 .left) _ (at-write-entry .write-entry .ensures)
 
 pub copy-entry-spec : {M : Type 1} → statement M
 copy-entry-spec =

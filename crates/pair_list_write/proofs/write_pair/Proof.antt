@@ -30,7 +30,11 @@ write-at-requires-2 : tie.Need-write-at-requires-2
 write-at-requires-2 c κs = search needs
 
 add-result : tie.Need-add-result
-add-result c = omega (arith, c .before .before .before .before .before .before .before .before .before .before .before .before .before .before .before .before .before .before .pre .0, ap length (c .before .before .before .before .before .before .before .before .before .before .before .before .before .key-at .ensures), ap length (c .before .before .before .before .before .before .before .before .before .before .before .before .key-at2 .ensures))
+add-result c =
+    let at-key-at2 = c .before .before .before .before .before .before .before .before .before .before .before .before in
+    let at-key-at = at-key-at2 .before in
+    let at-start = at-key-at .before .before .before .before .before in
+    omega (arith, at-start .pre .0, ap length (at-key-at .key-at .ensures), ap length (at-key-at2 .key-at2 .ensures))
 
 same-length : tie.Need-same-length
 same-length c = search needs
@@ -39,7 +43,21 @@ same-length-2 : tie.Need-same-length-2
 same-length-2 c = search needs
 
 returns : tie.Need-returns
-returns c = (pair-end _ _ _ _ _ (c .before .before .before .before .before .before .before .before .before .before .before .before .before .key-at .ensures) (c .before .before .before .before .before .before .before .before .before .before .before .before .key-at2 .ensures), (pair-text _ _ _ _ _ (c .before .before .before .before .before .before .before .before .before .before .before .before .before .key-at .ensures) (c .before .before .before .before .before .before .before .before .before .before .before .before .key-at2 .ensures) _ _ _ (c .before .before .before .before .before .before .before .before .before .before .before .before .before .before .before .before .before .before .pre .0) (c .before .before .before .before .before .before .write-at .ensures) (c .before .before .write-at2 .ensures), pair-slots _ _ _ _ _ (c .before .before .before .before .before .before .before .before .before .before .before .before .before .key-at .ensures) (c .before .before .before .before .before .before .before .before .before .before .before .before .key-at2 .ensures) _ _ _ (c .before .before .before .before .before .before .before .before .before .before .before .before .before .before .before .before .before .before .pre .1) (c .before .before .before .before .before .before .before .before .before .before .write-entry .ensures)))
+returns c =
+    let at-write-at2 = c .before .before in
+    let at-write-at = at-write-at2 .before .before .before .before in
+    let at-write-entry = at-write-at .before .before .before .before in
+    let at-key-at2 = at-write-entry .before .before in
+    let at-key-at = at-key-at2 .before in
+    let at-start = at-key-at .before .before .before .before .before in (
+      pair-end _ _ _ _ _ (at-key-at .key-at .ensures) (at-key-at2 .key-at2 .ensures),
+      (
+        pair-text _ _ _ _ _ (at-key-at .key-at .ensures) (at-key-at2 .key-at2 .ensures) _ _ _ (at-start .pre .0) (at-write-at .write-at .ensures)
+            (at-write-at2 .write-at2 .ensures),
+        pair-slots _ _ _ _ _ (at-key-at .key-at .ensures) (at-key-at2 .key-at2 .ensures) _ _ _ (at-start .pre .1)
+            (at-write-entry .write-entry .ensures),
+      ),
+    )
 
 pub write-pair-spec : {M : Type 1} → statement M
 write-pair-spec =

@@ -38,21 +38,26 @@ same-length : tie.Need-same-length
 same-length c = search needs
 
 returns-2 : tie.Need-returns-2
-returns-2 c = (
-  unless-passed Refused _ _ _ _ (c .before .before .before .before .before .before .before .before .before .validate-texts .ensures) (c .before .before .before .before .before .before .before .enum-told .given .1) (listed-written _ _ _ (c .before .before .before .before .before .write-ancestors .ensures .0) _ (c .before .n .given .1))
-      ∙ sym (ancestors-unfolded _ _),
-  listed-memory _ _ _ (c .before .before .before .before .before .write-ancestors .ensures .0) _ _ (c .before .n .given .1) (c .before .before .before .before .before .write-ancestors .ensures .1),
-)
+returns-2 c =
+    let at-n = c .before in
+    let at-write-ancestors = at-n .before .before .before .before in
+    let at-enum-told = at-write-ancestors .before .before in
+    let at-validate-texts = at-enum-told .before .before in (
+      unless-passed Refused _ _ _ _ (at-validate-texts .validate-texts .ensures) (at-enum-told .enum-told .given .1) (listed-written _ _ _ (at-write-ancestors .write-ancestors .ensures .0) _ (at-n .n .given .1)) ∙ sym (ancestors-unfolded _ _),
+      listed-memory _ _ _ (at-write-ancestors .write-ancestors .ensures .0) _ _ (at-n .n .given .1) (at-write-ancestors .write-ancestors .ensures .1),
+    )
 
 same-length-2 : tie.Need-same-length-2
 same-length-2 c = search needs
 
 returns-3 : tie.Need-returns-3
-returns-3 c = (
-  unless-passed Refused _ _ _ _ (c .before .before .before .before .before .before .before .before .validate-texts .ensures) (c .before .before .before .before .before .before .enum-told .given .1) (listed-over _ _ _ (c .before .before .before .before .write-ancestors .ensures .0) (c .enum-told2 .given .1))
-      ∙ sym (ancestors-unfolded _ _),
-  listed-kept _ _ _ (c .before .before .before .before .write-ancestors .ensures .0) _ (c .enum-told2 .given .1) (c .before .before .before .before .write-ancestors .ensures .1),
-)
+returns-3 c =
+    let at-write-ancestors = c .before .before .before .before in
+    let at-enum-told = at-write-ancestors .before .before in
+    let at-validate-texts = at-enum-told .before .before in (
+      unless-passed Refused _ _ _ _ (at-validate-texts .validate-texts .ensures) (at-enum-told .enum-told .given .1) (listed-over _ _ _ (at-write-ancestors .write-ancestors .ensures .0) (c .enum-told2 .given .1)) ∙ sym (ancestors-unfolded _ _),
+      listed-kept _ _ _ (at-write-ancestors .write-ancestors .ensures .0) _ (c .enum-told2 .given .1) (at-write-ancestors .write-ancestors .ensures .1),
+    )
 
 pub ancestors-spec : {M : Type 1} → statement M
 ancestors-spec =

@@ -41,9 +41,15 @@ is-root-requires c κs = search needs
 returns-4 : tie.Need-returns-4
 unfolding checkedOption
 returns-4 c =
+    let at-is-root = c .before in
+    let at-if2 = at-is-root .before in
+    let at-if1 = at-if2 .before in
+    let at-enum-told = at-if1 .before in
+    let at-validate-texts = at-enum-told .before .before in
     refusing _ _
-    (parent-unfolded _ _ ∙ answered-passed _ _ _ _ (c .before .before .before .before .before .before .validate-texts .ensures) (c .before .before .before .before .enum-told .given .1) (c .before .before .before .if1 .left)
-    ∙ ap checkedOption (parent-root _ _ (c .before .before .if2 .left) (c .before .is-root .ensures) (c .if3 .taken))) _
+    (parent-unfolded _ _ ∙ answered-passed _ _ _ _ (at-validate-texts .validate-texts .ensures) (at-enum-told .enum-told .given .1)
+    (at-if1 .if1 .left) ∙ ap checkedOption (parent-root _ _ (at-if2 .if2 .left) (at-is-root .is-root .ensures) (c .if3 .taken)))
+    _
 
 parent-len-requires : tie.Need-parent-len-requires
 parent-len-requires c κs = search needs
@@ -60,11 +66,22 @@ same-length c = search needs
 returns-5 : tie.Need-returns-5
 unfolding checkedOption
 returns-5 c =
+    let at-write-at = c .before .before in
+    let at-parent-len = at-write-at .before .before .before in
+    let at-if3 = at-parent-len .before in
+    let at-is-root = at-if3 .before in
+    let at-if2 = at-is-root .before in
+    let at-if1 = at-if2 .before in
+    let at-enum-told = at-if1 .before in
+    let at-validate-texts = at-enum-told .before .before in
     answering _ _
-    (parent-unfolded _ _ ∙ answered-passed _ _ _ _ (c .before .before .before .before .before .before .before .before .before .before .before .before .validate-texts .ensures) (c .before .before .before .before .before .before .before .before .before .before .enum-told .given .1) (c .before .before .before .before .before .before .before .before .before .if1 .left)
-    ∙ ap checkedOption (parent-cut _ _ (c .before .before .before .before .before .before .before .before .if2 .left) (c .before .before .before .before .before .before .before .is-root .ensures) (c .before .before .before .before .before .before .if3 .left))) _ _ _
-    (cut-written _ _ _ (c .before .before .before .before .before .parent-len .ensures) (parent-len-le _) (passed-short _ _ (c .before .before .before .before .before .before .before .before .before .before .before .before .validate-texts .ensures) (c .before .before .before .before .before .before .before .before .before .before .enum-told .given .1))
-    (parent-take _ (passed-legal _ _ (c .before .before .before .before .before .before .before .before .before .before .before .before .validate-texts .ensures) (c .before .before .before .before .before .before .before .before .before .before .enum-told .given .1))) _ _ (c .before .before .before .before .before .before .before .before .before .if1 .left) (c .before .before .write-at .ensures))
+    (parent-unfolded _ _ ∙ answered-passed _ _ _ _ (at-validate-texts .validate-texts .ensures) (at-enum-told .enum-told .given .1)
+    (at-if1 .if1 .left) ∙ ap checkedOption (parent-cut _ _ (at-if2 .if2 .left) (at-is-root .is-root .ensures) (at-if3 .if3 .left)))
+    _ _ _
+    (cut-written _ _ _ (at-parent-len .parent-len .ensures) (parent-len-le _)
+    (passed-short _ _ (at-validate-texts .validate-texts .ensures) (at-enum-told .enum-told .given .1))
+    (parent-take _ (passed-legal _ _ (at-validate-texts .validate-texts .ensures) (at-enum-told .enum-told .given .1))) _ _ (at-if1 .if1 .left)
+    (at-write-at .write-at .ensures))
 
 pub parent-spec : {M : Type 1} → statement M
 parent-spec =

@@ -42,9 +42,18 @@ same-length c = search needs
 
 returns-3 : tie.Need-returns-3
 returns-3 c =
-    answering _ _ (prim-unfolded _ _ ∙ answered-passed _ _ _ _ (c .before .before .before .before .before .before .before .before .before .validate-texts .ensures) (c .before .before .before .before .before .before .before .enum-told .given .1) (c .before .before .before .before .before .before .if1 .left)) _ _ _
-    (prim-written _ _ (c .before .before .before .before .before .prim-len .ensures) (passed-short _ _ (c .before .before .before .before .before .before .before .before .before .validate-texts .ensures) (c .before .before .before .before .before .before .before .enum-told .given .1))
-    (passed-legal _ _ (c .before .before .before .before .before .before .before .before .before .validate-texts .ensures) (c .before .before .before .before .before .before .before .enum-told .given .1)) _ _ (c .before .before .before .before .before .before .if1 .left) (c .before .before .write-at .ensures))
+    let at-write-at = c .before .before in
+    let at-prim-len = at-write-at .before .before .before in
+    let at-if1 = at-prim-len .before in
+    let at-enum-told = at-if1 .before in
+    let at-validate-texts = at-enum-told .before .before in
+    answering _ _
+    (prim-unfolded _ _ ∙ answered-passed _ _ _ _ (at-validate-texts .validate-texts .ensures) (at-enum-told .enum-told .given .1) (at-if1 .if1 .left))
+    _ _ _
+    (prim-written _ _ (at-prim-len .prim-len .ensures)
+    (passed-short _ _ (at-validate-texts .validate-texts .ensures) (at-enum-told .enum-told .given .1))
+    (passed-legal _ _ (at-validate-texts .validate-texts .ensures) (at-enum-told .enum-told .given .1)) _ _ (at-if1 .if1 .left)
+    (at-write-at .write-at .ensures))
 
 pub prim-path-spec : {M : Type 1} → statement M
 prim-path-spec =

@@ -32,9 +32,14 @@ has-prefix-requires c κs = search needs
 returns-3 : tie.Need-returns-3
 unfolding checkedOption
 returns-3 c =
+    let at-has-prefix = c .before in
+    let at-if1 = at-has-prefix .before in
+    let at-enum-told = at-if1 .before in
+    let at-validate-texts = at-enum-told .before .before in
     refusing _ _
-    (replace-unfolded _ _ _ _ ∙ answered-passed _ _ _ _ (c .before .before .before .before .before .validate-texts .ensures) (c .before .before .before .enum-told .given .1) (c .before .before .if1 .left)
-    ∙ ap checkedOption (replace-other _ _ _ (known-false (c .before .has-prefix .ensures) (c .if2 .taken)))) _
+    (replace-unfolded _ _ _ _ ∙ answered-passed _ _ _ _ (at-validate-texts .validate-texts .ensures) (at-enum-told .enum-told .given .1)
+    (at-if1 .if1 .left) ∙ ap checkedOption (replace-other _ _ _ (known-false (at-has-prefix .has-prefix .ensures) (c .if2 .taken))))
+    _
 
 sub-write-joined : tie.Need-sub-write-joined
 sub-write-joined c = prefix-long _ _ (known-true (c .before .has-prefix .ensures) (c .if2 .left))
@@ -54,10 +59,17 @@ same-length c = search needs
 returns-4 : tie.Need-returns-4
 unfolding checkedOption
 returns-4 c =
+    let at-write-joined = c .before .before in
+    let at-if2 = at-write-joined .before .before .before in
+    let at-has-prefix = at-if2 .before in
+    let at-if1 = at-has-prefix .before in
+    let at-enum-told = at-if1 .before in
+    let at-validate-texts = at-enum-told .before .before in
+    let at-start = at-validate-texts .before .before .before .before .before in
     answering _ _
-    (replace-unfolded _ _ _ _ ∙ answered-passed _ _ _ _ (c .before .before .before .before .before .before .before .before .before .before .validate-texts .ensures) (c .before .before .before .before .before .before .before .before .enum-told .given .1) (c .before .before .before .before .before .before .before .if1 .left)
-    ∙ ap checkedOption (replace-prefix _ _ _ (known-true (c .before .before .before .before .before .before .has-prefix .ensures) (c .before .before .before .before .before .if2 .left)))) _ _ _
-    (rw (rest-whole (c .before .before .before .before .before .before .before .before .before .before .before .before .before .before .before .args .path .now) (length (c .before .before .before .before .before .before .before .before .before .before .before .before .before .before .before .args .old .now))) at (c .before .before .write-joined .ensures))
+    (replace-unfolded _ _ _ _ ∙ answered-passed _ _ _ _ (at-validate-texts .validate-texts .ensures) (at-enum-told .enum-told .given .1)
+    (at-if1 .if1 .left) ∙ ap checkedOption (replace-prefix _ _ _ (known-true (at-has-prefix .has-prefix .ensures) (at-if2 .if2 .left))))
+    _ _ _ (rw (rest-whole (at-start .args .path .now) (length (at-start .args .old .now))) at (at-write-joined .write-joined .ensures))
 
 pub replace-prefix-spec : {M : Type 1} → statement M
 replace-prefix-spec =

@@ -35,9 +35,14 @@ lacks-byte-requires c κs = search needs
 returns-3 : tie.Need-returns-3
 unfolding checkedOption
 returns-3 c =
+    let at-lacks-byte = c .before in
+    let at-if1 = at-lacks-byte .before in
+    let at-enum-told = at-if1 .before in
+    let at-validate-texts = at-enum-told .before .before in
     refusing _ _
-    (split-unfolded _ _ ∙ answered-passed _ _ _ _ (c .before .before .before .before .before .validate-texts .ensures) (c .before .before .before .enum-told .given .1) (c .before .before .if1 .left)
-    ∙ ap checkedOption (split-none _ _ (c .before .lacks-byte .ensures) (c .if2 .taken))) _
+    (split-unfolded _ _ ∙ answered-passed _ _ _ _ (at-validate-texts .validate-texts .ensures) (at-enum-told .enum-told .given .1)
+    (at-if1 .if1 .left) ∙ ap checkedOption (split-none _ _ (at-lacks-byte .lacks-byte .ensures) (c .if2 .taken)))
+    _
 
 prim-len-requires : tie.Need-prim-len-requires
 prim-len-requires c κs = search needs
@@ -54,11 +59,21 @@ same-length c = search needs
 returns-4 : tie.Need-returns-4
 unfolding checkedOption
 returns-4 c =
+    let at-write-at = c .before .before in
+    let at-prim-len = at-write-at .before .before .before in
+    let at-if2 = at-prim-len .before in
+    let at-lacks-byte = at-if2 .before in
+    let at-if1 = at-lacks-byte .before in
+    let at-enum-told = at-if1 .before in
+    let at-validate-texts = at-enum-told .before .before in
     answering _ _
-    (split-unfolded _ _ ∙ answered-passed _ _ _ _ (c .before .before .before .before .before .before .before .before .before .before .before .validate-texts .ensures) (c .before .before .before .before .before .before .before .before .before .enum-told .given .1) (c .before .before .before .before .before .before .before .before .if1 .left)
-    ∙ ap checkedOption (split-some _ _ (c .before .before .before .before .before .before .before .lacks-byte .ensures) (c .before .before .before .before .before .before .if2 .left))) _ _ _
-    (prim-written _ _ (c .before .before .before .before .before .prim-len .ensures) (passed-short _ _ (c .before .before .before .before .before .before .before .before .before .before .before .validate-texts .ensures) (c .before .before .before .before .before .before .before .before .before .enum-told .given .1))
-    (passed-legal _ _ (c .before .before .before .before .before .before .before .before .before .before .before .validate-texts .ensures) (c .before .before .before .before .before .before .before .before .before .enum-told .given .1)) _ _ (c .before .before .before .before .before .before .before .before .if1 .left) (c .before .before .write-at .ensures))
+    (split-unfolded _ _ ∙ answered-passed _ _ _ _ (at-validate-texts .validate-texts .ensures) (at-enum-told .enum-told .given .1)
+    (at-if1 .if1 .left) ∙ ap checkedOption (split-some _ _ (at-lacks-byte .lacks-byte .ensures) (at-if2 .if2 .left)))
+    _ _ _
+    (prim-written _ _ (at-prim-len .prim-len .ensures)
+    (passed-short _ _ (at-validate-texts .validate-texts .ensures) (at-enum-told .enum-told .given .1))
+    (passed-legal _ _ (at-validate-texts .validate-texts .ensures) (at-enum-told .enum-told .given .1)) _ _ (at-if1 .if1 .left)
+    (at-write-at .write-at .ensures))
 
 pub split-property-spec : {M : Type 1} → statement M
 split-property-spec =

@@ -43,17 +43,32 @@ same-length c = search needs
 
 returns-3 : tie.Need-returns-3
 returns-3 c =
-    answering _ _ (strip-unfolded _ _ ∙ answered-passed _ _ _ _ (c .before .before .before .before .before .before .before .before .before .before .validate-texts .ensures) (c .before .before .before .before .before .before .before .before .enum-told .given .1) (c .before .before .before .before .before .before .before .if1 .left)) _ _ _
-    (strip-written _ _ _ (passed-short _ _ (c .before .before .before .before .before .before .before .before .before .before .validate-texts .ensures) (c .before .before .before .before .before .before .before .before .enum-told .given .1)) (c .before .before .before .before .before .before .before .if1 .left) (c .before .before .before .before .before .strip-into .ensures .0) _ _ (c .before .n .given .1)
-    (passed-legal _ _ (c .before .before .before .before .before .before .before .before .before .before .validate-texts .ensures) (c .before .before .before .before .before .before .before .before .enum-told .given .1)) (c .before .before .before .before .before .strip-into .ensures .1))
+    let at-n = c .before in
+    let at-strip-into = at-n .before .before .before .before in
+    let at-if1 = at-strip-into .before .before in
+    let at-enum-told = at-if1 .before in
+    let at-validate-texts = at-enum-told .before .before in
+    answering _ _
+    (strip-unfolded _ _ ∙ answered-passed _ _ _ _ (at-validate-texts .validate-texts .ensures) (at-enum-told .enum-told .given .1)
+    (at-if1 .if1 .left))
+    _ _ _
+    (strip-written _ _ _ (passed-short _ _ (at-validate-texts .validate-texts .ensures) (at-enum-told .enum-told .given .1)) (at-if1 .if1 .left)
+    (at-strip-into .strip-into .ensures .0) _ _ (at-n .n .given .1)
+    (passed-legal _ _ (at-validate-texts .validate-texts .ensures) (at-enum-told .enum-told .given .1)) (at-strip-into .strip-into .ensures .1))
 
 same-length-2 : tie.Need-same-length-2
 same-length-2 c = search needs
 
 returns-4 : tie.Need-returns-4
 returns-4 c =
+    let at-strip-into = c .before .before .before .before in
+    let at-if1 = at-strip-into .before .before in
+    let at-enum-told = at-if1 .before in
+    let at-validate-texts = at-enum-told .before .before in
     absurd
-    (strip-never _ _ _ (omega (arith, passed-short _ _ (c .before .before .before .before .before .before .before .before .before .validate-texts .ensures) (c .before .before .before .before .before .before .before .enum-told .given .1), c .before .before .before .before .before .before .if1 .left)) (c .before .before .before .before .strip-into .ensures .0) (c .enum-told2 .given .1))
+    (strip-never _ _ _
+    (omega (arith, passed-short _ _ (at-validate-texts .validate-texts .ensures) (at-enum-told .enum-told .given .1), at-if1 .if1 .left))
+    (at-strip-into .strip-into .ensures .0) (c .enum-told2 .given .1))
 
 pub strip-variant-selections-spec : {M : Type 1} → statement M
 strip-variant-selections-spec =

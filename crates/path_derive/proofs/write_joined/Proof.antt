@@ -21,22 +21,39 @@ returns : tie.Need-returns
 returns c = made-over _ _ _ (c .before .before .before .join .ensures .0) refl (c .enum-told .given .1) _
 
 array-share-prefix-made : tie.Need-array-share-prefix-made
-array-share-prefix-made c = fit-inside _ _ _ (c .before .before .before .before .join .ensures .0) _ (c .before .fit .given .1) _ (c .before .before .before .before .join .ensures .1)
+array-share-prefix-made c =
+    let at-fit = c .before in
+    let at-join = at-fit .before .before .before in
+    fit-inside _ _ _ (at-join .join .ensures .0) _ (at-fit .fit .given .1) _ (at-join .join .ensures .1)
 
 slice-aggregate-is-legal : tie.Need-slice-aggregate-is-legal
-slice-aggregate-is-legal c = fit-part _ _ _ (c .before .before .before .before .before .join .ensures .0) _ (c .before .before .fit .given .1) _ (c .before .before .before .before .before .join .ensures .1)
+slice-aggregate-is-legal c =
+    let at-fit = c .before .before in
+    let at-join = at-fit .before .before .before in
+    fit-part _ _ _ (at-join .join .ensures .0) _ (at-fit .fit .given .1) _ (at-join .join .ensures .1)
 
 is-legal-requires : tie.Need-is-legal-requires
 is-legal-requires c κs = search needs
 
 returns-2 : tie.Need-returns-2
-returns-2 c = made-illegal _ _ _ (c .before .before .before .before .before .before .before .join .ensures .0) refl _ (c .before .before .before .before .fit .given .1) _ (c .before .before .before .before .before .before .before .join .ensures .1) _ (c .before .is-legal .ensures) (c .if1 .taken) _
+returns-2 c =
+    let at-is-legal = c .before in
+    let at-fit = at-is-legal .before .before .before in
+    let at-join = at-fit .before .before .before in
+    made-illegal _ _ _ (at-join .join .ensures .0) refl _ (at-fit .fit .given .1) _ (at-join .join .ensures .1) _ (at-is-legal .is-legal .ensures)
+    (c .if1 .taken) _
 
 array-share-prefix-made-2 : tie.Need-array-share-prefix-made-2
-array-share-prefix-made-2 c = fit-inside _ _ _ (c .before .before .before .before .before .before .before .join .ensures .0) _ (c .before .before .before .before .fit .given .1) _ (c .before .before .before .before .before .before .before .join .ensures .1)
+array-share-prefix-made-2 c =
+    let at-fit = c .before .before .before .before in
+    let at-join = at-fit .before .before .before in
+    fit-inside _ _ _ (at-join .join .ensures .0) _ (at-fit .fit .given .1) _ (at-join .join .ensures .1)
 
 slice-aggregate-write-at : tie.Need-slice-aggregate-write-at
-slice-aggregate-write-at c = fit-part _ _ _ (c .before .before .before .before .before .before .before .before .join .ensures .0) _ (c .before .before .before .before .before .fit .given .1) _ (c .before .before .before .before .before .before .before .before .join .ensures .1)
+slice-aggregate-write-at c =
+    let at-fit = c .before .before .before .before .before in
+    let at-join = at-fit .before .before .before in
+    fit-part _ _ _ (at-join .join .ensures .0) _ (at-fit .fit .given .1) _ (at-join .join .ensures .1)
 
 write-at-requires : tie.Need-write-at-requires
 write-at-requires c κs = search needs
@@ -46,8 +63,14 @@ same-length c = search needs
 
 returns-3 : tie.Need-returns-3
 returns-3 c =
-    made-written _ _ _ (c .before .before .before .before .before .before .before .before .before .before .before .before .join .ensures .0) refl _ (c .before .before .before .before .before .before .before .before .before .fit .given .1) _ (c .before .before .before .before .before .before .before .before .before .before .before .before .join .ensures .1) _ (c .before .before .before .before .before .before .is-legal .ensures) (c .before .before .before .before .before .if1 .left) _ _
-    (c .before .before .before .before .before .before .before .before .before .before .before .before .before .before .before .before .before .before .pre) (c .before .before .write-at .ensures)
+    let at-write-at = c .before .before in
+    let at-if1 = at-write-at .before .before .before in
+    let at-is-legal = at-if1 .before in
+    let at-fit = at-is-legal .before .before .before in
+    let at-join = at-fit .before .before .before in
+    let at-start = at-join .before .before .before .before .before .before in
+    made-written _ _ _ (at-join .join .ensures .0) refl _ (at-fit .fit .given .1) _ (at-join .join .ensures .1) _ (at-is-legal .is-legal .ensures)
+    (at-if1 .if1 .left) _ _ (at-start .pre) (at-write-at .write-at .ensures)
 
 pub write-joined-spec : {M : Type 1} → statement M
 write-joined-spec =

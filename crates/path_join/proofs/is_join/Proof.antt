@@ -33,7 +33,13 @@ starts-with-requires-2 : tie.Need-starts-with-requires-2
 starts-with-requires-2 c κs = search needs
 
 returns-2 : tie.Need-returns-2
-returns-2 c = join-unslashed _ _ _ _ _ (c .before .before .before .before .before .before .starts-with .ensures) (c .before .before .before .before .before .if1 .left) _ (c .before .before .before .separator-len .ensures) _ (c .before .starts-with2 .ensures) (c .if2 .taken)
+returns-2 c =
+    let at-starts-with2 = c .before in
+    let at-separator-len = at-starts-with2 .before .before in
+    let at-if1 = at-separator-len .before .before in
+    let at-starts-with = at-if1 .before in
+    join-unslashed _ _ _ _ _ (at-starts-with .starts-with .ensures) (at-if1 .if1 .left) _ (at-separator-len .separator-len .ensures) _
+    (at-starts-with2 .starts-with2 .ensures) (c .if2 .taken)
 
 body-start-requires : tie.Need-body-start-requires
 body-start-requires c κs = search needs
@@ -48,10 +54,24 @@ part-is-equal-end : tie.Need-part-is-equal-end
 part-is-equal-end c = search needs
 
 sub-is-equal-2 : tie.Need-sub-is-equal-2
-sub-is-equal-2 c = join-tail _ _ _ _ _ (c .before .before .before .before .before .before .before .before .starts-with .ensures) (c .before .before .before .before .before .before .before .if1 .left) _ (c .before .before .before .before .before .separator-len .ensures) _ (c .before .before .before .starts-with2 .ensures) (c .before .before .if2 .left)
+sub-is-equal-2 c =
+    let at-if2 = c .before .before in
+    let at-starts-with2 = at-if2 .before in
+    let at-separator-len = at-starts-with2 .before .before in
+    let at-if1 = at-separator-len .before .before in
+    let at-starts-with = at-if1 .before in
+    join-tail _ _ _ _ _ (at-starts-with .starts-with .ensures) (at-if1 .if1 .left) _ (at-separator-len .separator-len .ensures) _
+    (at-starts-with2 .starts-with2 .ensures) (at-if2 .if2 .left)
 
 part-is-equal-start-2 : tie.Need-part-is-equal-start-2
-part-is-equal-start-2 c = join-tail _ _ _ _ _ (c .before .before .before .before .before .before .before .before .starts-with .ensures) (c .before .before .before .before .before .before .before .if1 .left) _ (c .before .before .before .before .before .separator-len .ensures) _ (c .before .before .before .starts-with2 .ensures) (c .before .before .if2 .left)
+part-is-equal-start-2 c =
+    let at-if2 = c .before .before in
+    let at-starts-with2 = at-if2 .before in
+    let at-separator-len = at-starts-with2 .before .before in
+    let at-if1 = at-separator-len .before .before in
+    let at-starts-with = at-if1 .before in
+    join-tail _ _ _ _ _ (at-starts-with .starts-with .ensures) (at-if1 .if1 .left) _ (at-separator-len .separator-len .ensures) _
+    (at-starts-with2 .starts-with2 .ensures) (at-if2 .if2 .left)
 
 part-is-equal-end-2 : tie.Need-part-is-equal-end-2
 part-is-equal-end-2 c = search needs
@@ -60,7 +80,15 @@ is-equal-requires : tie.Need-is-equal-requires
 is-equal-requires c κs = search needs
 
 returns-3 : tie.Need-returns-3
-returns-3 c = join-same _ _ _ _ _ (c .before .before .before .before .before .before .before .before .before .before .starts-with .ensures) (c .before .before .before .before .before .before .before .before .before .if1 .left) _ (c .before .before .before .before .before .before .before .separator-len .ensures) _ (c .before .before .before .before .before .starts-with2 .ensures) (c .before .before .before .before .if2 .left) _ (c .before .before .before .body-start .ensures .0) _ (c .is-equal .ensures)
+returns-3 c =
+    let at-body-start = c .before .before .before in
+    let at-if2 = at-body-start .before in
+    let at-starts-with2 = at-if2 .before in
+    let at-separator-len = at-starts-with2 .before .before in
+    let at-if1 = at-separator-len .before .before in
+    let at-starts-with = at-if1 .before in
+    join-same _ _ _ _ _ (at-starts-with .starts-with .ensures) (at-if1 .if1 .left) _ (at-separator-len .separator-len .ensures) _
+    (at-starts-with2 .starts-with2 .ensures) (at-if2 .if2 .left) _ (at-body-start .body-start .ensures .0) _ (c .is-equal .ensures)
 
 pub is-join-spec : {M : Type 1} → statement M
 is-join-spec =

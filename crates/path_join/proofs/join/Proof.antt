@@ -49,7 +49,17 @@ same-length : tie.Need-same-length
 same-length c = search needs
 
 returns-4 : tie.Need-returns-4
-returns-4 c = join-fits _ _ _ _ _ _ (c .before .before .before .before .before .before .before .before .before .before .before .before .before .before .before .before .separator-len .ensures) (c .before .before .before .before .before .before .before .before .before .before .before .before .before .before .body-start .ensures .0) _ _ _ (c .before .before .before .before .before .before .before .before .before .before .before .before .before .before .before .before .before .if1 .left) (c .before .before .before .before .before .before .before .before .before .before .before .before .before .before .before .if2 .left) (c .before .before .before .before .before .before .before .before .before .before .before .before .if3 .left) (c .before .before .before .before .before .before .before .before .before .before .write-at .ensures) (c .before .before .before .before .before .before .write-slash .ensures) (c .before .before .write-at2 .ensures)
+returns-4 c =
+    let at-write-at2 = c .before .before in
+    let at-write-slash = at-write-at2 .before .before .before .before in
+    let at-write-at = at-write-slash .before .before .before .before in
+    let at-if3 = at-write-at .before .before in
+    let at-body-start = at-if3 .before .before in
+    let at-if2 = at-body-start .before in
+    let at-separator-len = at-if2 .before in
+    let at-if1 = at-separator-len .before in
+    join-fits _ _ _ _ _ _ (at-separator-len .separator-len .ensures) (at-body-start .body-start .ensures .0) _ _ _ (at-if1 .if1 .left)
+    (at-if2 .if2 .left) (at-if3 .if3 .left) (at-write-at .write-at .ensures) (at-write-slash .write-slash .ensures) (at-write-at2 .write-at2 .ensures)
 
 pub join-spec : {M : Type 1} → statement M
 join-spec =

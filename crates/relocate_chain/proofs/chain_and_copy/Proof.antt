@@ -28,7 +28,14 @@ same-length : tie.Need-same-length
 same-length c = search needs
 
 returns : tie.Need-returns
-returns c = out-chained _ (c .before .before .before .before .before .before .before .before .before .chain-into .result) (c .before .before .before .before .before .before .before .before .before .chain-into .last .1 .1 .1 .1 .1 .1 .0) (c .before .before .before .before .before .before .before .before .before .chain-into .ensures .0) (c .before .before .before .before .before .before .before .before .before .chain-into .ensures .1) (search needs) _ _ (c .before .before .before .before .before .before .c .given .1) _ _ (c .before .before .before .before .before .before .before .before .before .before .before .before .before .before .before .before .pre .1) (c .before .before .write-at .ensures)
+returns c =
+    out-chained _ (c .before .before .before .before .before .before .before .before .before .chain-into .result)
+    (c .before .before .before .before .before .before .before .before .before .chain-into .last .1 .1 .1 .1 .1 .1 .0)
+    (c .before .before .before .before .before .before .before .before .before .chain-into .ensures .0)
+    (c .before .before .before .before .before .before .before .before .before .chain-into .ensures .1) (search needs) _ _
+    (c .before .before .before .before .before .before .c .given .1) _ _
+    (c .before .before .before .before .before .before .before .before .before .before .before .before .before .before .before .before .pre .1)
+    (c .before .before .write-at .ensures)
 
 returns-2 : tie.Need-returns-2
 returns-2 c = out-stopped _ (c .before .before .before .before .chain-into .result) (c .before .before .before .before .chain-into .last .1 .1 .1 .1 .1 .1 .0) (c .before .before .before .before .chain-into .ensures .0) (c .before .before .before .before .chain-into .ensures .1) (search needs) _ (c .before .c2 .given .1) _

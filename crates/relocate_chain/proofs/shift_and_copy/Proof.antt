@@ -23,10 +23,16 @@ enum-known-s-2 : tie.Need-enum-known-s-2
 enum-known-s-2 c = search needs
 
 array-share-prefix-made : tie.Need-array-share-prefix-made
-array-share-prefix-made c = shift-inside _ _ _ (c .before .before .before .before .replace-once .ensures .0) _ (c .before .s2 .given .1) _ _ (c .before .before .before .before .replace-once .ensures .1) refl
+array-share-prefix-made c =
+    let at-s2 = c .before in
+    let at-replace-once = at-s2 .before .before .before in
+    shift-inside _ _ _ (at-replace-once .replace-once .ensures .0) _ (at-s2 .s2 .given .1) _ _ (at-replace-once .replace-once .ensures .1) refl
 
 slice-aggregate-write-at : tie.Need-slice-aggregate-write-at
-slice-aggregate-write-at c = shift-part _ _ _ (c .before .before .before .before .before .replace-once .ensures .0) _ (c .before .before .s2 .given .1) _ _ (c .before .before .before .before .before .replace-once .ensures .1) refl
+slice-aggregate-write-at c =
+    let at-s2 = c .before .before in
+    let at-replace-once = at-s2 .before .before .before in
+    shift-part _ _ _ (at-replace-once .replace-once .ensures .0) _ (at-s2 .s2 .given .1) _ _ (at-replace-once .replace-once .ensures .1) refl
 
 write-at-requires-2 : tie.Need-write-at-requires-2
 write-at-requires-2 c κs = search needs
@@ -35,7 +41,13 @@ same-length : tie.Need-same-length
 same-length c = search needs
 
 returns : tie.Need-returns
-returns c = shift-still _ _ _ (c .before .before .before .before .before .before .before .replace-once .ensures .0) (c .before .before .before .before .enum-told .given .1) (c .before .before .before .before .before .before .before .before .before .before .before .before .before .pre .0) _ _ (c .before .before .before .before .before .before .before .before .before .before .before .before .before .pre .1) (c .before .before .write-at .ensures)
+returns c =
+    let at-write-at = c .before .before in
+    let at-enum-told = at-write-at .before .before in
+    let at-replace-once = at-enum-told .before .before .before in
+    let at-start = at-replace-once .before .before .before .before .before .before in
+    shift-still _ _ _ (at-replace-once .replace-once .ensures .0) (at-enum-told .enum-told .given .1) (at-start .pre .0) _ _ (at-start .pre .1)
+    (at-write-at .write-at .ensures)
 
 returns-2 : tie.Need-returns-2
 returns-2 c = shift-refused _ _ _ (c .before .before .before .before .replace-once .ensures .0) _ (c .before .s .given .1) _
@@ -44,7 +56,13 @@ same-length-2 : tie.Need-same-length-2
 same-length-2 c = search needs
 
 returns-3 : tie.Need-returns-3
-returns-3 c = shift-made _ _ _ (c .before .before .before .before .before .before .before .before .before .replace-once .ensures .0) _ (c .before .before .before .before .before .before .s2 .given .1) _ _ (c .before .before .before .before .before .before .before .before .before .replace-once .ensures .1) refl _ _ (c .before .before .before .before .before .before .before .before .before .before .before .before .before .before .before .pre .1) (c .before .before .write-at2 .ensures)
+returns-3 c =
+    let at-write-at2 = c .before .before in
+    let at-s2 = at-write-at2 .before .before .before .before in
+    let at-replace-once = at-s2 .before .before .before in
+    let at-start = at-replace-once .before .before .before .before .before .before in
+    shift-made _ _ _ (at-replace-once .replace-once .ensures .0) _ (at-s2 .s2 .given .1) _ _ (at-replace-once .replace-once .ensures .1) refl _ _
+    (at-start .pre .1) (at-write-at2 .write-at2 .ensures)
 
 pub shift-and-copy-spec : {M : Type 1} → statement M
 shift-and-copy-spec =

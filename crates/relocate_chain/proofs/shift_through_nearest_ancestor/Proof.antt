@@ -27,7 +27,15 @@ same-length : tie.Need-same-length
 same-length c = search needs
 
 returns-3 : tie.Need-returns-3
-returns-3 c = answering _ _ (shift-validated _ _ _ ∙ answered-passed _ _ _ _ (c .before .before .before .before .before .before .before .validate-list-and-path .ensures) (c .before .before .before .before .before .enum-told .given .1) (c .before .before .before .before .if1 .left)) _ _ _ (c .before .before .shift-and-copy .ensures)
+returns-3 c =
+    let at-shift-and-copy = c .before .before in
+    let at-if1 = at-shift-and-copy .before .before in
+    let at-enum-told = at-if1 .before in
+    let at-validate-list-and-path = at-enum-told .before .before in
+    answering _ _
+    (shift-validated _ _ _ ∙ answered-passed _ _ _ _ (at-validate-list-and-path .validate-list-and-path .ensures) (at-enum-told .enum-told .given .1)
+    (at-if1 .if1 .left))
+    _ _ _ (at-shift-and-copy .shift-and-copy .ensures)
 
 pub shift-through-nearest-ancestor-spec : {M : Type 1} → statement M
 shift-through-nearest-ancestor-spec =

@@ -20,7 +20,12 @@ enum-told : tie.Need-enum-told
 enum-told c = search needs
 
 returns-2 : tie.Need-returns-2
-returns-2 c = analyze-short _ _ (c .before .before .before .validate-list-and-path .ensures) (length (c .before .before .before .before .before .before .before .before .args .out .now)) _ (c .before .enum-told .given .1) (c .if1 .taken)
+returns-2 c =
+    let at-enum-told = c .before in
+    let at-validate-list-and-path = at-enum-told .before .before in
+    let at-start = at-validate-list-and-path .before .before .before .before .before in
+    analyze-short _ _ (at-validate-list-and-path .validate-list-and-path .ensures) (length (at-start .args .out .now)) _
+    (at-enum-told .enum-told .given .1) (c .if1 .taken)
 
 write-statuses-requires : tie.Need-write-statuses-requires
 write-statuses-requires c κs = (analyze-few _ _ (c .before .before .before .before .validate-list-and-path .ensures) (c .before .before .enum-told .given .1), c .before .if1 .left)
@@ -29,7 +34,13 @@ same-length : tie.Need-same-length
 same-length c = search needs
 
 returns-3 : tie.Need-returns-3
-returns-3 c = analyze-written _ _ (c .before .before .before .before .before .before .before .validate-list-and-path .ensures) _ _ (c .before .before .before .before .before .enum-told .given .1) (c .before .before .before .before .if1 .left) _ (c .before .before .write-statuses .ensures)
+returns-3 c =
+    let at-write-statuses = c .before .before in
+    let at-if1 = at-write-statuses .before .before in
+    let at-enum-told = at-if1 .before in
+    let at-validate-list-and-path = at-enum-told .before .before in
+    analyze-written _ _ (at-validate-list-and-path .validate-list-and-path .ensures) _ _ (at-enum-told .enum-told .given .1) (at-if1 .if1 .left) _
+    (at-write-statuses .write-statuses .ensures)
 
 pub analyze-relocate-occurrences-spec : {M : Type 1} → statement M
 analyze-relocate-occurrences-spec =

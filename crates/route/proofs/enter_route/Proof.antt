@@ -15,7 +15,13 @@ same-length : tie.Need-same-length
 same-length c = search needs
 
 returns : tie.Need-returns
-returns c = enter-kept _ _ _ _ (c .before .before .before .before .before .before .before .before .pre .1) (c .before .before .before .before .before .before .before .before .pre .0) _ (c .before .before .before .before .before .keeps-selections .ensures) (c .before .before .before .before .if1 .taken) _ (c .before .before .write-at .ensures)
+returns c =
+    let at-write-at = c .before .before in
+    let at-if1 = at-write-at .before .before in
+    let at-keeps-selections = at-if1 .before in
+    let at-start = at-keeps-selections .before .before .before in
+    enter-kept _ _ _ _ (at-start .pre .1) (at-start .pre .0) _ (at-keeps-selections .keeps-selections .ensures) (at-if1 .if1 .taken) _
+    (at-write-at .write-at .ensures)
 
 strip-into-requires : tie.Need-strip-into-requires
 strip-into-requires c κs = search needs
@@ -30,13 +36,21 @@ same-length-2 : tie.Need-same-length-2
 same-length-2 c = search needs
 
 returns-2 : tie.Need-returns-2
-returns-2 c = absurd (strip-never _ _ _ (omega (arith, c .before .before .before .before .before .before .before .before .before .before .pre .0, c .before .before .before .before .before .before .before .before .before .before .pre .1)) (c .before .before .before .before .strip-into .ensures .0) (c .enum-told .given .1))
+returns-2 c =
+    let at-strip-into = c .before .before .before .before in
+    let at-start = at-strip-into .before .before .before .before .before .before in
+    absurd (strip-never _ _ _ (omega (arith, at-start .pre .0, at-start .pre .1)) (at-strip-into .strip-into .ensures .0) (c .enum-told .given .1))
 
 same-length-3 : tie.Need-same-length-3
 same-length-3 c = search needs
 
 returns-3 : tie.Need-returns-3
-returns-3 c = enter-stripped _ _ _ _ (c .before .before .before .before .before .before .before .before .before .before .before .pre .1) (c .before .before .before .before .before .before .before .before .before .before .before .pre .0) _ (c .before .before .before .before .before .before .before .before .keeps-selections .ensures) _ (c .before .before .before .before .before .strip-into .ensures .0) (c .before .before .before .before .before .before .before .if1 .left) _ (c .before .fit .given .1) _ (c .before .before .before .before .before .strip-into .ensures .1) (search needs)
+returns-3 c =
+    enter-stripped _ _ _ _ (c .before .before .before .before .before .before .before .before .before .before .before .pre .1)
+    (c .before .before .before .before .before .before .before .before .before .before .before .pre .0) _
+    (c .before .before .before .before .before .before .before .before .keeps-selections .ensures) _
+    (c .before .before .before .before .before .strip-into .ensures .0) (c .before .before .before .before .before .before .before .if1 .left) _
+    (c .before .fit .given .1) _ (c .before .before .before .before .before .strip-into .ensures .1) (search needs)
 
 pub enter-route-spec : {M : Type 1} → statement M
 enter-route-spec =

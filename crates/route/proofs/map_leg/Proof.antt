@@ -17,13 +17,28 @@ map-text-requires : tie.Need-map-text-requires
 map-text-requires c κs = search needs
 
 returns : tie.Need-returns
-returns c = answering _ _ (leg-home _ _ _ _ _ _ _ (c .before .before .before .before .before .leg-places .ensures) (c .before .before .before .before .size-at .ensures) (c .before .before .before .kind-at .ensures) _ _ (c .before .before .if1 .taken)) _ _ _ (c .map-text .ensures)
+returns c =
+    let at-if1 = c .before .before in
+    let at-kind-at = at-if1 .before in
+    let at-size-at = at-kind-at .before in
+    let at-leg-places = at-size-at .before in
+    answering _ _
+    (leg-home _ _ _ _ _ _ _ (at-leg-places .leg-places .ensures) (at-size-at .size-at .ensures) (at-kind-at .kind-at .ensures) _ _
+    (at-if1 .if1 .taken))
+    _ _ _ (c .map-text .ensures)
 
 translate-text-requires : tie.Need-translate-text-requires
 translate-text-requires c κs = search needs
 
 returns-2 : tie.Need-returns-2
-returns-2 c = answering _ _ (leg-out _ _ _ _ _ _ _ (c .before .before .before .before .before .leg-places .ensures) (c .before .before .before .before .size-at .ensures) (c .before .before .before .kind-at .ensures) _ _ (c .before .before .if1 .left)) _ _ _ (c .translate-text .ensures)
+returns-2 c =
+    let at-if1 = c .before .before in
+    let at-kind-at = at-if1 .before in
+    let at-size-at = at-kind-at .before in
+    let at-leg-places = at-size-at .before in
+    answering _ _
+    (leg-out _ _ _ _ _ _ _ (at-leg-places .leg-places .ensures) (at-size-at .size-at .ensures) (at-kind-at .kind-at .ensures) _ _ (at-if1 .if1 .left))
+    _ _ _ (c .translate-text .ensures)
 
 pub map-leg-spec : {M : Type 1} → statement M
 map-leg-spec =

@@ -19,7 +19,13 @@ same-length : tie.Need-same-length
 same-length c = search needs
 
 returns : tie.Need-returns
-returns c = answering _ _ (call-as-it-is _ _ _ _ _ (c .before .before .before .before .before .before .validate-legs .ensures) _ (c .before .before .before .before .before .needs-maps .ensures) (c .before .before .before .before .if1 .taken)) _ _ _ (c .before .before .route-after .ensures)
+returns c =
+    let at-route-after = c .before .before in
+    let at-if1 = at-route-after .before .before in
+    let at-needs-maps = at-if1 .before in
+    let at-validate-legs = at-needs-maps .before in
+    answering _ _ (call-as-it-is _ _ _ _ _ (at-validate-legs .validate-legs .ensures) _ (at-needs-maps .needs-maps .ensures) (at-if1 .if1 .taken)) _ _
+    _ (at-route-after .route-after .ensures)
 
 slice-aggregate-prepare-legs : tie.Need-slice-aggregate-prepare-legs
 slice-aggregate-prepare-legs c = search needs
@@ -43,7 +49,14 @@ same-length-2 : tie.Need-same-length-2
 same-length-2 c = search needs
 
 returns-2 : tie.Need-returns-2
-returns-2 c = answering _ _ (call-prepared _ _ _ _ _ (c .before .before .before .before .before .before .before .before .before .before .before .before .before .validate-legs .ensures) _ refl (search needs) (search needs) (prepared-read _ _ _ _ _ (c .before .before .before .before .before .before .before .before .prepare-legs .ensures .0) (c .before .before .before .before .before .before .before .before .prepare-legs .ensures .1))) _ _ _ (c .before .before .route-after2 .ensures)
+returns-2 c =
+    answering _ _
+    (call-prepared _ _ _ _ _
+    (c .before .before .before .before .before .before .before .before .before .before .before .before .before .validate-legs .ensures) _ refl
+    (search needs) (search needs)
+    (prepared-read _ _ _ _ _ (c .before .before .before .before .before .before .before .before .prepare-legs .ensures .0)
+    (c .before .before .before .before .before .before .before .before .prepare-legs .ensures .1)))
+    _ _ _ (c .before .before .route-after2 .ensures)
 
 pub route-call-spec : {M : Type 1} → statement M
 route-call-spec =

@@ -9,7 +9,9 @@ slice-reshare-prefix-map-leg : tie.Need-slice-reshare-prefix-map-leg
 slice-reshare-prefix-map-leg c = search needs
 
 slice-aggregate-map-leg : tie.Need-slice-aggregate-map-leg
-slice-aggregate-map-leg c = part-size _ _ (omega (arith, c .before .before .before .before .before .pre .0, c .before .before .before .before .before .pre .1))
+slice-aggregate-map-leg c =
+    let at-start = c .before .before .before .before .before in
+    part-size _ _ (omega (arith, at-start .pre .0, at-start .pre .1))
 
 map-leg-requires : tie.Need-map-leg-requires
 map-leg-requires c κs = search needs
@@ -39,7 +41,12 @@ same-length-2 : tie.Need-same-length-2
 same-length-2 c = search needs
 
 returns-2 : tie.Need-returns-2
-returns-2 c = over-written _ _ _ _ _ _ (c .before .before .before .before .before .before .before .before .map-leg .ensures) _ (c .before .before .before .before .before .before .r .given .1) _ _ (c .before .before .before .before .before .before .before .before .before .before .before .before .before .before .before .pre .1) (c .before .before .write-at .ensures)
+returns-2 c =
+    let at-write-at = c .before .before in
+    let at-r = at-write-at .before .before .before .before in
+    let at-map-leg = at-r .before .before in
+    let at-start = at-map-leg .before .before .before .before .before .before .before in
+    over-written _ _ _ _ _ _ (at-map-leg .map-leg .ensures) _ (at-r .r .given .1) _ _ (at-start .pre .1) (at-write-at .write-at .ensures)
 
 pub run-legs-spec : {M : Type 1} → statement M
 run-legs-spec =

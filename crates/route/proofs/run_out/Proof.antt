@@ -33,7 +33,12 @@ same-length : tie.Need-same-length Inv-loop μ-loop
 same-length c = search needs
 
 returns : tie.Need-returns Inv-loop μ-loop
-returns c = out-stopped _ _ _ _ _ _ (c .before .before .before .before .before .before .before .loop .at) (c .before .before .before .before .before .before .before .loop .here) (c .before .before .before .before .before .before .before .loop .inv .3) _ _ (c .before .before .before .before .run-legs .ensures) (c .before .before .before .before .before .before .loop-test .taken) _ (c .enum-told .given .1)
+returns c =
+    let at-run-legs = c .before .before .before .before in
+    let at-loop-test = at-run-legs .before .before in
+    let at-loop = at-loop-test .before in
+    out-stopped _ _ _ _ _ _ (at-loop .loop .at) (at-loop .loop .here) (at-loop .loop .inv .3) _ _ (at-run-legs .run-legs .ensures)
+    (at-loop-test .loop-test .taken) _ (c .enum-told .given .1)
 
 add-k : tie.Need-add-k Inv-loop μ-loop
 add-k c = search needs
@@ -42,7 +47,15 @@ loop-less : tie.Need-loop-less Inv-loop μ-loop
 loop-less c = search needs
 
 loop-again : tie.Need-loop-again Inv-loop μ-loop
-loop-again c = (search needs, holds-size _ _ _ (c .before .before .before .before .before .run-legs .ensures) _ (c .before .r .given .1) (search needs), search needs, out-on _ _ _ _ _ _ (c .before .before .before .before .before .before .before .before .loop .at) (c .before .before .before .before .before .before .before .before .loop .here) (c .before .before .before .before .before .before .before .before .loop .inv .3) _ _ (c .before .before .before .before .before .run-legs .ensures) _ (c .before .r .given .1))
+loop-again c = (
+  search needs,
+  holds-size _ _ _ (c .before .before .before .before .before .run-legs .ensures) _ (c .before .r .given .1) (search needs),
+  search needs,
+  (let at-r = c .before in
+      let at-run-legs = at-r .before .before .before .before in
+      let at-loop = at-run-legs .before .before .before in
+      out-on _ _ _ _ _ _ (at-loop .loop .at) (at-loop .loop .here) (at-loop .loop .inv .3) _ _ (at-run-legs .run-legs .ensures) _ (at-r .r .given .1)),
+)
 
 same-length-2 : tie.Need-same-length-2 Inv-loop μ-loop
 same-length-2 c = search needs

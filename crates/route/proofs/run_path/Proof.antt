@@ -24,7 +24,10 @@ enum-told : tie.Need-enum-told
 enum-told c = search needs
 
 returns : tie.Need-returns
-returns c = run-refused _ _ _ _ _ _ (c .before .before .before .before .before .before .enter-route .ensures) _ _ (c .before .before .before .run-direction .ensures) _ (c .enum-told .given .1) _
+returns c =
+    let at-run-direction = c .before .before .before in
+    let at-enter-route = at-run-direction .before .before .before in
+    run-refused _ _ _ _ _ _ (at-enter-route .enter-route .ensures) _ _ (at-run-direction .run-direction .ensures) _ (c .enum-told .given .1) _
 
 array-share-prefix-here : tie.Need-array-share-prefix-here
 array-share-prefix-here c = holds-inside _ _ _ (c .before .before .before .before .run-direction .ensures) _ (c .before .r .given .1)
@@ -39,7 +42,12 @@ same-length : tie.Need-same-length
 same-length c = search needs
 
 returns-2 : tie.Need-returns-2
-returns-2 c = run-written _ _ _ _ _ _ (c .before .before .before .before .before .before .before .before .before .before .before .before .enter-route .ensures) _ _ (c .before .before .before .before .before .before .before .before .before .run-direction .ensures) _ (c .before .before .before .before .before .before .r .given .1) (search needs) _ _ (c .before .before .before .before .before .before .before .before .before .before .before .before .before .before .before .before .before .before .before .pre .1) (c .before .before .write-at .ensures)
+returns-2 c =
+    run-written _ _ _ _ _ _ (c .before .before .before .before .before .before .before .before .before .before .before .before .enter-route .ensures)
+    _ _ (c .before .before .before .before .before .before .before .before .before .run-direction .ensures) _
+    (c .before .before .before .before .before .before .r .given .1) (search needs) _ _
+    (c .before .before .before .before .before .before .before .before .before .before .before .before .before .before .before .before .before .before .before .pre .1)
+    (c .before .before .write-at .ensures)
 
 pub run-path-spec : {M : Type 1} → statement M
 run-path-spec =

@@ -28,7 +28,17 @@ loop-less : tie.Need-loop-less Inv-loop μ-loop
 loop-less c = search needs
 
 loop-again : tie.Need-loop-again Inv-loop μ-loop
-loop-again c = (search needs, copy-on _ _ _ _ _ (omega (arith, c .before .before .before .before .before .before .before .before .pre .0, c .before .before .before .before .loop-test .taken)) (omega (arith, c .before .before .before .before .before .before .before .before .pre .1, c .before .before .before .before .loop-test .taken, c .before .before .before .before .before .loop .inv .2)) (c .before .before .before .before .before .loop .inv .1) (c .before .before .copy-entry .ensures), search needs)
+loop-again c = (
+  search needs,
+  (let at-copy-entry = c .before .before in
+      let at-loop-test = at-copy-entry .before .before in
+      let at-loop = at-loop-test .before in
+      let at-start = at-loop .before .before .before in
+      copy-on _ _ _ _ _ (omega (arith, at-start .pre .0, at-loop-test .loop-test .taken))
+      (omega (arith, at-start .pre .1, at-loop-test .loop-test .taken, at-loop .loop .inv .2)) (at-loop .loop .inv .1)
+      (at-copy-entry .copy-entry .ensures)),
+  search needs,
+)
 
 same-length : tie.Need-same-length Inv-loop μ-loop
 same-length c = search needs

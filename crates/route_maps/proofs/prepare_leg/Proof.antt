@@ -57,7 +57,9 @@ mul-table-3 : tie.Need-mul-table-3
 mul-table-3 c = search needs
 
 slice-write-table-2 : tie.Need-slice-write-table-2
-slice-write-table-2 c = simp length-set (omega (arith, c .before .before .before .before .before .before .before .before .before .before .before .before .before .pre .0, c .before .before .before .before .before .before .before .before .before .before .before .before .before .pre .1 .1))
+slice-write-table-2 c =
+    let at-start = c .before .before .before .before .before .before .before .before .before .before .before .before .before in
+    simp length-set (omega (arith, at-start .pre .0, at-start .pre .1 .1))
 
 add-table-2 : tie.Need-add-table-2
 add-table-2 c = search needs
@@ -66,7 +68,9 @@ mul-table-4 : tie.Need-mul-table-4
 mul-table-4 c = search needs
 
 slice-write-table-3 : tie.Need-slice-write-table-3
-slice-write-table-3 c = simp length-set (omega (arith, c .before .before .before .before .before .before .before .before .before .before .before .before .before .pre .0, c .before .before .before .before .before .before .before .before .before .before .before .before .before .pre .1 .1))
+slice-write-table-3 c =
+    let at-start = c .before .before .before .before .before .before .before .before .before .before .before .before .before in
+    simp length-set (omega (arith, at-start .pre .0, at-start .pre .1 .1))
 
 same-length : tie.Need-same-length
 same-length c = search needs
@@ -76,13 +80,22 @@ same-length-2 c = search needs
 
 returns : tie.Need-returns
 returns c =
-    let k = c .before .before .before .before .before .before .before .kind-at .ensures in
-    let z = c .before .before .before .before .before .size-at .ensures in
-    let f = c .before .before .before .before .before .before .leg-places .ensures in
-    let p = c .before .before .before .before .before .before .before .before .before .before .before .before .before .pre in
-    let a = c .before .before .before .before .before .before .before .before .before .before .before .before .before .args in
-    let t = c .before .before .before .prepare-pairs .ensures in
-    (leg-placed _ (a .places .now) (a .legs .now) _ _ _ _ k z f _ (p .0) (p .1 .0) _ (t .1) (c .before .before .before .prepare-pairs .kept .1 .1 .1 .1 .0), leg-known _ (a .places .now) (a .legs .now) _ _ _ _ k z f _ (p .0) (p .1 .1) _ (c .map-kind .ensures) _ _ (part-room _ _ (p .0) (p .1 .0)) (t .0))
+    let at-prepare-pairs = c .before .before .before in
+    let at-size-at = at-prepare-pairs .before .before in
+    let at-leg-places = at-size-at .before in
+    let at-kind-at = at-leg-places .before in
+    let at-start = at-kind-at .before .before .before .before .before .before in
+    let args = at-start .args in
+    let pre = at-start .pre in
+    let k = at-kind-at .kind-at .ensures in
+    let z = at-size-at .size-at .ensures in
+    let f = at-leg-places .leg-places .ensures in
+    let t = at-prepare-pairs .prepare-pairs .ensures in (
+      leg-placed _ (args .places .now) (args .legs .now) _ _ _ _ k z f _ (pre .0) (pre .1 .0) _ (t .1)
+          (at-prepare-pairs .prepare-pairs .kept .1 .1 .1 .1 .0),
+      leg-known _ (args .places .now) (args .legs .now) _ _ _ _ k z f _ (pre .0) (pre .1 .1) _ (c .map-kind .ensures) _ _
+          (part-room _ _ (pre .0) (pre .1 .0)) (t .0),
+    )
 
 pub prepare-leg-spec : {M : Type 1} → statement M
 prepare-leg-spec =

@@ -28,7 +28,11 @@ loop-holds : tie.Need-loop-holds Inv-loop μ-loop
 loop-holds c = (search needs, c .before .if2 .left, c .if3 .left, places-none _ _, table-none _ _)
 
 prepare-leg-requires : tie.Need-prepare-leg-requires Inv-loop μ-loop
-prepare-leg-requires c κs = (omega (arith, c .before .before .loop-test .taken, c .before .before .before .before .before .before .if1 .left), (c .before .before .before .loop .inv .1, c .before .before .before .loop .inv .2))
+prepare-leg-requires c κs =
+    let at-loop-test = c .before .before in
+    let at-loop = at-loop-test .before in
+    let at-if1 = at-loop .before .before .before in
+    (omega (arith, at-loop-test .loop-test .taken, at-if1 .if1 .left), (at-loop .loop .inv .1, at-loop .loop .inv .2))
 
 add-k : tie.Need-add-k Inv-loop μ-loop
 add-k c = search needs
@@ -51,8 +55,12 @@ same-length-2 c = search needs
 
 returns-4 : tie.Need-returns-4 Inv-loop μ-loop
 returns-4 c =
-    let l = c .before .loop in
-    legs-end _ _ _ (c .before .before .before .before .if1 .left) (c .before .before .before .if2 .left) (c .before .before .if3 .left) _ (c .loop-test .left) (l .inv .0) _ _ (l .inv .3) (l .inv .4)
+    let at-loop = c .before in
+    let at-if3 = at-loop .before in
+    let at-if2 = at-if3 .before in
+    let at-if1 = at-if2 .before in
+    let l = at-loop .loop in
+    legs-end _ _ _ (at-if1 .if1 .left) (at-if2 .if2 .left) (at-if3 .if3 .left) _ (c .loop-test .left) (l .inv .0) _ _ (l .inv .3) (l .inv .4)
 
 pub prepare-legs-spec : {M : Type 1} → statement M
 prepare-legs-spec =

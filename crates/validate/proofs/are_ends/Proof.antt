@@ -23,7 +23,14 @@ all-ends-requires : tie.Need-all-ends-requires
 all-ends-requires c κs = search needs
 
 returns-3 : tie.Need-returns-3
-returns-3 c = list-passes isEnd _ _ _ _ _ _ (c .before .before .before .before .before .is-end .ensures) (c .before .before .before .before .if1 .left) _ (c .before .before .before .is-end2 .ensures) (c .before .before .if2 .left) _ (c .before .present-places .ensures) _ (c .all-ends .ensures)
+returns-3 c =
+    let at-present-places = c .before in
+    let at-if2 = at-present-places .before in
+    let at-is-end2 = at-if2 .before in
+    let at-if1 = at-is-end2 .before in
+    let at-is-end = at-if1 .before in
+    list-passes isEnd _ _ _ _ _ _ (at-is-end .is-end .ensures) (at-if1 .if1 .left) _ (at-is-end2 .is-end2 .ensures) (at-if2 .if2 .left) _
+    (at-present-places .present-places .ensures) _ (c .all-ends .ensures)
 
 pub are-ends-spec : {M : Type 1} → statement M
 are-ends-spec =

@@ -17,7 +17,14 @@ returns-2 : tie.Need-returns-2
 returns-2 c = second-fails legal _ _ _ _ _ _ (c .before .before .before .is-legal .ensures) (c .before .before .if1 .left) _ (c .before .is-legal2 .ensures) (c .if2 .taken)
 
 returns-3 : tie.Need-returns-3
-returns-3 c = list-legal _ _ _ _ (c .before .before .before .before .is-legal .ensures) (c .before .before .before .if1 .left) _ (c .before .before .is-legal2 .ensures) (c .before .if2 .left) _ (c .before .before .before .before .before .before .before .before .before .pre) (c .if3 .taken)
+returns-3 c =
+    let at-if2 = c .before in
+    let at-is-legal2 = at-if2 .before in
+    let at-if1 = at-is-legal2 .before in
+    let at-is-legal = at-if1 .before in
+    let at-start = at-is-legal .before .before .before .before .before in
+    list-legal _ _ _ _ (at-is-legal .is-legal .ensures) (at-if1 .if1 .left) _ (at-is-legal2 .is-legal2 .ensures) (at-if2 .if2 .left) _ (at-start .pre)
+    (c .if3 .taken)
 
 present-places-requires : tie.Need-present-places-requires
 present-places-requires c κs = search needs
@@ -26,7 +33,14 @@ all-legal-requires : tie.Need-all-legal-requires
 all-legal-requires c κs = search needs
 
 returns-4 : tie.Need-returns-4
-returns-4 c = list-passes legal _ _ _ _ _ _ (c .before .before .before .before .before .before .is-legal .ensures) (c .before .before .before .before .before .if1 .left) _ (c .before .before .before .before .is-legal2 .ensures) (c .before .before .before .if2 .left) _ (c .before .present-places .ensures) _ (c .all-legal .ensures)
+returns-4 c =
+    let at-present-places = c .before in
+    let at-if2 = at-present-places .before .before in
+    let at-is-legal2 = at-if2 .before in
+    let at-if1 = at-is-legal2 .before in
+    let at-is-legal = at-if1 .before in
+    list-passes legal _ _ _ _ _ _ (at-is-legal .is-legal .ensures) (at-if1 .if1 .left) _ (at-is-legal2 .is-legal2 .ensures) (at-if2 .if2 .left) _
+    (at-present-places .present-places .ensures) _ (c .all-legal .ensures)
 
 pub are-legal-spec : {M : Type 1} → statement M
 are-legal-spec =

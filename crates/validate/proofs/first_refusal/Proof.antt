@@ -28,10 +28,20 @@ rank-of-requires-2 : tie.Need-rank-of-requires-2
 rank-of-requires-2 c κs = search needs
 
 returns-3 : tie.Need-returns-3
-returns-3 c = earlier-first _ _ _ (c .before .before .before .before .before .before .before .a .given .1) _ (c .before .before .before .before .b .given .1) _ _ (c .before .before .rank-of .ensures) (c .before .rank-of2 .ensures) (c .if1 .taken)
+returns-3 c =
+    let at-rank-of2 = c .before in
+    let at-rank-of = at-rank-of2 .before in
+    let at-b = at-rank-of .before .before in
+    let at-a = at-b .before .before .before in
+    earlier-first _ _ _ (at-a .a .given .1) _ (at-b .b .given .1) _ _ (at-rank-of .rank-of .ensures) (at-rank-of2 .rank-of2 .ensures) (c .if1 .taken)
 
 returns-4 : tie.Need-returns-4
-returns-4 c = earlier-second _ _ _ (c .before .before .before .before .before .before .before .a .given .1) _ (c .before .before .before .before .b .given .1) _ _ (c .before .before .rank-of .ensures) (c .before .rank-of2 .ensures) (c .if1 .left)
+returns-4 c =
+    let at-rank-of2 = c .before in
+    let at-rank-of = at-rank-of2 .before in
+    let at-b = at-rank-of .before .before in
+    let at-a = at-b .before .before .before in
+    earlier-second _ _ _ (at-a .a .given .1) _ (at-b .b .given .1) _ _ (at-rank-of .rank-of .ensures) (at-rank-of2 .rank-of2 .ensures) (c .if1 .left)
 
 pub first-refusal-spec : {M : Type 1} → statement M
 first-refusal-spec =

@@ -19,7 +19,13 @@ first-failed-requires : tie.Need-first-failed-requires
 first-failed-requires c κs = search needs
 
 returns : tie.Need-returns
-returns c = one-list _ _ _ _ _ _ _ _ _ _ _ (c .before .before .before .before .are-short .ensures) (c .before .before .are-legal .ensures) (c .before .before .before .are-ends .ensures) (c .before .count-within-limit .ensures) _ (c .first-failed .ensures)
+returns c =
+    let at-count-within-limit = c .before in
+    let at-are-legal = at-count-within-limit .before in
+    let at-are-ends = at-are-legal .before in
+    let at-are-short = at-are-ends .before in
+    one-list _ _ _ _ _ _ _ _ _ _ _ (at-are-short .are-short .ensures) (at-are-legal .are-legal .ensures) (at-are-ends .are-ends .ensures)
+    (at-count-within-limit .count-within-limit .ensures) _ (c .first-failed .ensures)
 
 pub validate-call-spec : {M : Type 1} → statement M
 validate-call-spec =

@@ -47,7 +47,24 @@ first-failed-requires : tie.Need-first-failed-requires
 first-failed-requires c κs = search needs
 
 returns : tie.Need-returns
-returns c = two-lists _ _ _ _ _ _ _ refl _ _ _ _ _ _ _ _ _ _ _ _ (c .before .before .before .before .before .before .before .before .before .before .before .before .are-short .ensures) (c .before .before .before .before .before .before .before .before .before .before .before .are-short2 .ensures) (c .before .before .before .before .before .before .before .before .before .before .both .ensures) (c .before .before .before .before .before .before .before .are-legal .ensures) (c .before .before .before .before .before .before .are-legal2 .ensures) (c .before .before .before .before .before .both2 .ensures) (c .before .before .before .before .before .before .before .before .before .are-ends .ensures) (c .before .before .before .before .before .before .before .before .are-ends2 .ensures) (c .before .before .before .before .both3 .ensures) (c .before .before .before .count-within-limit .ensures) (c .before .before .count-within-limit2 .ensures) (c .before .both4 .ensures) _ (c .first-failed .ensures)
+returns c =
+    let at-both4 = c .before in
+    let at-count-within-limit2 = at-both4 .before in
+    let at-count-within-limit = at-count-within-limit2 .before in
+    let at-both3 = at-count-within-limit .before in
+    let at-both2 = at-both3 .before in
+    let at-are-legal2 = at-both2 .before in
+    let at-are-legal = at-are-legal2 .before in
+    let at-are-ends2 = at-are-legal .before in
+    let at-are-ends = at-are-ends2 .before in
+    let at-both = at-are-ends .before in
+    let at-are-short2 = at-both .before in
+    let at-are-short = at-are-short2 .before in
+    two-lists _ _ _ _ _ _ _ refl _ _ _ _ _ _ _ _ _ _ _ _ (at-are-short .are-short .ensures) (at-are-short2 .are-short2 .ensures)
+    (at-both .both .ensures) (at-are-legal .are-legal .ensures) (at-are-legal2 .are-legal2 .ensures) (at-both2 .both2 .ensures)
+    (at-are-ends .are-ends .ensures) (at-are-ends2 .are-ends2 .ensures) (at-both3 .both3 .ensures)
+    (at-count-within-limit .count-within-limit .ensures) (at-count-within-limit2 .count-within-limit2 .ensures) (at-both4 .both4 .ensures) _
+    (c .first-failed .ensures)
 
 pub validate-lists-spec : {M : Type 1} → statement M
 validate-lists-spec =

@@ -32,7 +32,14 @@ same-length-7 : tie.Need-same-length-7
 same-length-7 c = search needs
 
 returns : tie.Need-returns
-returns c = (c .reply-code .ensures ∙ ap replyCode (c .before .before .before .before .before .before .before .before .before .before .before .before .before .before .before .answer-whole .ensures .0), (c .before .before .before .before .before .before .before .before .before .before .before .before .before .before .before .answer-whole .ensures .1 .0, (c .before .before .before .before .before .before .before .before .before .before .before .before .before .before .before .answer-whole .ensures .1 .1 .0, c .before .before .before .before .before .before .before .before .before .before .before .before .before .before .before .answer-whole .ensures .1 .1 .1)))
+returns c =
+    let at-answer-whole = c .before .before .before .before .before .before .before .before .before .before .before .before .before .before .before in (
+      c .reply-code .ensures ∙ ap replyCode (at-answer-whole .answer-whole .ensures .0),
+      (
+        at-answer-whole .answer-whole .ensures .1 .0,
+        (at-answer-whole .answer-whole .ensures .1 .1 .0, at-answer-whole .answer-whole .ensures .1 .1 .1),
+      ),
+    )
 
 pub mudvizsor-frames-line-spec : {M : Type 1} → statement M
 mudvizsor-frames-line-spec =

@@ -22,8 +22,11 @@ same-length-2 c = search needs
 
 returns : tie.Need-returns
 returns c =
-    rw (← (c .before .before .before .before .before .before .before .before .before .before .map-from-numbers .ensures), ← (c .before .before .before .before .before .before .before .before .before .map-from-numbers2 .ensures), ← (c .before .before .before .before .before .before .compose .ensures .0))
-    (c .map-code .ensures .0, (c .before .before .before .before .before .before .compose .ensures .1 .0, (c .before .before .before .before .before .before .compose .ensures .1 .1, c .map-code .ensures .1)))
+    let at-compose = c .before .before .before .before .before .before in
+    let at-map-from-numbers2 = at-compose .before .before .before in
+    let at-map-from-numbers = at-map-from-numbers2 .before in
+    rw (← (at-map-from-numbers .map-from-numbers .ensures), ← (at-map-from-numbers2 .map-from-numbers2 .ensures), ← (at-compose .compose .ensures .0))
+    (c .map-code .ensures .0, (at-compose .compose .ensures .1 .0, (at-compose .compose .ensures .1 .1, c .map-code .ensures .1)))
 
 pub mudvizsor-map-compose-spec : {M : Type 1} → statement M
 mudvizsor-map-compose-spec =

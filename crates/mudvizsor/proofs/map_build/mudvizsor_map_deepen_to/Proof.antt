@@ -19,8 +19,10 @@ same-length-2 c = search needs
 
 returns : tie.Need-returns
 returns c =
-    rw (← (c .before .before .before .before .before .before .before .before .before .map-from-numbers .ensures), ← (c .before .before .before .before .before .before .deepen-to .ensures .0))
-    (c .map-code .ensures .0, (c .before .before .before .before .before .before .deepen-to .ensures .1 .0, (c .before .before .before .before .before .before .deepen-to .ensures .1 .1, c .map-code .ensures .1)))
+    let at-deepen-to = c .before .before .before .before .before .before in
+    let at-map-from-numbers = at-deepen-to .before .before .before in
+    rw (← (at-map-from-numbers .map-from-numbers .ensures), ← (at-deepen-to .deepen-to .ensures .0))
+    (c .map-code .ensures .0, (at-deepen-to .deepen-to .ensures .1 .0, (at-deepen-to .deepen-to .ensures .1 .1, c .map-code .ensures .1)))
 
 pub mudvizsor-map-deepen-to-spec : {M : Type 1} → statement M
 mudvizsor-map-deepen-to-spec =

@@ -16,8 +16,9 @@ same-length-2 c = search needs
 
 returns : tie.Need-returns
 returns c =
-    rw (← (c .before .before .before .before .before .before .from-pair .ensures .0))
-    (c .map-code .ensures .0, (c .before .before .before .before .before .before .from-pair .ensures .1 .0, (c .before .before .before .before .before .before .from-pair .ensures .1 .1, c .map-code .ensures .1)))
+    let at-from-pair = c .before .before .before .before .before .before in
+    rw (← (at-from-pair .from-pair .ensures .0))
+    (c .map-code .ensures .0, (at-from-pair .from-pair .ensures .1 .0, (at-from-pair .from-pair .ensures .1 .1, c .map-code .ensures .1)))
 
 pub mudvizsor-map-from-pair-spec : {M : Type 1} → statement M
 mudvizsor-map-from-pair-spec =

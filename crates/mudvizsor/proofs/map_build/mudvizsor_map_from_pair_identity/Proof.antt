@@ -16,8 +16,11 @@ same-length-2 c = search needs
 
 returns : tie.Need-returns
 returns c =
-    rw (← (c .before .before .before .before .before .before .from-pair-identity .ensures .0))
-    (c .map-code .ensures .0, (c .before .before .before .before .before .before .from-pair-identity .ensures .1 .0, (c .before .before .before .before .before .before .from-pair-identity .ensures .1 .1, c .map-code .ensures .1)))
+    let at-from-pair-identity = c .before .before .before .before .before .before in
+    rw (← (at-from-pair-identity .from-pair-identity .ensures .0)) (
+      c .map-code .ensures .0,
+      (at-from-pair-identity .from-pair-identity .ensures .1 .0, (at-from-pair-identity .from-pair-identity .ensures .1 .1, c .map-code .ensures .1)),
+    )
 
 pub mudvizsor-map-from-pair-identity-spec : {M : Type 1} → statement M
 mudvizsor-map-from-pair-identity-spec =

@@ -22,8 +22,17 @@ same-length-2 c = search needs
 
 returns : tie.Need-returns
 returns c =
-    rw (← (c .before .before .before .before .before .before .before .before .before .before .map-from-numbers .ensures), ← (c .before .before .before .before .before .before .before .before .before .map-from-numbers2 .ensures), ← (c .before .before .before .before .before .before .implied-class .ensures .0))
-    (c .map-code .ensures .0, (c .before .before .before .before .before .before .implied-class .ensures .1 .0, (c .before .before .before .before .before .before .implied-class .ensures .1 .1, c .map-code .ensures .1)))
+    let at-implied-class = c .before .before .before .before .before .before in
+    let at-map-from-numbers2 = at-implied-class .before .before .before in
+    let at-map-from-numbers = at-map-from-numbers2 .before in
+    rw (
+      ← (at-map-from-numbers .map-from-numbers .ensures),
+      ← (at-map-from-numbers2 .map-from-numbers2 .ensures),
+      ← (at-implied-class .implied-class .ensures .0),
+    ) (
+      c .map-code .ensures .0,
+      (at-implied-class .implied-class .ensures .1 .0, (at-implied-class .implied-class .ensures .1 .1, c .map-code .ensures .1)),
+    )
 
 pub mudvizsor-map-implied-class-spec : {M : Type 1} → statement M
 mudvizsor-map-implied-class-spec =

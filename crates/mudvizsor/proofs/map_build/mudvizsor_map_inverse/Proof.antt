@@ -19,8 +19,10 @@ same-length-2 c = search needs
 
 returns : tie.Need-returns
 returns c =
-    rw (← (c .before .before .before .before .before .before .before .before .before .map-from-numbers .ensures), ← (c .before .before .before .before .before .before .inverse .ensures .0))
-    (c .map-code .ensures .0, (c .before .before .before .before .before .before .inverse .ensures .1 .0, (c .before .before .before .before .before .before .inverse .ensures .1 .1, c .map-code .ensures .1)))
+    let at-inverse = c .before .before .before .before .before .before in
+    let at-map-from-numbers = at-inverse .before .before .before in
+    rw (← (at-map-from-numbers .map-from-numbers .ensures), ← (at-inverse .inverse .ensures .0))
+    (c .map-code .ensures .0, (at-inverse .inverse .ensures .1 .0, (at-inverse .inverse .ensures .1 .1, c .map-code .ensures .1)))
 
 pub mudvizsor-map-inverse-spec : {M : Type 1} → statement M
 mudvizsor-map-inverse-spec =

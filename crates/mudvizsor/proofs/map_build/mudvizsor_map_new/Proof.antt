@@ -16,8 +16,8 @@ same-length-2 c = search needs
 
 returns : tie.Need-returns
 returns c =
-    rw (← (c .before .before .before .before .before .before .new .ensures .0))
-    (c .map-code .ensures .0, (c .before .before .before .before .before .before .new .ensures .1 .0, (c .before .before .before .before .before .before .new .ensures .1 .1, c .map-code .ensures .1)))
+    let at-new = c .before .before .before .before .before .before in
+    rw (← (at-new .new .ensures .0)) (c .map-code .ensures .0, (at-new .new .ensures .1 .0, (at-new .new .ensures .1 .1, c .map-code .ensures .1)))
 
 pub mudvizsor-map-new-spec : {M : Type 1} → statement M
 mudvizsor-map-new-spec =

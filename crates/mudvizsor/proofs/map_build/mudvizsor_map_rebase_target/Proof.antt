@@ -19,8 +19,12 @@ same-length-2 c = search needs
 
 returns : tie.Need-returns
 returns c =
-    rw (← (c .before .before .before .before .before .before .before .before .before .map-from-numbers .ensures), ← (c .before .before .before .before .before .before .rebase-target .ensures .0))
-    (c .map-code .ensures .0, (c .before .before .before .before .before .before .rebase-target .ensures .1 .0, (c .before .before .before .before .before .before .rebase-target .ensures .1 .1, c .map-code .ensures .1)))
+    let at-rebase-target = c .before .before .before .before .before .before in
+    let at-map-from-numbers = at-rebase-target .before .before .before in
+    rw (← (at-map-from-numbers .map-from-numbers .ensures), ← (at-rebase-target .rebase-target .ensures .0)) (
+      c .map-code .ensures .0,
+      (at-rebase-target .rebase-target .ensures .1 .0, (at-rebase-target .rebase-target .ensures .1 .1, c .map-code .ensures .1)),
+    )
 
 pub mudvizsor-map-rebase-target-spec : {M : Type 1} → statement M
 mudvizsor-map-rebase-target-spec =

@@ -16,7 +16,12 @@ same-length : tie.Need-same-length
 same-length c = search needs
 
 returns : tie.Need-returns
-returns c = (c .reply-code .ensures ∙ ap replyCode (c .before .before .before .analyze-relocate-occurrences .ensures .0), rw (← (c .before .before .before .analyze-relocate-occurrences .ensures .0)) (c .before .before .before .analyze-relocate-occurrences .ensures .1))
+returns c =
+    let at-analyze-relocate-occurrences = c .before .before .before in (
+      c .reply-code .ensures ∙ ap replyCode (at-analyze-relocate-occurrences .analyze-relocate-occurrences .ensures .0),
+      rw (← (at-analyze-relocate-occurrences .analyze-relocate-occurrences .ensures .0))
+          (at-analyze-relocate-occurrences .analyze-relocate-occurrences .ensures .1),
+    )
 
 pub mudvizsor-analyze-relocate-occurrences-spec : {M : Type 1} → statement M
 mudvizsor-analyze-relocate-occurrences-spec =

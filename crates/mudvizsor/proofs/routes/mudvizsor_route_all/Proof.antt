@@ -17,7 +17,11 @@ same-length-2 : tie.Need-same-length-2
 same-length-2 c = search needs
 
 returns : tie.Need-returns
-returns c = (c .validation-code .ensures ∙ ap validationCode (c .before .before .before .before .before .route-all .ensures .0), (c .before .before .before .before .before .route-all .ensures .1 .0, c .before .before .before .before .before .route-all .ensures .1 .1))
+returns c =
+    let at-route-all = c .before .before .before .before .before in (
+      c .validation-code .ensures ∙ ap validationCode (at-route-all .route-all .ensures .0),
+      (at-route-all .route-all .ensures .1 .0, at-route-all .route-all .ensures .1 .1),
+    )
 
 pub mudvizsor-route-all-spec : {M : Type 1} → statement M
 mudvizsor-route-all-spec =

@@ -20,7 +20,16 @@ write-at-requires : tie.Need-write-at-requires Inv-loop μ-loop
 write-at-requires c κs = search needs
 
 loop-holds : tie.Need-loop-holds Inv-loop μ-loop
-loop-holds c = (search needs, c .before .before .before .before .before .before .before .before .before .pre .0, search needs, search needs, chain-begin _ _ _ _ _ _ _ (c .before .before .write-at .ensures) (c .before .before .before .before .before .before .before .before .before .pre .0) (c .before .before .before .before .before .before .before .before .before .pre .1))
+loop-holds c = (
+  search needs,
+  (let at-start = c .before .before .before .before .before .before .before .before .before in
+      at-start .pre .0),
+  search needs,
+  search needs,
+  (let at-write-at = c .before .before in
+      let at-start = at-write-at .before .before .before .before .before .before .before in
+      chain-begin _ _ _ _ _ _ _ (at-write-at .write-at .ensures) (at-start .pre .0) (at-start .pre .1)),
+)
 
 slice-reshare-prefix-replace-once : tie.Need-slice-reshare-prefix-replace-once Inv-loop μ-loop
 slice-reshare-prefix-replace-once c = search needs
@@ -41,7 +50,14 @@ same-length : tie.Need-same-length Inv-loop μ-loop
 same-length c = search needs
 
 returns : tie.Need-returns Inv-loop μ-loop
-returns c = (chain-still _ _ _ _ _ (c .before .before .before .before .before .before .before .loop .len) (c .before .before .before .before .before .before .before .loop .current) (c .before .before .before .before .before .before .before .loop .inv .4) (c .before .before .before .before .before .before .loop-test .taken) _ (c .before .before .before .replace-once .ensures .0) (c .enum-told .given .1), c .before .before .before .before .before .before .before .loop .inv .1)
+returns c =
+    let at-replace-once = c .before .before .before in
+    let at-loop-test = at-replace-once .before .before .before in
+    let at-loop = at-loop-test .before in (
+      chain-still _ _ _ _ _ (at-loop .loop .len) (at-loop .loop .current) (at-loop .loop .inv .4) (at-loop-test .loop-test .taken) _
+          (at-replace-once .replace-once .ensures .0) (c .enum-told .given .1),
+      at-loop .loop .inv .1,
+    )
 
 enum-known-s : tie.Need-enum-known-s Inv-loop μ-loop
 enum-known-s c = search needs
@@ -50,16 +66,36 @@ same-length-2 : tie.Need-same-length-2 Inv-loop μ-loop
 same-length-2 c = search needs
 
 returns-2 : tie.Need-returns-2 Inv-loop μ-loop
-returns-2 c = (chain-stopped _ _ _ _ _ (c .before .before .before .before .before .before .before .before .loop .len) (c .before .before .before .before .before .before .before .before .loop .current) (c .before .before .before .before .before .before .before .before .loop .inv .4) (c .before .before .before .before .before .before .before .loop-test .taken) _ (c .before .before .before .before .replace-once .ensures .0) _ (c .before .s .given .1), tt)
+returns-2 c =
+    let at-s = c .before in
+    let at-replace-once = at-s .before .before .before in
+    let at-loop-test = at-replace-once .before .before .before in
+    let at-loop = at-loop-test .before in (
+      chain-stopped _ _ _ _ _ (at-loop .loop .len) (at-loop .loop .current) (at-loop .loop .inv .4) (at-loop-test .loop-test .taken) _
+          (at-replace-once .replace-once .ensures .0) _ (at-s .s .given .1),
+      tt,
+    )
 
 enum-known-s-2 : tie.Need-enum-known-s-2 Inv-loop μ-loop
 enum-known-s-2 c = search needs
 
 array-share-prefix-made : tie.Need-array-share-prefix-made Inv-loop μ-loop
-array-share-prefix-made c = chain-inside _ _ _ _ _ (c .before .before .before .before .before .before .before .before .loop .len) (c .before .before .before .before .before .before .before .before .loop .current) (c .before .before .before .before .before .before .before .before .loop .inv .4) (c .before .before .before .before .before .before .before .loop-test .taken) _ (c .before .before .before .before .replace-once .ensures .0) _ (c .before .s2 .given .1) _ _ (c .before .before .before .before .replace-once .ensures .1) (c .before .before .before .before .before .before .before .before .loop .inv .3)
+array-share-prefix-made c =
+    let at-s2 = c .before in
+    let at-replace-once = at-s2 .before .before .before in
+    let at-loop-test = at-replace-once .before .before .before in
+    let at-loop = at-loop-test .before in
+    chain-inside _ _ _ _ _ (at-loop .loop .len) (at-loop .loop .current) (at-loop .loop .inv .4) (at-loop-test .loop-test .taken) _
+    (at-replace-once .replace-once .ensures .0) _ (at-s2 .s2 .given .1) _ _ (at-replace-once .replace-once .ensures .1) (at-loop .loop .inv .3)
 
 slice-aggregate-write-at : tie.Need-slice-aggregate-write-at Inv-loop μ-loop
-slice-aggregate-write-at c = chain-part _ _ _ _ _ (c .before .before .before .before .before .before .before .before .before .loop .len) (c .before .before .before .before .before .before .before .before .before .loop .current) (c .before .before .before .before .before .before .before .before .before .loop .inv .4) (c .before .before .before .before .before .before .before .before .loop-test .taken) _ (c .before .before .before .before .before .replace-once .ensures .0) _ (c .before .before .s2 .given .1) _ _ (c .before .before .before .before .before .replace-once .ensures .1) (c .before .before .before .before .before .before .before .before .before .loop .inv .3)
+slice-aggregate-write-at c =
+    let at-s2 = c .before .before in
+    let at-replace-once = at-s2 .before .before .before in
+    let at-loop-test = at-replace-once .before .before .before in
+    let at-loop = at-loop-test .before in
+    chain-part _ _ _ _ _ (at-loop .loop .len) (at-loop .loop .current) (at-loop .loop .inv .4) (at-loop-test .loop-test .taken) _
+    (at-replace-once .replace-once .ensures .0) _ (at-s2 .s2 .given .1) _ _ (at-replace-once .replace-once .ensures .1) (at-loop .loop .inv .3)
 
 write-at-requires-2 : tie.Need-write-at-requires-2 Inv-loop μ-loop
 write-at-requires-2 c κs = search needs
@@ -71,7 +107,25 @@ loop-less : tie.Need-loop-less Inv-loop μ-loop
 loop-less c = search needs
 
 loop-again : tie.Need-loop-again Inv-loop μ-loop
-loop-again c = (search needs, chain-short _ _ _ _ _ (c .before .before .before .before .before .before .before .before .before .before .before .before .before .loop .len) (c .before .before .before .before .before .before .before .before .before .before .before .before .before .loop .current) (c .before .before .before .before .before .before .before .before .before .before .before .before .before .loop .inv .4) (c .before .before .before .before .before .before .before .before .before .before .before .before .loop-test .taken) _ (c .before .before .before .before .before .before .before .before .before .replace-once .ensures .0) _ (c .before .before .before .before .before .before .s2 .given .1), search needs, search needs, chain-on _ _ _ _ _ (c .before .before .before .before .before .before .before .before .before .before .before .before .before .loop .len) (c .before .before .before .before .before .before .before .before .before .before .before .before .before .loop .current) (c .before .before .before .before .before .before .before .before .before .before .before .before .before .loop .inv .4) (c .before .before .before .before .before .before .before .before .before .before .before .before .loop-test .taken) _ (c .before .before .before .before .before .before .before .before .before .replace-once .ensures .0) _ (c .before .before .before .before .before .before .s2 .given .1) _ _ (c .before .before .before .before .before .before .before .before .before .replace-once .ensures .1) (c .before .before .before .before .before .before .before .before .before .before .before .before .before .loop .inv .3) _ (c .before .before .write-at2 .ensures) (c .before .before .before .before .before .before .before .before .before .before .before .before .before .loop .inv .2))
+loop-again c = (
+  search needs,
+  (let at-s2 = c .before .before .before .before .before .before in
+      let at-replace-once = at-s2 .before .before .before in
+      let at-loop-test = at-replace-once .before .before .before in
+      let at-loop = at-loop-test .before in
+      chain-short _ _ _ _ _ (at-loop .loop .len) (at-loop .loop .current) (at-loop .loop .inv .4) (at-loop-test .loop-test .taken) _
+      (at-replace-once .replace-once .ensures .0) _ (at-s2 .s2 .given .1)),
+  search needs,
+  search needs,
+  (let at-write-at2 = c .before .before in
+      let at-s2 = at-write-at2 .before .before .before .before in
+      let at-replace-once = at-s2 .before .before .before in
+      let at-loop-test = at-replace-once .before .before .before in
+      let at-loop = at-loop-test .before in
+      chain-on _ _ _ _ _ (at-loop .loop .len) (at-loop .loop .current) (at-loop .loop .inv .4) (at-loop-test .loop-test .taken) _
+      (at-replace-once .replace-once .ensures .0) _ (at-s2 .s2 .given .1) _ _ (at-replace-once .replace-once .ensures .1) (at-loop .loop .inv .3) _
+      (at-write-at2 .write-at2 .ensures) (at-loop .loop .inv .2)),
+)
 
 same-length-3 : tie.Need-same-length-3 Inv-loop μ-loop
 same-length-3 c = search needs

@@ -38,7 +38,16 @@ loop-less : tie.Need-loop-less Inv-loop μ-loop
 loop-less c = search (needs, searching)
 
 loop-again : tie.Need-loop-again Inv-loop μ-loop
-loop-again c = (search needs, source-on _ _ _ _ _ _ _ _ _ _ (c .before .before .before .before .before .loop .inv .1) (c .before .before .before .before .loop-test .taken) (c .before .before .before .key-at .ensures) (c .before .before .key-at2 .ensures) (c .before .is-candidate .ensures) (c .consider-source .ensures))
+loop-again c = (
+  search needs,
+  (let at-is-candidate = c .before in
+      let at-key-at2 = at-is-candidate .before in
+      let at-key-at = at-key-at2 .before in
+      let at-loop-test = at-key-at .before in
+      let at-loop = at-loop-test .before in
+      source-on _ _ _ _ _ _ _ _ _ _ (at-loop .loop .inv .1) (at-loop-test .loop-test .taken) (at-key-at .key-at .ensures) (at-key-at2 .key-at2 .ensures)
+      (at-is-candidate .is-candidate .ensures) (c .consider-source .ensures)),
+)
 
 returns : tie.Need-returns Inv-loop μ-loop
 unfolding sourceBelow longestSource

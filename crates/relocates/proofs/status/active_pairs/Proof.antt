@@ -33,14 +33,21 @@ loop-holds : tie.Need-loop-holds Inv-loop μ-loop
 loop-holds c = (search needs, active-none _ _ _ _, refl)
 
 array-read-keep-active : tie.Need-array-read-keep-active Inv-loop μ-loop
-array-read-keep-active c = omega (arith, select-few _ _ _ _ (c .before .before .before .before .before .before .can-select .ensures) (c .before .before .before .before .before .if1 .left))
+array-read-keep-active c =
+    let at-if1 = c .before .before .before .before .before in
+    let at-can-select = at-if1 .before in
+    omega (arith, select-few _ _ _ _ (at-can-select .can-select .ensures) (at-if1 .if1 .left))
 
 keep-active-requires : tie.Need-keep-active-requires Inv-loop μ-loop
 keep-active-requires c κs =
-    let l = c .before .before .loop in
-    let m = c .before .before .before .before .before .before .before .can-select .ensures in
-    let y = c .before .before .before .before .before .before .if1 .left in
-    omega (arith, c .before .loop-test .taken, active-few _ _ _ _ _ _ _ (l .inv .1), l .inv .2, select-few _ _ _ _ m y, select-room _ _ _ _ m y)
+    let at-loop-test = c .before in
+    let at-loop = at-loop-test .before in
+    let at-if1 = at-loop .before .before .before .before in
+    let at-can-select = at-if1 .before in
+    let l = at-loop .loop in
+    let m = at-can-select .can-select .ensures in
+    let y = at-if1 .if1 .left in
+    omega (arith, at-loop-test .loop-test .taken, active-few _ _ _ _ _ _ _ (l .inv .1), l .inv .2, select-few _ _ _ _ m y, select-room _ _ _ _ m y)
 
 add-i : tie.Need-add-i Inv-loop μ-loop
 add-i c = search needs
@@ -59,7 +66,12 @@ same-length : tie.Need-same-length Inv-loop μ-loop
 same-length c = search needs
 
 returns-2 : tie.Need-returns-2 Inv-loop μ-loop
-returns-2 c = active-end _ _ _ _ _ (c .before .before .before .before .before .before .can-select .ensures) (c .before .before .before .before .before .if1 .left) _ _ _ (c .loop-test .left) (c .before .loop .inv .0) (c .before .loop .inv .1)
+returns-2 c =
+    let at-loop = c .before in
+    let at-if1 = at-loop .before .before .before .before in
+    let at-can-select = at-if1 .before in
+    active-end _ _ _ _ _ (at-can-select .can-select .ensures) (at-if1 .if1 .left) _ _ _ (c .loop-test .left) (at-loop .loop .inv .0)
+    (at-loop .loop .inv .1)
 
 pub active-pairs-spec : {M : Type 1} → statement M
 active-pairs-spec =

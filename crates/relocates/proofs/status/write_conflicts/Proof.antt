@@ -39,7 +39,14 @@ pairs-less : tie.Need-pairs-less Inv-loop μ-loop Inv-pairs μ-pairs
 pairs-less c = search needs
 
 pairs-again : tie.Need-pairs-again Inv-loop μ-loop Inv-pairs μ-pairs
-pairs-again c = (search needs, search needs, settle-dropped _ _ _ _ _ (c .before .before .before .before .before .before .before .pre .1) _ (c .before .before .pairs-test .taken) _ (c .before .before .before .pairs .inv .2) (c .before .before .before .before .before .before .before .pre .0 .1) (c .if1 .taken))
+pairs-again c = (
+  search needs,
+  search needs,
+  (let at-pairs-test = c .before .before in
+      let at-pairs = at-pairs-test .before in
+      let at-start = at-pairs .before .before .before .before in
+      settle-dropped _ _ _ _ _ (at-start .pre .1) _ (at-pairs-test .pairs-test .taken) _ (at-pairs .pairs .inv .2) (at-start .pre .0 .1) (c .if1 .taken)),
+)
 
 loop-holds : tie.Need-loop-holds Inv-loop μ-loop Inv-pairs μ-pairs
 loop-holds c = (refl, search needs, refl, refl, some-none _)
@@ -64,7 +71,23 @@ pairs-less-2 : tie.Need-pairs-less-2 Inv-loop μ-loop Inv-pairs μ-pairs
 pairs-less-2 c = search needs
 
 pairs-again-2 : tie.Need-pairs-again-2 Inv-loop μ-loop Inv-pairs μ-pairs
-pairs-again-2 c = (search needs, simp length-set (c .before .before .before .before .before .loop .inv .2 ∙ c .before .before .before .before .before .before .before .before .before .pairs .inv .1), settle-conflict _ _ _ _ _ (c .before .before .before .before .before .before .before .before .before .before .before .before .before .pre .1) _ (c .before .before .before .before .before .before .before .before .pairs-test .taken) _ (c .before .before .before .before .before .before .before .before .before .pairs .inv .2) (c .before .before .before .before .before .before .before .before .before .before .before .before .before .pre .0 .1) (c .before .before .before .before .before .before .if1 .left) _ _ _ _ (c .before .before .before .before .before .loop .inv .0) (c .before .before .before .before .before .loop .inv .3) (c .before .before .before .before .loop-test .taken) _ (c .before .before .conflicts-with .ensures) (c .before .if2 .taken) (c .status-byte .ensures))
+pairs-again-2 c = (
+  search needs,
+  (let at-loop = c .before .before .before .before .before in
+      let at-pairs = at-loop .before .before .before .before in
+      simp length-set (at-loop .loop .inv .2 ∙ at-pairs .pairs .inv .1)),
+  (let at-if2 = c .before in
+      let at-conflicts-with = at-if2 .before in
+      let at-loop-test = at-conflicts-with .before .before in
+      let at-loop = at-loop-test .before in
+      let at-if1 = at-loop .before in
+      let at-pairs-test = at-if1 .before .before in
+      let at-pairs = at-pairs-test .before in
+      let at-start = at-pairs .before .before .before .before in
+      settle-conflict _ _ _ _ _ (at-start .pre .1) _ (at-pairs-test .pairs-test .taken) _ (at-pairs .pairs .inv .2) (at-start .pre .0 .1)
+      (at-if1 .if1 .left) _ _ _ _ (at-loop .loop .inv .0) (at-loop .loop .inv .3) (at-loop-test .loop-test .taken) _
+      (at-conflicts-with .conflicts-with .ensures) (at-if2 .if2 .taken) (c .status-byte .ensures)),
+)
 
 add-j : tie.Need-add-j Inv-loop μ-loop Inv-pairs μ-pairs
 add-j c = search needs
@@ -88,7 +111,19 @@ pairs-less-3 : tie.Need-pairs-less-3 Inv-loop μ-loop Inv-pairs μ-pairs
 pairs-less-3 c = search needs
 
 pairs-again-3 : tie.Need-pairs-again-3 Inv-loop μ-loop Inv-pairs μ-pairs
-pairs-again-3 c = (search needs, simp length-set (c .before .before .loop .inv .2 ∙ c .before .before .before .before .before .before .pairs .inv .1), settle-active _ _ _ _ _ (c .before .before .before .before .before .before .before .before .before .before .pre .1) _ (c .before .before .before .before .before .pairs-test .taken) _ (c .before .before .before .before .before .before .pairs .inv .2) (c .before .before .before .before .before .before .before .before .before .before .pre .0 .1) (c .before .before .before .if1 .left) _ _ _ _ (c .before .before .loop .inv .0) (c .before .before .loop .inv .3) (c .before .loop-test .left) (c .before .before .loop .inv .1) (c .before .before .loop .inv .4) (c .status-byte2 .ensures))
+pairs-again-3 c = (
+  search needs,
+  simp length-set (c .before .before .loop .inv .2 ∙ c .before .before .before .before .before .before .pairs .inv .1),
+  (let at-loop-test = c .before in
+      let at-loop = at-loop-test .before in
+      let at-if1 = at-loop .before in
+      let at-pairs-test = at-if1 .before .before in
+      let at-pairs = at-pairs-test .before in
+      let at-start = at-pairs .before .before .before .before in
+      settle-active _ _ _ _ _ (at-start .pre .1) _ (at-pairs-test .pairs-test .taken) _ (at-pairs .pairs .inv .2) (at-start .pre .0 .1)
+      (at-if1 .if1 .left) _ _ _ _ (at-loop .loop .inv .0) (at-loop .loop .inv .3) (at-loop-test .loop-test .left) (at-loop .loop .inv .1)
+      (at-loop .loop .inv .4) (c .status-byte2 .ensures)),
+)
 
 same-length : tie.Need-same-length Inv-loop μ-loop Inv-pairs μ-pairs
 same-length c = search needs
