@@ -1,4 +1,4 @@
--- Lemmas about one float: what `is_finite`, `is_small` and `bitPattern` compute.
+-- Lemmas about one float: what `is_finite`, `is_small` and `pattern` compute.
 use mathlib.Core.Path.{_≡_, refl, sym, ap, _∙_, subst}
 use mathlib.Core.Bool.{Bool, true, false, not, false≢true}
 use Prim.Native.Nat.{ℕ, _+_, _*_, _<_}
@@ -61,7 +61,7 @@ pub not-above-lower : (x : Float) → lt (neg tolerance) x ≡ false → lt (neg
 unfolding isSmall neg
 not-above-lower x k = not-above _ _ (omega arith) x k
 
--- Lemmas for `bitPattern`: only a NaN differs from itself.
+-- Lemmas for `pattern`: only a NaN differs from itself.
 pub pattern-nan : (x : Float) → ne x x ≡ true → 0x7ff8_0000_0000_0000 ≡ bitPattern x
 unfolding toBits
 pattern-nan x h = rw (differs-from-itself x (subst T (sym h) tt))

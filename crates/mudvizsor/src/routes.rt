@@ -40,7 +40,7 @@ pub extern "C" fn mudvizsor_route_home(
     ffi_values::reply_code(route::route_home(store, places, legs, count, path, out))
 }
 
-// Maps n paths out over the legs, or home if `mapBackChecked` is set, each into its 255 bytes of out, with its reply in
+// Maps n paths out over the legs, or home if `home` is set, each into its 255 bytes of out, with its reply in
 // replies.
 #[no_mangle]
 pub extern "C" fn mudvizsor_route_all(

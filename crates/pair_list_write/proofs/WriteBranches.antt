@@ -117,7 +117,7 @@ places-snoc at (y ∷ l) x =
     let z : n + endBytes l ≡ at + (length (y .source) + length (y .target) + endBytes l) = omega arith in
     rw (places-snoc n l x, z) refl
 
--- Lemmas for `append_list`, which writes after `initialState` bytes of the buffer o.
+-- Lemmas for `append_list`, which writes after `at` bytes of the buffer o.
 module _ (store : Text) (places : List ℕ) where
   pub source-key : (i : ℕ) → (pairIn store places i) .source ≡ keyAt store places false i
   unfolding pairIn

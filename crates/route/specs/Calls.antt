@@ -7,7 +7,7 @@ use Rattle.refusal.specs.Outcome.{Outcome, afterChecks}
 use Rattle.route_spec.specs.Route.{runRoute}
 use Rattle.route_legs.specs.LentRoute.{LentRoute, legsIn, validateRoute}
 
--- The outcome of mapping a path out over a route, or home if `mapBackChecked` is set.
+-- The outcome of mapping a path out over a route, or home if `home` is set.
 unfoldable pub routeCall : Bool → LentRoute → Text → ℕ → Outcome
 unfolding validateRoute afterChecks runRoute legsIn
 routeCall home r p room = afterChecks (validateRoute r (p ∷ [])) room (runRoute home (legsIn r (r .count)) p)

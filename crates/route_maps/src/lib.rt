@@ -111,7 +111,7 @@ fn prepare_leg(
     table[j + 2] = w;
 }
 
-// Prepares the maps of the first n legs: `checked`, of 4,096 entries, receives the places of their pairs,
+// Prepares the maps of the first n legs: `made`, of 4,096 entries, receives the places of their pairs,
 // `table`, of 48, their numbers.
 pub fn prepare_legs(
     store: &[u8],
