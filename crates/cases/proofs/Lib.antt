@@ -1,3 +1,9 @@
 -- The lemmas and theorems of this crate.
+pub mod Tell
 pub mod Table
 pub mod Wrong
+pub mod WrongPaths
+pub mod WrongTimes
+pub mod WrongMaps
+pub mod WrongRelocates
+pub mod WrongFrames

@@ -1,7 +1,6 @@
 -- The table of cases of the requirements: every row marked P, as a statement about the definitions. proofs/Table.antt proves the whole
 -- table.
 use mathlib.Core.Path.{_≡_}
-use mathlib.Core.Bool.{true, false}
 use mathlib.Core.List.{List, [], _∷_}
 use mathlib.Core.Option.{none}
 use Prim.Native.Nat.{ℕ}
@@ -19,6 +18,7 @@ use Rattle.map_spec.specs.Derive.{deepenTo}
 use Rattle.map_spec.specs.Leg.{translateChecked, mapBackChecked}
 use Rattle.relocates.specs.Status.{statusList}
 use Rattle.relocate_chain.specs.Chain.{chained, chain}
+use Rattle.cases.specs.Lent.{stringPair, unmarkedMap, markedMap, conflicting, rotating}
 
 -- Replacing a prefix by another, with 255 bytes lent.
 unfoldable pub replace : String → String → String → Outcome
@@ -29,18 +29,6 @@ replace p s t = replacePrefixCall (bytes p) (bytes s) (bytes t) 255
 unfoldable pub stripString : String → Outcome
 unfolding stripCall
 stripString p = stripCall (bytes p) 255
-
--- A pair of texts.
-abbrev pub stringPair : String → String → Pair
-stringPair s t = record { source = bytes s; target = bytes t }
-
--- A map without the mark.
-abbrev pub unmarkedMap : List Pair → Map
-unmarkedMap l = record { pairs = l; mark = false }
-
--- A map with the mark.
-abbrev pub markedMap : List Pair → Map
-markedMap l = record { pairs = l; mark = true }
 
 -- A path mapped plainly from source to target.
 unfoldable pub mapOut : Map → String → Outcome
@@ -69,14 +57,6 @@ outer = unmarkedMap (stringPair "/X/B/C" "/Z" ∷ stringPair "/Y" "/W" ∷ [])
 unfoldable pub statusBytesOf : List Pair → List ℕ
 unfolding statusList
 statusBytesOf l = statusList l (length l)
-
--- A relocate list whose pairs all conflict.
-abbrev pub conflicting : List Pair
-conflicting = stringPair "/R/a" "/R/b" ∷ stringPair "/R/c" "/R/b" ∷ stringPair "/R/b" "/R/d" ∷ []
-
--- A relocate list of two Active pairs along which a path chains twice.
-abbrev pub rotating : List Pair
-rotating = stringPair "/R/a/b" "/R/c" ∷ stringPair "/R/c/d" "/R/a" ∷ []
 
 -- The rows of the table; each comment is the row's text.
 pub record Table : Type 0 where

@@ -1,10 +1,8 @@
 -- Requirements: "It must be shown that these fail". Each wrong tool is a function beside the definition that it would have to meet, with an
 -- input for which the two differ; proofs/Wrong.antt proves that they differ. Demand 2 requires the results that the definitions yield,
--- demand 3 the round trip. The invented answer to 07 concerns the program `frames` and is not here.
-use mathlib.Core.Path.{_≡_}
-use mathlib.Core.Logic.{_≢_, _↔_}
-use mathlib.Core.Bool.{true}
-use mathlib.Core.List.{List, [], _∷_, reverse}
+-- demand 3 the round trip, whose two halves are those of crates/route_spec/specs/Route.antt.
+use mathlib.Core.Logic.{_≢_}
+use mathlib.Core.List.{List, [], _∷_, _++_}
 use mathlib.Core.Option.{Option, none}
 use Prim.Native.Nat.{ℕ}
 use lib.ListN.{replicate}
@@ -12,13 +10,14 @@ use Rattle.text.specs.Text.{Text, bytes}
 use Rattle.refusal.specs.declared.Refusal.the-variants.{NoRoom, NoPath}
 use Rattle.refusal.specs.Outcome.{Outcome, path, refused, outcomeBuffer}
 use Rattle.path_derive.specs.Calls.{replacePrefixCall}
-use Rattle.pair_list.specs.Pair.{Pair, noEmptySource}
+use Rattle.pair_list.specs.Pair.{Pair}
 use Rattle.map_spec.specs.Map.{Map}
-use Rattle.map_spec.specs.Leg.{translateChecked, mapBackChecked, SelectionFreePath, PlainRoundTrip}
+use Rattle.map_spec.specs.Leg.{translateChecked, mapBackChecked}
 use Rattle.relocate_chain.specs.Chain.{Chained, chained, stopped, chain}
-use Rattle.route_spec.specs.Leg.{Leg, by-map, legMap, legEnds, outward}
-use Rattle.route_spec.specs.Route.{andThen, foldLegs, trace}
-use Rattle.cases.specs.Table.{stringPair, unmarkedMap, rotating}
+use Rattle.route_spec.specs.Leg.{Leg, by-map, outward}
+use Rattle.route_spec.specs.Route.{andThen, foldLegs, HomeAgain, AlwaysReturns}
+use Rattle.frames_spec.specs.Input.{output}
+use Rattle.cases.specs.Lent.{stringPair, unmarkedMap, rotating}
 
 -- The tool and the definition differ on the input x.
 abbrev pub DiffersAt : {A B : Type 0} → (A → B) → (A → B) → A → Type 0
@@ -60,18 +59,6 @@ fiveToAll p s t room = refused NoRoom
 abbrev pub writesNothing : Outcome → Text → Text
 writesNothing o out = out
 
--- The first half of the round-trip requirement (`Returns` in crates/route_spec/specs/Route.antt), for any functions that map out and home.
-abbrev pub ReturnsHome : (Leg → Text → Outcome) → (Leg → Text → Outcome) → Type 0
-ReturnsHome goes comes =
-    (legs : List Leg) (p q : Text) → foldLegs goes legs p ≡ path q
-    → (foldLegs comes (reverse legs) q ≡ path p) × (trace comes (reverse legs) q ≡ reverse (trace goes legs p))
-
--- The second half of the round-trip requirement, for any function that maps out.
-abbrev pub GivesExactly : (Leg → Text → Outcome) → Type 0
-GivesExactly goes =
-    (x : Leg) (r : Text) → legEnds x ≡ true → SelectionFreePath r → noEmptySource ((legMap x) .pairs) ≡ true
-    → (q : Text) → (goes x r ≡ path q) ↔ PlainRoundTrip (legMap x) r q
-
 -- The map of `/A`→`/B`.
 abbrev pub aToB : Map
 aToB = unmarkedMap (stringPair "/A" "/B" ∷ [])
@@ -89,14 +76,14 @@ pub record WrongTools : Type 0 where
   -- Returning each path unmoved fails demand 2; it meets the first half of demand 3, but not the second.
   pub unmoved-out : DiffersAt (unmoved aToB) (translateChecked aToB) (bytes "/A/D")
   pub unmoved-home : DiffersAt (unmoved aToB) (mapBackChecked aToB) (bytes "/B/D")
-  pub unmoved-returns : ReturnsHome unmoved unmoved
-  pub unmoved-inexact : GivesExactly unmoved → ⊥
+  pub unmoved-returns : (legs : List Leg) (p : Text) → HomeAgain unmoved unmoved legs p
+  pub unmoved-fails : AlwaysReturns unmoved unmoved → ⊥
   -- Always returning "no path" fails demand 2 and the second half of demand 3; the first half requires nothing of a tool that yields no
   -- path.
   pub no-path-out : DiffersAt (noPath aToB) (translateChecked aToB) (bytes "/A/D")
   pub no-path-home : DiffersAt (noPath aToB) (mapBackChecked aToB) (bytes "/B/D")
-  pub no-path-returns : ReturnsHome noPath noPath
-  pub no-path-inexact : GivesExactly noPath → ⊥
+  pub no-path-returns : (legs : List Leg) (p : Text) → HomeAgain noPath noPath legs p
+  pub no-path-fails : AlwaysReturns noPath noPath → ⊥
   -- Always returning `/` fails demand 2.
   pub root-out : DiffersAt (rootToAll aToB) (translateChecked aToB) (bytes "/A/D")
   pub root-home : DiffersAt (rootToAll aToB) (mapBackChecked aToB) (bytes "/B/D")
@@ -104,6 +91,8 @@ pub record WrongTools : Type 0 where
   pub first-only : DiffersAt (firstLegOnly outward aToBToC) (foldLegs outward aToBToC) (bytes "/A/D")
   -- An invented step count fails the chaining definition, whatever the count is, unless it is the right one.
   pub invented-steps : (k : ℕ) → k ≢ 2 → DiffersAt (inventedSteps k none rotating) (chain none rotating) (bytes "/R/a/b/d/b/d")
+  -- An invented answer to 07 fails its definition from the input, whatever the answer is, unless it is the right one.
+  pub invented-count : (answer : Text) → answer ≢ bytes "870000000001\n" → output (bytes "052F41\n07\n") ≢ bytes "85002F41\n" ++ answer
   -- Always refusing with 5 fails question 5: 255 bytes are enough.
   pub five-to-all : DiffersAt (fiveToAll (bytes "/A/D") (bytes "/A") (bytes "/B")) (replacePrefixCall (bytes "/A/D") (bytes "/A") (bytes "/B")) 255
   -- Writing nothing fails demand 2: the bytes of the result must be written.

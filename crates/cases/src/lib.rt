@@ -1,2 +1,3 @@
-// The table of cases and the wrong tools of the requirements, as theorems only: specs/Table.antt and
-// specs/Wrong.antt have the statements, the files of the same names in proofs/ the proofs.
+// The table of cases, the wrong tools of the requirements, and for each call an answer that a wrong tool might
+// give, with its input; theorems only. The files of specs/ have the statements, those of the same names in
+// proofs/ the proofs.

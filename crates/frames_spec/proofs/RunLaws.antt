@@ -26,7 +26,7 @@ use Rattle.validate.proofs.PassedLaws.{text-end, second-end}
 use Rattle.map_spec.specs.Leg.{SelectionFreePath}
 use Rattle.route_spec.specs.Leg.{Leg, legEnds, closedLeg, countedPairs}
 use Rattle.route_spec.specs.Route.{routeEnds, runRoute}
-use Rattle.route_spec.proofs.Theorem.{round-trip, run-next}
+use Rattle.route_spec.proofs.Theorem.{run-returns, run-next}
 use Rattle.route_spec.proofs.RelocateLaws.{closed-ends}
 use Rattle.frames_spec.specs.Frame.{Frame, pair, statuses, close-map, close-relocates, out, home, count}
 use Rattle.frames_spec.specs.State.{State, initialState, success, refusal, refuse, hasPairRoom, withPair, addPair, hasLegRoom, hasByteRoom, withClosedLeg, closeList, closeOpened, routePath, outcomeAnswer, countUp, countOutcome, answerOut, bigEndian32, stepFrame}
@@ -227,7 +227,7 @@ module _ (st : State) (k : Kept st) (p q : Text) (plain : hasVariantSelection p 
       let d : SelectionFreePath q = run-next (st .legs) p q (k .leg-ends) c (w .1) in
       passed-routes true st′ q (new-passed q (d .is-short) (d .is-legal))
       ∙ ap (λ (l : List Leg). runRoute true l q) same
-      ∙ (round-trip (st .legs) p (k .leg-ends) c) .home-again q (w .1) .0
+      ∙ run-returns (st .legs) p q (k .leg-ends) c (w .1)
 
 -- A refused frame leaves the state unchanged.
 success-refused : (q : Text) (x : Refusal) → success q ≡ refusal x → ⊥

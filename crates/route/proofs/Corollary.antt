@@ -26,7 +26,7 @@ use Rattle.map_spec.specs.Leg.{SelectionFreePath, PlainRoundTrip}
 use Rattle.map_spec.proofs.OutcomeLaws.{no-path}
 use Rattle.route_spec.specs.Leg.{Leg, legMap, legEnds, outward}
 use Rattle.route_spec.specs.Route.{foldLegs, routeEnds, runRoute}
-use Rattle.route_spec.proofs.Theorem.{round-trip, run-next, step-exact}
+use Rattle.route_spec.proofs.Theorem.{run-returns, run-next, step-exact}
 use Rattle.route_legs.specs.LentRoute.{LentRoute, listAt, legAt, legsIn, validateRoute}
 use Rattle.route_legs.proofs.RouteLaws.{route-one-by-one, route-ends, route-short, route-legal}
 use Rattle.route.specs.Calls.{routeCall}
@@ -79,7 +79,7 @@ module _ (r : LentRoute) (p : Text) (plain : hasVariantSelection p ≡ false) wh
       let c : SelectionFreePath q = run-next (legsIn r (r .count)) p q (route-ends r (p ∷ []) (w .0)) (plain-path (w .0)) (w .2) in
       path-answered (validateRoute r (q ∷ [])) after (runRoute true (legsIn r (r .count)) q)
       (sym (route-one-by-one r q) ∙ rw (legs-passed (w .0) .0, new-passed q (c .is-short) (c .is-legal)) passes) l
-      ∙ (round-trip (legsIn r (r .count)) p (route-ends r (p ∷ []) (w .0)) (plain-path (w .0))) .home-again q (w .2) .0
+      ∙ run-returns (legsIn r (r .count)) p q (route-ends r (p ∷ []) (w .0)) (plain-path (w .0)) (w .2)
 
 -- The first legs of a route are its legs.
 first-legs : (r : LentRoute) (k n : ℕ) → legsIn (firstLegs r k) n ≡ legsIn r n

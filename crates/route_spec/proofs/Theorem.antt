@@ -1,7 +1,7 @@
 -- The proof of the round-trip theorem (demand 3), over a whole list of legs.
 use mathlib.Core.Path.{_≡_, refl, sym, _∙_}
 use mathlib.Core.Logic.{_↔_}
-use mathlib.Core.Bool.{true}
+use mathlib.Core.Bool.{true, false}
 use mathlib.Core.List.{List, [], _∷_, _++_, reverse, reverse-cons}
 use mathlib.Core.Option.{none, some}
 use Prim.Native.Nat.{ℕ, zero, suc}
@@ -142,11 +142,15 @@ reached (y ∷ ys) p ends c (suc k) x r h g = by (outward y p) refl (λ q d. rea
     by (refused n) e ih = absurd (no-text (rw (trace-refused outward y ys p n e) at g))
 
 pub round-trip : RoundTrip
-unfolding runRoute
 round-trip legs p ends c = record {
   home-again = λ q e. run-home legs p q ends c e;
   exact = λ k x r h g full q. let d = reached legs p ends c k x r h g in step-exact x (d .0) r q (d .1) full;
 }
+
+-- A path that a route takes out is taken home by it.
+pub run-returns : (legs : List Leg) (p q : Text) → routeEnds legs ≡ true → SelectionFreePath p → runRoute false legs p ≡ path q → runRoute true legs q ≡ path p
+unfolding runRoute
+run-returns legs p q ends c e = (round-trip legs p ends c) .home-again q e .0
 
 -- For a relocate list the second half holds without a hypothesis: its map has no empty source.
 pub relocates-exact : RelocatesExact

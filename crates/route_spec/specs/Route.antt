@@ -47,21 +47,33 @@ unfolding foldLegs
 runRoute false legs p = foldLegs outward legs p
 runRoute true legs p = foldLegs homeward (reverse legs) p
 
--- The round-trip property of a list of legs and a path.
-pub record Returns (legs : List Leg) (p : Text) : Type 0 where
-  -- If every leg yields a path, the legs in reverse order yield at each leg exactly the path that had reached it, and at the end the
-  -- starting path.
-  pub home-again : (q : Text) → runRoute false legs p ≡ path q
-      → (runRoute true legs q ≡ path p) × (trace homeward (reverse legs) q ≡ reverse (trace outward legs p))
-  -- Whether or not a later leg refuses: each leg reached whose map has no empty source yields a path exactly if plain mapping through that
-  -- map takes the path that reached it to a legal path of at most 255 bytes that maps plainly back to it; the leg then yields that path.
-  pub exact : (k : ℕ) (x : Leg) (r : Text) → getElem? legs k ≡ some x → getElem? (trace outward legs p) k ≡ some r
-      → noEmptySource ((legMap x) .pairs) ≡ true → (q : Text) → (outward x r ≡ path q) ↔ PlainRoundTrip (legMap x) r q
+-- The first half of the round-trip property, for a tool that maps over a leg out by `goes` and home by `comes`: if every leg yields a path,
+-- the legs in reverse order yield at each leg exactly the path that had reached it, and at the end the starting path.
+abbrev pub HomeAgain : (Leg → Text → Outcome) → (Leg → Text → Outcome) → List Leg → Text → Type 0
+HomeAgain goes comes legs p =
+    (q : Text) → foldLegs goes legs p ≡ path q → (foldLegs comes (reverse legs) q ≡ path p) × (trace comes (reverse legs) q ≡ reverse (trace goes legs p))
 
--- The round-trip theorem: the property holds for every list of legs, maps and relocate lists in any order, and every legal path without
--- variant selections.
+-- The second half. Whether or not a later leg refuses: each leg reached whose map has no empty source yields a path exactly if plain mapping
+-- through that map takes the path that reached it to a legal path of at most 255 bytes that maps plainly back to it; the leg then yields that
+-- path.
+abbrev pub GivesExactly : (Leg → Text → Outcome) → List Leg → Text → Type 0
+GivesExactly goes legs p =
+    (k : ℕ) (x : Leg) (r : Text) → getElem? legs k ≡ some x → getElem? (trace goes legs p) k ≡ some r
+    → noEmptySource ((legMap x) .pairs) ≡ true → (q : Text) → (goes x r ≡ path q) ↔ PlainRoundTrip (legMap x) r q
+
+-- The round-trip property of a tool, for a list of legs and a path.
+pub record Returns (goes comes : Leg → Text → Outcome) (legs : List Leg) (p : Text) : Type 0 where
+  pub home-again : HomeAgain goes comes legs p
+  pub exact : GivesExactly goes legs p
+
+-- The tool has the property for every list of legs, maps and relocate lists in any order, and every legal path without variant selections.
+abbrev pub AlwaysReturns : (Leg → Text → Outcome) → (Leg → Text → Outcome) → Type 0
+AlwaysReturns goes comes = (legs : List Leg) (p : Text) → routeEnds legs ≡ true → SelectionFreePath p → Returns goes comes legs p
+
+-- The round-trip theorem (demand 3): the legs out and home as the requirements define them have the property. `foldLegs outward legs` and
+-- `foldLegs homeward (reverse legs)` are the two directions of `runRoute`.
 abbrev pub RoundTrip : Type 0
-RoundTrip = (legs : List Leg) (p : Text) → routeEnds legs ≡ true → SelectionFreePath p → Returns legs p
+RoundTrip = AlwaysReturns outward homeward
 
 -- A relocate list's map never has an empty source, so for such a leg the second half holds without that condition.
 abbrev pub RelocatesExact : Type 0

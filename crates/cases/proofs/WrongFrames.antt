@@ -1,0 +1,24 @@
+-- Every wrong output of `frames` differs from the right one, by computing both.
+use mathlib.Core.Path.{refl}
+use mathlib.Core.List.{flatten}
+use Rattle.path_prefix.specs.Elements.{countElements}
+use Rattle.route_spec.specs.Leg.{outward, homeward}
+use Rattle.frames_spec.specs.Input.{output}
+use Rattle.cases.specs.WrongFrames.{WrongFrames}
+use Rattle.cases.proofs.Tell.{apart, textNumber}
+
+pub wrong-frames : WrongFrames
+unfolding countElements outward homeward output flatten textNumber
+wrong-frames = record {
+  out-unmoved = apart textNumber refl;
+  close-keeps-list = apart textNumber refl;
+  relocates-as-map = apart textNumber refl;
+  home-goes-out = apart textNumber refl;
+  bad-frame-silent = apart textNumber refl;
+  lower-case-bad = apart textNumber refl;
+  last-line-dropped = apart textNumber refl;
+  home-counted = apart textNumber refl;
+  refused-counted = apart textNumber refl;
+  odd-digits = apart textNumber refl;
+  seventeenth-leg = apart textNumber refl;
+}
