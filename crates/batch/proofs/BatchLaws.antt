@@ -11,18 +11,21 @@ use borrow.Author.Tests.{le-leb, lt-leb, leb-true, leb-false}
 use Rattle.text.specs.Text.{Text}
 use Rattle.text.proofs.BoolLaws.{known-true, known-false, and-l, and-r}
 use Rattle.pair_list.specs.Places.{inStore, textAt}
-use Rattle.refusal.specs.declared.Refusal.the-variants.{TooLong, NoRoom}
+use Rattle.refusal.specs.declared.Refusal.{Refusal}
+use Rattle.refusal.specs.declared.Refusal.the-variants.{TooLong, TooMany, NoRoom}
 use Rattle.refusal.specs.declared.Validation.{Validation}
 use Rattle.refusal.specs.declared.Validation.the-variants.{Passed, Refused}
 use Rattle.refusal.specs.declared.Reply.{Reply}
 use Rattle.refusal.specs.Outcome.{Outcome, path, refused, outcomeReply, outcomeBuffer}
 use Rattle.ffi_values.specs.Code.{replyCode}
 use Rattle.validate.specs.Validate.{lentList, validateCall}
+use Rattle.validate.proofs.RefusalLaws.{never}
 use Rattle.map_function.specs.declared.MapFunction.{MapFunction}
 use Rattle.mapping.specs.declared.Direction.{Direction}
-use Rattle.mapping.specs.Direction.{directionCall, afterListValidated}
+use Rattle.mapping.specs.Direction.{afterListValidated}
+use Rattle.mapping.specs.Calls.{directionCall}
 use Rattle.mapping.proofs.CopyOutBranches.{Short, short-refused, short-cond}
-use Rattle.mapping.proofs.DirectionLaws.{short-after, call-is-after}
+use Rattle.mapping.proofs.DirectionLaws.{short-after, after-is-call}
 use Rattle.route_legs.specs.LentRoute.{LentRoute, lentRoute, validateRoute}
 use Rattle.route_maps.specs.Prepared.{PreparedIfPassed}
 use Rattle.route.specs.Calls.{routeCall}
@@ -31,7 +34,7 @@ use Rattle.route.proofs.ShortLaws.{short-after as short-route}
 use Rattle.route.proofs.CallBranches.{call-as-it-is, call-prepared}
 use Rattle.batch.specs.declared.Mapper.{Mapper}
 use Rattle.batch.specs.declared.Mapper.the-variants.{Map, Route}
-use Rattle.batch.specs.Batch.{callAtSpot, mappedAt, routedAt, pathBuffers, replyNumbers, batchFits, validateBatch, batchBytes, batchReplies}
+use Rattle.batch.specs.Batch.{callAtSpot, mappedAt, routedAt, pathBuffers, replyNumbers, batchFits, validateBatch, batchBytes, batchReplies, validateMapAll, validateRouteAll, ReturnsBatch}
 use Rattle.batch.specs.BatchStep.{mapPathBy, mapSpotBy, writtenBlock}
 
 -- `batch_fits`
@@ -47,6 +50,43 @@ module _ (n spots bytes replies : ℕ) where
   pub room-replies : n ≤ spots / 2 → n ≤ bytes / 255 → leb n replies ≡ batchFits n spots bytes replies
   unfolding batchFits
   room-replies h k = rw (le-leb (2 * n) spots (omega arith), le-leb (255 * n) bytes (omega arith))
+
+-- The decision of `validate_batch` on its two tests.
+decided-short : (a b : Bool) → a ≡ true → b ≡ false → Refused NoRoom ≡ cond a (cond b Passed (Refused NoRoom)) (Refused TooMany)
+decided-short a b x y = rw (x, y)
+
+decided-passed : (a b : Bool) → a ≡ true → b ≡ true → Passed ≡ cond a (cond b Passed (Refused NoRoom)) (Refused TooMany)
+decided-passed a b x y = rw (x, y)
+
+-- `validate_batch`
+module _ (list : Validation) (n spots bytes replies : ℕ) where
+  pub batch-refused : (x : Refusal) → list ≡ Refused x → Refused x ≡ validateBatch list n spots bytes replies
+  unfolding validateBatch
+  batch-refused x h = rw h
+
+  pub batch-beyond : list ≡ Passed → spots / 2 < n → Refused TooMany ≡ validateBatch list n spots bytes replies
+  unfolding validateBatch
+  batch-beyond h l = rw (h, lt-leb (2 * n) spots (omega arith))
+
+  module _ (h : list ≡ Passed) (l : n ≤ spots / 2) (b : Bool) (k : b ≡ batchFits n spots bytes replies) where
+    pub batch-short : not b ≡ true → Refused NoRoom ≡ validateBatch list n spots bytes replies
+    unfolding validateBatch
+    batch-short f = rw h (decided-short (leb (2 * n) spots) (batchFits n spots bytes replies) (le-leb (2 * n) spots (omega arith)) (known-false k f))
+
+    pub batch-passed : not b ≡ false → Passed ≡ validateBatch list n spots bytes replies
+    unfolding validateBatch
+    batch-passed f = rw h (decided-passed (leb (2 * n) spots) (batchFits n spots bytes replies) (le-leb (2 * n) spots (omega arith)) (known-true k f))
+
+-- A batch that passes has large enough buffers.
+pub batch-has-room : (list : Validation) (n spots bytes replies : ℕ) → validateBatch list n spots bytes replies ≡ Passed → batchFits n spots bytes replies ≡ true
+unfolding validateBatch
+batch-has-room Passed n spots bytes replies h = by-spots (leb (2 * n) spots) (batchFits n spots bytes replies) h
+  where
+    by-spots : (a b : Bool) → cond a (cond b Passed (Refused NoRoom)) (Refused TooMany) ≡ Passed → b ≡ true
+    by-spots true true e = refl
+    by-spots true false e = absurd (never NoRoom e)
+    by-spots false b e = absurd (never TooMany e)
+batch-has-room (Refused x) n spots bytes replies h = absurd (never x h)
 
 -- `is_inside`
 module _ (texts : Text) (spots : List ℕ) (i : ℕ) where
@@ -231,29 +271,39 @@ module _ (o o′ : ℕ → Outcome) (same : (i : ℕ) → o i ≡ o′ i) where
       → (out ≡ pathBuffers o 0 n out₀) × (replies ≡ replyNumbers o 0 n replies₀)
   all-same n out₀ out replies₀ replies w = (w .0 ∙ sym (blocks-same 0 n out₀), w .1 ∙ sym (numbers-same 0 n replies₀))
 
-pub all-done : (o : ℕ → Outcome) (n : ℕ) (b e : Bool) → b ≡ e → (out₀ out : Text) (replies₀ replies : List ℕ) → not b ≡ false
-    → (out ≡ pathBuffers o 0 n out₀) × (replies ≡ replyNumbers o 0 n replies₀) → (Passed ≡ validateBatch e) × ((out ≡ batchBytes e o n out₀) × (replies ≡ batchReplies e o n replies₀))
-unfolding validateBatch batchBytes batchReplies
-all-done o n b e h out₀ out replies₀ replies k w = rw (known-true h k) (refl, (w .0, w .1))
+-- The reply and the buffers of a batch that passes, and of one that is refused.
+pub all-done : (o : ℕ → Outcome) (n : ℕ) (v : Validation) → v ≡ Passed → (out₀ out : Text) (replies₀ replies : List ℕ)
+    → (out ≡ pathBuffers o 0 n out₀) × (replies ≡ replyNumbers o 0 n replies₀) → ReturnsBatch v o n Passed out₀ out replies₀ replies
+unfolding batchBytes batchReplies
+all-done o n v h out₀ out replies₀ replies w = rw h (refl, (w .0, w .1))
 
-pub all-refused : (o : ℕ → Outcome) (n : ℕ) (b e : Bool) → b ≡ e → (out : Text) (replies : List ℕ) → not b ≡ true
-    → (Refused NoRoom ≡ validateBatch e) × ((out ≡ batchBytes e o n out) × (replies ≡ batchReplies e o n replies))
-unfolding validateBatch batchBytes batchReplies
-all-refused o n b e h out replies k = rw (known-false h k) (refl, (refl, refl))
+pub all-refused : (o : ℕ → Outcome) (n : ℕ) (v : Validation) (x : Refusal) → v ≡ Refused x → (out : Text) (replies : List ℕ) → ReturnsBatch v o n (Refused x) out out replies replies
+unfolding batchBytes batchReplies
+all-refused o n v x h out replies = rw h (refl, (refl, refl))
 
 spotted-same : (f g : Text → Outcome) → ((p : Text) → f p ≡ g p) → (texts : Text) (spots : List ℕ) (i : ℕ) → callAtSpot f texts spots i ≡ callAtSpot g texts spots i
 unfolding callAtSpot
 spotted-same f g same texts spots i = rw (same (textAt texts spots i))
 
 -- `map_all`
+pub map-validated : (store : Text) (places : List ℕ) (f : MapFunction) (n : ℕ) (spots : List ℕ) (out : Text) (replies : List ℕ) (list q : Validation)
+    → list ≡ validateCall (lentList store places (f .count) ∷ []) [] [] → q ≡ validateBatch list n (length spots) (length out) (length replies) → validateMapAll store places f n spots out replies ≡ q
+unfolding validateMapAll
+map-validated store places f n spots out replies list q h k = sym (k ∙ ap (λ (a : Validation). validateBatch a n (length spots) (length out) (length replies)) h)
+
 pub map-step : (direction : Direction) (store : Text) (places legs : List ℕ) (f : MapFunction) (texts : Text) (spots : List ℕ) (list : Validation)
-    → list ≡ validateCall (lentList store places (f .count) ∷ []) ([] ∷ []) [] → (i : ℕ) → mappedAt direction store places f texts spots i ≡ mapSpotBy list (Map f direction) store places legs texts spots 255 i
+    → list ≡ validateCall (lentList store places (f .count) ∷ []) [] [] → (i : ℕ) → mappedAt direction store places f texts spots i ≡ mapSpotBy list (Map f direction) store places legs texts spots 255 i
 unfolding mappedAt mapSpotBy mapPathBy
 map-step direction store places legs f texts spots list h =
     spotted-same (λ (p : Text). directionCall direction store places f p 255) (λ (p : Text). afterListValidated list direction store places f p 255)
-    (λ p. call-is-after direction store places f p 255 list h) texts spots
+    (λ p. sym (after-is-call direction store places f p 255) ∙ ap (λ (a : Validation). afterListValidated a direction store places f p 255) (sym h)) texts spots
 
 -- `route_all`
+pub route-validated : (r : LentRoute) (n : ℕ) (spots : List ℕ) (out : Text) (replies : List ℕ) (list q : Validation) → list ≡ validateRoute r []
+    → q ≡ validateBatch list n (length spots) (length out) (length replies) → validateRouteAll r n spots out replies ≡ q
+unfolding validateRouteAll
+route-validated r n spots out replies list q h k = sym (k ∙ ap (λ (a : Validation). validateBatch a n (length spots) (length out) (length replies)) h)
+
 module _ (home : Bool) (r : LentRoute) (texts : Text) (spots : List ℕ) (list : Validation) (e : list ≡ validateRoute r []) where
   pub route-step : (b : Bool) → b ≡ needsMaps list (r .legs) (r .count) → not b ≡ true
       → (i : ℕ) → routedAt home r texts spots i ≡ mapSpotBy list (Route (r .count) home) (r .store) (r .places) (r .legs) texts spots 255 i

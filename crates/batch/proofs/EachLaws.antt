@@ -8,7 +8,7 @@ use lib.Seq.{length-take-le, take-at, drop-drop}
 use Rattle.text.specs.Text.{Text}
 use Rattle.refusal.specs.Outcome.{Outcome, outcomeReply, outcomeBuffer}
 use Rattle.ffi_values.specs.Code.{replyCode}
-use Rattle.mapping.specs.Direction.{directionCall}
+use Rattle.mapping.specs.Calls.{directionCall}
 use Rattle.mapping.proofs.CopyOutBranches.{Short}
 use Rattle.mapping.proofs.DirectionLaws.{short-call}
 use Rattle.route.specs.Calls.{routeCall}

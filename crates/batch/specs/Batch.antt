@@ -3,20 +3,24 @@
 use mathlib.Core.Path.{_≡_}
 use Prim.Native.Nat.{ℕ, zero, suc, _*_, _≤_, _<_}
 use mathlib.Core.Bool.{Bool, cond, _&&_}
-use mathlib.Core.List.{List, _∷_, _++_}
+use mathlib.Core.List.{List, [], _∷_, _++_}
 use lib.Dec.{leb}
 use lib.ListN.{length, getD, take, drop}
 use Rattle.text.specs.Text.{Text}
 use Rattle.pair_list.specs.Places.{inStore, textAt}
-use Rattle.refusal.specs.declared.Refusal.the-variants.{TooLong, NoRoom}
+use Rattle.refusal.specs.declared.Refusal.{Refusal}
+use Rattle.refusal.specs.declared.Refusal.the-variants.{TooLong, TooMany, NoRoom}
 use Rattle.refusal.specs.declared.Validation.{Validation}
 use Rattle.refusal.specs.declared.Validation.the-variants.{Passed, Refused}
+use Rattle.refusal.specs.Refusal.{refusedOr}
 use Rattle.refusal.specs.Outcome.{Outcome, refused, outcomeReply, outcomeBuffer}
-use Rattle.ffi_values.specs.Code.{replyCode}
+use Rattle.ffi_values.specs.Code.{replyCode, validationCode}
+use Rattle.validate.specs.Validate.{validateCall}
 use Rattle.map_function.specs.declared.MapFunction.{MapFunction}
+use Rattle.map_function.specs.MapFunction.{listOf}
 use Rattle.mapping.specs.declared.Direction.{Direction}
-use Rattle.mapping.specs.Direction.{directionCall}
-use Rattle.route_legs.specs.LentRoute.{LentRoute}
+use Rattle.mapping.specs.Calls.{directionCall}
+use Rattle.route_legs.specs.LentRoute.{LentRoute, validateRoute}
 use Rattle.route.specs.Calls.{routeCall}
 
 -- The outcome of a call for path i. Requirements: "a place that reaches outside its store counts as longer".
@@ -50,19 +54,41 @@ replyNumbers o i (suc n) replies = replyCode (outcomeReply (o i)) ∷ replyNumbe
 unfoldable pub batchFits : ℕ → ℕ → ℕ → ℕ → Bool
 batchFits n spots bytes replies = leb (2 * n) spots && leb (255 * n) bytes && leb n replies
 
--- The reply of the batch call: refused if a lent buffer is too short.
-unfoldable pub validateBatch : Bool → Validation
-validateBatch room = cond room Passed (Refused NoRoom)
+-- Validates a batch of n paths, given the result of questions 1 to 4 for the list or the route: then question 4 for the number of paths ("A
+-- count beyond its slice counts as over 64"), then question 5. The questions of each path come after these, path by path.
+unfoldable pub validateBatch : Validation → ℕ → ℕ → ℕ → ℕ → Validation
+unfolding batchFits
+validateBatch list n spots bytes replies =
+    refusedOr list Refused (cond (leb (2 * n) spots) (cond (batchFits n spots bytes replies) Passed (Refused NoRoom)) (Refused TooMany))
 
 -- The lent buffer after the batch call; unchanged if it was refused.
-unfoldable pub batchBytes : Bool → (ℕ → Outcome) → ℕ → Text → Text
+unfoldable pub batchBytes : Validation → (ℕ → Outcome) → ℕ → Text → Text
 unfolding pathBuffers
-batchBytes room o n out = cond room (pathBuffers o 0 n out) out
+batchBytes v o n out = refusedOr v (λ (x : Refusal). out) (pathBuffers o 0 n out)
 
 -- The reply entries after the batch call; unchanged if it was refused.
-unfoldable pub batchReplies : Bool → (ℕ → Outcome) → ℕ → List ℕ → List ℕ
+unfoldable pub batchReplies : Validation → (ℕ → Outcome) → ℕ → List ℕ → List ℕ
 unfolding replyNumbers
-batchReplies room o n replies = cond room (replyNumbers o 0 n replies) replies
+batchReplies v o n replies = refusedOr v (λ (x : Refusal). replies) (replyNumbers o 0 n replies)
+
+-- A batch call returned what its validation v and the outcomes o of the n single calls say: its reply r, and both lent buffers before and
+-- after the call.
+abbrev pub ReturnsBatch : Validation → (ℕ → Outcome) → ℕ → Validation → Text → Text → List ℕ → List ℕ → Type 0
+ReturnsBatch v o n r out out′ replies replies′ = (r ≡ v) × ((out′ ≡ batchBytes v o n out) × (replies′ ≡ batchReplies v o n replies))
+
+-- The same with the reply encoded as one number.
+abbrev pub ReturnsBatchCode : Validation → (ℕ → Outcome) → ℕ → ℕ → Text → Text → List ℕ → List ℕ → Type 0
+ReturnsBatchCode v o n r out out′ replies replies′ = (r ≡ validationCode v) × ((out′ ≡ batchBytes v o n out) × (replies′ ≡ batchReplies v o n replies))
+
+-- Questions 1 to 5 of mapping n paths through a map.
+unfoldable pub validateMapAll : Text → List ℕ → MapFunction → ℕ → List ℕ → Text → List ℕ → Validation
+unfolding validateCall validateBatch
+validateMapAll store places f n spots out replies = validateBatch (validateCall (listOf store places f ∷ []) [] []) n (length spots) (length out) (length replies)
+
+-- Questions 1 to 5 of mapping n paths over a route.
+unfoldable pub validateRouteAll : LentRoute → ℕ → List ℕ → Text → List ℕ → Validation
+unfolding validateRoute validateBatch
+validateRouteAll r n spots out replies = validateBatch (validateRoute r []) n (length spots) (length out) (length replies)
 
 -- Each path has the 255 bytes and the reply of the single call, and nothing after the n paths changes.
 pub record MatchesSingleCalls (o : ℕ → Outcome) (n : ℕ) (out : Text) (replies : List ℕ) : Type 0 where

@@ -1,5 +1,5 @@
-// Maps many paths through one map, or over one route, in one call: the lists are validated once, each path
-// by itself.
+// Maps many paths through one map, or over one route, in one call: the lists and the lent buffers are validated
+// first and once, then each path by itself.
 ghost use mathlib.Core.Path.{_≡_};
 ghost use mathlib.Core.Bool.{true};
 ghost use Prim.Native.Nat.{_+_, _*_, _≤_, _<_};
@@ -9,7 +9,7 @@ ghost use Rattle.refusal.specs.Outcome.{outcomeReply, ReturnsPath};
 ghost use Rattle.ffi_values.specs.Code.{replyCode};
 ghost use mathlib.Core.List.{[]};
 ghost use Rattle.route_legs.specs.LentRoute.{lentRoute, validateRoute};
-ghost use Rattle.batch.specs.Batch.{mappedAt, routedAt, pathBuffers, replyNumbers, batchFits, validateBatch, batchBytes, batchReplies};
+ghost use Rattle.batch.specs.Batch.{mappedAt, routedAt, pathBuffers, replyNumbers, batchFits, validateBatch, validateMapAll, validateRouteAll, ReturnsBatch};
 ghost use Rattle.batch.specs.BatchStep.{mapPathBy, mapSpotBy, writtenBlock};
 
 // Returns whether the lent buffers suffice for n paths (question 5).
@@ -23,6 +23,28 @@ fn batch_fits(n: usize, spots: usize, bytes: usize, replies: usize) -> bool
         return false;
     }
     n <= replies
+}
+
+// Validates a batch of n paths, given the result of validating the list or the route (questions 4 and 5).
+fn validate_batch(
+    list: refusal::Validation,
+    n: usize,
+    spots: usize,
+    bytes: usize,
+    replies: usize,
+) -> refusal::Validation
+    ensures { λ r. ⌜ r ≡ validateBatch list n spots bytes replies ⌝ }
+{
+    if let refusal::Validation::Refused(x) = list {
+        return refusal::Validation::Refused(x);
+    }
+    if spots / 2 < n {
+        return refusal::Validation::Refused(refusal::Refusal::TooMany);
+    }
+    if !batch_fits(n, spots, bytes, replies) {
+        return refusal::Validation::Refused(refusal::Refusal::NoRoom);
+    }
+    refusal::Validation::Passed
 }
 
 // Returns whether the place of text i lies within `texts`.
@@ -154,7 +176,8 @@ fn map_each(
     }
 }
 
-// Maps n paths through a map. Each path has the reply and the 255 bytes of the single call.
+// Maps n paths through a map. A bad list, count or buffer refuses the whole call; otherwise each path has the
+// reply and the 255 bytes of the single call.
 pub fn map_all(
     store: &[u8],
     places: &[usize],
@@ -166,14 +189,13 @@ pub fn map_all(
     out: &mut [u8],
     replies: &mut [usize],
 ) -> refusal::Validation
-    ensures { λ r. ⌜ r ≡ validateBatch (batchFits n (length (now (spots .entry))) (length (now (out .entry))) (length (now (replies .entry)))) ⌝ }
-    ensures { λ r. ⌜ now (out .exit) ≡ batchBytes (batchFits n (length (now (spots .entry))) (length (now (out .entry))) (length (now (replies .entry)))) (mappedAt direction (now (store .entry)) (now (places .entry)) map (now (texts .entry)) (now (spots .entry))) n (now (out .entry)) ⌝ }
-    ensures { λ r. ⌜ now (replies .exit) ≡ batchReplies (batchFits n (length (now (spots .entry))) (length (now (out .entry))) (length (now (replies .entry)))) (mappedAt direction (now (store .entry)) (now (places .entry)) map (now (texts .entry)) (now (spots .entry))) n (now (replies .entry)) ⌝ }
+    ensures { λ r. ⌜ ReturnsBatch (validateMapAll (now (store .entry)) (now (places .entry)) map n (now (spots .entry)) (now (out .entry)) (now (replies .entry))) (mappedAt direction (now (store .entry)) (now (places .entry)) map (now (texts .entry)) (now (spots .entry))) n r (now (out .entry)) (now (out .exit)) (now (replies .entry)) (now (replies .exit)) ⌝ }
 {
-    if !batch_fits(n, spots.len(), out.len(), replies.len()) {
-        return refusal::Validation::Refused(refusal::Refusal::NoRoom);
+    let list = validate::validate_list(store, places, map.count);
+    let q = validate_batch(list, n, spots.len(), out.len(), replies.len());
+    if let refusal::Validation::Refused(x) = q {
+        return refusal::Validation::Refused(x);
     }
-    let list = validate::validate_list_and_path(store, places, map.count, &texts[..0]);
     let by = Mapper::Map(map, direction);
     map_each(
         list,
@@ -266,7 +288,8 @@ fn route_each(
     );
 }
 
-// Maps n paths out over a route, or home. Each path has the reply and the 255 bytes of the single call.
+// Maps n paths out over a route, or home. A bad route, count or buffer refuses the whole call; otherwise each
+// path has the reply and the 255 bytes of the single call.
 pub fn route_all(
     store: &[u8],
     places: &[usize],
@@ -279,14 +302,13 @@ pub fn route_all(
     out: &mut [u8],
     replies: &mut [usize],
 ) -> refusal::Validation
-    ensures { λ r. ⌜ r ≡ validateBatch (batchFits n (length (now (spots .entry))) (length (now (out .entry))) (length (now (replies .entry)))) ⌝ }
-    ensures { λ r. ⌜ now (out .exit) ≡ batchBytes (batchFits n (length (now (spots .entry))) (length (now (out .entry))) (length (now (replies .entry)))) (routedAt home (lentRoute (now (store .entry)) (now (places .entry)) (now (legs .entry)) count) (now (texts .entry)) (now (spots .entry))) n (now (out .entry)) ⌝ }
-    ensures { λ r. ⌜ now (replies .exit) ≡ batchReplies (batchFits n (length (now (spots .entry))) (length (now (out .entry))) (length (now (replies .entry)))) (routedAt home (lentRoute (now (store .entry)) (now (places .entry)) (now (legs .entry)) count) (now (texts .entry)) (now (spots .entry))) n (now (replies .entry)) ⌝ }
+    ensures { λ r. ⌜ (let route = lentRoute (now (store .entry)) (now (places .entry)) (now (legs .entry)) count in ReturnsBatch (validateRouteAll route n (now (spots .entry)) (now (out .entry)) (now (replies .entry))) (routedAt home route (now (texts .entry)) (now (spots .entry))) n r (now (out .entry)) (now (out .exit)) (now (replies .entry)) (now (replies .exit))) ⌝ }
 {
-    if !batch_fits(n, spots.len(), out.len(), replies.len()) {
-        return refusal::Validation::Refused(refusal::Refusal::NoRoom);
-    }
     let list = route_legs::validate_legs(store, places, legs, count);
+    let q = validate_batch(list, n, spots.len(), out.len(), replies.len());
+    if let refusal::Validation::Refused(x) = q {
+        return refusal::Validation::Refused(x);
+    }
     route_each(
         list,
         store,

@@ -10,10 +10,10 @@ use Rattle.relocates.specs.Calls.{analyzeReply}
 use Rattle.relocate_chain.specs.Chain.{Chained, chained, stopped}
 use Rattle.relocate_chain.specs.Calls.{chainCall, chainBuffer, shiftCall}
 use Rattle.route.specs.Calls.{routeCall}
-use Rattle.batch.specs.Batch.{mappedAt, routedAt}
+use Rattle.batch.specs.Batch.{mappedAt, routedAt, validateMapAll, validateRouteAll}
 use Rattle.cases.specs.Lent.{storeOf, placesOf, lentPairs}
 use Rattle.cases.specs.WrongRelocates.{WrongRelocates}
-use Rattle.cases.proofs.Tell.{apart, textNumber, replyNumber, outcomeNumber}
+use Rattle.cases.proofs.Tell.{apart, textNumber, validationNumber, replyNumber, outcomeNumber}
 
 -- A number for the outcome of a chain.
 unfoldable chainNumber : Chained → ℕ
@@ -22,7 +22,7 @@ chainNumber (chained q k) = 16 + k + 256 * textNumber q
 chainNumber (stopped x) = refusalNumber x
 
 pub wrong-relocates : WrongRelocates
-unfolding countElements outward homeward storeOf placesOf lentPairs pairsIn statusList analyzeReply chainCall chainBuffer shiftCall routeCall mappedAt routedAt textNumber replyNumber outcomeNumber chainNumber
+unfolding countElements outward homeward storeOf placesOf lentPairs pairsIn statusList analyzeReply chainCall chainBuffer shiftCall routeCall mappedAt routedAt validateMapAll validateRouteAll textNumber validationNumber replyNumber outcomeNumber chainNumber
 wrong-relocates = record {
   conflict-among-active = apart textNumber refl;
   all-active = apart textNumber refl;
@@ -42,4 +42,8 @@ wrong-relocates = record {
   home-is-out = apart outcomeNumber refl;
   first-for-all = apart outcomeNumber refl;
   first-routed-for-all = apart outcomeNumber refl;
+  batch-room-first = apart validationNumber refl;
+  batch-count-is-5 = apart validationNumber refl;
+  batch-of-none = apart validationNumber refl;
+  batch-routed-first = apart validationNumber refl;
 }

@@ -8,6 +8,7 @@ use Prim.Native.Nat.{ℕ}
 use lib.ListN.{length, replicate}
 use Rattle.text.specs.Text.{bytes}
 use Rattle.refusal.specs.declared.Refusal.the-variants.{NoRoom}
+use Rattle.refusal.specs.declared.Validation.the-variants.{Passed, Refused}
 use Rattle.refusal.specs.declared.Reply.the-variants.{Written}
 use Rattle.refusal.specs.Outcome.{path}
 use Rattle.pair_list.specs.Pair.{Pair}
@@ -18,9 +19,9 @@ use Rattle.relocate_chain.specs.Calls.{chainCall, chainBuffer, shiftCall}
 use Rattle.route_legs.specs.LentRoute.{LentRoute, lentRoute}
 use Rattle.route.specs.Calls.{routeCall}
 use Rattle.mapping.specs.declared.Direction.the-variants.{Out}
-use Rattle.batch.specs.Batch.{mappedAt, routedAt}
+use Rattle.batch.specs.Batch.{mappedAt, routedAt, validateMapAll, validateRouteAll}
 use Rattle.cases.specs.Lent.{stringPair, storeOf, placesOf, lentPairs, unmarkedHeader, conflicting, rotating}
-use Rattle.cases.specs.WrongMaps.{aToBList}
+use Rattle.cases.specs.WrongMaps.{aToBList, illegalList}
 
 -- The sources `/` and empty, both without elements; `/` is longer in bytes.
 abbrev pub rootAndEmpty : List Pair
@@ -56,3 +57,9 @@ pub record WrongRelocates : Type 0 where
   -- `map_all` and `route_all`: the first path for each.
   pub first-for-all : mappedAt Out (storeOf aToBList) (placesOf aToBList) (unmarkedHeader aToBList) (bytes "/A/C/A/D") (0 ∷ 4 ∷ 4 ∷ 4 ∷ []) 1 ≢ path (bytes "/B/C")
   pub first-routed-for-all : routedAt false twoLegs (bytes "/A/C/A/D") (0 ∷ 4 ∷ 4 ∷ 4 ∷ []) 1 ≢ path (bytes "/C/C")
+  -- Both: 5 before the questions of the list; 5 for more paths than places, which is a count beyond its slice; nothing asked of the list if there
+  -- are no paths.
+  pub batch-room-first : validateMapAll (storeOf illegalList) (placesOf illegalList) (unmarkedHeader illegalList) 1 (0 ∷ 0 ∷ []) [] [] ≢ Refused NoRoom
+  pub batch-count-is-5 : validateMapAll (storeOf aToBList) (placesOf aToBList) (unmarkedHeader aToBList) 1 [] [] [] ≢ Refused NoRoom
+  pub batch-of-none : validateMapAll (storeOf illegalList) (placesOf illegalList) (unmarkedHeader illegalList) 0 [] [] [] ≢ Passed
+  pub batch-routed-first : validateRouteAll (lentRoute (storeOf illegalList) (placesOf illegalList) (0 ∷ 0 ∷ 1 ∷ []) 1) 1 (0 ∷ 0 ∷ []) [] [] ≢ Refused NoRoom

@@ -25,7 +25,8 @@ use Rattle.map_function.specs.declared.MapFunction.{MapFunction}
 use Rattle.map_function.specs.MapFunction.{mapOf}
 use Rattle.mapping.specs.declared.Direction.{Direction}
 use Rattle.mapping.specs.declared.Direction.the-variants.{Out, Home, Translated}
-use Rattle.mapping.specs.Direction.{directionCall, mapFastIn, afterListValidated}
+use Rattle.mapping.specs.Direction.{mapFastIn, afterListValidated}
+use Rattle.mapping.specs.Calls.{directionCall}
 use Rattle.mapping.proofs.CopyOutBranches.{Short, short-fast, short-translate, short-answered}
 use Rattle.mapping.proofs.MappingBranches.{out-validated, home-validated, translate-validated}
 use Rattle.validate.proofs.PassedLaws.{empty-validated}

@@ -7,6 +7,8 @@ use Rattle.validate.specs.Validate.{validateCall}
 use Rattle.map_function.specs.declared.MapFunction.{MapFunction}
 use Rattle.map_function.specs.MapFunction.{listOf, mapOf}
 use Rattle.map_spec.specs.Map.{mapSourceToTarget, mapTargetToSource, translateToTarget}
+use Rattle.mapping.specs.declared.Direction.{Direction}
+use Rattle.mapping.specs.declared.Direction.the-variants.{Out, Home, Translated}
 
 -- Questions 1 to 5 for a list of pairs and a path, then the outcome o of mapping, with questions 6 to 8.
 abbrev pub mappingCall : Text → List ℕ → MapFunction → Text → ℕ → Outcome → Outcome
@@ -26,3 +28,10 @@ mapTargetToSourceCall store places f p room = mappingCall store places f p room 
 unfoldable pub translateToTargetCall : Text → List ℕ → MapFunction → Text → ℕ → Outcome
 unfolding validateCall afterChecks checkedOption translateToTarget
 translateToTargetCall store places f p room = mappingCall store places f p room (checkedOption (translateToTarget (mapOf store places f) p))
+
+-- The call that maps a path in this way.
+unfoldable pub directionCall : Direction → Text → List ℕ → MapFunction → Text → ℕ → Outcome
+unfolding mapSourceToTargetCall mapTargetToSourceCall translateToTargetCall
+directionCall Out store places f p room = mapSourceToTargetCall store places f p room
+directionCall Home store places f p room = mapTargetToSourceCall store places f p room
+directionCall Translated store places f p room = translateToTargetCall store places f p room

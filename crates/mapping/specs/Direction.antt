@@ -1,4 +1,4 @@
--- The three calls that map a path as one definition, and the same call on a list that was validated before.
+-- The calls that map a path, as the code computes them, and on a list that was validated before.
 use Prim.Native.Nat.{ℕ}
 use mathlib.Core.Bool.{true, false}
 use mathlib.Core.List.{List}
@@ -14,14 +14,6 @@ use Rattle.map_function.specs.declared.MapFunction.{MapFunction}
 use Rattle.map_function.specs.MapFunction.{mapOf}
 use Rattle.mapping.specs.declared.Direction.{Direction}
 use Rattle.mapping.specs.declared.Direction.the-variants.{Out, Home, Translated}
-use Rattle.mapping.specs.Calls.{mapSourceToTargetCall, mapTargetToSourceCall, translateToTargetCall}
-
--- The call that maps a path in this way.
-unfoldable pub directionCall : Direction → Text → List ℕ → MapFunction → Text → ℕ → Outcome
-unfolding mapSourceToTargetCall mapTargetToSourceCall translateToTargetCall
-directionCall Out store places f p room = mapSourceToTargetCall store places f p room
-directionCall Home store places f p room = mapTargetToSourceCall store places f p room
-directionCall Translated store places f p room = translateToTargetCall store places f p room
 
 -- The outcome of the code for a path once validation has passed.
 unfoldable pub mapFastIn : Direction → Map → Text → Outcome

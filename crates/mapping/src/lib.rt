@@ -9,8 +9,8 @@ ghost use Rattle.refusal.specs.Outcome.{ReturnsPath};
 ghost use Rattle.map_spec.specs.Map.{lentMap};
 ghost use Rattle.map_apply.specs.Fast.{mapFast, translateFast};
 ghost use Rattle.mapping.specs.CopyOut.{replyWithin, copiedOut};
-ghost use Rattle.mapping.specs.Calls.{mapSourceToTargetCall, mapTargetToSourceCall, translateToTargetCall};
-ghost use Rattle.mapping.specs.Direction.{directionCall, mapFastIn, afterListValidated};
+ghost use Rattle.mapping.specs.Calls.{mapSourceToTargetCall, mapTargetToSourceCall, translateToTargetCall, directionCall};
+ghost use Rattle.mapping.specs.Direction.{mapFastIn, afterListValidated};
 
 // How a path is mapped.
 pub enum Direction {

@@ -8,7 +8,7 @@ ghost use Rattle.refusal.specs.Outcome.{writtenIfAccepted};
 ghost use Rattle.path.specs.Calls.{pathNewCall, isEndCall, hasVariantSelectionCall, elementCountCall, primElementCountCall, hasPrefixCall};
 ghost use Rattle.path_derive.specs.Calls.{replacePrefixCall, parentCall, primPathCall, splitPropertyCall, stripCall, ancestorsReply};
 ghost use Rattle.mapping.specs.Calls.{mapSourceToTargetCall, mapTargetToSourceCall, translateToTargetCall};
-ghost use Rattle.batch.specs.Batch.{mappedAt, batchFits, validateBatch, batchBytes, batchReplies};
+ghost use Rattle.batch.specs.Batch.{mappedAt, validateMapAll, ReturnsBatchCode};
 ghost use Rattle.ffi_values.specs.Map.{untimedMap, directionOf};
 ghost use Rattle.ffi_values.specs.Code.{validationCode, testCode, countCode, replyCode, ReturnsPathCode};
 
@@ -172,7 +172,8 @@ pub extern "C" fn mudvizsor_translate_to_target(
 
 // Maps n paths, validating the list once. `direction` is 0 for source to target, 1 for target to source, any other
 // number for translation. Path i is the text at entry i of spots; its reply is entry i of replies, and its
-// result is written to the 255 bytes of out from offset 255 i.
+// result is written to the 255 bytes of out from offset 255 i. A bad list (1 to 4), more paths than spots (4) or
+// a short buffer (5) refuses the whole call.
 #[no_mangle]
 pub extern "C" fn mudvizsor_map_all(
     store: &[u8],
@@ -186,9 +187,7 @@ pub extern "C" fn mudvizsor_map_all(
     out: &mut [u8],
     replies: &mut [usize],
 ) -> usize
-    ensures { λ r. ⌜ r ≡ validationCode (validateBatch (batchFits n (length (now (spots .entry))) (length (now (out .entry))) (length (now (replies .entry))))) ⌝ }
-    ensures { λ r. ⌜ now (out .exit) ≡ batchBytes (batchFits n (length (now (spots .entry))) (length (now (out .entry))) (length (now (replies .entry)))) (mappedAt (directionOf direction) (now (store .entry)) (now (places .entry)) (untimedMap count mark) (now (texts .entry)) (now (spots .entry))) n (now (out .entry)) ⌝ }
-    ensures { λ r. ⌜ now (replies .exit) ≡ batchReplies (batchFits n (length (now (spots .entry))) (length (now (out .entry))) (length (now (replies .entry)))) (mappedAt (directionOf direction) (now (store .entry)) (now (places .entry)) (untimedMap count mark) (now (texts .entry)) (now (spots .entry))) n (now (replies .entry)) ⌝ }
+    ensures { λ r. ⌜ (let map = untimedMap count mark in ReturnsBatchCode (validateMapAll (now (store .entry)) (now (places .entry)) map n (now (spots .entry)) (now (out .entry)) (now (replies .entry))) (mappedAt (directionOf direction) (now (store .entry)) (now (places .entry)) map (now (texts .entry)) (now (spots .entry))) n r (now (out .entry)) (now (out .exit)) (now (replies .entry)) (now (replies .exit))) ⌝ }
 {
     let map = ffi_values::untimed_map(count, mark);
     let direction = ffi_values::direction_of(direction);

@@ -3,9 +3,8 @@
 ghost use mathlib.Core.Path.{_≡_};
 ghost use lib.ListN.{length};
 ghost use Rattle.validate.specs.Validate.{lentList};
-ghost use Rattle.relocate_chain.specs.ChainStep.{skippedSource};
+ghost use Rattle.relocate_chain.specs.Calls.{skippedSource, shiftCall, chainCall, chainReply, chainBuffer};
 ghost use Rattle.relocates.specs.Calls.{analyzeReply, analyzeBuffer};
-ghost use Rattle.relocate_chain.specs.Calls.{shiftCall, chainCall, chainReply, chainBuffer};
 ghost use Rattle.ffi_values.specs.Code.{replyCode, ReturnsPathCode};
 ghost use Rattle.ffi_values.specs.MapCode.{chainCode};
 

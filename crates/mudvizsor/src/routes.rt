@@ -5,10 +5,10 @@
 ghost use mathlib.Core.Path.{_≡_};
 ghost use mathlib.Core.Bool.{true, false};
 ghost use lib.ListN.{length};
-ghost use Rattle.ffi_values.specs.Code.{validationCode, ReturnsPathCode};
+ghost use Rattle.ffi_values.specs.Code.{ReturnsPathCode};
 ghost use Rattle.route_legs.specs.LentRoute.{lentRoute};
 ghost use Rattle.route.specs.Calls.{routeCall};
-ghost use Rattle.batch.specs.Batch.{routedAt, batchFits, validateBatch, batchBytes, batchReplies};
+ghost use Rattle.batch.specs.Batch.{routedAt, validateRouteAll, ReturnsBatchCode};
 
 // Maps the path out over the legs and writes the result to out.
 #[no_mangle]
@@ -41,7 +41,7 @@ pub extern "C" fn mudvizsor_route_home(
 }
 
 // Maps n paths out over the legs, or home if `home` is set, each into its 255 bytes of out, with its reply in
-// replies.
+// replies. A bad route (1 to 4), more paths than spots (4) or a short buffer (5) refuses the whole call.
 #[no_mangle]
 pub extern "C" fn mudvizsor_route_all(
     store: &[u8],
@@ -55,9 +55,7 @@ pub extern "C" fn mudvizsor_route_all(
     out: &mut [u8],
     replies: &mut [usize],
 ) -> usize
-    ensures { λ r. ⌜ r ≡ validationCode (validateBatch (batchFits n (length (now (spots .entry))) (length (now (out .entry))) (length (now (replies .entry))))) ⌝ }
-    ensures { λ r. ⌜ now (out .exit) ≡ batchBytes (batchFits n (length (now (spots .entry))) (length (now (out .entry))) (length (now (replies .entry)))) (routedAt home (lentRoute (now (store .entry)) (now (places .entry)) (now (legs .entry)) count) (now (texts .entry)) (now (spots .entry))) n (now (out .entry)) ⌝ }
-    ensures { λ r. ⌜ now (replies .exit) ≡ batchReplies (batchFits n (length (now (spots .entry))) (length (now (out .entry))) (length (now (replies .entry)))) (routedAt home (lentRoute (now (store .entry)) (now (places .entry)) (now (legs .entry)) count) (now (texts .entry)) (now (spots .entry))) n (now (replies .entry)) ⌝ }
+    ensures { λ r. ⌜ (let route = lentRoute (now (store .entry)) (now (places .entry)) (now (legs .entry)) count in ReturnsBatchCode (validateRouteAll route n (now (spots .entry)) (now (out .entry)) (now (replies .entry))) (routedAt home route (now (texts .entry)) (now (spots .entry))) n r (now (out .entry)) (now (out .exit)) (now (replies .entry)) (now (replies .exit))) ⌝ }
 {
     ffi_values::validation_code(batch::route_all(
         store,

@@ -26,8 +26,8 @@ use Rattle.relocate_chain.specs.declared.steps.Step.the-variants.{Still,
 use Rattle.relocate_chain.specs.declared.Chain.{Chain}
 use Rattle.relocate_chain.specs.declared.Chain.the-variants.{Chained as ChainedTo, Refused as RefusedChain}
 use Rattle.relocate_chain.specs.Chain.{longestReplacement, replacement, Chained, chain, shiftThroughNearestAncestor}
-use Rattle.relocate_chain.specs.ChainStep.{skippedSource, stepReply, stepBuffer, chainInBuffer, chainWithin}
-use Rattle.relocate_chain.specs.Calls.{shiftCall, skipTexts, chainCall, chainReply, chainBuffer}
+use Rattle.relocate_chain.specs.ChainStep.{stepReply, stepBuffer, chainInBuffer, chainWithin}
+use Rattle.relocate_chain.specs.Calls.{skippedSource, shiftCall, skipTexts, chainCall, chainReply, chainBuffer}
 use Rattle.relocate_chain.proofs.ChainBranches.{made-passed, made-short, still, blocked, Went, went, back-text, back-part, back-inside}
 
 -- A path that is written to the lent buffer.

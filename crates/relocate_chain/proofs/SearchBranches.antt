@@ -19,7 +19,7 @@ use Rattle.pair_list.specs.BestStep.{considerIndex, bestBelow}
 use Rattle.pair_list.proofs.BestLaws.{search-none, search-on, step-fails, step-lighter, step-heavier, step-first}
 use Rattle.pair_list.proofs.PlaceLaws.{pairsIn-at, pair-is}
 use Rattle.relocate_chain.specs.Chain.{isSkipped, ifAltered, replacement}
-use Rattle.relocate_chain.specs.ChainStep.{skippedSource}
+use Rattle.relocate_chain.specs.Calls.{skippedSource}
 use Rattle.text.proofs.TextLaws.{nil-length, nil-not}
 
 -- `is_skipped`

@@ -1,6 +1,6 @@
 -- The calls that map a path through a relocate list by prefix replacement: validation (questions 1 to 5), then the result.
 use Prim.Native.Nat.{ℕ}
-use mathlib.Core.Bool.{cond}
+use mathlib.Core.Bool.{Bool, cond}
 use mathlib.Core.List.{List, [], _∷_}
 use mathlib.Core.Option.{Option, none, some}
 use lib.Dec.{leb}
@@ -18,6 +18,10 @@ use Rattle.relocate_chain.specs.Chain.{Chained, chained, stopped, chain,
 unfoldable pub shiftCall : LentList → Text → ℕ → Outcome
 unfolding validateCall afterChecks checked shiftThroughNearestAncestor
 shiftCall l p room = afterChecks (validateCall (l ∷ []) (p ∷ []) []) room (checked (shiftThroughNearestAncestor (pairsOf l) p))
+
+-- The skipped source, if the flag is set.
+abbrev pub skippedSource : Bool → Text → Option Text
+skippedSource skips skipped = cond skips (some skipped) none
 
 -- The texts to validate for a skipped source: the source if there is one.
 abbrev pub skipTexts : Option Text → List Text

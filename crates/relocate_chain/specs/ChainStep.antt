@@ -14,10 +14,6 @@ use Rattle.relocate_chain.specs.declared.Chain.{Chain}
 use Rattle.relocate_chain.specs.declared.Chain.the-variants.{Chained as ChainedTo, Refused as RefusedChain}
 use Rattle.relocate_chain.specs.Chain.{Chained, chained, stopped}
 
--- The skipped source, if the flag is set.
-abbrev pub skippedSource : Bool → Text → Option Text
-skippedSource skips skipped = cond skips (some skipped) none
-
 -- The longest source so far: the index of its pair and its number of bytes.
 abbrev pub sourceKept : Longest → Option (ℕ × ℕ)
 sourceKept f = bestKept (f .found) (f .at) (f .bytes .0)

@@ -12,8 +12,7 @@ ghost use Rattle.pair_list.specs.Places.{pairsIn};
 ghost use Rattle.refusal.specs.Outcome.{path, checked, ReturnsPath};
 ghost use Rattle.validate.specs.Validate.{lentList};
 ghost use Rattle.relocate_chain.specs.Chain.{chain, shiftThroughNearestAncestor};
-ghost use Rattle.relocate_chain.specs.ChainStep.{skippedSource};
-ghost use Rattle.relocate_chain.specs.Calls.{shiftCall, chainCall, chainReply, chainBuffer};
+ghost use Rattle.relocate_chain.specs.Calls.{skippedSource, shiftCall, chainCall, chainReply, chainBuffer};
 
 // The reply of a chaining call.
 pub enum Chain {

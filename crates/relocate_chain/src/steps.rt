@@ -8,7 +8,8 @@ ghost use Rattle.text.specs.Text.{isSome};
 ghost use Rattle.path_join.specs.Join.{replacePrefix};
 ghost use Rattle.pair_list.specs.Places.{pairsIn};
 ghost use Rattle.relocate_chain.specs.Chain.{isSkipped, ifAltered, replacement, longestSource, longestReplacement, chain};
-ghost use Rattle.relocate_chain.specs.ChainStep.{skippedSource, sourceKept, longestIndex, stepReply, stepBuffer, chainInBuffer, chainWithin};
+ghost use Rattle.relocate_chain.specs.ChainStep.{sourceKept, longestIndex, stepReply, stepBuffer, chainInBuffer, chainWithin};
+ghost use Rattle.relocate_chain.specs.Calls.{skippedSource};
 ghost use Rattle.pair_list.specs.Pair.{pair};
 ghost use Rattle.pair_list.specs.BestStep.{considerIndex};
 

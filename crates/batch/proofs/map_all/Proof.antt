@@ -1,27 +1,34 @@
-use Rattle.batch.proofs.BatchLaws.{all-same}
-use Rattle.batch.proofs.BatchLaws.{all-refused, all-done, map-step}
-use Rattle.text.proofs.BoolLaws.{known-true}
+-- The questions of the list and of the buffers are those of `validateMapAll`; then each path is the single call.
+use Rattle.batch.proofs.BatchLaws.{batch-has-room, all-same, all-refused, all-done, map-validated, map-step}
+use mathlib.Core.Path.{sym, _∙_}
 use borrow.Author.Needs.{needs}
 use Rattle.batch.proofs.map_all.Statement.{statement}
 use Rattle.batch.proofs.map_all.Tie as tie
 
-batch-fits-requires : tie.Need-batch-fits-requires
-batch-fits-requires c κs = search needs
+validate-list-requires : tie.Need-validate-list-requires
+validate-list-requires c κs = search needs
+
+validate-batch-requires : tie.Need-validate-batch-requires
+validate-batch-requires c κs = search needs
+
+enum-known-q : tie.Need-enum-known-q
+enum-known-q c = search needs
 
 returns : tie.Need-returns
-returns c = all-refused _ _ _ _ (c .before .batch-fits .ensures) _ _ (c .if1 .taken)
+returns c =
+    let at-q = c .before in
+    let at-validate-batch = at-q .before .before in
+    let at-validate-list = at-validate-batch .before in
+    all-refused _ _ _ _ (map-validated _ _ _ _ _ _ _ _ _ (at-validate-list .validate-list .ensures) (at-validate-batch .validate-batch .ensures) ∙ at-q .q .given .1) _ _
 
-slice-aggregate-validate-list-and-path : tie.Need-slice-aggregate-validate-list-and-path
-slice-aggregate-validate-list-and-path c = search needs
-
-validate-list-and-path-requires : tie.Need-validate-list-and-path-requires
-validate-list-and-path-requires c κs = search needs
+enum-told : tie.Need-enum-told
+enum-told c = search needs
 
 map-each-requires : tie.Need-map-each-requires
 map-each-requires c κs =
-    let at-if1 = c .before .before .before .before in
-    let at-batch-fits = at-if1 .before in
-    known-true (at-batch-fits .batch-fits .ensures) (at-if1 .if1 .left)
+    let at-enum-told = c .before .before in
+    let at-validate-batch = at-enum-told .before .before in
+    batch-has-room _ _ _ _ _ (sym (at-validate-batch .validate-batch .ensures) ∙ at-enum-told .enum-told .given .1)
 
 same-length : tie.Need-same-length
 same-length c = search needs
@@ -32,20 +39,21 @@ same-length-2 c = search needs
 returns-2 : tie.Need-returns-2
 returns-2 c =
     let at-map-each = c .before .before .before .before in
-    let at-validate-list-and-path = at-map-each .before .before .before in
-    let at-if1 = at-validate-list-and-path .before .before in
-    let at-batch-fits = at-if1 .before in
-    all-done _ _ _ _ (at-batch-fits .batch-fits .ensures) _ _ _ _ (at-if1 .if1 .left)
-    (all-same _ _ (map-step _ _ _ _ _ _ _ _ (at-validate-list-and-path .validate-list-and-path .ensures)) _ _ _ _ _ (at-map-each .map-each .ensures))
+    let at-enum-told = at-map-each .before .before .before in
+    let at-validate-batch = at-enum-told .before .before in
+    let at-validate-list = at-validate-batch .before in
+    all-done _ _ _ (map-validated _ _ _ _ _ _ _ _ _ (at-validate-list .validate-list .ensures) (at-validate-batch .validate-batch .ensures) ∙ at-enum-told .enum-told .given .1) _ _ _ _
+    (all-same _ _ (map-step _ _ _ _ _ _ _ _ (at-validate-list .validate-list .ensures)) _ _ _ _ _ (at-map-each .map-each .ensures))
 
 pub map-all-spec : {M : Type 1} → statement M
 map-all-spec =
     tie.close
     (tie.spec
-    batch-fits-requires
+    validate-list-requires
+    validate-batch-requires
+    enum-known-q
     returns
-    slice-aggregate-validate-list-and-path
-    validate-list-and-path-requires
+    enum-told
     map-each-requires
     same-length
     same-length-2

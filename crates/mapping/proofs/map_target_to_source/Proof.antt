@@ -1,4 +1,4 @@
-use Rattle.mapping.specs.Direction.{directionCall}
+use Rattle.mapping.specs.Calls.{directionCall}
 use borrow.Author.Needs.{needs}
 use Rattle.mapping.proofs.map_target_to_source.Statement.{statement}
 use Rattle.mapping.proofs.map_target_to_source.Tie as tie

@@ -1,6 +1,6 @@
 use lib.ListN.{length}
 use mathlib.Core.Path.{refl, _∙_}
-use Rattle.relocate_chain.specs.ChainStep.{skippedSource}
+use Rattle.relocate_chain.specs.Calls.{skippedSource}
 use Rattle.relocate_chain.proofs.CallBranches.{validate-skip, chain-refused, chain-no-room, chain-short-path, chain-passed}
 use borrow.Author.Needs.{needs}
 use Rattle.relocate_chain.proofs.chain_through_relocates.Statement.{statement}

@@ -6,7 +6,7 @@ use lib.ListN.{length, take}
 use lib.Seq.{length-take-le}
 use Rattle.pair_list.specs.Places.{pairsIn}
 use Rattle.relocate_chain.specs.Chain.{chain, chainFrom}
-use Rattle.relocate_chain.specs.ChainStep.{skippedSource}
+use Rattle.relocate_chain.specs.Calls.{skippedSource}
 use Rattle.relocate_chain.proofs.steps.chain_into.Statement.{statement}
 use Rattle.relocate_chain.proofs.steps.chain_into.Tie as tie
 

@@ -4,7 +4,8 @@ use Prim.Native.Nat.{_≤_, _-_}
 use Rattle.pair_list.specs.Places.{pairsIn}
 use Rattle.pair_list.proofs.BestLaws.{search-end}
 use Rattle.relocate_chain.specs.Chain.{replacement, longestSource}
-use Rattle.relocate_chain.specs.ChainStep.{skippedSource, sourceKept}
+use Rattle.relocate_chain.specs.ChainStep.{sourceKept}
+use Rattle.relocate_chain.specs.Calls.{skippedSource}
 use borrow.Author.Needs.{needs}
 use Rattle.relocate_chain.proofs.steps.longest_source.Statement.{statement}
 use Rattle.relocate_chain.proofs.steps.longest_source.Tie as tie
