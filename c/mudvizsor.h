@@ -202,7 +202,8 @@ size_t mudvizsor_translate_to_target(
 
 /* Makes one of the three calls above for each of many paths, but validates the list only once. `direction` selects the call: 0
    for mudvizsor_map_source_to_target, 1 for mudvizsor_map_target_to_source, any other number for
-   mudvizsor_translate_to_target. Refusals of the whole call: 5. */
+   mudvizsor_translate_to_target. Refusals of the whole call: 1 to 4 for the list, 4 if there are more paths than spots, 5.
+   What is left to the paths, 1, 2 and 6 to 8, is in their replies. */
 size_t mudvizsor_map_all(
     const char *store, size_t store_length, const size_t *places, size_t places_length, size_t count, bool mark,
     size_t direction, const char *texts, size_t texts_length, const size_t *spots, size_t spots_length, size_t n, char *out,
@@ -386,7 +387,8 @@ size_t mudvizsor_route_home(
     size_t legs_length, size_t count, const char *path, size_t path_length, char *out, size_t out_length);
 
 /* Makes one of the two calls above for each of many paths, mudvizsor_route_home if `home` is true, but validates the legs
-   only once. Refusals of the whole call: 5. */
+   only once. Refusals of the whole call: 1 to 4 for the legs, 4 if there are more paths than spots, 5. What is left to the
+   paths, 1, 2 and 6 to 8, is in their replies. */
 size_t mudvizsor_route_all(
     const char *store, size_t store_length, const size_t *places, size_t places_length, const size_t *legs,
     size_t legs_length, size_t count, bool home, const char *texts, size_t texts_length, const size_t *spots,

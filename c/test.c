@@ -370,8 +370,8 @@ static void check_many(const char *entry, size_t reply, const struct buffers *bu
     check(numbers_are(buffers, replies, 5), entry, "five paths", "replies");
 }
 
-static void check_many_refused(const char *entry, const char *input, size_t reply, const struct buffers *buffers) {
-    check_reply(entry, input, reply, MUDVIZSOR_NO_ROOM, 0);
+static void check_many_refused(const char *entry, const char *input, size_t reply, int number, const struct buffers *buffers) {
+    check_reply(entry, input, reply, number, 0);
     check(bytes_are(buffers, "", 0) && numbers_are(buffers, NULL, 0), entry, input, "nothing is written");
 }
 
@@ -387,13 +387,21 @@ static void test_map_all(void) {
                                          buffers->slots.lent, buffers->slots_length);
         check_many(entry, reply, buffers, results[direction], replies[direction]);
     }
-    const struct { size_t spots, n, out, replies; } shorts[] = {
-        {9, 5, 1275, 5}, {10, 5, 1274, 5}, {10, 5, 1275, 4}, {10, SIZE_MAX, 1275, 5}, {10, SIZE_MAX / 2 + 1, 1275, 5}};
+    const struct { size_t spots, n, out, replies; int number; } shorts[] = {
+        {9, 5, 1275, 5, 4}, {10, 5, 1274, 5, 5}, {10, 5, 1275, 4, 5}, {9, 5, 0, 0, 4}, {10, SIZE_MAX, 1275, 5, 4},
+        {10, SIZE_MAX / 2 + 1, 1275, 5, 4}};
     for (size_t i = 0; i < LENGTH(shorts); i++) {
         struct buffers *buffers = lend(shorts[i].out, shorts[i].replies);
         size_t reply = mudvizsor_map_all(LIST(list), false, 0, many_texts, 10, many_spots, shorts[i].spots, shorts[i].n,
                                          OUT(buffers), buffers->slots.lent, buffers->slots_length);
-        check_many_refused(entry, "a buffer is too small", reply, buffers);
+        check_many_refused(entry, "a buffer is too small", reply, shorts[i].number, buffers);
+    }
+    list = list_of("A>/X");
+    for (size_t n = 0; n < 2; n++) {
+        struct buffers *buffers = lend(0, 0);
+        size_t reply = mudvizsor_map_all(LIST(list), false, 0, many_texts, 10, many_spots, 10, n, OUT(buffers),
+                                         buffers->slots.lent, buffers->slots_length);
+        check_many_refused(entry, "a list that is not legal", reply, 2, buffers);
     }
 }
 
@@ -748,7 +756,12 @@ static void test_route_all(void) {
     struct buffers *buffers = lend(5 * 255, 4);
     size_t reply = mudvizsor_route_all(ROUTE(list, two_legs, 2), false, many_texts, 10, many_spots, 10, 5, OUT(buffers),
                                        buffers->slots.lent, buffers->slots_length);
-    check_many_refused(entry, "too few replies", reply, buffers);
+    check_many_refused(entry, "too few replies", reply, 5, buffers);
+    list = list_of("A>/B /B/c>/B/d");
+    buffers = lend(0, 0);
+    reply = mudvizsor_route_all(ROUTE(list, two_legs, 2), false, many_texts, 10, many_spots, 10, 0, OUT(buffers),
+                                buffers->slots.lent, buffers->slots_length);
+    check_many_refused(entry, "a leg that is not legal", reply, 2, buffers);
 }
 
 /* ---- One line of frames ---- */

@@ -1,8 +1,10 @@
-//! Calls for many paths: each path must have the result of the single call with a buffer of 255 bytes.
+//! Calls for many paths: a bad list or route refuses the whole call, then more paths than spots, then a short buffer; otherwise
+//! each path must have the result of the single call with a buffer of 255 bytes.
 
 use crate::comparison::Comparison;
 use crate::lent::Lent;
 use crate::maps::calls::WithText;
+use crate::maps::list::TOO_MANY_PAIRS;
 use crate::tally::{Call, Given};
 use crate::text::{Answer, BUFFER_TOO_SMALL, TOO_LONG, Text};
 use mudvizsor::ffi::Reply;
@@ -20,6 +22,8 @@ type Entry<'a> = &'a dyn Fn(Paths, &mut [u8], &mut [usize]) -> Reply;
 pub struct Many<'a> {
     pub name: &'static str,
     pub given: &'a dyn Given,
+    /// The refusal of the list or the route, questions 1 to 4.
+    pub refused: Option<u8>,
     pub entry: Entry<'a>,
 }
 
@@ -58,8 +62,8 @@ struct Lengths {
 }
 
 impl Comparison {
-    /// Compares one call for all paths: with just what is needed, with more, and with one too few in each slice. The expected
-    /// answers are those of the single calls.
+    /// Compares one call for all paths: with just what is needed, with more, with one too few in each slice, and with no paths. The
+    /// expected answers are those of the single calls, unless the whole call is refused.
     pub fn many(&mut self, call: &Many, texts: &[Text], mut expected: Vec<Answer<Path>>) {
         expected.push(Err(TOO_LONG));
         let lent = &LentPaths::new(texts);
@@ -67,16 +71,31 @@ impl Comparison {
         let needed = Lengths { spots: 2 * count, bytes: MAX_PATH_LEN * count, replies: count };
         let more = Lengths { bytes: needed.bytes + MORE, replies: needed.replies + MORE, ..needed };
         for lengths in [needed, more] {
-            self.all_mapped(call, texts, lent, lengths, &expected);
+            match call.refused {
+                Some(number) => self.all_refused(call, lent, lengths, number),
+                None => self.all_mapped(call, texts, lent, lengths, &expected),
+            }
         }
         let short = [
-            Lengths { spots: needed.spots - 1, ..needed },
-            Lengths { bytes: needed.bytes - 1, ..needed },
-            Lengths { replies: needed.replies - 1, ..needed },
+            (Lengths { spots: needed.spots - 1, ..needed }, TOO_MANY_PAIRS),
+            (Lengths { spots: needed.spots - 1, bytes: 0, replies: 0 }, TOO_MANY_PAIRS),
+            (Lengths { bytes: needed.bytes - 1, ..needed }, BUFFER_TOO_SMALL),
+            (Lengths { replies: needed.replies - 1, ..needed }, BUFFER_TOO_SMALL),
         ];
-        for lengths in short {
-            self.all_refused(call, lent, lengths);
+        for (lengths, number) in short {
+            self.all_refused(call, lent, lengths, call.refused.unwrap_or(number));
         }
+        self.no_paths(call);
+    }
+
+    /// Compares the call for no paths, which puts the questions of the list or the route all the same.
+    fn no_paths(&mut self, call: &Many) {
+        let Many { name, given, refused, entry } = *call;
+        let (mut bytes, mut numbers) = (Lent::bytes(0), Lent::numbers(0));
+        let none = Paths { texts: &[], spots: &[], count: 0 };
+        let found = entry(none, bytes.lend(0), numbers.lend(0));
+        let wrong = bytes.first_wrong(&[]).or(numbers.first_wrong(&[]));
+        self.tally.compare(Call { name, given, capacity: Some(0) }, refused.map_or(Ok(0), Err), found, wrong);
     }
 
     fn all_mapped(
@@ -87,7 +106,7 @@ impl Comparison {
         lengths: Lengths,
         expected: &[Answer<Path>],
     ) {
-        let Many { name, given, entry } = *call;
+        let Many { name, given, entry, .. } = *call;
         let (mut bytes, mut numbers) = (Lent::bytes(lengths.bytes), Lent::numbers(lengths.replies));
         let replies = numbers.lend(lengths.replies);
         let found = entry(lent.lend(lengths.spots), bytes.lend(lengths.bytes), replies);
@@ -103,13 +122,13 @@ impl Comparison {
         self.tally.compare(Call { name, given, capacity: Some(lengths.bytes) }, Ok(0), found, wrong);
     }
 
-    fn all_refused(&mut self, call: &Many, lent: &LentPaths, lengths: Lengths) {
-        let Many { name, given, entry } = *call;
+    fn all_refused(&mut self, call: &Many, lent: &LentPaths, lengths: Lengths, number: u8) {
+        let Many { name, given, entry, .. } = *call;
         let (mut bytes, mut numbers) = (Lent::bytes(lengths.bytes), Lent::numbers(lengths.replies));
         let found = entry(lent.lend(lengths.spots), bytes.lend(lengths.bytes), numbers.lend(lengths.replies));
         let wrong = bytes.first_wrong(&[]).or(numbers.first_wrong(&[]));
         let of_all = Call { name, given, capacity: Some(lengths.bytes) };
-        self.tally.compare(of_all, Err(BUFFER_TOO_SMALL), found, wrong);
+        self.tally.compare(of_all, Err(number), found, wrong);
     }
 }
 

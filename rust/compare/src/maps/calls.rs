@@ -93,7 +93,8 @@ impl Comparison {
             let entry = |paths: Paths, out: &mut [u8], replies: &mut [usize]| {
                 apply_all(call.direction, list.for_library(), paths, out, replies)
             };
-            self.many(&Many { name: "map_all", given: list, entry: &entry }, texts, expected);
+            let refused = list.map().err();
+            self.many(&Many { name: "map_all", given: list, refused, entry: &entry }, texts, expected);
         }
     }
 

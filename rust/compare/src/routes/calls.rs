@@ -119,7 +119,8 @@ impl Comparison {
             let entry = |paths: Paths, out: &mut [u8], replies: &mut [usize]| {
                 route_all(route.for_library(), call.home, paths, out, replies)
             };
-            self.many(&Many { name: "route_all", given: route, entry: &entry }, texts, expected);
+            let refused = route.maps().err();
+            self.many(&Many { name: "route_all", given: route, refused, entry: &entry }, texts, expected);
         }
     }
 }
