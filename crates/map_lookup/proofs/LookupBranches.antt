@@ -19,7 +19,7 @@ use Rattle.path_prefix.specs.Elements.{elementCount}
 use Rattle.path_prefix.proofs.CountLaws.{count-more}
 use Rattle.path_prefix.proofs.PrefixLaws.{prefix-rest, prefix-starts, prefix-long}
 use Rattle.map_lookup.specs.declared.BestSoFar.{BestSoFar}
-use Rattle.map_lookup.specs.LookupStep.{substring, keyCount, minimum, foundOf, notWorse, considerKey}
+use Rattle.map_lookup.specs.LookupStep.{substring, keyCount, minimum, foundOf, notWorse, CoveredDecidesAlike, considerKey}
 use Rattle.pair_list.specs.Places.{textAt, keyAt}
 use Rattle.pair_list.specs.Best.{notLighter}
 use Rattle.pair_list.specs.LongestMatch.{matches, longestMatch}
@@ -48,10 +48,9 @@ prefix-of p s k h g l =
 no-fewer : (p s k : Text) → hasPrefix p s ≡ true → hasPrefix p k ≡ true → length s ≤ length k → elementCount s ≤ elementCount k
 no-fewer p s k h g l = rw (prefix-of p s k h g l) (count-more true s (drop (length s) k))
 
--- `notWorse` agrees with the comparison of elements.
-decides : (p s k : Text) → hasPrefix p s ≡ true → hasPrefix p k ≡ true → notWorse p (length s) k ≡ leb (elementCount s) (elementCount k)
+pub covered-decides-alike : CoveredDecidesAlike
 unfolding notWorse
-decides p s k h g = go (leb (length s) (length k)) refl
+covered-decides-alike p s k h g = go (leb (length s) (length k)) refl
   where
     go : (b : Bool) → leb (length s) (length k) ≡ b → (b || leb (elementCount (take (length s) p)) (elementCount k)) ≡ leb (elementCount s) (elementCount k)
     go true e = sym (le-leb (elementCount s) (elementCount k) (no-fewer p s k h g (leb-true (length s) (length k) e)))
@@ -67,18 +66,18 @@ module _ (f : BestSoFar) (p k : Text) (i : ℕ) where
   choose-other b h l = other (known-false h l)
 
   module _ (b : Bool) (h : b ≡ matches p k) (l : not b ≡ false) where
-    pub choose-longer : f .bytes ≤ length k → record { at = i; bytes = length k } ≡ considerKey f p k i
+    pub choose-longer : f .covered ≤ length k → record { at = i; covered = length k } ≡ considerKey f p k i
     unfolding considerKey notWorse
-    choose-longer m = rw (known-true h l, le-leb (f .bytes) (length k) m)
+    choose-longer m = rw (known-true h l, le-leb (f .covered) (length k) m)
 
-    module _ (m : length k < f .bytes) (x y : ℕ) (e : x ≡ elementCount k) (d : y ≡ elementCount (take (f .bytes) p)) where
+    module _ (m : length k < f .covered) (x y : ℕ) (e : x ≡ elementCount k) (d : y ≡ elementCount (take (f .covered) p)) where
       pub choose-fewer : x < y → f ≡ considerKey f p k i
       unfolding considerKey notWorse
-      choose-fewer n = rw (known-true h l, lt-leb (f .bytes) (length k) m, ← e, ← d, lt-leb y x n)
+      choose-fewer n = rw (known-true h l, lt-leb (f .covered) (length k) m, ← e, ← d, lt-leb y x n)
 
-      pub choose-more : y ≤ x → record { at = i; bytes = length k } ≡ considerKey f p k i
+      pub choose-more : y ≤ x → record { at = i; covered = length k } ≡ considerKey f p k i
       unfolding considerKey notWorse
-      choose-more n = rw (known-true h l, lt-leb (f .bytes) (length k) m, ← e, ← d, le-leb y x n)
+      choose-more n = rw (known-true h l, lt-leb (f .covered) (length k) m, ← e, ← d, le-leb y x n)
 
 -- Lemmas for `min`.
 pub least-first : (a b : ℕ) → a ≤ b → a ≡ minimum a b
@@ -209,15 +208,15 @@ offset-source invert h = rw h
 
 -- The match so far, given the index that is selected.
 abbrev pub matchKept : (ℕ → Text) → Option ℕ → BestSoFar
-matchKept key none = record { at = 0; bytes = 0 }
-matchKept key (some j) = record { at = j; bytes = length (key j) }
+matchKept key none = record { at = 0; covered = 0 }
+matchKept key (some j) = record { at = j; covered = length (key j) }
 
 -- A key that matches is not empty.
 matched-long : (p k : Text) → matches p k ≡ true → length k ≢ 0
 matched-long p k s e = false≢true (matches-empty p k e ∙ s)
 
 -- The loop invariant is that the match so far is the longest match among the first i keys.
-pub kept-none : (p : Text) (key : ℕ → Text) → record { at = 0; bytes = 0 } ≡ matchKept key (longestMatch p key 0)
+pub kept-none : (p : Text) (key : ℕ → Text) → record { at = 0; covered = 0 } ≡ matchKept key (longestMatch p key 0)
 unfolding longestMatch
 kept-none p key = refl
 
@@ -230,7 +229,7 @@ module _ (p : Text) (key : ℕ → Text) (i : ℕ) where
       compared : (j : ℕ) → matches p (key j) ≡ true → (b : Bool) → matches p (key i) ≡ b
           → cond (b && notWorse p (length (key j)) (key i)) (matchKept key (some i)) (matchKept key (some j))
           ≡ cond (b && leb (elementCount (key j)) (elementCount (key i))) (matchKept key (some i)) (matchKept key (some j))
-      compared j h true s = ap (λ (c : Bool). cond c (matchKept key (some i)) (matchKept key (some j))) (decides p (key j) (key i) (served p (key j) h) (served p (key i) s))
+      compared j h true s = ap (λ (c : Bool). cond c (matchKept key (some i)) (matchKept key (some j))) (covered-decides-alike p (key j) (key i) (served p (key j) h) (served p (key i) s))
       compared j h false s = refl
 
       go : (o : Option ℕ) → SaysLongest (matches p) key i o
@@ -238,17 +237,17 @@ module _ (p : Text) (key : ℕ → Text) (i : ℕ) where
       go none w = rw (le-leb 0 (length (key i)) (omega arith))
       go (some j) w = compared j (w .does-pass) (matches p (key i)) refl
 
-  pub kept-short : (f : BestSoFar) → f ≡ matchKept key (longestMatch p key i) → f .bytes ≤ length p
+  pub kept-short : (f : BestSoFar) → f ≡ matchKept key (longestMatch p key i) → f .covered ≤ length p
   kept-short f e = rw e (go (longestMatch p key i) (best-says p key i))
     where
-      go : (o : Option ℕ) → SaysLongest (matches p) key i o → (matchKept key o) .bytes ≤ length p
+      go : (o : Option ℕ) → SaysLongest (matches p) key i o → (matchKept key o) .covered ≤ length p
       go none w = omega arith
       go (some j) w = prefix-long p (key j) (served p (key j) (w .does-pass))
 
-  found-kept : (f : BestSoFar) → f ≡ matchKept key (longestMatch p key i) → record { found = not (eqb (f .bytes) 0); at = f .at } ≡ foundOf (longestMatch p key i)
+  found-kept : (f : BestSoFar) → f ≡ matchKept key (longestMatch p key i) → record { found = not (eqb (f .covered) 0); at = f .at } ≡ foundOf (longestMatch p key i)
   found-kept f e = rw e (go (longestMatch p key i) (best-says p key i))
     where
-      go : (o : Option ℕ) → SaysLongest (matches p) key i o → record { found = not (eqb ((matchKept key o) .bytes) 0); at = (matchKept key o) .at } ≡ foundOf o
+      go : (o : Option ℕ) → SaysLongest (matches p) key i o → record { found = not (eqb ((matchKept key o) .covered) 0); at = (matchKept key o) .at } ≡ foundOf o
       go none w = refl
       go (some j) w = rw (ne-eqb (length (key j)) 0 (matched-long p (key j) (w .does-pass)))
 
@@ -277,7 +276,7 @@ key-after store places false k h = sym (text-missing store places (2 * k + 0) (o
 
 pub kept-end : (p store : Text) (places : List ℕ) (n : ℕ) (invert : Bool) (held i : ℕ) (f : BestSoFar) → held ≡ minimum n (keyCount places invert)
     → f ≡ matchKept (keyAt store places invert) (longestMatch p (keyAt store places invert) i) → held ≤ i → i ≤ held
-    → record { found = not (eqb (f .bytes) 0); at = f .at } ≡ foundOf (longestMatch p (keyAt store places invert) n)
+    → record { found = not (eqb (f .covered) 0); at = f .at } ≡ foundOf (longestMatch p (keyAt store places invert) n)
 unfolding longestMatch
 kept-end p store places n invert held i f m h l r =
     let e : i ≡ minimum n (keyCount places invert) = omega arith in

@@ -1,4 +1,5 @@
 -- The steps of the search for the longest match: what it keeps, and which keys it skips.
+use mathlib.Core.Path.{_≡_}
 use Prim.Native.Nat.{ℕ, _+_, _/_}
 use mathlib.Core.Bool.{Bool, true, false, not, cond, _&&_, _||_}
 use mathlib.Core.List.{List, []}
@@ -6,6 +7,7 @@ use mathlib.Core.Option.{Option, none, some}
 use lib.Dec.{eqb, leb, ltb}
 use lib.ListN.{length, take, drop}
 use Rattle.text.specs.Text.{Text}
+use Rattle.path_prefix.specs.Prefix.{hasPrefix}
 use Rattle.path_prefix.specs.Elements.{countElements, elementCount}
 use Rattle.map_lookup.specs.declared.Found.{Found}
 use Rattle.map_lookup.specs.declared.BestSoFar.{BestSoFar}
@@ -16,16 +18,21 @@ abbrev pub foundOf : Option ℕ → Found
 foundOf none = record { found = false; at = 0 }
 foundOf (some i) = record { found = true; at = i }
 
--- The key k has at least as many elements as the match so far, the first n bytes of the path p. Both are prefixes of one path, so the
--- longer one has no fewer elements (proved in proofs/LookupBranches.antt).
+-- The key k has at least as many elements as the match so far, which covers the first n bytes of the path p. Elements are counted only if k
+-- covers fewer bytes.
 unfoldable pub notWorse : Text → ℕ → Text → Bool
 unfolding countElements
 notWorse p n k = leb n (length k) || leb (elementCount (take n p)) (elementCount k)
 
--- The match after the key k at index i was considered: that key if it matches and is at least as long as the match so far, f.
+-- Theorem (proofs/LookupBranches.antt): the bytes covered decide nothing that the elements would decide otherwise. Of two prefixes of one path,
+-- the one that covers more bytes has no fewer elements.
+abbrev pub CoveredDecidesAlike : Type 0
+CoveredDecidesAlike = (p s k : Text) → hasPrefix p s ≡ true → hasPrefix p k ≡ true → notWorse p (length s) k ≡ leb (elementCount s) (elementCount k)
+
+-- The match after the key k at index i was considered: that key if it matches and has at least as many elements as the match so far, f.
 unfoldable pub considerKey : BestSoFar → Text → Text → ℕ → BestSoFar
 unfolding matches notWorse
-considerKey f p k i = cond (matches p k && notWorse p (f .bytes) k) (record { at = i; bytes = length k }) f
+considerKey f p k i = cond (matches p k && notWorse p (f .covered) k) (record { at = i; covered = length k }) f
 
 -- The selected index is i.
 abbrev pub isIndex : ℕ → Option ℕ → Bool

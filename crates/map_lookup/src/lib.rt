@@ -16,11 +16,13 @@ pub struct Found {
     pub at: usize,
 }
 
-// The longest match so far: the index of the pair and the length of its key, which is 0 before a key has
-// matched. Two numbers stay in registers, whereas a separate flag would go through memory.
+// The longest match so far: the index of the pair, and how many bytes of the path its key covers, which is 0
+// before a key has matched. That number is no key length: keys are measured in elements. It says where the key
+// ends in the path, and spares counting: of two prefixes of one path, the one that covers more bytes has no fewer
+// elements (`CoveredDecidesAlike`). Two numbers stay in registers; a flag or a count would go through memory.
 struct BestSoFar {
     at: usize,
-    bytes: usize,
+    covered: usize,
 }
 
 // Returns whether the key matches the path: it is a nonempty prefix of it.
@@ -33,23 +35,23 @@ pub fn matches(path: &[u8], key: &[u8]) -> bool
     path_prefix::has_prefix(path, key)
 }
 
-// Returns the longer of the match so far and the key at index `i`. Elements are counted only if the key
-// matches and is shorter in bytes than the match so far.
+// Returns the match so far or the key at index `i`, whichever has more elements, the key on a tie. Elements are
+// counted only if the key matches and covers fewer bytes of the path than the match so far.
 fn better_of(f: BestSoFar, path: &[u8], key: &[u8], i: usize) -> BestSoFar
-    requires { ⌜ f .bytes ≤ length (now path) ⌝ }
+    requires { ⌜ f .covered ≤ length (now path) ⌝ }
     ensures { λ r. ⌜ r ≡ considerKey f (now (path .entry)) (now (key .entry)) i ⌝ }
 {
     if !matches(path, key) {
         return f;
     }
-    let old = f.bytes;
+    let old = f.covered;
     let n = key.len();
     if n < old {
         if path_prefix::element_count(key).0 < path_prefix::element_count(&path[..old]).0 {
             return f;
         }
     }
-    BestSoFar { at: i, bytes: n }
+    BestSoFar { at: i, covered: n }
 }
 
 // Like `better_of`, for the key of n bytes from `start` if it lies in the store. Most keys are rejected by
@@ -66,7 +68,7 @@ fn consider(
     requires { ⌜ limit ≤ length (now store) ⌝ }
     requires { ⌜ limit ≤ length (now path) ⌝ }
     requires { ⌜ limit ≡ minimum (length (now store)) (length (now path)) ⌝ }
-    requires { ⌜ f .bytes ≤ length (now path) ⌝ }
+    requires { ⌜ f .covered ≤ length (now path) ⌝ }
     ensures { λ r. ⌜ r ≡ considerKey f (now (path .entry)) (substring (now (store .entry)) start n) i ⌝ }
 {
     if n == 0 {
@@ -124,7 +126,7 @@ pub fn best_prefix(store: &[u8], places: &[usize], n: usize, invert: bool, path:
     let present = key_count(places, n, invert);
     let offset = key_offset(invert);
     let limit = min(store.len(), path.len());
-    let mut f = BestSoFar { at: 0, bytes: 0 };
+    let mut f = BestSoFar { at: 0, covered: 0 };
     let mut i = 0;
     while i < present {
         let j = 4 * i + offset;
@@ -132,7 +134,7 @@ pub fn best_prefix(store: &[u8], places: &[usize], n: usize, invert: bool, path:
         i += 1;
     }
     Found {
-        found: f.bytes != 0,
+        found: f.covered != 0,
         at: f.at,
     }
 }
@@ -145,12 +147,12 @@ fn wins(path: &[u8], t: &[u8], before: bool, key: &[u8]) -> bool
     if !matches(path, t) {
         return false;
     }
-    let n = path_prefix::element_count(key).0;
-    let m = path_prefix::element_count(t).0;
+    let n = path_prefix::element_count(key);
+    let m = path_prefix::element_count(t);
     if before {
-        return n < m;
+        return n.0 < m.0;
     }
-    n <= m
+    n.0 <= m.0
 }
 
 // Like `wins`, for the text of n bytes from `start`, at index `k`, and the key at index `i`. As in
