@@ -47,24 +47,29 @@ pub fn is_marked(mark: bool, store: &[u8], places: &[usize], n: usize) -> bool
     any_root_pair(store, places, n)
 }
 
-// The larger of two numbers.
-fn max(a: usize, b: usize) -> usize
-    ensures { λ r. ⌜ r ≡ larger a b ⌝ }
+// The larger of two numbers of elements.
+fn max(a: path_prefix::Elements, b: path_prefix::Elements) -> path_prefix::Elements
+    ensures { λ r. ⌜ r .0 ≡ larger (a .0) (b .0) ⌝ }
 {
-    if a < b { b } else { a }
+    if a.0 < b.0 { b } else { a }
 }
 
 // Writes the number of elements of each of the first n sources to `keys`, and returns the maximum.
-fn fill_element_counts(store: &[u8], places: &[usize], n: usize, keys: &mut [usize]) -> usize
+fn fill_element_counts(
+    store: &[u8],
+    places: &[usize],
+    n: usize,
+    keys: &mut [usize],
+) -> path_prefix::Elements
     requires { ⌜ n ≤ length (now keys) ⌝ }
     ensures { λ r. ⌜ HoldsElementCounts (now (store .entry)) (now (places .entry)) n (now (keys .exit)) ⌝ }
-    ensures { λ r. ⌜ r ≡ maxElements (now (store .entry)) (now (places .entry)) n ⌝ }
+    ensures { λ r. ⌜ r .0 ≡ maxElements (now (store .entry)) (now (places .entry)) n ⌝ }
 {
-    let mut top = 0;
+    let mut top = path_prefix::Elements(0);
     let mut i = 0;
     while i < n {
-        let e = path_prefix::element_count(pair_list::key_at(store, places, i, false)).0;
-        keys[i] = e;
+        let e = path_prefix::element_count(pair_list::key_at(store, places, i, false));
+        keys[i] = e.0;
         top = max(top, e);
         i += 1;
     }
@@ -95,17 +100,17 @@ fn keep_pair(
     store: &[u8],
     places: &[usize],
     i: usize,
-    key: usize,
-    e: usize,
+    key: path_prefix::Elements,
+    e: path_prefix::Elements,
     mark: bool,
     kept: &mut [usize],
     w: usize,
 ) -> usize
     requires { ⌜ w ≤ length (now kept) ⌝ }
-    ensures { λ r. ⌜ r ≡ cond (keepsPair isRedundant (now (store .entry)) (now (places .entry)) i key e mark (now (kept .entry)) w) (w + 1) w ⌝ }
-    ensures { λ r. ⌜ now (kept .exit) ≡ cond (keepsPair isRedundant (now (store .entry)) (now (places .entry)) i key e mark (now (kept .entry)) w) (copyEntry (now (places .entry)) i w (now (kept .entry))) (now (kept .entry)) ⌝ }
+    ensures { λ r. ⌜ r ≡ cond (keepsPair isRedundant (now (store .entry)) (now (places .entry)) i (key .0) (e .0) mark (now (kept .entry)) w) (w + 1) w ⌝ }
+    ensures { λ r. ⌜ now (kept .exit) ≡ cond (keepsPair isRedundant (now (store .entry)) (now (places .entry)) i (key .0) (e .0) mark (now (kept .entry)) w) (copyEntry (now (places .entry)) i w (now (kept .entry))) (now (kept .entry)) ⌝ }
 {
-    if key != e {
+    if key.0 != e.0 {
         return w;
     }
     if is_root_pair(store, places, i) {
@@ -127,20 +132,21 @@ fn keep_level(
     places: &[usize],
     n: usize,
     keys: &[usize],
-    e: usize,
+    e: path_prefix::Elements,
     mark: bool,
     kept: &mut [usize],
     w: usize,
 ) -> usize
     requires { ⌜ (4 * n ≤ length (now places)) × (n ≤ length (now keys)) ⌝ }
     requires { ⌜ HoldsElementCounts (now store) (now places) n (now keys) ⌝ }
-    requires { ⌜ 4 * (w + length (nonRootWithElements (now store) (now places) e n)) ≤ length (now kept) ⌝ }
-    ensures { λ r. ⌜ ((picks old : List ℕ) → HoldsEntries (now (places .entry)) picks old (now (kept .entry)) w → HoldsEntries (now (places .entry)) (keptIndices isRedundant (now (store .entry)) (now (places .entry)) mark picks (nonRootWithElements (now (store .entry)) (now (places .entry)) e n)) old (now (kept .exit)) r) ⌝ }
+    requires { ⌜ 4 * (w + length (nonRootWithElements (now store) (now places) (e .0) n)) ≤ length (now kept) ⌝ }
+    ensures { λ r. ⌜ ((picks old : List ℕ) → HoldsEntries (now (places .entry)) picks old (now (kept .entry)) w → HoldsEntries (now (places .entry)) (keptIndices isRedundant (now (store .entry)) (now (places .entry)) mark picks (nonRootWithElements (now (store .entry)) (now (places .entry)) (e .0) n)) old (now (kept .exit)) r) ⌝ }
 {
     let mut k = w;
     let mut i = 0;
     while i < n {
-        k = keep_pair(store, places, i, keys[i], e, mark, kept, k);
+        let key = path_prefix::Elements(keys[i]);
+        k = keep_pair(store, places, i, key, e, mark, kept, k);
         i += 1;
     }
     k
@@ -157,10 +163,10 @@ fn canonicalize(store: &[u8], places: &[usize], n: usize, mark: bool, kept: &mut
     let mut keys = [0usize; 64];
     let top = fill_element_counts(store, places, n, &mut keys);
     let mut w = 0;
-    let mut e = 0;
-    while e < top {
+    let mut e = path_prefix::Elements(0);
+    while e.0 < top.0 {
         w = keep_level(store, places, n, &keys, e, mark, kept, w);
-        e += 1;
+        e = path_prefix::Elements(e.0 + 1);
     }
     keep_level(store, places, n, &keys, top, mark, kept, w)
 }

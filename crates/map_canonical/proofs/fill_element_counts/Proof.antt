@@ -9,7 +9,7 @@ use Rattle.map_canonical.proofs.fill_element_counts.Statement.{statemen
 use Rattle.map_canonical.proofs.fill_element_counts.Tie as tie
 
 abbrev Inv-loop : tie.InvT-loop
-Inv-loop store places n keys₀ top₀ i₀ keys top i = (i ≤ n) × (n ≤ length keys) × HoldsElementCounts store places i keys × (top ≡ maxElements store places i) × (length keys ≡ length keys₀)
+Inv-loop store places n keys₀ top₀ i₀ keys top i = (i ≤ n) × (n ≤ length keys) × HoldsElementCounts store places i keys × (top .0 ≡ maxElements store places i) × (length keys ≡ length keys₀)
 
 abbrev μ-loop : tie.MeasureT-loop
 μ-loop store places n keys₀ top₀ i₀ keys top i = n - i

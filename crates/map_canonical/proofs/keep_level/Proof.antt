@@ -11,7 +11,7 @@ use Rattle.map_canonical.proofs.keep_level.Statement.{statement}
 use Rattle.map_canonical.proofs.keep_level.Tie as tie
 
 abbrev Inv-loop : tie.InvT-loop
-Inv-loop store places n keys e mark kept₀ w k₀ i₀ kept k i = (i ≤ n) × After store places e isRedundant mark kept₀ w i kept k × (k ≤ w + length (nonRootWithElements store places e i)) × (length kept ≡ length kept₀)
+Inv-loop store places n keys e mark kept₀ w k₀ i₀ kept k i = (i ≤ n) × After store places (e .0) isRedundant mark kept₀ w i kept k × (k ≤ w + length (nonRootWithElements store places (e .0) i)) × (length kept ≡ length kept₀)
 
 abbrev μ-loop : tie.MeasureT-loop
 μ-loop store places n keys e mark kept₀ w k₀ i₀ kept k i = n - i
@@ -19,11 +19,11 @@ abbrev μ-loop : tie.MeasureT-loop
 loop-holds : tie.Need-loop-holds Inv-loop μ-loop
 loop-holds c = (search needs, level-none _ _ _ isRedundant _ _ _, omega arith, refl)
 
-mul-keep-pair : tie.Need-mul-keep-pair Inv-loop μ-loop
-mul-keep-pair c = search needs
+mul-t13 : tie.Need-mul-t13 Inv-loop μ-loop
+mul-t13 c = search needs
 
-shared-slice-read-keep-pair : tie.Need-shared-slice-read-keep-pair Inv-loop μ-loop
-shared-slice-read-keep-pair c = search needs
+shared-slice-read-t15 : tie.Need-shared-slice-read-t15 Inv-loop μ-loop
+shared-slice-read-t15 c = search needs
 
 keep-pair-requires : tie.Need-keep-pair-requires Inv-loop μ-loop
 keep-pair-requires c κs =
@@ -61,8 +61,8 @@ keep-level-spec =
     Inv-loop
     μ-loop
     loop-holds
-    mul-keep-pair
-    shared-slice-read-keep-pair
+    mul-t13
+    shared-slice-read-t15
     keep-pair-requires
     add-i
     loop-less

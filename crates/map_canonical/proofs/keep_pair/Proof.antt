@@ -40,7 +40,10 @@ copy-entry-requires : tie.Need-copy-entry-requires
 copy-entry-requires c κs = search needs
 
 add-result : tie.Need-add-result
-add-result c = search needs
+add-result c =
+    let at-start = c .before .before .before .before .before .before .before .before .before .before .before .before .before .before .before .before .before in
+    let few = at-start .pre in
+    search needs
 
 same-length-2 : tie.Need-same-length-2
 same-length-2 c = search needs
