@@ -5,13 +5,14 @@ use mathlib.Core.List.{List}
 use Prim.Native.Nat.{ℕ, _+_, _*_, _-_, _/_, _≤_, _<_}
 use native.Mathlib.Omega.{arith}
 use lib.Dec.{leb}
+use lib.ListN.{length}
 use borrow.Author.Tests.{le-leb, lt-leb, leb-true, leb-false}
 use Rattle.text.specs.Text.{Text}
 use Rattle.text.proofs.BoolLaws.{and-l, and-r, known-true, known-false}
 use Rattle.pair_list.specs.Pair.{Pair, everyEnd}
 use Rattle.pair_list.specs.Places.{pairsIn}
 use Rattle.pair_list.proofs.PlaceLaws.{pairsIn-length}
-use Rattle.compose_pairs.specs.ComposePairs.{atMost511, composeFits}
+use Rattle.compose_pairs.specs.ComposePairs.{atMost511, composeFits, CanCompose}
 
 -- `sum_at_most`
 module _ (a b most : ℕ) where
@@ -37,19 +38,6 @@ module _ (store : Text) (places : List ℕ) (n : ℕ) (istore : Text) (iplaces :
   unfolding composeFits
   asked = rw (pairsIn-length store places n, pairsIn-length istore iplaces k) refl
 
-  pub enough-yes : everyEnd atMost511 outer ≡ true → everyEnd atMost511 inner ≡ true → 1534 * (k + n) ≤ room → 4 * (k + n) ≤ slots → composeFits outer inner room slots ≡ true
-  enough-yes e f h g = asked ∙ rw (e, f, le-leb (k + n) (room / 1534) (omega arith), le-leb (k + n) (slots / 4) (omega arith)) refl
-
-  pub enough-back : composeFits outer inner room slots ≡ true
-      → (everyEnd atMost511 outer ≡ true) × ((everyEnd atMost511 inner ≡ true) × ((1534 * (k + n) ≤ room) × (4 * (k + n) ≤ slots)))
-  enough-back e =
-      let z = sym asked ∙ e in
-      let y = and-r (leb (k + n) (room / 1534)) (leb (k + n) (slots / 4) && (everyEnd atMost511 outer && everyEnd atMost511 inner)) z in
-      let x = and-r (leb (k + n) (slots / 4)) (everyEnd atMost511 outer && everyEnd atMost511 inner) y in
-      let h = leb-true (k + n) (room / 1534) (and-l (leb (k + n) (room / 1534)) (leb (k + n) (slots / 4) && (everyEnd atMost511 outer && everyEnd atMost511 inner)) z) in
-      let g = leb-true (k + n) (slots / 4) (and-l (leb (k + n) (slots / 4)) (everyEnd atMost511 outer && everyEnd atMost511 inner) y) in
-      (and-l (everyEnd atMost511 outer) (everyEnd atMost511 inner) x, (and-r (everyEnd atMost511 outer) (everyEnd atMost511 inner) x, (omega (arith, h), omega (arith, g))))
-
   module _ (a : Bool) (h : a ≡ leb (k + n) (room / 1534)) where
     pub enough-room : not a ≡ true → false ≡ composeFits outer inner room slots
     enough-room e = sym (asked ∙ rw (known-false h e) refl)
@@ -64,3 +52,32 @@ module _ (store : Text) (places : List ℕ) (n : ℕ) (istore : Text) (iplaces :
 
         pub enough-inner : not c ≡ false → (d : Bool) → d ≡ everyEnd atMost511 inner → d ≡ composeFits outer inner room slots
         enough-inner l d j = j ∙ sym (asked ∙ rw (known-true h e, known-true g f, known-true i l) refl)
+
+-- `composeFits` and the facts that it tests.
+module _ (store : Text) (places : List ℕ) (n : ℕ) (istore : Text) (iplaces : List ℕ) (k : ℕ) (bytes : Text) (slots : List ℕ) where
+  abbrev Enough : Type 0
+  Enough = CanCompose (pairsIn store places n) (pairsIn istore iplaces k) (k + n) bytes slots
+
+  abbrev enough : Bool
+  enough = composeFits (pairsIn store places n) (pairsIn istore iplaces k) (length bytes) (length slots)
+
+  pub enough-yes : Enough → enough ≡ true
+  enough-yes h =
+      asked store places n istore iplaces k (length bytes) (length slots)
+      ∙ rw (
+        h .outerEnds,
+        h .innerEnds,
+        le-leb (k + n) (length bytes / 1534) (omega (arith, h .scratch .room)),
+        le-leb (k + n) (length slots / 4) (omega (arith, h .scratch .entries)),
+      ) refl
+
+  pub enough-back : enough ≡ true → Enough
+  enough-back e =
+      let z = sym (asked store places n istore iplaces k (length bytes) (length slots)) ∙ e in
+      let h : leb (k + n) (length bytes / 1534) ≡ true = search (and-l, and-r) in
+      let g : leb (k + n) (length slots / 4) ≡ true = search (and-l, and-r) in
+      record {
+        outerEnds = search (and-l, and-r);
+        innerEnds = search (and-l, and-r);
+        scratch = record { room = omega (arith, leb-true (k + n) (length bytes / 1534) h); entries = omega (arith, leb-true (k + n) (length slots / 4) g) };
+      }

@@ -11,6 +11,7 @@ use Rattle.pair_list.specs.Pair.{Pair, everyEnd}
 use Rattle.pair_list.specs.Places.{pairsIn, listText, listPlaces, endBytes}
 use Rattle.map_spec.specs.Map.{Map, mapSourceToTarget, mapTargetToSource}
 use Rattle.map_spec.specs.Compose.{composedPair, composedPairs}
+use Rattle.pair_buffer.specs.PairBuffer.{ScratchRoom}
 use Rattle.pair_buffer.specs.Ends.{atMost}
 use Rattle.compose_pairs.specs.declared.Image.{Image}
 use Rattle.compose_pairs.specs.declared.Image.the-variants.{Nothing, Made}
@@ -56,6 +57,12 @@ unfoldable pub composeFits : List Pair → List Pair → ℕ → ℕ → Bool
 unfolding everyEnd
 composeFits outer inner room slots =
     leb (length inner + length outer) (room / 1534) && (leb (length inner + length outer) (slots / 4) && (everyEnd atMost511 outer && everyEnd atMost511 inner))
+
+-- The same as facts, for lists of `count` pairs together.
+pub record CanCompose (outer inner : List Pair) (count : ℕ) (bytes : Text) (slots : List ℕ) : Type 0 where
+  pub outerEnds : everyEnd atMost511 outer ≡ true
+  pub innerEnds : everyEnd atMost511 inner ≡ true
+  pub scratch : ScratchRoom 1534 count bytes slots
 
 -- The list that is built: the composed list if the capacity suffices, otherwise the empty list, which leaves the buffers unchanged.
 unfoldable pub composedOrNone : Map → Map → ℕ → ℕ → List Pair

@@ -9,11 +9,10 @@ ghost use lib.Dec.{leb};
 ghost use lib.ListN.{length};
 ghost use Rattle.text.specs.Text.{equal, written, writtenAt, writtenIfFits};
 ghost use Rattle.path_join.specs.Join.{join};
-ghost use Rattle.pair_list.specs.Pair.{everyEnd};
 ghost use Rattle.pair_list.specs.Places.{pairsIn, pairEntry, listText, listPlaces};
 ghost use Rattle.map_spec.specs.Map.{lentMap};
 ghost use Rattle.map_spec.specs.Compose.{composedPair, hasSource, addIfNewSource, pulledBack, composedPairs};
-ghost use Rattle.compose_pairs.specs.ComposePairs.{mapPlainly, pathIfMarked, image, imageLength, imageBuffer, composedTarget, atMost511, composeFits, builtOf, composedOrNone, PackedList, IsPacked};
+ghost use Rattle.compose_pairs.specs.ComposePairs.{mapPlainly, pathIfMarked, image, imageLength, imageBuffer, composedTarget, composeFits, CanCompose, builtOf, composedOrNone, PackedList, IsPacked};
 
 // The result of mapping a text: no path, or the length of the path made.
 enum Image {
@@ -237,10 +236,7 @@ fn compose_all(
     bytes: &mut [u8],
     slots: &mut [usize],
 ) -> usize
-    requires { ⌜ everyEnd atMost511 (pairsIn (now store) (now places) count) ≡ true ⌝ }
-    requires { ⌜ everyEnd atMost511 (pairsIn (now istore) (now iplaces) inner) ≡ true ⌝ }
-    requires { ⌜ 1534 * inner ≤ length (now bytes) ⌝ }
-    requires { ⌜ 4 * inner ≤ length (now slots) ⌝ }
+    requires { ⌜ CanCompose (pairsIn (now store) (now places) count) (pairsIn (now istore) (now iplaces) inner) (inner + count) (now bytes) (now slots) ⌝ }
     ensures { λ r. ⌜ PackedList (mapped (composedPair (lentMap (now (store .entry)) (now (places .entry)) count mark)) (pairsIn (now (istore .entry)) (now (iplaces .entry)) inner)) inner r (now (bytes .entry)) (now (slots .entry)) (now (bytes .exit)) (now (slots .exit)) ⌝ }
     ensures { λ r. ⌜ r ≤ 1534 * inner ⌝ }
 {
@@ -269,10 +265,7 @@ fn pull_back_all(
     bytes: &mut [u8],
     slots: &mut [usize],
 ) -> Built
-    requires { ⌜ everyEnd atMost511 (pairsIn (now store) (now places) count) ≡ true ⌝ }
-    requires { ⌜ everyEnd atMost511 (pairsIn (now istore) (now iplaces) inner) ≡ true ⌝ }
-    requires { ⌜ 1534 * (inner + count) ≤ length (now bytes) ⌝ }
-    requires { ⌜ 4 * (inner + count) ≤ length (now slots) ⌝ }
+    requires { ⌜ CanCompose (pairsIn (now store) (now places) count) (pairsIn (now istore) (now iplaces) inner) (inner + count) (now bytes) (now slots) ⌝ }
     requires { ⌜ IsPacked inner at (now bytes) (now slots) ⌝ }
     requires { ⌜ at ≤ 1534 * inner ⌝ }
     ensures { λ r. ⌜ PackedList (pulledBack (lentMap (now (istore .entry)) (now (iplaces .entry)) inner mark) (pairsIn (now (bytes .entry)) (now (slots .entry)) inner) (pairsIn (now (store .entry)) (now (places .entry)) count)) (r .n) (r .at) (now (bytes .entry)) (now (slots .entry)) (now (bytes .exit)) (now (slots .exit)) ⌝ }
@@ -301,10 +294,7 @@ fn compose_both(
     bytes: &mut [u8],
     slots: &mut [usize],
 ) -> Built
-    requires { ⌜ everyEnd atMost511 (pairsIn (now store) (now places) count) ≡ true ⌝ }
-    requires { ⌜ everyEnd atMost511 (pairsIn (now istore) (now iplaces) inner) ≡ true ⌝ }
-    requires { ⌜ 1534 * (inner + count) ≤ length (now bytes) ⌝ }
-    requires { ⌜ 4 * (inner + count) ≤ length (now slots) ⌝ }
+    requires { ⌜ CanCompose (pairsIn (now store) (now places) count) (pairsIn (now istore) (now iplaces) inner) (inner + count) (now bytes) (now slots) ⌝ }
     ensures { λ r. ⌜ PackedList (composedPairs (lentMap (now (store .entry)) (now (places .entry)) count mark) (lentMap (now (istore .entry)) (now (iplaces .entry)) inner imark)) (r .n) (r .at) (now (bytes .entry)) (now (slots .entry)) (now (bytes .exit)) (now (slots .exit)) ⌝ }
 {
     let at = compose_all(

@@ -19,19 +19,20 @@ use Rattle.refusal.specs.declared.Refusal.{Refusal}
 use Rattle.refusal.specs.declared.Refusal.the-variants.{TooMany, NoRoom, MadeTooLong}
 use Rattle.refusal.specs.declared.Validation.{Validation}
 use Rattle.refusal.specs.declared.Validation.the-variants.{Passed, Refused as RefusedValidation}
-use Rattle.validate.specs.Validate.{lentList, validateCall}
-use Rattle.validate.proofs.PassedLaws.{ValidList, first-sound, second-sound}
+use Rattle.validate.specs.Validate.{lentList, validateCall, ValidList}
+use Rattle.validate.proofs.PassedLaws.{first-sound, second-sound}
 use Rattle.map_spec.specs.Map.{Map}
 use Rattle.map_spec.specs.New.{fromParts}
 use Rattle.map_spec.specs.Compose.{isPathIdentity, composedPairs, compose}
 use Rattle.map_function.specs.declared.MapFunction.{MapFunction}
 use Rattle.map_function.specs.MapFunction.{listOf, mapOf}
 use Rattle.map_function.specs.MapOutcome.{map, refused, requireListRoom, withinLimits, withoutDropping, fromPartsOutcome, countInSlice}
-use Rattle.pair_buffer.specs.PairBuffer.{HoldsList}
-use Rattle.pair_buffer.specs.Ends.{requireShort, requireLegal, fromEnds}
-use Rattle.pair_buffer.proofs.PairBufferLaws.{holds-list}
+use Rattle.pair_buffer.specs.PairBuffer.{HoldsList, ScratchRoom}
+use Rattle.pair_buffer.specs.Ends.{fromEndsGiven, fromEnds}
+use Rattle.pair_buffer.proofs.PairBufferLaws.{holds-list, built-held}
 use Rattle.pair_buffer.proofs.MapLaws.{identity-lent, held-all, limited-map, fromEnds-map}
-use Rattle.compose_pairs.specs.ComposePairs.{atMost511}
+use Rattle.compose_pairs.specs.ComposePairs.{composeFits}
+use Rattle.compose_pairs.proofs.ComposeFitsBranches.{enough-yes}
 use Rattle.compose_pairs.proofs.LengthLaws.{short-bounded}
 use Rattle.map_compose.specs.Calls.{composedTime, composedTimeOf, composeLists, composeOutcome, composeCall, ComposesTo}
 use Rattle.map_compose.proofs.ComposedEnds.{composed-ends, ends-legal}
@@ -46,56 +47,36 @@ module _ (outer inner : LayerOffset) (b c d : Bool) (h : b ≡ isIdentity outer)
   unfolding composedTime
   time-other k r f = rw (← h, ← g, told e k) f
 
--- `from_scratch`
-module _ (store : Text) (places : List ℕ) (n : ℕ) (mark : Bool) (time : LayerOffset) (out : Text) (slots : List ℕ) (b : Bool)
-    (h : b ≡ allShort (pairsIn store places n)) where
-  abbrev list : List Pair
-  list = pairsIn store places n
-
-  pub made-parts : b ≡ true → 4 * n ≤ length places → allEnds list ≡ true
-      → fromEnds list mark time out slots ≡ countInSlice (lentList store places n) (fromPartsOutcome list mark time out slots)
-  unfolding fromEnds requireShort requireLegal fromPartsOutcome
-  made-parts k l e = rw (told h k, ends-legal list e) (sym (held-all store places n (fromPartsOutcome list mark time out slots) (omega arith)))
-
-  pub made-many : 64 < n → fromEnds list mark time out slots ≡ refused TooMany
-  unfolding fromEnds
-  made-many l = rw (pairsIn-length store places n, lt-leb n 64 l)
-
-  module _ (few : n ≤ 64) where
-    made-room : listFitsBuffers list out slots ≡ false → fromEnds list mark time out slots ≡ refused NoRoom
-    unfolding fromEnds requireListRoom
-    made-room g = rw (g, pairsIn-length store places n, le-leb n 64 few)
-
-    pub made-slots : length slots / 4 < n → fromEnds list mark time out slots ≡ refused NoRoom
-    unfolding listFitsBuffers
-    made-slots l = made-room (rw (pairsIn-length store places n, lt-leb n (length slots / 4) l) (and-no (leb (endBytes list) (length out))))
-
-    module _ (c : Bool) (g : c ≡ leb (endBytes list) (length out)) where
-      pub made-bytes : not c ≡ true → fromEnds list mark time out slots ≡ refused NoRoom
-      unfolding listFitsBuffers
-      made-bytes l = made-room (rw (known-false g l))
-
-      pub made-long : b ≡ false → n ≤ length slots / 4 → not c ≡ false → fromEnds list mark time out slots ≡ refused MadeTooLong
-      unfolding fromEnds requireListRoom listFitsBuffers requireShort
-      made-long k l f = rw (pairsIn-length store places n, le-leb n 64 few, known-true g f, le-leb n (length slots / 4) l, told h k)
-
 -- Two maps, neither the identity: the map is built from the composed list, with the composed mark.
 pub composed-made : (outer inner : Map) (time : LayerOffset) (out : Text) (slots : List ℕ)
     → composeLists outer inner time out slots ≡ fromEnds (composedPairs outer inner) (outer .mark && inner .mark) time out slots
 unfolding composeLists
 composed-made outer inner time out slots = refl
 
--- `compose_in`: the list that was built, with the composed mark and time offset.
-pub built-map : (outer inner : Map) (time : LayerOffset) (out : Text) (slots : List ℕ) (n at : ℕ) (bytes : Text) (own : List ℕ)
-    → HoldsList (composedPairs outer inner) n at bytes own → (mark : Bool) → mark ≡ (outer .mark && inner .mark) → (t : LayerOffset) → t ≡ time
-    → composeLists outer inner time out slots ≡ fromEnds (pairsIn bytes own n) mark t out slots
-built-map outer inner time out slots n at bytes own c mark e t f =
-    rw (composed-made outer inner time out slots, holds-list (composedPairs outer inner) n at bytes own c, e, f)
+-- `compose_in`: the buffers are large enough for two validated maps.
+pub compose-fits : (store : Text) (places : List ℕ) (outer : MapFunction) (istore : Text) (iplaces : List ℕ) (inner : MapFunction) (bytes : Text) (own : List ℕ)
+    → ValidList (listOf store places outer) → ValidList (listOf istore iplaces inner) → ScratchRoom 1534 (inner .count + outer .count) bytes own
+    → composeFits (pairsIn store places (outer .count)) (pairsIn istore iplaces (inner .count)) (length bytes) (length own) ≡ true
+compose-fits store places outer istore iplaces inner bytes own vo vi r =
+    enough-yes store places (outer .count) istore iplaces (inner .count) bytes own record {
+      outerEnds = short-bounded (pairsIn store places (outer .count)) (vo .shorts);
+      innerEnds = short-bounded (pairsIn istore iplaces (inner .count)) (vi .shorts);
+      scratch = r;
+    }
 
--- Every end of the built list is a prim path, `/` or empty.
-pub made-ends : (outer inner : Map) → allEnds (outer .pairs) ≡ true → allEnds (inner .pairs) ≡ true → (n at : ℕ) (bytes : Text) (own : List ℕ)
-    → HoldsList (composedPairs outer inner) n at bytes own → allEnds (pairsIn bytes own n) ≡ true
-made-ends outer inner eo ei n at bytes own c = ap allEnds (holds-list (composedPairs outer inner) n at bytes own c) ∙ composed-ends outer inner eo ei
+-- The list that was built, with the composed mark; its ends are legal.
+pub built-map : (outer inner : Map) → allEnds (outer .pairs) ≡ true → allEnds (inner .pairs) ≡ true
+    → (time : LayerOffset) (out : Text) (slots : List ℕ) (n at : ℕ) (bytes : Text) (own : List ℕ)
+    → HoldsList (composedPairs outer inner) n at bytes own → (mark : Bool) → mark ≡ (outer .mark && inner .mark)
+    → composeLists outer inner time out slots ≡ countInSlice (lentList bytes own n) (fromEndsGiven true (pairsIn bytes own n) mark time out slots)
+unfolding composeLists fromEnds
+built-map outer inner eo ei time out slots n at bytes own c mark e =
+    rw (
+      held-all bytes own n (fromEndsGiven true (pairsIn bytes own n) mark time out slots) (omega (arith, built-held (composedPairs outer inner) n at bytes own c)),
+      holds-list (composedPairs outer inner) n at bytes own c,
+      ends-legal (composedPairs outer inner) (composed-ends outer inner eo ei),
+      e,
+    ) refl
 
 -- `compose`
 module _ (store : Text) (places : List ℕ) (outer : MapFunction) (istore : Text) (iplaces : List ℕ) (inner : MapFunction) (out : Text) (slots : List ℕ)
@@ -111,30 +92,15 @@ module _ (store : Text) (places : List ℕ) (outer : MapFunction) (istore : Text
   call-refused x k = rw (← h, k)
 
   module _ (k : q ≡ Passed) where
-    outer-sound : ValidList (listOf store places outer)
+    pub outer-sound : ValidList (listOf store places outer)
     outer-sound = first-sound (listOf store places outer) (listOf istore iplaces inner ∷ []) [] [] (sym h ∙ k)
 
-    inner-sound : ValidList (listOf istore iplaces inner)
+    pub inner-sound : ValidList (listOf istore iplaces inner)
     inner-sound = second-sound (listOf store places outer) (listOf istore iplaces inner) [] [] [] (sym h ∙ k)
 
     passed : composeCall store places outer istore iplaces inner out slots ≡ composeOutcome o i (composedTimeOf outer inner) out slots
     unfolding composeCall
     passed = rw (← h, k)
-
-    pub call-bounded : everyEnd atMost511 (o .pairs) ≡ true
-    call-bounded = short-bounded (o .pairs) (outer-sound .shorts)
-
-    pub call-bounded-inner : everyEnd atMost511 (i .pairs) ≡ true
-    call-bounded-inner = short-bounded (i .pairs) (inner-sound .shorts)
-
-    pub call-ends : allEnds (o .pairs) ≡ true
-    call-ends = outer-sound .ends
-
-    pub call-ends-inner : allEnds (i .pairs) ≡ true
-    call-ends-inner = inner-sound .ends
-
-    pub call-few : inner .count + outer .count ≤ 128
-    call-few = omega (arith, outer-sound .few, inner-sound .few)
 
     module _ (t : LayerOffset) (e : t ≡ composedTimeOf outer inner) (b : Bool) (f : b ≡ (eqb (outer .count) 0 && outer .«has_root_identity»)) where
       identity-outer : isPathIdentity o ≡ b
@@ -162,9 +128,9 @@ module _ (store : Text) (places : List ℕ) (outer : MapFunction) (istore : Text
             ∙ rw (identity-outer, g, identity-inner, l, e)
             (sym (held-all store places (outer .count) (withoutDropping (pairsIn store places (outer .count)) (outer .«has_root_identity») (composedTimeOf outer inner) out slots) (outer-sound .held)))
 
-        pub call-composed : c ≡ false → composeCall store places outer istore iplaces inner out slots ≡ composeLists o i (composedTimeOf outer inner) out slots
+        pub call-composed : c ≡ false → composeCall store places outer istore iplaces inner out slots ≡ composeLists o i t out slots
         unfolding composeOutcome
-        call-composed l = passed ∙ rw (identity-outer, g, identity-inner, l)
+        call-composed l = passed ∙ rw (identity-outer, g, identity-inner, l, e)
 
 -- A map that the call returns is the composed map.
 pub composes-to : ComposesTo

@@ -22,7 +22,7 @@ use Rattle.map_spec.specs.New.{fromParts}
 use Rattle.map_spec.specs.Compose.{isPathIdentity, composedPairs}
 use Rattle.map_function.specs.MapFunction.{listOf, mapOf}
 use Rattle.map_function.specs.MapOutcome.{MapOutcome, map, refused, requireListRoom, withinLimits, withoutDropping}
-use Rattle.pair_buffer.specs.Ends.{requireShort, requireLegal, fromEnds}
+use Rattle.pair_buffer.specs.Ends.{requireShort, requireLegal, fromEndsGiven, fromEnds}
 use Rattle.map_compose.specs.Calls.{composedTimeOf, composeLists, composeOutcome, composeCall, ComposeNeverIllegal}
 use Rattle.map_compose.proofs.ComposedEnds.{composed-ends, ends-legal}
 use Rattle.map_compose.proofs.CallBranches.{composed-made}
@@ -68,7 +68,7 @@ never-as-it-is l mark time out slots =
     (never-room l out slots (map (record { pairs = l; mark = mark }) time) (never-map (record { pairs = l; mark = mark }) time))
 
 never-ends : (l : List Pair) (mark : Bool) (time : LayerOffset) (out : Text) (slots : List ℕ) → allEnds l ≡ true → Never (fromEnds l mark time out slots)
-unfolding fromEnds
+unfolding fromEnds fromEndsGiven requireLegal
 never-ends l mark time out slots e =
     never-many (leb (length l) 64) (requireListRoom l out slots (requireShort l (requireLegal l (map (fromParts l mark) time))))
     (never-room l out slots (requireShort l (requireLegal l (map (fromParts l mark) time))) (never-made l (fromParts l mark) time (ends-legal l e)))

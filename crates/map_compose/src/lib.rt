@@ -1,15 +1,11 @@
 // Composes two maps into one, after validating both. Ports `MapFunction::compose` of pcp/mapping.rs.
 ghost use mathlib.Core.Path.{_≡_};
-ghost use mathlib.Core.Bool.{true};
-ghost use Prim.Native.Nat.{_+_, _*_, _≤_};
-ghost use lib.ListN.{length};
-ghost use Rattle.pair_list.specs.Pair.{everyEnd, allEnds};
-ghost use Rattle.pair_list.specs.Places.{pairsIn};
-ghost use Rattle.map_function.specs.MapFunction.{mapOf};
+ghost use Prim.Native.Nat.{_+_};
+ghost use Rattle.validate.specs.Validate.{ValidList};
+ghost use Rattle.map_function.specs.MapFunction.{listOf, mapOf};
 ghost use Rattle.map_function.specs.MapOutcome.{ReturnsMap};
-ghost use Rattle.pair_buffer.specs.Ends.{fromEnds};
-ghost use Rattle.compose_pairs.specs.ComposePairs.{atMost511};
-ghost use Rattle.map_compose.specs.Calls.{composedTime, composedTimeOf, composeLists, composeCall};
+ghost use Rattle.pair_buffer.specs.PairBuffer.{ScratchRoom};
+ghost use Rattle.map_compose.specs.Calls.{composedTime, composeLists, composeCall};
 
 // The time offset of the composed map.
 pub fn composed_time(
@@ -24,37 +20,8 @@ pub fn composed_time(
     outer.concatenate(inner)
 }
 
-// Builds the map from the first n pairs of a composed list: validates them (questions 4, 5 and 7), then drops
-// redundant pairs. Every end is a prim path, `/` or empty, so question 8 needs no check.
-fn from_scratch(
-    store: &[u8],
-    places: &[usize],
-    n: usize,
-    mark: bool,
-    time: layer_offset::LayerOffset,
-    out: &mut [u8],
-    slots: &mut [usize],
-) -> map_function::MapReply
-    requires { ⌜ 4 * n ≤ length (now places) ⌝ }
-    requires { ⌜ allEnds (pairsIn (now store) (now places) n) ≡ true ⌝ }
-    ensures { λ r. ⌜ ReturnsMap (fromEnds (pairsIn (now (store .entry)) (now (places .entry)) n) mark time (now (out .entry)) (now (slots .entry))) r (now (out .entry)) (now (out .exit)) (now (slots .entry)) (now (slots .exit)) ⌝ }
-{
-    if pair_buffer::all_short(store, places, n) {
-        return map_function::from_parts(store, places, n, mark, time, out, slots);
-    }
-    if 64 < n {
-        return map_function::MapReply::Refused(refusal::Refusal::TooMany);
-    }
-    if slots.len() / 4 < n {
-        return map_function::MapReply::Refused(refusal::Refusal::NoRoom);
-    }
-    if !pair_list_write::list_fits(store, places, n, out.len()) {
-        return map_function::MapReply::Refused(refusal::Refusal::NoRoom);
-    }
-    map_function::MapReply::Refused(refusal::Refusal::MadeTooLong)
-}
-
-// Composes two validated maps, neither of them the identity on paths, in the given scratch buffers.
+// Composes two validated maps, neither of them the identity on paths, in the given scratch buffers. Every end
+// of the composed list is a prim path, `/` or empty, so question 8 needs no check.
 fn compose_in(
     store: &[u8],
     places: &[usize],
@@ -62,18 +29,16 @@ fn compose_in(
     istore: &[u8],
     iplaces: &[usize],
     inner: map_function::MapFunction,
+    time: layer_offset::LayerOffset,
     bytes: &mut [u8],
     own: &mut [usize],
     out: &mut [u8],
     slots: &mut [usize],
 ) -> map_function::MapReply
-    requires { ⌜ everyEnd atMost511 (pairsIn (now store) (now places) (outer .count)) ≡ true ⌝ }
-    requires { ⌜ everyEnd atMost511 (pairsIn (now istore) (now iplaces) (inner .count)) ≡ true ⌝ }
-    requires { ⌜ allEnds (pairsIn (now store) (now places) (outer .count)) ≡ true ⌝ }
-    requires { ⌜ allEnds (pairsIn (now istore) (now iplaces) (inner .count)) ≡ true ⌝ }
-    requires { ⌜ 1534 * (inner .count + outer .count) ≤ length (now bytes) ⌝ }
-    requires { ⌜ 4 * (inner .count + outer .count) ≤ length (now own) ⌝ }
-    ensures { λ r. ⌜ ReturnsMap (composeLists (mapOf (now (store .entry)) (now (places .entry)) outer) (mapOf (now (istore .entry)) (now (iplaces .entry)) inner) (composedTimeOf outer inner) (now (out .entry)) (now (slots .entry))) r (now (out .entry)) (now (out .exit)) (now (slots .entry)) (now (slots .exit)) ⌝ }
+    requires { ⌜ ValidList (listOf (now store) (now places) outer) ⌝ }
+    requires { ⌜ ValidList (listOf (now istore) (now iplaces) inner) ⌝ }
+    requires { ⌜ ScratchRoom 1534 (inner .count + outer .count) (now bytes) (now own) ⌝ }
+    ensures { λ r. ⌜ ReturnsMap (composeLists (mapOf (now (store .entry)) (now (places .entry)) outer) (mapOf (now (istore .entry)) (now (iplaces .entry)) inner) time (now (out .entry)) (now (slots .entry))) r (now (out .entry)) (now (out .exit)) (now (slots .entry)) (now (slots .exit)) ⌝ }
 {
     let mark = outer.has_root_identity;
     let imark = inner.has_root_identity;
@@ -89,70 +54,44 @@ fn compose_in(
         bytes,
         own,
     );
-    let time = composed_time(outer.time_offset, inner.time_offset);
-    from_scratch(
-        bytes,
-        own,
-        b.n,
-        validate::both(mark, imark),
-        time,
-        out,
-        slots,
-    )
+    let both = validate::both(mark, imark);
+    pair_buffer::from_ends_given(bytes, own, b.n, true, both, time, out, slots)
 }
 
-// Composes lists of at most four pairs together, in a small scratch buffer that is quickly cleared.
-fn compose_small(
+// Composes two validated maps in scratch buffers; those for at most four pairs together are small, so that they
+// are quickly cleared.
+fn compose_lists(
     store: &[u8],
     places: &[usize],
     outer: map_function::MapFunction,
     istore: &[u8],
     iplaces: &[usize],
     inner: map_function::MapFunction,
+    time: layer_offset::LayerOffset,
     out: &mut [u8],
     slots: &mut [usize],
 ) -> map_function::MapReply
-    requires { ⌜ everyEnd atMost511 (pairsIn (now store) (now places) (outer .count)) ≡ true ⌝ }
-    requires { ⌜ everyEnd atMost511 (pairsIn (now istore) (now iplaces) (inner .count)) ≡ true ⌝ }
-    requires { ⌜ allEnds (pairsIn (now store) (now places) (outer .count)) ≡ true ⌝ }
-    requires { ⌜ allEnds (pairsIn (now istore) (now iplaces) (inner .count)) ≡ true ⌝ }
-    requires { ⌜ inner .count + outer .count ≤ 4 ⌝ }
-    ensures { λ r. ⌜ ReturnsMap (composeLists (mapOf (now (store .entry)) (now (places .entry)) outer) (mapOf (now (istore .entry)) (now (iplaces .entry)) inner) (composedTimeOf outer inner) (now (out .entry)) (now (slots .entry))) r (now (out .entry)) (now (out .exit)) (now (slots .entry)) (now (slots .exit)) ⌝ }
+    requires { ⌜ ValidList (listOf (now store) (now places) outer) ⌝ }
+    requires { ⌜ ValidList (listOf (now istore) (now iplaces) inner) ⌝ }
+    ensures { λ r. ⌜ ReturnsMap (composeLists (mapOf (now (store .entry)) (now (places .entry)) outer) (mapOf (now (istore .entry)) (now (iplaces .entry)) inner) time (now (out .entry)) (now (slots .entry))) r (now (out .entry)) (now (out .exit)) (now (slots .entry)) (now (slots .exit)) ⌝ }
 {
-    let mut bytes = [0u8; 6136];
-    let mut own = [0usize; 16];
-    compose_in(
-        store,
-        places,
-        outer,
-        istore,
-        iplaces,
-        inner,
-        &mut bytes,
-        &mut own,
-        out,
-        slots,
-    )
-}
-
-// Composes lists of up to 64 pairs each.
-fn compose_large(
-    store: &[u8],
-    places: &[usize],
-    outer: map_function::MapFunction,
-    istore: &[u8],
-    iplaces: &[usize],
-    inner: map_function::MapFunction,
-    out: &mut [u8],
-    slots: &mut [usize],
-) -> map_function::MapReply
-    requires { ⌜ everyEnd atMost511 (pairsIn (now store) (now places) (outer .count)) ≡ true ⌝ }
-    requires { ⌜ everyEnd atMost511 (pairsIn (now istore) (now iplaces) (inner .count)) ≡ true ⌝ }
-    requires { ⌜ allEnds (pairsIn (now store) (now places) (outer .count)) ≡ true ⌝ }
-    requires { ⌜ allEnds (pairsIn (now istore) (now iplaces) (inner .count)) ≡ true ⌝ }
-    requires { ⌜ inner .count + outer .count ≤ 128 ⌝ }
-    ensures { λ r. ⌜ ReturnsMap (composeLists (mapOf (now (store .entry)) (now (places .entry)) outer) (mapOf (now (istore .entry)) (now (iplaces .entry)) inner) (composedTimeOf outer inner) (now (out .entry)) (now (slots .entry))) r (now (out .entry)) (now (out .exit)) (now (slots .entry)) (now (slots .exit)) ⌝ }
-{
+    if inner.count + outer.count <= 4 {
+        let mut bytes = [0u8; 6136];
+        let mut own = [0usize; 16];
+        return compose_in(
+            store,
+            places,
+            outer,
+            istore,
+            iplaces,
+            inner,
+            time,
+            &mut bytes,
+            &mut own,
+            out,
+            slots,
+        );
+    }
     let mut bytes = [0u8; 196352];
     let mut own = [0usize; 512];
     compose_in(
@@ -162,6 +101,7 @@ fn compose_large(
         istore,
         iplaces,
         inner,
+        time,
         &mut bytes,
         &mut own,
         out,
@@ -197,8 +137,15 @@ pub fn compose(
     if validate::both(k == 0, imark) {
         return map_function::without_dropping(store, places, n, mark, time, out, slots);
     }
-    if k + n <= 4 {
-        return compose_small(store, places, outer, istore, iplaces, inner, out, slots);
-    }
-    compose_large(store, places, outer, istore, iplaces, inner, out, slots)
+    compose_lists(
+        store,
+        places,
+        outer,
+        istore,
+        iplaces,
+        inner,
+        time,
+        out,
+        slots,
+    )
 }

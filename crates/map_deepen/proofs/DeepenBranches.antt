@@ -7,7 +7,7 @@ use Prim.Native.Nat.{ℕ, _+_, _*_, _≤_, _<_}
 use native.Mathlib.Omega.{arith}
 use lib.ListN.{length, take}
 use borrow.Author.Tests.{lt-leb}
-use Rattle.text.specs.Text.{Text, equal, writtenAt}
+use Rattle.text.specs.Text.{Text, equal, writtenAt, writtenIfFits, fitOf}
 use Rattle.text.specs.declared.Fit.{Fit}
 use Rattle.text.specs.declared.Fit.the-variants.{Written}
 use Rattle.text.proofs.BoolLaws.{told, not-true, not-false}
@@ -31,8 +31,8 @@ use Rattle.refusal.specs.declared.Refusal.{Refusal}
 use Rattle.refusal.specs.declared.Refusal.the-variants.{TooLong}
 use Rattle.refusal.specs.declared.Validation.{Validation}
 use Rattle.refusal.specs.declared.Validation.the-variants.{Passed, Refused as RefusedValidation}
-use Rattle.validate.specs.Validate.{LentList, every, firstFailed, validateCall}
-use Rattle.validate.proofs.PassedLaws.{ValidList, first-sound, text-short}
+use Rattle.validate.specs.Validate.{LentList, every, firstFailed, validateCall, ValidList}
+use Rattle.validate.proofs.PassedLaws.{first-sound, text-short}
 use Rattle.map_spec.specs.Map.{Map, mapSource, mapTarget, mapSize}
 use Rattle.map_spec.specs.New.{fromParts}
 use Rattle.map_spec.specs.Compose.{hasSource}
@@ -40,10 +40,11 @@ use Rattle.map_spec.specs.Derive.{deepenedPair, deepenBy, deepenTo}
 use Rattle.map_function.specs.declared.MapFunction.{MapFunction}
 use Rattle.map_function.specs.MapFunction.{listOf, mapOf}
 use Rattle.map_function.specs.MapOutcome.{MapOutcome, map, refused, withinLimits, withoutDropping, countInSlice}
-use Rattle.pair_buffer.specs.Ends.{replacedOrSame, fromEnds}
+use Rattle.pair_buffer.specs.Ends.{replacedOrSame, writtenLength, fromEnds}
+use Rattle.pair_buffer.proofs.LengthLaws.{placed-back, short-target, replaced-short}
 use Rattle.pair_buffer.proofs.MapLaws.{held-all, limited-map, fromEnds-map}
 use Rattle.map_deepen.specs.FindClass.{classIndex}
-use Rattle.map_deepen.specs.Calls.{deepenedPairs, deepenOutcomeBy, deepenOutcome, DeepensTo, deepenToCall}
+use Rattle.map_deepen.specs.Calls.{deepenedPairs, deepenedMap, deepenedAt, deepenOutcomeBy, deepenOutcome, DeepensTo, deepenToCall}
 
 -- `deepen_pair`
 module _ (s t node above below : Text) (b : Bool) (h : b ≡ equal s above) where
@@ -74,15 +75,27 @@ pub deepened-pair : (store : Text) (places : List ℕ) (i : ℕ) (node above bel
     ≡ pair ((deepenedPair node above below (pair s t)) .source) ((deepenedPair node above below (pair s t)) .target)
 deepened-pair store places i node above below s t e f = rw (e, f, ← (source-key store places i), ← (target-key store places i)) refl
 
--- `deepen_by`: the node mapped by the class pair.
-module _ (q : Text) (k : ℕ) (made : Text) (e : k ≡ length q) (f : take k made ≡ q) where
-  pub below-short : length q ≤ 511 → length (take k made) ≤ 511
-  below-short l = omega (arith, ap length f)
+-- `deepen_by`: the node mapped by the class pair, made in a buffer of 511 bytes.
+pub record IsMade (q : Text) (k : ℕ) (made : Text) : Type 0 where
+  pub short : k ≤ 511
+  pub part : k ≡ length (take k made)
+  pub part-short : length (take k made) ≤ 511
+  pub text : take k made ≡ q
 
-  pub deepen-same : (node above new a b : Text) → above ≡ a → new ≡ b → q ≡ replacedOrSame node above new
-      → (l : List Pair) (mark : Bool) (time : LayerOffset) (out : Text) (slots : List ℕ)
-      → fromEnds (deepenedPairs node a (replacedOrSame node a b) l) mark time out slots ≡ fromEnds (deepenedPairs node above (take k made) l) mark time out slots
-  deepen-same node above new a b g h i l mark time out slots = rw (f, i, g, h) refl
+pub below-made : (store : Text) (places : List ℕ) (n i : ℕ) → i < n → allShort (pairsIn store places n) ≡ true
+    → (node above new : Text) → length node ≤ 255 → new ≡ keyAt store places true i → (k : ℕ) (buffer made : Text) → length buffer ≡ 511
+    → (k ≡ writtenLength (fitOf (replacedOrSame node above new) buffer)) × (made ≡ writtenIfFits 0 (replacedOrSame node above new) buffer)
+    → IsMade (replacedOrSame node above new) k made
+below-made store places n i h e node above new ln f k buffer made size w =
+    let q : Text = replacedOrSame node above new in
+    let l : length q ≤ 511 = replaced-short node above new ln (short-target store places n i h e new f) in
+    let z = placed-back q buffer k made w (rw size l) in
+    record { short = omega (arith, z .0); part = omega (arith, z .0, ap length (z .1)); part-short = omega (arith, ap length (z .1)); text = z .1 }
+
+pub deepen-same : (q : Text) (k : ℕ) (made : Text) → IsMade q k made → (store : Text) (places : List ℕ) (f : MapFunction) (node : Text) (i : ℕ) (above new : Text)
+    → above ≡ keyAt store places false i → new ≡ keyAt store places true i → q ≡ replacedOrSame node above new → (out : Text) (slots : List ℕ)
+    → deepenedAt store places f node i out slots ≡ deepenedMap (mapOf store places f) node above (take k made) (f .«time_offset») out slots
+deepen-same q k made t store places f node i above new g h j out slots = rw (t .text, j, g, h) refl
 
 -- `consider_class` and `find_class`
 pub ruleset classes = (step-fails, step-lighter, step-heavier, step-first, search-none)
@@ -113,18 +126,12 @@ module _ (store : Text) (places : List ℕ) (f : MapFunction) (p node : Text) (o
   deepen-refused x k = rw (← validated-is, k)
 
   module _ (k : q ≡ Passed) where
-    sound : ValidList (listOf store places f)
+    pub sound : ValidList (listOf store places f)
     sound = first-sound (listOf store places f) [] (p ∷ []) (strip p ∷ []) (sym validated-is ∙ k)
 
     passed : deepenToCall store places f p out slots ≡ deepenOutcome m node (f .«time_offset») out slots
     unfolding deepenToCall
     passed = rw (← validated-is, k, is)
-
-    pub deepen-short : allShort (m .pairs) ≡ true
-    deepen-short = sound .shorts
-
-    pub deepen-count : f .count ≤ 64
-    deepen-count = sound .few
 
     pub deepen-node-short : length node ≤ 255
     deepen-node-short =
@@ -176,9 +183,7 @@ module _ (store : Text) (places : List ℕ) (f : MapFunction) (p node : Text) (o
                 replace-prefix node above (keyAt store places true (c .at)) (best .does-pass),
               ) refl
 
-          pub deepen-made : deepenToCall store places f p out slots
-              ≡ fromEnds (deepenedPairs node above (replacedOrSame node above (keyAt store places true (c .at))) (pairsIn store places (f .count)))
-              (f .«has_root_identity») (f .«time_offset») out slots
+          pub deepen-made : deepenToCall store places f p out slots ≡ deepenedAt store places f node (c .at) out slots
           unfolding deepenOutcomeBy
           deepen-made =
               opened

@@ -1,6 +1,6 @@
 -- The `deepen_to` call: validation, then the map.
 use mathlib.Core.Path.{_≡_}
-use mathlib.Core.Bool.{cond}
+use mathlib.Core.Bool.{true, false, cond}
 use mathlib.Core.List.{List, [], _∷_, map as mapped}
 use mathlib.Core.Option.{Option, none, some, Option·getD}
 use Prim.Native.Nat.{ℕ}
@@ -10,6 +10,7 @@ use Rattle.path_join.specs.Join.{replacePrefix}
 use Rattle.path_parts.specs.Strip.{strip}
 use Rattle.layer_offset.specs.declared.LayerOffset.{LayerOffset}
 use Rattle.pair_list.specs.Pair.{Pair}
+use Rattle.pair_list.specs.Places.{keyAt}
 use Rattle.pair_list.specs.LongestMatch.{longestBy}
 use Rattle.refusal.specs.Refusal.{refusedOr}
 use Rattle.validate.specs.Validate.{validateCall}
@@ -19,18 +20,28 @@ use Rattle.map_spec.specs.Derive.{deepenedPair, deepenTo}
 use Rattle.map_function.specs.declared.MapFunction.{MapFunction}
 use Rattle.map_function.specs.MapFunction.{listOf, mapOf}
 use Rattle.map_function.specs.MapOutcome.{MapOutcome, map, refused, withoutDropping}
-use Rattle.pair_buffer.specs.Ends.{fromEnds}
+use Rattle.pair_buffer.specs.Ends.{replacedOrSame, fromEnds}
 
 -- The pairs with each pair whose source is `above` (the class) replaced by the pair `node`→`below`.
 abbrev pub deepenedPairs : Text → Text → Text → List Pair → List Pair
 deepenedPairs node above below l = mapped (λ (x : Pair). deepenedPair node above below x) l
+
+-- The map of the deepened pairs.
+abbrev pub deepenedMap : Map → Text → Text → Text → LayerOffset → Text → List ℕ → MapOutcome
+deepenedMap m node above below time out slots = fromEnds (deepenedPairs node above below (m .pairs)) (m .mark) time out slots
+
+-- The map in lent memory deepened at its pair i: `below` is the node with the source of the pair replaced by its target.
+abbrev pub deepenedAt : Text → List ℕ → MapFunction → Text → ℕ → Text → List ℕ → MapOutcome
+deepenedAt store places f node i out slots =
+    deepenedMap (mapOf store places f) node (keyAt store places false i) (replacedOrSame node (keyAt store places false i) (keyAt store places true i))
+    (f .«time_offset») out slots
 
 -- The deepened map for the class found at index i; without a class, the map unchanged.
 unfoldable pub deepenOutcomeBy : Map → Text → Option ℕ → LayerOffset → Text → List ℕ → MapOutcome
 unfolding withoutDropping fromEnds replacePrefix
 deepenOutcomeBy m node none time out slots = withoutDropping (m .pairs) (m .mark) time out slots
 deepenOutcomeBy m node (some i) time out slots =
-    fromEnds (deepenedPairs node (mapSource m i) (Option·getD (replacePrefix node (mapSource m i) (mapTarget m i)) []) (m .pairs)) (m .mark) time out slots
+    deepenedMap m node (mapSource m i) (Option·getD (replacePrefix node (mapSource m i) (mapTarget m i)) []) time out slots
 
 -- The deepened map: unchanged if the node already is a source; otherwise deepened at the class, the pair whose source is a prefix of the
 -- node with most elements. An empty source counts here: "only `best_prefix` skips it".

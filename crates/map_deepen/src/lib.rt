@@ -14,11 +14,12 @@ ghost use Rattle.pair_list.specs.Places.{keyAt, pairsIn, pairEntry};
 ghost use Rattle.pair_list.specs.BestStep.{considerIndex};
 ghost use Rattle.pair_list.specs.LongestMatch.{longestBy};
 ghost use Rattle.map_spec.specs.Derive.{deepenedPair};
+ghost use Rattle.validate.specs.Validate.{ValidList};
+ghost use Rattle.map_function.specs.MapFunction.{listOf, mapOf};
 ghost use Rattle.map_function.specs.MapOutcome.{ReturnsMap};
-ghost use Rattle.pair_buffer.specs.PairBuffer.{HoldsList};
-ghost use Rattle.pair_buffer.specs.Ends.{replacedOrSame, fromEnds};
+ghost use Rattle.pair_buffer.specs.PairBuffer.{HoldsList, ScratchRoom};
 ghost use Rattle.map_deepen.specs.FindClass.{classKept, classIndex};
-ghost use Rattle.map_deepen.specs.Calls.{deepenedPairs, deepenToCall};
+ghost use Rattle.map_deepen.specs.Calls.{deepenedPairs, deepenedMap, deepenedAt, deepenToCall};
 
 // Appends a pair and returns the offset after it: the pair itself, or, if its source is the class's, the pair
 // `node`→`below`.
@@ -63,8 +64,7 @@ fn deepen_all(
     requires { ⌜ allShort (pairsIn (now store) (now places) n) ≡ true ⌝ }
     requires { ⌜ length (now node) ≤ 255 ⌝ }
     requires { ⌜ length (now below) ≤ 511 ⌝ }
-    requires { ⌜ 766 * n ≤ length (now bytes) ⌝ }
-    requires { ⌜ 4 * n ≤ length (now slots) ⌝ }
+    requires { ⌜ ScratchRoom 766 n (now bytes) (now slots) ⌝ }
     ensures { λ r. ⌜ HoldsList (deepenedPairs (now (node .entry)) (now (above .entry)) (now (below .entry)) (pairsIn (now (store .entry)) (now (places .entry)) n)) n r (now (bytes .exit)) (now (slots .exit)) ⌝ }
 {
     let mut at = 0;
@@ -91,13 +91,11 @@ fn deepen_in(
     out: &mut [u8],
     slots: &mut [usize],
 ) -> map_function::MapReply
-    requires { ⌜ allShort (pairsIn (now store) (now places) (map .count)) ≡ true ⌝ }
+    requires { ⌜ ValidList (listOf (now store) (now places) map) ⌝ }
     requires { ⌜ length (now node) ≤ 255 ⌝ }
     requires { ⌜ length (now below) ≤ 511 ⌝ }
-    requires { ⌜ map .count ≤ 64 ⌝ }
-    requires { ⌜ 766 * map .count ≤ length (now bytes) ⌝ }
-    requires { ⌜ 4 * map .count ≤ length (now own) ⌝ }
-    ensures { λ r. ⌜ ReturnsMap (fromEnds (deepenedPairs (now (node .entry)) (now (above .entry)) (now (below .entry)) (pairsIn (now (store .entry)) (now (places .entry)) (map .count))) (map .«has_root_identity») (map .«time_offset») (now (out .entry)) (now (slots .entry))) r (now (out .entry)) (now (out .exit)) (now (slots .entry)) (now (slots .exit)) ⌝ }
+    requires { ⌜ ScratchRoom 766 (map .count) (now bytes) (now own) ⌝ }
+    ensures { λ r. ⌜ ReturnsMap (deepenedMap (mapOf (now (store .entry)) (now (places .entry)) map) (now (node .entry)) (now (above .entry)) (now (below .entry)) (map .«time_offset») (now (out .entry)) (now (slots .entry))) r (now (out .entry)) (now (out .exit)) (now (slots .entry)) (now (slots .exit)) ⌝ }
 {
     let n = map.count;
     let mark = map.has_root_identity;
@@ -106,8 +104,9 @@ fn deepen_in(
     pair_buffer::from_ends(bytes, own, n, mark, time, out, slots)
 }
 
-// Deepens a map of at most four pairs, in a small scratch buffer that is quickly cleared.
-fn deepen_small(
+// Deepens a validated map in scratch buffers; those for at most four pairs are small, so that they are quickly
+// cleared.
+fn deepen_pairs(
     store: &[u8],
     places: &[usize],
     map: map_function::MapFunction,
@@ -117,45 +116,27 @@ fn deepen_small(
     out: &mut [u8],
     slots: &mut [usize],
 ) -> map_function::MapReply
-    requires { ⌜ allShort (pairsIn (now store) (now places) (map .count)) ≡ true ⌝ }
+    requires { ⌜ ValidList (listOf (now store) (now places) map) ⌝ }
     requires { ⌜ length (now node) ≤ 255 ⌝ }
     requires { ⌜ length (now below) ≤ 511 ⌝ }
-    requires { ⌜ map .count ≤ 4 ⌝ }
-    ensures { λ r. ⌜ ReturnsMap (fromEnds (deepenedPairs (now (node .entry)) (now (above .entry)) (now (below .entry)) (pairsIn (now (store .entry)) (now (places .entry)) (map .count))) (map .«has_root_identity») (map .«time_offset») (now (out .entry)) (now (slots .entry))) r (now (out .entry)) (now (out .exit)) (now (slots .entry)) (now (slots .exit)) ⌝ }
+    ensures { λ r. ⌜ ReturnsMap (deepenedMap (mapOf (now (store .entry)) (now (places .entry)) map) (now (node .entry)) (now (above .entry)) (now (below .entry)) (map .«time_offset») (now (out .entry)) (now (slots .entry))) r (now (out .entry)) (now (out .exit)) (now (slots .entry)) (now (slots .exit)) ⌝ }
 {
-    let mut bytes = [0u8; 3064];
-    let mut own = [0usize; 16];
-    deepen_in(
-        store,
-        places,
-        map,
-        node,
-        above,
-        below,
-        &mut bytes,
-        &mut own,
-        out,
-        slots,
-    )
-}
-
-// Deepens a map of up to 64 pairs.
-fn deepen_large(
-    store: &[u8],
-    places: &[usize],
-    map: map_function::MapFunction,
-    node: &[u8],
-    above: &[u8],
-    below: &[u8],
-    out: &mut [u8],
-    slots: &mut [usize],
-) -> map_function::MapReply
-    requires { ⌜ allShort (pairsIn (now store) (now places) (map .count)) ≡ true ⌝ }
-    requires { ⌜ length (now node) ≤ 255 ⌝ }
-    requires { ⌜ length (now below) ≤ 511 ⌝ }
-    requires { ⌜ map .count ≤ 64 ⌝ }
-    ensures { λ r. ⌜ ReturnsMap (fromEnds (deepenedPairs (now (node .entry)) (now (above .entry)) (now (below .entry)) (pairsIn (now (store .entry)) (now (places .entry)) (map .count))) (map .«has_root_identity») (map .«time_offset») (now (out .entry)) (now (slots .entry))) r (now (out .entry)) (now (out .exit)) (now (slots .entry)) (now (slots .exit)) ⌝ }
-{
+    if map.count <= 4 {
+        let mut bytes = [0u8; 3064];
+        let mut own = [0usize; 16];
+        return deepen_in(
+            store,
+            places,
+            map,
+            node,
+            above,
+            below,
+            &mut bytes,
+            &mut own,
+            out,
+            slots,
+        );
+    }
     let mut bytes = [0u8; 49024];
     let mut own = [0usize; 256];
     deepen_in(
@@ -182,20 +163,16 @@ fn deepen_by(
     out: &mut [u8],
     slots: &mut [usize],
 ) -> map_function::MapReply
-    requires { ⌜ allShort (pairsIn (now store) (now places) (map .count)) ≡ true ⌝ }
+    requires { ⌜ ValidList (listOf (now store) (now places) map) ⌝ }
     requires { ⌜ length (now node) ≤ 255 ⌝ }
-    requires { ⌜ map .count ≤ 64 ⌝ }
     requires { ⌜ i < map .count ⌝ }
-    ensures { λ r. ⌜ ReturnsMap (fromEnds (deepenedPairs (now (node .entry)) (keyAt (now (store .entry)) (now (places .entry)) false i) (replacedOrSame (now (node .entry)) (keyAt (now (store .entry)) (now (places .entry)) false i) (keyAt (now (store .entry)) (now (places .entry)) true i)) (pairsIn (now (store .entry)) (now (places .entry)) (map .count))) (map .«has_root_identity») (map .«time_offset») (now (out .entry)) (now (slots .entry))) r (now (out .entry)) (now (out .exit)) (now (slots .entry)) (now (slots .exit)) ⌝ }
+    ensures { λ r. ⌜ ReturnsMap (deepenedAt (now (store .entry)) (now (places .entry)) map (now (node .entry)) i (now (out .entry)) (now (slots .entry))) r (now (out .entry)) (now (out .exit)) (now (slots .entry)) (now (slots .exit)) ⌝ }
 {
     let above = pair_list::key_at(store, places, i, false);
     let new = pair_list::key_at(store, places, i, true);
     let mut made = [0u8; 511];
     let k = pair_buffer::replace_into(node, above, new, &mut made);
-    if map.count <= 4 {
-        return deepen_small(store, places, map, node, above, &made[..k], out, slots);
-    }
-    deepen_large(store, places, map, node, above, &made[..k], out, slots)
+    deepen_pairs(store, places, map, node, above, &made[..k], out, slots)
 }
 
 // The result of the search for a class: the index of the pair and the number of elements of its source.

@@ -21,8 +21,8 @@ use Rattle.refusal.specs.declared.Refusal.{Refusal}
 use Rattle.refusal.specs.declared.Refusal.the-variants.{TooMany, NoRoom, MadeTooLong, MadeIllegal}
 use Rattle.refusal.specs.declared.Validation.{Validation}
 use Rattle.refusal.specs.declared.Validation.the-variants.{Passed, Refused as RefusedValidation}
-use Rattle.validate.specs.Validate.{lentList, validateCall}
-use Rattle.validate.proofs.PassedLaws.{ValidList, first-sound, second-sound}
+use Rattle.validate.specs.Validate.{lentList, validateCall, ValidList}
+use Rattle.validate.proofs.PassedLaws.{first-sound, second-sound}
 use Rattle.map_spec.specs.Map.{Map, lentMap, mapSize, mapSourceToTarget, matchSource}
 use Rattle.map_spec.specs.New.{fromParts}
 use Rattle.map_spec.specs.Compose.{composedPair, pulledBack, isEmpty, isPathIdentity, composedPairs, compose}
@@ -37,7 +37,7 @@ use Rattle.pair_buffer.specs.PairBuffer.{HoldsList}
 use Rattle.pair_buffer.specs.Ends.{requireShort, requireLegal}
 use Rattle.pair_buffer.proofs.PairBufferLaws.{holds-list}
 use Rattle.pair_buffer.proofs.MapLaws.{identity-lent, held-all, no-map}
-use Rattle.compose_pairs.specs.ComposePairs.{atMost511}
+use Rattle.compose_pairs.specs.ComposePairs.{atMost511, CanCompose}
 use Rattle.compose_pairs.proofs.LengthLaws.{short-bounded, composed-bounded, bounded-bytes}
 use Rattle.map_compose.specs.Calls.{composedTime}
 use Rattle.map_implied_class.specs.Implied.{swappedPairs, composedFrom, inverseList, classList, impliedList, allWithin64, impliedOutcome, ImpliesTo, impliedTime, impliedClassCall}
@@ -331,8 +331,8 @@ finished-every passes true l mark e = e
 finished-every passes false l mark e = fromParts-every passes l mark e
 
 -- `implied_in`
-module _ (store : Text) (places : List ℕ) (transfer : MapFunction) (cstore : Text) (cplaces : List ℕ) (class : MapFunction) (few : transfer .count ≤ 64)
-    (ts : allShort (pairsIn store places (transfer .count)) ≡ true) (cs : allShort (pairsIn cstore cplaces (class .count)) ≡ true)
+module _ (store : Text) (places : List ℕ) (transfer : MapFunction) (cstore : Text) (cplaces : List ℕ) (class : MapFunction)
+    (vt : ValidList (listOf store places transfer)) (vc : ValidList (listOf cstore cplaces class))
     (mid : Text) (mids : List ℕ) (back : MapFunction) (e : mapOf mid mids back ≡ inverse (mapOf store places transfer)) where
   abbrev tr : Map
   tr = mapOf store places transfer
@@ -343,12 +343,12 @@ module _ (store : Text) (places : List ℕ) (transfer : MapFunction) (cstore : T
   abbrev bk : Map
   bk = mapOf mid mids back
 
-  pub back-few : back .count ≤ 64
+  back-few : back .count ≤ 64
   unfolding inverse
   back-few =
       omega (
         arith,
-        few,
+        vt .few,
         pairsIn-length mid mids (back .count),
         ap mapSize e,
         fromParts-length (swappedPairs (tr .pairs)) (tr .mark),
@@ -356,18 +356,19 @@ module _ (store : Text) (places : List ℕ) (transfer : MapFunction) (cstore : T
         pairsIn-length store places (transfer .count),
       )
 
-  pub back-bytes : (room : ℕ) → class .count ≤ 64 → 196352 ≤ room → 1534 * (back .count + class .count) ≤ room
-  back-bytes room h g = omega (arith, back-few)
-
-  pub back-places : (room : ℕ) → class .count ≤ 64 → 512 ≤ room → 4 * (back .count + class .count) ≤ room
-  back-places room h g = omega (arith, back-few)
-
   back-short : allShort (bk .pairs) ≡ true
   unfolding inverse allShort
-  back-short = ap (λ (x : Map). allShort (x .pairs)) e ∙ fromParts-every atMost255 (swappedPairs (tr .pairs)) (tr .mark) (swapped-short (tr .pairs) ts)
+  back-short = ap (λ (x : Map). allShort (x .pairs)) e ∙ fromParts-every atMost255 (swappedPairs (tr .pairs)) (tr .mark) (swapped-short (tr .pairs) (vt .shorts))
 
-  pub back-bounded : everyEnd atMost511 (bk .pairs) ≡ true
+  back-bounded : everyEnd atMost511 (bk .pairs) ≡ true
   back-bounded = short-bounded (bk .pairs) back-short
+
+  pub back-composes : (bytes : Text) (own : List ℕ) → 196352 ≤ length bytes → 512 ≤ length own → CanCompose (cl .pairs) (bk .pairs) (back .count + class .count) bytes own
+  back-composes bytes own h g = record {
+    outerEnds = short-bounded (cl .pairs) (vc .shorts);
+    innerEnds = back-bounded;
+    scratch = record { room = omega (arith, back-few, vc .few); entries = omega (arith, back-few, vc .few) };
+  }
 
   module _ (k end : ℕ) (bytes : Text) (own : List ℕ) (c : HoldsList (composedFrom cl bk) k end bytes own) where
     list-is : classList tr cl ≡ composedFrom cl bk
@@ -380,8 +381,8 @@ module _ (store : Text) (places : List ℕ) (transfer : MapFunction) (cstore : T
       where
         go : (a b : Bool) → everyEnd atMost511 (cond a (bk .pairs) (cond b (cl .pairs) (composedPairs cl bk))) ≡ true
         go true b = back-bounded
-        go false true = short-bounded (cl .pairs) cs
-        go false false = composed-bounded cl bk cs back-short
+        go false true = short-bounded (cl .pairs) (vc .shorts)
+        go false false = composed-bounded cl bk (vc .shorts) back-short
 
     built : pairsIn bytes own k ≡ composedFrom cl bk
     built = holds-list (composedFrom cl bk) k end bytes own c
@@ -411,7 +412,7 @@ module _ (store : Text) (places : List ℕ) (transfer : MapFunction) (cstore : T
         part-is : mapOf mid′ mids′ part ≡ compose cl (inverse tr)
         part-is = part-of ∙ sym (composed-of cstore cplaces class mid mids back) ∙ ap (λ (x : Map). compose cl x) e
 
-        pub part-few : part .count ≤ 64
+        part-few : part .count ≤ 64
         unfolding composedMap
         part-few =
             omega (
@@ -422,11 +423,19 @@ module _ (store : Text) (places : List ℕ) (transfer : MapFunction) (cstore : T
               c .number,
             )
 
-        pub part-bounded : everyEnd atMost511 (pairsIn mid′ mids′ (part .count)) ≡ true
+        part-bounded : everyEnd atMost511 (pairsIn mid′ mids′ (part .count)) ≡ true
         unfolding composedMap
         part-bounded =
             ap (λ (x : Map). everyEnd atMost511 (x .pairs)) part-of
             ∙ finished-every atMost511 (pathIsIdentity class || pathIsIdentity back) (composedFrom cl bk) (class .«has_root_identity» && back .«has_root_identity») class-bounded
+
+        pub part-composes : (bytes : Text) (own : List ℕ) → 196352 ≤ length bytes → 512 ≤ length own
+            → CanCompose (tr .pairs) (pairsIn mid′ mids′ (part .count)) (part .count + transfer .count) bytes own
+        part-composes bytes own h g = record {
+          outerEnds = short-bounded (tr .pairs) (vt .shorts);
+          innerEnds = part-bounded;
+          scratch = record { room = omega (arith, part-few, vt .few); entries = omega (arith, part-few, vt .few) };
+        }
 
         abbrev last : List Pair
         last = composedFrom tr (compose cl (inverse tr))
@@ -452,19 +461,19 @@ module _ (store : Text) (places : List ℕ) (transfer : MapFunction) (cstore : T
             )
 
         first-few : leb (length (inverseList tr)) 64 ≡ true
-        first-few = le-leb (length (inverseList tr)) 64 (omega (arith, few, swapped-number (tr .pairs), pairsIn-length store places (transfer .count)))
+        first-few = le-leb (length (inverseList tr)) 64 (omega (arith, vt .few, swapped-number (tr .pairs), pairsIn-length store places (transfer .count)))
 
-        implied-last : allEnds (tr .pairs) ≡ true → allEnds (cl .pairs) ≡ true → (time : LayerOffset) (out : Text) (slots : List ℕ)
+        implied-last : (time : LayerOffset) (out : Text) (slots : List ℕ)
             → impliedOutcome tr cl time out slots ≡ impliedAfterClass tr (compose cl (inverse tr)) k end (allShort (composedFrom cl bk)) time out slots
         unfolding impliedOutcome allWithin64 impliedAfterClass requireListRoom listFitsBuffers requireShort requireLegal roomBesideTransfer impliedClass impliedList
-        implied-last te ce time out slots =
-            rw (implied-legal tr cl te ce, list-is, all-bytes, all-number, short-append (composedFrom cl bk) last, first-few, ← (c .number), le-leb k 64 small) refl
+        implied-last time out slots =
+            rw (implied-legal tr cl (vt .ends) (vc .ends), list-is, all-bytes, all-number, short-append (composedFrom cl bk) last, first-few, ← (c .number), le-leb k 64 small) refl
 
-        pub implied-rest : allEnds (tr .pairs) ≡ true → allEnds (cl .pairs) ≡ true → (short : Bool) → short ≡ allShort (pairsIn bytes own k)
+        pub implied-rest : (short : Bool) → short ≡ allShort (pairsIn bytes own k)
             → (time : LayerOffset) → time ≡ impliedTime transfer class → (out : Text) (slots : List ℕ)
             → impliedOutcome tr cl (impliedTime transfer class) out slots ≡ impliedAfterClass tr (mapOf mid′ mids′ part) k end short time out slots
-        implied-rest te ce short f time g out slots =
-            implied-last te ce (impliedTime transfer class) out slots
+        implied-rest short f time g out slots =
+            implied-last (impliedTime transfer class) out slots
             ∙ ap (λ (x : Map). impliedAfterClass tr x k end (allShort (composedFrom cl bk)) (impliedTime transfer class) out slots) (sym part-is)
             ∙ ap (λ (x : Bool). impliedAfterClass tr (mapOf mid′ mids′ part) k end x (impliedTime transfer class) out slots) (sym (f ∙ ap allShort built))
             ∙ ap (λ (x : LayerOffset). impliedAfterClass tr (mapOf mid′ mids′ part) k end short x out slots) (sym g)
@@ -485,9 +494,6 @@ module _ (store : Text) (places : List ℕ) (transfer : MapFunction) (cstore : T
 
     pub class-sound : ValidList (listOf cstore cplaces class)
     class-sound = second-sound (listOf store places transfer) (listOf cstore cplaces class) [] [] [] (sym h ∙ k)
-
-    pub transfer-held : 4 * transfer .count ≤ length places
-    transfer-held = omega (arith, transfer-sound .held)
 
     module _ (b : Bool) (e : b ≡ isIdentityMap transfer) where
       pub implied-same : b ≡ true

@@ -5,15 +5,16 @@ ghost use mathlib.Core.Bool.{true, _||_};
 ghost use Prim.Native.Nat.{_+_, _*_, _≤_};
 ghost use lib.ListN.{length};
 ghost use Rattle.layer_offset.specs.Offset.{identityOffset};
-ghost use Rattle.pair_list.specs.Pair.{everyEnd, allShort, allEnds};
+ghost use Rattle.pair_list.specs.Pair.{allShort};
 ghost use Rattle.pair_list.specs.Places.{pairsIn};
 ghost use Rattle.pair_list_write.specs.Lists.{listFitsBuffers};
+ghost use Rattle.validate.specs.Validate.{ValidList};
 ghost use Rattle.map_spec.specs.Map.{lentMap};
 ghost use Rattle.map_spec.specs.Derive.{inverse};
-ghost use Rattle.map_function.specs.MapFunction.{pathIsIdentity, mapOf};
+ghost use Rattle.map_function.specs.MapFunction.{pathIsIdentity, listOf, mapOf};
 ghost use Rattle.map_function.specs.MapOutcome.{map, mapBytes, mapSlots, ReturnsMap, mapFunction};
 ghost use Rattle.pair_buffer.specs.PairBuffer.{HoldsList};
-ghost use Rattle.compose_pairs.specs.ComposePairs.{atMost511};
+ghost use Rattle.compose_pairs.specs.ComposePairs.{CanCompose};
 ghost use Rattle.map_implied_class.specs.Implied.{composedFrom, impliedOutcome, impliedTime, impliedClassCall};
 ghost use Rattle.map_implied_class.specs.Finish.{mapOfReply, finishedMap, composedMap, roomBesideTransfer, impliedAfterClass};
 
@@ -91,10 +92,7 @@ fn compose_list(
     bytes: &mut [u8],
     own: &mut [usize],
 ) -> compose_pairs::Built
-    requires { ⌜ everyEnd atMost511 (pairsIn (now store) (now places) (outer .count)) ≡ true ⌝ }
-    requires { ⌜ everyEnd atMost511 (pairsIn (now istore) (now iplaces) (inner .count)) ≡ true ⌝ }
-    requires { ⌜ 1534 * (inner .count + outer .count) ≤ length (now bytes) ⌝ }
-    requires { ⌜ 4 * (inner .count + outer .count) ≤ length (now own) ⌝ }
+    requires { ⌜ CanCompose (pairsIn (now store) (now places) (outer .count)) (pairsIn (now istore) (now iplaces) (inner .count)) (inner .count + outer .count) (now bytes) (now own) ⌝ }
     ensures { λ r. ⌜ HoldsList (composedFrom (mapOf (now (store .entry)) (now (places .entry)) outer) (mapOf (now (istore .entry)) (now (iplaces .entry)) inner)) (r .n) (r .at) (now (bytes .exit)) (now (own .exit)) ⌝ }
 {
     let n = outer.count;
@@ -203,11 +201,8 @@ fn finish(
     out: &mut [u8],
     slots: &mut [usize],
 ) -> map_function::MapReply
-    requires { ⌜ (transfer .count ≤ 64) × ((class .count ≤ 64) × (b .n ≤ 64)) ⌝ }
-    requires { ⌜ everyEnd atMost511 (pairsIn (now store) (now places) (transfer .count)) ≡ true ⌝ }
-    requires { ⌜ everyEnd atMost511 (pairsIn (now mid) (now mids) (class .count)) ≡ true ⌝ }
-    requires { ⌜ 196352 ≤ length (now bytes) ⌝ }
-    requires { ⌜ 512 ≤ length (now own) ⌝ }
+    requires { ⌜ (transfer .count ≤ 64) × (b .n ≤ 64) ⌝ }
+    requires { ⌜ CanCompose (pairsIn (now store) (now places) (transfer .count)) (pairsIn (now mid) (now mids) (class .count)) (class .count + transfer .count) (now bytes) (now own) ⌝ }
     ensures { λ r. ⌜ ReturnsMap (impliedAfterClass (mapOf (now (store .entry)) (now (places .entry)) transfer) (mapOf (now (mid .entry)) (now (mids .entry)) class) (b .n) (b .at) short time (now (out .entry)) (now (slots .entry))) r (now (out .entry)) (now (out .exit)) (now (slots .entry)) (now (slots .exit)) ⌝ }
 {
     let n = transfer.count;
@@ -241,11 +236,8 @@ fn implied_in(
     out: &mut [u8],
     slots: &mut [usize],
 ) -> map_function::MapReply
-    requires { ⌜ (transfer .count ≤ 64) × ((4 * transfer .count ≤ length (now places)) × (class .count ≤ 64)) ⌝ }
-    requires { ⌜ allShort (pairsIn (now store) (now places) (transfer .count)) ≡ true ⌝ }
-    requires { ⌜ allShort (pairsIn (now cstore) (now cplaces) (class .count)) ≡ true ⌝ }
-    requires { ⌜ allEnds (pairsIn (now store) (now places) (transfer .count)) ≡ true ⌝ }
-    requires { ⌜ allEnds (pairsIn (now cstore) (now cplaces) (class .count)) ≡ true ⌝ }
+    requires { ⌜ ValidList (listOf (now store) (now places) transfer) ⌝ }
+    requires { ⌜ ValidList (listOf (now cstore) (now cplaces) class) ⌝ }
     ensures { λ r. ⌜ ReturnsMap (impliedOutcome (mapOf (now (store .entry)) (now (places .entry)) transfer) (mapOf (now (cstore .entry)) (now (cplaces .entry)) class) (impliedTime transfer class) (now (out .entry)) (now (slots .entry))) r (now (out .entry)) (now (out .exit)) (now (slots .entry)) (now (slots .exit)) ⌝ }
 {
     let mut bytes = [0u8; 196352];

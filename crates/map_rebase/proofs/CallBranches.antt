@@ -9,13 +9,13 @@ use lib.ListN.{length, length-drop}
 use Rattle.text.specs.Text.{Text, writtenAt}
 use Rattle.text.proofs.BoolLaws.{known-true, known-false}
 use Rattle.layer_offset.specs.declared.LayerOffset.{LayerOffset}
-use Rattle.pair_list.specs.Pair.{pair, allShort}
+use Rattle.pair_list.specs.Pair.{pair}
 use Rattle.pair_list.specs.Places.{pairsIn, pairEntry}
 use Rattle.refusal.specs.declared.Refusal.{Refusal}
 use Rattle.refusal.specs.declared.Validation.{Validation}
 use Rattle.refusal.specs.declared.Validation.the-variants.{Passed, Refused as RefusedValidation}
-use Rattle.validate.specs.Validate.{lentList, validateCall}
-use Rattle.validate.proofs.PassedLaws.{ValidList, first-sound, text-short, second-short}
+use Rattle.validate.specs.Validate.{lentList, validateCall, ValidList}
+use Rattle.validate.proofs.PassedLaws.{first-sound, text-short, second-short}
 use Rattle.map_spec.specs.Map.{Map}
 use Rattle.map_spec.specs.New.{fromParts, fromPairIdentity}
 use Rattle.map_spec.specs.Compose.{isPathIdentity}
@@ -27,7 +27,7 @@ use Rattle.pair_buffer.specs.PairBuffer.{HoldsList}
 use Rattle.pair_buffer.specs.Ends.{fromEnds}
 use Rattle.pair_buffer.proofs.PairBufferLaws.{holds-none, holds-more, holds-list}
 use Rattle.pair_buffer.proofs.MapLaws.{identity-lent, held-all, limited-map, fromEnds-map}
-use Rattle.map_rebase.specs.Calls.{rebasedPairs, rebaseOutcome, RebasesTo, rebaseTargetCall}
+use Rattle.map_rebase.specs.Calls.{rebasedPairs, rebasedMap, rebaseOutcome, RebasesTo, rebaseTargetCall}
 
 -- `from_pair_identity`: the single pair in a buffer.
 pub one-pair : (s t : Text) (time : LayerOffset) (out : Text) (slots : List ℕ) (bytes bytes′ : Text) (own own′ : List ℕ) → length own ≡ 4
@@ -51,18 +51,12 @@ module _ (store : Text) (places : List ℕ) (f : MapFunction) (from to : Text) (
   rebase-refused x k = rw (← h, k)
 
   module _ (k : q ≡ Passed) where
-    sound : ValidList (listOf store places f)
+    pub sound : ValidList (listOf store places f)
     sound = first-sound (listOf store places f) [] (from ∷ to ∷ []) (from ∷ to ∷ []) (sym h ∙ k)
 
     passed : rebaseTargetCall store places f from to out slots ≡ rebaseOutcome m from to (f .«time_offset») out slots
     unfolding rebaseTargetCall
     passed = rw (← h, k)
-
-    pub rebase-short : allShort (m .pairs) ≡ true
-    rebase-short = sound .shorts
-
-    pub rebase-count : f .count ≤ 64
-    rebase-count = sound .few
 
     pub rebase-from : length from ≤ 255
     rebase-from = text-short (listOf store places f ∷ []) from (to ∷ []) (from ∷ to ∷ []) (sym h ∙ k)
@@ -91,7 +85,7 @@ module _ (store : Text) (places : List ℕ) (f : MapFunction) (from to : Text) (
 
         pub rebase-made : not c ≡ false
             → rebaseTargetCall store places f from to out slots
-            ≡ fromEnds (rebasedPairs from to (pairsIn store places (f .count))) (f .«has_root_identity») (f .«time_offset») out slots
+            ≡ rebasedMap m from to (f .«time_offset») out slots
         unfolding rebaseOutcome
         rebase-made o = passed ∙ rw (identity-is, l, known-true i o)
 

@@ -21,13 +21,17 @@ use Rattle.pair_buffer.specs.Ends.{fromEnds}
 abbrev pub rebasedPairs : Text → Text → List Pair → List Pair
 rebasedPairs from to l = mapped (λ (x : Pair). rebasedPair from to x) l
 
+-- The map of the rebased pairs.
+abbrev pub rebasedMap : Map → Text → Text → LayerOffset → Text → List ℕ → MapOutcome
+rebasedMap m from to time out slots = fromEnds (rebasedPairs from to (m .pairs)) (m .mark) time out slots
+
 -- The rebased map: the identity on paths becomes the single pair `from`→`to` beside the mark; a map with no target below `from` is
 -- unchanged.
 unfoldable pub rebaseOutcome : Map → Text → Text → LayerOffset → Text → List ℕ → MapOutcome
 unfolding withinLimits withoutDropping fromEnds anyTargetBelow fromPairIdentity
 rebaseOutcome m from to time out slots =
     cond (isPathIdentity m) (withinLimits (pair from to ∷ []) (fromPairIdentity (pair from to)) time out slots)
-    (cond (anyTargetBelow from (m .pairs)) (fromEnds (rebasedPairs from to (m .pairs)) (m .mark) time out slots) (withoutDropping (m .pairs) (m .mark) time out slots))
+    (cond (anyTargetBelow from (m .pairs)) (rebasedMap m from to time out slots) (withoutDropping (m .pairs) (m .mark) time out slots))
 
 -- If the call returns a map, it is the rebased one (proved in proofs/CallBranches.antt).
 abbrev pub RebasesTo : Type 0

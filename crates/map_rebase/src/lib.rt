@@ -10,10 +10,12 @@ ghost use Rattle.pair_list.specs.Pair.{pair, allShort};
 ghost use Rattle.pair_list.specs.Places.{pairsIn, pairEntry};
 ghost use Rattle.map_spec.specs.New.{fromPairIdentity};
 ghost use Rattle.map_spec.specs.Derive.{anyTargetBelow};
+ghost use Rattle.validate.specs.Validate.{ValidList};
+ghost use Rattle.map_function.specs.MapFunction.{listOf, mapOf};
 ghost use Rattle.map_function.specs.MapOutcome.{ReturnsMap, withinLimits};
-ghost use Rattle.pair_buffer.specs.PairBuffer.{HoldsList};
-ghost use Rattle.pair_buffer.specs.Ends.{replacedOrSame, fromEnds};
-ghost use Rattle.map_rebase.specs.Calls.{rebasedPairs, rebaseTargetCall};
+ghost use Rattle.pair_buffer.specs.PairBuffer.{HoldsList, ScratchRoom};
+ghost use Rattle.pair_buffer.specs.Ends.{replacedOrSame};
+ghost use Rattle.map_rebase.specs.Calls.{rebasedPairs, rebasedMap, rebaseTargetCall};
 
 // Appends a pair with its target re-anchored and returns the offset after it.
 fn rebase_pair(
@@ -66,8 +68,7 @@ fn rebase_all(
 ) -> usize
     requires { ⌜ allShort (pairsIn (now store) (now places) n) ≡ true ⌝ }
     requires { ⌜ length (now to) ≤ 255 ⌝ }
-    requires { ⌜ 766 * n ≤ length (now bytes) ⌝ }
-    requires { ⌜ 4 * n ≤ length (now slots) ⌝ }
+    requires { ⌜ ScratchRoom 766 n (now bytes) (now slots) ⌝ }
     ensures { λ r. ⌜ HoldsList (rebasedPairs (now (from .entry)) (now (to .entry)) (pairsIn (now (store .entry)) (now (places .entry)) n)) n r (now (bytes .exit)) (now (slots .exit)) ⌝ }
 {
     let mut at = 0;
@@ -93,12 +94,10 @@ fn rebase_in(
     out: &mut [u8],
     slots: &mut [usize],
 ) -> map_function::MapReply
-    requires { ⌜ allShort (pairsIn (now store) (now places) (map .count)) ≡ true ⌝ }
+    requires { ⌜ ValidList (listOf (now store) (now places) map) ⌝ }
     requires { ⌜ length (now to) ≤ 255 ⌝ }
-    requires { ⌜ map .count ≤ 64 ⌝ }
-    requires { ⌜ 766 * map .count ≤ length (now bytes) ⌝ }
-    requires { ⌜ 4 * map .count ≤ length (now own) ⌝ }
-    ensures { λ r. ⌜ ReturnsMap (fromEnds (rebasedPairs (now (from .entry)) (now (to .entry)) (pairsIn (now (store .entry)) (now (places .entry)) (map .count))) (map .«has_root_identity») (map .«time_offset») (now (out .entry)) (now (slots .entry))) r (now (out .entry)) (now (out .exit)) (now (slots .entry)) (now (slots .exit)) ⌝ }
+    requires { ⌜ ScratchRoom 766 (map .count) (now bytes) (now own) ⌝ }
+    ensures { λ r. ⌜ ReturnsMap (rebasedMap (mapOf (now (store .entry)) (now (places .entry)) map) (now (from .entry)) (now (to .entry)) (map .«time_offset») (now (out .entry)) (now (slots .entry))) r (now (out .entry)) (now (out .exit)) (now (slots .entry)) (now (slots .exit)) ⌝ }
 {
     let n = map.count;
     let mark = map.has_root_identity;
@@ -107,8 +106,9 @@ fn rebase_in(
     pair_buffer::from_ends(bytes, own, n, mark, time, out, slots)
 }
 
-// Rebases a map of at most four pairs, in a small scratch buffer that is quickly cleared.
-fn rebase_small(
+// Rebases a validated map in scratch buffers; those for at most four pairs are small, so that they are quickly
+// cleared.
+fn rebase_pairs(
     store: &[u8],
     places: &[usize],
     map: map_function::MapFunction,
@@ -117,41 +117,25 @@ fn rebase_small(
     out: &mut [u8],
     slots: &mut [usize],
 ) -> map_function::MapReply
-    requires { ⌜ allShort (pairsIn (now store) (now places) (map .count)) ≡ true ⌝ }
+    requires { ⌜ ValidList (listOf (now store) (now places) map) ⌝ }
     requires { ⌜ length (now to) ≤ 255 ⌝ }
-    requires { ⌜ map .count ≤ 4 ⌝ }
-    ensures { λ r. ⌜ ReturnsMap (fromEnds (rebasedPairs (now (from .entry)) (now (to .entry)) (pairsIn (now (store .entry)) (now (places .entry)) (map .count))) (map .«has_root_identity») (map .«time_offset») (now (out .entry)) (now (slots .entry))) r (now (out .entry)) (now (out .exit)) (now (slots .entry)) (now (slots .exit)) ⌝ }
+    ensures { λ r. ⌜ ReturnsMap (rebasedMap (mapOf (now (store .entry)) (now (places .entry)) map) (now (from .entry)) (now (to .entry)) (map .«time_offset») (now (out .entry)) (now (slots .entry))) r (now (out .entry)) (now (out .exit)) (now (slots .entry)) (now (slots .exit)) ⌝ }
 {
-    let mut bytes = [0u8; 3064];
-    let mut own = [0usize; 16];
-    rebase_in(
-        store,
-        places,
-        map,
-        from,
-        to,
-        &mut bytes,
-        &mut own,
-        out,
-        slots,
-    )
-}
-
-// Rebases a map of up to 64 pairs.
-fn rebase_large(
-    store: &[u8],
-    places: &[usize],
-    map: map_function::MapFunction,
-    from: &[u8],
-    to: &[u8],
-    out: &mut [u8],
-    slots: &mut [usize],
-) -> map_function::MapReply
-    requires { ⌜ allShort (pairsIn (now store) (now places) (map .count)) ≡ true ⌝ }
-    requires { ⌜ length (now to) ≤ 255 ⌝ }
-    requires { ⌜ map .count ≤ 64 ⌝ }
-    ensures { λ r. ⌜ ReturnsMap (fromEnds (rebasedPairs (now (from .entry)) (now (to .entry)) (pairsIn (now (store .entry)) (now (places .entry)) (map .count))) (map .«has_root_identity») (map .«time_offset») (now (out .entry)) (now (slots .entry))) r (now (out .entry)) (now (out .exit)) (now (slots .entry)) (now (slots .exit)) ⌝ }
-{
+    if map.count <= 4 {
+        let mut bytes = [0u8; 3064];
+        let mut own = [0usize; 16];
+        return rebase_in(
+            store,
+            places,
+            map,
+            from,
+            to,
+            &mut bytes,
+            &mut own,
+            out,
+            slots,
+        );
+    }
     let mut bytes = [0u8; 49024];
     let mut own = [0usize; 256];
     rebase_in(
@@ -210,8 +194,5 @@ pub fn rebase_target(
     if !any_target(store, places, n, from) {
         return map_function::without_dropping(store, places, n, mark, map.time_offset, out, slots);
     }
-    if n <= 4 {
-        return rebase_small(store, places, map, from, to, out, slots);
-    }
-    rebase_large(store, places, map, from, to, out, slots)
+    rebase_pairs(store, places, map, from, to, out, slots)
 }

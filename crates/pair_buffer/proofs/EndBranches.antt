@@ -1,6 +1,6 @@
--- Lemmas about the branches of `replace_into` and `from_ends`.
+-- Lemmas about the branches of `replace_into`, `from_ends_given` and `from_ends`.
 use mathlib.Core.Path.{_≡_, refl, sym, ap, _∙_}
-use mathlib.Core.Bool.{Bool, true, false, not, cond}
+use mathlib.Core.Bool.{Bool, true, false, not, cond, _&&_}
 use mathlib.Core.List.{List}
 use mathlib.Core.Option.{Option, Option·getD}
 use Prim.Native.Nat.{ℕ, _*_, _-_, _/_, _≤_, _<_}
@@ -11,7 +11,7 @@ use borrow.Author.Tests.{le-leb, lt-leb}
 use Rattle.text.specs.Text.{Text, writtenIfFits, fitOf}
 use Rattle.text.specs.declared.Fit.{Fit}
 use Rattle.text.specs.declared.Fit.the-variants.{Written, Over}
-use Rattle.text.proofs.BoolLaws.{and-no, known-true, known-false}
+use Rattle.text.proofs.BoolLaws.{and-l, and-r, and-no, told, known-true, known-false}
 use Rattle.text.proofs.WriteLaws.{rest-whole}
 use Rattle.path_grammar.specs.Legal.{legal}
 use Rattle.path_prefix.specs.Prefix.{hasPrefix}
@@ -26,8 +26,8 @@ use Rattle.pair_list.proofs.PlaceLaws.{pairsIn-length}
 use Rattle.refusal.specs.declared.Refusal.the-variants.{TooMany, NoRoom, MadeTooLong, MadeIllegal}
 use Rattle.validate.specs.Validate.{lentList}
 use Rattle.map_spec.specs.New.{fromParts}
-use Rattle.map_function.specs.MapOutcome.{MapOutcome, map, refused, requireListRoom, withinLimits, fromPartsOutcome, countInSlice}
-use Rattle.pair_buffer.specs.Ends.{replacedOrSame, writtenLength, requireShort, requireLegal, fromEnds}
+use Rattle.map_function.specs.MapOutcome.{MapOutcome, map, refused, requireListRoom, fromPartsOutcome, countInSlice}
+use Rattle.pair_buffer.specs.Ends.{replacedOrSame, writtenLength, requireShort, requireLegalGiven, fromEndsGiven, fromEnds}
 use Rattle.pair_buffer.proofs.EveryLaws.{every-places}
 use Rattle.pair_buffer.proofs.MapLaws.{held-all}
 
@@ -66,64 +66,70 @@ module _ (p s t : Text) (b : Bool) (h : b ≡ hasPrefix p s) (out : Text) where
       pub replace-over : f ≡ Over → Replaced 0 out′
       replace-over g = rw g at join-is
 
--- `from_ends`
-module _ (store : Text) (places : List ℕ) (n : ℕ) (mark : Bool) (time : LayerOffset) (out : Text) (slots : List ℕ) where
+-- `from_ends_given`: question 8 has the answer `yes`.
+module _ (store : Text) (places : List ℕ) (n : ℕ) (yes mark : Bool) (time : LayerOffset) (out : Text) (slots : List ℕ) where
   abbrev list : List Pair
   list = pairsIn store places n
 
   abbrev made : MapOutcome
-  made = fromEnds list mark time out slots
+  made = fromEndsGiven yes list mark time out slots
 
   abbrev call : MapOutcome
   call = countInSlice (lentList store places n) made
 
-  pub ends-many : 64 < n → call ≡ refused TooMany
-  unfolding countInSlice fromEnds
-  ends-many h = rw (pairsIn-length store places n, lt-leb n 64 h) (same (leb n (length places / 4)))
+  pub given-many : 64 < n → call ≡ refused TooMany
+  unfolding countInSlice fromEndsGiven
+  given-many h = rw (pairsIn-length store places n, lt-leb n 64 h) (same (leb n (length places / 4)))
     where
       same : (b : Bool) → cond b (refused TooMany) (refused TooMany) ≡ refused TooMany
       same true = refl
       same false = refl
 
-  pub ends-beyond : length places / 4 < n → call ≡ refused TooMany
+  pub given-beyond : length places / 4 < n → call ≡ refused TooMany
   unfolding countInSlice
-  ends-beyond h = rw (lt-leb n (length places / 4) h) refl
+  given-beyond h = rw (lt-leb n (length places / 4) h) refl
 
-  module _ (few : n ≤ 64) (there : n ≤ length places / 4) where
-    all-there : call ≡ made
-    all-there = held-all store places n made there
+  module _ (few : n ≤ 64) (there : n ≤ length places / 4) (b : Bool) (h : b ≡ allShort list) (c : Bool) (e : c ≡ (b && yes)) where
+    pub given-parts : c ≡ true → call ≡ countInSlice (lentList store places n) (fromPartsOutcome list mark time out slots)
+    unfolding fromEndsGiven requireShort fromPartsOutcome
+    given-parts k =
+        let z : (b && yes) ≡ true = sym e ∙ k in
+        rw (and-r b yes z, told h (and-l b yes z))
 
-    ends-room : listFitsBuffers list out slots ≡ false → call ≡ refused NoRoom
-    unfolding fromEnds requireListRoom
-    ends-room g = all-there ∙ rw (g, pairsIn-length store places n, le-leb n 64 few)
+    given-room : listFitsBuffers list out slots ≡ false → call ≡ refused NoRoom
+    unfolding fromEndsGiven requireListRoom
+    given-room g = held-all store places n made there ∙ rw (g, pairsIn-length store places n, le-leb n 64 few)
 
-    pub ends-slots : length slots / 4 < n → call ≡ refused NoRoom
+    pub given-slots : length slots / 4 < n → call ≡ refused NoRoom
     unfolding listFitsBuffers
-    ends-slots l = ends-room (rw (pairsIn-length store places n, lt-leb n (length slots / 4) l) (and-no (leb (endBytes list) (length out))))
+    given-slots l = given-room (rw (pairsIn-length store places n, lt-leb n (length slots / 4) l) (and-no (leb (endBytes list) (length out))))
 
-    module _ (l : n ≤ length slots / 4) (b : Bool) (h : b ≡ leb (endBytes list) (length out)) where
-      pub ends-bytes : not b ≡ true → call ≡ refused NoRoom
+    module _ (l : n ≤ length slots / 4) (d : Bool) (i : d ≡ leb (endBytes list) (length out)) where
+      pub given-bytes : not d ≡ true → call ≡ refused NoRoom
       unfolding listFitsBuffers
-      ends-bytes k = ends-room (rw (known-false h k))
+      given-bytes k = given-room (rw (known-false i k))
 
-      module _ (k : not b ≡ false) (c : Bool) (i : c ≡ allShort list) where
-        roomy : call ≡ requireShort list (requireLegal list (map (fromParts list mark) time))
-        unfolding fromEnds requireListRoom listFitsBuffers
-        roomy = all-there ∙ rw (pairsIn-length store places n, le-leb n 64 few, known-true h k, le-leb n (length slots / 4) l)
+      module _ (k : not d ≡ false) where
+        roomy : call ≡ requireShort list (requireLegalGiven yes (map (fromParts list mark) time))
+        unfolding fromEndsGiven requireListRoom listFitsBuffers
+        roomy =
+            held-all store places n made there
+            ∙ rw (pairsIn-length store places n, le-leb n 64 few, known-true i k, le-leb n (length slots / 4) l)
 
-        pub ends-long : not c ≡ true → call ≡ refused MadeTooLong
+        pub given-illegal : c ≡ false → b ≡ true → call ≡ refused MadeIllegal
         unfolding requireShort
-        ends-long m = roomy ∙ rw (known-false i m)
+        given-illegal f g =
+            let z : yes ≡ false = sym (sym f ∙ e ∙ rw g refl) in
+            roomy ∙ rw (told h g, z)
 
-        module _ (m : not c ≡ false) (d : Bool) (j : d ≡ placesAll legal store places (2 * n)) where
-          pub ends-illegal : not d ≡ true → call ≡ refused MadeIllegal
-          unfolding requireShort requireLegal
-          ends-illegal o = roomy ∙ rw (known-true i m, ← (every-places legal store places n), known-false j o)
+        pub given-long : b ≡ false → call ≡ refused MadeTooLong
+        unfolding requireShort
+        given-long g = roomy ∙ rw (told h g)
 
-          pub ends-parts : not d ≡ false → call ≡ countInSlice (lentList store places n) (fromPartsOutcome list mark time out slots)
-          unfolding requireShort requireLegal fromPartsOutcome withinLimits requireListRoom listFitsBuffers
-          ends-parts o =
-              roomy
-              ∙ rw (known-true i m, ← (every-places legal store places n), known-true j o)
-              (sym (held-all store places n (fromPartsOutcome list mark time out slots) there
-              ∙ rw (pairsIn-length store places n, le-leb n 64 few, known-true h k, le-leb n (length slots / 4) l)))
+-- `from_ends`: question 8 for all places of the list.
+pub ends-answered : (store : Text) (places : List ℕ) (n : ℕ) (mark : Bool) (time : LayerOffset) (out : Text) (slots : List ℕ)
+    → (d : Bool) → d ≡ placesAll legal store places (2 * n)
+    → countInSlice (lentList store places n) (fromEnds (pairsIn store places n) mark time out slots)
+    ≡ countInSlice (lentList store places n) (fromEndsGiven d (pairsIn store places n) mark time out slots)
+unfolding fromEnds
+ends-answered store places n mark time out slots d j = rw (j, every-places legal store places n) refl

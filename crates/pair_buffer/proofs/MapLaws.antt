@@ -21,7 +21,7 @@ use Rattle.map_spec.specs.New.{fromParts}
 use Rattle.map_spec.specs.Compose.{isEmpty, isPathIdentity}
 use Rattle.map_function.specs.MapOutcome.{MapOutcome, map, refused, requireListRoom, withinLimits, countInSlice}
 use Rattle.pair_buffer.specs.PairBuffer.{HoldsList}
-use Rattle.pair_buffer.specs.Ends.{requireShort, requireLegal, fromEnds}
+use Rattle.pair_buffer.specs.Ends.{requireShort, fromEndsGiven, fromEnds}
 use Rattle.pair_buffer.proofs.PairBufferLaws.{holds-list, built-held}
 
 -- A map in lent memory is the identity on paths exactly if it has the mark and no pair.
@@ -61,7 +61,7 @@ module _ (m : Map) (t : LayerOffset) where
       go false b e = absurd (no-map TooMany e)
 
   pub fromEnds-map : (l : List Pair) (mark : Bool) (time : LayerOffset) (out : Text) (slots : List ℕ) → fromEnds l mark time out slots ≡ map m t → m ≡ fromParts l mark
-  unfolding fromEnds requireListRoom requireShort requireLegal
+  unfolding fromEnds fromEndsGiven requireListRoom requireShort
   fromEnds-map l mark time out slots e = go (leb (length l) 64) (listFitsBuffers l out slots) (allShort l) (everyEnd legal l) e
     where
       go : (a b c d : Bool) → cond a (cond b (cond c (cond d (map (fromParts l mark) time) (refused MadeIllegal)) (refused MadeTooLong)) (refused NoRoom)) (refused TooMany) ≡ map m t

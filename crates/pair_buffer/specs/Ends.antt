@@ -34,13 +34,23 @@ unfoldable pub requireShort : List Pair → MapOutcome → MapOutcome
 unfolding allShort
 requireShort l o = cond (allShort l) o (refused MadeTooLong)
 
--- Question 8: "Is every path made legal?" Ends taken over unchanged are legal already.
+-- Question 8: "Is every path made legal?", with its answer given.
+abbrev pub requireLegalGiven : Bool → MapOutcome → MapOutcome
+requireLegalGiven isLegal o = cond isLegal o (refused MadeIllegal)
+
+-- Question 8 for a list. Ends taken over unchanged are legal already.
 unfoldable pub requireLegal : List Pair → MapOutcome → MapOutcome
 unfolding everyEnd legal
-requireLegal l o = cond (everyEnd legal l) o (refused MadeIllegal)
+requireLegal l o = requireLegalGiven (everyEnd legal l) o
 
 -- The map built from a list whose ends were constructed: questions 4 and 5 for "the list that the dropping in `new` starts from", then
--- questions 7 and 8.
+-- question 7, then question 8 with its answer given.
+unfoldable pub fromEndsGiven : Bool → List Pair → Bool → LayerOffset → Text → List ℕ → MapOutcome
+unfolding requireListRoom requireShort fromParts
+fromEndsGiven isLegal l mark time out slots =
+    cond (leb (length l) 64) (requireListRoom l out slots (requireShort l (requireLegalGiven isLegal (map (fromParts l mark) time)))) (refused TooMany)
+
+-- The same with the answer to question 8 for the list.
 unfoldable pub fromEnds : List Pair → Bool → LayerOffset → Text → List ℕ → MapOutcome
-unfolding requireListRoom requireShort requireLegal fromParts
-fromEnds l mark time out slots = cond (leb (length l) 64) (requireListRoom l out slots (requireShort l (requireLegal l (map (fromParts l mark) time)))) (refused TooMany)
+unfolding fromEndsGiven everyEnd legal
+fromEnds l mark time out slots = fromEndsGiven (everyEnd legal l) l mark time out slots

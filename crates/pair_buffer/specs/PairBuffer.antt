@@ -2,7 +2,7 @@
 use mathlib.Core.Path.{_≡_}
 use mathlib.Core.Bool.{Bool, cond, _&&_}
 use mathlib.Core.List.{List, _++_}
-use Prim.Native.Nat.{ℕ, _+_, _*_}
+use Prim.Native.Nat.{ℕ, _+_, _*_, _≤_}
 use lib.Dec.{leb}
 use lib.ListN.{length}
 use Rattle.text.specs.Text.{Text, writtenAt}
@@ -19,6 +19,11 @@ pub record HoldsList (l : List Pair) (n at : ℕ) (bytes : Text) (slots : List �
   -- The entries after the places of the list.
   pub later : List ℕ
   pub places : slots ≡ listPlaces 0 l ++ later
+
+-- The buffers are large enough for n pairs of at most `most` bytes each.
+pub record ScratchRoom (most n : ℕ) (bytes : Text) (slots : List ℕ) : Type 0 where
+  pub room : most * n ≤ length bytes
+  pub entries : 4 * n ≤ length slots
 
 -- Whether one more pair, with ends s and t, fits after n pairs and `at` bytes: its bytes and its four place entries.
 unfoldable pub pairFits : Text → Text → ℕ → ℕ → Text → List ℕ → Bool

@@ -8,7 +8,7 @@ ghost use Rattle.validate.specs.Validate.{lentList};
 ghost use Rattle.map_spec.specs.Compose.{hasSource};
 ghost use Rattle.map_function.specs.MapOutcome.{ReturnsMap, countInSlice};
 ghost use Rattle.pair_buffer.specs.PairBuffer.{pairEnd, pairBytes, pairSlots};
-ghost use Rattle.pair_buffer.specs.Ends.{atMost, replacedOrSame, writtenLength, fromEnds};
+ghost use Rattle.pair_buffer.specs.Ends.{atMost, replacedOrSame, writtenLength, fromEndsGiven, fromEnds};
 
 // Appends a pair to the first n pairs and returns the offset after it; writes nothing and returns `at` if it
 // does not fit.
@@ -103,8 +103,43 @@ pub fn all_short(store: &[u8], places: &[usize], n: usize) -> bool
     all_at_most(store, places, n, 255)
 }
 
-// Builds a map from the first n pairs, whose ends were constructed: validates them (questions 4, 5, 7 and 8),
-// then drops redundant pairs.
+// Builds a map from the first n pairs, whose ends were constructed: validates them (questions 4, 5 and 7, and
+// question 8 by its answer `legal`), then drops redundant pairs.
+pub fn from_ends_given(
+    store: &[u8],
+    places: &[usize],
+    n: usize,
+    legal: bool,
+    mark: bool,
+    time: layer_offset::LayerOffset,
+    out: &mut [u8],
+    slots: &mut [usize],
+) -> map_function::MapReply
+    ensures { λ r. ⌜ ReturnsMap (countInSlice (lentList (now (store .entry)) (now (places .entry)) n) (fromEndsGiven legal (pairsIn (now (store .entry)) (now (places .entry)) n) mark time (now (out .entry)) (now (slots .entry)))) r (now (out .entry)) (now (out .exit)) (now (slots .entry)) (now (slots .exit)) ⌝ }
+{
+    if 64 < n {
+        return map_function::MapReply::Refused(refusal::Refusal::TooMany);
+    }
+    if places.len() / 4 < n {
+        return map_function::MapReply::Refused(refusal::Refusal::TooMany);
+    }
+    let short = all_short(store, places, n);
+    if validate::both(short, legal) {
+        return map_function::from_parts(store, places, n, mark, time, out, slots);
+    }
+    if slots.len() / 4 < n {
+        return map_function::MapReply::Refused(refusal::Refusal::NoRoom);
+    }
+    if !pair_list_write::list_fits(store, places, n, out.len()) {
+        return map_function::MapReply::Refused(refusal::Refusal::NoRoom);
+    }
+    if short {
+        return map_function::MapReply::Refused(refusal::Refusal::MadeIllegal);
+    }
+    map_function::MapReply::Refused(refusal::Refusal::MadeTooLong)
+}
+
+// Like `from_ends_given`, with question 8 answered for the pairs.
 pub fn from_ends(
     store: &[u8],
     places: &[usize],
@@ -119,20 +154,6 @@ pub fn from_ends(
     if 64 < n {
         return map_function::MapReply::Refused(refusal::Refusal::TooMany);
     }
-    if places.len() / 4 < n {
-        return map_function::MapReply::Refused(refusal::Refusal::TooMany);
-    }
-    if slots.len() / 4 < n {
-        return map_function::MapReply::Refused(refusal::Refusal::NoRoom);
-    }
-    if !pair_list_write::list_fits(store, places, n, out.len()) {
-        return map_function::MapReply::Refused(refusal::Refusal::NoRoom);
-    }
-    if !all_short(store, places, n) {
-        return map_function::MapReply::Refused(refusal::Refusal::MadeTooLong);
-    }
-    if !pair_list::all_legal(store, places, 2 * n) {
-        return map_function::MapReply::Refused(refusal::Refusal::MadeIllegal);
-    }
-    map_function::from_parts(store, places, n, mark, time, out, slots)
+    let legal = pair_list::all_legal(store, places, 2 * n);
+    from_ends_given(store, places, n, legal, mark, time, out, slots)
 }

@@ -13,8 +13,7 @@ use Rattle.path_parts.specs.Strip.{strip}
 use Rattle.path_parts.proofs.StripLaws.{strip-shorter, strip-free, strip-same, strip-legal}
 use Rattle.pair_list.specs.Pair.{Pair, allEnds, allShort}
 use Rattle.refusal.specs.Outcome.{Outcome, path, refused}
-use Rattle.validate.specs.Validate.{pairsOf, every}
-use Rattle.validate.proofs.PassedLaws.{ValidList}
+use Rattle.validate.specs.Validate.{pairsOf, every, ValidList}
 use Rattle.map_spec.specs.Map.{Map, mapTargetToSource, translateToTarget}
 use Rattle.map_spec.specs.Leg.{translateChecked, mapBackChecked, SelectionFreePath}
 use Rattle.map_spec.proofs.OutcomeLaws.{checked-path}

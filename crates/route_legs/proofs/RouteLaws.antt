@@ -17,9 +17,9 @@ use Rattle.refusal.specs.declared.Validation.{Validation}
 use Rattle.refusal.specs.declared.Validation.the-variants.{Passed, Refused}
 use Rattle.refusal.specs.Refusal.{refusedOr, allTextsShort, allTextsLegal, validateTexts}
 use Rattle.path.specs.Calls.{pathNewCall}
-use Rattle.validate.specs.Validate.{LentList, pairsOf, listShort, listAll, countWithinLimit, every, firstFailed, validateCall, firstRefusal}
+use Rattle.validate.specs.Validate.{LentList, pairsOf, listShort, listAll, countWithinLimit, every, firstFailed, validateCall, firstRefusal, ValidList}
 use Rattle.validate.proofs.RefusalLaws.{never, none-earlier, each, list-more}
-use Rattle.validate.proofs.PassedLaws.{ValidList, lists-pass, first-sound, text-short, text-legal}
+use Rattle.validate.proofs.PassedLaws.{lists-pass, first-sound, text-short, text-legal}
 use Rattle.route_spec.specs.Leg.{legEnds}
 use Rattle.route_spec.specs.Route.{routeEnds}
 use Rattle.route_legs.specs.LentRoute.{LentRoute, kindAt, listAt, legOf, legAt, legsIn, listsIn, presentLegs, legCountWithinLimit, validateRoute}

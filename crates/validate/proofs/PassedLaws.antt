@@ -13,14 +13,7 @@ use Rattle.path_grammar.specs.Legal.{legal, atMost255, isEnd}
 use Rattle.pair_list.specs.Pair.{allShort, allEnds}
 use Rattle.pair_list.proofs.PlaceLaws.{every-pairIn, fit-texts}
 use Rattle.refusal.specs.declared.Validation.the-variants.{Passed}
-use Rattle.validate.specs.Validate.{LentList, pairsOf, presentPlaces, listShort, listAll, countWithinLimit, every, firstFailed, validateCall}
-
--- A list that passed: the slice holds all its pairs, at most 64, with ends of at most 255 bytes.
-pub record ValidList (l : LentList) : Type 0 where
-  pub few : l .count ≤ 64
-  pub held : l .count ≤ length (l .places) / 4
-  pub ends : allEnds (pairsOf l) ≡ true
-  pub shorts : allShort (pairsOf l) ≡ true
+use Rattle.validate.specs.Validate.{LentList, ValidList, presentPlaces, listShort, listAll, countWithinLimit, every, firstFailed, validateCall}
 
 all-yes : (a b c d : Bool) → firstFailed a b c d ≡ Passed → (a ≡ true) × (b ≡ true) × (c ≡ true) × (d ≡ true)
 unfolding firstFailed

@@ -10,9 +10,8 @@ use borrow.Author.Tests.{le-leb, lt-leb, leb-true}
 use Rattle.text.specs.Text.{Text}
 use Rattle.text.proofs.BoolLaws.{and-l, and-r, and-no, and-yes, known-true}
 use Rattle.pair_list.specs.Pair.{Pair}
-use Rattle.validate.specs.Validate.{LentList, lentList, countWithinLimit}
+use Rattle.validate.specs.Validate.{LentList, lentList, countWithinLimit, ValidList}
 use Rattle.validate.specs.Select.{canSelect, pairsIfSelectable}
-use Rattle.validate.proofs.PassedLaws.{ValidList}
 
 -- Lemmas for `can_select`.
 module _ (places : List ℕ) (count room : ℕ) where

@@ -1,12 +1,13 @@
 -- Validation of the lists and texts of a call (questions 1 to 4). Requirements: "The first 'no' gives its number."
-use Prim.Native.Nat.{ℕ, _*_, _/_}
+use mathlib.Core.Path.{_≡_}
+use Prim.Native.Nat.{ℕ, _*_, _/_, _≤_}
 use mathlib.Core.Bool.{Bool, true, cond, _&&_}
 use mathlib.Core.List.{List, [], _∷_}
 use lib.Dec.{leb}
 use lib.ListN.{length}
 use Rattle.text.specs.Text.{Text}
 use Rattle.path_grammar.specs.Legal.{legal, atMost255, isEnd}
-use Rattle.pair_list.specs.Pair.{Pair}
+use Rattle.pair_list.specs.Pair.{Pair, allShort, allEnds}
 use Rattle.pair_list.specs.Places.{pairsIn, placesShort, placesAll}
 use Rattle.refusal.specs.declared.Refusal.the-variants.{TooLong, Illegal, NotAnEnd, TooMany}
 use Rattle.refusal.specs.declared.Validation.{Validation}
@@ -26,6 +27,14 @@ lentList store places count = record { store = store; places = places; count = c
 -- The pairs of a lent list.
 abbrev pub pairsOf : LentList → List Pair
 pairsOf l = pairsIn (l .store) (l .places) (l .count)
+
+-- A list that passed questions 1, 3 and 4: the slice holds all its pairs, at most 64, and every end is a prim path, `/` or empty and has at
+-- most 255 bytes.
+pub record ValidList (l : LentList) : Type 0 where
+  pub few : l .count ≤ 64
+  pub held : l .count ≤ length (l .places) / 4
+  pub ends : allEnds (pairsOf l) ≡ true
+  pub shorts : allShort (pairsOf l) ≡ true
 
 -- The number of places of the pairs that the slice holds; questions 1 to 3 apply to these.
 unfoldable pub presentPlaces : LentList → ℕ

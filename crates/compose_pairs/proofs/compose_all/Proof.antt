@@ -44,10 +44,10 @@ compose-pair-requires c κs =
     let at-start = at-loop .before .before .before .before .before .before .before in
     let args = at-start .args in
     let pre = at-start .pre in (
-      compose-room (lentMap (args .store .now) (args .places .now) (args .count) (args .mark)) (pre .0) (args .istore .now) (args .iplaces .now)
-          (args .inner) (pre .1 .0) (at-loop .loop .i) (at-loop .loop .at) (at-loop-test .loop-test .taken) (at-loop .loop .inv .1) _ _
-          (at-key-at .key-at .ensures) (at-key-at2 .key-at2 .ensures) _ (omega (arith, pre .1 .1 .0, at-loop .loop .inv .3)),
-      omega (arith, pre .1 .1 .1, at-loop .loop .inv .4, at-loop-test .loop-test .taken),
+      compose-room (lentMap (args .store .now) (args .places .now) (args .count) (args .mark)) (pre .outerEnds) (args .istore .now) (args .iplaces .now)
+          (args .inner) (pre .innerEnds) (at-loop .loop .i) (at-loop .loop .at) (at-loop-test .loop-test .taken) (at-loop .loop .inv .1) _ _
+          (at-key-at .key-at .ensures) (at-key-at2 .key-at2 .ensures) _ (omega (arith, pre .scratch .room, at-loop .loop .inv .3)),
+      omega (arith, pre .scratch .entries, at-loop .loop .inv .4, at-loop-test .loop-test .taken),
     )
 
 add-i : tie.Need-add-i Inv-loop μ-loop
@@ -66,8 +66,8 @@ loop-again c = (
       let at-loop = at-loop-test .before in
       let at-start = at-loop .before .before .before .before .before .before .before in
       let args = at-start .args in
-      compose-bound (lentMap (args .store .now) (args .places .now) (args .count) (args .mark)) (at-start .pre .0) (args .istore .now)
-      (args .iplaces .now) (args .inner) (at-start .pre .1 .0) (at-loop .loop .i) (at-loop .loop .at) (at-loop-test .loop-test .taken)
+      compose-bound (lentMap (args .store .now) (args .places .now) (args .count) (args .mark)) (at-start .pre .outerEnds) (args .istore .now)
+      (args .iplaces .now) (args .inner) (at-start .pre .innerEnds) (at-loop .loop .i) (at-loop .loop .at) (at-loop-test .loop-test .taken)
       (at-loop .loop .inv .1) _ _ (at-key-at .key-at .ensures) (at-key-at2 .key-at2 .ensures) _ (at-compose-pair .compose-pair .ensures .0)),
   (let at-compose-pair = c .before .before .before .before in
       let at-key-at2 = at-compose-pair .before .before .before in
@@ -76,8 +76,8 @@ loop-again c = (
       let at-loop = at-loop-test .before in
       let at-start = at-loop .before .before .before .before .before .before .before in
       let args = at-start .args in
-      compose-next (lentMap (args .store .now) (args .places .now) (args .count) (args .mark)) (at-start .pre .0) (args .istore .now)
-      (args .iplaces .now) (args .inner) (at-start .pre .1 .0) (at-loop .loop .i) (at-loop .loop .at) (at-loop-test .loop-test .taken)
+      compose-next (lentMap (args .store .now) (args .places .now) (args .count) (args .mark)) (at-start .pre .outerEnds) (args .istore .now)
+      (args .iplaces .now) (args .inner) (at-start .pre .innerEnds) (at-loop .loop .i) (at-loop .loop .at) (at-loop-test .loop-test .taken)
       (at-loop .loop .inv .1) _ _ (at-key-at .key-at .ensures) (at-key-at2 .key-at2 .ensures) _ _ _ _ _ _ _ (at-loop .loop .inv .2)
       (at-compose-pair .compose-pair .ensures .0) (at-compose-pair .compose-pair .ensures .1 .0) (at-compose-pair .compose-pair .ensures .1 .1)),
   search needs,

@@ -7,27 +7,18 @@ use Rattle.compose_pairs.proofs.compose_both.Statement.{statement}
 use Rattle.compose_pairs.proofs.compose_both.Tie as tie
 
 compose-all-requires : tie.Need-compose-all-requires
-compose-all-requires c κs =
-    let at-start = c .before .before .before .before .before .before .before .before in
-    let pre = at-start .pre in
-    (pre .0, (pre .1 .0, (omega (arith, pre .1 .1 .0), omega (arith, pre .1 .1 .1))))
+compose-all-requires c κs = c .before .before .before .before .before .before .before .before .pre
 
 pull-back-all-requires : tie.Need-pull-back-all-requires
 pull-back-all-requires c κs =
     let at-compose-all = c .before .before .before .before .before .before in
-    let at-start = at-compose-all .before .before .before .before .before .before .before .before .before in
-    let pre = at-start .pre in (
-      pre .0,
-      (
-        pre .1 .0,
-        (
-          omega (arith, pre .1 .1 .0),
-          (
-            omega (arith, pre .1 .1 .1),
-            (packed-stored _ _ _ _ _ _ _ (at-compose-all .compose-all .ensures .0), at-compose-all .compose-all .ensures .1),
-          ),
-        ),
-      ),
+    let pre = at-compose-all .before .before .before .before .before .before .before .before .before .pre in (
+      record {
+        outerEnds = pre .outerEnds;
+        innerEnds = pre .innerEnds;
+        scratch = record { room = omega (arith, pre .scratch .room); entries = omega (arith, pre .scratch .entries) };
+      },
+      (packed-stored _ _ _ _ _ _ _ (at-compose-all .compose-all .ensures .0), at-compose-all .compose-all .ensures .1),
     )
 
 same-length : tie.Need-same-length

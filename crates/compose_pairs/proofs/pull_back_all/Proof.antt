@@ -22,11 +22,11 @@ loop-holds : tie.Need-loop-holds Inv-loop μ-loop
 loop-holds c = (
   search needs,
   omega arith,
-  omega (arith, c .before .before .before .before .before .before .pre .1 .1 .1 .1 .1),
+  omega (arith, c .before .before .before .before .before .before .pre .1 .1),
   (let at-start = c .before .before .before .before .before .before in
       let args = at-start .args in
       pull-begin (lentMap (args .istore .now) (args .iplaces .now) (args .inner) (args .mark))
-      (pairsIn (args .bytes .now) (args .slots .now) (args .inner)) (args .store .now) (args .places .now) _ _ _ _ _ _ (at-start .pre .1 .1 .1 .1 .0)),
+      (pairsIn (args .bytes .now) (args .slots .now) (args .inner)) (args .store .now) (args .places .now) _ _ _ _ _ _ (at-start .pre .1 .0)),
   refl,
   refl,
 )
@@ -50,12 +50,12 @@ pull-back-pair-requires c κs =
     let its-pairsIn = pairsIn (args .bytes .now) (args .slots .now) (args .inner) in (
       packed-stored _ _ _ _ _ _ _ (at-loop .loop .inv .3),
       (
-        pull-room its-lentMap (pre .1 .0) its-pairsIn (args .store .now) (args .places .now) (args .count) (pre .0) (args .inner) (at-loop .loop .i)
+        pull-room its-lentMap (pre .0 .innerEnds) its-pairsIn (args .store .now) (args .places .now) (args .count) (pre .0 .outerEnds) (args .inner) (at-loop .loop .i)
             (at-loop-test .loop-test .taken) (at-loop .loop .b .n) (at-loop .loop .b .at) (at-loop .loop .inv .1) (at-loop .loop .inv .2) _ _
-            (at-key-at .key-at .ensures) (at-key-at2 .key-at2 .ensures) _ (omega (arith, pre .1 .1 .0, at-loop .loop .inv .4)),
-        pull-slot its-lentMap (pre .1 .0) its-pairsIn (args .store .now) (args .places .now) (args .count) (pre .0) (args .inner) (at-loop .loop .i)
+            (at-key-at .key-at .ensures) (at-key-at2 .key-at2 .ensures) _ (omega (arith, pre .0 .scratch .room, at-loop .loop .inv .4)),
+        pull-slot its-lentMap (pre .0 .innerEnds) its-pairsIn (args .store .now) (args .places .now) (args .count) (pre .0 .outerEnds) (args .inner) (at-loop .loop .i)
             (at-loop-test .loop-test .taken) (at-loop .loop .b .n) (at-loop .loop .b .at) (at-loop .loop .inv .1) (at-loop .loop .inv .2) _ _
-            (at-key-at .key-at .ensures) (at-key-at2 .key-at2 .ensures) _ (omega (arith, pre .1 .1 .1 .0, at-loop .loop .inv .5)),
+            (at-key-at .key-at .ensures) (at-key-at2 .key-at2 .ensures) _ (omega (arith, pre .0 .scratch .entries, at-loop .loop .inv .5)),
       ),
     )
 
@@ -75,8 +75,8 @@ loop-again c = (
       let at-loop = at-loop-test .before in
       let at-start = at-loop .before .before .before .before .before .before .before in
       let args = at-start .args in
-      pull-number (lentMap (args .istore .now) (args .iplaces .now) (args .inner) (args .mark)) (at-start .pre .1 .0)
-      (pairsIn (args .bytes .now) (args .slots .now) (args .inner)) (args .store .now) (args .places .now) (args .count) (at-start .pre .0)
+      pull-number (lentMap (args .istore .now) (args .iplaces .now) (args .inner) (args .mark)) (at-start .pre .0 .innerEnds)
+      (pairsIn (args .bytes .now) (args .slots .now) (args .inner)) (args .store .now) (args .places .now) (args .count) (at-start .pre .0 .outerEnds)
       (args .inner) (at-loop .loop .i) (at-loop-test .loop-test .taken) (at-loop .loop .b .n) (at-loop .loop .b .at) (at-loop .loop .inv .1)
       (at-loop .loop .inv .2) _ _ (at-key-at .key-at .ensures) (at-key-at2 .key-at2 .ensures) _ _ _ _ (at-loop .loop .inv .3) _ _ _ _
       (at-pull-back-pair .pull-back-pair .ensures)),
@@ -87,8 +87,8 @@ loop-again c = (
       let at-loop = at-loop-test .before in
       let at-start = at-loop .before .before .before .before .before .before .before in
       let args = at-start .args in
-      pull-bound (lentMap (args .istore .now) (args .iplaces .now) (args .inner) (args .mark)) (at-start .pre .1 .0)
-      (pairsIn (args .bytes .now) (args .slots .now) (args .inner)) (args .store .now) (args .places .now) (args .count) (at-start .pre .0)
+      pull-bound (lentMap (args .istore .now) (args .iplaces .now) (args .inner) (args .mark)) (at-start .pre .0 .innerEnds)
+      (pairsIn (args .bytes .now) (args .slots .now) (args .inner)) (args .store .now) (args .places .now) (args .count) (at-start .pre .0 .outerEnds)
       (args .inner) (at-loop .loop .i) (at-loop-test .loop-test .taken) (at-loop .loop .b .n) (at-loop .loop .b .at) (at-loop .loop .inv .1)
       (at-loop .loop .inv .2) _ _ (at-key-at .key-at .ensures) (at-key-at2 .key-at2 .ensures) _ _ _ _ (at-loop .loop .inv .3) _ _ _ _
       (at-pull-back-pair .pull-back-pair .ensures)),
@@ -99,8 +99,8 @@ loop-again c = (
       let at-loop = at-loop-test .before in
       let at-start = at-loop .before .before .before .before .before .before .before in
       let args = at-start .args in
-      pull-next (lentMap (args .istore .now) (args .iplaces .now) (args .inner) (args .mark)) (at-start .pre .1 .0)
-      (pairsIn (args .bytes .now) (args .slots .now) (args .inner)) (args .store .now) (args .places .now) (args .count) (at-start .pre .0)
+      pull-next (lentMap (args .istore .now) (args .iplaces .now) (args .inner) (args .mark)) (at-start .pre .0 .innerEnds)
+      (pairsIn (args .bytes .now) (args .slots .now) (args .inner)) (args .store .now) (args .places .now) (args .count) (at-start .pre .0 .outerEnds)
       (args .inner) (at-loop .loop .i) (at-loop-test .loop-test .taken) (at-loop .loop .b .n) (at-loop .loop .b .at) (at-loop .loop .inv .1)
       (at-loop .loop .inv .2) _ _ (at-key-at .key-at .ensures) (at-key-at2 .key-at2 .ensures) _ _ _ _ (at-loop .loop .inv .3) _ _ _ _
       (at-pull-back-pair .pull-back-pair .ensures)),

@@ -1,6 +1,5 @@
-use native.Mathlib.Omega.{arith}
 use Rattle.map_function.proofs.NewBranches.{refusing-map, gives-map}
-use Rattle.map_compose.proofs.CallBranches.{call-refused, call-bounded, call-bounded-inner, call-ends, call-ends-inner, call-few, call-inner, call-outer, call-composed}
+use Rattle.map_compose.proofs.CallBranches.{call-refused, outer-sound, inner-sound, call-inner, call-outer, call-composed}
 use borrow.Author.Needs.{needs}
 use Rattle.map_compose.proofs.compose.Statement.{statement}
 use Rattle.map_compose.proofs.compose.Tie as tie
@@ -86,40 +85,16 @@ returns-3 c =
     (at-composed-time .composed-time .ensures) _ (at-both .both .ensures) (at-if1 .if1 .left) _ (at-both2 .both2 .ensures) (at-if2 .if2 .taken))
     _ _ _ _ _ (at-without-dropping2 .without-dropping2 .ensures)
 
-add-if3 : tie.Need-add-if3
-add-if3 c =
-    let at-enum-told = c .before .before .before .before .before in
-    let at-validate-lists = at-enum-told .before .before in
-    let at-start = at-validate-lists .before .before .before .before .before .before .before in
-    let args = at-start .args in
-    omega (
-      arith,
-      call-few (args .store .now) (args .places .now) (args .outer) (args .istore .now) (args .iplaces .now) (args .inner) (args .out .now)
-          (args .slots .now) _ (at-validate-lists .validate-lists .ensures) (at-enum-told .enum-told .given .1),
-    )
-
-compose-small-requires : tie.Need-compose-small-requires
-compose-small-requires c κs =
-    let at-if3 = c .before .before in
-    let at-enum-told = at-if3 .before .before .before .before .before .before in
+compose-lists-requires : tie.Need-compose-lists-requires
+compose-lists-requires c κs =
+    let at-enum-told = c .before .before .before .before .before .before .before in
     let at-validate-lists = at-enum-told .before .before in
     let at-start = at-validate-lists .before .before .before .before .before .before .before in
     let args = at-start .args in (
-      call-bounded (args .store .now) (args .places .now) (args .outer) (args .istore .now) (args .iplaces .now) (args .inner) (args .out .now)
+      outer-sound (args .store .now) (args .places .now) (args .outer) (args .istore .now) (args .iplaces .now) (args .inner) (args .out .now)
           (args .slots .now) _ (at-validate-lists .validate-lists .ensures) (at-enum-told .enum-told .given .1),
-      (
-        call-bounded-inner (args .store .now) (args .places .now) (args .outer) (args .istore .now) (args .iplaces .now) (args .inner)
-            (args .out .now) (args .slots .now) _ (at-validate-lists .validate-lists .ensures) (at-enum-told .enum-told .given .1),
-        (
-          call-ends (args .store .now) (args .places .now) (args .outer) (args .istore .now) (args .iplaces .now) (args .inner) (args .out .now)
-              (args .slots .now) _ (at-validate-lists .validate-lists .ensures) (at-enum-told .enum-told .given .1),
-          (
-            call-ends-inner (args .store .now) (args .places .now) (args .outer) (args .istore .now) (args .iplaces .now) (args .inner)
-                (args .out .now) (args .slots .now) _ (at-validate-lists .validate-lists .ensures) (at-enum-told .enum-told .given .1),
-            at-if3 .if3 .taken,
-          ),
-        ),
-      ),
+      inner-sound (args .store .now) (args .places .now) (args .outer) (args .istore .now) (args .iplaces .now) (args .inner) (args .out .now)
+          (args .slots .now) _ (at-validate-lists .validate-lists .ensures) (at-enum-told .enum-told .given .1),
     )
 
 same-length-5 : tie.Need-same-length-5
@@ -130,8 +105,8 @@ same-length-6 c = search needs
 
 returns-4 : tie.Need-returns-4
 returns-4 c =
-    let at-compose-small = c .before .before .before .before in
-    let at-if2 = at-compose-small .before .before .before .before in
+    let at-compose-lists = c .before .before .before .before in
+    let at-if2 = at-compose-lists .before .before .before in
     let at-both2 = at-if2 .before in
     let at-if1 = at-both2 .before in
     let at-both = at-if1 .before in
@@ -144,55 +119,7 @@ returns-4 c =
     (call-composed (args .store .now) (args .places .now) (args .outer) (args .istore .now) (args .iplaces .now) (args .inner) (args .out .now)
     (args .slots .now) _ (at-validate-lists .validate-lists .ensures) (at-enum-told .enum-told .given .1) _
     (at-composed-time .composed-time .ensures) _ (at-both .both .ensures) (at-if1 .if1 .left) _ (at-both2 .both2 .ensures) (at-if2 .if2 .left))
-    _ _ _ _ _ (at-compose-small .compose-small .ensures)
-
-compose-large-requires : tie.Need-compose-large-requires
-compose-large-requires c κs =
-    let at-enum-told = c .before .before .before .before .before .before .before .before in
-    let at-validate-lists = at-enum-told .before .before in
-    let at-start = at-validate-lists .before .before .before .before .before .before .before in
-    let args = at-start .args in (
-      call-bounded (args .store .now) (args .places .now) (args .outer) (args .istore .now) (args .iplaces .now) (args .inner) (args .out .now)
-          (args .slots .now) _ (at-validate-lists .validate-lists .ensures) (at-enum-told .enum-told .given .1),
-      (
-        call-bounded-inner (args .store .now) (args .places .now) (args .outer) (args .istore .now) (args .iplaces .now) (args .inner)
-            (args .out .now) (args .slots .now) _ (at-validate-lists .validate-lists .ensures) (at-enum-told .enum-told .given .1),
-        (
-          call-ends (args .store .now) (args .places .now) (args .outer) (args .istore .now) (args .iplaces .now) (args .inner) (args .out .now)
-              (args .slots .now) _ (at-validate-lists .validate-lists .ensures) (at-enum-told .enum-told .given .1),
-          (
-            call-ends-inner (args .store .now) (args .places .now) (args .outer) (args .istore .now) (args .iplaces .now) (args .inner)
-                (args .out .now) (args .slots .now) _ (at-validate-lists .validate-lists .ensures) (at-enum-told .enum-told .given .1),
-            call-few (args .store .now) (args .places .now) (args .outer) (args .istore .now) (args .iplaces .now) (args .inner) (args .out .now)
-                (args .slots .now) _ (at-validate-lists .validate-lists .ensures) (at-enum-told .enum-told .given .1),
-          ),
-        ),
-      ),
-    )
-
-same-length-7 : tie.Need-same-length-7
-same-length-7 c = search needs
-
-same-length-8 : tie.Need-same-length-8
-same-length-8 c = search needs
-
-returns-5 : tie.Need-returns-5
-returns-5 c =
-    let at-compose-large = c .before .before .before .before in
-    let at-if2 = at-compose-large .before .before .before .before in
-    let at-both2 = at-if2 .before in
-    let at-if1 = at-both2 .before in
-    let at-both = at-if1 .before in
-    let at-composed-time = at-both .before in
-    let at-enum-told = at-composed-time .before in
-    let at-validate-lists = at-enum-told .before .before in
-    let at-start = at-validate-lists .before .before .before .before .before .before .before in
-    let args = at-start .args in
-    gives-map _ _
-    (call-composed (args .store .now) (args .places .now) (args .outer) (args .istore .now) (args .iplaces .now) (args .inner) (args .out .now)
-    (args .slots .now) _ (at-validate-lists .validate-lists .ensures) (at-enum-told .enum-told .given .1) _
-    (at-composed-time .composed-time .ensures) _ (at-both .both .ensures) (at-if1 .if1 .left) _ (at-both2 .both2 .ensures) (at-if2 .if2 .left))
-    _ _ _ _ _ (at-compose-large .compose-large .ensures)
+    _ _ _ _ _ (at-compose-lists .compose-lists .ensures)
 
 pub compose-spec : {M : Type 1} → statement M
 compose-spec =
@@ -213,12 +140,7 @@ compose-spec =
     same-length-3
     same-length-4
     returns-3
-    add-if3
-    compose-small-requires
+    compose-lists-requires
     same-length-5
     same-length-6
-    returns-4
-    compose-large-requires
-    same-length-7
-    same-length-8
-    returns-5)
+    returns-4)

@@ -1,4 +1,3 @@
-use native.Mathlib.Omega.{arith}
 use Rattle.pair_buffer.proofs.MapLaws.{built-ends}
 use borrow.Author.Needs.{needs}
 use Rattle.map_deepen.proofs.deepen_in.Statement.{statement}
@@ -9,7 +8,7 @@ deepen-all-requires : tie.Need-deepen-all-requires
 deepen-all-requires c κs =
     let at-start = c .before .before .before .before .before .before .before .before .before .before .before .before in
     let pre = at-start .pre in
-    (pre .0, (pre .1 .0, (pre .1 .1 .0, (omega (arith, pre .1 .1 .1 .1 .0), omega (arith, pre .1 .1 .1 .1 .1)))))
+    (pre .0 .shorts, pre .1)
 
 from-ends-requires : tie.Need-from-ends-requires
 from-ends-requires c κs = search needs

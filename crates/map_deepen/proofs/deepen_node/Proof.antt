@@ -1,5 +1,5 @@
 use Rattle.map_function.proofs.NewBranches.{refusing-map, gives-map}
-use Rattle.map_deepen.proofs.DeepenBranches.{deepen-refused, deepen-short, deepen-count, deepen-node-short, deepen-there, deepen-none, deepen-inside, deepen-made}
+use Rattle.map_deepen.proofs.DeepenBranches.{deepen-refused, sound, deepen-node-short, deepen-there, deepen-none, deepen-inside, deepen-made}
 use borrow.Author.Needs.{needs}
 use Rattle.map_deepen.proofs.deepen_node.Statement.{statement}
 use Rattle.map_deepen.proofs.deepen_node.Tie as tie
@@ -94,18 +94,14 @@ deepen-by-requires c κs =
     let at-start = at-validate-call .before .before .before .before .before .before .before .before in
     let args = at-start .args in
     let pre = at-start .pre in (
-      deepen-short (args .store .now) (args .places .now) (args .map) (args .path .now) (args .node .now) (args .out .now) (args .slots .now) (pre) _
+      sound (args .store .now) (args .places .now) (args .map) (args .path .now) (args .node .now) (args .out .now) (args .slots .now) (pre) _
           (at-validate-call .validate-call .ensures) (at-enum-told .enum-told .given .1),
       (
         deepen-node-short (args .store .now) (args .places .now) (args .map) (args .path .now) (args .node .now) (args .out .now) (args .slots .now)
             (pre) _ (at-validate-call .validate-call .ensures) (at-enum-told .enum-told .given .1),
-        (
-          deepen-count (args .store .now) (args .places .now) (args .map) (args .path .now) (args .node .now) (args .out .now) (args .slots .now)
-              (pre) _ (at-validate-call .validate-call .ensures) (at-enum-told .enum-told .given .1),
-          deepen-inside (args .store .now) (args .places .now) (args .map) (args .path .now) (args .node .now) (args .out .now) (args .slots .now)
-              (pre) _ (at-validate-call .validate-call .ensures) (at-enum-told .enum-told .given .1) _ (at-has-source .has-source .ensures)
-              (at-if1 .if1 .left) (at-find-class .find-class .result) (at-find-class .find-class .ensures) (at-if2 .if2 .left),
-        ),
+        deepen-inside (args .store .now) (args .places .now) (args .map) (args .path .now) (args .node .now) (args .out .now) (args .slots .now)
+            (pre) _ (at-validate-call .validate-call .ensures) (at-enum-told .enum-told .given .1) _ (at-has-source .has-source .ensures)
+            (at-if1 .if1 .left) (at-find-class .find-class .result) (at-find-class .find-class .ensures) (at-if2 .if2 .left),
       ),
     )
 

@@ -31,8 +31,13 @@ returns c =
     (at-path-is-identity .path-is-identity .ensures) (at-if1 .if1 .taken)
     (into-holds (mapOf (args .istore .now) (args .iplaces .now) (args .inner)) (mapOf (args .store .now) (args .places .now) (args .outer))
     (args .bytes .now) (args .own .now)
-    (enough-yes (args .istore .now) (args .iplaces .now) (args .inner .count) (args .store .now) (args .places .now) (args .outer .count) _ _
-    (pre .1 .0) (pre .0) (omega (arith, pre .1 .1 .0)) (omega (arith, pre .1 .1 .1)))
+    (enough-yes (args .istore .now) (args .iplaces .now) (args .inner .count) (args .store .now) (args .places .now) (args .outer .count)
+    (args .bytes .now) (args .own .now)
+    record {
+      outerEnds = pre .innerEnds;
+      innerEnds = pre .outerEnds;
+      scratch = record { room = omega (arith, pre .scratch .room); entries = omega (arith, pre .scratch .entries) };
+    })
     _ _ _ (at-compose-into .compose-into .ensures))
 
 compose-into-requires-2 : tie.Need-compose-into-requires-2
@@ -56,8 +61,8 @@ returns-2 c =
     (at-path-is-identity .path-is-identity .ensures) (at-if1 .if1 .left)
     (into-holds (mapOf (args .store .now) (args .places .now) (args .outer)) (mapOf (args .istore .now) (args .iplaces .now) (args .inner))
     (args .bytes .now) (args .own .now)
-    (enough-yes (args .store .now) (args .places .now) (args .outer .count) (args .istore .now) (args .iplaces .now) (args .inner .count) _ _
-    (pre .0) (pre .1 .0) (pre .1 .1 .0) (pre .1 .1 .1))
+    (enough-yes (args .store .now) (args .places .now) (args .outer .count) (args .istore .now) (args .iplaces .now) (args .inner .count)
+    (args .bytes .now) (args .own .now) pre)
     _ _ _ (at-compose-into2 .compose-into2 .ensures))
 
 pub compose-list-spec : {M : Type 1} → statement M

@@ -1,4 +1,3 @@
-use native.Mathlib.Omega.{arith}
 use Rattle.map_function.proofs.NewBranches.{refusing-map}
 use Rattle.pair_buffer.proofs.PairBufferLaws.{built-held}
 use Rattle.map_implied_class.proofs.ImpliedBranches.{finish-many, finish-room, finish-long, finish-fits, finish-made}
@@ -8,9 +7,7 @@ use Rattle.map_implied_class.proofs.finish.Tie as tie
 
 compose-list-requires : tie.Need-compose-list-requires
 compose-list-requires c κs =
-    let at-start = c .before .before .before .before .before .before .before .before .before .before in
-    let pre = at-start .pre in
-    (pre .1 .0, (pre .1 .1 .0, (omega (arith, pre .0 .0, pre .0 .1 .0, pre .1 .1 .1 .0), omega (arith, pre .0 .0, pre .0 .1 .0, pre .1 .1 .1 .1))))
+    c .before .before .before .before .before .before .before .before .before .before .pre .1
 
 same-length : tie.Need-same-length
 same-length c = search needs

@@ -1,5 +1,5 @@
 use Rattle.map_function.proofs.NewBranches.{refusing-map, gives-map}
-use Rattle.map_implied_class.proofs.ImpliedBranches.{implied-refused, implied-same, transfer-sound, class-sound, transfer-held, implied-other}
+use Rattle.map_implied_class.proofs.ImpliedBranches.{implied-refused, implied-same, transfer-sound, class-sound, implied-other}
 use borrow.Author.Needs.{needs}
 use Rattle.map_implied_class.proofs.implied_class.Statement.{statement}
 use Rattle.map_implied_class.proofs.implied_class.Tie as tie
@@ -57,29 +57,10 @@ implied-in-requires c κs =
     let at-validate-lists = at-enum-told .before .before in
     let at-start = at-validate-lists .before .before .before .before .before .before .before in
     let args = at-start .args in (
-      (
-        (transfer-sound (args .store .now) (args .places .now) (args .transfer) (args .cstore .now) (args .cplaces .now) (args .class)
-            (args .out .now) (args .slots .now) _ (at-validate-lists .validate-lists .ensures) (at-enum-told .enum-told .given .1)) .few,
-        (
-          transfer-held (args .store .now) (args .places .now) (args .transfer) (args .cstore .now) (args .cplaces .now) (args .class)
-              (args .out .now) (args .slots .now) _ (at-validate-lists .validate-lists .ensures) (at-enum-told .enum-told .given .1),
-          (class-sound (args .store .now) (args .places .now) (args .transfer) (args .cstore .now) (args .cplaces .now) (args .class) (args .out .now) (args .slots .now) _ (at-validate-lists .validate-lists .ensures) (at-enum-told .enum-told .given .1)) .few,
-        ),
-      ),
-      (
-        (transfer-sound (args .store .now) (args .places .now) (args .transfer) (args .cstore .now) (args .cplaces .now) (args .class)
-            (args .out .now) (args .slots .now) _ (at-validate-lists .validate-lists .ensures) (at-enum-told .enum-told .given .1)) .shorts,
-        (
-          (class-sound (args .store .now) (args .places .now) (args .transfer) (args .cstore .now) (args .cplaces .now) (args .class)
-              (args .out .now) (args .slots .now) _ (at-validate-lists .validate-lists .ensures) (at-enum-told .enum-told .given .1)) .shorts,
-          (
-            (transfer-sound (args .store .now) (args .places .now) (args .transfer) (args .cstore .now) (args .cplaces .now) (args .class)
-                (args .out .now) (args .slots .now) _ (at-validate-lists .validate-lists .ensures) (at-enum-told .enum-told .given .1)) .ends,
-            (class-sound (args .store .now) (args .places .now) (args .transfer) (args .cstore .now) (args .cplaces .now) (args .class)
-                (args .out .now) (args .slots .now) _ (at-validate-lists .validate-lists .ensures) (at-enum-told .enum-told .given .1)) .ends,
-          ),
-        ),
-      ),
+      transfer-sound (args .store .now) (args .places .now) (args .transfer) (args .cstore .now) (args .cplaces .now) (args .class) (args .out .now)
+          (args .slots .now) _ (at-validate-lists .validate-lists .ensures) (at-enum-told .enum-told .given .1),
+      class-sound (args .store .now) (args .places .now) (args .transfer) (args .cstore .now) (args .cplaces .now) (args .class) (args .out .now)
+          (args .slots .now) _ (at-validate-lists .validate-lists .ensures) (at-enum-told .enum-told .given .1),
     )
 
 same-length-3 : tie.Need-same-length-3

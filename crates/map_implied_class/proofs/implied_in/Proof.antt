@@ -1,11 +1,9 @@
 use lib.Ieee.{ofBits}
 use native.Mathlib.Omega.{arith}
-use Rattle.pair_list.specs.Places.{pairsIn}
 use Rattle.map_function.proofs.NewBranches.{refusing-map, gives-map}
 use Rattle.map_implied_class.specs.Implied.{impliedTime}
-use Rattle.compose_pairs.proofs.LengthLaws.{short-bounded}
 use Rattle.pair_buffer.proofs.PairBufferLaws.{built-held}
-use Rattle.map_implied_class.proofs.ImpliedBranches.{back-bounded, back-bytes, back-places, implied-many, class-room, part-few, part-bounded, implied-rest, time-twice}
+use Rattle.map_implied_class.proofs.ImpliedBranches.{back-composes, implied-many, class-room, part-composes, implied-rest, time-twice}
 use borrow.Author.Needs.{needs}
 use Rattle.map_implied_class.proofs.implied_in.Statement.{statement}
 use Rattle.map_implied_class.proofs.implied_in.Tie as tie
@@ -17,11 +15,9 @@ slice-aggregate-invert-2 : tie.Need-slice-aggregate-invert-2
 slice-aggregate-invert-2 c = search needs
 
 invert-requires : tie.Need-invert-requires
-invert-requires c κs = (
-  (let at-start = c .before .before .before .before .before .before .before .before in
-      (at-start .pre .0 .0, at-start .pre .0 .1 .0)),
-  (c .before .before .before .before .before .before .before .before .pre .1 .0, (search needs, search needs)),
-)
+invert-requires c κs =
+    let pre = c .before .before .before .before .before .before .before .before .pre in
+    ((pre .0 .few, omega (arith, pre .0 .held)), (pre .0 .shorts, (omega arith, omega arith)))
 
 slice-aggregate-compose-list : tie.Need-slice-aggregate-compose-list
 slice-aggregate-compose-list c = search needs
@@ -36,52 +32,13 @@ slice-aggregate-compose-list-4 : tie.Need-slice-aggregate-compose-list-4
 slice-aggregate-compose-list-4 c = search needs
 
 compose-list-requires : tie.Need-compose-list-requires
-compose-list-requires c κs = (
-  (let at-start = c .before .before .before .before .before .before .before .before .before .before .before .before .before .before .before in
-      let args = at-start .args in
-      short-bounded (pairsIn (args .cstore .now) (args .cplaces .now) (args .class .count)) (at-start .pre .1 .1 .0)),
-  (
-    back-bounded
-        (c .before .before .before .before .before .before .before .before .before .before .before .before .before .before .before .args .store .now)
-        (c .before .before .before .before .before .before .before .before .before .before .before .before .before .before .before .args .places .now)
-        (c .before .before .before .before .before .before .before .before .before .before .before .before .before .before .before .args .transfer)
-        (c .before .before .before .before .before .before .before .before .before .before .before .before .before .before .before .args .cstore .now)
-        (c .before .before .before .before .before .before .before .before .before .before .before .before .before .before .before .args .cplaces .now)
-        (c .before .before .before .before .before .before .before .before .before .before .before .before .before .before .before .args .class)
-        (c .before .before .before .before .before .before .before .before .before .before .before .before .before .before .before .pre .0 .0)
-        (c .before .before .before .before .before .before .before .before .before .before .before .before .before .before .before .pre .1 .0)
-        (c .before .before .before .before .before .before .before .before .before .before .before .before .before .before .before .pre .1 .1 .0) _ _
-        (c .before .before .before .before .before .before .invert .result) (c .before .before .before .before .before .before .invert .ensures),
-    (
-      back-bytes
-          (c .before .before .before .before .before .before .before .before .before .before .before .before .before .before .before .args .store .now)
-          (c .before .before .before .before .before .before .before .before .before .before .before .before .before .before .before .args .places .now)
-          (c .before .before .before .before .before .before .before .before .before .before .before .before .before .before .before .args .transfer)
-          (c .before .before .before .before .before .before .before .before .before .before .before .before .before .before .before .args .cstore .now)
-          (c .before .before .before .before .before .before .before .before .before .before .before .before .before .before .before .args .cplaces .now)
-          (c .before .before .before .before .before .before .before .before .before .before .before .before .before .before .before .args .class)
-          (c .before .before .before .before .before .before .before .before .before .before .before .before .before .before .before .pre .0 .0)
-          (c .before .before .before .before .before .before .before .before .before .before .before .before .before .before .before .pre .1 .0)
-          (c .before .before .before .before .before .before .before .before .before .before .before .before .before .before .before .pre .1 .1 .0) _
-          _ (c .before .before .before .before .before .before .invert .result) (c .before .before .before .before .before .before .invert .ensures) _
-          (c .before .before .before .before .before .before .before .before .before .before .before .before .before .before .before .pre .0 .1 .1)
-          (search needs),
-      back-places
-          (c .before .before .before .before .before .before .before .before .before .before .before .before .before .before .before .args .store .now)
-          (c .before .before .before .before .before .before .before .before .before .before .before .before .before .before .before .args .places .now)
-          (c .before .before .before .before .before .before .before .before .before .before .before .before .before .before .before .args .transfer)
-          (c .before .before .before .before .before .before .before .before .before .before .before .before .before .before .before .args .cstore .now)
-          (c .before .before .before .before .before .before .before .before .before .before .before .before .before .before .before .args .cplaces .now)
-          (c .before .before .before .before .before .before .before .before .before .before .before .before .before .before .before .args .class)
-          (c .before .before .before .before .before .before .before .before .before .before .before .before .before .before .before .pre .0 .0)
-          (c .before .before .before .before .before .before .before .before .before .before .before .before .before .before .before .pre .1 .0)
-          (c .before .before .before .before .before .before .before .before .before .before .before .before .before .before .before .pre .1 .1 .0) _
-          _ (c .before .before .before .before .before .before .invert .result) (c .before .before .before .before .before .before .invert .ensures) _
-          (c .before .before .before .before .before .before .before .before .before .before .before .before .before .before .before .pre .0 .1 .1)
-          (search needs),
-    ),
-  ),
-)
+compose-list-requires c κs =
+    let at-invert = c .before .before .before .before .before .before in
+    let at-start = at-invert .before .before .before .before .before .before .before .before .before in
+    let args = at-start .args in
+    let pre = at-start .pre in
+    back-composes (args .store .now) (args .places .now) (args .transfer) (args .cstore .now) (args .cplaces .now) (args .class) (pre .0) (pre .1) _ _
+    (at-invert .invert .result) (at-invert .invert .ensures) _ _ (omega arith) (omega arith)
 
 returns : tie.Need-returns
 returns c =
@@ -91,8 +48,8 @@ returns c =
     let args = at-start .args in
     let pre = at-start .pre in
     refusing-map _ _
-    (implied-many (args .store .now) (args .places .now) (args .transfer) (args .cstore .now) (args .cplaces .now) (args .class) (pre .0 .0)
-    (pre .1 .0) (pre .1 .1 .0) _ _ (at-invert .invert .result) (at-invert .invert .ensures) _ _ _ _ (at-compose-list .compose-list .ensures)
+    (implied-many (args .store .now) (args .places .now) (args .transfer) (args .cstore .now) (args .cplaces .now) (args .class) (pre .0)
+    (pre .1) _ _ (at-invert .invert .result) (at-invert .invert .ensures) _ _ _ _ (at-compose-list .compose-list .ensures)
     (impliedTime (args .transfer) (args .class)) (args .out .now) (args .slots .now) (c .if1 .taken))
     _ _
 
@@ -127,8 +84,8 @@ finish-composed-requires c κs =
     let args = at-start .args in
     let pre = at-start .pre in (
       (at-if1 .if1 .left, built-held _ _ _ _ _ (at-compose-list .compose-list .ensures)),
-      class-room (args .store .now) (args .places .now) (args .transfer) (args .cstore .now) (args .cplaces .now) (args .class) (pre .0 .0)
-          (pre .1 .0) (pre .1 .1 .0) _ _ (at-invert .invert .result) (at-invert .invert .ensures) _ _ _ _ (at-compose-list .compose-list .ensures)
+      class-room (args .store .now) (args .places .now) (args .transfer) (args .cstore .now) (args .cplaces .now) (args .class) (pre .0)
+          (pre .1) _ _ (at-invert .invert .result) (at-invert .invert .ensures) _ _ _ _ (at-compose-list .compose-list .ensures)
           (at-if1 .if1 .left) (omega (arith, slice-aggregate-finish-composed-3 (at-1))) (omega (arith, slice-aggregate-finish-composed-4 c)),
     )
 
@@ -161,16 +118,10 @@ finish-requires c κs =
     let at-start = at-invert .before .before .before .before .before .before .before .before .before in
     let args = at-start .args in
     let pre = at-start .pre in (
-      (pre .0 .0, (part-few (args .store .now) (args .places .now) (args .transfer) (args .cstore .now) (args .cplaces .now) (args .class) (pre .0 .0) (pre .1 .0) (pre .1 .1 .0) _ _ (at-invert .invert .result) (at-invert .invert .ensures) _ _ _ _ (at-compose-list .compose-list .ensures) (at-if1 .if1 .left) _ _ _ (at-finish-composed .finish-composed .ensures), at-if1 .if1 .left)),
-      (
-        short-bounded (pairsIn (args .store .now) (args .places .now) (args .transfer .count)) (pre .1 .0),
-        (
-          part-bounded (args .store .now) (args .places .now) (args .transfer) (args .cstore .now) (args .cplaces .now) (args .class) (pre .0 .0)
-              (pre .1 .0) (pre .1 .1 .0) _ _ (at-invert .invert .result) (at-invert .invert .ensures) _ _ _ _ (at-compose-list .compose-list .ensures)
-              (at-if1 .if1 .left) _ _ _ (at-finish-composed .finish-composed .ensures),
-          (omega (arith, slice-aggregate-finish-3 (at-3)), omega (arith, slice-aggregate-finish-4 (at-2))),
-        ),
-      ),
+      (pre .0 .few, at-if1 .if1 .left),
+      part-composes (args .store .now) (args .places .now) (args .transfer) (args .cstore .now) (args .cplaces .now) (args .class) (pre .0) (pre .1) _ _
+          (at-invert .invert .result) (at-invert .invert .ensures) _ _ _ _ (at-compose-list .compose-list .ensures) (at-if1 .if1 .left) _ _ _
+          (at-finish-composed .finish-composed .ensures) _ _ (omega (arith, slice-aggregate-finish-3 (at-3))) (omega (arith, slice-aggregate-finish-4 (at-2))),
     )
 
 same-length : tie.Need-same-length
@@ -194,9 +145,9 @@ returns-2 c =
     let args = at-start .args in
     let pre = at-start .pre in
     gives-map _ _
-    (implied-rest (args .store .now) (args .places .now) (args .transfer) (args .cstore .now) (args .cplaces .now) (args .class) (pre .0 .0)
-    (pre .1 .0) (pre .1 .1 .0) _ _ (at-invert .invert .result) (at-invert .invert .ensures) _ _ _ _ (at-compose-list .compose-list .ensures)
-    (at-if1 .if1 .left) _ _ _ (at-finish-composed .finish-composed .ensures) (pre .1 .1 .1 .0) (pre .1 .1 .1 .1) _
+    (implied-rest (args .store .now) (args .places .now) (args .transfer) (args .cstore .now) (args .cplaces .now) (args .class) (pre .0)
+    (pre .1) _ _ (at-invert .invert .result) (at-invert .invert .ensures) _ _ _ _ (at-compose-list .compose-list .ensures)
+    (at-if1 .if1 .left) _ _ _ (at-finish-composed .finish-composed .ensures) _
     (at-all-short .all-short .ensures) _
     (time-twice _ _ _ _ (at-composed-time .composed-time .ensures) (at-composed-time2 .composed-time2 .ensures)) (args .out .now) (args .slots .now))
     _ _ _ _ _ (at-finish .finish .ensures)

@@ -54,8 +54,8 @@ rebase-pair-requires c κs =
         (
           pre .1 .0,
           (
-            omega (arith, pre .1 .1 .0, at-loop .loop .inv .1, at-loop .loop .inv .3, at-loop-test .loop-test .taken),
-            omega (arith, pre .1 .1 .1, at-loop .loop .inv .4, at-loop-test .loop-test .taken),
+            omega (arith, pre .1 .1 .room, at-loop .loop .inv .1, at-loop .loop .inv .3, at-loop-test .loop-test .taken),
+            omega (arith, pre .1 .1 .entries, at-loop .loop .inv .4, at-loop-test .loop-test .taken),
           ),
         ),
       ),

@@ -5,7 +5,9 @@ use Rattle.map_rebase.proofs.rebase_in.Tie as tie
 use Rattle.map_function.proofs.NewBranches.{gives-map}
 
 rebase-all-requires : tie.Need-rebase-all-requires
-rebase-all-requires c κs = search needs
+rebase-all-requires c κs =
+    let pre = c .before .before .before .before .before .before .before .before .before .before .before .pre in
+    (pre .0 .shorts, (pre .1 .0, pre .1 .1))
 
 from-ends-requires : tie.Need-from-ends-requires
 from-ends-requires c κs = search needs

@@ -1,5 +1,5 @@
 use Rattle.map_function.proofs.NewBranches.{refusing-map, gives-map}
-use Rattle.map_rebase.proofs.CallBranches.{rebase-refused, rebase-short, rebase-count, rebase-from, rebase-to, rebase-identity, rebase-same, rebase-made}
+use Rattle.map_rebase.proofs.CallBranches.{rebase-refused, sound, rebase-from, rebase-to, rebase-identity, rebase-same, rebase-made}
 use borrow.Author.Needs.{needs}
 use Rattle.map_rebase.proofs.rebase_target.Statement.{statement}
 use Rattle.map_rebase.proofs.rebase_target.Tie as tie
@@ -88,20 +88,16 @@ returns-3 c =
     (at-any-target .any-target .ensures) (at-if2 .if2 .taken))
     _ _ _ _ _ (at-without-dropping .without-dropping .ensures)
 
-rebase-small-requires : tie.Need-rebase-small-requires
-rebase-small-requires c κs =
-    let at-if3 = c .before .before in
-    let at-enum-told = at-if3 .before .before .before .before .before in
+rebase-pairs-requires : tie.Need-rebase-pairs-requires
+rebase-pairs-requires c κs =
+    let at-enum-told = c .before .before .before .before .before .before in
     let at-validate-call = at-enum-told .before .before in
     let at-start = at-validate-call .before .before .before .before .before .before .before in
     let args = at-start .args in (
-      rebase-short (args .store .now) (args .places .now) (args .map) (args .from .now) (args .to .now) (args .out .now) (args .slots .now) _
+      sound (args .store .now) (args .places .now) (args .map) (args .from .now) (args .to .now) (args .out .now) (args .slots .now) _
           (at-validate-call .validate-call .ensures) (at-enum-told .enum-told .given .1),
-      (
-        rebase-to (args .store .now) (args .places .now) (args .map) (args .from .now) (args .to .now) (args .out .now) (args .slots .now) _
-            (at-validate-call .validate-call .ensures) (at-enum-told .enum-told .given .1),
-        at-if3 .if3 .taken,
-      ),
+      rebase-to (args .store .now) (args .places .now) (args .map) (args .from .now) (args .to .now) (args .out .now) (args .slots .now) _
+          (at-validate-call .validate-call .ensures) (at-enum-told .enum-told .given .1),
     )
 
 same-length-5 : tie.Need-same-length-5
@@ -112,8 +108,8 @@ same-length-6 c = search needs
 
 returns-4 : tie.Need-returns-4
 returns-4 c =
-    let at-rebase-small = c .before .before .before .before in
-    let at-if2 = at-rebase-small .before .before .before .before in
+    let at-rebase-pairs = c .before .before .before .before in
+    let at-if2 = at-rebase-pairs .before .before .before in
     let at-any-target = at-if2 .before in
     let at-if1 = at-any-target .before in
     let at-both = at-if1 .before in
@@ -125,46 +121,7 @@ returns-4 c =
     (rebase-made (args .store .now) (args .places .now) (args .map) (args .from .now) (args .to .now) (args .out .now) (args .slots .now) _
     (at-validate-call .validate-call .ensures) (at-enum-told .enum-told .given .1) _ (at-both .both .ensures) (at-if1 .if1 .left) _
     (at-any-target .any-target .ensures) (at-if2 .if2 .left))
-    _ _ _ _ _ (at-rebase-small .rebase-small .ensures)
-
-rebase-large-requires : tie.Need-rebase-large-requires
-rebase-large-requires c κs =
-    let at-enum-told = c .before .before .before .before .before .before .before in
-    let at-validate-call = at-enum-told .before .before in
-    let at-start = at-validate-call .before .before .before .before .before .before .before in
-    let args = at-start .args in (
-      rebase-short (args .store .now) (args .places .now) (args .map) (args .from .now) (args .to .now) (args .out .now) (args .slots .now) _
-          (at-validate-call .validate-call .ensures) (at-enum-told .enum-told .given .1),
-      (
-        rebase-to (args .store .now) (args .places .now) (args .map) (args .from .now) (args .to .now) (args .out .now) (args .slots .now) _
-            (at-validate-call .validate-call .ensures) (at-enum-told .enum-told .given .1),
-        rebase-count (args .store .now) (args .places .now) (args .map) (args .from .now) (args .to .now) (args .out .now) (args .slots .now) _
-            (at-validate-call .validate-call .ensures) (at-enum-told .enum-told .given .1),
-      ),
-    )
-
-same-length-7 : tie.Need-same-length-7
-same-length-7 c = search needs
-
-same-length-8 : tie.Need-same-length-8
-same-length-8 c = search needs
-
-returns-5 : tie.Need-returns-5
-returns-5 c =
-    let at-rebase-large = c .before .before .before .before in
-    let at-if2 = at-rebase-large .before .before .before .before in
-    let at-any-target = at-if2 .before in
-    let at-if1 = at-any-target .before in
-    let at-both = at-if1 .before in
-    let at-enum-told = at-both .before in
-    let at-validate-call = at-enum-told .before .before in
-    let at-start = at-validate-call .before .before .before .before .before .before .before in
-    let args = at-start .args in
-    gives-map _ _
-    (rebase-made (args .store .now) (args .places .now) (args .map) (args .from .now) (args .to .now) (args .out .now) (args .slots .now) _
-    (at-validate-call .validate-call .ensures) (at-enum-told .enum-told .given .1) _ (at-both .both .ensures) (at-if1 .if1 .left) _
-    (at-any-target .any-target .ensures) (at-if2 .if2 .left))
-    _ _ _ _ _ (at-rebase-large .rebase-large .ensures)
+    _ _ _ _ _ (at-rebase-pairs .rebase-pairs .ensures)
 
 pub rebase-target-spec : {M : Type 1} → statement M
 rebase-target-spec =
@@ -184,11 +141,7 @@ rebase-target-spec =
     same-length-3
     same-length-4
     returns-3
-    rebase-small-requires
+    rebase-pairs-requires
     same-length-5
     same-length-6
-    returns-4
-    rebase-large-requires
-    same-length-7
-    same-length-8
-    returns-5)
+    returns-4)
