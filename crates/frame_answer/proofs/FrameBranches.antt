@@ -1,6 +1,5 @@
 -- Lemmas about the branches from the digits of a line to its reply.
 use mathlib.Core.Path.{_≡_, refl, sym, ap, _∙_, subst}
-use mathlib.Core.Logic.{_≢_}
 use mathlib.Core.Bool.{Bool, true, false, not, cond}
 use mathlib.Core.List.{[], _∷_}
 use mathlib.Core.Option.{Option, none, some}
@@ -24,16 +23,17 @@ use Rattle.hex.specs.Calls.{decodeReply, decodeBuffer}
 use Rattle.hex.specs.declared.Decoded.{Decoded}
 use Rattle.hex.specs.declared.Decoded.the-variants.{Bytes, Bad as BadDigits, Over}
 use Rattle.hex.proofs.DecodeLaws.{decoded-length}
-use Rattle.frames_spec.specs.Frame.{Frame, pair, statuses, close-map, close-relocates, out, home, count, kind, decodeFrame}
+use Rattle.frames_spec.specs.Frame.{Frame, frame, decodeFrame}
 use Rattle.frames_spec.specs.State.{Answer, success, refusal, answerBytes}
 use Rattle.frames_spec.specs.Run.{nextState, answerFrame}
 use Rattle.frames_spec.specs.Input.{frameOfBytes, parseLine, answerLine}
 use Rattle.frame_decode.specs.declared.FrameHeader.{FrameHeader}
-use Rattle.frame_decode.specs.declared.FrameHeader.the-variants.{Pair, Statuses, CloseMap, CloseRelocates, Out, Home, Count, Bad}
-use Rattle.frame_decode.specs.Header.{headerOf, frameOfHeader}
+use Rattle.frame_decode.specs.declared.DecodedFrame.{DecodedFrame}
+use Rattle.frame_decode.specs.declared.DecodedFrame.the-variants.{Frame as FrameDecoded, Bad}
+use Rattle.frame_decode.specs.Header.{decodedOf, actionIn, frameIn}
 use Rattle.frame_decode.proofs.HeaderLaws.{decode-decodes}
 use Rattle.frames_memory.specs.Memory.{FramesMemory, stepFrameIn}
-use Rattle.frame_apply.specs.Done.{answerReply, answerPayload, StepDone, FrameDone, kindCode}
+use Rattle.frame_apply.specs.Done.{answerReply, answerPayload, StepDone, FrameDone}
 use Rattle.frame_answer.specs.Answer.{lineText, replyLine, PayloadFits, WroteAt, ParsesLine, AnswersFrame, memoryAfterLine, endAfterLine, outAfterLine}
 
 -- `decode_line`
@@ -116,44 +116,6 @@ module _ (line : Text) (len : ℕ) where
             let u : Over ≡ Bytes (length t) = y ∙ rw (le-leb (length t) 2048 (fits-half t x)) refl in
             let v : _≡_ {A = ℕ} 0 1 = cc in omega arith
 
--- A parsed frame.
-record Says (b : Text) (r : FrameHeader) : Type 0 where
-  frame : Frame
-  read : frameOfHeader b r ≡ some frame
-  kinds : kindCode r ≡ kind frame
-
-says : (b : Text) (r : FrameHeader) → kindCode r ≢ 0 → Says b r
-unfolding frameOfHeader
-says b (Pair n m) h = record { frame = pair (take n (drop 3 b)) (take m (drop (5 + n) b)); read = refl; kinds = refl }
-says b Statuses h = record { frame = statuses; read = refl; kinds = refl }
-says b CloseMap h = record { frame = close-map; read = refl; kinds = refl }
-says b CloseRelocates h = record { frame = close-relocates; read = refl; kinds = refl }
-says b Out h = record { frame = out (drop 1 b); read = refl; kinds = refl }
-says b Home h = record { frame = home (drop 1 b); read = refl; kinds = refl }
-says b Count h = record { frame = count; read = refl; kinds = refl }
-says b Bad h = absurd (h refl)
-
-silent-kind : (b : Text) (r : FrameHeader) → kindCode r ≡ 0 → frameOfHeader b r ≡ none
-unfolding frameOfHeader
-silent-kind b (Pair n m) h = absurd (omega arith)
-silent-kind b Statuses h = absurd (omega arith)
-silent-kind b CloseMap h = absurd (omega arith)
-silent-kind b CloseRelocates h = absurd (omega arith)
-silent-kind b Out h = absurd (omega arith)
-silent-kind b Home h = absurd (omega arith)
-silent-kind b Count h = absurd (omega arith)
-silent-kind b Bad h = refl
-
-pub kind-few : (r : FrameHeader) → kindCode r ≤ 7
-kind-few (Pair n m) = omega arith
-kind-few Statuses = omega arith
-kind-few CloseMap = omega arith
-kind-few CloseRelocates = omega arith
-kind-few Out = omega arith
-kind-few Home = omega arith
-kind-few Count = omega arith
-kind-few Bad = omega arith
-
 -- `write_reply`
 pub reply-written : (head n at end : ℕ) (r : Reply) (payload before after : Text) → r ≡ Written n → WroteAt (lineText (head ∷ 0 ∷ take n payload)) at end before after
     → WroteAt (replyLine head r payload) at end before after
@@ -174,13 +136,10 @@ pub reply-room : (n at : ℕ) (payload before : Text) → n ≤ length payload �
 reply-room n at payload before h e r = omega (arith, part-size n payload h, e, r, h)
 
 -- `answer_frame`
-module _ (b : Text) (r : FrameHeader) (e : r ≡ headerOf (decodeFrame b)) (k : ℕ) (h : k ≡ kindCode r) (m : FramesMemory) (at end : ℕ) (before after : Text) where
-  means : frameOfHeader b r ≡ decodeFrame b
-  means = decode-decodes b r e
-
-  pub frame-bad : k ≡ 0 → WroteAt (lineText (255 ∷ 9 ∷ [])) at end before after → AnswersFrame (decodeFrame b) m m at end before after
+module _ (b : Text) (d : DecodedFrame) (e : d ≡ decodedOf (decodeFrame b)) (m : FramesMemory) (at end : ℕ) (before after : Text) where
+  pub frame-bad : d ≡ Bad → WroteAt (lineText (255 ∷ 9 ∷ [])) at end before after → AnswersFrame (decodeFrame b) m m at end before after
   unfolding AnswersFrame
-  frame-bad z w = rw (← means, silent-kind b r (sym h ∙ z)) (refl, w)
+  frame-bad h w = rw (← (decode-decodes b d e), h) (refl, w)
 
   -- The payload of a reply is read back.
   reply-line : (a : Answer) (head : ℕ) (reply : Reply) (payload payload′ : Text) → reply ≡ answerReply a → payload′ ≡ answerPayload a payload
@@ -189,22 +148,21 @@ module _ (b : Text) (r : FrameHeader) (e : r ≡ headerOf (decodeFrame b)) (k : 
   reply-line (success q) head reply payload payload′ f g = rw (f, g) (ap (λ (t : Text). lineText (head ∷ 0 ∷ t)) (read-back q payload))
   reply-line (refusal x) head reply payload payload′ f g = rw f refl
 
-  module _ (m′ : FramesMemory) (reply : Reply) (payload payload′ : Text) (a : FrameDone b r m m′ reply payload payload′) (z : k ≢ 0) where
-    abbrev said : Says b r
-    said = says b r (λ w. z (h ∙ w))
+  module _ (k : ℕ) (h : FrameHeader) (parsed : d ≡ FrameDecoded k h) (m′ : FramesMemory) (reply : Reply) (payload payload′ : Text)
+      (a : FrameDone b h m m′ reply payload payload′) where
+    abbrev asked : Frame
+    asked = frame k (actionIn b h)
 
-    took : StepDone (stepFrameIn m (said .frame)) m′ reply payload payload′
+    took : StepDone (stepFrameIn m asked) m′ reply payload payload′
     unfolding FrameDone
-    took = a (said .frame) (said .read)
+    took = a k
 
-    is-frame : some (said .frame) ≡ decodeFrame b
-    is-frame = sym (said .read) ∙ means
+    is-frame : some asked ≡ decodeFrame b
+    is-frame = ap (frameIn b) (sym parsed) ∙ decode-decodes b d e
 
     line-same : replyLine (k + 128) reply payload′ ≡ lineText (answerFrame stepFrameIn m (decodeFrame b))
     line-same =
-        let t = took in
-        reply-line ((stepFrameIn m (said .frame)) .answer) (k + 128) reply payload payload′ (t .reply) (t .payload)
-        ∙ ap (λ (n : ℕ). lineText ((n + 128) ∷ answerBytes ((stepFrameIn m (said .frame)) .answer))) (h ∙ said .kinds)
+        reply-line ((stepFrameIn m asked) .answer) (k + 128) reply payload payload′ (took .reply) (took .payload)
         ∙ ap (λ (o : Option Frame). lineText (answerFrame stepFrameIn m o)) is-frame
 
     pub frame-acted : WroteAt (replyLine (k + 128) reply payload′) at end before after → AnswersFrame (decodeFrame b) m m′ at end before after
@@ -213,7 +171,7 @@ module _ (b : Text) (r : FrameHeader) (e : r ≡ headerOf (decodeFrame b)) (k : 
 
     pub frame-fits : PayloadFits reply (length payload′)
     unfolding PayloadFits
-    frame-fits = go ((stepFrameIn m (said .frame)) .answer) (took .reply) (took .payload)
+    frame-fits = go ((stepFrameIn m asked) .answer) (took .reply) (took .payload)
       where
         go : (x : Answer) → reply ≡ answerReply x → payload′ ≡ answerPayload x payload → PayloadFits reply (length payload′)
         go (success q) f g = rw f (omega (arith, ap length g, length-append q (drop (length q) payload)))

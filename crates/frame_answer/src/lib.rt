@@ -5,15 +5,15 @@ ghost use mathlib.Core.Path.{_≡_};
 ghost use mathlib.Core.List.{[], _∷_};
 ghost use Prim.Native.Nat.{_+_, _*_, _≤_};
 ghost use lib.Dec.{leb};
-ghost use lib.ListN.{length, take, drop};
+ghost use lib.ListN.{length, take};
 ghost use Rattle.text.specs.Text.{written};
 ghost use Rattle.refusal.specs.Refusal.{refusalNumber};
 ghost use Rattle.frames_spec.specs.State.{bigEndian32};
 ghost use Rattle.line_reader.specs.TakeLine.{lineInBuffer};
 ghost use Rattle.frames_spec.specs.Frame.{decodeFrame};
 ghost use Rattle.frames_memory.specs.Memory.{framesMemory, statusesIn, routePathIn};
-ghost use Rattle.frame_decode.specs.Header.{headerOf};
-ghost use Rattle.frame_apply.specs.Done.{kindCode, Replies, RepliesPath, FrameDone, PairDone};
+ghost use Rattle.frame_decode.specs.Header.{lastBytes, reach};
+ghost use Rattle.frame_apply.specs.Done.{Replies, RepliesPath, FrameDone, PairDone};
 ghost use Rattle.frame_answer.specs.Answer.{maxAnswerLine, lineText, replyLine, PayloadFits, WroteAt, ParsesLine, AnswersFrame, memoryAfterLine, outAfterLine, endAfterLine};
 
 // The length of the longest reply line: two bytes and a path of 255, two digits each, and the newline.
@@ -48,22 +48,6 @@ fn write_line(head: u8, answer: u8, payload: &[u8], at: usize, out: &mut [u8]) -
     end + 1
 }
 
-// The kind of the parsed frame; 0 if it is not well formed.
-fn kind_of(r: frame_decode::FrameHeader) -> u8
-    ensures { λ k. ⌜ k ≡ kindCode r ⌝ }
-{
-    match r {
-        frame_decode::FrameHeader::Pair(n, m) => 1,
-        frame_decode::FrameHeader::Statuses => 2,
-        frame_decode::FrameHeader::CloseMap => 3,
-        frame_decode::FrameHeader::CloseRelocates => 4,
-        frame_decode::FrameHeader::Out => 5,
-        frame_decode::FrameHeader::Home => 6,
-        frame_decode::FrameHeader::Count => 7,
-        frame_decode::FrameHeader::Bad => 0,
-    }
-}
-
 // Writes a number over the first four bytes, the high byte first.
 fn write_count(n: usize, payload: &mut [u8])
     requires { ⌜ 4 ≤ length (now payload) ⌝ }
@@ -77,7 +61,7 @@ fn write_count(n: usize, payload: &mut [u8])
     text::write_at(&four, 0, payload);
 }
 
-// Frame 01: adds the pair of the frame, whose source has n bytes and whose target has m, to the open list.
+// Adds the pair that ends the frame, whose source has n bytes and whose target has m, to the open list.
 fn apply_pair_in(
     frame: &[u8],
     n: usize,
@@ -86,16 +70,16 @@ fn apply_pair_in(
     bytes: &mut [u8],
     places: &mut [usize],
 ) -> frame_apply::Effect
-    requires { ⌜ 5 + n + m ≤ length (now frame) ⌝ }
-    ensures { λ r. ⌜ PairDone (take n (drop 3 (now (frame .entry)))) (take m (drop (5 + n) (now (frame .entry)))) k (now (bytes .entry)) (now (places .entry)) (r .kept) (r .reply) (now (bytes .exit)) (now (places .exit)) ⌝ }
+    requires { ⌜ n + 2 + m ≤ length (now frame) ⌝ }
+    ensures { λ r. ⌜ PairDone (take n (lastBytes (n + 2 + m) (now (frame .entry)))) (lastBytes m (now (frame .entry))) k (now (bytes .entry)) (now (places .entry)) (r .kept) (r .reply) (now (bytes .exit)) (now (places .exit)) ⌝ }
 {
-    let end = 3 + n;
-    let start = 5 + n;
-    let last = start + m;
-    frame_apply::apply_pair(&frame[3..end], &frame[start..last], k, bytes, places)
+    let start = frame.len() - (n + 2 + m);
+    let end = start + n;
+    let target = frame.len() - m;
+    frame_apply::apply_pair(&frame[start..end], &frame[target..], k, bytes, places)
 }
 
-// Frame 02: writes the statuses of the open list.
+// Writes the statuses of the open list.
 fn apply_statuses(
     k: frames_memory::Counters,
     bytes: &[u8],
@@ -109,21 +93,22 @@ fn apply_statuses(
     relocates::analyze_relocate_occurrences(bytes, places, opened.pairs, payload)
 }
 
-// Frames 05 and 06: maps the path of the frame over the legs, out or home.
+// Maps the path of n bytes that ends the frame over the legs, out or home.
 fn apply_route(
     back: bool,
     frame: &[u8],
+    n: usize,
     k: frames_memory::Counters,
     store: &[u8],
     slots: &[usize],
     table: &[usize],
     payload: &mut [u8],
 ) -> refusal::Reply
-    requires { ⌜ length (now payload) ≡ 255 ⌝ }
-    ensures { λ r. ⌜ RepliesPath (routePathIn back (framesMemory k [] [] (now (store .entry)) (now (slots .entry)) (now (table .entry))) (drop 1 (now (frame .entry)))) r (now (payload .entry)) (now (payload .exit)) ⌝ }
+    requires { ⌜ (length (now payload) ≡ 255) × (n ≤ length (now frame)) ⌝ }
+    ensures { λ r. ⌜ RepliesPath (routePathIn back (framesMemory k [] [] (now (store .entry)) (now (slots .entry)) (now (table .entry))) (lastBytes n (now (frame .entry)))) r (now (payload .entry)) (now (payload .exit)) ⌝ }
 {
     let legs = k.legs;
-    let path = frame_apply::after_kind(frame);
+    let start = frame.len() - n;
     route::route_after(
         refusal::Validation::Passed,
         store,
@@ -131,14 +116,14 @@ fn apply_route(
         table,
         legs.count,
         back,
-        path,
+        &frame[start..],
         payload,
     )
 }
 
-// Performs the frame. A frame that is not well formed has no effect.
+// Performs what the header of the frame asks for.
 fn apply_frame(
-    r: frame_decode::FrameHeader,
+    header: frame_decode::FrameHeader,
     frame: &[u8],
     k: frames_memory::Counters,
     bytes: &mut [u8],
@@ -148,18 +133,17 @@ fn apply_frame(
     table: &mut [usize],
     payload: &mut [u8],
 ) -> frame_apply::Effect
-    requires { ⌜ length (now payload) ≡ 255 ⌝ }
-    requires { ⌜ r ≡ headerOf (decodeFrame (now frame)) ⌝ }
-    ensures { λ a. ⌜ FrameDone (now (frame .entry)) r (framesMemory k (now (bytes .entry)) (now (places .entry)) (now (store .entry)) (now (slots .entry)) (now (table .entry))) (framesMemory (a .kept) (now (bytes .exit)) (now (places .exit)) (now (store .exit)) (now (slots .exit)) (now (table .exit))) (a .reply) (now (payload .entry)) (now (payload .exit)) ⌝ }
+    requires { ⌜ (length (now payload) ≡ 255) × (reach header ≤ length (now frame)) ⌝ }
+    ensures { λ a. ⌜ FrameDone (now (frame .entry)) header (framesMemory k (now (bytes .entry)) (now (places .entry)) (now (store .entry)) (now (slots .entry)) (now (table .entry))) (framesMemory (a .kept) (now (bytes .exit)) (now (places .exit)) (now (store .exit)) (now (slots .exit)) (now (table .exit))) (a .reply) (now (payload .entry)) (now (payload .exit)) ⌝ }
 {
-    match r {
-        frame_decode::FrameHeader::Pair(n, m) => apply_pair_in(frame, n, m, k, bytes, places),
+    match header {
+        frame_decode::FrameHeader::AddPair(n, m) => apply_pair_in(frame, n, m, k, bytes, places),
         frame_decode::FrameHeader::Statuses => frame_apply::Effect {
             kept: k,
             reply: apply_statuses(k, bytes, places, payload),
         },
-        frame_decode::FrameHeader::CloseMap => frame_apply::apply_close(
-            false,
+        frame_decode::FrameHeader::Close(relocates) => frame_apply::apply_close(
+            relocates,
             k,
             bytes,
             places,
@@ -167,23 +151,10 @@ fn apply_frame(
             slots,
             table,
         ),
-        frame_decode::FrameHeader::CloseRelocates => frame_apply::apply_close(
-            true,
-            k,
-            bytes,
-            places,
-            store,
-            slots,
-            table,
-        ),
-        frame_decode::FrameHeader::Out => {
-            let w = apply_route(false, frame, k, store, slots, table, payload);
-            frame_apply::count_out(k, w)
+        frame_decode::FrameHeader::Route(back, n) => {
+            let w = apply_route(back, frame, n, k, store, slots, table, payload);
+            frame_apply::count_out(back, k, w)
         }
-        frame_decode::FrameHeader::Home => frame_apply::Effect {
-            kept: k,
-            reply: apply_route(true, frame, k, store, slots, table, payload),
-        },
         frame_decode::FrameHeader::Count => {
             write_count(k.outs, payload);
             frame_apply::Effect {
@@ -191,10 +162,6 @@ fn apply_frame(
                 reply: refusal::Reply::Written(4),
             }
         }
-        frame_decode::FrameHeader::Bad => frame_apply::Effect {
-            kept: k,
-            reply: refusal::Reply::Refused(refusal::Refusal::NoPath),
-        },
     }
 }
 
@@ -225,15 +192,14 @@ fn answer_frame(
     requires { ⌜ at + maxAnswerLine ≤ length (now out) ⌝ }
     ensures { λ r. ⌜ AnswersFrame (decodeFrame (now (frame .entry))) (framesMemory k (now (bytes .entry)) (now (places .entry)) (now (store .entry)) (now (slots .entry)) (now (table .entry))) (framesMemory (r .kept) (now (bytes .exit)) (now (places .exit)) (now (store .exit)) (now (slots .exit)) (now (table .exit))) at (r .end) (now (out .entry)) (now (out .exit)) ⌝ }
 {
-    let r = frame_decode::decode_frame(frame);
-    let kind = kind_of(r);
-    if kind == 0 {
+    let d = frame_decode::decode_frame(frame);
+    let frame_decode::DecodedFrame::Frame(kind, header) = d else {
         let end = write_line(255, 9, &frame[..0], at, out);
         return AnsweredLine { kept: k, end };
-    }
+    };
     let mut payload = [0u8; 255];
     let a = apply_frame(
-        r,
+        header,
         frame,
         k,
         bytes,

@@ -1,20 +1,18 @@
 -- Lemmas about the branches of the functions that perform a frame.
 use mathlib.Core.Path.{_≡_, refl, sym, ap, _∙_}
-use mathlib.Core.Bool.{Bool}
-use mathlib.Core.List.{List, [], _∷_}
-use mathlib.Core.Option.{none, some}
-use Prim.Native.Nat.{ℕ, suc, _+_, _-_, _≤_, _<_}
+use mathlib.Core.Bool.{Bool, true, false}
+use mathlib.Core.List.{List}
+use Prim.Native.Nat.{ℕ, suc, _+_, _≤_, _<_}
 use native.Mathlib.Omega.{arith}
-use lib.ListN.{length, take, drop}
+use lib.ListN.{length}
 use borrow.Author.Tests.{le-leb, lt-leb}
 use Rattle.text.specs.Text.{Text, written, writtenIfFits}
-use Rattle.text.proofs.WriteLaws.{rest-whole, placed-first}
+use Rattle.text.proofs.WriteLaws.{placed-first}
 use Rattle.refusal.specs.declared.Refusal.{Refusal}
 use Rattle.refusal.specs.declared.Validation.{Validation}
 use Rattle.refusal.specs.declared.Validation.the-variants.{Passed, Refused as RefusedValidation}
 use Rattle.refusal.specs.declared.Reply.{Reply}
 use Rattle.refusal.specs.declared.Reply.the-variants.{Written, Refused}
-use Rattle.frames_spec.specs.Frame.{Frame}
 use Rattle.frames_spec.specs.State.{bigEndian32}
 use Rattle.open_list.specs.declared.OpenList.{OpenList}
 use Rattle.open_list.specs.declared.Added.{Added}
@@ -31,26 +29,7 @@ use Rattle.close_leg.specs.Close.{closedMap, withOneLeg, closedReply, closedSto
 use Rattle.frames_memory.specs.declared.Counters.{Counters}
 use Rattle.frames_memory.specs.Memory.{FramesMemory, framesMemory, openListOf, legStoreOf, emptyOpenList, addAfter, addIn, closeAfter, closeIn}
 use Rattle.frame_apply.specs.declared.Effect.{Effect}
-use Rattle.frame_apply.specs.Done.{StepDone, PairDone, CloseDone, countReply}
-
--- `after_kind`
-module _ (b : Text) where
-  pub kind-none : length b ≡ 0 → [] ≡ drop 1 b
-  kind-none = go b
-    where
-      go : (b : Text) → length b ≡ 0 → [] ≡ drop 1 b
-      go [] h = refl
-      go (a ∷ b) h = absurd (omega arith)
-
-  pub kind-some : take (length b - 1) (drop 1 b) ≡ drop 1 b
-  kind-some = rest-whole b 1
-
--- No frame was parsed.
-pub no-frame : (f : Frame) → none ≡ some f → ⊥
-no-frame f e = let z : _≡_ {A = ℕ} 0 1 = cc in omega arith
-
-pub same-frame : (f g : Frame) → some f ≡ some g → f ≡ g
-same-frame f g e = cc
+use Rattle.frame_apply.specs.Done.{StepDone, PairDone, CloseDone, countRoute}
 
 -- The facts that follow from the reply of adding a pair.
 done-is : (o p : OpenList) → Done o ≡ Done p → o ≡ p
@@ -130,22 +109,26 @@ module _ (relocates : Bool) (m : FramesMemory) (c : Closed) (e : c ≡ closeRepl
       go (RefusedValidation r) y u v w = record { state = rw (u, v, w) refl; reply = stays-is x r y; payload = refl }
 
 -- `count_out`
-abbrev pub countedEffect : Counters → Reply → Effect
-countedEffect k r = record { kept = record { opened = k .opened; legs = k .legs; outs = countReply r (k .outs) }; reply = r }
+abbrev pub countedEffect : Bool → Counters → Reply → Effect
+countedEffect back k r = record { kept = record { opened = k .opened; legs = k .legs; outs = countRoute back r (k .outs) }; reply = r }
 
-module _ (k : Counters) (r : Reply) where
-  pub count-refused : (x : Refusal) → r ≡ Refused x → record { kept = k; reply = Refused x } ≡ countedEffect k r
-  count-refused x h = rw h
+module _ (back : Bool) (k : Counters) (r : Reply) where
+  pub count-home : back ≡ true → record { kept = k; reply = r } ≡ countedEffect back k r
+  count-home h = rw h
 
-  module _ (n : ℕ) (h : r ≡ Written n) where
-    pub count-held : 4294967295 ≤ k .outs → record { kept = k; reply = r } ≡ countedEffect k r
-    count-held l = rw (h, lt-leb (suc (k .outs)) 4294967295 (omega (arith, l)))
+  module _ (out : back ≡ false) where
+    pub count-refused : (x : Refusal) → r ≡ Refused x → record { kept = k; reply = Refused x } ≡ countedEffect back k r
+    count-refused x h = rw (out, h)
 
-    pub count-more : k .outs < 4294967295
-        → record { kept = record { opened = k .opened; legs = k .legs; outs = k .outs + 1 }; reply = r } ≡ countedEffect k r
-    count-more l =
-        let z : k .outs + 1 ≡ suc (k .outs) = omega arith in
-        rw (h, le-leb (suc (k .outs)) 4294967295 (omega (arith, l)), z)
+    module _ (n : ℕ) (h : r ≡ Written n) where
+      pub count-held : 4294967295 ≤ k .outs → record { kept = k; reply = r } ≡ countedEffect back k r
+      count-held l = rw (out, h, lt-leb (suc (k .outs)) 4294967295 (omega (arith, l)))
+
+      pub count-more : k .outs < 4294967295
+          → record { kept = record { opened = k .opened; legs = k .legs; outs = k .outs + 1 }; reply = r } ≡ countedEffect back k r
+      count-more l =
+          let z : k .outs + 1 ≡ suc (k .outs) = omega arith in
+          rw (out, h, le-leb (suc (k .outs)) 4294967295 (omega (arith, l)), z)
 
 -- `write_count`
 pub count-written : (n : ℕ) (payload payload′ : Text) → 4 ≤ length payload → payload′ ≡ writtenIfFits 0 (bigEndian32 n) payload → payload′ ≡ written (bigEndian32 n) payload

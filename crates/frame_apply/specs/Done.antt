@@ -1,19 +1,17 @@
 -- The relations that the contracts of the code state after it has acted on a frame.
 use mathlib.Core.Path.{_≡_}
 use Prim.Native.Nat.{ℕ}
-use mathlib.Core.Bool.{Bool}
+use mathlib.Core.Bool.{Bool, true, false}
 use mathlib.Core.List.{List}
-use mathlib.Core.Option.{some}
 use lib.ListN.{length}
 use Rattle.text.specs.Text.{Text, written}
 use Rattle.refusal.specs.declared.Reply.{Reply}
 use Rattle.refusal.specs.declared.Reply.the-variants.{Written, Refused}
 use Rattle.refusal.specs.Outcome.{Outcome}
-use Rattle.frames_spec.specs.Frame.{Frame}
+use Rattle.frames_spec.specs.Frame.{frame}
 use Rattle.frames_spec.specs.State.{Answer, success, refusal, outcomeAnswer, countUp, Transition}
 use Rattle.frame_decode.specs.declared.FrameHeader.{FrameHeader}
-use Rattle.frame_decode.specs.declared.FrameHeader.the-variants.{Pair, Statuses, CloseMap, CloseRelocates, Out, Home, Count, Bad}
-use Rattle.frame_decode.specs.Header.{frameOfHeader}
+use Rattle.frame_decode.specs.Header.{actionIn}
 use Rattle.frames_memory.specs.declared.Counters.{Counters}
 use Rattle.frames_memory.specs.Memory.{FramesMemory, framesMemory, addIn, closeIn, stepFrameIn}
 
@@ -41,26 +39,20 @@ pub record StepDone (t : Transition FramesMemory) (m : FramesMemory) (r : Reply)
   pub reply : r ≡ answerReply (t .answer)
   pub payload : after ≡ answerPayload (t .answer) before
 
--- The code performed the step of the parsed frame, if there is one.
+-- The code performed the step of the frame with the bytes b that the header denotes, whatever its kind byte is.
 unfoldable pub FrameDone : Text → FrameHeader → FramesMemory → FramesMemory → Reply → Text → Text → Type 0
-unfolding frameOfHeader stepFrameIn
-FrameDone b r m m′ reply before after = (f : Frame) → frameOfHeader b r ≡ some f → StepDone (stepFrameIn m f) m′ reply before after
-
--- The kind of the parsed frame; 0 if the bytes are not well formed.
-abbrev pub kindCode : FrameHeader → ℕ
-kindCode (Pair n m) = 1
-kindCode Statuses = 2
-kindCode CloseMap = 3
-kindCode CloseRelocates = 4
-kindCode Out = 5
-kindCode Home = 6
-kindCode Count = 7
-kindCode Bad = 0
+unfolding actionIn stepFrameIn
+FrameDone b h m m′ reply before after = (k : ℕ) → StepDone (stepFrameIn m (frame k (actionIn b h))) m′ reply before after
 
 -- The count of 05 frames answered 00, after this reply.
 abbrev pub countReply : Reply → ℕ → ℕ
 countReply (Written n) k = countUp k
 countReply (Refused x) k = k
+
+-- The count after a path frame: paths home are not counted.
+abbrev pub countRoute : Bool → Reply → ℕ → ℕ
+countRoute true r k = k
+countRoute false r k = countReply r k
 
 -- The code performed the step of an 01 frame, whatever the leg store is.
 unfoldable pub PairDone : Text → Text → Counters → Text → List ℕ → Counters → Reply → Text → List ℕ → Type 0

@@ -1,9 +1,8 @@
 // The effect of a frame of the program `frames` on the open list, the legs and the counters, for any contents
 // of the lent buffers: crates/frames_memory/specs/Memory.antt defines it.
 ghost use mathlib.Core.Path.{_≡_};
-ghost use lib.ListN.{drop};
 ghost use Rattle.frames_memory.specs.Memory.{framesMemory};
-ghost use Rattle.frame_apply.specs.Done.{countReply, PairDone, CloseDone};
+ghost use Rattle.frame_apply.specs.Done.{countRoute, PairDone, CloseDone};
 
 // The effect of a frame: the counters after it, and the reply; its payload, if there is one, is at the
 // beginning of the payload buffer.
@@ -12,17 +11,7 @@ pub struct Effect {
     pub reply: refusal::Reply,
 }
 
-// The bytes after the kind byte of a frame.
-pub fn after_kind<'a>(frame: &'a [u8]) -> &'a [u8]
-    ensures { λ r. ⌜ now r ≡ drop 1 (now (frame .entry)) ⌝ }
-{
-    if frame.len() == 0 {
-        return &frame[..0];
-    }
-    &frame[1..]
-}
-
-// Frame 01: adds a pair to the open list.
+// Adds a pair to the open list.
 pub fn apply_pair(
     source: &[u8],
     target: &[u8],
@@ -51,10 +40,13 @@ pub fn apply_pair(
     }
 }
 
-// Frame 05: counts the frame if it was answered 00.
-pub fn count_out(k: frames_memory::Counters, r: refusal::Reply) -> Effect
-    ensures { λ a. ⌜ a ≡ record { kept = record { opened = k .opened; legs = k .legs; outs = countReply r (k .outs) }; reply = r } ⌝ }
+// A path frame: counts it if the path was mapped out and it was answered 00.
+pub fn count_out(back: bool, k: frames_memory::Counters, r: refusal::Reply) -> Effect
+    ensures { λ a. ⌜ a ≡ record { kept = record { opened = k .opened; legs = k .legs; outs = countRoute back r (k .outs) }; reply = r } ⌝ }
 {
+    if back {
+        return Effect { kept: k, reply: r };
+    }
     if let refusal::Reply::Refused(x) = r {
         return Effect { kept: k, reply: r };
     }
@@ -73,7 +65,7 @@ pub fn count_out(k: frames_memory::Counters, r: refusal::Reply) -> Effect
     }
 }
 
-// Frames 03 and 04: closes the open list as a leg.
+// Closes the open list as a leg, a relocate leg if the flag is set, otherwise a map leg.
 pub fn apply_close(
     relocates: bool,
     k: frames_memory::Counters,

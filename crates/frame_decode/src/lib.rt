@@ -1,20 +1,27 @@
 // Parses the bytes of a frame in place, without copying them.
 ghost use mathlib.Core.Path.{_≡_};
 ghost use Prim.Native.Nat.{_+_, _*_, _≤_};
-ghost use lib.ListN.{length, getD, drop};
-ghost use Rattle.frames_spec.specs.Frame.{firstField, pairFrame, frameOfKind, decodeFrame};
-ghost use Rattle.frame_decode.specs.Header.{headerOf, headerAlone};
+ghost use lib.ListN.{length, getD};
+ghost use Rattle.frames_spec.specs.Frame.{add-pair, pair-payload, kinds, formOf, decodePayload, decodeForm, withKind, decodeFrame};
+ghost use Rattle.frame_decode.specs.Header.{decodedOf, decodedAlone};
 
-// The parse result of a frame; specs/Header.antt defines the frame that each case denotes.
+// What a frame asks for, with the lengths of the texts that end it; specs/Header.antt defines the action that
+// each case denotes.
 pub enum FrameHeader {
     // The lengths of the source and the target.
-    Pair(usize, usize),
+    AddPair(usize, usize),
     Statuses,
-    CloseMap,
-    CloseRelocates,
-    Out,
-    Home,
+    // As a relocate leg if set, otherwise as a map leg.
+    Close(bool),
+    // Home if set, otherwise out; the length of the path.
+    Route(bool, usize),
     Count,
+}
+
+// The parse result of a frame.
+pub enum DecodedFrame {
+    // The kind, and what the frame asks for.
+    Frame(u8, FrameHeader),
     // Not well formed.
     Bad,
 }
@@ -34,57 +41,57 @@ fn number_at(bytes: &[u8], at: usize) -> usize
     big_endian16(bytes[at], bytes[at + 1])
 }
 
-// Parses a pair frame: the kind, and two texts with their lengths that fill it exactly.
-fn decode_pair(bytes: &[u8]) -> FrameHeader
-    ensures { λ r. ⌜ r ≡ headerOf (pairFrame (firstField (drop 1 (now (bytes .entry))))) ⌝ }
+// Parses the payload of a pair: two texts with their lengths that fill it exactly.
+fn decode_pair(kind: u8, payload: &[u8]) -> DecodedFrame
+    ensures { λ r. ⌜ r ≡ decodedOf (withKind kind (decodePayload (pair-payload add-pair) (now (payload .entry)))) ⌝ }
 {
-    if bytes.len() < 5 {
-        return FrameHeader::Bad;
+    if payload.len() < 4 {
+        return DecodedFrame::Bad;
     }
-    let left = bytes.len() - 5;
-    let n = number_at(bytes, 1);
+    let left = payload.len() - 4;
+    let n = number_at(payload, 0);
     if left < n {
-        return FrameHeader::Bad;
+        return DecodedFrame::Bad;
     }
-    let m = number_at(bytes, 3 + n);
+    let m = number_at(payload, 2 + n);
     if left - n != m {
-        return FrameHeader::Bad;
+        return DecodedFrame::Bad;
     }
-    FrameHeader::Pair(n, m)
+    DecodedFrame::Frame(kind, FrameHeader::AddPair(n, m))
 }
 
-// Returns r if the frame has no bytes after its kind, otherwise `Bad`.
-fn kind_alone(bytes: &[u8], r: FrameHeader) -> FrameHeader
-    ensures { λ a. ⌜ a ≡ headerAlone (now (bytes .entry)) r ⌝ }
+// Parses a payload of no bytes.
+fn decode_nothing(kind: u8, payload: &[u8], header: FrameHeader) -> DecodedFrame
+    ensures { λ r. ⌜ r ≡ decodedAlone kind (now (payload .entry)) header ⌝ }
 {
-    if 1 < bytes.len() {
-        return FrameHeader::Bad;
+    if 0 < payload.len() {
+        return DecodedFrame::Bad;
     }
-    r
+    DecodedFrame::Frame(kind, header)
 }
 
-// Parses a frame by its kind.
-fn decode_kind(bytes: &[u8], kind: u8) -> FrameHeader
-    ensures { λ r. ⌜ r ≡ headerOf (frameOfKind kind (drop 1 (now (bytes .entry)))) ⌝ }
+// Parses the bytes after the kind: an arm for each line of the table of kinds.
+fn decode_kind(kind: u8, payload: &[u8]) -> DecodedFrame
+    ensures { λ r. ⌜ r ≡ decodedOf (withKind kind (decodeForm (formOf kind kinds) (now (payload .entry)))) ⌝ }
 {
     match kind {
-        1 => decode_pair(bytes),
-        2 => kind_alone(bytes, FrameHeader::Statuses),
-        3 => kind_alone(bytes, FrameHeader::CloseMap),
-        4 => kind_alone(bytes, FrameHeader::CloseRelocates),
-        5 => FrameHeader::Out,
-        6 => FrameHeader::Home,
-        7 => kind_alone(bytes, FrameHeader::Count),
-        _ => FrameHeader::Bad,
+        1 => decode_pair(kind, payload),
+        2 => decode_nothing(kind, payload, FrameHeader::Statuses),
+        3 => decode_nothing(kind, payload, FrameHeader::Close(false)),
+        4 => decode_nothing(kind, payload, FrameHeader::Close(true)),
+        5 => DecodedFrame::Frame(kind, FrameHeader::Route(false, payload.len())),
+        6 => DecodedFrame::Frame(kind, FrameHeader::Route(true, payload.len())),
+        7 => decode_nothing(kind, payload, FrameHeader::Count),
+        _ => DecodedFrame::Bad,
     }
 }
 
 // Parses the bytes of a frame.
-pub fn decode_frame(bytes: &[u8]) -> FrameHeader
-    ensures { λ r. ⌜ r ≡ headerOf (decodeFrame (now (bytes .entry))) ⌝ }
+pub fn decode_frame(bytes: &[u8]) -> DecodedFrame
+    ensures { λ r. ⌜ r ≡ decodedOf (decodeFrame (now (bytes .entry))) ⌝ }
 {
     if bytes.len() == 0 {
-        return FrameHeader::Bad;
+        return DecodedFrame::Bad;
     }
-    decode_kind(bytes, bytes[0])
+    decode_kind(bytes[0], &bytes[1..])
 }

@@ -22,7 +22,7 @@ use Rattle.route.proofs.ShortLaws.{short-after}
 use Rattle.open_list.specs.Add.{validateAdd}
 use Rattle.close_leg.specs.Close.{validateCloseOf}
 use Rattle.line_reader.specs.Lines.{Line}
-use Rattle.frames_spec.specs.Frame.{Frame, pair, statuses, close-map, close-relocates, out, home, count}
+use Rattle.frames_spec.specs.Frame.{Frame, frame, add-pair, statuses, close, route, count}
 use Rattle.frames_spec.specs.State.{Answer, success, refusal, answerBytes, outcomeAnswer}
 use Rattle.frames_spec.specs.Run.{answerFrame}
 use Rattle.frames_spec.specs.Input.{parseLine, answerLine}
@@ -54,13 +54,12 @@ module _ (m : FramesMemory) where
 
   small-step : (f : Frame) → Small ((stepFrameIn m f) .answer)
   unfolding stepFrameIn addIn closeIn routePathIn
-  small-step (pair s t) = small-empty (validateAdd (m .kept .opened) s t (length (m .bytes)) (length (m .places)))
-  small-step statuses = small-statuses
-  small-step close-map = small-empty (validateCloseOf false (openListOf m) (legStoreOf m))
-  small-step close-relocates = small-empty (validateCloseOf true (openListOf m) (legStoreOf m))
-  small-step (out p) = small-way (routePathIn false m p) (short-after Passed false (routeOf m) p 255)
-  small-step (home p) = small-way (routePathIn true m p) (short-after Passed true (routeOf m) p 255)
-  small-step count = omega arith
+  small-step (frame k (add-pair s t)) = small-empty (validateAdd (m .kept .opened) s t (length (m .bytes)) (length (m .places)))
+  small-step (frame k statuses) = small-statuses
+  small-step (frame k (close relocates)) = small-empty (validateCloseOf relocates (openListOf m) (legStoreOf m))
+  small-step (frame k (route false p)) = small-way (routePathIn false m p) (short-after Passed false (routeOf m) p 255)
+  small-step (frame k (route true p)) = small-way (routePathIn true m p) (short-after Passed true (routeOf m) p 255)
+  small-step (frame k count) = omega arith
 
   answer-size : (o : Option Frame) → length (answerFrame stepFrameIn m o) ≤ 257
   answer-size none = omega arith

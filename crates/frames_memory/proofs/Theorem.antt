@@ -15,7 +15,7 @@ use Rattle.pair_list.specs.Pair.{Pair, allEnds, allShort}
 use Rattle.pair_list.specs.Places.{listText, listPlaces, endBytes}
 use Rattle.refusal.specs.Outcome.{Outcome}
 use Rattle.relocates.specs.Status.{statusList}
-use Rattle.frames_spec.specs.Frame.{Frame, pair, statuses, close-map, close-relocates, out, home, count, kind}
+use Rattle.frames_spec.specs.Frame.{Frame, frame, add-pair, statuses, close, route, count, kind}
 use Rattle.frames_spec.specs.State.{State, Answer, success, answerBytes, outcomeAnswer, initialState, routePath, countOutcome, answerOut, bigEndian32, stepFrame}
 use Rattle.frames_spec.specs.Run.{nextState, answerFrame}
 use Rattle.frames_spec.specs.Input.{maxDigits, parseLine, nextLine, answerLine, output}
@@ -64,13 +64,12 @@ module _ (m : FramesMemory) (st : State) (g : Represents m st) where
 
   steps : (f : Frame) → SameStep (stepFrameIn m f) (stepFrame st f)
   unfolding stepFrameIn stepFrame
-  steps (pair s t) = same-add m st g s t
-  steps statuses = record { answers = same-statuses; holds = g }
-  steps close-map = same-close m st g false
-  steps close-relocates = same-close m st g true
-  steps (out p) = rw (same-routes m st g false p) (same-count (routePath false st p))
-  steps (home p) = record { answers = ap outcomeAnswer (same-routes m st g true p); holds = g }
-  steps count = record { answers = ap (λ (n : ℕ). success (bigEndian32 n)) (g .outs); holds = g }
+  steps (frame k (add-pair s t)) = same-add m st g s t
+  steps (frame k statuses) = record { answers = same-statuses; holds = g }
+  steps (frame k (close relocates)) = same-close m st g relocates
+  steps (frame k (route false p)) = rw (same-routes m st g false p) (same-count (routePath false st p))
+  steps (frame k (route true p)) = record { answers = ap outcomeAnswer (same-routes m st g true p); holds = g }
+  steps (frame k count) = record { answers = ap (λ (n : ℕ). success (bigEndian32 n)) (g .outs); holds = g }
 
   -- A parsed frame, or a bad one.
   same-frame : (f : Option Frame) → (answerFrame stepFrameIn m f ≡ answerFrame stepFrame st f) × Represents (nextState stepFrameIn m f) (nextState stepFrame st f)

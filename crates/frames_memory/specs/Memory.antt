@@ -17,7 +17,7 @@ use Rattle.route.specs.Fast.{afterRouteValidated}
 use Rattle.open_list.specs.declared.OpenList.{OpenList}
 use Rattle.open_list.specs.Add.{validateAdd, withOneMore, addBytes, addPlaces}
 use Rattle.close_leg.specs.Close.{LegStore, legStore, validateCloseOf, closeStore}
-use Rattle.frames_spec.specs.Frame.{Frame, pair, statuses, close-map, close-relocates, out, home, count}
+use Rattle.frames_spec.specs.Frame.{Frame, frame, add-pair, statuses, close, route, count}
 use Rattle.frames_spec.specs.State.{Answer, success, refusal, outcomeAnswer, countOutcome, bigEndian32, Transition}
 use Rattle.frames_memory.specs.declared.Counters.{Counters}
 
@@ -116,13 +116,12 @@ countIn m o = record {
   answer = outcomeAnswer o;
 }
 
--- The step of each frame.
+-- The step of a frame, by what it asks for.
 unfoldable pub stepFrameIn : FramesMemory → Frame → Transition FramesMemory
 unfolding addIn statusesIn closeIn routePathIn
-stepFrameIn m (pair s t) = addIn m s t
-stepFrameIn m statuses = record { state = m; answer = statusesIn m }
-stepFrameIn m close-map = closeIn false m
-stepFrameIn m close-relocates = closeIn true m
-stepFrameIn m (out p) = countIn m (routePathIn false m p)
-stepFrameIn m (home p) = record { state = m; answer = outcomeAnswer (routePathIn true m p) }
-stepFrameIn m count = record { state = m; answer = success (bigEndian32 (m .kept .outs)) }
+stepFrameIn m (frame k (add-pair s t)) = addIn m s t
+stepFrameIn m (frame k statuses) = record { state = m; answer = statusesIn m }
+stepFrameIn m (frame k (close relocates)) = closeIn relocates m
+stepFrameIn m (frame k (route false p)) = countIn m (routePathIn false m p)
+stepFrameIn m (frame k (route true p)) = record { state = m; answer = outcomeAnswer (routePathIn true m p) }
+stepFrameIn m (frame k count) = record { state = m; answer = success (bigEndian32 (m .kept .outs)) }

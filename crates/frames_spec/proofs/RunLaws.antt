@@ -28,7 +28,7 @@ use Rattle.route_spec.specs.Leg.{Leg, legEnds, closedLeg, countedPairs}
 use Rattle.route_spec.specs.Route.{routeEnds, runRoute}
 use Rattle.route_spec.proofs.Theorem.{run-returns, run-next}
 use Rattle.route_spec.proofs.RelocateLaws.{closed-ends}
-use Rattle.frames_spec.specs.Frame.{Frame, pair, statuses, close-map, close-relocates, out, home, count}
+use Rattle.frames_spec.specs.Frame.{Frame, frame, add-pair, statuses, close, route, count, out}
 use Rattle.frames_spec.specs.State.{State, initialState, success, refusal, refuse, hasPairRoom, withPair, addPair, hasLegRoom, hasByteRoom, withClosedLeg, closeList, closeOpened, routePath, outcomeAnswer, countUp, countOutcome, answerOut, bigEndian32, stepFrame}
 use Rattle.frames_spec.specs.Run.{nextState, stateAfterFrames, countIfPath, countOut, countOuts, saturate32, WithinLimits, RunTheorems}
 use Rattle.route_spec.proofs.RouteLaws.{legs-more}
@@ -130,13 +130,12 @@ closed-keeps relocates st k =
 next-keeps : (st : State) (f : Option Frame) → Kept st → Kept (nextState stepFrame st f)
 unfolding stepFrame
 next-keeps st none k = k
-next-keeps st (some (pair s t)) k = adds-keeps st s t k
-next-keeps st (some statuses) k = k
-next-keeps st (some close-map) k = closed-keeps false st k
-next-keeps st (some close-relocates) k = closed-keeps true st k
-next-keeps st (some (out p)) k = record { ends = k .ends; leg-ends = k .leg-ends; few = counts-few (routePath false st p) (st .outs) (k .few); within = record { pairs = k .within .pairs; legs = k .within .legs; bytes = k .within .bytes } }
-next-keeps st (some (home p)) k = k
-next-keeps st (some count) k = k
+next-keeps st (some (frame n (add-pair s t))) k = adds-keeps st s t k
+next-keeps st (some (frame n statuses)) k = k
+next-keeps st (some (frame n (close relocates))) k = closed-keeps relocates st k
+next-keeps st (some (frame n (route false p))) k = record { ends = k .ends; leg-ends = k .leg-ends; few = counts-few (routePath false st p) (st .outs) (k .few); within = record { pairs = k .within .pairs; legs = k .within .legs; bytes = k .within .bytes } }
+next-keeps st (some (frame n (route true p))) k = k
+next-keeps st (some (frame n count)) k = k
 
 after-keeps : (st : State) (fs : List (Option Frame)) → Kept st → Kept (stateAfterFrames st fs)
 unfolding stateAfterFrames
@@ -173,13 +172,12 @@ next-counts st f h = go f
 
     go : (f : Option Frame) → (nextState stepFrame st f) .outs ≡ saturate32 (st .outs + countOut st f)
     go none = still
-    go (some (pair s t)) = adds-same st s t ∙ still
-    go (some statuses) = still
-    go (some close-map) = closed-same false st ∙ still
-    go (some close-relocates) = closed-same true st ∙ still
-    go (some (out p)) = counts-saturated (routePath false st p) (st .outs) h
-    go (some (home p)) = still
-    go (some count) = still
+    go (some (frame k (add-pair s t))) = adds-same st s t ∙ still
+    go (some (frame k statuses)) = still
+    go (some (frame k (close relocates))) = closed-same relocates st ∙ still
+    go (some (frame k (route false p))) = counts-saturated (routePath false st p) (st .outs) h
+    go (some (frame k (route true p))) = still
+    go (some (frame k count)) = still
 
 after-counts : (st : State) (fs : List (Option Frame)) → Kept st → (stateAfterFrames st fs) .outs ≡ saturate32 (st .outs + countOuts st fs)
 unfolding stateAfterFrames countOuts
@@ -262,13 +260,12 @@ out-still st (refused y) x e = refl
 
 still : (st : State) (f : Frame) (x : Refusal) → (stepFrame st f) .answer ≡ refusal x → (stepFrame st f) .state ≡ st
 unfolding stepFrame
-still st (pair s t) x = adds-still st s t x
-still st statuses x = λ e. refl
-still st close-map x = closed-still false st x
-still st close-relocates x = closed-still true st x
-still st (out p) x = out-still st (routePath false st p) x
-still st (home p) x = λ e. refl
-still st count x = λ e. refl
+still st (frame k (add-pair s t)) x = adds-still st s t x
+still st (frame k statuses) x = λ e. refl
+still st (frame k (close relocates)) x = closed-still relocates st x
+still st (frame k (route false p)) x = out-still st (routePath false st p) x
+still st (frame k (route true p)) x = λ e. refl
+still st (frame k count) x = λ e. refl
 
 pub run-theorems : RunTheorems
 unfolding stepFrame

@@ -1,39 +1,62 @@
 -- A frame: the bytes that one line encodes in hexadecimal. Requirements: "The first byte is the kind". Question 9: "Is the frame well
--- formed (.. known kind, lengths filling it exactly ..)?"
+-- formed (.. known kind, lengths filling it exactly ..)?" The table `kinds` has a line for each kind; all that depends on the kind of a
+-- frame is read off it.
 use Prim.Native.Nat.{ℕ, _+_, _*_}
-use mathlib.Core.Bool.{cond}
-use mathlib.Core.List.{[], _∷_}
+use mathlib.Core.Bool.{Bool, true, false, cond}
+use mathlib.Core.List.{List, [], _∷_}
 use mathlib.Core.Option.{Option, none, some}
 use lib.Dec.{eqb, leb}
 use lib.ListN.{length, take, drop}
 use Rattle.text.specs.Text.{Text, isNil}
 
--- A well-formed frame.
+-- What a frame asks for, with the texts of its payload.
+pub data Action : Type 0 where
+  -- Add the pair of a source and a target to the open list.
+  add-pair : Text → Text → Action
+  -- Reply with the statuses of the open list.
+  statuses : Action
+  -- Close the open list, as a relocate leg if the flag is set, otherwise as a map leg.
+  close : Bool → Action
+  -- Map a path over the legs, home if the flag is set, otherwise out.
+  route : Bool → Text → Action
+  -- Reply with the count of 05 frames answered 00.
+  count : Action
+
+-- A well-formed frame: its first byte, and what it asks for.
 pub data Frame : Type 0 where
-  -- 01: "pair, being source length (2 bytes, high first), source, target length, target"
-  pair : Text → Text → Frame
-  -- 02: "statuses of the open list"
-  statuses : Frame
-  -- 03: "close it as a map leg"
-  close-map : Frame
-  -- 04: "close as a relocate leg"
-  close-relocates : Frame
-  -- 05: "path out"
-  out : Text → Frame
-  -- 06: "path home"
-  home : Text → Frame
-  -- 07: "count of 05 frames answered 00"
-  count : Frame
+  frame : ℕ → Action → Frame
 
 -- The first byte of a frame.
 abbrev pub kind : Frame → ℕ
-kind (pair s t) = 1
-kind statuses = 2
-kind close-map = 3
-kind close-relocates = 4
-kind (out p) = 5
-kind (home p) = 6
-kind count = 7
+kind (frame k a) = k
+
+-- The form of the bytes after the kind byte, with the action that they make.
+pub data Form : Type 0 where
+  -- No bytes.
+  no-payload : Action → Form
+  -- "pair, being source length (2 bytes, high first), source, target length, target"
+  pair-payload : (Text → Text → Action) → Form
+  -- A path, which is all bytes.
+  path-payload : (Text → Action) → Form
+
+-- The kinds: the first byte of a frame, with the form of the bytes after it and what they ask for. Requirements: "01: pair ..", "02: statuses
+-- of the open list", "03: close it as a map leg", "04: close as a relocate leg", "05: path out", "06: path home", "07: count of 05 frames
+-- answered 00".
+abbrev pub kinds : List (ℕ × Form)
+kinds =
+    (1, pair-payload add-pair)
+    ∷ (2, no-payload statuses)
+    ∷ (3, no-payload (close false))
+    ∷ (4, no-payload (close true))
+    ∷ (5, path-payload (route false))
+    ∷ (6, path-payload (route true))
+    ∷ (7, no-payload count)
+    ∷ []
+
+-- The form of a kind in a table; none if the kind is unknown.
+abbrev pub formOf : ℕ → List (ℕ × Form) → Option Form
+formOf k [] = none
+formOf k (x ∷ xs) = cond (eqb k (x .0)) (some (x .1)) (formOf k xs)
 
 -- A text preceded by its length, and the bytes after it.
 pub record Field : Type 0 where
@@ -50,27 +73,43 @@ firstField [] = none
 firstField (h ∷ []) = none
 firstField (h ∷ l ∷ r) = field (256 * h + l) r
 
--- The pair frame whose target field fills the remaining bytes exactly.
-abbrev pub endFrame : Text → Option Field → Option Frame
-endFrame s none = none
-endFrame s (some f) = cond (isNil (f .rest)) (some (pair s (f .text))) none
+-- What an action makes of a source and of the target field that fills the remaining bytes exactly.
+abbrev pub withTarget : (Text → Text → Action) → Text → Option Field → Option Action
+withTarget f s none = none
+withTarget f s (some t) = cond (isNil (t .rest)) (some (f s (t .text))) none
 
--- The pair frame whose source is the given field and whose target field follows it.
-abbrev pub pairFrame : Option Field → Option Frame
-pairFrame none = none
-pairFrame (some f) = endFrame (f .text) (firstField (f .rest))
+-- What an action makes of the source field and of the target field that follows it.
+abbrev pub withSource : (Text → Text → Action) → Option Field → Option Action
+withSource f none = none
+withSource f (some s) = withTarget f (s .text) (firstField (s .rest))
 
--- The frame of a kind that has no bytes after the kind byte.
-abbrev pub kindAlone : Frame → Text → Option Frame
-kindAlone f r = cond (isNil r) (some f) none
+-- The action that the bytes after the kind byte make in their form; none if they are not well formed.
+abbrev pub decodePayload : Form → Text → Option Action
+decodePayload (no-payload a) r = cond (isNil r) (some a) none
+decodePayload (pair-payload f) r = withSource f (firstField r)
+decodePayload (path-payload f) r = some (f r)
 
--- The frame of a kind and the bytes after the kind byte; none if they are not well formed.
-abbrev pub frameOfKind : ℕ → Text → Option Frame
-frameOfKind k r =
-    cond (eqb k 1) (pairFrame (firstField r)) (cond (eqb k 2) (kindAlone statuses r) (cond (eqb k 3) (kindAlone close-map r) (cond (eqb k 4) (kindAlone close-relocates r)
-    (cond (eqb k 5) (some (out r)) (cond (eqb k 6) (some (home r)) (cond (eqb k 7) (kindAlone count r) none))))))
+-- The action of the bytes after the kind byte; none if the kind is unknown or they are not well formed.
+abbrev pub decodeForm : Option Form → Text → Option Action
+decodeForm none r = none
+decodeForm (some f) r = decodePayload f r
+
+-- The frame of a kind and what it asks for.
+abbrev pub withKind : ℕ → Option Action → Option Frame
+withKind k none = none
+withKind k (some a) = some (frame k a)
 
 -- The frame that the bytes encode; none if they are not well formed.
 unfoldable pub decodeFrame : Text → Option Frame
 decodeFrame [] = none
-decodeFrame (k ∷ r) = frameOfKind k r
+decodeFrame (k ∷ r) = withKind k (decodeForm (formOf k kinds) r)
+
+-- The frames that the theorems about a run name: 05 and 06 with a path, and 07.
+abbrev pub out : Text → Frame
+out p = frame 5 (route false p)
+
+abbrev pub home : Text → Frame
+home p = frame 6 (route true p)
+
+abbrev pub countFrame : Frame
+countFrame = frame 7 count

@@ -1,7 +1,7 @@
 -- A run: the frames of an input in order, with none for a bad frame; and the theorems about every run.
 use mathlib.Core.Path.{_≡_}
 use Prim.Native.Nat.{ℕ, _+_, _≤_}
-use mathlib.Core.Bool.{false, cond}
+use mathlib.Core.Bool.{true, false, cond}
 use mathlib.Core.List.{List, [], _∷_}
 use mathlib.Core.Option.{Option, none, some}
 use lib.Dec.{leb}
@@ -10,7 +10,7 @@ use Rattle.text.specs.Text.{Text}
 use Rattle.path_grammar.specs.Own.{hasVariantSelection}
 use Rattle.refusal.specs.declared.Refusal.{Refusal}
 use Rattle.refusal.specs.Outcome.{Outcome, path, refused}
-use Rattle.frames_spec.specs.Frame.{Frame, pair, statuses, close-map, close-relocates, out, home, count, kind}
+use Rattle.frames_spec.specs.Frame.{Frame, frame, add-pair, statuses, close, route, count, kind, out, home, countFrame}
 use Rattle.frames_spec.specs.State.{State, Transition, initialState, success, refusal, answerBytes, routePath, bigEndian32, stepFrame}
 
 -- Generic in the type of state and in the step that a frame takes on it.
@@ -36,16 +36,15 @@ abbrev pub countIfPath : Outcome → ℕ
 countIfPath (path q) = 1
 countIfPath (refused x) = 0
 
--- 1 if the frame is an 05 frame that is answered 00, otherwise 0.
+-- 1 if the frame maps a path out and is answered 00, otherwise 0.
 abbrev pub countOut : State → Option Frame → ℕ
 countOut st none = 0
-countOut st (some (pair s t)) = 0
-countOut st (some statuses) = 0
-countOut st (some close-map) = 0
-countOut st (some close-relocates) = 0
-countOut st (some (out p)) = countIfPath (routePath false st p)
-countOut st (some (home p)) = 0
-countOut st (some count) = 0
+countOut st (some (frame k (add-pair s t))) = 0
+countOut st (some (frame k statuses)) = 0
+countOut st (some (frame k (close relocates))) = 0
+countOut st (some (frame k (route false p))) = countIfPath (routePath false st p)
+countOut st (some (frame k (route true p))) = 0
+countOut st (some (frame k count)) = 0
 
 -- The number of 05 frames answered 00, counted from the input without the program's own counter. Requirements: "count of 05 frames answered
 -- 00, for the whole run".
@@ -74,4 +73,4 @@ pub record RunTheorems : Type 0 where
   pub comes-home : (fs : List (Option Frame)) (p q : Text) → hasVariantSelection p ≡ false
       → (stepFrame (stateAfterFrames initialState fs) (out p)) .answer ≡ success q → (stepFrame (nextState stepFrame (stateAfterFrames initialState fs) (some (out p))) (home q)) .answer ≡ success p
   -- 07 returns the number of 05 frames answered 00 in the input so far.
-  pub counts-outs : (fs : List (Option Frame)) → (stepFrame (stateAfterFrames initialState fs) count) .answer ≡ success (bigEndian32 (saturate32 (countOuts initialState fs)))
+  pub counts-outs : (fs : List (Option Frame)) → (stepFrame (stateAfterFrames initialState fs) countFrame) .answer ≡ success (bigEndian32 (saturate32 (countOuts initialState fs)))

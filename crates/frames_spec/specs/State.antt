@@ -16,7 +16,7 @@ use Rattle.validate.specs.Validate.{validateCall}
 use Rattle.relocates.specs.Status.{statusList}
 use Rattle.route_spec.specs.Leg.{Leg, closedLeg, countedPairs}
 use Rattle.route_spec.specs.Route.{runRoute}
-use Rattle.frames_spec.specs.Frame.{Frame, pair, statuses, close-map, close-relocates, out, home, count}
+use Rattle.frames_spec.specs.Frame.{Frame, frame, add-pair, statuses, close, route, count}
 
 -- The state of `frames` between two lines.
 pub record State : Type 0 where
@@ -115,13 +115,12 @@ answerOut st o =
 abbrev pub bigEndian32 : ℕ → Text
 bigEndian32 n = n / 16777216 % 256 ∷ n / 65536 % 256 ∷ n / 256 % 256 ∷ n % 256 ∷ []
 
--- The step of each frame.
+-- The step of a frame, by what it asks for.
 unfoldable pub stepFrame : State → Frame → Transition State
 unfolding addPair closeList closedLeg countedPairs routePath endBytes statusList
-stepFrame st (pair s t) = addPair st s t
-stepFrame st statuses = record { state = st; answer = success (statusList (st .opened) (length (st .opened))) }
-stepFrame st close-map = closeOpened false st
-stepFrame st close-relocates = closeOpened true st
-stepFrame st (out p) = answerOut st (routePath false st p)
-stepFrame st (home p) = record { state = st; answer = outcomeAnswer (routePath true st p) }
-stepFrame st count = record { state = st; answer = success (bigEndian32 (st .outs)) }
+stepFrame st (frame k (add-pair s t)) = addPair st s t
+stepFrame st (frame k statuses) = record { state = st; answer = success (statusList (st .opened) (length (st .opened))) }
+stepFrame st (frame k (close relocates)) = closeOpened relocates st
+stepFrame st (frame k (route false p)) = answerOut st (routePath false st p)
+stepFrame st (frame k (route true p)) = record { state = st; answer = outcomeAnswer (routePath true st p) }
+stepFrame st (frame k count) = record { state = st; answer = success (bigEndian32 (st .outs)) }
