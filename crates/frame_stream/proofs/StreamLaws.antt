@@ -163,12 +163,12 @@ goes-room : {a a₁ : StreamState} {s : Text} → a₁ .end ≤ length (a .out) 
 goes-room {a} {a₁} {s} h g = ap length (g .wrote) ∙ over-length (a .end) (answerBlockIn a s) (a .out) (omega (arith, g .ends))
 
 -- The state reached from a within the block.
-record Reached (block : Text) (a a₁ : StreamState) : Type 0 where
+record StepsTo (block : Text) (a a₁ : StreamState) : Type 0 where
   goes : Goes (take (a₁ .used) block) a a₁
   inside : a₁ .used ≤ length block
   fits : a₁ .end ≤ length (a .out)
 
-reach-on : (block : Text) (a a₁ : StreamState) → Reached block a a₁ → canStep block a₁ ≡ true → Reached block a (nextTurn block a₁)
+reach-on : (block : Text) (a a₁ : StreamState) → StepsTo block a a₁ → canStep block a₁ ≡ true → StepsTo block a (nextTurn block a₁)
 reach-on block a a₁ r e =
     let t = turned (drop (a₁ .used) block) a₁ in
     let f : (nextTurn block a₁) .end ≤ length (a .out) = omega (arith, t .fits, room-left block a₁ e, goes-room (r .fits) (r .goes)) in
@@ -178,13 +178,13 @@ reach-on block a a₁ r e =
       fits = f;
     }
 
-reach-from : (block : Text) (n : ℕ) (a a₁ : StreamState) → Reached block a a₁ → Reached block a (streamSteps n block a₁)
+reach-from : (block : Text) (n : ℕ) (a a₁ : StreamState) → StepsTo block a a₁ → StepsTo block a (streamSteps n block a₁)
 unfolding streamSteps
 reach-from block zero a a₁ r = r
 reach-from block (suc n) a a₁ r = go (canStep block a₁) refl (reach-from block n a (nextTurn block a₁))
   where
-    go : (v : Bool) → canStep block a₁ ≡ v → (Reached block a (nextTurn block a₁) → Reached block a (streamSteps n block (nextTurn block a₁)))
-        → Reached block a (cond v (streamSteps n block (nextTurn block a₁)) a₁)
+    go : (v : Bool) → canStep block a₁ ≡ v → (StepsTo block a (nextTurn block a₁) → StepsTo block a (streamSteps n block (nextTurn block a₁)))
+        → StepsTo block a (cond v (streamSteps n block (nextTurn block a₁)) a₁)
     go true e ih = ih (reach-on block a a₁ r e)
     go false e ih = r
 

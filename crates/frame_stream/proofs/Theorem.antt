@@ -46,10 +46,10 @@ module _ (block : Text) (a a′ : StreamState) (f : ProcessesBlock block a a′)
   both : take (a′ .used) block ++ drop (a′ .used) block ≡ block
   both = take-append-drop (a′ .used) block
 
-  stepped-then : stepBlockIn a block ≡ stepBlockIn a′ (drop (a′ .used) block)
+  pub stepped-then : stepBlockIn a block ≡ stepBlockIn a′ (drop (a′ .used) block)
   stepped-then = ap (stepBlockIn a) (sym both) ∙ stepped-both a a′ (take (a′ .used) block) (drop (a′ .used) block) (f .line) (f .state)
 
-  answered-then : answerBlockIn a block ≡ answersIn a′ ++ answerBlockIn a′ (drop (a′ .used) block)
+  pub answered-then : answerBlockIn a block ≡ answersIn a′ ++ answerBlockIn a′ (drop (a′ .used) block)
   answered-then =
       ap (answerBlockIn a) (sym both) ∙ answered-both a a′ (take (a′ .used) block) (drop (a′ .used) block) (f .line) (f .state)
       ∙ ap (λ (s : Text). s ++ answerBlockIn a′ (drop (a′ .used) block)) (sym processes-answered)
@@ -96,7 +96,7 @@ called zero (b ∷ s) a h r = absurd (omega arith)
 called (suc n) block a h r = called-on n block a h r (called n (rest n block a h r) (after-one n block a h r) (less n block a h r) (still-room n block a h r))
 
 -- All blocks, and the end of the input.
-runs-blocks : (bs : List Text) (a : StreamState) → maxAnswerLine ≤ length (a .out)
+pub runs-blocks : (bs : List Text) (a : StreamState) → maxAnswerLine ≤ length (a .out)
     → runBlocks bs a ≡ answerBlocks (streamLineCapacity a) (nextLine stepFrameIn) (answerLine stepFrameIn) (byteMachine a) bs
 unfolding runBlocks answerBlocks
 runs-blocks [] a r =
@@ -129,7 +129,7 @@ most-digits room h = go (leb room 4096) refl
 begins : (a : StreamState) → a .len ≡ 0 → byteMachine a ≡ (text [], a .mem)
 begins a z = ap (λ (n : ℕ). (lineInBuffer n (a .line), a .mem)) z ∙ ap (λ (l : Line). (l, a .mem)) (line-new (a .line))
 
-runs : (a : StreamState) → LargeEnough (a .mem) → a .mem .kept ≡ initialCounters → a .len ≡ 0 → maxDigits ≤ length (a .line) → maxAnswerLine ≤ length (a .out)
+pub runs : (a : StreamState) → LargeEnough (a .mem) → a .mem .kept ≡ initialCounters → a .len ≡ 0 → maxDigits ≤ length (a .line) → maxAnswerLine ≤ length (a .out)
     → (bs : List Text) → runBlocks bs a ≡ output (flatten bs)
 runs a large e z l r bs =
     runs-blocks bs a r ∙ ap (λ (n : ℕ). answerBlocks n (nextLine stepFrameIn) (answerLine stepFrameIn) (byteMachine a) bs) (most-digits (length (a .line)) l)

@@ -1,3 +1,4 @@
 -- The definitions of this crate.
 pub mod Stream
 pub mod StreamTheorems
+pub mod Progress

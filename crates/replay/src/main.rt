@@ -7,6 +7,7 @@
 // `no`, a path as its text, the empty path as `-`.
 ghost use Prim.Native.Nat.{_≤_};
 ghost use lib.ListN.{length};
+use libc::STDERR_FILENO;
 use libc::STDIN_FILENO;
 use libc::STDOUT_FILENO;
 
@@ -226,8 +227,8 @@ fn index_after(n: usize, text: &[u8]) -> usize
     text.len()
 }
 
-// Processes an input line and returns whether the results were written. They fit: six texts of at most 255
-// bytes, at most 128 lengths, and a few short fields.
+// Processes an input line and returns whether the results were written; if not, reports it. They fit: six
+// texts of at most 255 bytes, at most 128 lengths, and a few short fields.
 fn answer(question: &[u8]) -> bool {
     let a = index_of(b' ', question);
     let from = index_after(a, question);
@@ -239,7 +240,11 @@ fn answer(question: &[u8]) -> bool {
     if 4096 < n {
         return false;
     }
-    io::write_all(STDOUT_FILENO, &line[0..n])
+    if stdio::write_all(STDOUT_FILENO, &line[0..n]) < n {
+        os::fail(b"replay: standard output");
+        return false;
+    }
+    true
 }
 
 // Processes the first input line, which may lack its newline, and returns the number of bytes consumed: 0 if
@@ -266,9 +271,17 @@ fn answer_all(input: &[u8]) {
     }
 }
 
-// Reads at most 262,144 bytes, more than the sample has.
+// Reads the whole input, which must be shorter than 262,144 bytes; the sample has fewer.
 fn main() {
     let mut input = [0u8; 262144];
-    let n = io::read_full(STDIN_FILENO, &mut input);
-    answer_all(&input[..n]);
+    match stdio::read_full(STDIN_FILENO, &mut input) {
+        stdio::Reading::Got(n) => {
+            if n < 262144 {
+                answer_all(&input[..n]);
+            } else {
+                stdio::write_all(STDERR_FILENO, b"replay: the input is too long\n");
+            }
+        }
+        stdio::Reading::Failed => os::fail(b"replay: standard input"),
+    }
 }
