@@ -40,7 +40,7 @@ use Rattle.pair_buffer.proofs.MapLaws.{identity-lent, held-all, no-map}
 use Rattle.compose_pairs.specs.ComposePairs.{atMost511, CanCompose}
 use Rattle.compose_pairs.proofs.LengthLaws.{short-bounded, composed-bounded, bounded-bytes}
 use Rattle.map_compose.specs.Calls.{composedTime}
-use Rattle.map_implied_class.specs.Implied.{swappedPairs, composedFrom, inverseList, classList, impliedList, allWithin64, impliedOutcome, ImpliesTo, impliedTime, impliedClassCall}
+use Rattle.map_implied_class.specs.Implied.{swappedPairs, composedFrom, inverseList, classList, impliedList, impliedLists, allWithin64, impliedOutcome, ImpliesTo, impliedTime, impliedClassCall}
 use Rattle.map_implied_class.specs.Finish.{finishedMap, composedMap, mapOfReply, roomBesideTransfer, impliedAfterClass}
 use Rattle.map_implied_class.proofs.ImpliedEnds.{every-append, implied-legal}
 
@@ -388,7 +388,7 @@ module _ (store : Text) (places : List ℕ) (transfer : MapFunction) (cstore : T
     built = holds-list (composedFrom cl bk) k end bytes own c
 
     pub implied-many : (time : LayerOffset) (out : Text) (slots : List ℕ) → 64 < k → impliedOutcome tr cl time out slots ≡ refused TooMany
-    unfolding impliedOutcome allWithin64
+    unfolding impliedOutcome
     implied-many time out slots h = rw (list-is, ← (c .number), lt-leb k 64 h, and-no (leb (length (inverseList tr)) 64)) refl
 
     module _ (small : k ≤ 64) where
@@ -465,7 +465,7 @@ module _ (store : Text) (places : List ℕ) (transfer : MapFunction) (cstore : T
 
         implied-last : (time : LayerOffset) (out : Text) (slots : List ℕ)
             → impliedOutcome tr cl time out slots ≡ impliedAfterClass tr (compose cl (inverse tr)) k end (allShort (composedFrom cl bk)) time out slots
-        unfolding impliedOutcome allWithin64 impliedAfterClass requireListRoom listFitsBuffers requireShort requireLegal roomBesideTransfer impliedClass impliedList
+        unfolding impliedOutcome impliedAfterClass requireListRoom listFitsBuffers requireShort requireLegal roomBesideTransfer impliedClass impliedList
         implied-last time out slots =
             rw (implied-legal tr cl (vt .ends) (vc .ends), list-is, all-bytes, all-number, short-append (composedFrom cl bk) last, first-few, ← (c .number), le-leb k 64 small) refl
 
@@ -511,7 +511,7 @@ module _ (store : Text) (places : List ℕ) (transfer : MapFunction) (cstore : T
 pub implies-to : ImpliesTo
 unfolding impliedOutcome requireListRoom requireShort requireLegal
 implies-to transfer class m time t out slots e =
-    go (allWithin64 transfer class) (listFitsBuffers (inverseList transfer ++ (classList transfer class ++ impliedList transfer class)) out slots)
+    go (allWithin64 (impliedLists transfer class)) (listFitsBuffers (inverseList transfer ++ (classList transfer class ++ impliedList transfer class)) out slots)
     (allShort (classList transfer class ++ impliedList transfer class)) (everyEnd legal (classList transfer class ++ impliedList transfer class)) e
   where
     go : (a b c d : Bool)

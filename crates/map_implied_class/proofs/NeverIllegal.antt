@@ -15,7 +15,7 @@ use Rattle.map_function.specs.MapFunction.{isIdentityMap, listOf, mapOf}
 use Rattle.map_function.specs.MapOutcome.{MapOutcome, map, requireListRoom, withoutDropping}
 use Rattle.pair_buffer.specs.Ends.{requireShort, requireLegal}
 use Rattle.map_compose.proofs.NeverIllegal.{Never, never-either, never-many, never-room, never-made, never-as-it-is, never-unless}
-use Rattle.map_implied_class.specs.Implied.{inverseList, classList, impliedList, allWithin64, impliedOutcome, impliedTime, impliedClassCall, ImpliedNeverIllegal}
+use Rattle.map_implied_class.specs.Implied.{inverseList, classList, impliedList, impliedLists, allWithin64, impliedOutcome, impliedTime, impliedClassCall, ImpliedNeverIllegal}
 use Rattle.map_implied_class.proofs.ImpliedEnds.{implied-legal}
 
 module _ (transfer class : Map) (time : LayerOffset) (out : Text) (slots : List ℕ) where
@@ -28,7 +28,7 @@ module _ (transfer class : Map) (time : LayerOffset) (out : Text) (slots : List 
   never-implying : allEnds (transfer .pairs) ≡ true → allEnds (class .pairs) ≡ true → Never (impliedOutcome transfer class time out slots)
   unfolding impliedOutcome
   never-implying te ce =
-      never-many (allWithin64 transfer class) (requireListRoom (inverseList transfer ++ made) out slots answer)
+      never-many (allWithin64 (impliedLists transfer class)) (requireListRoom (inverseList transfer ++ made) out slots answer)
       (never-room (inverseList transfer ++ made) out slots answer (never-made made (impliedClass transfer class) time (implied-legal transfer class te ce)))
 
 pub never-illegal : ImpliedNeverIllegal

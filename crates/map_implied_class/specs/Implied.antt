@@ -1,4 +1,4 @@
--- The `implied_class` call: three maps are constructed, each from the one before, and the lists of all three are validated.
+-- The `implied_class` call: three maps are constructed, each from the one before, and the questions are put to the lists of all three.
 use mathlib.Core.Path.{_≡_}
 use mathlib.Core.Bool.{Bool, cond, _&&_}
 use mathlib.Core.List.{List, [], _∷_, _++_, map as mapped}
@@ -46,21 +46,36 @@ unfoldable pub impliedList : Map → Map → List Pair
 unfolding composedFrom compose inverse
 impliedList transfer class = composedFrom transfer (compose class (inverse transfer))
 
--- Question 4: each list has "at most 64 pairs".
-unfoldable pub allWithin64 : Map → Map → Bool
-unfolding classList impliedList
-allWithin64 transfer class = leb (length (inverseList transfer)) 64 && (leb (length (classList transfer class)) 64 && leb (length (impliedList transfer class)) 64)
+-- The three lists, each as it is before redundant pairs are dropped. All questions of the call are put to this record.
+pub record ImpliedLists : Type 0 where
+  pub inverted : List Pair
+  pub composed : List Pair
+  pub implied : List Pair
 
--- The implied class across a transfer that is not the identity: question 4 for each list, question 5 for the three together, then questions
--- 7 and 8 for the constructed ends. Question 8 never fails: `implied-legal` (proofs/ImpliedEnds.antt).
-unfoldable pub impliedOutcome : Map → Map → LayerOffset → Text → List ℕ → MapOutcome
-unfolding allWithin64 requireListRoom requireShort requireLegal impliedClass
-impliedOutcome transfer class time out slots =
-    cond (allWithin64 transfer class)
-    (requireListRoom (inverseList transfer ++ (classList transfer class ++ impliedList transfer class)) out slots
-    (requireShort (classList transfer class ++ impliedList transfer class)
-    (requireLegal (classList transfer class ++ impliedList transfer class) (map (impliedClass transfer class) time))))
+abbrev pub impliedLists : Map → Map → ImpliedLists
+impliedLists transfer class = record { inverted = inverseList transfer; composed = classList transfer class; implied = impliedList transfer class }
+
+-- Question 4: each list has "at most 64 pairs".
+abbrev pub allWithin64 : ImpliedLists → Bool
+allWithin64 l = leb (length (l .inverted)) 64 && (leb (length (l .composed)) 64 && leb (length (l .implied)) 64)
+
+-- The pairs whose ends were constructed: those of the second and the third list. The inverse has the transfer's own ends.
+abbrev pub constructedPairs : ImpliedLists → List Pair
+constructedPairs l = l .composed ++ l .implied
+
+-- The map m with the questions put to the lists: question 4 to each, question 5 "over all three lists", then questions 7 and 8 to the constructed
+-- ends.
+unfoldable pub askLists : ImpliedLists → Map → LayerOffset → Text → List ℕ → MapOutcome
+unfolding requireListRoom requireShort requireLegal
+askLists l m time out slots =
+    cond (allWithin64 l)
+    (requireListRoom (l .inverted ++ constructedPairs l) out slots (requireShort (constructedPairs l) (requireLegal (constructedPairs l) (map m time))))
     (refused TooMany)
+
+-- The implied class across a transfer that is not the identity. Question 8 never fails: `implied-legal` (proofs/ImpliedEnds.antt).
+unfoldable pub impliedOutcome : Map → Map → LayerOffset → Text → List ℕ → MapOutcome
+unfolding askLists classList impliedList impliedClass
+impliedOutcome transfer class time out slots = askLists (impliedLists transfer class) (impliedClass transfer class) time out slots
 
 -- If the call returns a map, it is the implied class map (proved in proofs/ImpliedBranches.antt).
 abbrev pub ImpliesTo : Type 0
