@@ -20,8 +20,8 @@ use Rattle.frames_memory.specs.Memory.{FramesMemory, stepFrameIn}
 use Rattle.frames_memory.specs.Represents.{initialCounters}
 use Rattle.frame_answer.specs.Answer.{maxAnswerLine}
 use Rattle.frame_stream.specs.Stream.{StreamState, processBlock}
-use Rattle.frame_stream.specs.StreamTheorems.{byteMachine, streamLineCapacity, stepBlockIn, answerBlockIn, nextCall, afterCalls, answersIn, writtenOut, runBlocks}
-use Rattle.frame_stream.specs.Progress.{stateBetween, StartState, unconsumed, Progress, Reached, NextReplies, afterCall, afterInput, lastReplies, ProgressTheorems}
+use Rattle.frame_stream.specs.StreamTheorems.{streamLineCapacity, stepBlockIn, answerBlockIn, nextCall, afterCalls, answersIn, writtenOut, runBlocks}
+use Rattle.frame_stream.specs.Progress.{stateBetween, StartState, unconsumed, Progress, Reached, NextReplies, afterCall, NextStep, by-call, by-read, afterInput, lastReplies, ProgressTheorems}
 use Rattle.frame_stream.proofs.StreamLaws.{feeds}
 use Rattle.frame_stream.proofs.Theorem.{stepped-then, answered-then, runs-blocks, runs}
 
@@ -96,13 +96,8 @@ reached-call rest a r = record {
 }
 
 -- For the functions of the program, over plain values: a call, and the replies that it hands to the write.
-module _ (rest : Text) (a a′ : StreamState) (r : Reached rest a) (e : a′ ≡ processBlock rest (nextCall a)) where
-  pub next-replies : NextReplies (take (a′ .end) (a′ .out))
-  next-replies = record { rest = rest; state = a; reached = r; same = ap answersIn e }
-
-  pub next-reached : Reached (drop (a′ .used) rest) (nextCall a′)
-  unfolding afterCall
-  next-reached = subst (λ (x : StreamState). Reached (drop (x .used) rest) (nextCall x)) (sym e) (reached-call rest a r)
+pub next-replies : (rest : Text) (a a′ : StreamState) → Reached rest a → a′ ≡ processBlock rest (nextCall a) → NextReplies (take (a′ .end) (a′ .out))
+next-replies rest a a′ r e = record { rest = rest; state = a; reached = r; same = ap answersIn e }
 
 drop-take : (n m : ℕ) (t : Text) → drop n (take m t) ≡ take (m - n) (drop n t)
 drop-take zero m t = simp unary-clauses refl
@@ -119,23 +114,29 @@ drop-unconsumed block at end n =
     drop-take n (end - at) (drop at block) ∙ ap (take (end - at - n)) (drop-drop n at block)
     ∙ ap (λ (k : ℕ). take k (drop (at + n) block)) left
 
-pub unconsumed-reached : (block : Text) (at end : ℕ) (a a′ : StreamState) → Reached (unconsumed block at end) a
-    → a′ ≡ processBlock (unconsumed block at end) (nextCall a) → Reached (unconsumed block (at + a′ .used) end) (nextCall a′)
-unconsumed-reached block at end a a′ r e =
-    subst (λ (s : Text). Reached s (nextCall a′)) (drop-unconsumed block at end (a′ .used)) (next-reached (unconsumed block at end) a a′ r e)
+pub next-called : (block : Text) (at end : ℕ) (a a′ : StreamState) → a′ ≡ processBlock (unconsumed block at end) (nextCall a)
+    → NextStep (unconsumed block at end) a (unconsumed block (at + a′ .used) end) (nextCall a′)
+unfolding afterCall
+next-called block at end a a′ e =
+    by-call (sym (drop-unconsumed block at end (a′ .used)) ∙ ap (λ (x : StreamState). drop (x .used) (unconsumed block at end)) e) (ap nextCall e)
 
 -- All is consumed.
-pub consumed-reached : (block : Text) (at end : ℕ) (a : StreamState) → end ≤ at → Reached (unconsumed block at end) a → Reached [] a
-consumed-reached block at end a h r =
+pub consumed : (block : Text) (at end : ℕ) → end ≤ at → unconsumed block at end ≡ []
+consumed block at end h =
     let none : end - at ≡ 0 = omega arith in
-    subst (λ (n : ℕ). Reached (take n (drop at block)) a) none r
+    ap (λ (n : ℕ). take n (drop at block)) none
+
+-- A step leads to a state that is reached.
+pub reached-next : (rest : Text) (a : StreamState) (rest′ : Text) (a′ : StreamState) → Reached rest a → NextStep rest a rest′ a′ → Reached rest′ a′
+reached-next rest a rest′ a′ r (by-call e f) = rw (e, f) (reached-call rest a r)
+reached-next rest a rest′ a′ r (by-read e f) = rw f (reached-read a (subst (λ (s : Text). Reached s a) e r) rest′)
 
 -- At the end of the input: without an unfinished line, and with one.
 pub input-ends : (a : StreamState) → a .len ≡ 0 → a ≡ afterInput a
 unfolding afterInput
-input-ends a e = sym (ap (λ (n : ℕ). cond (leb 1 n) (afterCall (newline ∷ []) a) a) e)
+input-ends a e = sym (ap (λ (n : ℕ). cond (leb 1 n) (afterCall (newline ∷ []) (nextCall a)) a) e)
 
-pub line-ends : (a a′ : StreamState) → (a .len ≡ 0 → ⊥) → a′ ≡ processBlock (newline ∷ []) a → nextCall a′ ≡ afterInput a
+pub line-ends : (a a′ : StreamState) → (a .len ≡ 0 → ⊥) → a′ ≡ processBlock (newline ∷ []) (nextCall a) → nextCall a′ ≡ afterInput a
 unfolding afterInput afterCall
 line-ends a a′ h e = rw (le-leb 1 (a .len) (omega (arith, h))) (ap nextCall e)
 

@@ -55,21 +55,33 @@ unfoldable pub afterCall : Text → StreamState → StreamState
 unfolding processBlock
 afterCall rest a = nextCall (processBlock rest a)
 
+-- One step of the program, from the bytes `rest` not consumed and the state a to rest′ and a′.
+pub data NextStep (rest : Text) (a : StreamState) (rest′ : Text) (a′ : StreamState) : Type 0 where
+  -- A call on the bytes; those that it did not consume are left.
+  by-call : rest′ ≡ drop (processBlock rest (nextCall a) .used) rest → a′ ≡ afterCall rest (nextCall a) → NextStep rest a rest′ a′
+  -- All is consumed, and a block is read, whatever it contains.
+  by-read : rest ≡ [] → a′ ≡ a → NextStep rest a rest′ a′
+
 -- The state after the end of the input: a last line without a newline is processed as if it had one.
 unfoldable pub afterInput : StreamState → StreamState
 unfolding afterCall
-afterInput a = cond (leb 1 (a .len)) (afterCall (newline ∷ []) a) a
+afterInput a = cond (leb 1 (a .len)) (afterCall (newline ∷ []) (nextCall a)) a
 
 -- The replies at the end of the input.
 unfoldable pub lastReplies : StreamState → Text
 unfolding processBlock
 lastReplies a = cond (leb 1 (a .len)) (answersIn (processBlock (newline ∷ []) (nextCall a))) []
 
--- The program has consumed all it read, the input has ended, and a is the state after it.
+-- The last step: all is consumed, the input has ended, and a′ is the state after it.
+abbrev pub LastStep : Text → StreamState → StreamState → Type 0
+LastStep rest a a′ = (rest ≡ []) × (a′ ≡ afterInput a)
+
+-- The program has processed its whole input, and a is the state after it.
 pub record Finished (a : StreamState) : Type 0 where
+  pub rest : Text
   pub state : StreamState
-  pub reached : Reached [] state
-  pub same : a ≡ afterInput state
+  pub reached : Reached rest state
+  pub last : LastStep rest state a
 
 -- The theorems about the progress of the program.
 pub record ProgressTheorems : Type 0 where

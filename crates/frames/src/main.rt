@@ -10,10 +10,10 @@ ghost use mathlib.Core.Path.{_≡_};
 ghost use mathlib.Core.Bool.{true, false};
 ghost use mathlib.Core.List.{[]};
 ghost use Prim.Native.Nat.{_≤_};
-ghost use lib.ListN.{length, take};
+ghost use lib.ListN.{length};
 ghost use Rattle.frames_memory.specs.Represents.{initialCounters};
 ghost use Rattle.frame_stream.specs.Stream.{streamState, processBlock};
-ghost use Rattle.frame_stream.specs.Progress.{stateBetween, StartState, unconsumed, Reached, NextReplies, afterInput, Finished};
+ghost use Rattle.frame_stream.specs.Progress.{stateBetween, StartState, unconsumed, Reached, NextReplies, NextStep, LastStep, afterInput, Finished};
 use libc::STDERR_FILENO;
 use libc::STDIN_FILENO;
 use libc::STDOUT_FILENO;
@@ -71,7 +71,10 @@ fn answer(
     out: &mut [u8; 65536],
 ) -> AnswerPart
     requires { ⌜ Reached (now part) (stateBetween len k (now line) (now bytes) (now places) (now store) (now slots) (now table) (now out)) ⌝ }
-    ensures { λ r. ⌜ streamState (r .reply) (now (line .exit)) (now (bytes .exit)) (now (places .exit)) (now (store .exit)) (now (slots .exit)) (now (table .exit)) (now (out .exit)) ≡ processBlock (now (part .entry)) (stateBetween len k (now (line .entry)) (now (bytes .entry)) (now (places .entry)) (now (store .entry)) (now (slots .entry)) (now (table .entry)) (now (out .entry))) ⌝ }
+    ensures { λ r. ⌜ (
+        let a = stateBetween len k (now (line .entry)) (now (bytes .entry)) (now (places .entry)) (now (store .entry)) (now (slots .entry)) (now (table .entry)) (now (out .entry)) in
+        let b = streamState (r .reply) (now (line .exit)) (now (bytes .exit)) (now (places .exit)) (now (store .exit)) (now (slots .exit)) (now (table .exit)) (now (out .exit)) in
+        b ≡ processBlock (now (part .entry)) a) ⌝ }
 {
     let reply = frame_stream::process_block(
         part,
@@ -104,7 +107,10 @@ fn finish(
     out: &mut [u8; 65536],
 ) -> StreamNow
     requires { ⌜ Reached [] (stateBetween len k (now line) (now bytes) (now places) (now store) (now slots) (now table) (now out)) ⌝ }
-    ensures { λ r. ⌜ stateBetween (r .len) (r .kept) (now (line .exit)) (now (bytes .exit)) (now (places .exit)) (now (store .exit)) (now (slots .exit)) (now (table .exit)) (now (out .exit)) ≡ afterInput (stateBetween len k (now (line .entry)) (now (bytes .entry)) (now (places .entry)) (now (store .entry)) (now (slots .entry)) (now (table .entry)) (now (out .entry))) ⌝ }
+    ensures { λ r. ⌜ (
+        let a = stateBetween len k (now (line .entry)) (now (bytes .entry)) (now (places .entry)) (now (store .entry)) (now (slots .entry)) (now (table .entry)) (now (out .entry)) in
+        let b = stateBetween (r .len) (r .kept) (now (line .exit)) (now (bytes .exit)) (now (places .exit)) (now (store .exit)) (now (slots .exit)) (now (table .exit)) (now (out .exit)) in
+        b ≡ afterInput a) ⌝ }
     ensures { λ r. ⌜ r .more ≡ false ⌝ }
     ensures { λ r. ⌜ r .end ≡ 0 ⌝ }
 {
@@ -150,8 +156,11 @@ fn step(
     requires { ⌜ end ≤ 65536 ⌝ }
     requires { ⌜ Reached (unconsumed (now block) at end) (stateBetween len k (now line) (now bytes) (now places) (now store) (now slots) (now table) (now out)) ⌝ }
     ensures { λ r. ⌜ r .end ≤ 65536 ⌝ }
-    ensures { λ r. ⌜ (r .more ≡ true → Reached (unconsumed (now (block .exit)) (r .at) (r .end)) (stateBetween (r .len) (r .kept) (now (line .exit)) (now (bytes .exit)) (now (places .exit)) (now (store .exit)) (now (slots .exit)) (now (table .exit)) (now (out .exit)))) ⌝ }
-    ensures { λ r. ⌜ (r .done ≡ true → Finished (stateBetween (r .len) (r .kept) (now (line .exit)) (now (bytes .exit)) (now (places .exit)) (now (store .exit)) (now (slots .exit)) (now (table .exit)) (now (out .exit)))) ⌝ }
+    ensures { λ r. ⌜ (
+        let a = stateBetween len k (now (line .entry)) (now (bytes .entry)) (now (places .entry)) (now (store .entry)) (now (slots .entry)) (now (table .entry)) (now (out .entry)) in
+        let b = stateBetween (r .len) (r .kept) (now (line .exit)) (now (bytes .exit)) (now (places .exit)) (now (store .exit)) (now (slots .exit)) (now (table .exit)) (now (out .exit)) in
+        let rest = unconsumed (now (block .entry)) at end in
+        (r .more ≡ true → NextStep rest a (unconsumed (now (block .exit)) (r .at) (r .end)) b) × (r .done ≡ true → LastStep rest a b)) ⌝ }
 {
     if at < end {
         let whole = &block[..];

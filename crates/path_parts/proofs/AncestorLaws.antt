@@ -65,7 +65,7 @@ furthest-on x (suc k) q = go (ancestorsFrom (λ (t : Text). ancestorsWithin k t)
         let n : suc (length l) - 1 ≡ length l = omega arith in
         rw (m, n)
 
-legal-long : (p : Text) → legal p ≡ true → hasParent p ≡ true → 1 < length p
+pub legal-long : (p : Text) → legal p ≡ true → hasParent p ≡ true → 1 < length p
 legal-long p e h = go (shape p e) h
   where
     go : {q : Text} → Shape q → hasParent q ≡ true → 1 < length q

@@ -136,7 +136,7 @@ before-lt (b ∷ r) e = go (lastPartStart (b ∷ r)) refl
     go (some k) h = last-lt (last (b ∷ r) k h)
 
 -- No part begins at a byte of a name.
-name-part : (a : ℕ) (r : Text) → isIdentifierCont a ≡ true → partOffset a r ≡ none
+pub name-part : (a : ℕ) (r : Text) → isIdentifierCont a ≡ true → partOffset a r ≡ none
 unfolding partOffset isIdentifierCont
 name-part a r h = go (startsPart a r) (startsNameAfter a r) refl refl
   where
@@ -145,7 +145,7 @@ name-part a r h = go (startsPart a r) (startsNameAfter a r) refl refl
     go false true f g = absurd (true≢false (sym h ∙ ap isIdentifierCont (after-byte a r g)))
     go false false f g = rw (f, g)
 
-none-on : (a : ℕ) (r : Text) → partOffset a r ≡ none → lastPartStart r ≡ none → lastPartStart (a ∷ r) ≡ none
+pub none-on : (a : ℕ) (r : Text) → partOffset a r ≡ none → lastPartStart r ≡ none → lastPartStart (a ∷ r) ≡ none
 unfolding lastPartStart
 none-on a r f g = rw (g, f)
 

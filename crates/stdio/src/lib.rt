@@ -1,7 +1,6 @@
 // Reading and writing a file descriptor for the programs. A call that a signal interrupts (EINTR), or that a
 // descriptor in non-blocking mode cannot serve at once (EAGAIN), is tried again. Of the bytes that are read
 // and of the effect of a write no contract can speak: the kit's `read` and `write` say nothing of them.
-ghost use mathlib.Core.Path.{_≡_};
 ghost use Prim.Native.Nat.{_≤_};
 ghost use lib.ListN.{length};
 ghost use Rattle.stdio.specs.Reading.{ReadAtMost};

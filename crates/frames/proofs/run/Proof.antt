@@ -5,7 +5,7 @@ use Prim.Native.Nat.{_≤_}
 use native.Mathlib.Omega.{arith}
 use Rattle.frames_memory.specs.declared.Counters.{Counters}
 use Rattle.frame_stream.specs.Progress.{stateBetween, StartState, unconsumed, Reached, Finished}
-use Rattle.frame_stream.proofs.ProgressLaws.{reached-start}
+use Rattle.frame_stream.proofs.ProgressLaws.{reached-start, reached-next}
 use borrow.Author.Needs.{needs}
 use Rattle.frames.proofs.run.Statement.{statement}
 use Rattle.frames.proofs.run.Tie as tie
@@ -49,8 +49,16 @@ loop-less c = search needs
 
 loop-again : tie.Need-loop-again Inv-loop μ-loop
 loop-again c =
-    let at-step = c in
-    (at-step .step .ensures .0, at-step .step .ensures .1 .0, at-step .step .ensures .1 .1)
+    let at-if1 = c .before .before .before .before .before .before .before .before .before .before in
+    let l = at-if1 .before .before .loop in
+    let r = l .inv .1 (at-if1 .if1 .taken) in
+    let rest = unconsumed (l .block) (l .now .at) (l .now .end) in
+    let state = stateBetween (l .now .len) (l .now .kept) (l .line) (l .bytes) (l .places) (l .store) (l .slots) (l .table) (l .out) in
+    let s = c .step .ensures in (
+      s .0,
+      (λ e. reached-next rest state _ _ r (s .1 .0 e)),
+      λ e. record { rest = rest; state = state; reached = r; last = s .1 .1 e },
+    )
 
 returns : tie.Need-returns Inv-loop μ-loop
 returns c = c .before .before .loop .inv .2

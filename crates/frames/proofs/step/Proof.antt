@@ -1,10 +1,12 @@
 -- The bytes that are not consumed are those from `at` to `end`; when there are none, a block is read, or the input has ended.
 use Rattle.stdio.specs.Reading.{ReadAtMost}
-use Rattle.frame_stream.specs.Progress.{stateBetween, unconsumed}
+use Rattle.frame_stream.specs.Progress.{stateBetween, unconsumed, Reached, by-read}
 use Rattle.frame_stream.proofs.StreamLaws.{process-bounds}
-use Rattle.frame_stream.proofs.ProgressLaws.{reached-read, unconsumed-reached, consumed-reached}
-use mathlib.Core.Path.{sym, subst, _∙_}
+use Rattle.frame_stream.proofs.ProgressLaws.{next-called, consumed}
+use mathlib.Core.Path.{_≡_, refl, sym, subst, _∙_}
 use mathlib.Core.Bool.{false≢true}
+use mathlib.Core.List.{[]}
+use Rattle.text.specs.Text.{Text}
 use Prim.Native.Nat.{_-_, _≤_}
 use native.Mathlib.Omega.{arith}
 use lib.ListN.{length, drop, length-take}
@@ -44,16 +46,10 @@ returns c =
     let at-answer = c .before .before .before in
     let at-if1 = at-answer .before .before .before .before .before .before .before .before .before .before .before in
     let at-start = at-if1 .before in
-    let args = at-start .args in (
-      at-start .pre .0,
-      (
-        (λ e. unconsumed-reached (args .block .now) (args .at) (args .end)
-            (stateBetween (args .len) (args .k) (args .line .now) (args .bytes .now) (args .places .now) (args .store .now) (args .slots .now) (args .table .now)
-            (args .out .now))
-            _ (at-start .pre .1) (at-answer .answer .ensures)),
-        λ e. absurd (false≢true e),
-      ),
-    )
+    let args = at-start .args in
+    let state = (stateBetween (args .len) (args .k) (args .line .now) (args .bytes .now) (args .places .now) (args .store .now) (args .slots .now) (args .table .now)
+    (args .out .now)) in
+    (at-start .pre .0, ((λ e. next-called (args .block .now) (args .at) (args .end) state _ (at-answer .answer .ensures)), λ e. absurd (false≢true e)))
 
 read-requires : tie.Need-read-requires
 read-requires c κs = search needs
@@ -67,32 +63,18 @@ finish-requires c κs =
     let at-if1 = at-if2 .before .before .before .before .before .before in
     let at-start = at-if1 .before in
     let args = at-start .args in
-    consumed-reached (args .block .now) (args .at) (args .end)
-    (stateBetween (args .len) (args .k) (args .line .now) (args .bytes .now) (args .places .now) (args .store .now) (args .slots .now) (args .table .now)
-    (args .out .now))
-    (at-if1 .if1 .left) (at-start .pre .1)
+    let state = (stateBetween (args .len) (args .k) (args .line .now) (args .bytes .now) (args .places .now) (args .store .now) (args .slots .now) (args .table .now)
+    (args .out .now)) in
+    subst (λ (t : Text). Reached t state) (consumed (args .block .now) (args .at) (args .end) (at-if1 .if1 .left)) (at-start .pre .1)
 
 returns-2 : tie.Need-returns-2
 returns-2 c =
     let at-if2 = c .before .before .before .before .before .before .before .before in
     let at-if1 = at-if2 .before .before .before .before .before .before in
-    let at-start = at-if1 .before in
-    let args = at-start .args in
-    let f = c .finish .ensures in (
-      omega (arith, f .1 .1),
-      (
-        (λ e. absurd (false≢true (sym (f .1 .0) ∙ e))),
-        λ e. record {
-          state = (stateBetween (args .len) (args .k) (args .line .now) (args .bytes .now) (args .places .now) (args .store .now) (args .slots .now) (args .table .now)
-              (args .out .now));
-          reached = consumed-reached (args .block .now) (args .at) (args .end)
-              (stateBetween (args .len) (args .k) (args .line .now) (args .bytes .now) (args .places .now) (args .store .now) (args .slots .now) (args .table .now)
-              (args .out .now))
-              (at-if1 .if1 .left) (at-start .pre .1);
-          same = f .0;
-        },
-      ),
-    )
+    let args = at-if1 .before .args in
+    let none : unconsumed (args .block .now) (args .at) (args .end) ≡ [] = consumed (args .block .now) (args .at) (args .end) (at-if1 .if1 .left) in
+    let f = c .finish .ensures in
+    (omega (arith, f .1 .1), ((λ e. absurd (false≢true (sym (f .1 .0) ∙ e))), λ e. (none, f .0)))
 
 enum-told : tie.Need-enum-told
 enum-told c = search needs
@@ -108,19 +90,11 @@ returns-3 c =
     let at-n = c .before .before in
     let at-read = at-n .before .before in
     let at-if1 = at-read .before .before in
-    let at-start = at-if1 .before in
-    let args = at-start .args in
-    let state = (stateBetween (args .len) (args .k) (args .line .now) (args .bytes .now) (args .places .now) (args .store .now) (args .slots .now) (args .table .now)
-    (args .out .now)) in
-    let most : at-n .n .given .0 .0 ≤ length (args .block .now) = subst (ReadAtMost (length (args .block .now))) (at-n .n .given .1) (at-read .read .ensures) in
-    let n : at-n .n .given .0 .0 ≤ 65536 = omega (arith, most, at-read .before .read-arg .given .0 .1) in (
-      n,
-      (
-        (λ e. reached-read state (consumed-reached (args .block .now) (args .at) (args .end) state (at-if1 .if1 .left) (at-start .pre .1))
-            (unconsumed (at-read .read .last .1 .0) 0 (at-n .n .given .0 .0))),
-        λ e. absurd (false≢true e),
-      ),
-    )
+    let args = at-if1 .before .args in
+    let n = at-n .n .given .0 .0 in
+    let most : n ≤ length (args .block .now) = subst (ReadAtMost (length (args .block .now))) (at-n .n .given .1) (at-read .read .ensures) in
+    let within : n ≤ 65536 = omega (arith, most, at-read .before .read-arg .given .0 .1) in
+    (within, ((λ e. by-read (consumed (args .block .now) (args .at) (args .end) (at-if1 .if1 .left)) refl), λ e. absurd (false≢true e)))
 
 returns-4 : tie.Need-returns-4
 returns-4 c = (omega arith, ((λ e. absurd (false≢true e)), λ e. absurd (false≢true e)))
