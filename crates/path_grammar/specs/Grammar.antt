@@ -8,12 +8,16 @@ use mathlib.Core.Logic.{_↔_}
 use Prim.Native.Nat.{ℕ}
 use Rattle.text.specs.Text.{Text}
 use Rattle.text.specs.Bytes.{closeBrace, colon, dot, equalsSign, openBrace, slash}
-use Rattle.path_grammar.specs.Legal.{isIdentifierStart, isIdentifierCont, legal}
+use Rattle.path_grammar.specs.Legal.{isIdentifierStart, isIdentifierCont, isVariantByte, legal}
 
 -- Every byte is a letter, a digit or `_`.
 unfoldable pub allCont : Text → Bool
 allCont [] = true
 allCont (a ∷ r) = isIdentifierCont a && allCont r
+
+-- Every byte may be part of a variant.
+abbrev pub areVariantBytes : Text → Bool
+areVariantBytes t = allCont t
 
 -- A name. Requirements: "A name is a letter or `_`, then letters, digits, `_`."
 pub record Name : Type 0 where
@@ -26,8 +30,8 @@ pub record Name : Type 0 where
 pub record Word : Type 0 where
   pub first : ℕ
   pub more : Text
-  pub first-is : isIdentifierCont first ≡ true
-  pub more-are : allCont more ≡ true
+  pub first-is : isVariantByte first ≡ true
+  pub more-are : areVariantBytes more ≡ true
 
 -- A variant selection. Requirements: "`{set=sel}`"; "`set` is a name".
 pub record Selection : Type 0 where

@@ -18,6 +18,11 @@ unfoldable pub isIdentifierCont : ℕ → Bool
 unfolding isIdentifierStart
 isIdentifierCont a = isIdentifierStart a || leb digit0 a && leb a digit9
 
+-- The byte may be part of a variant. Requirements: "`sel` is one or more letters, digits, `_`." A predicate of its own, since the bytes of
+-- a variant and those of a name are two sentences of the requirements, which happen to agree.
+abbrev pub isVariantByte : ℕ → Bool
+isVariantByte a = isIdentifierCont a
+
 -- The text begins with a letter, a digit or `_`.
 abbrev pub startsName : Text → Bool
 startsName [] = false
@@ -53,8 +58,8 @@ step Slash a = cond (isIdentifierStart a) Name Dead
 step Name a = cond (isIdentifierCont a) Name (cond (eqb a slash) Slash (cond (eqb a openBrace) Opened (cond (eqb a dot) Dot Dead)))
 step Opened a = cond (isIdentifierStart a) Set Dead
 step Set a = cond (isIdentifierCont a) Set (cond (eqb a equalsSign) Equals Dead)
-step Equals a = cond (isIdentifierCont a) Sel Dead
-step Sel a = cond (isIdentifierCont a) Sel (cond (eqb a closeBrace) Closed Dead)
+step Equals a = cond (isVariantByte a) Sel Dead
+step Sel a = cond (isVariantByte a) Sel (cond (eqb a closeBrace) Closed Dead)
 step Closed a = cond (isIdentifierStart a) Name (cond (eqb a openBrace) Opened (cond (eqb a dot) Dot Dead))
 step Dot a = cond (isIdentifierStart a) Prop Dead
 step Prop a = cond (isIdentifierCont a) Prop (cond (eqb a colon) Dot Dead)
