@@ -177,31 +177,27 @@ fn step(
             done: false,
         };
     }
-    match stdio::read(STDIN_FILENO, block) {
-        stdio::Reading::Got(n) => {
-            if n == 0 {
-                return finish(line, len, k, bytes, places, store, slots, table, out);
-            }
-            StreamNow {
-                at: 0,
-                end: n,
-                len,
-                kept: k,
-                more: true,
-                done: false,
-            }
-        }
-        stdio::Reading::Failed => {
-            os::fail(b"frames: standard input");
-            StreamNow {
-                at: 0,
-                end: 0,
-                len,
-                kept: k,
-                more: false,
-                done: false,
-            }
-        }
+    let stdio::Reading::Got(n) = stdio::read(STDIN_FILENO, block) else {
+        os::fail(b"frames: standard input");
+        return StreamNow {
+            at: 0,
+            end: 0,
+            len,
+            kept: k,
+            more: false,
+            done: false,
+        };
+    };
+    if n == 0 {
+        return finish(line, len, k, bytes, places, store, slots, table, out);
+    }
+    StreamNow {
+        at: 0,
+        end: n,
+        len,
+        kept: k,
+        more: true,
+        done: false,
     }
 }
 

@@ -57,6 +57,18 @@ read-requires c κs = search needs
 enum-known-n : tie.Need-enum-known-n
 enum-known-n c = search needs
 
+enum-told : tie.Need-enum-told
+enum-told c = search needs
+
+slice-aggregate-fail : tie.Need-slice-aggregate-fail
+slice-aggregate-fail c = search needs
+
+fail-requires : tie.Need-fail-requires
+fail-requires c κs = search needs
+
+returns-2 : tie.Need-returns-2
+returns-2 c = (omega arith, ((λ e. absurd (false≢true e)), λ e. absurd (false≢true e)))
+
 finish-requires : tie.Need-finish-requires
 finish-requires c κs =
     let at-if2 = c .before .before .before .before .before .before .before in
@@ -67,8 +79,8 @@ finish-requires c κs =
     (args .out .now)) in
     subst (λ (t : Text). Reached t state) (consumed (args .block .now) (args .at) (args .end) (at-if1 .if1 .left)) (at-start .pre .1)
 
-returns-2 : tie.Need-returns-2
-returns-2 c =
+returns-3 : tie.Need-returns-3
+returns-3 c =
     let at-if2 = c .before .before .before .before .before .before .before .before in
     let at-if1 = at-if2 .before .before .before .before .before .before in
     let args = at-if1 .before .args in
@@ -76,17 +88,8 @@ returns-2 c =
     let f = c .finish .ensures in
     (omega (arith, f .1 .1), ((λ e. absurd (false≢true (sym (f .1 .0) ∙ e))), λ e. (none, f .0)))
 
-enum-told : tie.Need-enum-told
-enum-told c = search needs
-
-slice-aggregate-fail : tie.Need-slice-aggregate-fail
-slice-aggregate-fail c = search needs
-
-fail-requires : tie.Need-fail-requires
-fail-requires c κs = search needs
-
-returns-3 : tie.Need-returns-3
-returns-3 c =
+returns-4 : tie.Need-returns-4
+returns-4 c =
     let at-n = c .before .before in
     let at-read = at-n .before .before in
     let at-if1 = at-read .before .before in
@@ -95,9 +98,6 @@ returns-3 c =
     let most : n ≤ length (args .block .now) = subst (ReadAtMost (length (args .block .now))) (at-n .n .given .1) (at-read .read .ensures) in
     let within : n ≤ 65536 = omega (arith, most, at-read .before .read-arg .given .0 .1) in
     (within, ((λ e. by-read (consumed (args .block .now) (args .at) (args .end) (at-if1 .if1 .left)) refl), λ e. absurd (false≢true e)))
-
-returns-4 : tie.Need-returns-4
-returns-4 c = (omega arith, ((λ e. absurd (false≢true e)), λ e. absurd (false≢true e)))
 
 pub step-spec : {M : Type 1} → statement M
 step-spec =
@@ -111,10 +111,10 @@ step-spec =
     returns
     read-requires
     enum-known-n
-    finish-requires
-    returns-2
     enum-told
     slice-aggregate-fail
     fail-requires
+    returns-2
+    finish-requires
     returns-3
     returns-4)
