@@ -400,18 +400,20 @@ size_t mudvizsor_route_all(
    which is given without its newline, and writes the answer line with its newline to `out`. The value is the length
    written. A bad frame is not refused; its answer line is FF09.
 
-   Between two calls the caller keeps the state of the protocol unaltered:
+   Between two calls the caller keeps the state of the protocol:
        kept              five numbers, all 0 before the first call: pairs and bytes of the open list, legs and their
                          bytes, number of 05 frames that were answered with 00
        bytes, places     the open list
        store, slots      the pairs of the closed legs
        table             three numbers for each closed leg
-   The initial contents of the last five do not matter. If `bytes` or `store` is too short for a frame, the frame is
-   answered with 05; if its list or leg would exceed `places`, `slots` or `table`, it is answered with 04. Altering the
-   state between two calls changes the answers, but has no other effect.
+   The initial contents of the last five do not matter. What a frame uses of the state is checked in every call, so an
+   altered state gets the number of the first failed question as its answer: 02, 03 and 04 check the open list (1 to 4), 05
+   and 06 the legs (1 to 4; 4 for more than 16), 01, 03 and 04 compare the counters with the buffers and the limits (4 and
+   5). If `bytes` or `store` is too short for a frame, the frame is answered with 05; if its list or leg would exceed
+   `places`, `slots` or `table`, it is answered with 04. A frame that is answered with a number above 0 changes nothing.
 
    `kept` needs 5 numbers, `out` 515 bytes; the constants MUDVIZSOR_FRAMES_.. are enough for the other buffers.
-   Refusals: 5 if `kept` or `out` is too short. */
+   Refusals: 5 if `kept` or `out` is too short. A bad frame needs no more than the 5 bytes of its answer in `out`. */
 size_t mudvizsor_frames_line(
     const char *line, size_t line_length, size_t *kept, size_t kept_length, char *bytes, size_t bytes_length,
     size_t *places, size_t places_length, char *store, size_t store_length, size_t *slots, size_t slots_length,

@@ -802,7 +802,60 @@ static void test_frames(void) {
     check_path(entry, "514 lent bytes", frames_line("03", 5, buffers), buffers, MUDVIZSOR_NO_ROOM, "");
     buffers = lend(515, 0);
     check_path(entry, "4 kept numbers", frames_line("03", 4, buffers), buffers, MUDVIZSOR_NO_ROOM, "");
+    buffers = lend(5, 0);
+    check_path(entry, "a bad frame, 5 lent bytes", frames_line("0", 0, buffers), buffers, 0, "FF09\n");
+    buffers = lend(4, 0);
+    check_path(entry, "a bad frame, 4 lent bytes", frames_line("0", 5, buffers), buffers, MUDVIZSOR_NO_ROOM, "");
     check(memcmp(&frames, &before, sizeof frames) == 0, entry, "refused", "nothing is written");
+}
+
+/* Processes a line on altered memory: the answer is the number of a question, and nothing else changes. */
+static void check_altered(const char *what, const char *line, const char *answer) {
+    static struct frames_memory before;
+    struct buffers *buffers = lend(515, 0);
+    before = frames;
+    check_path("mudvizsor_frames_line", what, frames_line(line, 5, buffers), buffers, 0, answer);
+    check(memcmp(&frames, &before, sizeof frames) == 0, "mudvizsor_frames_line", what, "nothing is written");
+}
+
+static void test_altered_frames(void) {
+    memset(&frames, 0, sizeof frames);
+    frames_line("0100022F4100022F42", 5, lend(515, 0));
+    frames_line("03", 5, lend(515, 0));
+    frames_line("0100022F4100022F42", 5, lend(515, 0));
+    static struct frames_memory good;
+    good = frames;
+    frames.bytes[1] = '-';
+    check_altered("an illegal path in the open list", "02", "8202\n");
+    check_altered("an illegal path in the open list", "03", "8302\n");
+    check_altered("an illegal path in the open list", "04", "8402\n");
+    frames = good;
+    frames.places[1] = 256;
+    check_altered("a long path in the open list", "03", "8301\n");
+    frames = good;
+    frames.kept[0] = 65;
+    check_altered("65 pairs", "0100022F4100022F42", "8104\n");
+    check_altered("65 pairs", "04", "8404\n");
+    frames = good;
+    frames.kept[1] = sizeof frames.bytes + 1;
+    check_altered("bytes of the open list over the buffer", "0100022F4100022F42", "8105\n");
+    frames = good;
+    frames.store[1] = '.';
+    check_altered("an illegal list in the leg store", "052F412F43", "8502\n");
+    check_altered("an illegal list in the leg store", "062F422F43", "8602\n");
+    frames.slots[1] = 256;
+    check_altered("a long path in the leg store and an illegal path", "052D", "8501\n");
+    frames = good;
+    frames.kept[2] = 17;
+    check_altered("17 legs", "03", "8304\n");
+    check_altered("17 legs", "052F412F43", "8504\n");
+    check_altered("17 legs", "062F422F43", "8604\n");
+    frames = good;
+    frames.table[2] = 65;
+    check_altered("a leg of 65 pairs", "052F412F43", "8504\n");
+    frames = good;
+    frames.kept[3] = 32769;
+    check_altered("bytes of the legs over the limit", "03", "8305\n");
 }
 
 /* ---- Time offsets ---- */
@@ -927,7 +980,7 @@ int main(void) {
         test_path_tests, test_has_prefix, test_replace_prefix, test_parts, test_ancestors, test_mappings,
         test_damaged_lists, test_map_all, test_new, test_built_map_is_lent, test_pair_builds, test_map_builds,
         test_path_builds, test_rebases, test_two_builds, test_is_noop, test_analyses, test_chains, test_shifts, test_route_cases,
-        test_many_legs, test_route_all, test_frames, test_time_tests, test_resulting_times, test_bits, test_info,
+        test_many_legs, test_route_all, test_frames, test_altered_frames, test_time_tests, test_resulting_times, test_bits, test_info,
         test_plain_maps, test_times_of_maps,
     };
     for (size_t i = 0; i < LENGTH(tests); i++) tests[i]();

@@ -7,23 +7,9 @@ use lib.ListN.{length, length-append}
 use borrow.Author.Tests.{le-leb}
 use Rattle.text.specs.Text.{Text, writtenAt, writtenIfFits}
 use Rattle.pair_list_write.proofs.WriteBranches.{over-over}
-use Rattle.refusal.specs.declared.Refusal.{Refusal}
-use Rattle.refusal.specs.declared.Refusal.the-variants.{TooLong, Illegal, NotAnEnd, TooMany, NoRoom, NoPath, MadeTooLong, MadeIllegal}
-use Rattle.refusal.specs.Refusal.{refusalNumber}
 use Rattle.hex.specs.Hex.{encodeHex}
 use Rattle.hex.proofs.EncodeLaws.{encoded-length}
 use Rattle.frame_answer.specs.Answer.{lineText, WroteAt}
-
--- `number_byte`
-pub number-small : (x : Refusal) → refusalNumber x ≤ 8
-number-small TooLong = omega arith
-number-small Illegal = omega arith
-number-small NotAnEnd = omega arith
-number-small TooMany = omega arith
-number-small NoRoom = omega arith
-number-small NoPath = omega arith
-number-small MadeTooLong = omega arith
-number-small MadeIllegal = omega arith
 
 placed-fits : (at : ℕ) (t out : Text) → at + length t ≤ length out → writtenIfFits at t out ≡ writtenAt at t out
 unfolding writtenIfFits

@@ -13,7 +13,7 @@ use Rattle.refusal.specs.declared.Reply.the-variants.{Written, Refused}
 use Rattle.refusal.specs.Refusal.{refusalNumber}
 use Rattle.line_reader.specs.Lines.{Line}
 use Rattle.hex.specs.Hex.{encodeHex}
-use Rattle.frames_spec.specs.Frame.{Frame, decodeFrame}
+use Rattle.frames_spec.specs.Frame.{Frame}
 use Rattle.frames_spec.specs.Run.{nextState, answerFrame}
 use Rattle.frames_spec.specs.Input.{parseLine, nextLine, answerLine}
 use Rattle.frames_memory.specs.Memory.{FramesMemory, stepFrameIn}
@@ -45,11 +45,6 @@ PayloadFits (Refused x) room = 0 ≤ room
 -- The text t was written at offset `at`, and ends at `end`.
 unfoldable pub WroteAt : Text → ℕ → ℕ → Text → Text → Type 0
 WroteAt t at end before after = (end ≡ at + length t) × (after ≡ writtenAt at t before)
-
--- The line decodes to the first r bytes of the buffer, which parse to the line's frame.
-unfoldable pub ParsesLine : Line → ℕ → Text → Type 0
-unfolding parseLine decodeFrame
-ParsesLine l r bytes = (r ≤ length bytes) × (decodeFrame (take r bytes) ≡ parseLine l)
 
 -- The memory after a frame, or after a bad frame, and the reply line written.
 unfoldable pub AnswersFrame : Option Frame → FramesMemory → FramesMemory → ℕ → ℕ → Text → Text → Type 0

@@ -7,14 +7,13 @@ ghost use Prim.Native.Nat.{_+_, _*_, _≤_};
 ghost use lib.Dec.{leb};
 ghost use lib.ListN.{length, take};
 ghost use Rattle.text.specs.Text.{written};
-ghost use Rattle.refusal.specs.Refusal.{refusalNumber};
 ghost use Rattle.frames_spec.specs.State.{bigEndian32};
 ghost use Rattle.line_reader.specs.TakeLine.{lineInBuffer};
 ghost use Rattle.frames_spec.specs.Frame.{decodeFrame};
 ghost use Rattle.frames_memory.specs.Memory.{framesMemory, statusesIn, routePathIn};
 ghost use Rattle.frame_decode.specs.Header.{lastBytes, reach};
 ghost use Rattle.frame_apply.specs.Done.{Replies, RepliesPath, FrameDone, PairDone};
-ghost use Rattle.frame_answer.specs.Answer.{maxAnswerLine, lineText, replyLine, PayloadFits, WroteAt, ParsesLine, AnswersFrame, memoryAfterLine, outAfterLine, endAfterLine};
+ghost use Rattle.frame_answer.specs.Answer.{maxAnswerLine, lineText, replyLine, PayloadFits, WroteAt, AnswersFrame, memoryAfterLine, outAfterLine, endAfterLine};
 
 // The length of the longest reply line: two bytes and a path of 255, two digits each, and the newline.
 pub const MAX_ANSWER_LINE: usize = 515;
@@ -23,13 +22,6 @@ pub const MAX_ANSWER_LINE: usize = 515;
 pub struct AnsweredLine {
     pub kept: frames_memory::Counters,
     pub end: usize,
-}
-
-// The number of a refusal as a byte.
-fn number_byte(x: refusal::Refusal) -> u8
-    ensures { λ r. ⌜ r ≡ refusalNumber x ⌝ }
-{
-    refusal::number_of(x) as u8
 }
 
 // Writes a line of two bytes and a payload, in capital digits, and returns the offset after it.
@@ -173,7 +165,13 @@ fn write_reply(head: u8, reply: refusal::Reply, payload: &[u8], at: usize, out: 
 {
     match reply {
         refusal::Reply::Written(n) => write_line(head, 0, &payload[..n], at, out),
-        refusal::Reply::Refused(x) => write_line(head, number_byte(x), &payload[..0], at, out),
+        refusal::Reply::Refused(x) => write_line(
+            head,
+            frame_apply::number_byte(x),
+            &payload[..0],
+            at,
+            out,
+        ),
     }
 }
 
@@ -215,26 +213,6 @@ fn answer_frame(
     AnsweredLine { kept, end }
 }
 
-// Decodes the digits of a line to the beginning of the buffer and returns the number of bytes; 0 if the line
-// is overlong or not a line of digits.
-fn decode_line(line: &[u8], len: usize, frame: &mut [u8]) -> usize
-    requires { ⌜ length (now frame) ≡ 2048 ⌝ }
-    ensures { λ r. ⌜ ParsesLine (lineInBuffer len (now (line .entry))) r (now (frame .exit)) ⌝ }
-{
-    if 4096 < len {
-        return 0;
-    }
-    if line.len() < len {
-        return 0;
-    }
-    let d = hex::decode(&line[..len], frame);
-    match d {
-        hex::Decoded::Bytes(n) => n,
-        hex::Decoded::Bad => 0,
-        hex::Decoded::Over => 0,
-    }
-}
-
 // Returns whether there is space for the longest reply after `at` bytes.
 fn has_room(at: usize, len: usize) -> bool
     ensures { λ r. ⌜ r ≡ leb (at + maxAnswerLine) len ⌝ }
@@ -268,6 +246,6 @@ pub fn answer_line(
         return AnsweredLine { kept: k, end: at };
     }
     let mut frame = [0u8; 2048];
-    let n = decode_line(line, len, &mut frame);
+    let n = frame_decode::decode_line(line, len, &mut frame);
     answer_frame(&frame[..n], k, bytes, places, store, slots, table, at, out)
 }

@@ -9,6 +9,8 @@ use borrow.Author.Tests.{le-leb, lt-leb}
 use Rattle.text.specs.Text.{Text, written, writtenIfFits}
 use Rattle.text.proofs.WriteLaws.{placed-first}
 use Rattle.refusal.specs.declared.Refusal.{Refusal}
+use Rattle.refusal.specs.declared.Refusal.the-variants.{TooLong, Illegal, NotAnEnd, TooMany, NoRoom, NoPath, MadeTooLong, MadeIllegal}
+use Rattle.refusal.specs.Refusal.{refusalNumber}
 use Rattle.refusal.specs.declared.Validation.{Validation}
 use Rattle.refusal.specs.declared.Validation.the-variants.{Passed, Refused as RefusedValidation}
 use Rattle.refusal.specs.declared.Reply.{Reply}
@@ -30,6 +32,17 @@ use Rattle.frames_memory.specs.declared.Counters.{Counters}
 use Rattle.frames_memory.specs.Memory.{FramesMemory, framesMemory, openListOf, legStoreOf, emptyOpenList, addAfter, addIn, closeAfter, closeIn}
 use Rattle.frame_apply.specs.declared.Effect.{Effect}
 use Rattle.frame_apply.specs.Done.{StepDone, PairDone, CloseDone, countRoute}
+
+-- `number_byte`
+pub number-small : (x : Refusal) → refusalNumber x ≤ 8
+number-small TooLong = omega arith
+number-small Illegal = omega arith
+number-small NotAnEnd = omega arith
+number-small TooMany = omega arith
+number-small NoRoom = omega arith
+number-small NoPath = omega arith
+number-small MadeTooLong = omega arith
+number-small MadeIllegal = omega arith
 
 -- The facts that follow from the reply of adding a pair.
 done-is : (o p : OpenList) → Done o ≡ Done p → o ≡ p

@@ -1,6 +1,7 @@
 // The effect of a frame of the program `frames` on the open list, the legs and the counters, for any contents
 // of the lent buffers: crates/frames_memory/specs/Memory.antt defines it.
 ghost use mathlib.Core.Path.{_≡_};
+ghost use Rattle.refusal.specs.Refusal.{refusalNumber};
 ghost use Rattle.frames_memory.specs.Memory.{framesMemory};
 ghost use Rattle.frame_apply.specs.Done.{countRoute, PairDone, CloseDone};
 
@@ -9,6 +10,13 @@ ghost use Rattle.frame_apply.specs.Done.{countRoute, PairDone, CloseDone
 pub struct Effect {
     pub kept: frames_memory::Counters,
     pub reply: refusal::Reply,
+}
+
+// The number of a refusal as a byte.
+pub fn number_byte(x: refusal::Refusal) -> u8
+    ensures { λ r. ⌜ r ≡ refusalNumber x ⌝ }
+{
+    refusal::number_of(x) as u8
 }
 
 // Adds a pair to the open list.

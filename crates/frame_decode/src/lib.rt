@@ -1,9 +1,12 @@
-// Parses the bytes of a frame in place, without copying them.
+// Decodes the digits of a line, and parses the bytes of a frame in place, without copying them.
 ghost use mathlib.Core.Path.{_≡_};
 ghost use Prim.Native.Nat.{_+_, _*_, _≤_};
 ghost use lib.ListN.{length, getD};
+ghost use Rattle.hex.specs.Calls.{decodeBuffer};
+ghost use Rattle.line_reader.specs.TakeLine.{lineInBuffer};
 ghost use Rattle.frames_spec.specs.Frame.{add-pair, pair-payload, kinds, formOf, decodePayload, decodeForm, withKind, decodeFrame};
 ghost use Rattle.frame_decode.specs.Header.{decodedOf, decodedAlone};
+ghost use Rattle.frame_decode.specs.LineBytes.{lineBytes, decodedCount};
 
 // What a frame asks for, with the lengths of the texts that end it; specs/Header.antt defines the action that
 // each case denotes.
@@ -94,4 +97,24 @@ pub fn decode_frame(bytes: &[u8]) -> DecodedFrame
         return DecodedFrame::Bad;
     }
     decode_kind(bytes[0], &bytes[1..])
+}
+
+// Decodes the digits of a line of `len` bytes to the beginning of the buffer and returns the number of bytes; 0
+// if the line is overlong or not a line of digits, or if the bytes do not fit.
+pub fn decode_line(line: &[u8], len: usize, frame: &mut [u8]) -> usize
+    ensures { λ r. ⌜ r ≡ decodedCount (lineBytes (lineInBuffer len (now (line .entry)))) (length (now (frame .entry))) ⌝ }
+    ensures { λ r. ⌜ now (frame .exit) ≡ decodeBuffer (lineBytes (lineInBuffer len (now (line .entry)))) (now (frame .entry)) ⌝ }
+{
+    if 4096 < len {
+        return 0;
+    }
+    if line.len() < len {
+        return 0;
+    }
+    let d = hex::decode(&line[..len], frame);
+    match d {
+        hex::Decoded::Bytes(n) => n,
+        hex::Decoded::Bad => 0,
+        hex::Decoded::Over => 0,
+    }
 }

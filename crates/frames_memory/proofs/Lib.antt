@@ -5,6 +5,7 @@ pub mod LegLaws
 pub mod RouteLaws
 pub mod OpenListLaws
 pub mod ValidateLaws
+pub mod RouteValidLaws
 pub mod AddLaws
 pub mod CloseLaws
 pub mod Theorem

@@ -41,7 +41,7 @@ module _ (l : List Pair) (before after : Text) (later : List ℕ) where
       one i h = pairsIn-at store places (length l) i h ∙ rw (zero-add i) at (read-pairs l i 0 before after [] later refl h)
 
 -- A list held in the buffers is read back.
-read-standing : (l : List Pair) (store : Text) (slots : List ℕ) (at k : ℕ) → at ≤ length store → StoredAt store at (listText l)
+pub read-standing : (l : List Pair) (store : Text) (slots : List ℕ) (at k : ℕ) → at ≤ length store → StoredAt store at (listText l)
     → StoredAt slots k (listPlaces at l) → pairsIn store (drop k slots) (length l) ≡ l
 read-standing l store slots at k h e f =
     let b : length (take at store) ≡ at = length-take-le at store h in
@@ -65,10 +65,10 @@ module _ (v : LegStore) (k : ℕ) (x : Map) (h : HoldsLeg v k x) (room : v .legs
       let z : 3 * k + 0 ≡ 3 * k = omega arith in
       ap (λ (n : ℕ). getD (v .table) n 0) (sym z) ∙ stored-at (v .table) (legEntry k x) (3 * k) (h .numbers) 0 (omega arith)
 
-  first-is : firstAt (v .table) k ≡ 64 * k
+  pub first-is : firstAt (v .table) k ≡ 64 * k
   first-is = stored-at (v .table) (legEntry k x) (3 * k) (h .numbers) 1 (omega arith)
 
-  size-is : sizeAt (v .table) k ≡ length (x .pairs)
+  pub size-is : sizeAt (v .table) k ≡ length (x .pairs)
   size-is = stored-at (v .table) (legEntry k x) (3 * k) (h .numbers) 2 (omega arith)
 
   map-read : mapAt (mapsOf v) k ≡ x

@@ -48,6 +48,43 @@ impl Frames {
 #[cfg(test)]
 mod tests {
     use super::Frames;
+    use crate::ffi::frames::{MAX_ANSWER_LEN, OwnedState, line};
+    use crate::refusal::accepted;
+
+    fn answer(state: &mut OwnedState, frame: &str) -> String {
+        let mut out = [0; MAX_ANSWER_LEN];
+        let length = accepted(line(frame.as_bytes(), state.lend(), &mut out));
+        String::from_utf8_lossy(&out[..length - 1]).into_owned()
+    }
+
+    #[test]
+    fn an_altered_state_is_answered_with_a_number() {
+        let mut state = OwnedState::new();
+        for frame in ["0100022F4100022F42", "03", "0100022F4100022F42"] {
+            assert!(answer(&mut state, frame).ends_with("00"));
+        }
+        let mut illegal_list = state.clone();
+        illegal_list.lend().bytes[1] = b'-';
+        let mut illegal_leg = state.clone();
+        illegal_leg.lend().store[1] = b'-';
+        let mut many_legs = state.clone();
+        many_legs.lend().numbers[2] = 17;
+        let mut many_bytes = state.clone();
+        many_bytes.lend().numbers[3] = 32_769;
+        assert_eq!(["02", "03", "04"].map(|frame| answer(&mut illegal_list, frame)), ["8202", "8302", "8402"]);
+        assert_eq!(["052F41", "062F42"].map(|frame| answer(&mut illegal_leg, frame)), ["8502", "8602"]);
+        assert_eq!(["03", "052F41", "062F42"].map(|frame| answer(&mut many_legs, frame)), ["8304", "8504", "8604"]);
+        assert_eq!(answer(&mut many_bytes, "03"), "8305");
+        assert_eq!(answer(&mut state, "052F41"), "85002F42");
+    }
+
+    #[test]
+    fn a_bad_frame_needs_five_bytes() {
+        let mut state = OwnedState::new();
+        let mut out = [0; 5];
+        assert_eq!(accepted(line(b"0", state.lend(), &mut out)), 5);
+        assert_eq!(&out, b"FF09\n");
+    }
 
     #[test]
     fn the_scenario_of_line_7() {

@@ -1,4 +1,6 @@
-use Rattle.frame_answer.proofs.FrameBranches.{parsed-few, line-refused, line-room, line-answered}
+use mathlib.Core.Path.{refl}
+use Rattle.frame_decode.proofs.LineLaws.{line-within, line-parsed}
+use Rattle.frame_answer.proofs.FrameBranches.{line-refused, line-room, line-answered}
 use borrow.Author.Needs.{needs}
 use Rattle.frame_answer.proofs.answer_line.Statement.{statement}
 use Rattle.frame_answer.proofs.answer_line.Tie as tie
@@ -17,10 +19,10 @@ decode-line-requires : tie.Need-decode-line-requires
 decode-line-requires c κs = search needs
 
 array-share-prefix-frame : tie.Need-array-share-prefix-frame
-array-share-prefix-frame c = parsed-few _ _ _ (c .before .decode-line .ensures)
+array-share-prefix-frame c = line-within _ _ _ _ _ refl (c .before .decode-line .ensures)
 
 slice-aggregate-answer-frame : tie.Need-slice-aggregate-answer-frame
-slice-aggregate-answer-frame c = part-size _ _ (parsed-few _ _ _ (c .before .before .decode-line .ensures))
+slice-aggregate-answer-frame c = part-size _ _ (line-within _ _ _ _ _ refl (c .before .before .decode-line .ensures))
 
 answer-frame-requires : tie.Need-answer-frame-requires
 answer-frame-requires c κs =
@@ -53,7 +55,7 @@ returns-2 c =
     let at-decode-line = at-answer-frame .before .before .before .before .before .before .before .before .before in
     let at-if1 = at-decode-line .before .before in
     let at-has-room = at-if1 .before in
-    line-answered _ _ _ _ _ (at-has-room .has-room .ensures) (at-if1 .if1 .left) _ _ (at-decode-line .decode-line .ensures) _ _ _
+    line-answered _ _ _ _ _ (at-has-room .has-room .ensures) (at-if1 .if1 .left) _ (line-parsed _ _ _ _ _ refl (at-decode-line .decode-line .ensures)) _ _ _
     (at-answer-frame .answer-frame .ensures)
 
 pub answer-line-spec : {M : Type 1} → statement M

@@ -61,7 +61,8 @@ impl Default for OwnedState {
 }
 
 /// Executes the frame in `line`, which is given without its newline, and writes the answer line with its newline to `out`,
-/// which needs [`MAX_ANSWER_LEN`] bytes. The value is the length written.
+/// which needs [`MAX_ANSWER_LEN`] bytes, or 5 for a bad frame. The value is the length written. What the frame uses of the
+/// state is checked first, so a frame on an altered state is answered with the number of the question that failed.
 pub fn line(line: &[u8], state: LentState, out: &mut [u8]) -> Reply {
     entry!(mudvizsor_frames_line:
         text line, slots state.numbers, out state.bytes, slots state.places, out state.store, slots state.slots,

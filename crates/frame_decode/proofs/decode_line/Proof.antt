@@ -1,14 +1,14 @@
-use Rattle.frame_answer.proofs.FrameBranches.{parse-long, parse-beyond, parse-bytes, parse-bad, parse-over}
+use Rattle.frame_decode.proofs.LineLaws.{line-long, line-beyond, line-bytes, line-bad, line-over}
 use borrow.Author.Needs.{needs}
-use Rattle.frame_answer.proofs.decode_line.Statement.{statement}
-use Rattle.frame_answer.proofs.decode_line.Tie as tie
+use Rattle.frame_decode.proofs.decode_line.Statement.{statement}
+use Rattle.frame_decode.proofs.decode_line.Tie as tie
 use Rattle.text.proofs.WriteLaws.{part-size}
 
 returns : tie.Need-returns
-returns c = parse-long _ _ _ (c .if1 .taken)
+returns c = line-long _ _ _ (c .if1 .taken)
 
 returns-2 : tie.Need-returns-2
-returns-2 c = parse-beyond _ _ _ (c .if2 .taken)
+returns-2 c = line-beyond _ _ _ (c .if2 .taken)
 
 slice-aggregate-decode : tie.Need-slice-aggregate-decode
 slice-aggregate-decode c = part-size _ _ (c .before .if2 .left)
@@ -34,8 +34,7 @@ returns-3 c =
     let at-decode = at-d .before .before .before .before in
     let at-if2 = at-decode .before .before .before in
     let at-if1 = at-if2 .before in
-    let at-start = at-if1 .before .before .before in
-    parse-bytes _ _ (at-if1 .if1 .left) (at-if2 .if2 .left) _ _ _ (at-start .pre) (at-decode .decode .ensures .0) (at-decode .decode .ensures .1) _
+    line-bytes _ _ (at-if1 .if1 .left) (at-if2 .if2 .left) _ _ _ (at-decode .decode .ensures .0) (at-decode .decode .ensures .1) _
     (at-d .d .given .1)
 
 same-length-2 : tie.Need-same-length-2
@@ -46,8 +45,7 @@ returns-4 c =
     let at-decode = c .before .before .before .before in
     let at-if2 = at-decode .before .before .before in
     let at-if1 = at-if2 .before in
-    let at-start = at-if1 .before .before .before in
-    parse-bad _ _ (at-if1 .if1 .left) (at-if2 .if2 .left) _ _ _ (at-start .pre) (at-decode .decode .ensures .0) (at-decode .decode .ensures .1)
+    line-bad _ _ (at-if1 .if1 .left) (at-if2 .if2 .left) _ _ _ (at-decode .decode .ensures .0) (at-decode .decode .ensures .1)
     (c .enum-told .given .1)
 
 same-length-3 : tie.Need-same-length-3
@@ -58,8 +56,7 @@ returns-5 c =
     let at-decode = c .before .before .before .before in
     let at-if2 = at-decode .before .before .before in
     let at-if1 = at-if2 .before in
-    let at-start = at-if1 .before .before .before in
-    parse-over _ _ (at-if1 .if1 .left) (at-if2 .if2 .left) _ _ _ (at-start .pre) (at-decode .decode .ensures .0) (at-decode .decode .ensures .1)
+    line-over _ _ (at-if1 .if1 .left) (at-if2 .if2 .left) _ _ _ (at-decode .decode .ensures .0) (at-decode .decode .ensures .1)
     (c .enum-told2 .given .1)
 
 pub decode-line-spec : {M : Type 1} → statement M

@@ -1,8 +1,8 @@
 use native.Mathlib.Omega.{arith}
-use Rattle.frame_answer.proofs.LineBranches.{number-small}
+use Rattle.frame_apply.proofs.ApplyBranches.{number-small}
 use borrow.Author.Needs.{needs}
-use Rattle.frame_answer.proofs.number_byte.Statement.{statement}
-use Rattle.frame_answer.proofs.number_byte.Tie as tie
+use Rattle.frame_apply.proofs.number_byte.Statement.{statement}
+use Rattle.frame_apply.proofs.number_byte.Tie as tie
 
 number-of-requires : tie.Need-number-of-requires
 number-of-requires c κs = search needs
