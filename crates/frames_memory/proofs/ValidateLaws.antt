@@ -12,7 +12,8 @@ use Rattle.text.proofs.BoolLaws.{or-right}
 use Rattle.path_grammar.specs.Legal.{legal, isEnd}
 use Rattle.path_grammar.proofs.LegalLaws.{end-legal}
 use Rattle.pair_list.specs.Pair.{Pair, sourceAt, targetAt, allEnds}
-use Rattle.pair_list.specs.Places.{startAt, lengthAt, inStore, textAt, listPlaces, pairEntry, endBytes, isShortAt, placesShort, placesAll}
+use Rattle.text_list.specs.Places.{startAt, lengthAt, inStore, textAt}
+use Rattle.pair_list.specs.Places.{listPlaces, pairEntry, endBytes, isShortAt, placesShort, placesAll}
 use Rattle.pair_list.proofs.PlaceLaws.{pairsIn-source, pairsIn-target, short-at}
 use Rattle.refusal.specs.declared.Validation.the-variants.{Passed}
 use Rattle.validate.specs.Validate.{pairsOf, presentPlaces, listShort, listAll, countWithinLimit, every, firstFailed, validateCall}
@@ -45,7 +46,7 @@ module _ (m : FramesMemory) (st : State) (g : Represents m st) where
   open-read = opened .reads l (m .kept .opened) (m .bytes) (m .places) (g .opened)
 
   few : n ≤ 64
-  few = omega (arith, g .opened .pairs, g .within .pairs)
+  few = omega (arith, g .opened .number, g .within .pairs)
 
   held : n ≤ length (m .places) / 4
   held = omega (arith, few, g .large .places)
@@ -65,7 +66,7 @@ module _ (m : FramesMemory) (st : State) (g : Represents m st) where
   module _ (i : ℕ) (h : i < length l) where
     number : (c : ℕ) → c < 4 → getD (m .places) (4 * i + c) 0 ≡ getD (pairEntry (0 + endBytes (take i l)) (sourceAt l i) (targetAt l i)) c 0
     number c k =
-        ap (λ (p : List ℕ). getD p (4 * i + c) 0) (g .opened .numbers)
+        ap (λ (p : List ℕ). getD p (4 * i + c) 0) (g .opened .places)
         ∙ stored-at (written (listPlaces 0 l) (m .places)) (pairEntry (0 + endBytes (take i l)) (sourceAt l i) (targetAt l i)) (4 * i)
         (entry-at l 0 i (drop (length (listPlaces 0 l)) (m .places)) h) c k
 
@@ -93,23 +94,23 @@ module _ (m : FramesMemory) (st : State) (g : Represents m st) where
     source-there : textAt (m .bytes) (m .places) (2 * i) ≡ sourceAt l i
     source-there =
         let z : 2 * i ≡ 2 * i + 0 = omega arith in
-        ap (textAt (m .bytes) (m .places)) z ∙ sym (pairsIn-source (m .bytes) (m .places) n i (omega (arith, g .opened .pairs)))
+        ap (textAt (m .bytes) (m .places)) z ∙ sym (pairsIn-source (m .bytes) (m .places) n i (omega (arith, g .opened .number)))
         ∙ ap (λ (k : List Pair). sourceAt k i) open-read
 
     target-there : textAt (m .bytes) (m .places) (2 * i + 1) ≡ targetAt l i
-    target-there = sym (pairsIn-target (m .bytes) (m .places) n i (omega (arith, g .opened .pairs))) ∙ ap (λ (k : List Pair). targetAt k i) open-read
+    target-there = sym (pairsIn-target (m .bytes) (m .places) n i (omega (arith, g .opened .number))) ∙ ap (λ (k : List Pair). targetAt k i) open-read
 
   list-fits : listShort (openListOf m) ≡ true
   unfolding listShort placesShort
   list-fits =
       rw all-present
-      (by-twos (placesShort (m .bytes) (m .places)) (isShortAt (m .bytes) (m .places)) refl (λ k. refl) n (λ i h. pair-fits i (omega (arith, g .opened .pairs))))
+      (by-twos (placesShort (m .bytes) (m .places)) (isShortAt (m .bytes) (m .places)) refl (λ k. refl) n (λ i h. pair-fits i (omega (arith, g .opened .number))))
 
   list-all : (passes : Text → Bool) → ((i : ℕ) → (passes (sourceAt l i) ≡ true) × (passes (targetAt l i) ≡ true)) → listAll passes (openListOf m) ≡ true
   unfolding listAll placesAll
   list-all passes each =
       rw all-present
-      (by-twos (placesAll passes (m .bytes) (m .places)) (λ j. passes (textAt (m .bytes) (m .places) j)) refl (λ k. refl) n (λ i h. one i (omega (arith, g .opened .pairs))))
+      (by-twos (placesAll passes (m .bytes) (m .places)) (λ j. passes (textAt (m .bytes) (m .places) j)) refl (λ k. refl) n (λ i h. one i (omega (arith, g .opened .number))))
     where
       one : (i : ℕ) → i < length l → (passes (textAt (m .bytes) (m .places) (2 * i)) ≡ true) × (passes (textAt (m .bytes) (m .places) (2 * i + 1)) ≡ true)
       one i h = (rw (source-there i h) (each i .0), rw (target-there i h) (each i .1))
