@@ -10,7 +10,7 @@ use lib.Seq.{length-take-le, take-append-add, drop-append-add}
 use borrow.Author.Tests.{le-leb, lt-leb, leb-true, leb-false}
 use Rattle.text.specs.Text.{Text}
 use Rattle.text.proofs.BoolLaws.{known-true, known-false, and-l, and-r}
-use Rattle.pair_list.specs.Places.{inStore, textAt}
+use Rattle.text_list.specs.Places.{inStore, textAt}
 use Rattle.refusal.specs.declared.Refusal.{Refusal}
 use Rattle.refusal.specs.declared.Refusal.the-variants.{TooLong, TooMany, NoRoom}
 use Rattle.refusal.specs.declared.Validation.{Validation}

@@ -7,7 +7,7 @@ use mathlib.Core.List.{List, [], _∷_, _++_}
 use lib.Dec.{leb}
 use lib.ListN.{length, getD, take, drop}
 use Rattle.text.specs.Text.{Text}
-use Rattle.pair_list.specs.Places.{inStore, textAt}
+use Rattle.text_list.specs.Places.{inStore, textAt}
 use Rattle.refusal.specs.declared.Refusal.{Refusal}
 use Rattle.refusal.specs.declared.Refusal.the-variants.{TooLong, TooMany, NoRoom}
 use Rattle.refusal.specs.declared.Validation.{Validation}

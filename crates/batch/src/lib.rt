@@ -4,7 +4,7 @@ ghost use mathlib.Core.Path.{_≡_};
 ghost use mathlib.Core.Bool.{true};
 ghost use Prim.Native.Nat.{_+_, _*_, _≤_, _<_};
 ghost use lib.ListN.{length, set};
-ghost use Rattle.pair_list.specs.Places.{inStore};
+ghost use Rattle.text_list.specs.Places.{inStore};
 ghost use Rattle.refusal.specs.Outcome.{outcomeReply, ReturnsPath};
 ghost use Rattle.ffi_values.specs.Code.{replyCode};
 ghost use mathlib.Core.List.{[]};
@@ -113,7 +113,7 @@ fn map_spot(
     if !is_inside(texts, spots, i) {
         return refusal::Reply::Refused(refusal::Refusal::TooLong);
     }
-    let path = pair_list::text_at(texts, spots, i);
+    let path = text_list::text_at(texts, spots, i);
     map_one(list, by, store, places, legs, path, out)
 }
 

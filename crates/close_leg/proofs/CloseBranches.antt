@@ -5,10 +5,10 @@ use mathlib.Core.List.{List, [], _∷_, _++_, append-assoc}
 use Prim.Native.Nat.{ℕ, suc, _+_, _*_, _-_, _/_, _≤_, _<_}
 use native.Mathlib.Omega.{arith}
 use lib.Dec.{leb}
-use lib.ListN.{length, set, take, drop, length-drop, take-append-drop}
+use lib.ListN.{length, take, drop, length-drop, take-append-drop}
 use lib.Seq.{drop-append-le, drop-drop, length-take-le}
 use borrow.Author.Tests.{le-leb, lt-leb, leb-true}
-use Rattle.text.specs.Text.{Text, written, writtenAt}
+use Rattle.text.specs.Text.{Text, written, writtenAt, writtenIfFits}
 use Rattle.text.proofs.BoolLaws.{and-l, and-r, and-yes, known-false, known-true}
 use Rattle.pair_list.specs.Pair.{Pair}
 use Rattle.pair_list.specs.Places.{pairsIn, listPlaces, endBytes}
@@ -18,7 +18,7 @@ use Rattle.pair_list_write.specs.declared.Room.the-variants.{Left, Over}
 use Rattle.pair_list.proofs.PlaceLaws.{pairsIn-length}
 use Rattle.pair_list.proofs.ListLaws.{places-length}
 use Rattle.pair_list_write.proofs.RoomBranches.{left-fits, over-full}
-use Rattle.pair_list_write.proofs.WriteBranches.{three-stored}
+use Rattle.route_legs.proofs.LegBranches.{leg-written}
 use Rattle.refusal.specs.declared.Refusal.{Refusal}
 use Rattle.refusal.specs.declared.Refusal.the-variants.{TooMany, NoRoom}
 use Rattle.refusal.specs.declared.Validation.{Validation}
@@ -114,8 +114,9 @@ module _ (l : List Pair) (g : LegTotals) (store : Text) (slots table : List ℕ)
             rw (known-true e h, z, le-leb (g .bytes + endBytes l) 32768 (omega (arith, m, total)), le-leb (g .bytes + endBytes l) (length store) (omega (arith, m, total, o))) refl
 
 -- `write_leg_entry`
-pub entry-known : (l : List ℕ) (j m a b : ℕ) (mark : Bool) → m ≡ cond mark 1 0 → j + 3 ≤ length l → set (set (set l j m) (j + 1) a) (j + 2) b ≡ writtenAt j (cond mark 1 0 ∷ a ∷ b ∷ []) l
-entry-known l j m a b mark e h = rw (← e) (three-stored l j m a b h)
+pub entry-known : (l : List ℕ) (j m a b : ℕ) (mark : Bool) → m ≡ cond mark 1 0 → 3 * j + 3 ≤ length l
+    → (l′ : List ℕ) → l′ ≡ writtenIfFits (3 * j) (m ∷ a ∷ b ∷ []) l → l′ ≡ writtenAt (3 * j) (cond mark 1 0 ∷ a ∷ b ∷ []) l
+entry-known l j m a b mark e h l′ w = rw (← e) (leg-written j m a b l h l′ w)
 
 -- `close_list`
 reply-passed : (a : Validation) (g h : LegTotals) (n : ℕ) → closedReply a g n ≡ Done h → a ≡ Passed

@@ -87,10 +87,7 @@ fn write_leg_entry(k: usize, mark: bool, w: usize, table: &mut [usize])
     requires { ⌜ (k < 16) × (3 * k + 3 ≤ length (now table)) ⌝ }
     ensures { λ _. ⌜ now (table .exit) ≡ writtenAt (3 * k) (cond mark 1 0 ∷ 64 * k ∷ w ∷ []) (now (table .entry)) ⌝ }
 {
-    let j = 3 * k;
-    table[j] = mark_number(mark);
-    table[j + 1] = 64 * k;
-    table[j + 2] = w;
+    route_legs::write_leg(k, mark_number(mark), 64 * k, w, table);
 }
 
 // Closes the first n pairs as a leg; its map has the mark if `mark` is set or a pair is `/`→`/`.

@@ -7,16 +7,18 @@ use Prim.Native.Nat.{ℕ, _+_, _*_, _≤_, _<_}
 use native.Mathlib.Omega.{arith}
 use native.Mathlib.Numerals.{add-one}
 use lib.ListN.{length, length-append}
-use Rattle.text.specs.Text.{Text, writtenAt}
+use Rattle.text.specs.Text.{Text}
 use Rattle.pair_list.specs.Pair.{Pair, pair, everyEnd}
-use Rattle.pair_list.specs.Places.{keyAt, pairIn, pairsIn, pairEntry, endBytes}
+use Rattle.pair_list.specs.Places.{keyAt, pairIn, pairsIn, endBytes}
+use Rattle.pair_list_write.specs.Packed.{PackedList, AppendedPair}
 use Rattle.pair_list_write.proofs.RoomBranches.{end-snoc}
+use Rattle.pair_list_write.proofs.PackedLaws.{holds-none, packed-list, packed-more}
 use Rattle.map_spec.specs.Map.{Map, mapTargetToSource}
 use Rattle.map_spec.specs.Compose.{composedPair, hasSource, addIfNewSource, pulledBack, composedPairs}
 use Rattle.pair_buffer.proofs.PairBufferLaws.{map-snoc}
-use Rattle.compose_pairs.specs.ComposePairs.{mapPlainly, imageLength, composedTarget, atMost511, PackedList}
+use Rattle.compose_pairs.specs.ComposePairs.{mapPlainly, imageLength, composedTarget, atMost511}
 use Rattle.compose_pairs.proofs.LengthLaws.{bounded-keys, plain-length, composed-length}
-use Rattle.compose_pairs.proofs.PackLaws.{Longer, packed-none, packed-list, packed-on, packed-more}
+use Rattle.compose_pairs.proofs.PackLaws.{Longer, packed-on}
 
 -- Pair i in lent memory, by its keys.
 pair-keys : (store : Text) (places : List ℕ) (i : ℕ) → pairIn store places i ≡ record { source = keyAt store places false i; target = keyAt store places true i }
@@ -42,18 +44,18 @@ module _ (m : Map) (em : everyEnd atMost511 (m .pairs) ≡ true) (store : Text) 
   composed-is = ap (λ (x : Pair). composedPair m x) (pair-keys store places i) ∙ rw (← es, ← et) refl
 
   pub compose-next : (o : Text) (p : List ℕ) (bytes bytes′ : Text) (slots slots′ : List ℕ) (end : ℕ) → PackedList (map (composedPair m) (pairsIn store places i)) i at o p bytes slots
-      → end ≡ at + (length s + length (composedTarget m t)) → bytes′ ≡ writtenAt at (s ++ composedTarget m t) bytes → slots′ ≡ writtenAt (4 * i) (pairEntry at s (composedTarget m t)) slots
+      → AppendedPair (pair s (composedTarget m t)) i at bytes slots end bytes′ slots′
       → PackedList (map (composedPair m) (pairsIn store places (i + 1))) (i + 1) end o p bytes′ slots′
   unfolding pairsIn
-  compose-next o p bytes bytes′ slots slots′ end c e f g =
+  compose-next o p bytes bytes′ slots slots′ end c a =
       let l : List Pair = map (composedPair m) (pairsIn store places i) in
       let z : map (composedPair m) (pairsIn store places i ++ pairIn store places i ∷ []) ≡ l ++ pair s (composedTarget m t) ∷ []
       = map-snoc (composedPair m) (pairsIn store places i) (pairIn store places i) ∙ ap (λ (x : Pair). l ++ x ∷ []) composed-is in
-      rw (add-one i, z) (rw (add-one i) at (packed-more l i at o p bytes slots c s (composedTarget m t) end bytes′ slots′ e f g))
+      rw (add-one i, z) (rw (add-one i) at (packed-more l i at o p bytes slots c (pair s (composedTarget m t)) end bytes′ slots′ a))
 
 pub compose-begin : (m : Map) (store : Text) (places : List ℕ) (bytes : Text) (slots : List ℕ) → PackedList (map (composedPair m) (pairsIn store places 0)) 0 0 bytes slots bytes slots
 unfolding pairsIn
-compose-begin m store places bytes slots = packed-none bytes slots
+compose-begin m store places bytes slots = holds-none bytes slots
 
 pub compose-end : (m : Map) (store : Text) (places : List ℕ) (n i at : ℕ) (o : Text) (p : List ℕ) (bytes : Text) (slots : List ℕ) → n ≤ i → i ≤ n
     → PackedList (map (composedPair m) (pairsIn store places i)) i at o p bytes slots → at ≤ 1534 * i

@@ -12,13 +12,14 @@ use Rattle.text.proofs.BoolLaws.{eqb-self, not-true, not-false, told, known-fal
 use Rattle.text.proofs.TextLaws.{equal-is, equal-self, last-some, last-after}
 use Rattle.path_grammar.specs.Legal.{isRoot}
 use Rattle.path_join.specs.Join.{separator, body, join}
-use Rattle.pair_list.specs.Pair.{Pair}
+use Rattle.pair_list.specs.Pair.{Pair, pair}
 use Rattle.pair_list.specs.Places.{keyAt, pairsIn}
 use Rattle.map_spec.specs.Compose.{hasSource, addIfNewSource}
-use Rattle.pair_buffer.proofs.PairBufferLaws.{pair-done}
+use Rattle.pair_list_write.specs.Packed.{PackedList}
+use Rattle.pair_list_write.proofs.PushBranches.{pair-done}
+use Rattle.pair_list_write.proofs.PackedLaws.{packed-more}
 use Rattle.pair_buffer.proofs.SourceLaws.{source-begin, source-found, source-on, source-end}
-use Rattle.compose_pairs.specs.ComposePairs.{pathIfMarked, imageLength, PackedList}
-use Rattle.compose_pairs.proofs.PackLaws.{packed-more}
+use Rattle.compose_pairs.specs.ComposePairs.{pathIfMarked, imageLength}
 
 -- `is_joined`
 module _ (s t r : Text) where
@@ -79,7 +80,7 @@ module _ (l : List Pair) (n at : ℕ) (bytes : Text) (slots : List ℕ) (h : Pac
   unfolding addIfNewSource
   add-new f room more k e once twice slots′ o u v =
       let d = pair-done q t at n (length t) bytes once twice slots slots′ room more refl o (rw e at u) (rw e at v) in
-      rw (told g f) (packed-more l n at bytes slots bytes slots h q t (at + k + length t) twice slots′ (omega arith) (d .1 .0) (d .1 .1))
+      rw (told g f, e) (packed-more l n at bytes slots bytes slots h (pair q t) (at + length q + length t) twice slots′ d)
 
 -- `pull_back_pair`: o is the outer source mapped back through the inner map.
 module _ (s : Text) (o : Option Text) (mark : Bool) (e : o ≡ pathIfMarked mark s) where

@@ -6,12 +6,12 @@ use mathlib.Core.Option.{Option, none, some}
 use Prim.Native.Nat.{ℕ, _+_, _/_}
 use lib.Dec.{leb}
 use lib.ListN.{length}
-use Rattle.text.specs.Text.{Text, written, writtenIfFits}
+use Rattle.text.specs.Text.{Text, writtenIfFits}
 use Rattle.pair_list.specs.Pair.{Pair, everyEnd}
-use Rattle.pair_list.specs.Places.{pairsIn, listText, listPlaces, endBytes}
+use Rattle.pair_list.specs.Places.{endBytes}
 use Rattle.map_spec.specs.Map.{Map, mapSourceToTarget, mapTargetToSource}
 use Rattle.map_spec.specs.Compose.{composedPair, composedPairs}
-use Rattle.pair_buffer.specs.PairBuffer.{ScratchRoom}
+use Rattle.pair_list_write.specs.Packed.{ScratchRoom}
 use Rattle.pair_buffer.specs.Ends.{atMost}
 use Rattle.compose_pairs.specs.declared.Image.{Image}
 use Rattle.compose_pairs.specs.declared.Image.the-variants.{Nothing, Made}
@@ -72,14 +72,3 @@ composedOrNone outer inner room slots = cond (composeFits (outer .pairs) (inner 
 -- The number of pairs and bytes of a list.
 abbrev pub builtOf : List Pair → Built
 builtOf l = record { n = length l; at = endBytes l }
-
--- The list was written over the beginning of the buffers, packed as a written list is: n pairs and `at` bytes; the remainder is unchanged.
-pub record PackedList (l : List Pair) (n at : ℕ) (bytes : Text) (slots : List ℕ) (bytes′ : Text) (slots′ : List ℕ) : Type 0 where
-  pub number : n ≡ length l
-  pub end : at ≡ endBytes l
-  pub text : bytes′ ≡ written (listText l) bytes
-  pub places : slots′ ≡ written (listPlaces 0 l) slots
-
--- The first n pairs of the buffers are packed this way: writing them again would change nothing.
-abbrev pub IsPacked : ℕ → ℕ → Text → List ℕ → Type 0
-IsPacked n at bytes slots = PackedList (pairsIn bytes slots n) n at bytes slots bytes slots

@@ -2,17 +2,19 @@
 // buffer (the two loops of Rust's `MapFunction::compose`).
 ghost use mathlib.Core.Path.{_≡_};
 ghost use mathlib.Core.Bool.{true, false};
-ghost use mathlib.Core.List.{_++_, map as mapped};
+ghost use mathlib.Core.List.{map as mapped};
 ghost use mathlib.Core.Option.{some};
 ghost use Prim.Native.Nat.{_+_, _*_, _≤_};
 ghost use lib.Dec.{leb};
 ghost use lib.ListN.{length};
-ghost use Rattle.text.specs.Text.{equal, written, writtenAt, writtenIfFits};
+ghost use Rattle.text.specs.Text.{equal, written, writtenIfFits};
 ghost use Rattle.path_join.specs.Join.{join};
-ghost use Rattle.pair_list.specs.Places.{pairsIn, pairEntry, listText, listPlaces};
+ghost use Rattle.pair_list.specs.Pair.{pair};
+ghost use Rattle.pair_list.specs.Places.{pairsIn, listText, listPlaces};
+ghost use Rattle.pair_list_write.specs.Packed.{PackedList, IsPacked, AppendedPair};
 ghost use Rattle.map_spec.specs.Map.{lentMap};
 ghost use Rattle.map_spec.specs.Compose.{composedPair, hasSource, addIfNewSource, pulledBack, composedPairs};
-ghost use Rattle.compose_pairs.specs.ComposePairs.{mapPlainly, pathIfMarked, image, imageLength, imageBuffer, composedTarget, composeFits, CanCompose, builtOf, composedOrNone, PackedList, IsPacked};
+ghost use Rattle.compose_pairs.specs.ComposePairs.{mapPlainly, pathIfMarked, image, imageLength, imageBuffer, composedTarget, composeFits, CanCompose, builtOf, composedOrNone};
 
 // The result of mapping a text: no path, or the length of the path made.
 enum Image {
@@ -113,9 +115,7 @@ fn compose_pair(
 ) -> usize
     requires { ⌜ at + (length (now s) + length (composedTarget (lentMap (now store) (now places) count mark) (now t))) ≤ length (now bytes) ⌝ }
     requires { ⌜ 4 * n + 4 ≤ length (now slots) ⌝ }
-    ensures { λ r. ⌜ r ≡ at + (length (now (s .entry)) + length (composedTarget (lentMap (now (store .entry)) (now (places .entry)) count mark) (now (t .entry)))) ⌝ }
-    ensures { λ r. ⌜ now (bytes .exit) ≡ writtenAt at (now (s .entry) ++ composedTarget (lentMap (now (store .entry)) (now (places .entry)) count mark) (now (t .entry))) (now (bytes .entry)) ⌝ }
-    ensures { λ r. ⌜ now (slots .exit) ≡ writtenAt (4 * n) (pairEntry at (now (s .entry)) (composedTarget (lentMap (now (store .entry)) (now (places .entry)) count mark) (now (t .entry)))) (now (slots .entry)) ⌝ }
+    ensures { λ r. ⌜ AppendedPair (pair (now (s .entry)) (composedTarget (lentMap (now (store .entry)) (now (places .entry)) count mark) (now (t .entry)))) n at (now (bytes .entry)) (now (slots .entry)) r (now (bytes .exit)) (now (slots .exit)) ⌝ }
 {
     text::write_at(s, at, bytes);
     let m = at + s.len();

@@ -40,14 +40,14 @@ module _ (m : FramesMemory) (st : State) (g : Represents m st) (s t : Text) wher
   -- The ends have at most 255 bytes, and there is space for 64 pairs of such ends.
   module _ (e : validateCall [] two two ≡ Passed) (h : hasPairRoom st ≡ true) where
     fewer : suc k ≤ 64
-    fewer = omega (arith, g .opened .pairs, leb-true (suc (length (st .opened))) 64 h)
+    fewer = omega (arith, g .opened .number, leb-true (suc (length (st .opened))) 64 h)
 
     slots-fit : 4 * suc k ≤ length (m .places)
     slots-fit = omega (arith, fewer, g .large .places)
 
     bytes-fit : b + (length s + length t) ≤ length (m .bytes)
     bytes-fit =
-        omega (arith, text-short [] s (t ∷ []) two e, second-short [] s t [] two e, g .opened .size, short-bytes (st .opened) (g .short), g .opened .pairs, fewer, g .large .bytes)
+        omega (arith, text-short [] s (t ∷ []) two e, second-short [] s t [] two e, g .opened .end, short-bytes (st .opened) (g .short), g .opened .number, fewer, g .large .bytes)
 
   -- The validation on the buffers agrees with that of the protocol.
   add-validated : validateAdd (m .kept .opened) s t (length (m .bytes)) (length (m .places)) ≡ refusedOr (validateCall [] two two) Refused (cond (hasPairRoom st) Passed (Refused TooMany))
@@ -59,7 +59,7 @@ module _ (m : FramesMemory) (st : State) (g : Represents m st) (s t : Text) wher
           ≡ refusedOr a Refused (cond c Passed (Refused TooMany))
       go Passed e true h =
           rw (le-leb (suc k) 64 (fewer e h), le-leb (4 * suc k) (length (m .places)) (slots-fit e h), le-leb (b + (length s + length t)) (length (m .bytes)) (bytes-fit e h)) refl
-      go Passed e false h = rw (lt-leb (suc k) 64 (omega (arith, g .opened .pairs, leb-false (suc (length (st .opened))) 64 h))) refl
+      go Passed e false h = rw (lt-leb (suc k) 64 (omega (arith, g .opened .number, leb-false (suc (length (st .opened))) 64 h))) refl
       go (Refused x) e c h = refl
 
   module _ (e : validateCall [] two two ≡ Passed) (h : hasPairRoom st ≡ true) where

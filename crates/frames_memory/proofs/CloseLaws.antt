@@ -111,7 +111,7 @@ module _ (m : FramesMemory) (st : State) (g : Represents m st) where
       holds-more : Represents after ((withClosedLeg st x n) .state)
       unfolding after withLeg allEnds allShort listText listPlaces endBytes
       holds-more = record {
-        opened = record { pairs = refl; size = refl; text = refl; numbers = refl };
+        opened = record { number = refl; end = refl; text = refl; places = refl };
         ends = refl;
         short = refl;
         legs =

@@ -29,7 +29,7 @@ use Rattle.frames_memory.proofs.CloseLaws.{same-close}
 begins : (m : FramesMemory) → LargeEnough m → m .kept ≡ initialCounters → Represents m initialState
 unfolding allEnds allShort listText listPlaces endBytes
 begins m large e = record {
-  opened = record { pairs = ap (λ k. k .opened .pairs) e; size = ap (λ k. k .opened .bytes) e; text = refl; numbers = refl };
+  opened = record { number = ap (λ k. k .opened .pairs) e; end = ap (λ k. k .opened .bytes) e; text = refl; places = refl };
   ends = refl;
   short = refl;
   legs = record { count = ap (λ k. k .legs .count) e; each = λ k l. absurd (omega arith) };
@@ -45,7 +45,7 @@ module _ (m : FramesMemory) (st : State) (g : Represents m st) where
   same-statuses =
       rw (list-passes m st g)
       (ap (λ (l : List Pair). success (statusList l (m .kept .opened .pairs))) (open-read m st g)
-      ∙ ap (λ (n : ℕ). success (statusList (st .opened) n)) (g .opened .pairs))
+      ∙ ap (λ (n : ℕ). success (statusList (st .opened) n)) (g .opened .number))
 
   same-count : (o : Outcome) → SameStep (countIn m o) (answerOut st o)
   same-count o = record {

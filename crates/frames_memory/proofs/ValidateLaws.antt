@@ -13,7 +13,8 @@ use Rattle.text.proofs.BoolLaws.{or-right}
 use Rattle.path_grammar.specs.Legal.{legal, isEnd}
 use Rattle.path_grammar.proofs.LegalLaws.{end-legal}
 use Rattle.pair_list.specs.Pair.{Pair, sourceAt, targetAt, allEnds, allShort}
-use Rattle.pair_list.specs.Places.{startAt, lengthAt, inStore, textAt, listPlaces, pairEntry, endBytes, isShortAt, placesShort, placesAll}
+use Rattle.text_list.specs.Places.{startAt, lengthAt, inStore, textAt}
+use Rattle.pair_list.specs.Places.{listPlaces, pairEntry, endBytes, isShortAt, placesShort, placesAll}
 use Rattle.pair_list.proofs.PlaceLaws.{pairsIn-source, pairsIn-target, short-at}
 use Rattle.refusal.specs.declared.Validation.the-variants.{Passed}
 use Rattle.validate.specs.Validate.{LentList, pairsOf, presentPlaces, listShort, listAll, countWithinLimit, every, firstFailed, validateCall}

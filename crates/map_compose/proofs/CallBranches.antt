@@ -27,9 +27,9 @@ use Rattle.map_spec.specs.Compose.{isPathIdentity, composedPairs, compose}
 use Rattle.map_function.specs.declared.MapFunction.{MapFunction}
 use Rattle.map_function.specs.MapFunction.{listOf, mapOf}
 use Rattle.map_function.specs.MapOutcome.{map, refused, requireListRoom, withinLimits, withoutDropping, fromPartsOutcome, countInSlice}
-use Rattle.pair_buffer.specs.PairBuffer.{HoldsList, ScratchRoom}
+use Rattle.pair_list_write.specs.Packed.{HoldsList, ScratchRoom}
 use Rattle.pair_buffer.specs.Ends.{fromEndsGiven, fromEnds}
-use Rattle.pair_buffer.proofs.PairBufferLaws.{holds-list, built-held}
+use Rattle.pair_list_write.proofs.PackedLaws.{holds-list, holds-inside}
 use Rattle.pair_buffer.proofs.MapLaws.{identity-lent, held-all, limited-map, fromEnds-map}
 use Rattle.compose_pairs.specs.ComposePairs.{composeFits}
 use Rattle.compose_pairs.proofs.ComposeFitsBranches.{enough-yes}
@@ -72,7 +72,7 @@ pub built-map : (outer inner : Map) → allEnds (outer .pairs) ≡ true → allE
 unfolding composeLists fromEnds
 built-map outer inner eo ei time out slots n at bytes own c mark e =
     rw (
-      held-all bytes own n (fromEndsGiven true (pairsIn bytes own n) mark time out slots) (omega (arith, built-held (composedPairs outer inner) n at bytes own c)),
+      held-all bytes own n (fromEndsGiven true (pairsIn bytes own n) mark time out slots) (omega (arith, holds-inside (composedPairs outer inner) n at bytes own c)),
       holds-list (composedPairs outer inner) n at bytes own c,
       ends-legal (composedPairs outer inner) (composed-ends outer inner eo ei),
       e,

@@ -4,7 +4,7 @@ ghost use Prim.Native.Nat.{_+_};
 ghost use Rattle.validate.specs.Validate.{ValidList};
 ghost use Rattle.map_function.specs.MapFunction.{listOf, mapOf};
 ghost use Rattle.map_function.specs.MapOutcome.{ReturnsMap};
-ghost use Rattle.pair_buffer.specs.PairBuffer.{ScratchRoom};
+ghost use Rattle.pair_list_write.specs.Packed.{ScratchRoom};
 ghost use Rattle.map_compose.specs.Calls.{composedTime, composeLists, composeCall};
 
 // The time offset of the composed map.

@@ -1,13 +1,13 @@
 -- Lemmas about the branches of the functions of `deepen_to`.
 use mathlib.Core.Path.{_≡_, refl, sym, ap, _∙_}
 use mathlib.Core.Bool.{Bool, true, false, not, cond}
-use mathlib.Core.List.{List, [], _∷_, _++_}
+use mathlib.Core.List.{List, [], _∷_}
 use mathlib.Core.Option.{Option, none, some, Option·getD}
 use Prim.Native.Nat.{ℕ, _+_, _*_, _≤_, _<_}
 use native.Mathlib.Omega.{arith}
 use lib.ListN.{length, take}
 use borrow.Author.Tests.{lt-leb}
-use Rattle.text.specs.Text.{Text, equal, writtenAt, writtenIfFits, fitOf}
+use Rattle.text.specs.Text.{Text, equal, writtenIfFits, fitOf}
 use Rattle.text.specs.declared.Fit.{Fit}
 use Rattle.text.specs.declared.Fit.the-variants.{Written}
 use Rattle.text.proofs.BoolLaws.{told, not-true, not-false}
@@ -20,13 +20,13 @@ use Rattle.path_parts.proofs.StripLaws.{strip-shorter, strip-length, strip-back
 use Rattle.layer_offset.specs.declared.LayerOffset.{LayerOffset}
 use Rattle.map_deepen.specs.declared.ClassSoFar.{ClassSoFar}
 use Rattle.pair_list.specs.Pair.{Pair, pair, allShort}
-use Rattle.pair_list.specs.Places.{keyAt, pairIn, pairsIn, pairEntry}
+use Rattle.pair_list.specs.Places.{keyAt, pairIn, pairsIn}
 use Rattle.pair_list.specs.BestStep.{bestKept, indexKept}
 use Rattle.pair_list.specs.LongestMatch.{longestBy}
 use Rattle.pair_list.proofs.BestLaws.{search-none, step-fails, step-lighter, step-heavier, step-first}
 use Rattle.pair_list.proofs.LongestMatchLaws.{IsLongest, chosen-best, best-same}
-use Rattle.pair_list.proofs.PlaceLaws.{pairsIn-length, pairsIn-source, pairsIn-target}
-use Rattle.pair_list_write.proofs.WriteBranches.{source-key, target-key}
+use Rattle.pair_list.proofs.PlaceLaws.{pair-is, pairsIn-length, pairsIn-source, pairsIn-target}
+use Rattle.pair_list_write.specs.Packed.{AppendedPair}
 use Rattle.refusal.specs.declared.Refusal.{Refusal}
 use Rattle.refusal.specs.declared.Refusal.the-variants.{TooLong}
 use Rattle.refusal.specs.declared.Validation.{Validation}
@@ -57,23 +57,19 @@ module _ (s t node above below : Text) (b : Bool) (h : b ≡ equal s above) wher
   deepened-other k = ap (λ (c : Bool). cond c (pair node below) (pair s t)) (told h k)
 
   module _ (at n r : ℕ) (out out′ : Text) (slots slots′ : List ℕ) where
-    abbrev Done : Pair → Type 0
-    Done x = ((r ≡ at + (length (x .source) + length (x .target))) × (r ≤ at + 766))
-        × ((out′ ≡ writtenAt at (x .source ++ x .target) out) × (slots′ ≡ writtenAt (4 * n) (pairEntry at (x .source) (x .target)) slots))
+    abbrev Done : Type 0
+    Done = AppendedPair (deepenedPair node above below (pair s t)) n at out slots r out′ slots′ × (r ≤ at + 766)
 
-    pub deepen-class : b ≡ true → length node ≤ 255 → length below ≤ 511 → r ≡ at + (length node + length below) → out′ ≡ writtenAt at (node ++ below) out
-        → slots′ ≡ writtenAt (4 * n) (pairEntry at node below) slots → Done (deepenedPair node above below (pair s t))
-    deepen-class k l m e o w = rw (deepened-class k) ((e, omega arith), (o, w))
+    pub deepen-class : b ≡ true → length node ≤ 255 → length below ≤ 511 → AppendedPair (pair node below) n at out slots r out′ slots′ → Done
+    deepen-class k l m w = rw (deepened-class k) (w, omega (arith, w .end))
 
-    pub deepen-other : b ≡ false → length s ≤ 255 → length t ≤ 255 → r ≡ at + (length s + length t) → out′ ≡ writtenAt at (s ++ t) out
-        → slots′ ≡ writtenAt (4 * n) (pairEntry at s t) slots → Done (deepenedPair node above below (pair s t))
-    deepen-other k l m e o w = rw (deepened-other k) ((e, omega arith), (o, w))
+    pub deepen-other : b ≡ false → length s ≤ 255 → length t ≤ 255 → AppendedPair (pair s t) n at out slots r out′ slots′ → Done
+    deepen-other k l m w = rw (deepened-other k) (w, omega (arith, w .end))
 
 -- `deepen_all`
 pub deepened-pair : (store : Text) (places : List ℕ) (i : ℕ) (node above below s t : Text) → s ≡ keyAt store places false i → t ≡ keyAt store places true i
-    → deepenedPair node above below (pairIn store places i)
-    ≡ pair ((deepenedPair node above below (pair s t)) .source) ((deepenedPair node above below (pair s t)) .target)
-deepened-pair store places i node above below s t e f = rw (e, f, ← (source-key store places i), ← (target-key store places i)) refl
+    → deepenedPair node above below (pairIn store places i) ≡ deepenedPair node above below (pair s t)
+deepened-pair store places i node above below s t e f = ap (deepenedPair node above below) (sym (pair-is store places i s t e f))
 
 -- `deepen_by`: the node mapped by the class pair, made in a buffer of 511 bytes.
 pub record IsMade (q : Text) (k : ℕ) (made : Text) : Type 0 where

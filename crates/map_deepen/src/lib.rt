@@ -2,22 +2,20 @@
 // image. Ports `MapFunction::deepen_to` of pcp/mapping.rs.
 ghost use mathlib.Core.Path.{_≡_};
 ghost use mathlib.Core.Bool.{true, false};
-ghost use mathlib.Core.List.{_++_};
 ghost use Prim.Native.Nat.{_+_, _*_, _≤_, _<_};
 ghost use lib.ListN.{length, take};
-ghost use Rattle.text.specs.Text.{writtenAt};
 ghost use Rattle.path_prefix.specs.Prefix.{hasPrefix};
 ghost use Rattle.path_prefix.specs.Elements.{elementCount};
 ghost use Rattle.path_parts.specs.Strip.{strip};
 ghost use Rattle.pair_list.specs.Pair.{pair, allShort};
-ghost use Rattle.pair_list.specs.Places.{keyAt, pairsIn, pairEntry};
+ghost use Rattle.pair_list.specs.Places.{keyAt, pairsIn};
 ghost use Rattle.pair_list.specs.BestStep.{considerIndex};
 ghost use Rattle.pair_list.specs.LongestMatch.{longestBy};
 ghost use Rattle.map_spec.specs.Derive.{deepenedPair};
 ghost use Rattle.validate.specs.Validate.{ValidList};
 ghost use Rattle.map_function.specs.MapFunction.{listOf, mapOf};
 ghost use Rattle.map_function.specs.MapOutcome.{ReturnsMap};
-ghost use Rattle.pair_buffer.specs.PairBuffer.{HoldsList, ScratchRoom};
+ghost use Rattle.pair_list_write.specs.Packed.{HoldsList, AppendedPair, ScratchRoom};
 ghost use Rattle.map_deepen.specs.FindClass.{classKept, classIndex};
 ghost use Rattle.map_deepen.specs.Calls.{deepenedPairs, deepenedMap, deepenedAt, deepenToCall};
 
@@ -40,14 +38,13 @@ fn deepen_pair(
     requires { ⌜ length (now below) ≤ 511 ⌝ }
     requires { ⌜ at + 766 ≤ length (now bytes) ⌝ }
     requires { ⌜ 4 * n + 4 ≤ length (now slots) ⌝ }
-    ensures { λ r. ⌜ (r ≡ at + (length ((deepenedPair (now (node .entry)) (now (above .entry)) (now (below .entry)) (pair (now (s .entry)) (now (t .entry)))) .source) + length ((deepenedPair (now (node .entry)) (now (above .entry)) (now (below .entry)) (pair (now (s .entry)) (now (t .entry)))) .target))) × (r ≤ at + 766) ⌝ }
-    ensures { λ r. ⌜ now (bytes .exit) ≡ writtenAt at ((deepenedPair (now (node .entry)) (now (above .entry)) (now (below .entry)) (pair (now (s .entry)) (now (t .entry)))) .source ++ (deepenedPair (now (node .entry)) (now (above .entry)) (now (below .entry)) (pair (now (s .entry)) (now (t .entry)))) .target) (now (bytes .entry)) ⌝ }
-    ensures { λ r. ⌜ now (slots .exit) ≡ writtenAt (4 * n) (pairEntry at ((deepenedPair (now (node .entry)) (now (above .entry)) (now (below .entry)) (pair (now (s .entry)) (now (t .entry)))) .source) ((deepenedPair (now (node .entry)) (now (above .entry)) (now (below .entry)) (pair (now (s .entry)) (now (t .entry)))) .target)) (now (slots .entry)) ⌝ }
+    ensures { λ r. ⌜ AppendedPair (deepenedPair (now (node .entry)) (now (above .entry)) (now (below .entry)) (pair (now (s .entry)) (now (t .entry)))) n at (now (bytes .entry)) (now (slots .entry)) r (now (bytes .exit)) (now (slots .exit)) ⌝ }
+    ensures { λ r. ⌜ r ≤ at + 766 ⌝ }
 {
     if text::is_equal(s, above) {
-        return pair_buffer::push_pair(node, below, n, at, bytes, slots);
+        return pair_list_write::push_pair(node, below, n, at, bytes, slots);
     }
-    pair_buffer::push_pair(s, t, n, at, bytes, slots)
+    pair_list_write::push_pair(s, t, n, at, bytes, slots)
 }
 
 // Writes the first n pairs with the class moved to the node and returns the offset after them.

@@ -33,9 +33,9 @@ use Rattle.map_function.specs.declared.MapReply.{MapReply}
 use Rattle.map_function.specs.declared.MapReply.the-variants.{Made}
 use Rattle.map_function.specs.MapFunction.{isIdentityMap, pathIsIdentity, listOf, mapOf}
 use Rattle.map_function.specs.MapOutcome.{MapOutcome, map, refused, mapFunction, mapReply, mapBytes, mapSlots, requireListRoom, withinLimits, withoutDropping, fromPartsOutcome, countInSlice}
-use Rattle.pair_buffer.specs.PairBuffer.{HoldsList}
+use Rattle.pair_list_write.specs.Packed.{HoldsList}
 use Rattle.pair_buffer.specs.Ends.{requireShort, requireLegal}
-use Rattle.pair_buffer.proofs.PairBufferLaws.{holds-list}
+use Rattle.pair_list_write.proofs.PackedLaws.{holds-list}
 use Rattle.pair_buffer.proofs.MapLaws.{identity-lent, held-all, no-map}
 use Rattle.compose_pairs.specs.ComposePairs.{atMost511, CanCompose}
 use Rattle.compose_pairs.proofs.LengthLaws.{short-bounded, composed-bounded, bounded-bytes}

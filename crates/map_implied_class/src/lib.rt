@@ -13,7 +13,7 @@ ghost use Rattle.map_spec.specs.Map.{lentMap};
 ghost use Rattle.map_spec.specs.Derive.{inverse};
 ghost use Rattle.map_function.specs.MapFunction.{pathIsIdentity, listOf, mapOf};
 ghost use Rattle.map_function.specs.MapOutcome.{map, mapBytes, mapSlots, ReturnsMap, mapFunction};
-ghost use Rattle.pair_buffer.specs.PairBuffer.{HoldsList};
+ghost use Rattle.pair_list_write.specs.Packed.{HoldsList};
 ghost use Rattle.compose_pairs.specs.ComposePairs.{CanCompose};
 ghost use Rattle.map_implied_class.specs.Implied.{composedFrom, impliedOutcome, impliedTime, impliedClassCall};
 ghost use Rattle.map_implied_class.specs.Finish.{mapOfReply, finishedMap, composedMap, roomBesideTransfer, impliedAfterClass};

@@ -20,10 +20,11 @@ use Rattle.path_prefix.proofs.CountLaws.{count-more}
 use Rattle.path_prefix.proofs.PrefixLaws.{prefix-rest, prefix-starts, prefix-long}
 use Rattle.map_lookup.specs.declared.BestSoFar.{BestSoFar}
 use Rattle.map_lookup.specs.LookupStep.{substring, keyCount, minimum, foundOf, notWorse, CoveredDecidesAlike, considerKey}
-use Rattle.pair_list.specs.Places.{textAt, keyAt}
+use Rattle.text_list.specs.Places.{textAt}
+use Rattle.pair_list.specs.Places.{keyAt}
 use Rattle.pair_list.specs.Best.{notLighter}
 use Rattle.pair_list.specs.LongestMatch.{matches, longestMatch}
-use Rattle.pair_list.proofs.PlaceBranches.{text-missing}
+use Rattle.text_list.proofs.PlaceBranches.{text-missing}
 use Rattle.pair_list.proofs.BestLaws.{best-rest, keep-step}
 use Rattle.pair_list.proofs.LongestMatchLaws.{SaysLongest, best-says, served}
 

@@ -1,16 +1,16 @@
 -- Lemmas about the branches of the call.
 use mathlib.Core.Path.{_≡_, refl, sym, _∙_}
 use mathlib.Core.Bool.{Bool, true, false, not, cond, _&&_}
-use mathlib.Core.List.{List, [], _∷_, _++_}
-use Prim.Native.Nat.{ℕ, _+_, _*_, _≤_}
+use mathlib.Core.List.{List, [], _∷_}
+use Prim.Native.Nat.{ℕ, _≤_}
 use native.Mathlib.Omega.{arith}
 use lib.Dec.{eqb}
-use lib.ListN.{length, length-drop}
-use Rattle.text.specs.Text.{Text, writtenAt}
+use lib.ListN.{length}
+use Rattle.text.specs.Text.{Text}
 use Rattle.text.proofs.BoolLaws.{known-true, known-false}
 use Rattle.layer_offset.specs.declared.LayerOffset.{LayerOffset}
 use Rattle.pair_list.specs.Pair.{pair}
-use Rattle.pair_list.specs.Places.{pairsIn, pairEntry}
+use Rattle.pair_list.specs.Places.{pairsIn}
 use Rattle.refusal.specs.declared.Refusal.{Refusal}
 use Rattle.refusal.specs.declared.Validation.{Validation}
 use Rattle.refusal.specs.declared.Validation.the-variants.{Passed, Refused as RefusedValidation}
@@ -23,22 +23,22 @@ use Rattle.map_spec.specs.Derive.{anyTargetBelow, rebaseTarget}
 use Rattle.map_function.specs.declared.MapFunction.{MapFunction}
 use Rattle.map_function.specs.MapFunction.{listOf, mapOf}
 use Rattle.map_function.specs.MapOutcome.{map, refused, withinLimits, withoutDropping, fromPartsOutcome, countInSlice}
-use Rattle.pair_buffer.specs.PairBuffer.{HoldsList}
+use Rattle.pair_list_write.specs.Packed.{HoldsList, AppendedPair}
 use Rattle.pair_buffer.specs.Ends.{fromEnds}
-use Rattle.pair_buffer.proofs.PairBufferLaws.{holds-none, holds-more, holds-list}
+use Rattle.pair_list_write.proofs.PackedLaws.{holds-none, holds-list, holds-inside, holds-more}
 use Rattle.pair_buffer.proofs.MapLaws.{identity-lent, held-all, limited-map, fromEnds-map}
 use Rattle.map_rebase.specs.Calls.{rebasedPairs, rebasedMap, rebaseOutcome, RebasesTo, rebaseTargetCall}
 
 -- `from_pair_identity`: the single pair in a buffer.
-pub one-pair : (s t : Text) (time : LayerOffset) (out : Text) (slots : List ℕ) (bytes bytes′ : Text) (own own′ : List ℕ) → length own ≡ 4
-    → bytes′ ≡ writtenAt 0 (s ++ t) bytes → own′ ≡ writtenAt (4 * 0) (pairEntry 0 s t) own
+pub one-pair : (s t : Text) (time : LayerOffset) (out : Text) (slots : List ℕ) (bytes bytes′ : Text) (own own′ : List ℕ) (end : ℕ)
+    → AppendedPair (pair s t) 0 0 bytes own end bytes′ own′
     → withinLimits (pair s t ∷ []) (fromPairIdentity (pair s t)) time out slots
     ≡ countInSlice (lentList bytes′ own′ 1) (fromPartsOutcome (pairsIn bytes′ own′ 1) true time out slots)
 unfolding fromPairIdentity fromPartsOutcome
-one-pair s t time out slots bytes bytes′ own own′ l e f =
-    let c : HoldsList (pair s t ∷ []) 1 (length s + length t) bytes′ own′ = holds-more [] 0 0 bytes own (holds-none bytes own) s t (length s + length t) bytes′ own′ (omega arith) e f in
-    let z : length own′ ≡ 4 = rw f (simp length-drop (omega arith)) in
-    sym (held-all bytes′ own′ 1 (fromPartsOutcome (pairsIn bytes′ own′ 1) true time out slots) (omega arith) ∙ rw (holds-list (pair s t ∷ []) 1 (length s + length t) bytes′ own′ c) refl)
+one-pair s t time out slots bytes bytes′ own own′ end a =
+    let c : HoldsList (pair s t ∷ []) 1 end bytes′ own′ = holds-more [] 0 0 bytes own (holds-none bytes own) (pair s t) end bytes′ own′ a in
+    sym (held-all bytes′ own′ 1 (fromPartsOutcome (pairsIn bytes′ own′ 1) true time out slots) (omega (arith, holds-inside (pair s t ∷ []) 1 end bytes′ own′ c))
+    ∙ rw (holds-list (pair s t ∷ []) 1 end bytes′ own′ c) refl)
 
 -- `rebase_target`
 module _ (store : Text) (places : List ℕ) (f : MapFunction) (from to : Text) (out : Text) (slots : List ℕ)

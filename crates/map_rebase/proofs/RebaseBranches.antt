@@ -7,12 +7,13 @@ use native.Mathlib.Omega.{arith}
 use native.Mathlib.Decide.{ℕ-discrete}
 use native.Mathlib.Numerals.{add-one}
 use lib.ListN.{length, take}
-use Rattle.text.specs.Text.{Text, writtenAt}
+use Rattle.text.specs.Text.{Text}
 use Rattle.text.proofs.BoolLaws.{or-right, or-false, told}
 use Rattle.path_prefix.specs.Prefix.{hasPrefix}
 use Rattle.path_join.specs.Join.{replacePrefix}
 use Rattle.pair_list.specs.Pair.{Pair, pair}
-use Rattle.pair_list.specs.Places.{keyAt, pairIn, pairsIn, pairEntry}
+use Rattle.pair_list.specs.Places.{keyAt, pairIn, pairsIn}
+use Rattle.pair_list_write.specs.Packed.{AppendedPair}
 use Rattle.pair_list_write.proofs.WriteBranches.{source-key, target-key}
 use Rattle.map_spec.specs.Derive.{rebasedPair, anyTargetBelow}
 use Rattle.pair_buffer.specs.Ends.{replacedOrSame}
@@ -23,9 +24,8 @@ module _ (q : Text) (k : ℕ) (made : Text) (e : k ≡ length q) (f : take k mad
   part-room room g = omega (arith, ap length f)
 
   pub part-done : (n r : ℕ) (out out′ : Text) (slots slots′ : List ℕ)
-      → (r ≡ at + (length s + length (take k made))) × ((out′ ≡ writtenAt at (s ++ take k made) out) × (slots′ ≡ writtenAt (4 * n) (pairEntry at s (take k made)) slots))
-      → ((r ≡ at + (length s + length q)) × (r ≤ at + 766)) × ((out′ ≡ writtenAt at (s ++ q) out) × (slots′ ≡ writtenAt (4 * n) (pairEntry at s q) slots))
-  part-done n r out out′ slots slots′ w = ((rw f at (w .0), omega (arith, w .0, ap length f)), (rw f at (w .1 .0), rw f at (w .1 .1)))
+      → AppendedPair (pair s (take k made)) n at out slots r out′ slots′ → AppendedPair (pair s q) n at out slots r out′ slots′ × (r ≤ at + 766)
+  part-done n r out out′ slots slots′ w = (rw f at w, omega (arith, w .end, ap length f))
 
 -- `any_target`
 target-snoc : (from : Text) (l : List Pair) (x : Pair) → anyTargetBelow from (l ++ x ∷ []) ≡ (anyTargetBelow from l || hasPrefix (x .target) from)

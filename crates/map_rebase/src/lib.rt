@@ -2,18 +2,17 @@
 // `MapFunction::rebase_target` of pcp/mapping.rs.
 ghost use mathlib.Core.Path.{_≡_};
 ghost use mathlib.Core.Bool.{true};
-ghost use mathlib.Core.List.{[], _∷_, _++_};
+ghost use mathlib.Core.List.{[], _∷_};
 ghost use Prim.Native.Nat.{_+_, _*_, _≤_};
 ghost use lib.ListN.{length};
-ghost use Rattle.text.specs.Text.{writtenAt};
 ghost use Rattle.pair_list.specs.Pair.{pair, allShort};
-ghost use Rattle.pair_list.specs.Places.{pairsIn, pairEntry};
+ghost use Rattle.pair_list.specs.Places.{pairsIn};
 ghost use Rattle.map_spec.specs.New.{fromPairIdentity};
 ghost use Rattle.map_spec.specs.Derive.{anyTargetBelow};
 ghost use Rattle.validate.specs.Validate.{ValidList};
 ghost use Rattle.map_function.specs.MapFunction.{listOf, mapOf};
 ghost use Rattle.map_function.specs.MapOutcome.{ReturnsMap, withinLimits};
-ghost use Rattle.pair_buffer.specs.PairBuffer.{HoldsList, ScratchRoom};
+ghost use Rattle.pair_list_write.specs.Packed.{HoldsList, AppendedPair, ScratchRoom};
 ghost use Rattle.pair_buffer.specs.Ends.{replacedOrSame};
 ghost use Rattle.map_rebase.specs.Calls.{rebasedPairs, rebasedMap, rebaseTargetCall};
 
@@ -33,13 +32,12 @@ fn rebase_pair(
     requires { ⌜ length (now to) ≤ 255 ⌝ }
     requires { ⌜ at + 766 ≤ length (now bytes) ⌝ }
     requires { ⌜ 4 * n + 4 ≤ length (now slots) ⌝ }
-    ensures { λ r. ⌜ (r ≡ at + (length (now (s .entry)) + length (replacedOrSame (now (t .entry)) (now (from .entry)) (now (to .entry))))) × (r ≤ at + 766) ⌝ }
-    ensures { λ r. ⌜ now (bytes .exit) ≡ writtenAt at (now (s .entry) ++ replacedOrSame (now (t .entry)) (now (from .entry)) (now (to .entry))) (now (bytes .entry)) ⌝ }
-    ensures { λ r. ⌜ now (slots .exit) ≡ writtenAt (4 * n) (pairEntry at (now (s .entry)) (replacedOrSame (now (t .entry)) (now (from .entry)) (now (to .entry)))) (now (slots .entry)) ⌝ }
+    ensures { λ r. ⌜ AppendedPair (pair (now (s .entry)) (replacedOrSame (now (t .entry)) (now (from .entry)) (now (to .entry)))) n at (now (bytes .entry)) (now (slots .entry)) r (now (bytes .exit)) (now (slots .exit)) ⌝ }
+    ensures { λ r. ⌜ r ≤ at + 766 ⌝ }
 {
     let mut made = [0u8; 511];
     let k = pair_buffer::replace_into(t, from, to, &mut made);
-    pair_buffer::push_pair(s, &made[..k], n, at, bytes, slots)
+    pair_list_write::push_pair(s, &made[..k], n, at, bytes, slots)
 }
 
 // Returns whether one of the first n pairs has a target at or below `from`.
@@ -165,7 +163,7 @@ fn from_pair_identity(
 {
     let mut bytes = [0u8; 510];
     let mut own = [0usize; 4];
-    pair_buffer::push_pair(s, t, 0, 0, &mut bytes, &mut own);
+    pair_list_write::push_pair(s, t, 0, 0, &mut bytes, &mut own);
     map_function::from_parts(&bytes, &own, 1, true, time, out, slots)
 }
 

@@ -5,8 +5,8 @@ use Prim.Native.Nat.{ℕ, suc, _+_, _*_, _-_, _/_, _≤_, _<_}
 use native.Mathlib.Omega.{arith}
 use lib.ListN.{length}
 use borrow.Author.Tests.{le-leb, lt-leb}
-use Rattle.text.specs.Text.{Text, writtenIfFits}
-use Rattle.pair_list_write.proofs.WriteBranches.{pair-text, pair-slots}
+use Rattle.text.specs.Text.{Text}
+use Rattle.pair_list_write.proofs.PushBranches.{PushedPair, pair-there}
 use Rattle.refusal.specs.declared.Refusal.{Refusal}
 use Rattle.refusal.specs.declared.Refusal.the-variants.{TooMany, NoRoom}
 use Rattle.refusal.specs.declared.Validation.{Validation}
@@ -85,13 +85,9 @@ module _ (k : OpenList) (s t : Text) (bytes : Text) (places : List ℕ) (a q : V
     room : (k .pairs < 64) × (4 * k .pairs + 4 ≤ length places) × (k .bytes + (length s + length t) ≤ length bytes)
     room = passed-fits q k (length s) (length t) (length bytes) (length places) f e
 
-    pub pair-added : (once twice : Text) (places′ : List ℕ) → once ≡ writtenIfFits (k .bytes) s bytes → twice ≡ writtenIfFits (k .bytes + length s) t once
-        → places′ ≡ writtenIfFits (4 * k .pairs) (k .bytes ∷ length s ∷ (k .bytes + length s) ∷ length t ∷ []) places
-        → Adds (Done (record { pairs = k .pairs + 1; bytes = k .bytes + length s + length t })) twice places′
+    pub pair-added : (end : ℕ) (bytes′ : Text) (places′ : List ℕ) → PushedPair s t (k .pairs) (k .bytes) bytes places end bytes′ places′
+        → Adds (Done (record { pairs = k .pairs + 1; bytes = end })) bytes′ places′
     unfolding addReply addBytes addPlaces
-    pair-added once twice places′ o w p =
-        let z : k .bytes + length s + length t ≡ k .bytes + (length s + length t) = omega arith in
-        rw (← h, e) (
-          ap (λ (n : ℕ). Done (record { pairs = k .pairs + 1; bytes = n })) z,
-          (pair-text (k .bytes) s t s t refl refl bytes once twice (room .2) o w, pair-slots (k .bytes) s t s t refl refl places places′ (k .pairs) (room .1) p),
-        )
+    pair-added end bytes′ places′ w =
+        let x = pair-there s t (k .pairs) (k .bytes) bytes places (room .2) (room .1) end bytes′ places′ w in
+        rw (← h, e) (ap (λ (n : ℕ). Done (record { pairs = k .pairs + 1; bytes = n })) (x .end), (x .text, x .places))

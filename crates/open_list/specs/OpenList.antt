@@ -4,19 +4,17 @@ use mathlib.Core.Path.{_≡_}
 use Prim.Native.Nat.{ℕ}
 use mathlib.Core.List.{List, [], _∷_, _++_}
 use lib.ListN.{length}
-use Rattle.text.specs.Text.{Text, written}
+use Rattle.text.specs.Text.{Text}
 use Rattle.pair_list.specs.Pair.{Pair, pair}
-use Rattle.pair_list.specs.Places.{pairsIn, listText, listPlaces, endBytes}
+use Rattle.pair_list.specs.Places.{pairsIn}
+use Rattle.pair_list_write.specs.Packed.{HoldsList}
 use Rattle.refusal.specs.declared.Validation.the-variants.{Passed}
 use Rattle.open_list.specs.declared.OpenList.{OpenList}
 use Rattle.open_list.specs.Add.{validateAdd, withOneMore, addBytes, addPlaces}
 
 -- The buffers hold the list l of size k.
-pub record HoldsOpenList (l : List Pair) (k : OpenList) (bytes : Text) (places : List ℕ) : Type 0 where
-  pub pairs : k .pairs ≡ length l
-  pub size : k .bytes ≡ endBytes l
-  pub text : bytes ≡ written (listText l) bytes
-  pub numbers : places ≡ written (listPlaces 0 l) places
+abbrev pub HoldsOpenList : List Pair → OpenList → Text → List ℕ → Type 0
+HoldsOpenList l k bytes places = HoldsList l (k .pairs) (k .bytes) bytes places
 
 -- The lemmas about the open list's buffers.
 pub record OpenListLaws : Type 0 where

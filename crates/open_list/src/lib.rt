@@ -62,13 +62,9 @@ pub fn add_pair(
     if let refusal::Validation::Refused(x) = q {
         return Added::Refused(x);
     }
-    let at = k.bytes;
-    let m = at + source.len();
-    text::write_at(source, at, bytes);
-    text::write_at(target, m, bytes);
-    pair_list_write::write_entry(k.pairs, at, source.len(), m, target.len(), places);
+    let end = pair_list_write::push_pair(source, target, k.pairs, k.bytes, bytes, places);
     Added::Done(OpenList {
         pairs: k.pairs + 1,
-        bytes: m + target.len(),
+        bytes: end,
     })
 }

@@ -20,9 +20,9 @@ use Rattle.map_spec.specs.Map.{Map, lentMap}
 use Rattle.map_spec.specs.New.{fromParts}
 use Rattle.map_spec.specs.Compose.{isEmpty, isPathIdentity}
 use Rattle.map_function.specs.MapOutcome.{MapOutcome, map, refused, requireListRoom, withinLimits, countInSlice}
-use Rattle.pair_buffer.specs.PairBuffer.{HoldsList}
+use Rattle.pair_list_write.specs.Packed.{HoldsList}
 use Rattle.pair_buffer.specs.Ends.{requireShort, fromEndsGiven, fromEnds}
-use Rattle.pair_buffer.proofs.PairBufferLaws.{holds-list, built-held}
+use Rattle.pair_list_write.proofs.PackedLaws.{holds-list, holds-inside}
 
 -- A map in lent memory is the identity on paths exactly if it has the mark and no pair.
 snoc-full : (l : List Pair) (x : Pair) → isEmpty (l ++ x ∷ []) ≡ false
@@ -44,7 +44,7 @@ held-all store places n o h = rw (le-leb n (length places / 4) h)
 pub built-ends : (l : List Pair) (n at : ℕ) (bytes : Text) (own : List ℕ) → HoldsList l n at bytes own → (mark : Bool) (time : LayerOffset) (out : Text) (slots : List ℕ)
     → fromEnds l mark time out slots ≡ countInSlice (lentList bytes own n) (fromEnds (pairsIn bytes own n) mark time out slots)
 built-ends l n at bytes own c mark time out slots =
-    rw (held-all bytes own n (fromEnds (pairsIn bytes own n) mark time out slots) (omega (arith, built-held l n at bytes own c)), holds-list l n at bytes own c) refl
+    rw (held-all bytes own n (fromEnds (pairsIn bytes own n) mark time out slots) (omega (arith, holds-inside l n at bytes own c)), holds-list l n at bytes own c) refl
 
 -- A map that the call returns is the map of the definition.
 module _ (m : Map) (t : LayerOffset) where

@@ -1,5 +1,4 @@
-// Lists of pairs built in a scratch buffer (source then target, pair after pair), and the construction of
-// a map from such a list.
+// The ends of a list of pairs that is built in a scratch buffer, and the construction of a map from such a list.
 ghost use mathlib.Core.Path.{_≡_};
 ghost use Rattle.text.specs.Text.{fitOf, writtenIfFits};
 ghost use Rattle.pair_list.specs.Pair.{everyEnd, allShort};
@@ -7,42 +6,7 @@ ghost use Rattle.pair_list.specs.Places.{pairsIn};
 ghost use Rattle.validate.specs.Validate.{lentList};
 ghost use Rattle.map_spec.specs.Compose.{hasSource};
 ghost use Rattle.map_function.specs.MapOutcome.{ReturnsMap, countInSlice};
-ghost use Rattle.pair_buffer.specs.PairBuffer.{pairEnd, pairBytes, pairSlots};
 ghost use Rattle.pair_buffer.specs.Ends.{atMost, replacedOrSame, writtenLength, fromEndsGiven, fromEnds};
-
-// Appends a pair to the first n pairs and returns the offset after it; writes nothing and returns `at` if it
-// does not fit.
-pub fn push_pair(
-    s: &[u8],
-    t: &[u8],
-    n: usize,
-    at: usize,
-    bytes: &mut [u8],
-    slots: &mut [usize],
-) -> usize
-    ensures { λ r. ⌜ r ≡ pairEnd (now (s .entry)) (now (t .entry)) n at (now (bytes .entry)) (now (slots .entry)) ⌝ }
-    ensures { λ r. ⌜ now (bytes .exit) ≡ pairBytes (now (s .entry)) (now (t .entry)) n at (now (bytes .entry)) (now (slots .entry)) ⌝ }
-    ensures { λ r. ⌜ now (slots .exit) ≡ pairSlots (now (s .entry)) (now (t .entry)) n at (now (bytes .entry)) (now (slots .entry)) ⌝ }
-{
-    if bytes.len() < at {
-        return at;
-    }
-    let room = bytes.len() - at;
-    if room < s.len() {
-        return at;
-    }
-    if room - s.len() < t.len() {
-        return at;
-    }
-    if slots.len() / 4 <= n {
-        return at;
-    }
-    let m = at + s.len();
-    text::write_at(s, at, bytes);
-    text::write_at(t, m, bytes);
-    pair_list_write::write_entry(n, at, s.len(), m, t.len(), slots);
-    m + t.len()
-}
 
 // Writes the path with its prefix replaced, or the path itself if it does not have that prefix, and returns
 // its length; writes nothing and returns 0 if it does not fit.

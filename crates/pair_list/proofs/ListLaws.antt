@@ -1,77 +1,62 @@
 -- The theorem that reading a list that was written yields that list.
-use mathlib.Core.Path.{_≡_, refl, sym, _∙_}
-use mathlib.Core.List.{List, [], _∷_, _++_, append-assoc}
+use mathlib.Core.Path.{_≡_, refl, _∙_}
+use mathlib.Core.List.{List, [], _∷_, _++_}
 use Prim.Native.Nat.{ℕ, zero, suc, _+_, _*_, _<_}
 use native.Mathlib.Nat.{zero-add}
 use native.Mathlib.Omega.{arith}
-use lib.ListN.{length, getD, drop, length-append}
-use lib.Seq.{ext-getD, getD-append-add, take-append-seam, drop-append-seam}
-use borrow.Author.Tests.{le-leb}
+use lib.ListN.{length, getD, drop}
+use lib.Seq.{ext-getD}
 use Rattle.text.specs.Text.{Text, written}
-use Rattle.pair_list.specs.Pair.{Pair, emptyPair, pairAt}
-use Rattle.pair_list.specs.Places.{inStore, textAt, pairIn, pairsIn, listText, pairEntry, listPlaces, endBytes, ListRoundTrip}
+use Rattle.text_list.specs.Packed.{textSize}
+use Rattle.text_list.proofs.PackedLaws.{bytes-length, places-length as numbers-length, read-texts}
+use Rattle.pair_list.specs.Pair.{Pair, emptyPair, endsOf, pairAt, sourceAt, targetAt}
+use Rattle.pair_list.specs.Places.{pairIn, pairsIn, listText, listPlaces, endBytes, ListRoundTrip}
 use Rattle.pair_list.proofs.PlaceLaws.{pairsIn-length, pairsIn-at}
 
+-- The ends of a list, as texts.
+pub ends-length : (l : List Pair) → length (endsOf l) ≡ 2 * length l
+unfolding endsOf
+ends-length [] = refl
+ends-length (x ∷ l) = omega (arith, ends-length l)
+
+pub ends-append : (l k : List Pair) → endsOf (l ++ k) ≡ endsOf l ++ endsOf k
+unfolding endsOf
+ends-append [] k = refl
+ends-append (x ∷ l) k = rw (ends-append l k) refl
+
+pub ends-size : (l : List Pair) → textSize (endsOf l) ≡ endBytes l
+unfolding endsOf textSize endBytes
+ends-size [] = refl
+ends-size (x ∷ l) = omega (arith, ends-size l)
+
+ends-at : (l : List Pair) (i : ℕ) → (getD (endsOf l) (2 * i) [] ≡ sourceAt l i) × (getD (endsOf l) (2 * i + 1) [] ≡ targetAt l i)
+unfolding endsOf
+ends-at [] i = (refl, refl)
+ends-at (x ∷ l) zero = (refl, refl)
+ends-at (x ∷ l) (suc i) =
+    let z : 2 * suc i ≡ suc (suc (2 * i)) = omega arith in
+    let y : 2 * suc i + 1 ≡ suc (suc (2 * i + 1)) = omega arith in
+    (rw z (ends-at l i .0), rw y (ends-at l i .1))
+
 pub list-length : (l : List Pair) → length (listText l) ≡ endBytes l
-unfolding listText endBytes
-list-length [] = refl
-list-length (x ∷ l) = simp length-append (omega (arith, list-length l))
+unfolding listText
+list-length l = bytes-length (endsOf l) ∙ ends-size l
 
 pub places-length : (at : ℕ) (l : List Pair) → length (listPlaces at l) ≡ 4 * length l
 unfolding listPlaces
-places-length at [] = refl
-places-length at (x ∷ l) = let e = places-length (at + length (x .source) + length (x .target)) l in omega arith
-
--- A text that is stored after `before`, read at its place.
-read-text : (before t after : Text) (places : List ℕ) (j : ℕ) → getD places (2 * j) 0 ≡ length before → getD places (2 * j + 1) 0 ≡ length t
-    → textAt (before ++ (t ++ after)) places j ≡ t
-unfolding textAt inStore
-read-text before t after places j s n =
-    let r : length (before ++ (t ++ after)) ≡ length before + (length t + length after) = simp length-append in
-    rw (s, n, le-leb (length before + length t) (length (before ++ (t ++ after))) (omega arith), drop-append-seam before (t ++ after), take-append-seam t after)
-
--- The pair after k others, whose bytes are `before` and whose places are `earlier`.
-module _ (x : Pair) (k : ℕ) (before rest : Text) (earlier later : List ℕ) (e : length earlier ≡ 4 * k) where
-  number : (n : ℕ) → getD (earlier ++ (pairEntry (length before) (x .source) (x .target) ++ later)) (4 * k + n) 0 ≡ getD (pairEntry (length before) (x .source) (x .target) ++ later) n 0
-  number n = rw (← e) (getD-append-add earlier (pairEntry (length before) (x .source) (x .target) ++ later) n 0)
-
-  named : (j n : ℕ) → j ≡ 4 * k + n → getD (earlier ++ (pairEntry (length before) (x .source) (x .target) ++ later)) j 0 ≡ getD (pairEntry (length before) (x .source) (x .target) ++ later) n 0
-  named j n h = rw h (number n)
-
-  read-source : textAt (before ++ (x .source ++ (x .target ++ rest))) (earlier ++ (pairEntry (length before) (x .source) (x .target) ++ later)) (2 * k) ≡ x .source
-  read-source =
-      read-text before (x .source) (x .target ++ rest) (earlier ++ (pairEntry (length before) (x .source) (x .target) ++ later)) (2 * k)
-      (named (2 * (2 * k)) 0 (omega arith)) (named (2 * (2 * k) + 1) 1 (omega arith))
-
-  read-target : textAt (before ++ (x .source ++ (x .target ++ rest))) (earlier ++ (pairEntry (length before) (x .source) (x .target) ++ later)) (2 * k + 1) ≡ x .target
-  read-target =
-      rw (← (append-assoc before (x .source) (x .target ++ rest)))
-      (read-text (before ++ x .source) (x .target) rest (earlier ++ (pairEntry (length before) (x .source) (x .target) ++ later)) (2 * k + 1)
-      (named (2 * (2 * k + 1)) 2 (omega arith) ∙ sym (length-append before (x .source))) (named (2 * (2 * k + 1) + 1) 3 (omega arith)))
-
-  read-pair : pairIn (before ++ (x .source ++ (x .target ++ rest))) (earlier ++ (pairEntry (length before) (x .source) (x .target) ++ later)) k ≡ x
-  unfolding pairIn
-  read-pair = rw (read-source, read-target)
+places-length at l = omega (arith, numbers-length at (endsOf l), ends-length l)
 
 -- Every pair of a list that is stored after k others.
 pub read-pairs : (l : List Pair) (i k : ℕ) (before after : Text) (earlier later : List ℕ) → length earlier ≡ 4 * k → i < length l
     → pairIn (before ++ (listText l ++ after)) (earlier ++ (listPlaces (length before) l ++ later)) (k + i) ≡ pairAt l i
-unfolding listText listPlaces
-read-pairs [] i k before after earlier later e h = absurd (omega arith)
-read-pairs (x ∷ l) zero k before after earlier later e h =
-    let z : k + 0 ≡ k = omega arith in
-    let n : ℕ = length before + length (x .source) + length (x .target) in
-    rw (z, append-assoc (x .source) (x .target ++ listText l) after, append-assoc (x .target) (listText l) after)
-    (read-pair x k before (listText l ++ after) earlier (listPlaces n l ++ later) e)
-read-pairs (x ∷ l) (suc i) k before after earlier later e h =
-    let b : Text = before ++ (x .source ++ x .target) in
-    let n : length b ≡ length before + length (x .source) + length (x .target) = simp length-append (omega arith) in
-    let z : k + suc i ≡ k + 1 + i = omega arith in
-    let s : before ++ ((x .source ++ (x .target ++ listText l)) ++ after) ≡ b ++ (listText l ++ after) = simp append-assoc in
-    let q : length (earlier ++ pairEntry (length before) (x .source) (x .target)) ≡ 4 * (k + 1) = simp length-append (omega arith) in
-    let p : earlier ++ (pairEntry (length before) (x .source) (x .target) ++ (listPlaces (length b) l ++ later)) ≡ (earlier ++ pairEntry (length before) (x .source) (x .target)) ++ (listPlaces (length b) l ++ later)
-    = sym (append-assoc earlier (pairEntry (length before) (x .source) (x .target)) (listPlaces (length b) l ++ later)) in
-    rw (z, s, ← n, p) (read-pairs l i (k + 1) b after (earlier ++ pairEntry (length before) (x .source) (x .target)) later q (omega arith))
+unfolding listText listPlaces pairIn
+read-pairs l i k before after earlier later e h =
+    let z : 2 * (k + i) ≡ 2 * k + 2 * i = omega arith in
+    let y : 2 * k + 2 * i + 1 ≡ 2 * k + (2 * i + 1) = omega arith in
+    let n = ends-length l in
+    let s = read-texts (endsOf l) (2 * i) (2 * k) before after earlier later (omega arith) (omega arith) ∙ ends-at l i .0 in
+    let t = read-texts (endsOf l) (2 * i + 1) (2 * k) before after earlier later (omega arith) (omega arith) ∙ ends-at l i .1 in
+    rw (z, y, s, t) refl
 
 pub read-back : ListRoundTrip
 read-back l store places =

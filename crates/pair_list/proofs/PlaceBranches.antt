@@ -1,4 +1,4 @@
--- Lemmas for the branches of `text_at`, `key_at`, `is_short_at`, `all_short`, `all_legal` and `all_ends`.
+-- Lemmas for the branches of `key_at`, `is_short_at`, `all_short`, `all_legal` and `all_ends`.
 use mathlib.Core.Path.{_≡_, refl, sym}
 use mathlib.Core.Bool.{Bool, true, false, not, cond}
 use mathlib.Core.List.{List, []}
@@ -7,52 +7,15 @@ use native.Mathlib.Numerals.{add-one}
 use native.Mathlib.Omega.{arith}
 use native.Mathlib.Decide.{ℕ-discrete}
 use lib.Dec.{leb}
-use lib.ListN.{length, getD, take, drop, List·getD-eq-default}
+use lib.ListN.{length, getD}
 use borrow.Author.Tests.{le-leb, lt-leb}
 use Rattle.text.specs.Text.{Text}
 use Rattle.text.proofs.BoolLaws.{and-no, known-false, known-true}
-use Rattle.pair_list.specs.Places.{inStore, textAt, keyAt, isShortAt, placesShort, placesAll}
-
-no-length : (places : List ℕ) (j : ℕ) → length places / 2 ≤ j → getD places (2 * j + 1) 0 ≡ 0
-no-length places j h = List·getD-eq-default places 0 (omega arith)
-
--- An empty part, whatever the result of the test.
-either : (b : Bool) (s : Text) → [] ≡ cond b (take 0 s) []
-either true s = refl
-either false s = refl
+use Rattle.text_list.specs.Places.{textAt}
+use Rattle.text_list.proofs.PlaceBranches.{text-missing, outside-start, outside-end, is-inside}
+use Rattle.pair_list.specs.Places.{keyAt, isShortAt, placesShort, placesAll}
 
 module _ (store : Text) (places : List ℕ) (j : ℕ) where
-  pub text-missing : length places / 2 ≤ j → [] ≡ textAt store places j
-  unfolding textAt
-  text-missing h = rw (no-length places j h) (either (leb (getD places (2 * j) 0 + 0) (length store)) (drop (getD places (2 * j) 0) store))
-
-  outside-start : length store < getD places (2 * j) 0 → inStore store places j ≡ false
-  unfolding inStore
-  outside-start h = lt-leb (getD places (2 * j) 0 + getD places (2 * j + 1) 0) (length store) (omega arith)
-
-  outside-end : length store - getD places (2 * j) 0 < getD places (2 * j + 1) 0 → inStore store places j ≡ false
-  unfolding inStore
-  outside-end h = lt-leb (getD places (2 * j) 0 + getD places (2 * j + 1) 0) (length store) (omega arith)
-
-  is-inside : getD places (2 * j) 0 ≤ length store → getD places (2 * j + 1) 0 ≤ length store - getD places (2 * j) 0 → inStore store places j ≡ true
-  unfolding inStore
-  is-inside h k = le-leb (getD places (2 * j) 0 + getD places (2 * j + 1) 0) (length store) (omega arith)
-
-  pub text-start : length store < getD places (2 * j) 0 → [] ≡ textAt store places j
-  unfolding textAt
-  text-start h = rw (outside-start h)
-
-  pub text-end : length store - getD places (2 * j) 0 < getD places (2 * j + 1) 0 → [] ≡ textAt store places j
-  unfolding textAt
-  text-end h = rw (outside-end h)
-
-  pub text-part : getD places (2 * j) 0 ≤ length store → getD places (2 * j + 1) 0 ≤ length store - getD places (2 * j) 0
-      → take (getD places (2 * j) 0 + getD places (2 * j + 1) 0 - getD places (2 * j) 0) (drop (getD places (2 * j) 0) store) ≡ textAt store places j
-  unfolding textAt
-  text-part h k =
-      let z : getD places (2 * j) 0 + getD places (2 * j + 1) 0 - getD places (2 * j) 0 ≡ getD places (2 * j + 1) 0 = omega arith in
-      rw (z, is-inside h k)
-
   pub fits-missing : length places / 2 ≤ j → true ≡ isShortAt store places j
   unfolding isShortAt
   fits-missing h = rw (le-leb (length places / 2) j h)
@@ -60,16 +23,16 @@ module _ (store : Text) (places : List ℕ) (j : ℕ) where
   module _ (there : j < length places / 2) where
     pub fits-start : length store < getD places (2 * j) 0 → false ≡ isShortAt store places j
     unfolding isShortAt
-    fits-start h = rw (lt-leb (length places / 2) j there, outside-start h)
+    fits-start h = rw (lt-leb (length places / 2) j there, outside-start store places j h)
 
     pub fits-end : length store - getD places (2 * j) 0 < getD places (2 * j + 1) 0 → false ≡ isShortAt store places j
     unfolding isShortAt
-    fits-end h = rw (lt-leb (length places / 2) j there, outside-end h)
+    fits-end h = rw (lt-leb (length places / 2) j there, outside-end store places j h)
 
     pub fits-length : getD places (2 * j) 0 ≤ length store → getD places (2 * j + 1) 0 ≤ length store - getD places (2 * j) 0
         → leb (getD places (2 * j + 1) 0) 255 ≡ isShortAt store places j
     unfolding isShortAt
-    fits-length h k = rw (lt-leb (length places / 2) j there, is-inside h k)
+    fits-length h k = rw (lt-leb (length places / 2) j there, is-inside store places j h k)
 
 pub key-missing : (store : Text) (places : List ℕ) (i : ℕ) (invert : Bool) → length places / 2 ≤ i → [] ≡ keyAt store places invert i
 key-missing store places i true h = text-missing store places (2 * i + 1) (omega arith)
@@ -123,4 +86,4 @@ module _ (store : Text) (places : List ℕ) where
     pub all-end : (n j : ℕ) → j ≤ n → n ≤ j → true ≡ placesAll passes store places j → true ≡ placesAll passes store places n
     all-end n j l m h = let e : n ≡ j = omega arith in rw e h
 
-pub ruleset placing = (text-missing, text-start, text-end, text-part, fits-missing, fits-start, fits-end, fits-length, key-missing, key-target, key-source, fit-begin, fit-on, fit-found, fit-all, all-begin, all-on, all-found, all-end)
+pub ruleset placing = (fits-missing, fits-start, fits-end, fits-length, key-missing, key-target, key-source, fit-begin, fit-on, fit-found, fit-all, all-begin, all-on, all-found, all-end)

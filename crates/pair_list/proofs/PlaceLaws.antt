@@ -14,7 +14,8 @@ use Rattle.text.specs.Text.{Text}
 use Rattle.text.proofs.BoolLaws.{and-l, and-r}
 use Rattle.path_grammar.specs.Legal.{atMost255}
 use Rattle.pair_list.specs.Pair.{Pair, pair, emptyPair, pairAt, sourceAt, targetAt, everyEnd, allShort}
-use Rattle.pair_list.specs.Places.{startAt, lengthAt, inStore, textAt, pairIn, pairsIn, keyAt, isShortAt, placesShort, placesAll}
+use Rattle.text_list.specs.Places.{startAt, lengthAt, inStore, textAt}
+use Rattle.pair_list.specs.Places.{pairIn, pairsIn, keyAt, isShortAt, placesShort, placesAll}
 use Rattle.path_grammar.proofs.LegalLaws.{fits-short}
 
 module _ (store : Text) (places : List ℕ) where

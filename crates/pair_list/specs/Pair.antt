@@ -31,6 +31,11 @@ sourceAt l i = (pairAt l i) .source
 abbrev pub targetAt : List Pair → ℕ → Text
 targetAt l i = (pairAt l i) .target
 
+-- The ends of the pairs: the source and the target of each, in turn.
+unfoldable pub endsOf : List Pair → List Text
+endsOf [] = []
+endsOf (x ∷ xs) = x .source ∷ x .target ∷ endsOf xs
+
 -- Every end of every pair passes a test.
 unfoldable pub everyEnd : (Text → Bool) → List Pair → Bool
 everyEnd passes [] = true

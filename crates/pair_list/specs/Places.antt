@@ -1,31 +1,16 @@
--- A list of pairs in lent memory: a store of bytes, and four numbers for each pair: the start and length of its source, then the start and
--- length of its target. A place is one such start and length. Only this file defines how such a list is read; everything else is defined on
--- `List Pair`.
+-- A list of pairs in lent memory: a store of bytes, and four numbers for each pair: the place of its source, then the place of its target.
+-- The ends of its pairs are a list of texts (crates/text_list). Only this file defines how such a list is read; everything else is defined
+-- on `List Pair`.
 use mathlib.Core.Path.{_≡_}
 use mathlib.Core.Bool.{Bool, true, cond, _&&_, _||_}
 use mathlib.Core.List.{List, [], _∷_, _++_}
 use Prim.Native.Nat.{ℕ, zero, suc, _+_, _*_, _/_}
 use lib.Dec.{leb}
-use lib.ListN.{length, getD, take, drop}
+use lib.ListN.{length}
 use Rattle.text.specs.Text.{Text, written}
-use Rattle.pair_list.specs.Pair.{Pair}
-
--- The start of place j.
-abbrev pub startAt : List ℕ → ℕ → ℕ
-startAt places j = getD places (2 * j) 0
-
--- The length of place j.
-abbrev pub lengthAt : List ℕ → ℕ → ℕ
-lengthAt places j = getD places (2 * j + 1) 0
-
--- Place j lies in the store.
-unfoldable pub inStore : Text → List ℕ → ℕ → Bool
-inStore store places j = leb (startAt places j + lengthAt places j) (length store)
-
--- The text at place j; empty if the place reaches outside the store.
-unfoldable pub textAt : Text → List ℕ → ℕ → Text
-unfolding inStore
-textAt store places j = cond (inStore store places j) (take (lengthAt places j) (drop (startAt places j) store)) []
+use Rattle.text_list.specs.Places.{inStore, lengthAt, textAt}
+use Rattle.text_list.specs.Packed.{textBytes, textPlaces}
+use Rattle.pair_list.specs.Pair.{Pair, endsOf}
 
 -- Pair i: its source is at place 2 i, its target at place 2 i + 1.
 unfoldable pub pairIn : Text → List ℕ → ℕ → Pair
@@ -62,8 +47,8 @@ placesAll passes store places (suc n) = placesAll passes store places n && passe
 
 -- The bytes of a list as it is written: source then target, pair after pair, consecutively.
 unfoldable pub listText : List Pair → Text
-listText [] = []
-listText (x ∷ xs) = x .source ++ (x .target ++ listText xs)
+unfolding textBytes endsOf
+listText l = textBytes (endsOf l)
 
 -- The four numbers of a pair with the ends s and t, written from byte `at` of the store.
 abbrev pub pairEntry : ℕ → Text → Text → List ℕ
@@ -71,8 +56,8 @@ pairEntry at s t = at ∷ length s ∷ (at + length s) ∷ length t ∷ []
 
 -- The four numbers of each pair of a list written from byte `at` of the store.
 unfoldable pub listPlaces : ℕ → List Pair → List ℕ
-listPlaces at [] = []
-listPlaces at (x ∷ xs) = pairEntry at (x .source) (x .target) ++ listPlaces (at + length (x .source) + length (x .target)) xs
+unfolding textPlaces endsOf
+listPlaces at l = textPlaces at (endsOf l)
 
 -- The number of bytes of a list. Requirements: "the sum of all end lengths .. for a list".
 unfoldable pub endBytes : List Pair → ℕ

@@ -1,28 +1,8 @@
 // Lists of (source, target) pairs in lent memory: reading them, and validating their ends (questions 1
-// to 3). A text is a place, a start and a length, in a store of bytes; a pair is two places. Every
-// public function is defined for any bytes and any numbers.
+// to 3). A pair is two places of crates/text_list. Every public function is defined for any bytes and any numbers.
 ghost use mathlib.Core.Path.{_≡_};
 ghost use Rattle.path_grammar.specs.Legal.{legal, isEnd};
-ghost use Rattle.pair_list.specs.Places.{isShortAt, textAt, keyAt, placesShort, placesAll};
-
-// Returns the text at place `j`; empty if there is no such place or it reaches outside the store.
-pub fn text_at<'a>(store: &'a [u8], places: &[usize], j: usize) -> &'a [u8]
-    ensures { λ r. ⌜ now r ≡ textAt (now (store .entry)) (now (places .entry)) j ⌝ }
-{
-    if places.len() / 2 <= j {
-        return &store[..0];
-    }
-    let start = places[2 * j];
-    let n = places[2 * j + 1];
-    if store.len() < start {
-        return &store[..0];
-    }
-    if store.len() - start < n {
-        return &store[..0];
-    }
-    let end = start + n;
-    &store[start..end]
-}
+ghost use Rattle.pair_list.specs.Places.{isShortAt, keyAt, placesShort, placesAll};
 
 // Returns the source of pair `i`, or its target if `invert` is set.
 pub fn key_at<'a>(store: &'a [u8], places: &[usize], i: usize, invert: bool) -> &'a [u8]
@@ -32,9 +12,9 @@ pub fn key_at<'a>(store: &'a [u8], places: &[usize], i: usize, invert: bool) -> 
         return &store[..0];
     }
     if invert {
-        return text_at(store, places, 2 * i + 1);
+        return text_list::text_at(store, places, 2 * i + 1);
     }
-    text_at(store, places, 2 * i)
+    text_list::text_at(store, places, 2 * i)
 }
 
 // Returns whether place `j` lies in the store and has at most 255 bytes; a place beyond the slice
@@ -76,7 +56,7 @@ pub fn all_legal(store: &[u8], places: &[usize], n: usize) -> bool
 {
     let mut j = 0;
     while j < n {
-        if !path_grammar::is_legal(text_at(store, places, j)) {
+        if !path_grammar::is_legal(text_list::text_at(store, places, j)) {
             return false;
         }
         j += 1;
@@ -90,7 +70,7 @@ pub fn all_ends(store: &[u8], places: &[usize], n: usize) -> bool
 {
     let mut j = 0;
     while j < n {
-        if !path_grammar::is_end(text_at(store, places, j)) {
+        if !path_grammar::is_end(text_list::text_at(store, places, j)) {
             return false;
         }
         j += 1;

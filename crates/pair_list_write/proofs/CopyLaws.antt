@@ -7,7 +7,8 @@ use borrow.Author.Tests.{le-leb, lt-leb}
 use lib.ListN.{length, getD, take, drop, List·getD-append}
 use lib.Seq.{getD-append-add, getD-take, length-take-le}
 use Rattle.text.specs.Text.{Text, writtenAt, writtenIfFits}
-use Rattle.pair_list.specs.Places.{inStore, textAt, pairIn, pairsIn}
+use Rattle.text_list.specs.Places.{inStore, textAt}
+use Rattle.pair_list.specs.Places.{pairIn, pairsIn}
 use Rattle.pair_list_write.specs.Lists.{entryAt, copyEntry}
 
 -- A text depends only on its own two numbers.

@@ -3,3 +3,5 @@ pub mod RoomBranches
 pub mod WriteBranches
 pub mod CopyLaws
 pub mod SelectLaws
+pub mod PushBranches
+pub mod PackedLaws

@@ -1,4 +1,4 @@
--- Lemmas for the branches of `write_pair`, `append_list` and `write_list`.
+-- Lemmas for the branches of `write_entry`, `copy_entry`, `append_list` and `write_list`.
 use mathlib.Core.Path.{_≡_, refl, sym, ap, _∙_}
 use mathlib.Core.Bool.{Bool, true, false, not}
 use mathlib.Core.List.{List, [], _∷_, _++_, append-assoc, append-nil}
@@ -14,11 +14,14 @@ use Rattle.text.specs.Text.{Text, written, writtenAt, writtenIfFits}
 use Rattle.text.proofs.BoolLaws.{and-no, known-false, known-true}
 use Rattle.text.specs.declared.Fit.{Fit}
 use Rattle.text.specs.declared.Fit.the-variants.{Written, Over}
-use Rattle.pair_list.specs.Pair.{Pair}
-use Rattle.pair_list.specs.Places.{textAt, keyAt, pairIn, pairsIn, pairEntry, listText, listPlaces, endBytes}
+use Rattle.text_list.specs.Places.{textAt}
+use Rattle.text_list.specs.Packed.{textBytes, textPlaces}
+use Rattle.text_list.proofs.PackedLaws.{bytes-append, places-append}
+use Rattle.pair_list.specs.Pair.{Pair, endsOf}
+use Rattle.pair_list.specs.Places.{keyAt, pairIn, pairsIn, pairEntry, listText, listPlaces, endBytes}
 use Rattle.pair_list_write.specs.Lists.{entryAt, copyEntry, appendFitsBuffers, appendListReply, appendListBytes, appendListSlots, listFitsBuffers, writeListReply, writeListBytes, writeListSlots}
 use Rattle.pair_list.proofs.PlaceLaws.{pairsIn-length}
-use Rattle.pair_list.proofs.ListLaws.{list-length, places-length}
+use Rattle.pair_list.proofs.ListLaws.{ends-append, ends-size, list-length, places-length}
 use Rattle.pair_list_write.proofs.RoomBranches.{end-next, end-grows}
 use Rattle.text.proofs.WriteLaws.{over-written}
 
@@ -79,7 +82,7 @@ module _ (at : ℕ) (s t out : Text) (h : at + (length s + length t) ≤ length 
       let f : at + (length s + length t) ≡ at + length s + length t = omega arith in
       (rw (first-length, f) at e) ∙ drop-append-add s (drop (at + length s) out) (length t) ∙ drop-drop (length t) (at + length s) out
 
-  over-next : writtenAt (at + length s) t (writtenAt at s out) ≡ writtenAt at (s ++ t) out
+  pub over-next : writtenAt (at + length s) t (writtenAt at s out) ≡ writtenAt at (s ++ t) out
   over-next =
       let n : at + length (s ++ t) ≡ at + length s + length t = rw (length-append s t) (omega arith) in
       rw (up-to-second, after-second, n) (simp append-assoc)
@@ -89,33 +92,14 @@ module _ (at : ℕ) (s t out : Text) (h : at + (length s + length t) ≤ length 
   over-over =
       rw (le-leb (at + length s) (length out) (omega arith), once-length, le-leb (at + length s + length t) (length out) (omega arith)) over-next
 
--- Lemmas for `write_pair`; s and t are the keys that were read.
-module _ (at : ℕ) (s t ks kt : Text) (e : s ≡ ks) (f : t ≡ kt) where
-  pub pair-end : at + length s + length t ≡ at + (length ks + length kt)
-  pair-end = omega (arith, ap length e, ap length f)
-
-  pub pair-text : (out once twice : Text) → at + (length ks + length kt) ≤ length out → once ≡ writtenIfFits at s out → twice ≡ writtenIfFits (at + length s) t once
-      → twice ≡ writtenAt at (ks ++ kt) out
-  pair-text out once twice h o w =
-      w ∙ ap (λ (x : Text). writtenIfFits (at + length s) t x) o ∙ over-over at s t out (omega (arith, ap length e, ap length f)) ∙ rw (e, f) refl
-
-  pub pair-slots : (l l′ : List ℕ) (i : ℕ) → 4 * i + 4 ≤ length l → l′ ≡ writtenIfFits (4 * i) (at ∷ length s ∷ (at + length s) ∷ length t ∷ []) l → l′ ≡ writtenAt (4 * i) (pairEntry at ks kt) l
-  unfolding writtenIfFits
-  pair-slots l l′ i h w = w ∙ rw (le-leb (4 * i + 4) (length l) h, e, f) refl
-
 -- A list and one more pair.
-pub list-snoc : (l : List Pair) (x : Pair) → listText (l ++ x ∷ []) ≡ listText l ++ (x .source ++ x .target)
+list-snoc : (l : List Pair) (x : Pair) → listText (l ++ x ∷ []) ≡ listText l ++ (x .source ++ x .target)
 unfolding listText
-list-snoc [] x = simp append-nil
-list-snoc (y ∷ l) x = rw (list-snoc l x) (simp append-assoc)
+list-snoc l x = ap textBytes (ends-append l (x ∷ [])) ∙ bytes-append (endsOf l) (endsOf (x ∷ [])) ∙ simp append-nil
 
-pub places-snoc : (at : ℕ) (l : List Pair) (x : Pair) → listPlaces at (l ++ x ∷ []) ≡ listPlaces at l ++ pairEntry (at + endBytes l) (x .source) (x .target)
-unfolding listPlaces endBytes
-places-snoc at [] x = let z : at + 0 ≡ at = omega arith in rw z refl
-places-snoc at (y ∷ l) x =
-    let n : ℕ = at + length (y .source) + length (y .target) in
-    let z : n + endBytes l ≡ at + (length (y .source) + length (y .target) + endBytes l) = omega arith in
-    rw (places-snoc n l x, z) refl
+places-snoc : (at : ℕ) (l : List Pair) (x : Pair) → listPlaces at (l ++ x ∷ []) ≡ listPlaces at l ++ pairEntry (at + endBytes l) (x .source) (x .target)
+unfolding listPlaces
+places-snoc at l x = ap (textPlaces at) (ends-append l (x ∷ [])) ∙ places-append at (endsOf l) (endsOf (x ∷ [])) ∙ rw (ends-size l) refl
 
 -- Lemmas for `append_list`, which writes after `at` bytes of the buffer o.
 module _ (store : Text) (places : List ℕ) where

@@ -1,13 +1,12 @@
 // Writes lists of pairs to lent memory: the bytes of all ends consecutively, and the places of each
 // pair. Every public function is defined for any bytes and any numbers.
 ghost use mathlib.Core.Path.{_≡_};
-ghost use mathlib.Core.Bool.{true, false};
-ghost use mathlib.Core.List.{[], _∷_, _++_};
-ghost use lib.ListN.{length};
-ghost use Prim.Native.Nat.{_+_, _*_, _≤_};
-ghost use Rattle.text.specs.Text.{writtenAt, writtenIfFits};
+ghost use mathlib.Core.List.{[], _∷_};
+ghost use Prim.Native.Nat.{_*_};
+ghost use Rattle.text.specs.Text.{writtenIfFits};
 ghost use lib.Dec.{leb};
-ghost use Rattle.pair_list.specs.Places.{pairsIn, endBytes, pairEntry, keyAt};
+ghost use Rattle.pair_list.specs.Places.{pairsIn, endBytes};
+ghost use Rattle.pair_list_write.specs.Packed.{pairEnd, pairBytes, pairSlots};
 ghost use Rattle.pair_list_write.specs.Lists.{copyEntry, remainingRoom, appendListReply, appendListBytes, appendListSlots, writeListReply, writeListBytes, writeListSlots};
 
 // The remaining capacity of a byte buffer.
@@ -83,29 +82,35 @@ pub fn copy_entry(places: &[usize], i: usize, w: usize, slots: &mut [usize])
     );
 }
 
-// Writes the bytes of pair `i` from index `at` of `out`, and its four numbers to `slots`; returns the
-// index after the bytes.
-fn write_pair(
-    store: &[u8],
-    places: &[usize],
-    i: usize,
+// Appends a pair to the first n pairs, which have `at` bytes, and returns the offset after it; writes nothing and
+// returns `at` if it does not fit.
+pub fn push_pair(
+    s: &[u8],
+    t: &[u8],
+    n: usize,
     at: usize,
-    out: &mut [u8],
+    bytes: &mut [u8],
     slots: &mut [usize],
 ) -> usize
-    requires { ⌜ at + (length (keyAt (now store) (now places) false i) + length (keyAt (now store) (now places) true i)) ≤ length (now out) ⌝ }
-    requires { ⌜ 4 * i + 4 ≤ length (now slots) ⌝ }
-    ensures { λ r. ⌜ r ≡ at + (length (keyAt (now (store .entry)) (now (places .entry)) false i) + length (keyAt (now (store .entry)) (now (places .entry)) true i)) ⌝ }
-    ensures { λ r. ⌜ now (out .exit) ≡ writtenAt at (keyAt (now (store .entry)) (now (places .entry)) false i ++ keyAt (now (store .entry)) (now (places .entry)) true i) (now (out .entry)) ⌝ }
-    ensures { λ r. ⌜ now (slots .exit) ≡ writtenAt (4 * i) (pairEntry at (keyAt (now (store .entry)) (now (places .entry)) false i) (keyAt (now (store .entry)) (now (places .entry)) true i)) (now (slots .entry)) ⌝ }
+    ensures { λ r. ⌜ r ≡ pairEnd (now (s .entry)) (now (t .entry)) n at (now (bytes .entry)) (now (slots .entry)) ⌝ }
+    ensures { λ r. ⌜ now (bytes .exit) ≡ pairBytes (now (s .entry)) (now (t .entry)) n at (now (bytes .entry)) (now (slots .entry)) ⌝ }
+    ensures { λ r. ⌜ now (slots .exit) ≡ pairSlots (now (s .entry)) (now (t .entry)) n at (now (bytes .entry)) (now (slots .entry)) ⌝ }
 {
-    let s = pair_list::key_at(store, places, i, false);
-    let t = pair_list::key_at(store, places, i, true);
-    let m = at + s.len();
-    write_entry(i, at, s.len(), m, t.len(), slots);
-    text::write_at(s, at, out);
-    text::write_at(t, m, out);
-    m + t.len()
+    if bytes.len() < at {
+        return at;
+    }
+    let room = bytes.len() - at;
+    if room < s.len() {
+        return at;
+    }
+    if room - s.len() < t.len() {
+        return at;
+    }
+    if slots.len() / 4 <= n {
+        return at;
+    }
+    let m = text_list::push_text(s, 2 * n, at, bytes, slots);
+    text_list::push_text(t, 2 * n + 1, m, bytes, slots)
 }
 
 // Writes the bytes of the first n pairs consecutively from index `at` of `out`, and their places to
@@ -134,7 +139,9 @@ pub fn append_list(
     let mut end = at;
     let mut i = 0;
     while i < n {
-        end = write_pair(store, places, i, end, out, slots);
+        let s = pair_list::key_at(store, places, i, false);
+        let t = pair_list::key_at(store, places, i, true);
+        end = push_pair(s, t, i, end, out, slots);
         i += 1;
     }
     text::Fit::Written(n)

@@ -1,10 +1,11 @@
-// The legs of a route in lent memory: reading a leg's kind, pairs and number of pairs, and validating the
+// The legs of a route in lent memory: reading and writing a leg's kind, pairs and number of pairs, and validating the
 // route (questions 1 to 4). Every public function is defined for all byte slices and all numbers.
 ghost use mathlib.Core.Path.{_≡_};
 ghost use mathlib.Core.Bool.{cond};
 ghost use mathlib.Core.List.{[], _∷_};
 ghost use Prim.Native.Nat.{_+_, _*_, _<_};
 ghost use lib.ListN.{getD, drop};
+ghost use Rattle.text.specs.Text.{writtenIfFits};
 ghost use Rattle.refusal.specs.declared.Validation.the-variants.{Passed, Refused};
 ghost use Rattle.refusal.specs.declared.Refusal.the-variants.{TooMany};
 ghost use Rattle.validate.specs.Validate.{validateCall};
@@ -37,6 +38,20 @@ pub fn size_at(legs: &[usize], k: usize) -> usize
     ensures { λ r. ⌜ r ≡ sizeAt (now (legs .entry)) k ⌝ }
 {
     entry_at(legs, k, 2)
+}
+
+// Writes the three numbers of leg k, its kind, the index of its first pair and its number of pairs, if the slice
+// is long enough; otherwise writes nothing.
+pub fn write_leg(k: usize, kind: usize, first: usize, size: usize, legs: &mut [usize])
+    ensures { λ _. ⌜ now (legs .exit) ≡ writtenIfFits (3 * k) (kind ∷ first ∷ size ∷ []) (now (legs .entry)) ⌝ }
+{
+    if legs.len() / 3 <= k {
+        return;
+    }
+    let j = 3 * k;
+    legs[j] = kind;
+    legs[j + 1] = first;
+    legs[j + 2] = size;
 }
 
 // The places from leg k's first pair on.

@@ -2,20 +2,20 @@
 use mathlib.Core.Path.{_≡_, refl, sym, ap, _∙_}
 use mathlib.Core.Logic.{_≢_}
 use mathlib.Core.Bool.{Bool, true, false, not}
-use mathlib.Core.List.{List, [], _++_}
+use mathlib.Core.List.{List, [], _∷_, _++_}
 use Prim.Native.Nat.{ℕ, _+_, _-_, _*_, _≤_, _<_}
 use native.Mathlib.Omega.{arith}
 use native.Mathlib.Numerals.{add-one}
 use lib.Dec.{eqb, leb}
-use lib.ListN.{length, take, drop, set, replicate}
+use lib.ListN.{length, take, drop, replicate}
 use lib.Seq.{drop-drop}
 use borrow.Rule.Slice.PartMut.{putMid}
 use borrow.Author.Tests.{eq-eqb, ne-eqb, le-leb, lt-leb}
-use Rattle.text.specs.Text.{Text, writtenAt}
+use Rattle.text.specs.Text.{Text, writtenAt, writtenIfFits}
 use Rattle.text.proofs.BoolLaws.{known-false, known-true, and-no}
 use Rattle.pair_list_write.specs.Lists.{copyEntry}
 use Rattle.pair_list_write.specs.Select.{indicesWhere, writtenEntries, HoldsEntries}
-use Rattle.pair_list_write.proofs.WriteBranches.{three-stored}
+use Rattle.route_legs.proofs.LegBranches.{leg-written}
 use Rattle.pair_list_write.proofs.SelectLaws.{selected-none, selected-turn}
 use Rattle.validate.specs.Validate.{LentList, lentList, countWithinLimit}
 use Rattle.validate.specs.Select.{canSelect}
@@ -107,9 +107,9 @@ module _ (store : Text) (places legs : List ℕ) (k : ℕ) (kind size : ℕ) (pa
       part-put (256 * k) made block (l ∙ part-room k made h g) ∙ ap (λ (x : List ℕ). writtenAt (256 * k) x made) f
 
   pub leg-known : (table : List ℕ) → k < 16 → length table ≡ 48 → (m : ℕ) → m ≡ mapKind kind → (w room : ℕ) → room ≡ 256 → w ≡ length (legSelection kind (lentList store part size) room)
-      → set (set (set table (3 * k) m) (3 * k + 1) (64 * k)) (3 * k + 2) w ≡ writtenAt (3 * k) (preparedEntry one k) table
+      → (table′ : List ℕ) → table′ ≡ writtenIfFits (3 * k) (m ∷ 64 * k ∷ w ∷ []) table → table′ ≡ writtenAt (3 * k) (preparedEntry one k) table
   unfolding preparedEntry listAt
-  leg-known table h t m em w room z ew = three-stored table (3 * k) m (64 * k) w (omega arith) ∙ rw (em, ew, z, ek, es, ep) refl
+  leg-known table h t m em w room z ew table′ e = leg-written k m (64 * k) w table (omega arith) table′ e ∙ rw (em, ew, z, ek, es, ep) refl
 
 -- `prepare_legs`
 pub places-none : (r : LentRoute) (made : List ℕ) → made ≡ preparedPlaces r 0 made

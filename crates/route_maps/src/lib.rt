@@ -105,10 +105,7 @@ fn prepare_leg(
         route_legs::size_at(legs, k),
         &mut made[at..end],
     );
-    let j = 3 * k;
-    table[j] = map_kind(kind);
-    table[j + 1] = 64 * k;
-    table[j + 2] = w;
+    route_legs::write_leg(k, map_kind(kind), 64 * k, w, table);
 }
 
 // Prepares the maps of the first n legs: `made`, of 4,096 entries, receives the places of their pairs,

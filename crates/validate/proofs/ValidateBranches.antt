@@ -11,7 +11,8 @@ use Rattle.text.specs.Text.{Text}
 use Rattle.text.proofs.BoolLaws.{and-l, and-r, and-yes, known-false, known-true, not-true, not-false}
 use Rattle.path_grammar.specs.Legal.{legal, atMost255, isEnd}
 use Rattle.path_grammar.proofs.LegalLaws.{end-legal}
-use Rattle.pair_list.specs.Places.{textAt, placesShort, placesAll}
+use Rattle.text_list.specs.Places.{textAt}
+use Rattle.pair_list.specs.Places.{placesShort, placesAll}
 use Rattle.refusal.specs.declared.Refusal.the-variants.{TooLong, Illegal, NotAnEnd, TooMany}
 use Rattle.refusal.specs.declared.Validation.{Validation}
 use Rattle.refusal.specs.declared.Validation.the-variants.{Passed, Refused}

@@ -1,63 +1,28 @@
-use native.Mathlib.Omega.{arith}
-use lib.ListN.{length-set}
+-- The leg's three numbers lie in the table.
 use Rattle.close_leg.proofs.CloseBranches.{entry-known}
 use borrow.Author.Needs.{needs}
 use Rattle.close_leg.proofs.write_leg_entry.Statement.{statement}
 use Rattle.close_leg.proofs.write_leg_entry.Tie as tie
 
-mul-j : tie.Need-mul-j
-mul-j c = search needs
-
 mark-number-requires : tie.Need-mark-number-requires
 mark-number-requires c κs = search needs
 
-mul-table : tie.Need-mul-table
-mul-table c = search needs
+mul-write-leg : tie.Need-mul-write-leg
+mul-write-leg c = search needs
 
-slice-write-table : tie.Need-slice-write-table
-slice-write-table c = search needs
-
-mul-table-2 : tie.Need-mul-table-2
-mul-table-2 c = search needs
-
-add-table : tie.Need-add-table
-add-table c = search needs
-
-mul-table-3 : tie.Need-mul-table-3
-mul-table-3 c = search needs
-
-slice-write-table-2 : tie.Need-slice-write-table-2
-slice-write-table-2 c = simp length-set (omega (arith, c .before .before .pre .0, c .before .before .pre .1))
-
-add-table-2 : tie.Need-add-table-2
-add-table-2 c = search needs
-
-mul-table-4 : tie.Need-mul-table-4
-mul-table-4 c = search needs
-
-slice-write-table-3 : tie.Need-slice-write-table-3
-slice-write-table-3 c = simp length-set (omega (arith, c .before .before .pre .0, c .before .before .pre .1))
+write-leg-requires : tie.Need-write-leg-requires
+write-leg-requires c κs = search needs
 
 same-length : tie.Need-same-length
 same-length c = search needs
 
 returns : tie.Need-returns
-returns c = entry-known _ _ _ _ _ (c .before .before .args .mark) (c .mark-number .ensures) (c .before .before .pre .1)
+returns c =
+    let at-write-leg = c .before .before in
+    let at-mark-number = at-write-leg .before .before in
+    let at-start = at-mark-number .before .before in
+    entry-known _ _ _ _ _ (at-start .args .mark) (at-mark-number .mark-number .ensures) (at-start .pre .1) _ (at-write-leg .write-leg .ensures)
 
 pub write-leg-entry-spec : {M : Type 1} → statement M
 write-leg-entry-spec =
-    tie.close
-    (tie.spec
-    mul-j
-    mark-number-requires
-    mul-table
-    slice-write-table
-    mul-table-2
-    add-table
-    mul-table-3
-    slice-write-table-2
-    add-table-2
-    mul-table-4
-    slice-write-table-3
-    same-length
-    returns)
+    tie.close (tie.spec mark-number-requires mul-write-leg write-leg-requires same-length returns)

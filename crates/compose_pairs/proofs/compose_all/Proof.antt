@@ -6,7 +6,7 @@ use lib.ListN.{length}
 use Rattle.pair_list.specs.Places.{pairsIn}
 use Rattle.map_spec.specs.Compose.{composedPair}
 use Rattle.map_spec.specs.Map.{lentMap}
-use Rattle.compose_pairs.specs.ComposePairs.{PackedList}
+use Rattle.pair_list_write.specs.Packed.{PackedList}
 use Rattle.compose_pairs.proofs.ComposeBranches.{compose-begin, compose-room, compose-bound, compose-next, compose-end}
 use borrow.Author.Needs.{needs}
 use Rattle.compose_pairs.proofs.compose_all.Statement.{statement}
@@ -68,7 +68,7 @@ loop-again c = (
       let args = at-start .args in
       compose-bound (lentMap (args .store .now) (args .places .now) (args .count) (args .mark)) (at-start .pre .outerEnds) (args .istore .now)
       (args .iplaces .now) (args .inner) (at-start .pre .innerEnds) (at-loop .loop .i) (at-loop .loop .at) (at-loop-test .loop-test .taken)
-      (at-loop .loop .inv .1) _ _ (at-key-at .key-at .ensures) (at-key-at2 .key-at2 .ensures) _ (at-compose-pair .compose-pair .ensures .0)),
+      (at-loop .loop .inv .1) _ _ (at-key-at .key-at .ensures) (at-key-at2 .key-at2 .ensures) _ (at-compose-pair .compose-pair .ensures .end)),
   (let at-compose-pair = c .before .before .before .before in
       let at-key-at2 = at-compose-pair .before .before .before in
       let at-key-at = at-key-at2 .before in
@@ -79,7 +79,7 @@ loop-again c = (
       compose-next (lentMap (args .store .now) (args .places .now) (args .count) (args .mark)) (at-start .pre .outerEnds) (args .istore .now)
       (args .iplaces .now) (args .inner) (at-start .pre .innerEnds) (at-loop .loop .i) (at-loop .loop .at) (at-loop-test .loop-test .taken)
       (at-loop .loop .inv .1) _ _ (at-key-at .key-at .ensures) (at-key-at2 .key-at2 .ensures) _ _ _ _ _ _ _ (at-loop .loop .inv .2)
-      (at-compose-pair .compose-pair .ensures .0) (at-compose-pair .compose-pair .ensures .1 .0) (at-compose-pair .compose-pair .ensures .1 .1)),
+      (at-compose-pair .compose-pair .ensures)),
   search needs,
   search needs,
 )

@@ -1,6 +1,6 @@
 use native.Mathlib.Omega.{arith}
 use Rattle.map_spec.specs.Map.{lentMap}
-use Rattle.compose_pairs.proofs.PackLaws.{packed-stored}
+use Rattle.pair_list_write.proofs.PackedLaws.{packed-stored}
 use Rattle.compose_pairs.proofs.ComposeBranches.{composed}
 use borrow.Author.Needs.{needs}
 use Rattle.compose_pairs.proofs.compose_both.Statement.{statement}

@@ -1,4 +1,4 @@
-use Rattle.pair_buffer.proofs.PairBufferLaws.{pair-done}
+use Rattle.pair_list_write.proofs.PushBranches.{pair-done}
 use borrow.Author.Needs.{needs}
 use Rattle.compose_pairs.proofs.compose_pair.Statement.{statement}
 use Rattle.compose_pairs.proofs.compose_pair.Tie as tie

@@ -5,8 +5,8 @@ use lib.ListN.{length}
 use Rattle.pair_list.specs.Places.{pairsIn}
 use Rattle.map_spec.specs.Compose.{pulledBack}
 use Rattle.map_spec.specs.Map.{lentMap}
-use Rattle.compose_pairs.specs.ComposePairs.{PackedList}
-use Rattle.compose_pairs.proofs.PackLaws.{packed-stored}
+use Rattle.pair_list_write.specs.Packed.{PackedList}
+use Rattle.pair_list_write.proofs.PackedLaws.{packed-stored}
 use Rattle.compose_pairs.proofs.ComposeBranches.{pull-begin, pull-room, pull-slot, pull-number, pull-bound, pull-next, pull-end}
 use borrow.Author.Needs.{needs}
 use Rattle.compose_pairs.proofs.pull_back_all.Statement.{statement}

@@ -1,5 +1,5 @@
 use Rattle.map_deepen.specs.Calls.{deepenedPairs}
-use Rattle.pair_buffer.specs.PairBuffer.{HoldsList}
+use Rattle.pair_list_write.specs.Packed.{HoldsList}
 use Rattle.map_spec.specs.Derive.{deepenedPair}
 use Rattle.pair_list.specs.Places.{pairsIn}
 use Rattle.pair_list.specs.Pair.{Pair}
@@ -75,7 +75,7 @@ loop-again c = (
   search needs,
   (let at-deepen-pair = c .before .before .before .before in
       let at-loop = at-deepen-pair .before .before .before .before .before .before in
-      omega (arith, at-deepen-pair .deepen-pair .ensures .0 .1, at-loop .loop .inv .1)),
+      omega (arith, at-deepen-pair .deepen-pair .ensures .1, at-loop .loop .inv .1)),
   (let at-deepen-pair = c .before .before .before .before in
       let at-key-at2 = at-deepen-pair .before .before .before in
       let at-key-at = at-key-at2 .before in
@@ -83,10 +83,10 @@ loop-again c = (
       let at-start = at-loop .before .before .before .before .before .before .before .before in
       let args = at-start .args in
       build-next (λ (x : Pair). deepenedPair (args .node .now) (args .above .now) (args .below .now) x) (args .store .now) (args .places .now)
-      (at-loop .loop .i) (at-loop .loop .at) _ _ (at-loop .loop .inv .2) _ _
+      (at-loop .loop .i) (at-loop .loop .at) _ _ (at-loop .loop .inv .2) _
       (deepened-pair (args .store .now) (args .places .now) (at-loop .loop .i) (args .node .now) (args .above .now) (args .below .now) _ _
       (at-key-at .key-at .ensures) (at-key-at2 .key-at2 .ensures))
-      _ _ _ (at-deepen-pair .deepen-pair .ensures .0 .0) (at-deepen-pair .deepen-pair .ensures .1 .0) (at-deepen-pair .deepen-pair .ensures .1 .1)),
+      _ _ _ (at-deepen-pair .deepen-pair .ensures .0)),
   search needs,
   search needs,
 )

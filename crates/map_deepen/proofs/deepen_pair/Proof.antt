@@ -1,4 +1,4 @@
-use Rattle.pair_buffer.proofs.PairBufferLaws.{put-there}
+use Rattle.pair_list_write.proofs.PushBranches.{pair-there}
 use native.Mathlib.Omega.{arith}
 use Rattle.map_deepen.proofs.DeepenBranches.{deepen-class, deepen-other}
 use borrow.Author.Needs.{needs}
@@ -27,12 +27,8 @@ returns c =
     let pre = at-start .pre in
     deepen-class (args .s .now) (args .t .now) (args .node .now) (args .above .now) (args .below .now) _ (at-is-equal .is-equal .ensures) (args .at)
     (args .n) _ (args .bytes .now) _ (args .slots .now) _ (at-if1 .if1 .taken) (pre .1 .1 .0) (pre .1 .1 .1 .0)
-    (put-there _ _ _ _ _ _ _ _ _ (at-push-pair .push-pair .ensures) (omega (arith, pre .1 .1 .0, pre .1 .1 .1 .0, pre .1 .1 .1 .1 .0))
-    (pre .1 .1 .1 .1 .1) .0)
-    (put-there _ _ _ _ _ _ _ _ _ (at-push-pair .push-pair .ensures) (omega (arith, pre .1 .1 .0, pre .1 .1 .1 .0, pre .1 .1 .1 .1 .0))
-    (pre .1 .1 .1 .1 .1) .1 .0)
-    (put-there _ _ _ _ _ _ _ _ _ (at-push-pair .push-pair .ensures) (omega (arith, pre .1 .1 .0, pre .1 .1 .1 .0, pre .1 .1 .1 .1 .0))
-    (pre .1 .1 .1 .1 .1) .1 .1)
+    (pair-there _ _ _ _ _ _ (omega (arith, pre .1 .1 .0, pre .1 .1 .1 .0, pre .1 .1 .1 .1 .0)) (pre .1 .1 .1 .1 .1) _ _ _
+    (at-push-pair .push-pair .ensures))
 
 push-pair-requires-2 : tie.Need-push-pair-requires-2
 push-pair-requires-2 c κs = search needs
@@ -53,11 +49,7 @@ returns-2 c =
     let pre = at-start .pre in
     deepen-other (args .s .now) (args .t .now) (args .node .now) (args .above .now) (args .below .now) _ (at-is-equal .is-equal .ensures) (args .at)
     (args .n) _ (args .bytes .now) _ (args .slots .now) _ (at-if1 .if1 .left) (pre .0) (pre .1 .0)
-    (put-there _ _ _ _ _ _ _ _ _ (at-push-pair2 .push-pair2 .ensures) (omega (arith, pre .0, pre .1 .0, pre .1 .1 .1 .1 .0)) (pre .1 .1 .1 .1 .1) .0)
-    (put-there _ _ _ _ _ _ _ _ _ (at-push-pair2 .push-pair2 .ensures) (omega (arith, pre .0, pre .1 .0, pre .1 .1 .1 .1 .0))
-    (pre .1 .1 .1 .1 .1) .1 .0)
-    (put-there _ _ _ _ _ _ _ _ _ (at-push-pair2 .push-pair2 .ensures) (omega (arith, pre .0, pre .1 .0, pre .1 .1 .1 .1 .0))
-    (pre .1 .1 .1 .1 .1) .1 .1)
+    (pair-there _ _ _ _ _ _ (omega (arith, pre .0, pre .1 .0, pre .1 .1 .1 .1 .0)) (pre .1 .1 .1 .1 .1) _ _ _ (at-push-pair2 .push-pair2 .ensures))
 
 pub deepen-pair-spec : {M : Type 1} → statement M
 deepen-pair-spec =

@@ -1,5 +1,5 @@
 use Rattle.map_function.proofs.NewBranches.{refusing-map}
-use Rattle.pair_buffer.proofs.PairBufferLaws.{built-held}
+use Rattle.pair_list_write.proofs.PackedLaws.{holds-inside}
 use Rattle.map_implied_class.proofs.ImpliedBranches.{finish-many, finish-room, finish-long, finish-fits, finish-made}
 use borrow.Author.Needs.{needs}
 use Rattle.map_implied_class.proofs.finish.Statement.{statement}
@@ -86,7 +86,7 @@ finish-composed-requires c κs =
     let at-compose-list = at-if1 .before .before .before .before .before .before in
     let at-start = at-compose-list .before .before .before .before .before .before .before .before .before .before .before in
     let args = at-start .args in (
-      (at-if1 .if1 .left, built-held _ _ _ _ _ (at-compose-list .compose-list .ensures)),
+      (at-if1 .if1 .left, holds-inside _ _ _ _ _ (at-compose-list .compose-list .ensures)),
       finish-fits (args .store .now) (args .places .now) (args .transfer) (args .mid .now) (args .mids .now) (args .class) (args .b .n) (args .b .at)
           (args .short) (args .time) (args .out .now) (args .slots .now) _ _ _ _ (at-compose-list .compose-list .ensures) (at-if1 .if1 .left) _
           (at-has-room-beside .has-room-beside .ensures) (at-if2 .if2 .left) _ (at-all-short .all-short .ensures) _ (at-both .both .ensures),

@@ -2,7 +2,7 @@ use lib.Ieee.{ofBits}
 use native.Mathlib.Omega.{arith}
 use Rattle.map_function.proofs.NewBranches.{refusing-map, gives-map}
 use Rattle.map_implied_class.specs.Implied.{impliedTime}
-use Rattle.pair_buffer.proofs.PairBufferLaws.{built-held}
+use Rattle.pair_list_write.proofs.PackedLaws.{holds-inside}
 use Rattle.map_implied_class.proofs.ImpliedBranches.{back-composes, implied-many, class-room, part-composes, implied-rest, time-twice}
 use borrow.Author.Needs.{needs}
 use Rattle.map_implied_class.proofs.implied_in.Statement.{statement}
@@ -83,7 +83,7 @@ finish-composed-requires c κs =
     let at-start = at-invert .before .before .before .before .before .before .before .before .before in
     let args = at-start .args in
     let pre = at-start .pre in (
-      (at-if1 .if1 .left, built-held _ _ _ _ _ (at-compose-list .compose-list .ensures)),
+      (at-if1 .if1 .left, holds-inside _ _ _ _ _ (at-compose-list .compose-list .ensures)),
       class-room (args .store .now) (args .places .now) (args .transfer) (args .cstore .now) (args .cplaces .now) (args .class) (pre .0)
           (pre .1) _ _ (at-invert .invert .result) (at-invert .invert .ensures) _ _ _ _ (at-compose-list .compose-list .ensures)
           (at-if1 .if1 .left) (omega (arith, slice-aggregate-finish-composed-3 (at-1))) (omega (arith, slice-aggregate-finish-composed-4 c)),

@@ -1,7 +1,5 @@
-use Rattle.pair_buffer.proofs.PairBufferLaws.{put-there}
+use Rattle.pair_list_write.proofs.PushBranches.{pair-there}
 use native.Mathlib.Omega.{arith}
-use mathlib.Core.List.{[], _∷_}
-use mathlib.Core.Path.{refl}
 use Rattle.map_rebase.proofs.CallBranches.{one-pair}
 use borrow.Author.Needs.{needs}
 use Rattle.map_rebase.proofs.from_pair_identity.Statement.{statement}
@@ -40,9 +38,8 @@ returns c =
     let args = at-start .args in
     let pre = at-start .pre in
     gives-map _ _
-    (one-pair (args .s .now) (args .t .now) (args .time) (args .out .now) (args .slots .now) _ _ (0 ∷ 0 ∷ 0 ∷ 0 ∷ []) _ refl
-    (put-there _ _ _ _ _ _ _ _ _ (at-push-pair .push-pair .ensures) (omega (arith, pre .0, pre .1)) (omega arith) .1 .0)
-    (put-there _ _ _ _ _ _ _ _ _ (at-push-pair .push-pair .ensures) (omega (arith, pre .0, pre .1)) (omega arith) .1 .1))
+    (one-pair (args .s .now) (args .t .now) (args .time) (args .out .now) (args .slots .now) _ _ _ _ _
+    (pair-there _ _ _ _ _ _ (omega (arith, pre .0, pre .1)) (omega arith) _ _ _ (at-push-pair .push-pair .ensures)))
     _ _ _ _ _ (at-from-parts .from-parts .ensures)
 
 pub from-pair-identity-spec : {M : Type 1} → statement M

@@ -1,5 +1,5 @@
 use Rattle.map_rebase.specs.Calls.{rebasedPairs}
-use Rattle.pair_buffer.specs.PairBuffer.{HoldsList}
+use Rattle.pair_list_write.specs.Packed.{HoldsList}
 use Rattle.map_spec.specs.Derive.{rebasedPair}
 use Rattle.pair_list.specs.Places.{pairsIn}
 use Rattle.pair_list.specs.Pair.{Pair}
@@ -72,7 +72,7 @@ loop-again c = (
   search needs,
   (let at-rebase-pair = c .before .before .before .before in
       let at-loop = at-rebase-pair .before .before .before .before .before .before in
-      omega (arith, at-rebase-pair .rebase-pair .ensures .0 .1, at-loop .loop .inv .1)),
+      omega (arith, at-rebase-pair .rebase-pair .ensures .1, at-loop .loop .inv .1)),
   (let at-rebase-pair = c .before .before .before .before in
       let at-key-at2 = at-rebase-pair .before .before .before in
       let at-key-at = at-key-at2 .before in
@@ -80,10 +80,10 @@ loop-again c = (
       let at-start = at-loop .before .before .before .before .before .before .before in
       let args = at-start .args in
       build-next (λ (x : Pair). rebasedPair (args .from .now) (args .to .now) x) (args .store .now) (args .places .now) (at-loop .loop .i)
-      (at-loop .loop .at) _ _ (at-loop .loop .inv .2) _ _
+      (at-loop .loop .at) _ _ (at-loop .loop .inv .2) _
       (rebased-pair (args .store .now) (args .places .now) (at-loop .loop .i) (args .from .now) (args .to .now) _ _ (at-key-at .key-at .ensures)
       (at-key-at2 .key-at2 .ensures))
-      _ _ _ (at-rebase-pair .rebase-pair .ensures .0 .0) (at-rebase-pair .rebase-pair .ensures .1 .0) (at-rebase-pair .rebase-pair .ensures .1 .1)),
+      _ _ _ (at-rebase-pair .rebase-pair .ensures .0)),
   search needs,
   search needs,
 )

@@ -1,4 +1,4 @@
-use Rattle.pair_buffer.proofs.PairBufferLaws.{put-there}
+use Rattle.pair_list_write.proofs.PushBranches.{pair-there}
 use native.Mathlib.Omega.{arith}
 use Rattle.pair_buffer.specs.Ends.{replacedOrSame}
 use Rattle.pair_buffer.proofs.LengthLaws.{placed-back, replaced-short, part-within, part-is}
@@ -58,11 +58,11 @@ returns c =
     part-done its-replacedOrSame _ _ (placed-back _ _ _ _ (at-replace-into .replace-into .ensures) its-replaced-short .0)
     (placed-back _ _ _ _ (at-replace-into .replace-into .ensures) its-replaced-short .1) its-replaced-short (args .s .now) (pre .0) (args .at)
     (args .n) _ (args .bytes .now) _ (args .slots .now) _
-    (put-there _ _ _ _ _ _ _ _ _ (at-push-pair .push-pair .ensures)
+    (pair-there _ _ _ _ _ _
     (part-room its-replacedOrSame _ _ (placed-back _ _ _ _ (at-replace-into .replace-into .ensures) its-replaced-short .0)
     (placed-back _ _ _ _ (at-replace-into .replace-into .ensures) its-replaced-short .1) its-replaced-short (args .s .now) (pre .0) (args .at) _
     (pre .1 .1 .1 .0))
-    (pre .1 .1 .1 .1))
+    (pre .1 .1 .1 .1) _ _ _ (at-push-pair .push-pair .ensures))
 
 pub rebase-pair-spec : {M : Type 1} → statement M
 rebase-pair-spec =

@@ -1,5 +1,5 @@
+-- The map is written to the leg's block, a part of the buffer, and its three numbers to the table.
 use native.Mathlib.Omega.{arith}
-use lib.ListN.{length-set}
 use Rattle.route_maps.proofs.PrepareBranches.{leg-placed, part-room, leg-known}
 use borrow.Author.Needs.{needs}
 use Rattle.route_maps.proofs.prepare_leg.Statement.{statement}
@@ -35,42 +35,14 @@ part-prepare-pairs-end c = search needs
 prepare-pairs-requires : tie.Need-prepare-pairs-requires
 prepare-pairs-requires c κs = search needs
 
-mul-j : tie.Need-mul-j
-mul-j c = search needs
-
 map-kind-requires : tie.Need-map-kind-requires
 map-kind-requires c κs = search needs
 
-mul-table : tie.Need-mul-table
-mul-table c = search needs
+mul-write-leg : tie.Need-mul-write-leg
+mul-write-leg c = omega (arith, c .before .before .before .before .before .before .before .before .before .before .before .before .before .pre .0)
 
-slice-write-table : tie.Need-slice-write-table
-slice-write-table c = search needs
-
-mul-table-2 : tie.Need-mul-table-2
-mul-table-2 c = search needs
-
-add-table : tie.Need-add-table
-add-table c = search needs
-
-mul-table-3 : tie.Need-mul-table-3
-mul-table-3 c = search needs
-
-slice-write-table-2 : tie.Need-slice-write-table-2
-slice-write-table-2 c =
-    let at-start = c .before .before .before .before .before .before .before .before .before .before .before .before .before in
-    simp length-set (omega (arith, at-start .pre .0, at-start .pre .1 .1))
-
-add-table-2 : tie.Need-add-table-2
-add-table-2 c = search needs
-
-mul-table-4 : tie.Need-mul-table-4
-mul-table-4 c = search needs
-
-slice-write-table-3 : tie.Need-slice-write-table-3
-slice-write-table-3 c =
-    let at-start = c .before .before .before .before .before .before .before .before .before .before .before .before .before in
-    simp length-set (omega (arith, at-start .pre .0, at-start .pre .1 .1))
+write-leg-requires : tie.Need-write-leg-requires
+write-leg-requires c κs = search needs
 
 same-length : tie.Need-same-length
 same-length c = search needs
@@ -80,7 +52,9 @@ same-length-2 c = search needs
 
 returns : tie.Need-returns
 returns c =
-    let at-prepare-pairs = c .before .before .before in
+    let at-write-leg = c .before .before in
+    let at-map-kind = at-write-leg .before .before in
+    let at-prepare-pairs = at-map-kind .before .before .before in
     let at-size-at = at-prepare-pairs .before .before in
     let at-leg-places = at-size-at .before in
     let at-kind-at = at-leg-places .before in
@@ -93,8 +67,8 @@ returns c =
     let t = at-prepare-pairs .prepare-pairs .ensures in (
       leg-placed _ (args .places .now) (args .legs .now) _ _ _ _ k z f _ (pre .0) (pre .1 .0) _ (t .1)
           (at-prepare-pairs .prepare-pairs .kept .1 .1 .1 .1 .0),
-      leg-known _ (args .places .now) (args .legs .now) _ _ _ _ k z f _ (pre .0) (pre .1 .1) _ (c .map-kind .ensures) _ _
-          (part-room _ _ (pre .0) (pre .1 .0)) (t .0),
+      leg-known _ (args .places .now) (args .legs .now) _ _ _ _ k z f _ (pre .0) (pre .1 .1) _ (at-map-kind .map-kind .ensures) _ _
+          (part-room _ _ (pre .0) (pre .1 .0)) (t .0) _ (at-write-leg .write-leg .ensures),
     )
 
 pub prepare-leg-spec : {M : Type 1} → statement M
@@ -111,17 +85,9 @@ prepare-leg-spec =
     part-prepare-pairs-start
     part-prepare-pairs-end
     prepare-pairs-requires
-    mul-j
     map-kind-requires
-    mul-table
-    slice-write-table
-    mul-table-2
-    add-table
-    mul-table-3
-    slice-write-table-2
-    add-table-2
-    mul-table-4
-    slice-write-table-3
+    mul-write-leg
+    write-leg-requires
     same-length
     same-length-2
     returns)

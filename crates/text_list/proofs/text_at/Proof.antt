@@ -1,13 +1,13 @@
-use Rattle.pair_list.proofs.PlaceBranches.{placing}
+use Rattle.text_list.proofs.PlaceBranches.{reading}
 use borrow.Author.Needs.{needs}
-use Rattle.pair_list.proofs.text_at.Statement.{statement}
-use Rattle.pair_list.proofs.text_at.Tie as tie
+use Rattle.text_list.proofs.text_at.Statement.{statement}
+use Rattle.text_list.proofs.text_at.Tie as tie
 
 slice-aggregate-result : tie.Need-slice-aggregate-result
 slice-aggregate-result c = search needs
 
 returns : tie.Need-returns
-returns c = search (needs, placing)
+returns c = search (needs, reading)
 
 mul-start : tie.Need-mul-start
 mul-start c = search needs
@@ -34,7 +34,7 @@ slice-aggregate-result-2 : tie.Need-slice-aggregate-result-2
 slice-aggregate-result-2 c = search needs
 
 returns-2 : tie.Need-returns-2
-returns-2 c = search (needs, placing)
+returns-2 c = search (needs, reading)
 
 sub-if3 : tie.Need-sub-if3
 sub-if3 c = search needs
@@ -43,7 +43,7 @@ slice-aggregate-result-3 : tie.Need-slice-aggregate-result-3
 slice-aggregate-result-3 c = search needs
 
 returns-3 : tie.Need-returns-3
-returns-3 c = search (needs, placing)
+returns-3 c = search (needs, reading)
 
 add-end : tie.Need-add-end
 add-end c = search needs
@@ -58,7 +58,7 @@ part-result-end : tie.Need-part-result-end
 part-result-end c = search needs
 
 returns-4 : tie.Need-returns-4
-returns-4 c = search (needs, placing)
+returns-4 c = search (needs, reading)
 
 pub text-at-spec : {M : Type 1} → statement M
 text-at-spec =

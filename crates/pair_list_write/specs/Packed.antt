@@ -1,24 +1,35 @@
--- The contents of a scratch buffer in which a list of pairs is built.
+-- A packed list of pairs: its ends lie one after the other from the beginning of a buffer, and its places from the beginning of another.
 use mathlib.Core.Path.{_≡_}
 use mathlib.Core.Bool.{Bool, cond, _&&_}
 use mathlib.Core.List.{List, _++_}
 use Prim.Native.Nat.{ℕ, _+_, _*_, _≤_}
 use lib.Dec.{leb}
 use lib.ListN.{length}
-use Rattle.text.specs.Text.{Text, writtenAt}
+use Rattle.text.specs.Text.{Text, written, writtenAt}
 use Rattle.pair_list.specs.Pair.{Pair}
-use Rattle.pair_list.specs.Places.{listText, listPlaces, pairEntry, endBytes}
+use Rattle.pair_list.specs.Places.{pairsIn, listText, listPlaces, pairEntry, endBytes}
 
--- The buffers begin with the list l, packed as a written list is: n pairs and `at` bytes.
-pub record HoldsList (l : List Pair) (n at : ℕ) (bytes : Text) (slots : List ℕ) : Type 0 where
+-- The list was written over the beginning of the buffers: n pairs and `at` bytes; the remainder is unchanged. Its ends are then packed texts:
+-- `PackedTexts` of crates/text_list.
+pub record PackedList (l : List Pair) (n at : ℕ) (bytes : Text) (slots : List ℕ) (bytes′ : Text) (slots′ : List ℕ) : Type 0 where
   pub number : n ≡ length l
   pub end : at ≡ endBytes l
-  -- The bytes after the list.
-  pub after : Text
-  pub text : bytes ≡ listText l ++ after
-  -- The entries after the places of the list.
-  pub later : List ℕ
-  pub places : slots ≡ listPlaces 0 l ++ later
+  pub text : bytes′ ≡ written (listText l) bytes
+  pub places : slots′ ≡ written (listPlaces 0 l) slots
+
+-- The buffers begin with the list: writing it again would change nothing.
+abbrev pub HoldsList : List Pair → ℕ → ℕ → Text → List ℕ → Type 0
+HoldsList l n at bytes slots = PackedList l n at bytes slots bytes slots
+
+-- The first n pairs of the buffers are packed.
+abbrev pub IsPacked : ℕ → ℕ → Text → List ℕ → Type 0
+IsPacked n at bytes slots = HoldsList (pairsIn bytes slots n) n at bytes slots
+
+-- The pair x was appended after n pairs and `at` bytes; r is the offset after it.
+pub record AppendedPair (x : Pair) (n at : ℕ) (bytes : Text) (slots : List ℕ) (r : ℕ) (bytes′ : Text) (slots′ : List ℕ) : Type 0 where
+  pub end : r ≡ at + (length (x .source) + length (x .target))
+  pub text : bytes′ ≡ writtenAt at (x .source ++ x .target) bytes
+  pub places : slots′ ≡ writtenAt (4 * n) (pairEntry at (x .source) (x .target)) slots
 
 -- The buffers are large enough for n pairs of at most `most` bytes each.
 pub record ScratchRoom (most n : ℕ) (bytes : Text) (slots : List ℕ) : Type 0 where
