@@ -17,7 +17,7 @@ use Rattle.frames_memory.specs.Memory.{FramesMemory, legStoreOf, routeOf
 use Rattle.frames_memory.specs.Represents.{HoldsLeg, Represents}
 use Rattle.frames_memory.proofs.StoredLaws.{read-standing, first-is, size-is}
 use Rattle.frames_memory.proofs.RouteLaws.{in-store, legs-count}
-use Rattle.frames_memory.proofs.ValidateLaws.{HoldsList, holds-passes}
+use Rattle.frames_memory.proofs.ValidateLaws.{HoldsValidated, holds-passes}
 
 module _ (m : FramesMemory) (st : State) (g : Represents m st) where
   abbrev n : ℕ
@@ -28,7 +28,7 @@ module _ (m : FramesMemory) (st : State) (g : Represents m st) where
 
   -- The list of leg k, whose map is x.
   module _ (k : ℕ) (l : k < n) (x : Map) (h : HoldsLeg (legStoreOf m) k x) where
-    leg-holds : HoldsList (listAt (routeOf m) k) (x .pairs)
+    leg-holds : HoldsValidated (listAt (routeOf m) k) (x .pairs)
     unfolding listAt
     leg-holds =
         let first : 4 * getD (m .table) (3 * k + 1) 0 ≡ 256 * k = omega (arith, first-is (legStoreOf m) k x h (in-store m st g)) in

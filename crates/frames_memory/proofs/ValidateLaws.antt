@@ -36,7 +36,7 @@ by-twos all test first next (suc n) each =
     rw (z, next (suc (2 * n)), next (2 * n), by-twos all test first next n (λ i h. each i (omega arith)), each n (omega arith) .0, t) refl
 
 -- The lent list x holds the validated pairs l, packed from the offset `at` of its store.
-pub record HoldsList (x : LentList) (l : List Pair) : Type 0 where
+pub record HoldsValidated (x : LentList) (l : List Pair) : Type 0 where
   pub counts : x .count ≡ length l
   pub few : x .count ≤ 64
   pub held : x .count ≤ length (x .places) / 4
@@ -47,7 +47,7 @@ pub record HoldsList (x : LentList) (l : List Pair) : Type 0 where
   pub inside : at + endBytes l ≤ length (x .store)
   pub numbers : StoredAt (x .places) 0 (listPlaces at l)
 
-module _ (x : LentList) (l : List Pair) (g : HoldsList x l) where
+module _ (x : LentList) (l : List Pair) (g : HoldsValidated x l) where
   counted : countWithinLimit x ≡ true
   unfolding countWithinLimit
   counted = rw (le-leb (x .count) 64 (g .few), le-leb (x .count) (length (x .places) / 4) (g .held))
@@ -132,17 +132,17 @@ module _ (m : FramesMemory) (st : State) (g : Represents m st) where
   pub in-bytes : endBytes (st .opened) ≤ 510 * length (st .opened)
   in-bytes = short-bytes (st .opened) (g .short)
 
-  open-holds : HoldsList (openListOf m) (st .opened)
+  open-holds : HoldsValidated (openListOf m) (st .opened)
   open-holds = record {
-    counts = g .opened .pairs;
-    few = omega (arith, g .opened .pairs, g .within .pairs);
-    held = omega (arith, g .opened .pairs, g .within .pairs, g .large .places);
+    counts = g .opened .number;
+    few = omega (arith, g .opened .number, g .within .pairs);
+    held = omega (arith, g .opened .number, g .within .pairs, g .large .places);
     reads = open-read;
     ends = g .ends;
     short = g .short;
     at = 0;
     inside = omega (arith, in-bytes, g .within .pairs, g .large .bytes);
-    numbers = ap (take (length (listPlaces 0 (st .opened)))) (g .opened .numbers) ∙ take-append-seam (listPlaces 0 (st .opened)) (drop (length (listPlaces 0 (st .opened))) (m .places));
+    numbers = ap (take (length (listPlaces 0 (st .opened)))) (g .opened .places) ∙ take-append-seam (listPlaces 0 (st .opened)) (drop (length (listPlaces 0 (st .opened))) (m .places));
   }
 
   pub list-counts : countWithinLimit (openListOf m) ≡ true
