@@ -35,6 +35,7 @@ use Rattle.frame_decode.proofs.LineLaws.{Decodes, line-parsed}
 use Rattle.frames_memory.specs.declared.Counters.{Counters}
 use Rattle.frames_memory.specs.Memory.{FramesMemory, framesMemory, stepFrameIn}
 use Rattle.frames_validate.specs.Checked.{validateUse, refuseIn, stepFrameChecked}
+use Rattle.frames_validate.proofs.QuickLaws.{quick-step}
 use Rattle.frame_answer.specs.Answer.{memoryAfterLine, endAfterLine, outAfterLine, lineText}
 use Rattle.ffi_line.specs.declared.LineCheck.{LineCheck}
 use Rattle.ffi_line.specs.declared.LineCheck.the-variants.{Short, NoSpace, Open}
@@ -196,8 +197,7 @@ module _ (kept : List ℕ) (bytes : Text) (places : List ℕ) (store : Text) (sl
       (subst (λ (x : Transition FramesMemory). AnswersStep Passed k x r kept′ m′ out′) (sym e) h)
 
   step-is : (k : ℕ) (a : Action) (q : Validation) → validateUse m a ≡ q → stepFrameChecked m (frame k a) ≡ refusedOr q (refuseIn m) (stepFrameIn m (frame k a))
-  unfolding stepFrameChecked
-  step-is k a q e = ap (λ (v : Validation). refusedOr v (refuseIn m) (stepFrameIn m (frame k a))) e
+  step-is k a q h = quick-step m k a ∙ ap (λ (v : Validation). refusedOr v (refuseIn m) (stepFrameIn m (frame k a))) h
 
   -- A frame whose use of the memory is refused.
   refused-answers : (k : ℕ) (a : Action) (x : Refusal) → hasLineRoom kept (length out) ≡ true → validateUse m a ≡ RefusedValidation x

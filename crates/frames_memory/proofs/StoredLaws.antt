@@ -16,8 +16,7 @@ use Rattle.pair_list.proofs.PlaceLaws.{pairsIn-length, pairsIn-at}
 use Rattle.validate.specs.Validate.{every}
 use Rattle.map_spec.specs.Map.{Map}
 use Rattle.map_spec.specs.New.{nullMap}
-use Rattle.route_legs.specs.LentRoute.{LentRoute, lentRoute, kindAt, firstAt, sizeAt, listAt}
-use Rattle.route_maps.specs.Prepared.{mapAt}
+use Rattle.route_legs.specs.LentRoute.{LentRoute, lentRoute, kindAt, firstAt, sizeAt, listAt, mapAt}
 use Rattle.route.specs.Fast.{mapsIn}
 use Rattle.route.proofs.FastLaws.{soundMap}
 use Rattle.close_leg.specs.Close.{LegStore, legEntry}

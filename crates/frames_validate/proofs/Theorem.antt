@@ -19,7 +19,7 @@ use Rattle.validate.specs.Validate.{firstRefusal}
 use Rattle.route_legs.specs.LentRoute.{validateRoute}
 use Rattle.route_legs.proofs.RouteLaws.{route-one-by-one}
 use Rattle.route.specs.Fast.{afterRouteValidated}
-use Rattle.frames_spec.specs.Frame.{Frame, kind, frame, add-pair, statuses, close, route, count}
+use Rattle.frames_spec.specs.Frame.{Frame, kind, frame, Action, add-pair, statuses, close, route, count}
 use Rattle.frames_spec.specs.State.{State, Answer, answerBytes, Transition, stepFrame}
 use Rattle.frames_spec.specs.Run.{nextState, answerFrame}
 use Rattle.frames_spec.specs.Input.{parseLine, nextLine, answerLine}
@@ -29,6 +29,7 @@ use Rattle.frames_memory.proofs.ValidateLaws.{list-passes}
 use Rattle.frames_memory.proofs.RouteValidLaws.{legs-pass}
 use Rattle.frames_memory.proofs.Theorem.{memory-theorems}
 use Rattle.frames_validate.specs.Checked.{validateUse, refuseIn, stepFrameChecked, outputChecked, CheckedTheorems}
+use Rattle.frames_validate.proofs.QuickLaws.{quick-step}
 
 module _ (m : FramesMemory) (st : State) (g : Represents m st) where
   -- The questions for the legs and a path are those for the path alone.
@@ -47,13 +48,16 @@ module _ (m : FramesMemory) (st : State) (g : Represents m st) where
   path-step k back p Passed e = refl
   path-step k back p (Refused x) e = sym (path-refused k back p x e)
 
+  after-use : (k : ℕ) (a : Action) → refusedOr (validateUse m a) (refuseIn m) (stepFrameIn m (frame k a)) ≡ stepFrameIn m (frame k a)
+  unfolding validateUse
+  after-use k (add-pair s t) = refl
+  after-use k statuses = refl
+  after-use k (close relocates) = rw (list-passes m st g) refl
+  after-use k (route back p) = rw (path-only p) (path-step k back p (pathNewCall p) refl)
+  after-use k count = refl
+
   same : (f : Frame) → stepFrameChecked m f ≡ stepFrameIn m f
-  unfolding stepFrameChecked validateUse
-  same (frame k (add-pair s t)) = refl
-  same (frame k statuses) = refl
-  same (frame k (close relocates)) = rw (list-passes m st g) refl
-  same (frame k (route back p)) = rw (path-only p) (path-step k back p (pathNewCall p) refl)
-  same (frame k count) = refl
+  same (frame k a) = quick-step m k a ∙ after-use k a
 
   steps : (f : Frame) → SameStep (stepFrameChecked m f) (stepFrame st f)
   steps f = subst (λ (t : Transition FramesMemory). SameStep t (stepFrame st f)) (sym (same f)) (memory-theorems .steps m st g f)

@@ -28,14 +28,14 @@ use Rattle.path.specs.Calls.{pathNewCall}
 use Rattle.refusal.proofs.CallBranches.{answered-refused, answered-short, answered-passed, answered-same}
 use Rattle.validate.specs.Validate.{firstRefusal}
 use Rattle.validate.proofs.RefusalLaws.{none-earlier}
-use Rattle.route_legs.specs.LentRoute.{LentRoute, legsIn, validateRoute}
+use Rattle.route_legs.specs.LentRoute.{LentRoute, legsIn, mapLegs, validateRoute}
 use Rattle.route_maps.specs.Prepared.{hasRelocates, Prepared, PreparedIfPassed}
 use Rattle.route_legs.proofs.RouteLaws.{route-one-by-one, route-sound, route-short, route-legal}
 use Rattle.route_maps.proofs.PreparedLaws.{prepared-itself}
 use Rattle.route_spec.specs.Route.{runRoute}
 use Rattle.route.specs.Calls.{routeCall}
 use Rattle.route.specs.Fast.{runRouteFast, enteringPath, EntersUnchanged, HoldsPath, HoldsOutcome, needsMaps, afterRouteValidated}
-use Rattle.route.proofs.FastLaws.{Whole, fast-run}
+use Rattle.route.proofs.FastLaws.{Whole, fast-run, fast-map-legs}
 use Rattle.route.proofs.RunBranches.{holds-path, holds-refused, holds-inside}
 
 -- `run_direction`
@@ -166,3 +166,11 @@ module _ (home : Bool) (r : LentRoute) (p : Text) (room : ℕ) (list : Validatio
   pub call-prepared : (s : LentRoute) → s .count ≡ r .count → length (s .places) ≡ 4096 → length (s .legs) ≡ 48 → PreparedIfPassed r s (r .count) → routeCall home r p room ≡ afterRouteValidated list home s p room
   unfolding PreparedIfPassed
   call-prepared s k l m ready = call-is-after s k (λ w. ready (sym e ∙ w) l m)
+
+-- Over validated legs that are all maps, and a validated path, the quick way is the route over these maps.
+pub validated-maps-run : (home : Bool) (r : LentRoute) (p : Text) → validateRoute r (p ∷ []) ≡ Passed → afterRouteValidated Passed home r p 255 ≡ runRoute home (mapLegs r (r .count)) p
+unfolding afterRouteValidated firstRefusal afterChecks
+validated-maps-run home r p h =
+    let is-new : pathNewCall p ≡ Passed = none-earlier (validateRoute r []) (pathNewCall p) (route-one-by-one r p ∙ h) .1 in
+    let whole : Whole p = record { is-legal = route-legal r p h; is-short = le-leb (length p) 255 (route-short r p h) } in
+    rw is-new (sym (fast-map-legs r home (r .count) (route-sound r (p ∷ []) h) p whole))

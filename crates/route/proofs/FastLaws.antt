@@ -19,10 +19,10 @@ use Rattle.map_spec.specs.Leg.{translateChecked, mapBackChecked, SelectionFreeP
 use Rattle.map_spec.proofs.OutcomeLaws.{checked-path}
 use Rattle.map_spec.proofs.LegLaws.{leg-next}
 use Rattle.map_apply.proofs.FastLaws.{fast-home as home-fast, fast-translated}
-use Rattle.route_spec.specs.Leg.{Leg, legMap, outward, homeward}
+use Rattle.route_spec.specs.Leg.{Leg, by-map, legMap, outward, homeward}
 use Rattle.route_spec.specs.Route.{andThen, foldLegs, runRoute}
 use Rattle.route_spec.proofs.RelocateLaws.{relocate-ends, relocate-short}
-use Rattle.route_legs.specs.LentRoute.{LentRoute, kindAt, listAt, legOf, legAt, legsIn}
+use Rattle.route_legs.specs.LentRoute.{LentRoute, kindAt, listAt, legOf, legAt, legsIn, mapAt, mapLegs}
 use Rattle.route_maps.specs.Prepared.{Prepared}
 use Rattle.route.specs.Fast.{legFast, mapsIn, runRouteFast, enteringPath}
 use Rattle.path_grammar.proofs.LegalLaws.{fits-short}
@@ -188,3 +188,27 @@ module _ (r : LentRoute) where
   pub fast-run : (s : LentRoute) (homeward : Bool) (n : ℕ) → Prepared r s n → ((k : ℕ) → k < n → ValidList (listAt r k)) → (p : Text) → Whole p
       → runRoute homeward (legsIn r n) p ≡ runRouteFast homeward s n (enteringPath homeward n p)
   fast-run s homeward n h sound = run-maps s homeward n (legsIn r n) (legs-length n) (prepared-maps s n h) (sound-legs n sound)
+
+-- A route of maps alone: the quick way over its maps is the route over them as legs.
+module _ (r : LentRoute) where
+  maps-as-legs : (n : ℕ) → map legMap (mapLegs r n) ≡ mapsIn r n
+  unfolding mapLegs mapsIn legMap
+  maps-as-legs zero = refl
+  maps-as-legs (suc n) = map-append legMap (mapLegs r n) (by-map (mapAt r n) ∷ []) ∙ ap (λ (l : List Map). l ++ mapAt r n ∷ []) (maps-as-legs n)
+
+  map-legs-length : (n : ℕ) → length (mapLegs r n) ≡ n
+  unfolding mapLegs
+  map-legs-length zero = refl
+  map-legs-length (suc n) = rw (length-append (mapLegs r n) (by-map (mapAt r n) ∷ []), map-legs-length n) (omega arith)
+
+  sound-maps : (n : ℕ) → ((k : ℕ) → k < n → ValidList (listAt r k)) → every soundMap (mapsIn r n) ≡ true
+  unfolding mapsIn mapAt every
+  sound-maps zero s = refl
+  sound-maps (suc n) s =
+      let valid = s n (omega arith) in
+      every-snoc soundMap (mapsIn r n) (mapAt r n) (sound-maps n (λ k h. s k (omega arith))) (rw (valid .ends, valid .shorts) refl)
+
+  pub fast-map-legs : (homeward : Bool) (n : ℕ) → ((k : ℕ) → k < n → ValidList (listAt r k)) → (p : Text) → Whole p
+      → runRoute homeward (mapLegs r n) p ≡ runRouteFast homeward r n (enteringPath homeward n p)
+  fast-map-legs homeward n sound =
+      run-maps r homeward n (mapLegs r n) (map-legs-length n) (sym (maps-as-legs n)) (rw (maps-as-legs n) (sound-maps n sound))

@@ -18,8 +18,7 @@ use Rattle.map_spec.specs.Map.{Map, lentMap}
 use Rattle.map_apply.specs.Fast.{mapFast, translateFast}
 use Rattle.mapping.proofs.CopyOutBranches.{Short, short-fast, short-translate}
 use Rattle.route_spec.specs.Route.{andThen, foldLegs}
-use Rattle.route_legs.specs.LentRoute.{LentRoute, lentRoute, kindAt, firstAt, sizeAt, listAt}
-use Rattle.route_maps.specs.Prepared.{mapAt}
+use Rattle.route_legs.specs.LentRoute.{LentRoute, lentRoute, kindAt, firstAt, sizeAt, listAt, mapAt}
 use Rattle.route.specs.Fast.{legFast, mapsIn, runRouteFast, HoldsOutcome}
 
 -- An accepted reply is not a refusal.

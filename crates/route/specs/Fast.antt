@@ -17,8 +17,8 @@ use Rattle.map_spec.specs.Map.{Map}
 use Rattle.map_apply.specs.Fast.{mapFast, translateFast}
 use Rattle.validate.specs.Validate.{firstRefusal}
 use Rattle.route_spec.specs.Route.{foldLegs}
-use Rattle.route_legs.specs.LentRoute.{LentRoute}
-use Rattle.route_maps.specs.Prepared.{mapAt, hasRelocates}
+use Rattle.route_legs.specs.LentRoute.{LentRoute, mapAt}
+use Rattle.route_maps.specs.Prepared.{hasRelocates}
 
 -- One leg; in the direction out for a path without selections.
 unfoldable pub legFast : Bool → Map → Text → Outcome

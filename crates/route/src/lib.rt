@@ -5,8 +5,7 @@ ghost use mathlib.Core.Bool.{true, false};
 ghost use Prim.Native.Nat.{_≤_};
 ghost use lib.ListN.{length, take};
 ghost use Rattle.refusal.specs.Outcome.{ReturnsPath};
-ghost use Rattle.route_legs.specs.LentRoute.{lentRoute};
-ghost use Rattle.route_maps.specs.Prepared.{mapAt};
+ghost use Rattle.route_legs.specs.LentRoute.{lentRoute, mapAt};
 ghost use Rattle.route.specs.Calls.{routeCall};
 ghost use Rattle.route.specs.Fast.{legFast, runRouteFast, enteringPath, EntersUnchanged, HoldsPath, HoldsOutcome, needsMaps, afterRouteValidated};
 

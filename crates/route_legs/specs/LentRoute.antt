@@ -4,7 +4,7 @@
 use Prim.Native.Nat.{ℕ, zero, suc, _+_, _*_, _/_}
 use mathlib.Core.Bool.{Bool, true, false, cond, _&&_}
 use mathlib.Core.List.{List, [], _∷_, _++_}
-use lib.Dec.{leb}
+use lib.Dec.{eqb, leb}
 use lib.ListN.{length, getD, drop}
 use Rattle.text.specs.Text.{Text}
 use Rattle.pair_list.specs.Pair.{Pair}
@@ -12,6 +12,7 @@ use Rattle.refusal.specs.declared.Refusal.the-variants.{TooMany}
 use Rattle.refusal.specs.declared.Validation.{Validation}
 use Rattle.refusal.specs.declared.Validation.the-variants.{Passed, Refused}
 use Rattle.refusal.specs.Refusal.{refusedOr}
+use Rattle.map_spec.specs.Map.{Map}
 use Rattle.validate.specs.Validate.{LentList, lentList, pairsOf, validateCall}
 use Rattle.route_spec.specs.Leg.{Leg, by-map, by-relocates}
 
@@ -52,6 +53,18 @@ legOf (suc (suc k)) l = by-relocates l
 unfoldable pub legAt : LentRoute → ℕ → Leg
 unfolding legOf listAt
 legAt r k = legOf (kindAt (r .legs) k) (pairsOf (listAt r k))
+
+-- Leg k read as a map, with the mark if its kind is 1. Where each relocate list has been replaced by the map that it stands for, every leg is
+-- read like this.
+unfoldable pub mapAt : LentRoute → ℕ → Map
+unfolding listAt
+mapAt r k = record { pairs = pairsOf (listAt r k); mark = eqb (kindAt (r .legs) k) 1 }
+
+-- The first n legs, each read as a map.
+unfoldable pub mapLegs : LentRoute → ℕ → List Leg
+unfolding mapAt
+mapLegs r zero = []
+mapLegs r (suc n) = mapLegs r n ++ by-map (mapAt r n) ∷ []
 
 -- The first n legs.
 unfoldable pub legsIn : LentRoute → ℕ → List Leg

@@ -10,8 +10,8 @@ use Rattle.pair_list.specs.Pair.{Pair}
 use Rattle.validate.specs.Validate.{pairsOf}
 use Rattle.relocates.proofs.StatusBranches.{some-hit, some-none, some-on}
 use Rattle.route_spec.specs.Leg.{legMap}
-use Rattle.route_legs.specs.LentRoute.{LentRoute, kindAt, listAt, legOf, legAt}
-use Rattle.route_maps.specs.Prepared.{mapAt, hasRelocates, Prepared}
+use Rattle.route_legs.specs.LentRoute.{LentRoute, kindAt, listAt, legOf, legAt, mapAt}
+use Rattle.route_maps.specs.Prepared.{hasRelocates, Prepared}
 
 abbrev relocating : List ℕ → ℕ → Bool
 relocating legs k = leb 2 (kindAt legs k)

@@ -29,9 +29,9 @@ use Rattle.relocates.specs.Select.{activeSelection}
 use Rattle.relocates.proofs.ActiveLaws.{active-read}
 use Rattle.route_spec.specs.Leg.{legMap}
 use Rattle.route_spec.proofs.RelocateLaws.{active-few, relocate-parts, relocate-few}
-use Rattle.route_legs.specs.LentRoute.{LentRoute, lentRoute, kindAt, firstAt, sizeAt, listAt, legOf, legAt}
+use Rattle.route_legs.specs.LentRoute.{LentRoute, lentRoute, kindAt, firstAt, sizeAt, listAt, legOf, legAt, mapAt}
 use Rattle.route_legs.proofs.RouteLaws.{route-few, route-sound}
-use Rattle.route_maps.specs.Prepared.{mapAt, Prepared, PreparedIfPassed}
+use Rattle.route_maps.specs.Prepared.{Prepared, PreparedIfPassed}
 use Rattle.route_maps.specs.Prepare.{activeList, legSourceList, legSelection, legBlock, mapKind, preparedEntry, preparedPlaces, preparedTable, canPrepare, placesAfterPrepare, tableAfterPrepare}
 use Rattle.route_maps.proofs.PreparedLaws.{plain-leg}
 use Rattle.text.proofs.WriteLaws.{over-length}

@@ -4,19 +4,12 @@ use mathlib.Core.Path.{_≡_}
 use Prim.Native.Nat.{ℕ, _<_}
 use mathlib.Core.Bool.{Bool}
 use mathlib.Core.List.{List, []}
-use lib.Dec.{eqb, leb}
+use lib.Dec.{leb}
 use lib.ListN.{length}
 use Rattle.refusal.specs.declared.Validation.the-variants.{Passed}
-use Rattle.validate.specs.Validate.{pairsOf}
-use Rattle.map_spec.specs.Map.{Map}
 use Rattle.relocates.specs.Status.{anyBelow}
 use Rattle.route_spec.specs.Leg.{legMap}
-use Rattle.route_legs.specs.LentRoute.{LentRoute, kindAt, listAt, legAt, validateRoute}
-
--- The map of leg k: it has the mark if the kind is 1.
-unfoldable pub mapAt : LentRoute → ℕ → Map
-unfolding listAt
-mapAt r k = record { pairs = pairsOf (listAt r k); mark = eqb (kindAt (r .legs) k) 1 }
+use Rattle.route_legs.specs.LentRoute.{LentRoute, kindAt, legAt, mapAt, validateRoute}
 
 -- Whether one of the first n legs is a relocate list.
 unfoldable pub hasRelocates : List ℕ → ℕ → Bool
