@@ -1,34 +1,19 @@
 -- Lemmas about storing a pair.
-use mathlib.Core.Path.{_≡_, refl, ap, _∙_}
-use mathlib.Core.List.{List, [], _∷_, _++_, append-nil}
-use Prim.Native.Nat.{ℕ, _+_, _*_, _≤_}
+use mathlib.Core.Path.{_≡_}
+use mathlib.Core.List.{List, [], _∷_}
+use Prim.Native.Nat.{ℕ, _+_, _≤_}
 use native.Mathlib.Omega.{arith}
-use native.Mathlib.Nat.{zero-add}
 use lib.ListN.{length}
-use borrow.Author.Tests.{le-leb}
-use Rattle.text.specs.Text.{Text, written, writtenAt, writtenIfFits}
-use Rattle.pair_list.specs.Pair.{Pair, pair}
-use Rattle.pair_list.specs.Places.{pairsIn, listText, listPlaces, pairEntry}
-use Rattle.pair_list.proofs.ListLaws.{read-back}
-use Rattle.pair_list_write.proofs.WriteBranches.{over-over}
+use Rattle.text.specs.Text.{Text}
+use Rattle.pair_list.specs.Pair.{pair}
+use Rattle.pair_list.specs.Places.{pairsIn}
+use Rattle.pair_list_write.proofs.PushBranches.{PushedPair, pair-there}
+use Rattle.pair_list_write.proofs.PackedLaws.{holds-none, holds-list, holds-more}
 
--- Lemmas for `store_pair`.
-module _ (s t store : Text) (places : List ℕ) (h : length s + length t ≤ length store) (k : 4 ≤ length places) where
-  abbrev one : List Pair
-  one = pair s t ∷ []
-
-  text-written : writtenAt 0 (s ++ t) store ≡ written (listText one) store
-  unfolding listText
-  text-written = rw (append-nil t, zero-add (length (s ++ t))) refl
-
-  places-written : writtenIfFits 0 (pairEntry 0 s t) places ≡ written (listPlaces 0 one) places
-  unfolding writtenIfFits listPlaces
-  places-written = rw (le-leb 4 (length places) k) refl
-
-  pub pair-stored : (once twice : Text) (places′ : List ℕ) → once ≡ writtenIfFits 0 s store → twice ≡ writtenIfFits (length s) t once
-      → places′ ≡ writtenIfFits (4 * 0) (0 ∷ length s ∷ length s ∷ length t ∷ []) places → pairsIn twice places′ 1 ≡ one
-  pair-stored once twice places′ a b c =
-      let z : 0 + length s ≡ length s = zero-add (length s) in
-      let y : writtenIfFits (length s) t (writtenIfFits 0 s store) ≡ writtenAt 0 (s ++ t) store = rw z at (over-over 0 s t store (omega arith)) in
-      let x : writtenIfFits 0 (0 ∷ length s ∷ length s ∷ length t ∷ []) places ≡ written (listPlaces 0 one) places = rw z at places-written in
-      rw (c ∙ x, b ∙ ap (λ (w : Text). writtenIfFits (length s) t w) a ∙ y ∙ text-written) (read-back one store places)
+-- `store_pair`: the pair is pushed to the empty list, and read back.
+pub pair-stored : (s t store : Text) (places : List ℕ) → length s + length t ≤ length store → 4 ≤ length places
+    → (r : ℕ) (store′ : Text) (places′ : List ℕ) → PushedPair s t 0 0 store places r store′ places′ → pairsIn store′ places′ 1 ≡ pair s t ∷ []
+pair-stored s t store places h k r store′ places′ w =
+    holds-list (pair s t ∷ []) 1 r store′ places′
+    (holds-more [] 0 0 store places (holds-none store places) (pair s t) r store′ places′
+    (pair-there s t 0 0 store places (omega arith) (omega arith) r store′ places′ w))

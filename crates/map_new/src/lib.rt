@@ -34,10 +34,7 @@ fn store_pair(s: &[u8], t: &[u8], store: &mut [u8], places: &mut [usize])
     requires { ⌜ 4 ≤ length (now places) ⌝ }
     ensures { λ _. ⌜ pairsIn (now (store .exit)) (now (places .exit)) 1 ≡ pair (now (s .entry)) (now (t .entry)) ∷ [] ⌝ }
 {
-    let n = s.len();
-    text::write_at(s, 0, store);
-    text::write_at(t, n, store);
-    pair_list_write::write_entry(0, 0, n, n, t.len(), places);
+    pair_list_write::push_pair(s, t, 0, 0, store, places);
 }
 
 // Builds the map of one pair, unchanged and without the mark.
