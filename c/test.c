@@ -856,6 +856,9 @@ static void test_altered_frames(void) {
     frames = good;
     frames.kept[3] = 32769;
     check_altered("bytes of the legs over the limit", "03", "8305\n");
+    frames = good;
+    frames.kept[4] = (size_t)4294967295 + 2;
+    check_altered("a count over FFFFFFFF", "07", "8700FFFFFFFF\n");
 }
 
 /* ---- Time offsets ---- */

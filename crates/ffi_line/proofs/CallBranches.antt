@@ -122,17 +122,18 @@ module _ (l : Line) (kept : List ℕ) (m : FramesMemory) (out : Text) (h : 515 �
 
   processed : (end : ℕ) (out′ : Text) (kept′ : List ℕ) → framesMemory k bytes places store slots table ≡ memoryAfterLine 0 out m l → end ≡ endAfterLine 0 out m l
       → out′ ≡ outAfterLine 0 out m l → kept′ ≡ written (counterNumbers k) kept
-      → ProcessesLine l kept m out end kept′ (lentMemory kept′ bytes places store slots table) out′
+      → ProcessesLine l kept m out end kept′ out′ × (lentMemory kept′ bytes places store slots table ≡ nextLine stepFrameIn m l)
   unfolding memoryAfterLine endAfterLine outAfterLine
   processed end out′ kept′ f g i j =
-      let t : framesMemory k bytes places store slots table ≡ nextLine stepFrameIn m l = rw (le-leb (0 + 515) (length out) room) at f in
-      record {
-        size = (rw (le-leb (0 + 515) (length out) room) at g) ∙ omega arith;
-        counters = j ∙ ap (λ (x : FramesMemory). written (counterNumbers (x .kept)) kept) t;
-        memory = ap (λ (x : List ℕ). lentMemory x bytes places store slots table) j ∙ t;
-        reply =
-            (rw (le-leb (0 + 515) (length out) room) at i) ∙ ap (λ (n : ℕ). answerLine stepFrameIn m l ++ drop n out) (zero-add (length (answerLine stepFrameIn m l)));
-      }
+      let t : framesMemory k bytes places store slots table ≡ nextLine stepFrameIn m l = rw (le-leb (0 + 515) (length out) room) at f in (
+        record {
+          size = (rw (le-leb (0 + 515) (length out) room) at g) ∙ omega arith;
+          counters = j ∙ ap (λ (x : FramesMemory). written (counterNumbers (x .kept)) kept) t;
+          reply =
+              (rw (le-leb (0 + 515) (length out) room) at i) ∙ ap (λ (n : ℕ). answerLine stepFrameIn m l ++ drop n out) (zero-add (length (answerLine stepFrameIn m l)));
+        },
+        ap (λ (x : List ℕ). lentMemory x bytes places store slots table) j ∙ t,
+      )
 
 -- The same, with the counters read from the number buffer before.
 module _ (l : Line) (kept : List ℕ) (bytes₀ : Text) (places₀ : List ℕ) (store₀ : Text) (slots₀ table₀ : List ℕ) (out : Text) (h : 515 ≤ length out)
@@ -143,7 +144,7 @@ module _ (l : Line) (kept : List ℕ) (bytes₀ : Text) (places₀ : List ℕ) (
   pub line-processed : (k : Counters) (bytes : Text) (places : List ℕ) (store : Text) (slots table : List ℕ) (end : ℕ) (out′ : Text) (kept′ : List ℕ)
       → framesMemory k bytes places store slots table ≡ memoryAfterLine 0 out (from k₀) l → end ≡ endAfterLine 0 out (from k₀) l → out′ ≡ outAfterLine 0 out (from k₀) l
       → kept′ ≡ written (counterNumbers k) kept
-      → ProcessesLine l kept (from (countersOf kept)) out end kept′ (lentMemory kept′ bytes places store slots table) out′
+      → ProcessesLine l kept (from (countersOf kept)) out end kept′ out′ × (lentMemory kept′ bytes places store slots table ≡ nextLine stepFrameIn (from (countersOf kept)) l)
   line-processed k bytes places store slots table end out′ kept′ f g i j =
       processed l kept (from (countersOf kept)) out h k bytes places store slots table end out′ kept′
       (f ∙ ap (λ (x : Counters). memoryAfterLine 0 out (from x) l) w) (g ∙ ap (λ (x : Counters). endAfterLine 0 out (from x) l) w)
@@ -291,8 +292,9 @@ module _ (kept : List ℕ) (bytes : Text) (places : List ℕ) (store : Text) (sl
     pub call-room : c ≡ Open → (5 ≤ length kept) × (515 ≤ length out)
     call-room w = room-bounds kept (length out) ((opened-by (parseLine l) (sym w ∙ e)) .roomy)
 
-    pub call-open : c ≡ Open → (n : ℕ) (kept′ : List ℕ) (m′ : FramesMemory) (out′ : Text) → ProcessesLine l kept m out n kept′ m′ out′ → Replies (Written n) kept′ m′ out′
+    pub call-open : c ≡ Open → (n : ℕ) (kept′ : List ℕ) (m′ : FramesMemory) (out′ : Text) → ProcessesLine l kept m out n kept′ out′ → m′ ≡ nextLine stepFrameIn m l
+        → Replies (Written n) kept′ m′ out′
     unfolding lineReply lineCounters lineMemory lineOut answerLine
-    call-open w n kept′ m′ out′ p =
+    call-open w n kept′ m′ out′ p q =
         open-by (parseLine l) (opened-by (parseLine l) (sym w ∙ e)) n kept′ m′ out′
-        (record { size = p .size; counters = p .counters; memory = p .memory; reply = p .reply })
+        (record { size = p .size; counters = p .counters; memory = q; reply = p .reply })

@@ -100,10 +100,9 @@ unfoldable pub shortOut : ℕ → ℕ → Text → Text
 unfolding lineText
 shortOut head answer out = cond (leb 5 (length out)) (written (lineText (head ∷ answer ∷ [])) out) out
 
--- The code processed the line without validating the memory: the length of the reply line, the numbers, the memory and the output buffer
--- are those of the step.
-pub record ProcessesLine (l : Line) (kept : List ℕ) (m : FramesMemory) (out : Text) (n : ℕ) (kept′ : List ℕ) (m′ : FramesMemory) (out′ : Text) : Type 0 where
+-- The code processed the line without validating the memory: the length of the reply line, the numbers and the output buffer are those of
+-- the step.
+pub record ProcessesLine (l : Line) (kept : List ℕ) (m : FramesMemory) (out : Text) (n : ℕ) (kept′ : List ℕ) (out′ : Text) : Type 0 where
   pub size : n ≡ length (answerLine stepFrameIn m l)
   pub counters : kept′ ≡ written (counterNumbers ((nextLine stepFrameIn m l) .kept)) kept
-  pub memory : m′ ≡ nextLine stepFrameIn m l
   pub reply : out′ ≡ written (answerLine stepFrameIn m l) out

@@ -4,7 +4,8 @@ ghost use mathlib.Core.Path.{_≡_};
 ghost use Prim.Native.Nat.{_≤_};
 ghost use lib.ListN.{length};
 ghost use Rattle.text.specs.Text.{written};
-ghost use Rattle.frames_spec.specs.Input.{parseLine};
+ghost use Rattle.frames_spec.specs.Input.{parseLine, nextLine};
+ghost use Rattle.frames_memory.specs.Memory.{stepFrameIn};
 ghost use Rattle.ffi_line.specs.LineCall.{countersOf, counterNumbers, lentMemory, wholeLine, hasLineRoom, lineReply, lineMemory, lineOut, lineCounters, lineCheck, shortReply, shortOut, ProcessesLine};
 
 // The result of the questions put before a line is processed.
@@ -126,7 +127,8 @@ fn process_line(
     out: &mut [u8],
 ) -> usize
     requires { ⌜ (5 ≤ length (now kept)) × (515 ≤ length (now out)) ⌝ }
-    ensures { λ r. ⌜ ProcessesLine (wholeLine (now (line .entry))) (now (kept .entry)) (lentMemory (now (kept .entry)) (now (bytes .entry)) (now (places .entry)) (now (store .entry)) (now (slots .entry)) (now (table .entry))) (now (out .entry)) r (now (kept .exit)) (lentMemory (now (kept .exit)) (now (bytes .exit)) (now (places .exit)) (now (store .exit)) (now (slots .exit)) (now (table .exit))) (now (out .exit)) ⌝ }
+    ensures { λ r. ⌜ ProcessesLine (wholeLine (now (line .entry))) (now (kept .entry)) (lentMemory (now (kept .entry)) (now (bytes .entry)) (now (places .entry)) (now (store .entry)) (now (slots .entry)) (now (table .entry))) (now (out .entry)) r (now (kept .exit)) (now (out .exit)) ⌝ }
+    ensures { λ r. ⌜ lentMemory (now (kept .exit)) (now (bytes .exit)) (now (places .exit)) (now (store .exit)) (now (slots .exit)) (now (table .exit)) ≡ nextLine stepFrameIn (lentMemory (now (kept .entry)) (now (bytes .entry)) (now (places .entry)) (now (store .entry)) (now (slots .entry)) (now (table .entry))) (wholeLine (now (line .entry))) ⌝ }
 {
     let k = counters_of(kept);
     let a = frame_answer::answer_line(

@@ -2,11 +2,11 @@
 use mathlib.Core.Path.{_≡_, refl, sym, ap, _∙_}
 use mathlib.Core.Bool.{Bool, true, false, cond}
 use mathlib.Core.List.{List, [], _∷_}
-use Prim.Native.Nat.{ℕ, _+_, _≤_}
+use Prim.Native.Nat.{ℕ, _+_, _≤_, _<_}
 use native.Mathlib.Omega.{arith}
 use lib.Dec.{leb}
 use lib.ListN.{length, take}
-use borrow.Author.Tests.{le-leb}
+use borrow.Author.Tests.{le-leb, lt-leb}
 use Rattle.text.specs.Text.{Text, written}
 use Rattle.refusal.specs.declared.Refusal.the-variants.{NoRoom}
 use Rattle.refusal.specs.declared.Validation.{Validation}
@@ -24,6 +24,7 @@ use Rattle.relocates.proofs.InitialBranches.{bytes-length}
 use Rattle.route_legs.specs.LentRoute.{LentRoute, lentRoute}
 use Rattle.route.specs.Fast.{afterRouteValidated}
 use Rattle.frames_spec.specs.State.{success, refusal, outcomeAnswer, countOutcome, bigEndian32}
+use Rattle.frames_spec.specs.Run.{saturate32}
 use Rattle.frame_decode.specs.declared.FrameHeader.{FrameHeader}
 use Rattle.frame_decode.specs.declared.FrameHeader.the-variants.{AddPair, Statuses, Close, Route, Count}
 use Rattle.frame_decode.specs.Header.{lastBytes, actionIn, reach}
@@ -80,6 +81,13 @@ pub pair-cut : (s s′ t t′ : Text) (k : Counters) (bytes : Text) (places : Li
     → PairDone s t k bytes places k′ reply bytes′ places′ → PairDone s′ t′ k bytes places k′ reply bytes′ places′
 pair-cut s s′ t t′ k bytes places k′ reply bytes′ places′ i j a = rw (i, j) at a
 
+-- `held_count`
+pub held-few : (n : ℕ) → n ≤ 4294967295 → n ≡ saturate32 n
+held-few n h = rw (le-leb n 4294967295 h)
+
+pub held-over : (n : ℕ) → 4294967295 < n → 4294967295 ≡ saturate32 n
+held-over n h = rw (lt-leb n 4294967295 h)
+
 -- `apply_frame`
 pub reach-known : (h g : FrameHeader) (n : ℕ) → h ≡ g → reach h ≤ n → reach g ≤ n
 reach-known h g n e l = rw e at l
@@ -120,6 +128,6 @@ module _ (b : Text) (h : FrameHeader) (k : Counters) (bytes : Text) (places : Li
       })
   as-route true n e reply g a w j = rw (e, w) (record { state = refl; reply = g .0; payload = g .1 })
 
-  pub as-count : h ≡ Count → payload′ ≡ written (bigEndian32 (k .outs)) payload → FrameDone b h now now (Written 4) payload payload′
+  pub as-count : h ≡ Count → (n : ℕ) → n ≡ saturate32 (k .outs) → payload′ ≡ written (bigEndian32 n) payload → FrameDone b h now now (Written 4) payload payload′
   unfolding FrameDone actionIn stepFrameIn
-  as-count e w j = rw e (record { state = refl; reply = refl; payload = w })
+  as-count e n f w j = rw e (record { state = refl; reply = refl; payload = w ∙ ap (λ (i : ℕ). written (bigEndian32 i) payload) f })

@@ -8,6 +8,7 @@ ghost use lib.Dec.{leb};
 ghost use lib.ListN.{length, take};
 ghost use Rattle.text.specs.Text.{written};
 ghost use Rattle.frames_spec.specs.State.{bigEndian32};
+ghost use Rattle.frames_spec.specs.Run.{saturate32};
 ghost use Rattle.line_reader.specs.TakeLine.{lineInBuffer};
 ghost use Rattle.frames_spec.specs.Frame.{decodeFrame};
 ghost use Rattle.frames_memory.specs.Memory.{framesMemory, statusesIn, routePathIn};
@@ -38,6 +39,16 @@ fn write_line(head: u8, answer: u8, payload: &[u8], at: usize, out: &mut [u8]) -
     let end = payload_at + 2 * payload.len();
     text::write_at(b"\n", end, out);
     end + 1
+}
+
+// The count, held at FFFFFFFF.
+fn held_count(n: usize) -> usize
+    ensures { λ r. ⌜ r ≡ saturate32 n ⌝ }
+{
+    if n <= 4294967295 {
+        return n;
+    }
+    4294967295
 }
 
 // Writes a number over the first four bytes, the high byte first.
@@ -148,7 +159,7 @@ fn apply_frame(
             frame_apply::count_out(back, k, w)
         }
         frame_decode::FrameHeader::Count => {
-            write_count(k.outs, payload);
+            write_count(held_count(k.outs), payload);
             frame_apply::Effect {
                 kept: k,
                 reply: refusal::Reply::Written(4),

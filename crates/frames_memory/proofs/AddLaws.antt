@@ -87,6 +87,7 @@ module _ (m : FramesMemory) (st : State) (g : Represents m st) (s t : Text) wher
         pairs = rw (length-append (st .opened) (pair s t ∷ [])) (omega (arith, leb-true (suc (length (st .opened))) 64 h));
         legs = g .within .legs;
         bytes = g .within .bytes;
+        outs = g .within .outs;
       };
       large = still-large;
     }

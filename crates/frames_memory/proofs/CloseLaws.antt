@@ -123,6 +123,7 @@ module _ (m : FramesMemory) (st : State) (g : Represents m st) where
           pairs = omega arith;
           legs = rw (length-append (st .legs) (x ∷ [])) (omega (arith, leb-true (suc (length (st .legs))) 16 h));
           bytes = leb-true (st .used + n) 32768 i;
+          outs = g .within .outs;
         };
         large = still-large;
       }

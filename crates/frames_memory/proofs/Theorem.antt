@@ -17,7 +17,8 @@ use Rattle.refusal.specs.Outcome.{Outcome}
 use Rattle.relocates.specs.Status.{statusList}
 use Rattle.frames_spec.specs.Frame.{Frame, frame, add-pair, statuses, close, route, count, kind}
 use Rattle.frames_spec.specs.State.{State, Answer, success, answerBytes, outcomeAnswer, initialState, routePath, countOutcome, answerOut, bigEndian32, stepFrame}
-use Rattle.frames_spec.specs.Run.{nextState, answerFrame}
+use Rattle.frames_spec.specs.Run.{nextState, answerFrame, saturate32}
+use Rattle.frames_spec.proofs.RunLaws.{saturated-few, counts-few}
 use Rattle.frames_spec.specs.Input.{maxDigits, parseLine, nextLine, answerLine, output}
 use Rattle.frames_memory.specs.Memory.{FramesMemory, statusesIn, countIn, stepFrameIn}
 use Rattle.frames_memory.specs.Represents.{LargeEnough, Represents, SameStep, initialCounters, outputIn, outputOf, MemoryTheorems}
@@ -35,7 +36,7 @@ begins m large e = record {
   legs = record { count = ap (λ k. k .legs .count) e; each = λ k l. absurd (omega arith) };
   used = ap (λ k. k .legs .bytes) e;
   outs = ap (λ k. k .outs) e;
-  within = record { pairs = omega arith; legs = omega arith; bytes = omega arith };
+  within = record { pairs = omega arith; legs = omega arith; bytes = omega arith; outs = omega arith };
   large = large;
 }
 
@@ -57,7 +58,7 @@ module _ (m : FramesMemory) (st : State) (g : Represents m st) where
       legs = g .legs;
       used = g .used;
       outs = ap (countOutcome o) (g .outs);
-      within = record { pairs = g .within .pairs; legs = g .within .legs; bytes = g .within .bytes };
+      within = record { pairs = g .within .pairs; legs = g .within .legs; bytes = g .within .bytes; outs = counts-few o (st .outs) (g .within .outs) };
       large = record { bytes = g .large .bytes; places = g .large .places; store = g .large .store; slots = g .large .slots; table = g .large .table };
     };
   }
@@ -69,7 +70,8 @@ module _ (m : FramesMemory) (st : State) (g : Represents m st) where
   steps (frame k (close relocates)) = same-close m st g relocates
   steps (frame k (route false p)) = rw (same-routes m st g false p) (same-count (routePath false st p))
   steps (frame k (route true p)) = record { answers = ap outcomeAnswer (same-routes m st g true p); holds = g }
-  steps (frame k count) = record { answers = ap (λ (n : ℕ). success (bigEndian32 n)) (g .outs); holds = g }
+  steps (frame k count) =
+      record { answers = ap (λ (n : ℕ). success (bigEndian32 n)) (ap saturate32 (g .outs) ∙ saturated-few (st .outs) (g .within .outs)); holds = g }
 
   -- A parsed frame, or a bad one.
   same-frame : (f : Option Frame) → (answerFrame stepFrameIn m f ≡ answerFrame stepFrame st f) × Represents (nextState stepFrameIn m f) (nextState stepFrame st f)

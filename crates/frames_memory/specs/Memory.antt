@@ -19,6 +19,7 @@ use Rattle.open_list.specs.Add.{validateAdd, withOneMore, addBytes, addPlaces}
 use Rattle.close_leg.specs.Close.{LegStore, legStore, validateCloseOf, closeStore}
 use Rattle.frames_spec.specs.Frame.{Frame, frame, add-pair, statuses, close, route, count}
 use Rattle.frames_spec.specs.State.{Answer, success, refusal, outcomeAnswer, countOutcome, bigEndian32, Transition}
+use Rattle.frames_spec.specs.Run.{saturate32}
 use Rattle.frames_memory.specs.declared.Counters.{Counters}
 
 -- The counters and buffers of `frames` between two lines.
@@ -124,4 +125,4 @@ stepFrameIn m (frame k statuses) = record { state = m; answer = statusesIn m }
 stepFrameIn m (frame k (close relocates)) = closeIn relocates m
 stepFrameIn m (frame k (route false p)) = countIn m (routePathIn false m p)
 stepFrameIn m (frame k (route true p)) = record { state = m; answer = outcomeAnswer (routePathIn true m p) }
-stepFrameIn m (frame k count) = record { state = m; answer = success (bigEndian32 (m .kept .outs)) }
+stepFrameIn m (frame k count) = record { state = m; answer = success (bigEndian32 (saturate32 (m .kept .outs))) }

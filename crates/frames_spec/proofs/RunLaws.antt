@@ -38,12 +38,11 @@ use Rattle.path.proofs.PathLaws.{new-passed}
 record Kept (st : State) : Type 0 where
   ends : allEnds (st .opened) ≡ true
   leg-ends : routeEnds (st .legs) ≡ true
-  few : st .outs ≤ 4294967295
   within : WithinLimits st
 
 begins : Kept initialState
 unfolding allEnds routeEnds
-begins = record { ends = refl; leg-ends = refl; few = omega arith; within = record { pairs = omega arith; legs = omega arith; bytes = omega arith } }
+begins = record { ends = refl; leg-ends = refl; within = record { pairs = omega arith; legs = omega arith; bytes = omega arith; outs = omega arith } }
 
 -- One more pair, and one more leg.
 ends-more : (l : List Pair) (x : Pair) → allEnds l ≡ true → isEnd (x .source) ≡ true → isEnd (x .target) ≡ true → allEnds (l ++ x ∷ []) ≡ true
@@ -59,11 +58,11 @@ adds-keeps st s t k = go (validateCall [] (s ∷ t ∷ []) (s ∷ t ∷ [])) ref
     go Passed e true h = record {
       ends = ends-more (st .opened) (pairOf s t) (k .ends) (text-end [] (s ∷ t ∷ []) s (t ∷ []) e) (second-end [] (s ∷ t ∷ []) s t [] e);
       leg-ends = k .leg-ends;
-      few = k .few;
       within = record {
         pairs = rw (length-append (st .opened) (pairOf s t ∷ [])) (omega (arith, leb-true (suc (length (st .opened))) 64 h));
         legs = k .within .legs;
         bytes = k .within .bytes;
+        outs = k .within .outs;
       };
     }
     go Passed e false h = k
@@ -77,18 +76,18 @@ closes-keeps st x n e k = go (hasLegRoom st) refl (hasByteRoom st n) refl
     go true h true i = record {
       ends = refl;
       leg-ends = legs-more (st .legs) x (k .leg-ends) e;
-      few = k .few;
       within = record {
         pairs = omega arith;
         legs = rw (length-append (st .legs) (x ∷ [])) (omega (arith, leb-true (suc (length (st .legs))) 16 h));
         bytes = leb-true (st .used + n) 32768 i;
+        outs = k .within .outs;
       };
     }
     go true h false i = k
     go false h b i = k
 
 -- The counter equals the count from the input so far.
-saturated-few : (n : ℕ) → n ≤ 4294967295 → saturate32 n ≡ n
+pub saturated-few : (n : ℕ) → n ≤ 4294967295 → saturate32 n ≡ n
 saturated-few n h = rw (le-leb n 4294967295 h)
 
 saturated-plus : (a b : ℕ) → saturate32 (saturate32 a + b) ≡ saturate32 (a + b)
@@ -120,7 +119,7 @@ saturated-most n = go (leb n 4294967295) refl
     go true e = leb-true n 4294967295 e
     go false e = omega arith
 
-counts-few : (o : Outcome) (n : ℕ) → n ≤ 4294967295 → countOutcome o n ≤ 4294967295
+pub counts-few : (o : Outcome) (n : ℕ) → n ≤ 4294967295 → countOutcome o n ≤ 4294967295
 counts-few o n h = rw (counts-saturated o n h) (saturated-most (n + countIfPath o))
 
 closed-keeps : (relocates : Bool) (st : State) → Kept st → Kept ((closeOpened relocates st) .state)
@@ -133,7 +132,7 @@ next-keeps st none k = k
 next-keeps st (some (frame n (add-pair s t))) k = adds-keeps st s t k
 next-keeps st (some (frame n statuses)) k = k
 next-keeps st (some (frame n (close relocates))) k = closed-keeps relocates st k
-next-keeps st (some (frame n (route false p))) k = record { ends = k .ends; leg-ends = k .leg-ends; few = counts-few (routePath false st p) (st .outs) (k .few); within = record { pairs = k .within .pairs; legs = k .within .legs; bytes = k .within .bytes } }
+next-keeps st (some (frame n (route false p))) k = record { ends = k .ends; leg-ends = k .leg-ends; within = record { pairs = k .within .pairs; legs = k .within .legs; bytes = k .within .bytes; outs = counts-few (routePath false st p) (st .outs) (k .within .outs) } }
 next-keeps st (some (frame n (route true p))) k = k
 next-keeps st (some (frame n count)) k = k
 
@@ -181,11 +180,11 @@ next-counts st f h = go f
 
 after-counts : (st : State) (fs : List (Option Frame)) → Kept st → (stateAfterFrames st fs) .outs ≡ saturate32 (st .outs + countOuts st fs)
 unfolding stateAfterFrames countOuts
-after-counts st [] k = let z : st .outs + 0 ≡ st .outs = omega arith in rw z (sym (saturated-few (st .outs) (k .few)))
+after-counts st [] k = let z : st .outs + 0 ≡ st .outs = omega arith in rw z (sym (saturated-few (st .outs) (k .within .outs)))
 after-counts st (f ∷ fs) k =
     let z : st .outs + countOut st f + countOuts (nextState stepFrame st f) fs ≡ st .outs + (countOut st f + countOuts (nextState stepFrame st f) fs) = omega arith in
     after-counts (nextState stepFrame st f) fs (next-keeps st f k)
-    ∙ ap (λ (n : ℕ). saturate32 (n + countOuts (nextState stepFrame st f) fs)) (next-counts st f (k .few))
+    ∙ ap (λ (n : ℕ). saturate32 (n + countOuts (nextState stepFrame st f) fs)) (next-counts st f (k .within .outs))
     ∙ saturated-plus (st .outs + countOut st f) (countOuts (nextState stepFrame st f) fs)
     ∙ ap saturate32 z
 

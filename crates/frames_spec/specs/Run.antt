@@ -57,11 +57,12 @@ countOuts st (f ∷ fs) = countOut st f + countOuts (nextState stepFrame st f) f
 abbrev pub saturate32 : ℕ → ℕ
 saturate32 n = cond (leb n 4294967295) n 4294967295
 
--- The limits on a state. Requirements: "at most 64 pairs", "at most 16 legs", "32,768 over all legs".
+-- The limits on a state. Requirements: "at most 64 pairs", "at most 16 legs", "32,768 over all legs", "held at FFFFFFFF".
 pub record WithinLimits (st : State) : Type 0 where
   pub pairs : length (st .opened) ≤ 64
   pub legs : length (st .legs) ≤ 16
   pub bytes : st .used ≤ 32768
+  pub outs : st .outs ≤ 4294967295
 
 -- The theorems about every run.
 pub record RunTheorems : Type 0 where

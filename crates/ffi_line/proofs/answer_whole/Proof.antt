@@ -115,7 +115,8 @@ returns-3 c =
     let at-start = at-check-line .before .before .before .before .before .before .before .before .before .before .before .before .before .before .before in
     let args = at-start .args in
     call-open (args .kept .now) (args .bytes .now) (args .places .now) (args .store .now) (args .slots .now) (args .table .now) (args .out .now)
-    (wholeLine (args .line .now)) _ (at-check-line .check-line .ensures) (at-enum-told2 .enum-told2 .given .1) _ _ _ _ (at-process-line .process-line .ensures)
+    (wholeLine (args .line .now)) _ (at-check-line .check-line .ensures) (at-enum-told2 .enum-told2 .given .1) _ _ _ _ (at-process-line .process-line .ensures .0)
+    (at-process-line .process-line .ensures .1)
 
 pub answer-whole-spec : {M : Type 1} → statement M
 answer-whole-spec =

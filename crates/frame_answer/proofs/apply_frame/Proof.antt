@@ -40,6 +40,9 @@ count-out-requires c κs = search needs
 enum-told-2 : tie.Need-enum-told-2
 enum-told-2 c = search needs
 
+held-count-requires : tie.Need-held-count-requires
+held-count-requires c κs = search needs
+
 write-count-requires : tie.Need-write-count-requires
 write-count-requires c κs = search needs
 
@@ -117,8 +120,9 @@ same-length-15 c = search needs
 returns-5 : tie.Need-returns-5
 returns-5 c =
     let at-write-count = c .before .before in
-    let at-enum-told2 = at-write-count .before .before in
-    as-count _ _ _ _ _ _ _ _ _ _ (at-enum-told2 .enum-told2 .given .1) (at-write-count .write-count .ensures)
+    let at-held-count = at-write-count .before .before in
+    let at-enum-told2 = at-held-count .before in
+    as-count _ _ _ _ _ _ _ _ _ _ (at-enum-told2 .enum-told2 .given .1) _ (at-held-count .held-count .ensures) (at-write-count .write-count .ensures)
 
 pub apply-frame-spec : {M : Type 1} → statement M
 apply-frame-spec =
@@ -134,6 +138,7 @@ apply-frame-spec =
     apply-route-requires
     count-out-requires
     enum-told-2
+    held-count-requires
     write-count-requires
     same-length
     same-length-2
