@@ -1,4 +1,4 @@
--- Mapping many paths through one map, or over one route, in one call. Path i is the text at entry i of `spots` (its start and its length in
+-- Meaning: Mapping many paths through one map, or over one route, in one call. Path i is the text at entry i of `spots` (its start and its length in
 -- `texts`); its reply is entry i of `replies`, and its path is written to the 255 bytes from offset 255 i.
 use mathlib.Core.Path.{_≡_}
 use Prim.Native.Nat.{ℕ, zero, suc, _*_, _≤_, _<_}

@@ -1,4 +1,4 @@
--- One step of a batch as the code performs it.
+-- Method: One step of a batch as the code performs it.
 use Prim.Native.Nat.{ℕ, _*_}
 use mathlib.Core.List.{List, _++_}
 use lib.ListN.{take, drop}

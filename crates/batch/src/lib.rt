@@ -77,7 +77,8 @@ fn map_one(
     path: &[u8],
     out: &mut [u8],
 ) -> refusal::Reply
-    ensures { λ r. ⌜ ReturnsPath (mapPathBy list by (now (store .entry)) (now (places .entry)) (now (legs .entry)) (length (now (out .entry))) (now (path .entry))) r (now (out .entry)) (now (out .exit)) ⌝ }
+    ensures { λ r. ⌜ ReturnsPath (mapPathBy list by (now (store .entry)) (now (places .entry)) (now (legs .entry))
+        (length (now (out .entry))) (now (path .entry))) r (now (out .entry)) (now (out .exit)) ⌝ }
 {
     match by {
         Mapper::Map(map, direction) => mapping::map_after_list(
@@ -108,7 +109,9 @@ fn map_spot(
     out: &mut [u8],
 ) -> refusal::Reply
     requires { ⌜ 2 * i + 2 ≤ length (now spots) ⌝ }
-    ensures { λ r. ⌜ ReturnsPath (mapSpotBy list by (now (store .entry)) (now (places .entry)) (now (legs .entry)) (now (texts .entry)) (now (spots .entry)) (length (now (out .entry))) i) r (now (out .entry)) (now (out .exit)) ⌝ }
+    ensures { λ r. ⌜ ReturnsPath (mapSpotBy list by (now (store .entry)) (now (places .entry)) (now (legs .entry))
+        (now (texts .entry)) (now (spots .entry)) (length (now (out .entry))) i) r (now (out .entry))
+        (now (out .exit)) ⌝ }
 {
     if !is_inside(texts, spots, i) {
         return refusal::Reply::Refused(refusal::Refusal::TooLong);
@@ -133,8 +136,12 @@ fn map_block(
     requires { ⌜ 2 * i + 2 ≤ length (now spots) ⌝ }
     requires { ⌜ 255 * i + 255 ≤ length (now out) ⌝ }
     requires { ⌜ i < length (now replies) ⌝ }
-    ensures { λ _. ⌜ now (out .exit) ≡ writtenBlock i (mapSpotBy list by (now (store .entry)) (now (places .entry)) (now (legs .entry)) (now (texts .entry)) (now (spots .entry)) 255 i) (now (out .entry)) ⌝ }
-    ensures { λ _. ⌜ now (replies .exit) ≡ set (now (replies .entry)) i (replyCode (outcomeReply (mapSpotBy list by (now (store .entry)) (now (places .entry)) (now (legs .entry)) (now (texts .entry)) (now (spots .entry)) 255 i))) ⌝ }
+    ensures { λ _. ⌜ now (out .exit) ≡ writtenBlock i
+        (mapSpotBy list by (now (store .entry)) (now (places .entry)) (now (legs .entry)) (now (texts .entry))
+        (now (spots .entry)) 255 i) (now (out .entry)) ⌝ }
+    ensures { λ _. ⌜ now (replies .exit) ≡ set (now (replies .entry)) i
+        (replyCode (outcomeReply (mapSpotBy list by (now (store .entry)) (now (places .entry)) (now (legs .entry))
+        (now (texts .entry)) (now (spots .entry)) 255 i))) ⌝ }
 {
     let at = 255 * i;
     let end = at + 255;
@@ -166,8 +173,12 @@ fn map_each(
     replies: &mut [usize],
 )
     requires { ⌜ batchFits n (length (now spots)) (length (now out)) (length (now replies)) ≡ true ⌝ }
-    ensures { λ _. ⌜ now (out .exit) ≡ pathBuffers (mapSpotBy list by (now (store .entry)) (now (places .entry)) (now (legs .entry)) (now (texts .entry)) (now (spots .entry)) 255) 0 n (now (out .entry)) ⌝ }
-    ensures { λ _. ⌜ now (replies .exit) ≡ replyNumbers (mapSpotBy list by (now (store .entry)) (now (places .entry)) (now (legs .entry)) (now (texts .entry)) (now (spots .entry)) 255) 0 n (now (replies .entry)) ⌝ }
+    ensures { λ _. ⌜ now (out .exit) ≡ pathBuffers
+        (mapSpotBy list by (now (store .entry)) (now (places .entry)) (now (legs .entry)) (now (texts .entry))
+        (now (spots .entry)) 255) 0 n (now (out .entry)) ⌝ }
+    ensures { λ _. ⌜ now (replies .exit) ≡ replyNumbers
+        (mapSpotBy list by (now (store .entry)) (now (places .entry)) (now (legs .entry)) (now (texts .entry))
+        (now (spots .entry)) 255) 0 n (now (replies .entry)) ⌝ }
 {
     let mut i = 0;
     while i < n {
@@ -189,7 +200,10 @@ pub fn map_all(
     out: &mut [u8],
     replies: &mut [usize],
 ) -> refusal::Validation
-    ensures { λ r. ⌜ ReturnsBatch (validateMapAll (now (store .entry)) (now (places .entry)) map n (now (spots .entry)) (now (out .entry)) (now (replies .entry))) (mappedAt direction (now (store .entry)) (now (places .entry)) map (now (texts .entry)) (now (spots .entry))) n r (now (out .entry)) (now (out .exit)) (now (replies .entry)) (now (replies .exit)) ⌝ }
+    ensures { λ r. ⌜ ReturnsBatch (validateMapAll (now (store .entry)) (now (places .entry)) map n (now (spots .entry))
+        (now (out .entry)) (now (replies .entry)))
+        (mappedAt direction (now (store .entry)) (now (places .entry)) map (now (texts .entry)) (now (spots .entry))) n
+        r (now (out .entry)) (now (out .exit)) (now (replies .entry)) (now (replies .exit)) ⌝ }
 {
     let list = validate::validate_list(store, places, map.count);
     let q = validate_batch(list, n, spots.len(), out.len(), replies.len());
@@ -228,8 +242,12 @@ fn route_prepared(
 )
     requires { ⌜ batchFits n (length (now spots)) (length (now out)) (length (now replies)) ≡ true ⌝ }
     requires { ⌜ list ≡ validateRoute (lentRoute (now store) (now places) (now legs) count) [] ⌝ }
-    ensures { λ _. ⌜ now (out .exit) ≡ pathBuffers (routedAt home (lentRoute (now (store .entry)) (now (places .entry)) (now (legs .entry)) count) (now (texts .entry)) (now (spots .entry))) 0 n (now (out .entry)) ⌝ }
-    ensures { λ _. ⌜ now (replies .exit) ≡ replyNumbers (routedAt home (lentRoute (now (store .entry)) (now (places .entry)) (now (legs .entry)) count) (now (texts .entry)) (now (spots .entry))) 0 n (now (replies .entry)) ⌝ }
+    ensures { λ _. ⌜ now (out .exit) ≡ pathBuffers
+        (routedAt home (lentRoute (now (store .entry)) (now (places .entry)) (now (legs .entry)) count)
+        (now (texts .entry)) (now (spots .entry))) 0 n (now (out .entry)) ⌝ }
+    ensures { λ _. ⌜ now (replies .exit) ≡ replyNumbers
+        (routedAt home (lentRoute (now (store .entry)) (now (places .entry)) (now (legs .entry)) count)
+        (now (texts .entry)) (now (spots .entry))) 0 n (now (replies .entry)) ⌝ }
 {
     let mut made = [0usize; 4096];
     let mut table = [0usize; 48];
@@ -265,8 +283,12 @@ fn route_each(
 )
     requires { ⌜ batchFits n (length (now spots)) (length (now out)) (length (now replies)) ≡ true ⌝ }
     requires { ⌜ list ≡ validateRoute (lentRoute (now store) (now places) (now legs) count) [] ⌝ }
-    ensures { λ _. ⌜ now (out .exit) ≡ pathBuffers (routedAt home (lentRoute (now (store .entry)) (now (places .entry)) (now (legs .entry)) count) (now (texts .entry)) (now (spots .entry))) 0 n (now (out .entry)) ⌝ }
-    ensures { λ _. ⌜ now (replies .exit) ≡ replyNumbers (routedAt home (lentRoute (now (store .entry)) (now (places .entry)) (now (legs .entry)) count) (now (texts .entry)) (now (spots .entry))) 0 n (now (replies .entry)) ⌝ }
+    ensures { λ _. ⌜ now (out .exit) ≡ pathBuffers
+        (routedAt home (lentRoute (now (store .entry)) (now (places .entry)) (now (legs .entry)) count)
+        (now (texts .entry)) (now (spots .entry))) 0 n (now (out .entry)) ⌝ }
+    ensures { λ _. ⌜ now (replies .exit) ≡ replyNumbers
+        (routedAt home (lentRoute (now (store .entry)) (now (places .entry)) (now (legs .entry)) count)
+        (now (texts .entry)) (now (spots .entry))) 0 n (now (replies .entry)) ⌝ }
 {
     if !route::needs_maps(list, legs, count) {
         let by = Mapper::Route(count, home);
@@ -302,7 +324,10 @@ pub fn route_all(
     out: &mut [u8],
     replies: &mut [usize],
 ) -> refusal::Validation
-    ensures { λ r. ⌜ (let route = lentRoute (now (store .entry)) (now (places .entry)) (now (legs .entry)) count in ReturnsBatch (validateRouteAll route n (now (spots .entry)) (now (out .entry)) (now (replies .entry))) (routedAt home route (now (texts .entry)) (now (spots .entry))) n r (now (out .entry)) (now (out .exit)) (now (replies .entry)) (now (replies .exit))) ⌝ }
+    ensures { λ r. ⌜ (let route = lentRoute (now (store .entry)) (now (places .entry)) (now (legs .entry)) count
+        in ReturnsBatch (validateRouteAll route n (now (spots .entry)) (now (out .entry)) (now (replies .entry)))
+        (routedAt home route (now (texts .entry)) (now (spots .entry))) n r (now (out .entry)) (now (out .exit))
+        (now (replies .entry)) (now (replies .exit))) ⌝ }
 {
     let list = route_legs::validate_legs(store, places, legs, count);
     let q = validate_batch(list, n, spots.len(), out.len(), replies.len());

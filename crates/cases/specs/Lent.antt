@@ -1,4 +1,4 @@
--- Lists, maps and routes of strings as a caller lends them, and lent buffers that are large enough.
+-- Meaning: Lists, maps and routes of strings as a caller lends them, and lent buffers that are large enough.
 use Prim.Native.Nat.{ℕ}
 use Prim.Native.String.{String}
 use mathlib.Core.Bool.{Bool, true, false}

@@ -1,4 +1,4 @@
--- The table of cases of the requirements: every row marked P, as a statement about the definitions. proofs/Table.antt proves the whole
+-- Meaning: The table of cases of the requirements: every row marked P, as a statement about the definitions. proofs/Table.antt proves the whole
 -- table.
 use mathlib.Core.Path.{_≡_}
 use mathlib.Core.List.{List, [], _∷_}

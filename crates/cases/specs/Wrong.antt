@@ -1,4 +1,4 @@
--- Requirements: "It must be shown that these fail". Each wrong tool is a function beside the definition that it would have to meet, with an
+-- Meaning: Requirements: "It must be shown that these fail". Each wrong tool is a function beside the definition that it would have to meet, with an
 -- input for which the two differ; proofs/Wrong.antt proves that they differ. Demand 2 requires the results that the definitions yield,
 -- demand 3 the round trip, whose two halves are those of crates/route_spec/specs/Route.antt.
 use mathlib.Core.Logic.{_≢_}

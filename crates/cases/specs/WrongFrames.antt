@@ -1,4 +1,4 @@
--- Wrong answers of the program `frames`. Each field names an input and an output that the definition excludes; the comment says which mistake would
+-- Meaning: Wrong answers of the program `frames`. Each field names an input and an output that the definition excludes; the comment says which mistake would
 -- give that output.
 use mathlib.Core.Logic.{_≢_}
 use mathlib.Core.List.{flatten}

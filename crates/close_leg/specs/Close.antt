@@ -1,4 +1,4 @@
--- Closing the open list as a leg, in lent memory: the reply, and every byte and entry after the call, for any contents of the buffers. All
+-- Meaning: Closing the open list as a leg, in lent memory: the reply, and every byte and entry after the call, for any contents of the buffers. All
 -- legs share one byte store; each has a block of 256 place entries and three numbers in the table, in the layout of crates/route_legs.
 use Prim.Native.Nat.{ℕ, suc, _+_, _*_}
 use mathlib.Core.Bool.{Bool, cond, _&&_}

@@ -49,7 +49,8 @@ fn validate_close(
     slots: &[usize],
     table: &[usize],
 ) -> Closed
-    ensures { λ r. ⌜ r ≡ closeListReply (pairsIn (now (bytes .entry)) (now (places .entry)) n) (legStore v (now (store .entry)) (now (slots .entry)) (now (table .entry))) ⌝ }
+    ensures { λ r. ⌜ r ≡ closeListReply (pairsIn (now (bytes .entry)) (now (places .entry)) n)
+        (legStore v (now (store .entry)) (now (slots .entry)) (now (table .entry))) ⌝ }
 {
     if !has_leg_room(v, slots, table) {
         return Closed::Refused(refusal::Refusal::TooMany);
@@ -102,10 +103,14 @@ fn close_list(
     table: &mut [usize],
 ) -> Closed
     requires { ⌜ (n ≤ 64) × (4 * n ≤ length (now places)) ⌝ }
-    ensures { λ r. ⌜ r ≡ closeListReply (pairsIn (now (bytes .entry)) (now (places .entry)) n) (legStore v (now (store .entry)) (now (slots .entry)) (now (table .entry))) ⌝ }
-    ensures { λ r. ⌜ now (store .exit) ≡ (closeListStore mark (pairsIn (now (bytes .entry)) (now (places .entry)) n) (legStore v (now (store .entry)) (now (slots .entry)) (now (table .entry)))) .store ⌝ }
-    ensures { λ r. ⌜ now (slots .exit) ≡ (closeListStore mark (pairsIn (now (bytes .entry)) (now (places .entry)) n) (legStore v (now (store .entry)) (now (slots .entry)) (now (table .entry)))) .slots ⌝ }
-    ensures { λ r. ⌜ now (table .exit) ≡ (closeListStore mark (pairsIn (now (bytes .entry)) (now (places .entry)) n) (legStore v (now (store .entry)) (now (slots .entry)) (now (table .entry)))) .table ⌝ }
+    ensures { λ r. ⌜ r ≡ closeListReply (pairsIn (now (bytes .entry)) (now (places .entry)) n)
+        (legStore v (now (store .entry)) (now (slots .entry)) (now (table .entry))) ⌝ }
+    ensures { λ r. ⌜ now (store .exit) ≡ (closeListStore mark (pairsIn (now (bytes .entry)) (now (places .entry)) n)
+        (legStore v (now (store .entry)) (now (slots .entry)) (now (table .entry)))) .store ⌝ }
+    ensures { λ r. ⌜ now (slots .exit) ≡ (closeListStore mark (pairsIn (now (bytes .entry)) (now (places .entry)) n)
+        (legStore v (now (store .entry)) (now (slots .entry)) (now (table .entry)))) .slots ⌝ }
+    ensures { λ r. ⌜ now (table .exit) ≡ (closeListStore mark (pairsIn (now (bytes .entry)) (now (places .entry)) n)
+        (legStore v (now (store .entry)) (now (slots .entry)) (now (table .entry)))) .table ⌝ }
 {
     let r = validate_close(bytes, places, n, v, store, slots, table);
     if let Closed::Refused(x) = r {
@@ -132,10 +137,14 @@ pub fn close(
     slots: &mut [usize],
     table: &mut [usize],
 ) -> Closed
-    ensures { λ r. ⌜ r ≡ closeReply relocates (lentList (now (bytes .entry)) (now (places .entry)) n) (legStore v (now (store .entry)) (now (slots .entry)) (now (table .entry))) ⌝ }
-    ensures { λ r. ⌜ now (store .exit) ≡ (closeStore relocates (lentList (now (bytes .entry)) (now (places .entry)) n) (legStore v (now (store .entry)) (now (slots .entry)) (now (table .entry)))) .store ⌝ }
-    ensures { λ r. ⌜ now (slots .exit) ≡ (closeStore relocates (lentList (now (bytes .entry)) (now (places .entry)) n) (legStore v (now (store .entry)) (now (slots .entry)) (now (table .entry)))) .slots ⌝ }
-    ensures { λ r. ⌜ now (table .exit) ≡ (closeStore relocates (lentList (now (bytes .entry)) (now (places .entry)) n) (legStore v (now (store .entry)) (now (slots .entry)) (now (table .entry)))) .table ⌝ }
+    ensures { λ r. ⌜ r ≡ closeReply relocates (lentList (now (bytes .entry)) (now (places .entry)) n)
+        (legStore v (now (store .entry)) (now (slots .entry)) (now (table .entry))) ⌝ }
+    ensures { λ r. ⌜ now (store .exit) ≡ (closeStore relocates (lentList (now (bytes .entry)) (now (places .entry)) n)
+        (legStore v (now (store .entry)) (now (slots .entry)) (now (table .entry)))) .store ⌝ }
+    ensures { λ r. ⌜ now (slots .exit) ≡ (closeStore relocates (lentList (now (bytes .entry)) (now (places .entry)) n)
+        (legStore v (now (store .entry)) (now (slots .entry)) (now (table .entry)))) .slots ⌝ }
+    ensures { λ r. ⌜ now (table .exit) ≡ (closeStore relocates (lentList (now (bytes .entry)) (now (places .entry)) n)
+        (legStore v (now (store .entry)) (now (slots .entry)) (now (table .entry)))) .table ⌝ }
 {
     if !validate::can_select(places, n, 256) {
         return Closed::Refused(refusal::Refusal::TooMany);

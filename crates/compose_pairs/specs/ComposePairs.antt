@@ -1,4 +1,4 @@
--- The contents of the buffers in which the list of pairs of a composed map is built, and the capacity they need.
+-- Method: The contents of the buffers in which the list of pairs of a composed map is built, and the capacity they need.
 use mathlib.Core.Path.{_≡_}
 use mathlib.Core.Bool.{Bool, true, false, cond, _&&_}
 use mathlib.Core.List.{List, []}

@@ -26,7 +26,8 @@ enum Image {
 fn join_at(old: &[u8], new: &[u8], rest: &[u8], at: usize, bytes: &mut [u8]) -> usize
     requires { ⌜ at + length (join (now old) (now new) (now rest)) ≤ length (now bytes) ⌝ }
     ensures { λ r. ⌜ r ≡ length (join (now (old .entry)) (now (new .entry)) (now (rest .entry))) ⌝ }
-    ensures { λ r. ⌜ now (bytes .exit) ≡ writtenIfFits at (join (now (old .entry)) (now (new .entry)) (now (rest .entry))) (now (bytes .entry)) ⌝ }
+    ensures { λ r. ⌜ now (bytes .exit) ≡ writtenIfFits at
+        (join (now (old .entry)) (now (new .entry)) (now (rest .entry))) (now (bytes .entry)) ⌝ }
 {
     let fit = path_join::join(old, new, rest, &mut bytes[at..]);
     match fit {
@@ -57,9 +58,13 @@ fn map_at(
     at: usize,
     bytes: &mut [u8],
 ) -> Image
-    requires { ⌜ at + imageLength (mapPlainly false (lentMap (now store) (now places) n mark) (now path)) ≤ length (now bytes) ⌝ }
-    ensures { λ r. ⌜ r ≡ image (mapPlainly false (lentMap (now (store .entry)) (now (places .entry)) n mark) (now (path .entry))) ⌝ }
-    ensures { λ r. ⌜ now (bytes .exit) ≡ imageBuffer at (mapPlainly false (lentMap (now (store .entry)) (now (places .entry)) n mark) (now (path .entry))) (now (bytes .entry)) ⌝ }
+    requires { ⌜ at + imageLength (mapPlainly false (lentMap (now store) (now places) n mark) (now path)) ≤ length
+        (now bytes) ⌝ }
+    ensures { λ r. ⌜ r ≡ image (mapPlainly false (lentMap (now (store .entry)) (now (places .entry)) n mark)
+        (now (path .entry))) ⌝ }
+    ensures { λ r. ⌜ now (bytes .exit) ≡ imageBuffer at
+        (mapPlainly false (lentMap (now (store .entry)) (now (places .entry)) n mark) (now (path .entry)))
+        (now (bytes .entry)) ⌝ }
 {
     let f = map_lookup::best_prefix(store, places, n, false, path);
     if !f.found {
@@ -86,9 +91,13 @@ fn composed_target_at(
     at: usize,
     bytes: &mut [u8],
 ) -> usize
-    requires { ⌜ at + length (composedTarget (lentMap (now store) (now places) n mark) (now target)) ≤ length (now bytes) ⌝ }
-    ensures { λ r. ⌜ r ≡ length (composedTarget (lentMap (now (store .entry)) (now (places .entry)) n mark) (now (target .entry))) ⌝ }
-    ensures { λ r. ⌜ now (bytes .exit) ≡ writtenIfFits at (composedTarget (lentMap (now (store .entry)) (now (places .entry)) n mark) (now (target .entry))) (now (bytes .entry)) ⌝ }
+    requires { ⌜ at + length (composedTarget (lentMap (now store) (now places) n mark) (now target)) ≤ length
+        (now bytes) ⌝ }
+    ensures { λ r. ⌜ r ≡ length (composedTarget (lentMap (now (store .entry)) (now (places .entry)) n mark)
+        (now (target .entry))) ⌝ }
+    ensures { λ r. ⌜ now (bytes .exit) ≡ writtenIfFits at
+        (composedTarget (lentMap (now (store .entry)) (now (places .entry)) n mark) (now (target .entry)))
+        (now (bytes .entry)) ⌝ }
 {
     if target.len() == 0 {
         return 0;
@@ -113,9 +122,12 @@ fn compose_pair(
     bytes: &mut [u8],
     slots: &mut [usize],
 ) -> usize
-    requires { ⌜ at + (length (now s) + length (composedTarget (lentMap (now store) (now places) count mark) (now t))) ≤ length (now bytes) ⌝ }
+    requires { ⌜ at + (length (now s) + length (composedTarget (lentMap (now store) (now places) count mark) (now t))) ≤
+        length (now bytes) ⌝ }
     requires { ⌜ 4 * n + 4 ≤ length (now slots) ⌝ }
-    ensures { λ r. ⌜ AppendedPair (pair (now (s .entry)) (composedTarget (lentMap (now (store .entry)) (now (places .entry)) count mark) (now (t .entry)))) n at (now (bytes .entry)) (now (slots .entry)) r (now (bytes .exit)) (now (slots .exit)) ⌝ }
+    ensures { λ r. ⌜ AppendedPair (pair (now (s .entry))
+        (composedTarget (lentMap (now (store .entry)) (now (places .entry)) count mark) (now (t .entry)))) n at
+        (now (bytes .entry)) (now (slots .entry)) r (now (bytes .exit)) (now (slots .exit)) ⌝ }
 {
     text::write_at(s, at, bytes);
     let m = at + s.len();
@@ -141,7 +153,8 @@ fn is_joined(old: &[u8], new: &[u8], rest: &[u8], text: &[u8]) -> bool
 
 // Returns whether one of the first n pairs has the new prefix joined with the rest as its source.
 fn has_joined(bytes: &[u8], slots: &[usize], n: usize, old: &[u8], new: &[u8], rest: &[u8]) -> bool
-    ensures { λ r. ⌜ r ≡ hasSource (pairsIn (now (bytes .entry)) (now (slots .entry)) n) (join (now (old .entry)) (now (new .entry)) (now (rest .entry))) ⌝ }
+    ensures { λ r. ⌜ r ≡ hasSource (pairsIn (now (bytes .entry)) (now (slots .entry)) n)
+        (join (now (old .entry)) (now (new .entry)) (now (rest .entry))) ⌝ }
 {
     let mut i = 0;
     while i < n {
@@ -173,7 +186,9 @@ fn add_joined(
     requires { ⌜ IsPacked (b .n) (b .at) (now bytes) (now slots) ⌝ }
     requires { ⌜ b .at + (length (join (now old) (now new) (now rest)) + length (now t)) ≤ length (now bytes) ⌝ }
     requires { ⌜ 4 * b .n + 4 ≤ length (now slots) ⌝ }
-    ensures { λ r. ⌜ PackedList (addIfNewSource (pairsIn (now (bytes .entry)) (now (slots .entry)) (b .n)) (now (t .entry)) (some (join (now (old .entry)) (now (new .entry)) (now (rest .entry))))) (r .n) (r .at) (now (bytes .entry)) (now (slots .entry)) (now (bytes .exit)) (now (slots .exit)) ⌝ }
+    ensures { λ r. ⌜ PackedList (addIfNewSource (pairsIn (now (bytes .entry)) (now (slots .entry)) (b .n))
+        (now (t .entry)) (some (join (now (old .entry)) (now (new .entry)) (now (rest .entry))))) (r .n) (r .at)
+        (now (bytes .entry)) (now (slots .entry)) (now (bytes .exit)) (now (slots .exit)) ⌝ }
 {
     let at = b.at;
     let n = b.n;
@@ -205,9 +220,13 @@ fn pull_back_pair(
     slots: &mut [usize],
 ) -> Built
     requires { ⌜ IsPacked (b .n) (b .at) (now bytes) (now slots) ⌝ }
-    requires { ⌜ b .at + (imageLength (mapPlainly true (lentMap (now store) (now places) count mark) (now s)) + length (now t)) ≤ length (now bytes) ⌝ }
+    requires { ⌜ b .at + (imageLength (mapPlainly true (lentMap (now store) (now places) count mark) (now s)) + length
+        (now t)) ≤ length (now bytes) ⌝ }
     requires { ⌜ 4 * b .n + 4 ≤ length (now slots) ⌝ }
-    ensures { λ r. ⌜ PackedList (addIfNewSource (pairsIn (now (bytes .entry)) (now (slots .entry)) (b .n)) (now (t .entry)) (mapPlainly true (lentMap (now (store .entry)) (now (places .entry)) count mark) (now (s .entry)))) (r .n) (r .at) (now (bytes .entry)) (now (slots .entry)) (now (bytes .exit)) (now (slots .exit)) ⌝ }
+    ensures { λ r. ⌜ PackedList (addIfNewSource (pairsIn (now (bytes .entry)) (now (slots .entry)) (b .n))
+        (now (t .entry)) (mapPlainly true (lentMap (now (store .entry)) (now (places .entry)) count mark)
+        (now (s .entry)))) (r .n) (r .at) (now (bytes .entry)) (now (slots .entry)) (now (bytes .exit))
+        (now (slots .exit)) ⌝ }
 {
     let f = map_lookup::best_prefix(store, places, count, true, s);
     if !f.found {
@@ -236,8 +255,11 @@ fn compose_all(
     bytes: &mut [u8],
     slots: &mut [usize],
 ) -> usize
-    requires { ⌜ CanCompose (pairsIn (now store) (now places) count) (pairsIn (now istore) (now iplaces) inner) (inner + count) (now bytes) (now slots) ⌝ }
-    ensures { λ r. ⌜ PackedList (mapped (composedPair (lentMap (now (store .entry)) (now (places .entry)) count mark)) (pairsIn (now (istore .entry)) (now (iplaces .entry)) inner)) inner r (now (bytes .entry)) (now (slots .entry)) (now (bytes .exit)) (now (slots .exit)) ⌝ }
+    requires { ⌜ CanCompose (pairsIn (now store) (now places) count) (pairsIn (now istore) (now iplaces) inner)
+        (inner + count) (now bytes) (now slots) ⌝ }
+    ensures { λ r. ⌜ PackedList (mapped (composedPair (lentMap (now (store .entry)) (now (places .entry)) count mark))
+        (pairsIn (now (istore .entry)) (now (iplaces .entry)) inner)) inner r (now (bytes .entry)) (now (slots .entry))
+        (now (bytes .exit)) (now (slots .exit)) ⌝ }
     ensures { λ r. ⌜ r ≤ 1534 * inner ⌝ }
 {
     let mut at = 0;
@@ -265,10 +287,14 @@ fn pull_back_all(
     bytes: &mut [u8],
     slots: &mut [usize],
 ) -> Built
-    requires { ⌜ CanCompose (pairsIn (now store) (now places) count) (pairsIn (now istore) (now iplaces) inner) (inner + count) (now bytes) (now slots) ⌝ }
+    requires { ⌜ CanCompose (pairsIn (now store) (now places) count) (pairsIn (now istore) (now iplaces) inner)
+        (inner + count) (now bytes) (now slots) ⌝ }
     requires { ⌜ IsPacked inner at (now bytes) (now slots) ⌝ }
     requires { ⌜ at ≤ 1534 * inner ⌝ }
-    ensures { λ r. ⌜ PackedList (pulledBack (lentMap (now (istore .entry)) (now (iplaces .entry)) inner mark) (pairsIn (now (bytes .entry)) (now (slots .entry)) inner) (pairsIn (now (store .entry)) (now (places .entry)) count)) (r .n) (r .at) (now (bytes .entry)) (now (slots .entry)) (now (bytes .exit)) (now (slots .exit)) ⌝ }
+    ensures { λ r. ⌜ PackedList (pulledBack (lentMap (now (istore .entry)) (now (iplaces .entry)) inner mark)
+        (pairsIn (now (bytes .entry)) (now (slots .entry)) inner)
+        (pairsIn (now (store .entry)) (now (places .entry)) count)) (r .n) (r .at) (now (bytes .entry))
+        (now (slots .entry)) (now (bytes .exit)) (now (slots .exit)) ⌝ }
 {
     let mut b = Built { n: inner, at: at };
     let mut i = 0;
@@ -294,8 +320,11 @@ fn compose_both(
     bytes: &mut [u8],
     slots: &mut [usize],
 ) -> Built
-    requires { ⌜ CanCompose (pairsIn (now store) (now places) count) (pairsIn (now istore) (now iplaces) inner) (inner + count) (now bytes) (now slots) ⌝ }
-    ensures { λ r. ⌜ PackedList (composedPairs (lentMap (now (store .entry)) (now (places .entry)) count mark) (lentMap (now (istore .entry)) (now (iplaces .entry)) inner imark)) (r .n) (r .at) (now (bytes .entry)) (now (slots .entry)) (now (bytes .exit)) (now (slots .exit)) ⌝ }
+    requires { ⌜ CanCompose (pairsIn (now store) (now places) count) (pairsIn (now istore) (now iplaces) inner)
+        (inner + count) (now bytes) (now slots) ⌝ }
+    ensures { λ r. ⌜ PackedList (composedPairs (lentMap (now (store .entry)) (now (places .entry)) count mark)
+        (lentMap (now (istore .entry)) (now (iplaces .entry)) inner imark)) (r .n) (r .at) (now (bytes .entry))
+        (now (slots .entry)) (now (bytes .exit)) (now (slots .exit)) ⌝ }
 {
     let at = compose_all(
         store,
@@ -344,7 +373,8 @@ fn compose_fits(
     room: usize,
     slots: usize,
 ) -> bool
-    ensures { λ r. ⌜ r ≡ composeFits (pairsIn (now (store .entry)) (now (places .entry)) count) (pairsIn (now (istore .entry)) (now (iplaces .entry)) inner) room slots ⌝ }
+    ensures { λ r. ⌜ r ≡ composeFits (pairsIn (now (store .entry)) (now (places .entry)) count)
+        (pairsIn (now (istore .entry)) (now (iplaces .entry)) inner) room slots ⌝ }
 {
     if !sum_at_most(inner, count, room / 1534) {
         return false;
@@ -372,9 +402,17 @@ pub fn compose_into(
     bytes: &mut [u8],
     slots: &mut [usize],
 ) -> Built
-    ensures { λ r. ⌜ r ≡ builtOf (composedOrNone (lentMap (now (store .entry)) (now (places .entry)) count mark) (lentMap (now (istore .entry)) (now (iplaces .entry)) inner imark) (length (now (bytes .entry))) (length (now (slots .entry)))) ⌝ }
-    ensures { λ r. ⌜ now (bytes .exit) ≡ written (listText (composedOrNone (lentMap (now (store .entry)) (now (places .entry)) count mark) (lentMap (now (istore .entry)) (now (iplaces .entry)) inner imark) (length (now (bytes .entry))) (length (now (slots .entry))))) (now (bytes .entry)) ⌝ }
-    ensures { λ r. ⌜ now (slots .exit) ≡ written (listPlaces 0 (composedOrNone (lentMap (now (store .entry)) (now (places .entry)) count mark) (lentMap (now (istore .entry)) (now (iplaces .entry)) inner imark) (length (now (bytes .entry))) (length (now (slots .entry))))) (now (slots .entry)) ⌝ }
+    ensures { λ r. ⌜ r ≡ builtOf (composedOrNone (lentMap (now (store .entry)) (now (places .entry)) count mark)
+        (lentMap (now (istore .entry)) (now (iplaces .entry)) inner imark) (length (now (bytes .entry)))
+        (length (now (slots .entry)))) ⌝ }
+    ensures { λ r. ⌜ now (bytes .exit) ≡ written
+        (listText (composedOrNone (lentMap (now (store .entry)) (now (places .entry)) count mark)
+        (lentMap (now (istore .entry)) (now (iplaces .entry)) inner imark) (length (now (bytes .entry)))
+        (length (now (slots .entry))))) (now (bytes .entry)) ⌝ }
+    ensures { λ r. ⌜ now (slots .exit) ≡ written
+        (listPlaces 0 (composedOrNone (lentMap (now (store .entry)) (now (places .entry)) count mark)
+        (lentMap (now (istore .entry)) (now (iplaces .entry)) inner imark) (length (now (bytes .entry)))
+        (length (now (slots .entry))))) (now (slots .entry)) ⌝ }
 {
     let room = bytes.len();
     if !compose_fits(

@@ -1,4 +1,4 @@
--- One line of `frames` as a call across the C interface: the counters kept between two lines are five plain numbers in a lent buffer. The
+-- Meaning: One line of `frames` as a call across the C interface: the counters kept between two lines are five plain numbers in a lent buffer. The
 -- caller may have altered them and the memory beside them, so what a line uses of them is validated.
 use Prim.Native.Nat.{ℕ, _+_}
 use mathlib.Core.Bool.{Bool, cond, _&&_}
@@ -15,14 +15,13 @@ use Rattle.refusal.specs.declared.Validation.the-variants.{Passed, Refused as R
 use Rattle.refusal.specs.declared.Reply.{Reply}
 use Rattle.refusal.specs.declared.Reply.the-variants.{Written, Refused}
 use Rattle.refusal.specs.Refusal.{refusalNumber, refusedOr}
-use Rattle.line_reader.specs.Lines.{Line}
-use Rattle.line_reader.specs.TakeLine.{lineInBuffer}
+use Rattle.line_reader.specs.Lines.{Line, lineInBuffer}
 use Rattle.frames_spec.specs.Frame.{Frame, frame}
-use Rattle.frames_spec.specs.Input.{parseLine, nextLine, answerLine}
+use Rattle.frames_spec.specs.Input.{parseLine, nextLine, answerLine, maxAnswerLine}
 use Rattle.frames_memory.specs.declared.Counters.{Counters}
 use Rattle.frames_memory.specs.Memory.{FramesMemory, framesMemory, stepFrameIn}
 use Rattle.frames_validate.specs.Checked.{validateUse, stepFrameChecked}
-use Rattle.frame_answer.specs.Answer.{maxAnswerLine, lineText}
+use Rattle.frame_answer.specs.Answer.{lineText}
 use Rattle.ffi_line.specs.declared.LineCheck.{LineCheck}
 use Rattle.ffi_line.specs.declared.LineCheck.the-variants.{Short, NoSpace, Open}
 

@@ -71,7 +71,9 @@ fn check_line(
     table: &[usize],
     room: usize,
 ) -> LineCheck
-    ensures { λ r. ⌜ r ≡ lineCheck (parseLine (wholeLine (now (line .entry)))) (now (kept .entry)) (lentMemory (now (kept .entry)) (now (bytes .entry)) (now (places .entry)) (now (store .entry)) (now (slots .entry)) (now (table .entry))) room ⌝ }
+    ensures { λ r. ⌜ r ≡ lineCheck (parseLine (wholeLine (now (line .entry)))) (now (kept .entry))
+        (lentMemory (now (kept .entry)) (now (bytes .entry)) (now (places .entry)) (now (store .entry))
+        (now (slots .entry)) (now (table .entry))) room ⌝ }
 {
     let mut frame = [0u8; 2048];
     let n = frame_decode::decode_line(line, line.len(), &mut frame);
@@ -127,8 +129,13 @@ fn process_line(
     out: &mut [u8],
 ) -> usize
     requires { ⌜ (5 ≤ length (now kept)) × (515 ≤ length (now out)) ⌝ }
-    ensures { λ r. ⌜ ProcessesLine (wholeLine (now (line .entry))) (now (kept .entry)) (lentMemory (now (kept .entry)) (now (bytes .entry)) (now (places .entry)) (now (store .entry)) (now (slots .entry)) (now (table .entry))) (now (out .entry)) r (now (kept .exit)) (now (out .exit)) ⌝ }
-    ensures { λ r. ⌜ lentMemory (now (kept .exit)) (now (bytes .exit)) (now (places .exit)) (now (store .exit)) (now (slots .exit)) (now (table .exit)) ≡ nextLine stepFrameIn (lentMemory (now (kept .entry)) (now (bytes .entry)) (now (places .entry)) (now (store .entry)) (now (slots .entry)) (now (table .entry))) (wholeLine (now (line .entry))) ⌝ }
+    ensures { λ r. ⌜ ProcessesLine (wholeLine (now (line .entry))) (now (kept .entry))
+        (lentMemory (now (kept .entry)) (now (bytes .entry)) (now (places .entry)) (now (store .entry))
+        (now (slots .entry)) (now (table .entry))) (now (out .entry)) r (now (kept .exit)) (now (out .exit)) ⌝ }
+    ensures { λ r. ⌜ lentMemory (now (kept .exit)) (now (bytes .exit)) (now (places .exit)) (now (store .exit))
+        (now (slots .exit)) (now (table .exit)) ≡ nextLine stepFrameIn
+        (lentMemory (now (kept .entry)) (now (bytes .entry)) (now (places .entry)) (now (store .entry))
+        (now (slots .entry)) (now (table .entry))) (wholeLine (now (line .entry))) ⌝ }
 {
     let k = counters_of(kept);
     let a = frame_answer::answer_line(
@@ -162,10 +169,19 @@ pub fn answer_whole(
     table: &mut [usize],
     out: &mut [u8],
 ) -> refusal::Reply
-    ensures { λ r. ⌜ r ≡ lineReply (wholeLine (now (line .entry))) (now (kept .entry)) (lentMemory (now (kept .entry)) (now (bytes .entry)) (now (places .entry)) (now (store .entry)) (now (slots .entry)) (now (table .entry))) (now (out .entry)) ⌝ }
-    ensures { λ r. ⌜ now (kept .exit) ≡ lineCounters (wholeLine (now (line .entry))) (now (kept .entry)) (lentMemory (now (kept .entry)) (now (bytes .entry)) (now (places .entry)) (now (store .entry)) (now (slots .entry)) (now (table .entry))) (now (out .entry)) ⌝ }
-    ensures { λ r. ⌜ lentMemory (now (kept .exit)) (now (bytes .exit)) (now (places .exit)) (now (store .exit)) (now (slots .exit)) (now (table .exit)) ≡ lineMemory (wholeLine (now (line .entry))) (now (kept .entry)) (lentMemory (now (kept .entry)) (now (bytes .entry)) (now (places .entry)) (now (store .entry)) (now (slots .entry)) (now (table .entry))) (now (out .entry)) ⌝ }
-    ensures { λ r. ⌜ now (out .exit) ≡ lineOut (wholeLine (now (line .entry))) (now (kept .entry)) (lentMemory (now (kept .entry)) (now (bytes .entry)) (now (places .entry)) (now (store .entry)) (now (slots .entry)) (now (table .entry))) (now (out .entry)) ⌝ }
+    ensures { λ r. ⌜ r ≡ lineReply (wholeLine (now (line .entry))) (now (kept .entry))
+        (lentMemory (now (kept .entry)) (now (bytes .entry)) (now (places .entry)) (now (store .entry))
+        (now (slots .entry)) (now (table .entry))) (now (out .entry)) ⌝ }
+    ensures { λ r. ⌜ now (kept .exit) ≡ lineCounters (wholeLine (now (line .entry))) (now (kept .entry))
+        (lentMemory (now (kept .entry)) (now (bytes .entry)) (now (places .entry)) (now (store .entry))
+        (now (slots .entry)) (now (table .entry))) (now (out .entry)) ⌝ }
+    ensures { λ r. ⌜ lentMemory (now (kept .exit)) (now (bytes .exit)) (now (places .exit)) (now (store .exit))
+        (now (slots .exit)) (now (table .exit)) ≡ lineMemory (wholeLine (now (line .entry))) (now (kept .entry))
+        (lentMemory (now (kept .entry)) (now (bytes .entry)) (now (places .entry)) (now (store .entry))
+        (now (slots .entry)) (now (table .entry))) (now (out .entry)) ⌝ }
+    ensures { λ r. ⌜ now (out .exit) ≡ lineOut (wholeLine (now (line .entry))) (now (kept .entry))
+        (lentMemory (now (kept .entry)) (now (bytes .entry)) (now (places .entry)) (now (store .entry))
+        (now (slots .entry)) (now (table .entry))) (now (out .entry)) ⌝ }
 {
     let c = check_line(line, kept, bytes, places, store, slots, table, out.len());
     match c {

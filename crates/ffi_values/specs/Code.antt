@@ -1,4 +1,4 @@
--- A reply as one plain number, for callers in Rust and C: 256 times the value, with the refusal's number (0 if there is none) in the low
+-- Meaning: A reply as one plain number, for callers in Rust and C: 256 times the value, with the refusal's number (0 if there is none) in the low
 -- byte.
 use mathlib.Core.Path.{_≡_}
 use Prim.Native.Nat.{ℕ, _*_, _%_, _^_}

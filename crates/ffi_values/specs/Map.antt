@@ -1,4 +1,4 @@
--- A map and a direction of mapping as plain numbers.
+-- Meaning: A map and a direction of mapping as plain numbers.
 use Prim.Native.Nat.{ℕ}
 use mathlib.Core.Bool.{Bool, cond}
 use lib.Dec.{eqb}

@@ -1,4 +1,4 @@
--- The reply of a call that builds a map or chains a path, encoded as one number for the C interface: the low byte is the refusal number (0
+-- Meaning: The reply of a call that builds a map or chains a path, encoded as one number for the C interface: the low byte is the refusal number (0
 -- if accepted), the remainder is 256 times the value.
 use mathlib.Core.Path.{_≡_}
 use Prim.Native.Nat.{ℕ, _+_, _*_, _%_, _^_}

@@ -1,4 +1,4 @@
--- A time offset as two plain numbers, the offset and then the scale.
+-- Meaning: A time offset as two plain numbers, the offset and then the scale.
 use Prim.Native.Nat.{ℕ}
 use mathlib.Core.List.{List, [], _∷_}
 use lib.Ieee.{Float}

@@ -1,4 +1,4 @@
--- The reply to one line, appended to the replies in the lent output buffer.
+-- Method: The reply to one line, appended to the replies in the lent output buffer.
 use mathlib.Core.Path.{_≡_}
 use Prim.Native.Nat.{ℕ, _+_, _≤_}
 use mathlib.Core.Bool.{Bool, cond}
@@ -15,12 +15,8 @@ use Rattle.line_reader.specs.Lines.{Line}
 use Rattle.hex.specs.Hex.{encodeHex}
 use Rattle.frames_spec.specs.Frame.{Frame}
 use Rattle.frames_spec.specs.Run.{nextState, answerFrame}
-use Rattle.frames_spec.specs.Input.{parseLine, nextLine, answerLine}
+use Rattle.frames_spec.specs.Input.{parseLine, nextLine, answerLine, maxAnswerLine}
 use Rattle.frames_memory.specs.Memory.{FramesMemory, stepFrameIn}
-
--- The length of the longest reply line: two bytes and a path of 255, two digits each, and the newline.
-abbrev pub maxAnswerLine : ℕ
-maxAnswerLine = 515
 
 -- Whether the output buffer has space for any reply after `at` bytes.
 abbrev pub roomAt : ℕ → Text → Bool

@@ -9,12 +9,13 @@ ghost use lib.ListN.{length, take};
 ghost use Rattle.text.specs.Text.{written};
 ghost use Rattle.frames_spec.specs.State.{bigEndian32};
 ghost use Rattle.frames_spec.specs.Run.{saturate32};
-ghost use Rattle.line_reader.specs.TakeLine.{lineInBuffer};
+ghost use Rattle.line_reader.specs.Lines.{lineInBuffer};
 ghost use Rattle.frames_spec.specs.Frame.{decodeFrame};
 ghost use Rattle.frames_memory.specs.Memory.{framesMemory, statusesIn, routePathIn};
 ghost use Rattle.frame_decode.specs.Header.{lastBytes, reach};
 ghost use Rattle.frame_apply.specs.Done.{Replies, RepliesPath, FrameDone, PairDone};
-ghost use Rattle.frame_answer.specs.Answer.{maxAnswerLine, lineText, replyLine, PayloadFits, WroteAt, AnswersFrame, memoryAfterLine, outAfterLine, endAfterLine};
+ghost use Rattle.frame_answer.specs.Answer.{lineText, replyLine, PayloadFits, WroteAt, AnswersFrame, memoryAfterLine, outAfterLine, endAfterLine};
+ghost use Rattle.frames_spec.specs.Input.{maxAnswerLine};
 
 // The length of the longest reply line: two bytes and a path of 255, two digits each, and the newline.
 pub const MAX_ANSWER_LINE: usize = 515;
@@ -28,7 +29,8 @@ pub struct AnsweredLine {
 // Writes a line of two bytes and a payload, in capital digits, and returns the offset after it.
 fn write_line(head: u8, answer: u8, payload: &[u8], at: usize, out: &mut [u8]) -> usize
     requires { ⌜ at + 5 + 2 * length (now payload) ≤ length (now out) ⌝ }
-    ensures { λ r. ⌜ WroteAt (lineText (head ∷ answer ∷ now (payload .entry))) at r (now (out .entry)) (now (out .exit)) ⌝ }
+    ensures { λ r. ⌜ WroteAt (lineText (head ∷ answer ∷ now (payload .entry))) at r (now (out .entry))
+        (now (out .exit)) ⌝ }
 {
     let mut first = [0u8; 2];
     first[0] = head;
@@ -74,7 +76,8 @@ fn apply_pair_in(
     places: &mut [usize],
 ) -> frame_apply::Effect
     requires { ⌜ n + 2 + m ≤ length (now frame) ⌝ }
-    ensures { λ r. ⌜ PairDone (take n (lastBytes (n + 2 + m) (now (frame .entry)))) (lastBytes m (now (frame .entry))) k (now (bytes .entry)) (now (places .entry)) (r .kept) (r .reply) (now (bytes .exit)) (now (places .exit)) ⌝ }
+    ensures { λ r. ⌜ PairDone (take n (lastBytes (n + 2 + m) (now (frame .entry)))) (lastBytes m (now (frame .entry))) k
+        (now (bytes .entry)) (now (places .entry)) (r .kept) (r .reply) (now (bytes .exit)) (now (places .exit)) ⌝ }
 {
     let start = frame.len() - (n + 2 + m);
     let end = start + n;
@@ -90,7 +93,8 @@ fn apply_statuses(
     payload: &mut [u8],
 ) -> refusal::Reply
     requires { ⌜ length (now payload) ≡ 255 ⌝ }
-    ensures { λ r. ⌜ Replies (statusesIn (framesMemory k (now (bytes .entry)) (now (places .entry)) [] [] [])) r (now (payload .entry)) (now (payload .exit)) ⌝ }
+    ensures { λ r. ⌜ Replies (statusesIn (framesMemory k (now (bytes .entry)) (now (places .entry)) [] [] [])) r
+        (now (payload .entry)) (now (payload .exit)) ⌝ }
 {
     let opened = k.opened;
     relocates::analyze_relocate_occurrences(bytes, places, opened.pairs, payload)
@@ -108,7 +112,9 @@ fn apply_route(
     payload: &mut [u8],
 ) -> refusal::Reply
     requires { ⌜ (length (now payload) ≡ 255) × (n ≤ length (now frame)) ⌝ }
-    ensures { λ r. ⌜ RepliesPath (routePathIn back (framesMemory k [] [] (now (store .entry)) (now (slots .entry)) (now (table .entry))) (lastBytes n (now (frame .entry)))) r (now (payload .entry)) (now (payload .exit)) ⌝ }
+    ensures { λ r. ⌜ RepliesPath (routePathIn back
+        (framesMemory k [] [] (now (store .entry)) (now (slots .entry)) (now (table .entry)))
+        (lastBytes n (now (frame .entry)))) r (now (payload .entry)) (now (payload .exit)) ⌝ }
 {
     let legs = k.legs;
     let start = frame.len() - n;
@@ -137,7 +143,10 @@ fn apply_frame(
     payload: &mut [u8],
 ) -> frame_apply::Effect
     requires { ⌜ (length (now payload) ≡ 255) × (reach header ≤ length (now frame)) ⌝ }
-    ensures { λ a. ⌜ FrameDone (now (frame .entry)) header (framesMemory k (now (bytes .entry)) (now (places .entry)) (now (store .entry)) (now (slots .entry)) (now (table .entry))) (framesMemory (a .kept) (now (bytes .exit)) (now (places .exit)) (now (store .exit)) (now (slots .exit)) (now (table .exit))) (a .reply) (now (payload .entry)) (now (payload .exit)) ⌝ }
+    ensures { λ a. ⌜ FrameDone (now (frame .entry)) header
+        (framesMemory k (now (bytes .entry)) (now (places .entry)) (now (store .entry)) (now (slots .entry))
+        (now (table .entry))) (framesMemory (a .kept) (now (bytes .exit)) (now (places .exit)) (now (store .exit))
+        (now (slots .exit)) (now (table .exit))) (a .reply) (now (payload .entry)) (now (payload .exit)) ⌝ }
 {
     match header {
         frame_decode::FrameHeader::AddPair(n, m) => apply_pair_in(frame, n, m, k, bytes, places),
@@ -199,7 +208,10 @@ fn answer_frame(
     out: &mut [u8],
 ) -> AnsweredLine
     requires { ⌜ at + maxAnswerLine ≤ length (now out) ⌝ }
-    ensures { λ r. ⌜ AnswersFrame (decodeFrame (now (frame .entry))) (framesMemory k (now (bytes .entry)) (now (places .entry)) (now (store .entry)) (now (slots .entry)) (now (table .entry))) (framesMemory (r .kept) (now (bytes .exit)) (now (places .exit)) (now (store .exit)) (now (slots .exit)) (now (table .exit))) at (r .end) (now (out .entry)) (now (out .exit)) ⌝ }
+    ensures { λ r. ⌜ AnswersFrame (decodeFrame (now (frame .entry)))
+        (framesMemory k (now (bytes .entry)) (now (places .entry)) (now (store .entry)) (now (slots .entry))
+        (now (table .entry))) (framesMemory (r .kept) (now (bytes .exit)) (now (places .exit)) (now (store .exit))
+        (now (slots .exit)) (now (table .exit))) at (r .end) (now (out .entry)) (now (out .exit)) ⌝ }
 {
     let d = frame_decode::decode_frame(frame);
     let frame_decode::DecodedFrame::Frame(kind, header) = d else {
@@ -249,9 +261,16 @@ pub fn answer_line(
     at: usize,
     out: &mut [u8],
 ) -> AnsweredLine
-    ensures { λ r. ⌜ framesMemory (r .kept) (now (bytes .exit)) (now (places .exit)) (now (store .exit)) (now (slots .exit)) (now (table .exit)) ≡ memoryAfterLine at (now (out .entry)) (framesMemory k (now (bytes .entry)) (now (places .entry)) (now (store .entry)) (now (slots .entry)) (now (table .entry))) (lineInBuffer len (now (line .entry))) ⌝ }
-    ensures { λ r. ⌜ r .end ≡ endAfterLine at (now (out .entry)) (framesMemory k (now (bytes .entry)) (now (places .entry)) (now (store .entry)) (now (slots .entry)) (now (table .entry))) (lineInBuffer len (now (line .entry))) ⌝ }
-    ensures { λ r. ⌜ now (out .exit) ≡ outAfterLine at (now (out .entry)) (framesMemory k (now (bytes .entry)) (now (places .entry)) (now (store .entry)) (now (slots .entry)) (now (table .entry))) (lineInBuffer len (now (line .entry))) ⌝ }
+    ensures { λ r. ⌜ framesMemory (r .kept) (now (bytes .exit)) (now (places .exit)) (now (store .exit))
+        (now (slots .exit)) (now (table .exit)) ≡ memoryAfterLine at (now (out .entry))
+        (framesMemory k (now (bytes .entry)) (now (places .entry)) (now (store .entry)) (now (slots .entry))
+        (now (table .entry))) (lineInBuffer len (now (line .entry))) ⌝ }
+    ensures { λ r. ⌜ r .end ≡ endAfterLine at (now (out .entry))
+        (framesMemory k (now (bytes .entry)) (now (places .entry)) (now (store .entry)) (now (slots .entry))
+        (now (table .entry))) (lineInBuffer len (now (line .entry))) ⌝ }
+    ensures { λ r. ⌜ now (out .exit) ≡ outAfterLine at (now (out .entry))
+        (framesMemory k (now (bytes .entry)) (now (places .entry)) (now (store .entry)) (now (slots .entry))
+        (now (table .entry))) (lineInBuffer len (now (line .entry))) ⌝ }
 {
     if !has_room(at, out.len()) {
         return AnsweredLine { kept: k, end: at };

@@ -1,4 +1,4 @@
--- The relations that the contracts of the code state after it has acted on a frame.
+-- Method: The relations that the contracts of the code state after it has acted on a frame.
 use mathlib.Core.Path.{_≡_}
 use Prim.Native.Nat.{ℕ}
 use mathlib.Core.Bool.{Bool, true, false}

@@ -27,7 +27,8 @@ pub fn apply_pair(
     bytes: &mut [u8],
     places: &mut [usize],
 ) -> Effect
-    ensures { λ r. ⌜ PairDone (now (source .entry)) (now (target .entry)) k (now (bytes .entry)) (now (places .entry)) (r .kept) (r .reply) (now (bytes .exit)) (now (places .exit)) ⌝ }
+    ensures { λ r. ⌜ PairDone (now (source .entry)) (now (target .entry)) k (now (bytes .entry)) (now (places .entry))
+        (r .kept) (r .reply) (now (bytes .exit)) (now (places .exit)) ⌝ }
 {
     let opened = k.opened;
     let legs = k.legs;
@@ -50,7 +51,11 @@ pub fn apply_pair(
 
 // A path frame: counts it if the path was mapped out and it was answered 00.
 pub fn count_out(back: bool, k: frames_memory::Counters, r: refusal::Reply) -> Effect
-    ensures { λ a. ⌜ a ≡ record { kept = record { opened = k .opened; legs = k .legs; outs = countRoute back r (k .outs) }; reply = r } ⌝ }
+    ensures { λ a. ⌜ a ≡ record {
+      kept = record
+          { opened = k .opened; legs = k .legs; outs = countRoute back r (k .outs) };
+      reply = r;
+    } ⌝ }
 {
     if back {
         return Effect { kept: k, reply: r };
@@ -83,7 +88,10 @@ pub fn apply_close(
     slots: &mut [usize],
     table: &mut [usize],
 ) -> Effect
-    ensures { λ r. ⌜ CloseDone relocates (framesMemory k (now (bytes .entry)) (now (places .entry)) (now (store .entry)) (now (slots .entry)) (now (table .entry))) (framesMemory (r .kept) (now (bytes .entry)) (now (places .entry)) (now (store .exit)) (now (slots .exit)) (now (table .exit))) (r .reply) ⌝ }
+    ensures { λ r. ⌜ CloseDone relocates (framesMemory k (now (bytes .entry)) (now (places .entry)) (now (store .entry))
+        (now (slots .entry)) (now (table .entry)))
+        (framesMemory (r .kept) (now (bytes .entry)) (now (places .entry)) (now (store .exit)) (now (slots .exit))
+        (now (table .exit))) (r .reply) ⌝ }
 {
     let opened = k.opened;
     let legs = k.legs;

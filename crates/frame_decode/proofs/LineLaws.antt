@@ -10,8 +10,7 @@ use lib.Seq.{length-take-le}
 use borrow.Author.Tests.{le-leb, lt-leb, leb-true, leb-false}
 use Rattle.text.specs.Text.{Text, written}
 use Rattle.text.proofs.WriteLaws.{placed-first, read-back}
-use Rattle.line_reader.specs.Lines.{text, overlong}
-use Rattle.line_reader.specs.TakeLine.{lineCapacity, lineInBuffer}
+use Rattle.line_reader.specs.Lines.{text, overlong, lineCapacity, lineInBuffer}
 use Rattle.hex.specs.Hex.{decodeHex}
 use Rattle.hex.specs.Calls.{decodeReply, decodeBuffer}
 use Rattle.hex.specs.declared.Decoded.{Decoded}

@@ -1,4 +1,4 @@
--- The result of parsing the bytes of a frame, and the frame that it denotes.
+-- Method: The result of parsing the bytes of a frame, and the frame that it denotes.
 use Prim.Native.Nat.{ℕ, _+_, _-_}
 use mathlib.Core.Bool.{cond}
 use mathlib.Core.Option.{Option, none, some}

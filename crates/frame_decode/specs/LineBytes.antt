@@ -1,4 +1,4 @@
--- The bytes that a line encodes in hexadecimal.
+-- Method: The bytes that a line encodes in hexadecimal.
 use Prim.Native.Nat.{ℕ}
 use mathlib.Core.Bool.{cond}
 use mathlib.Core.Option.{Option, none, some}

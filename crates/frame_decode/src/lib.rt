@@ -3,7 +3,7 @@ ghost use mathlib.Core.Path.{_≡_};
 ghost use Prim.Native.Nat.{_+_, _*_, _≤_};
 ghost use lib.ListN.{length, getD};
 ghost use Rattle.hex.specs.Calls.{decodeBuffer};
-ghost use Rattle.line_reader.specs.TakeLine.{lineInBuffer};
+ghost use Rattle.line_reader.specs.Lines.{lineInBuffer};
 ghost use Rattle.frames_spec.specs.Frame.{add-pair, pair-payload, kinds, formOf, decodePayload, decodeForm, withKind, decodeFrame};
 ghost use Rattle.frame_decode.specs.Header.{decodedOf, decodedAlone};
 ghost use Rattle.frame_decode.specs.LineBytes.{lineBytes, decodedCount};
@@ -102,8 +102,10 @@ pub fn decode_frame(bytes: &[u8]) -> DecodedFrame
 // Decodes the digits of a line of `len` bytes to the beginning of the buffer and returns the number of bytes; 0
 // if the line is overlong or not a line of digits, or if the bytes do not fit.
 pub fn decode_line(line: &[u8], len: usize, frame: &mut [u8]) -> usize
-    ensures { λ r. ⌜ r ≡ decodedCount (lineBytes (lineInBuffer len (now (line .entry)))) (length (now (frame .entry))) ⌝ }
-    ensures { λ r. ⌜ now (frame .exit) ≡ decodeBuffer (lineBytes (lineInBuffer len (now (line .entry)))) (now (frame .entry)) ⌝ }
+    ensures { λ r. ⌜ r ≡ decodedCount (lineBytes (lineInBuffer len (now (line .entry))))
+        (length (now (frame .entry))) ⌝ }
+    ensures { λ r. ⌜ now (frame .exit) ≡ decodeBuffer (lineBytes (lineInBuffer len (now (line .entry))))
+        (now (frame .entry)) ⌝ }
 {
     if 4096 < len {
         return 0;

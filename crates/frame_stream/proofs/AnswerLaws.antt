@@ -25,9 +25,8 @@ use Rattle.line_reader.specs.Lines.{Line}
 use Rattle.frames_spec.specs.Frame.{Frame, frame, add-pair, statuses, close, route, count}
 use Rattle.frames_spec.specs.State.{Answer, success, refusal, answerBytes, outcomeAnswer}
 use Rattle.frames_spec.specs.Run.{answerFrame}
-use Rattle.frames_spec.specs.Input.{parseLine, answerLine}
+use Rattle.frames_spec.specs.Input.{parseLine, answerLine, maxAnswerLine}
 use Rattle.frames_memory.specs.Memory.{FramesMemory, openListOf, legStoreOf, routeOf, addIn, statusesIn, closeIn, routePathIn, stepFrameIn}
-use Rattle.frame_answer.specs.Answer.{maxAnswerLine}
 
 -- At most the answer byte and a path.
 abbrev Small : Answer → Type 0

@@ -12,13 +12,11 @@ use lib.Seq.{take-nil, drop-drop}
 use borrow.Author.Tests.{le-leb}
 use Rattle.text.specs.Text.{Text}
 use Rattle.text.specs.Bytes.{newline}
-use Rattle.line_reader.specs.Lines.{Line}
+use Rattle.line_reader.specs.Lines.{Line, lineCapacity}
 use Rattle.line_reader.specs.Blocks.{answerBlocks}
-use Rattle.line_reader.specs.TakeLine.{lineCapacity}
-use Rattle.frames_spec.specs.Input.{nextLine, answerLine, output}
+use Rattle.frames_spec.specs.Input.{nextLine, answerLine, output, maxAnswerLine}
 use Rattle.frames_memory.specs.Memory.{FramesMemory, stepFrameIn}
 use Rattle.frames_memory.specs.Represents.{initialCounters}
-use Rattle.frame_answer.specs.Answer.{maxAnswerLine}
 use Rattle.frame_stream.specs.Stream.{StreamState, processBlock}
 use Rattle.frame_stream.specs.StreamTheorems.{streamLineCapacity, stepBlockIn, answerBlockIn, nextCall, afterCalls, answersIn, writtenOut, runBlocks}
 use Rattle.frame_stream.specs.Progress.{stateBetween, StartState, unconsumed, Progress, Reached, NextReplies, afterCall, NextStep, by-call, by-read, afterInput, lastReplies, ProgressTheorems}

@@ -11,9 +11,9 @@ use lib.ListN.{length, take}
 use lib.Seq.{take-all, length-take-le}
 use borrow.Author.Tests.{le-leb, ltb-true, ltb-false}
 use Rattle.text.specs.Text.{Text, writtenAt}
-use Rattle.line_reader.specs.Lines.{Line, text}
+use Rattle.line_reader.specs.Lines.{Line, text, lineCapacity, lineInBuffer}
 use Rattle.line_reader.specs.Blocks.{pushBytes}
-use Rattle.line_reader.specs.TakeLine.{newlineIndex, lineCapacity, lineInBuffer, lineLengthAfter, takeLineReply, takeLineBuffer}
+use Rattle.line_reader.specs.TakeLine.{newlineIndex, lineLengthAfter, takeLineReply, takeLineBuffer}
 use Rattle.line_reader.specs.declared.Taken.{Taken}
 use Rattle.line_reader.proofs.TakeLaws.{stop-le, most-le}
 use Rattle.line_reader.proofs.LineLaws.{line-grown, memory-length}

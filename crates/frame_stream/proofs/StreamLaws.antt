@@ -13,13 +13,12 @@ use Rattle.text.specs.Text.{Text, writtenAt, writtenIfFits}
 use Rattle.text.proofs.BoolLaws.{and-l, and-r, and-no}
 use Rattle.text.proofs.WriteLaws.{rest-whole, over-none}
 use Rattle.pair_list_write.proofs.WriteBranches.{over-over}
-use Rattle.line_reader.specs.Lines.{Line}
+use Rattle.line_reader.specs.Lines.{Line, lineCapacity}
 use Rattle.line_reader.specs.Blocks.{stepBlock, answerBlock}
-use Rattle.line_reader.specs.TakeLine.{lineCapacity}
 use Rattle.line_reader.proofs.BlockLaws.{stepped-append, answered-append}
-use Rattle.frames_spec.specs.Input.{nextLine, answerLine}
+use Rattle.frames_spec.specs.Input.{nextLine, answerLine, maxAnswerLine}
 use Rattle.frames_memory.specs.Memory.{FramesMemory, stepFrameIn}
-use Rattle.frame_answer.specs.Answer.{maxAnswerLine, roomAt}
+use Rattle.frame_answer.specs.Answer.{roomAt}
 use Rattle.frame_stream.specs.Stream.{StreamState, streamStep, canStep, streamSteps, processBlock}
 use Rattle.frame_stream.specs.StreamTheorems.{byteMachine, streamLineCapacity, stepBlockIn, answerBlockIn, ProcessesBlock, nextCall}
 use Rattle.frame_stream.proofs.StepBranches.{from, step-from, Goes, turned}

@@ -9,16 +9,14 @@ use lib.ListN.{length, take, drop, length-drop, take-append-drop}
 use borrow.Author.Tests.{leb-true}
 use Rattle.text.specs.Text.{Text}
 use Rattle.text.proofs.WriteLaws.{read-back}
-use Rattle.line_reader.specs.Lines.{Line, text}
+use Rattle.line_reader.specs.Lines.{Line, text, lineCapacity, lineInBuffer}
 use Rattle.line_reader.specs.Blocks.{stepBlock, answerBlock, answerBlocks, AnyBlocks}
-use Rattle.line_reader.specs.TakeLine.{lineCapacity, lineInBuffer}
 use Rattle.line_reader.proofs.BlockLaws.{end-newline}
 use Rattle.line_reader.proofs.Theorem.{any-blocks}
-use Rattle.frames_spec.specs.Input.{maxDigits, nextLine, answerLine, output}
+use Rattle.frames_spec.specs.Input.{maxDigits, nextLine, answerLine, output, maxAnswerLine}
 use Rattle.frames_memory.specs.Memory.{FramesMemory, stepFrameIn}
 use Rattle.frames_memory.specs.Represents.{LargeEnough, initialCounters}
 use Rattle.frames_memory.proofs.Theorem.{memory-theorems as memory-claims}
-use Rattle.frame_answer.specs.Answer.{maxAnswerLine}
 use Rattle.frame_stream.specs.Stream.{StreamState, processBlock}
 use Rattle.frame_stream.specs.StreamTheorems.{byteMachine, streamLineCapacity, stepBlockIn, answerBlockIn, ProcessesBlock, nextCall, afterCalls, answersIn, writtenOut, runBlocks, StreamTheorems}
 use Rattle.frame_stream.proofs.StepBranches.{line-new}

@@ -1,4 +1,4 @@
--- The progress of the program `frames` from read to read and from write to write, as the contracts of its functions cite it. The theorems tie
+-- Meaning: The progress of the program `frames` from read to read and from write to write, as the contracts of its functions cite it. The theorems tie
 -- it to the protocol's output (proofs/ProgressLaws.antt).
 use mathlib.Core.Path.{_≡_}
 use mathlib.Core.Bool.{cond}
@@ -8,10 +8,9 @@ use lib.Dec.{leb}
 use lib.ListN.{length, take, drop}
 use Rattle.text.specs.Text.{Text}
 use Rattle.text.specs.Bytes.{newline}
-use Rattle.frames_spec.specs.Input.{maxDigits, output}
+use Rattle.frames_spec.specs.Input.{maxDigits, output, maxAnswerLine}
 use Rattle.frames_memory.specs.declared.Counters.{Counters}
 use Rattle.frames_memory.specs.Represents.{LargeEnough, initialCounters}
-use Rattle.frame_answer.specs.Answer.{maxAnswerLine}
 use Rattle.frame_stream.specs.Stream.{StreamState, streamState, streamStart, processBlock}
 use Rattle.frame_stream.specs.StreamTheorems.{nextCall, answersIn, runBlocks}
 

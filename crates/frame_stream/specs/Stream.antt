@@ -1,12 +1,12 @@
--- Processing a block of input: step by step a line to its end, or the part of it that the block holds; every byte and number after it.
+-- Method: Processing a block of input: step by step a line to its end, or the part of it that the block holds; every byte and number after it.
 use Prim.Native.Nat.{ℕ, zero, suc, _+_}
 use mathlib.Core.Bool.{Bool, cond, _&&_}
 use mathlib.Core.List.{List}
 use lib.Dec.{ltb}
 use lib.ListN.{length, drop}
 use Rattle.text.specs.Text.{Text, writtenAt}
-use Rattle.line_reader.specs.Lines.{Line}
-use Rattle.line_reader.specs.TakeLine.{lineInBuffer, takeLineReply, takeLineBuffer}
+use Rattle.line_reader.specs.Lines.{Line, lineInBuffer}
+use Rattle.line_reader.specs.TakeLine.{takeLineReply, takeLineBuffer}
 use Rattle.line_reader.specs.declared.Taken.{Taken}
 use Rattle.frames_spec.specs.Input.{nextLine, answerLine}
 use Rattle.frames_memory.specs.declared.Counters.{Counters}

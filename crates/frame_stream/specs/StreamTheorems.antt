@@ -1,4 +1,4 @@
--- The theorems about `processBlock` (proofs/Theorem.antt): it implements the byte state machine of crates/line_reader on the lent buffers, so the output
+-- Meaning: The theorems about `processBlock` (proofs/Theorem.antt): it implements the byte state machine of crates/line_reader on the lent buffers, so the output
 -- is that of the protocol however the input is split into blocks.
 use mathlib.Core.Path.{_≡_}
 use mathlib.Core.Bool.{cond}
@@ -8,13 +8,11 @@ use lib.Dec.{leb}
 use lib.ListN.{length, take, drop}
 use Rattle.text.specs.Text.{Text, written}
 use Rattle.text.specs.Bytes.{newline}
-use Rattle.line_reader.specs.Lines.{Line, text}
+use Rattle.line_reader.specs.Lines.{Line, text, lineCapacity, lineInBuffer}
 use Rattle.line_reader.specs.Blocks.{stepBlock, answerBlock, answerBlocks}
-use Rattle.line_reader.specs.TakeLine.{lineCapacity, lineInBuffer}
-use Rattle.frames_spec.specs.Input.{maxDigits, nextLine, answerLine, output}
+use Rattle.frames_spec.specs.Input.{maxDigits, nextLine, answerLine, output, maxAnswerLine}
 use Rattle.frames_memory.specs.Memory.{FramesMemory, stepFrameIn}
 use Rattle.frames_memory.specs.Represents.{LargeEnough, initialCounters}
-use Rattle.frame_answer.specs.Answer.{maxAnswerLine}
 use Rattle.frame_stream.specs.Stream.{StreamState, streamStep, canStep, processBlock}
 
 -- The state of the byte machine.

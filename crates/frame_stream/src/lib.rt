@@ -2,7 +2,7 @@
 ghost use mathlib.Core.Path.{_≡_};
 ghost use Prim.Native.Nat.{_+_, _≤_};
 ghost use lib.ListN.{length};
-ghost use Rattle.frame_answer.specs.Answer.{maxAnswerLine};
+ghost use Rattle.frames_spec.specs.Input.{maxAnswerLine};
 ghost use Rattle.frame_stream.specs.Stream.{streamState, streamStart, streamStep, processBlock};
 
 // The result of processing a block.
@@ -33,7 +33,10 @@ fn stream_step(
     out: &mut [u8],
 ) -> StreamReply
     requires { ⌜ end + maxAnswerLine ≤ length (now out) ⌝ }
-    ensures { λ r. ⌜ streamState r (now (line .exit)) (now (bytes .exit)) (now (places .exit)) (now (store .exit)) (now (slots .exit)) (now (table .exit)) (now (out .exit)) ≡ streamStep (now (block .entry)) (streamState (streamStart len k end) (now (line .entry)) (now (bytes .entry)) (now (places .entry)) (now (store .entry)) (now (slots .entry)) (now (table .entry)) (now (out .entry))) ⌝ }
+    ensures { λ r. ⌜ streamState r (now (line .exit)) (now (bytes .exit)) (now (places .exit)) (now (store .exit))
+        (now (slots .exit)) (now (table .exit)) (now (out .exit)) ≡ streamStep (now (block .entry))
+        (streamState (streamStart len k end) (now (line .entry)) (now (bytes .entry)) (now (places .entry))
+        (now (store .entry)) (now (slots .entry)) (now (table .entry)) (now (out .entry))) ⌝ }
 {
     let t = line_reader::take_line(block, line, len);
     if !t.done {
@@ -69,7 +72,10 @@ pub fn process_block(
     table: &mut [usize],
     out: &mut [u8],
 ) -> StreamReply
-    ensures { λ r. ⌜ streamState r (now (line .exit)) (now (bytes .exit)) (now (places .exit)) (now (store .exit)) (now (slots .exit)) (now (table .exit)) (now (out .exit)) ≡ processBlock (now (block .entry)) (streamState (streamStart len k 0) (now (line .entry)) (now (bytes .entry)) (now (places .entry)) (now (store .entry)) (now (slots .entry)) (now (table .entry)) (now (out .entry))) ⌝ }
+    ensures { λ r. ⌜ streamState r (now (line .exit)) (now (bytes .exit)) (now (places .exit)) (now (store .exit))
+        (now (slots .exit)) (now (table .exit)) (now (out .exit)) ≡ processBlock (now (block .entry))
+        (streamState (streamStart len k 0) (now (line .entry)) (now (bytes .entry)) (now (places .entry))
+        (now (store .entry)) (now (slots .entry)) (now (table .entry)) (now (out .entry))) ⌝ }
 {
     let mut used = 0;
     let mut n = len;

@@ -70,7 +70,8 @@ fn answer(
     table: &mut [usize; 48],
     out: &mut [u8; 65536],
 ) -> AnswerPart
-    requires { ⌜ Reached (now part) (stateBetween len k (now line) (now bytes) (now places) (now store) (now slots) (now table) (now out)) ⌝ }
+    requires { ⌜ Reached (now part) (stateBetween len k (now line) (now bytes) (now places) (now store) (now slots)
+        (now table) (now out)) ⌝ }
     ensures { λ r. ⌜ (
         let a = stateBetween len k (now (line .entry)) (now (bytes .entry)) (now (places .entry)) (now (store .entry)) (now (slots .entry)) (now (table .entry)) (now (out .entry)) in
         let b = streamState (r .reply) (now (line .exit)) (now (bytes .exit)) (now (places .exit)) (now (store .exit)) (now (slots .exit)) (now (table .exit)) (now (out .exit)) in
@@ -106,7 +107,8 @@ fn finish(
     table: &mut [usize; 48],
     out: &mut [u8; 65536],
 ) -> StreamNow
-    requires { ⌜ Reached [] (stateBetween len k (now line) (now bytes) (now places) (now store) (now slots) (now table) (now out)) ⌝ }
+    requires { ⌜ Reached [] (stateBetween len k (now line) (now bytes) (now places) (now store) (now slots) (now table)
+        (now out)) ⌝ }
     ensures { λ r. ⌜ (
         let a = stateBetween len k (now (line .entry)) (now (bytes .entry)) (now (places .entry)) (now (store .entry)) (now (slots .entry)) (now (table .entry)) (now (out .entry)) in
         let b = stateBetween (r .len) (r .kept) (now (line .exit)) (now (bytes .exit)) (now (places .exit)) (now (store .exit)) (now (slots .exit)) (now (table .exit)) (now (out .exit)) in
@@ -154,7 +156,8 @@ fn step(
     out: &mut [u8; 65536],
 ) -> StreamNow
     requires { ⌜ end ≤ 65536 ⌝ }
-    requires { ⌜ Reached (unconsumed (now block) at end) (stateBetween len k (now line) (now bytes) (now places) (now store) (now slots) (now table) (now out)) ⌝ }
+    requires { ⌜ Reached (unconsumed (now block) at end)
+        (stateBetween len k (now line) (now bytes) (now places) (now store) (now slots) (now table) (now out)) ⌝ }
     ensures { λ r. ⌜ r .end ≤ 65536 ⌝ }
     ensures { λ r. ⌜ (
         let a = stateBetween len k (now (line .entry)) (now (bytes .entry)) (now (places .entry)) (now (store .entry)) (now (slots .entry)) (now (table .entry)) (now (out .entry)) in
@@ -213,8 +216,11 @@ fn run(
     table: &mut [usize; 48],
     out: &mut [u8; 65536],
 ) -> StreamNow
-    requires { ⌜ StartState (stateBetween 0 initialCounters (now line) (now bytes) (now places) (now store) (now slots) (now table) (now out)) ⌝ }
-    ensures { λ r. ⌜ (r .done ≡ true → Finished (stateBetween (r .len) (r .kept) (now (line .exit)) (now (bytes .exit)) (now (places .exit)) (now (store .exit)) (now (slots .exit)) (now (table .exit)) (now (out .exit)))) ⌝ }
+    requires { ⌜ StartState (stateBetween 0 initialCounters (now line) (now bytes) (now places) (now store) (now slots)
+        (now table) (now out)) ⌝ }
+    ensures { λ r. ⌜ (r .done ≡ true → Finished
+        (stateBetween (r .len) (r .kept) (now (line .exit)) (now (bytes .exit)) (now (places .exit)) (now (store .exit))
+        (now (slots .exit)) (now (table .exit)) (now (out .exit)))) ⌝ }
 {
     let mut now = StreamNow {
         at: 0,

@@ -1,4 +1,4 @@
--- What `frames` keeps between two lines in lent memory, and the effect of each frame on it: every byte and number, for any contents of the
+-- Meaning: What `frames` keeps between two lines in lent memory, and the effect of each frame on it: every byte and number, for any contents of the
 -- buffers. Buffers that hold a state of the protocol keep holding one (specs/Represents.antt).
 use Prim.Native.Nat.{ℕ}
 use mathlib.Core.Bool.{Bool, true, false}

@@ -1,4 +1,4 @@
--- The invariant of the buffers of `frames`: they hold a state of the protocol. The theorem: a frame on buffers that hold a state gets the
+-- Meaning: The invariant of the buffers of `frames`: they hold a state of the protocol. The theorem: a frame on buffers that hold a state gets the
 -- reply of that state, and leaves buffers that hold the next state. Proved in proofs/Theorem.antt.
 use mathlib.Core.Path.{_≡_}
 use Prim.Native.Nat.{ℕ, _+_, _*_, _≤_, _<_}

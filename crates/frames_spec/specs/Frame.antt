@@ -1,4 +1,4 @@
--- A frame: the bytes that one line encodes in hexadecimal. Requirements: "The first byte is the kind". Question 9: "Is the frame well
+-- Meaning: A frame: the bytes that one line encodes in hexadecimal. Requirements: "The first byte is the kind". Question 9: "Is the frame well
 -- formed (.. known kind, lengths filling it exactly ..)?" The table `kinds` has a line for each kind; all that depends on the kind of a
 -- frame is read off it.
 use Prim.Native.Nat.{ℕ, _+_, _*_}

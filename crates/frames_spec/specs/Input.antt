@@ -1,4 +1,4 @@
--- A whole input: its lines, the frames parsed from them, and the output. Nothing here depends on how the input is split into blocks.
+-- Meaning: A whole input: its lines, the frames parsed from them, and the output. Nothing here depends on how the input is split into blocks.
 use mathlib.Core.Path.{_≡_}
 use mathlib.Core.Bool.{false}
 use Prim.Native.Nat.{ℕ, _+_}
@@ -39,6 +39,10 @@ module _ {S : Type 0} (step : S → Frame → Transition S) where
   unfoldable pub answerLine : S → Line → Text
   unfolding parseLine encodeHex
   answerLine st l = encodeHex (answerFrame step st (parseLine l)) ++ newline ∷ []
+
+-- The length of the longest reply line: two bytes and a path of 255, two digits each, and the newline.
+abbrev pub maxAnswerLine : ℕ
+maxAnswerLine = 515
 
 -- The output of the program for a list of lines.
 unfoldable pub answersTo : List Line → Text

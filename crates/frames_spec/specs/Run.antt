@@ -1,4 +1,4 @@
--- A run: the frames of an input in order, with none for a bad frame; and the theorems about every run.
+-- Meaning: A run: the frames of an input in order, with none for a bad frame; and the theorems about every run.
 use mathlib.Core.Path.{_≡_}
 use Prim.Native.Nat.{ℕ, _+_, _≤_}
 use mathlib.Core.Bool.{true, false, cond}

@@ -1,4 +1,4 @@
--- The state of `frames` between two lines, and for each frame its reply and the state after it.
+-- Meaning: The state of `frames` between two lines, and for each frame its reply and the state after it.
 use Prim.Native.Nat.{ℕ, suc, _+_, _/_, _%_}
 use mathlib.Core.Bool.{Bool, true, false, cond}
 use mathlib.Core.List.{List, [], _∷_, _++_}

@@ -1,4 +1,4 @@
--- The step of a frame on memory that the caller of a line keeps, and may have altered: what the frame uses of it is validated first.
+-- Meaning: The step of a frame on memory that the caller of a line keeps, and may have altered: what the frame uses of it is validated first.
 use mathlib.Core.Path.{_≡_}
 use mathlib.Core.Bool.{Bool, true, false}
 use mathlib.Core.List.{List, [], _∷_}
@@ -15,6 +15,7 @@ use Rattle.route_spec.specs.Route.{runRoute}
 use Rattle.route_legs.specs.LentRoute.{mapLegs, validateRoute}
 use Rattle.frames_spec.specs.Frame.{Frame, frame, Action, add-pair, statuses, close, route, count}
 use Rattle.frames_spec.specs.State.{State, success, refusal, outcomeAnswer, bigEndian32, Transition, stepFrame}
+use Rattle.frames_spec.specs.Run.{saturate32}
 use Rattle.frames_spec.specs.Input.{nextLine, answerLine}
 use Rattle.frames_memory.specs.Memory.{FramesMemory, openListOf, routeOf, addIn, statusesIn, closeIn, countIn, stepFrameIn}
 use Rattle.frames_memory.specs.Represents.{Represents, SameStep, outputOf}
@@ -48,7 +49,7 @@ stepFrameChecked m (frame k (close relocates)) = refusedOr (validateUse m (close
 stepFrameChecked m (frame k (route false p)) = refusedOr (validateUse m (route false p)) (refuseIn m) (countIn m (routeStored false m p))
 stepFrameChecked m (frame k (route true p)) =
     refusedOr (validateUse m (route true p)) (refuseIn m) (record { state = m; answer = outcomeAnswer (routeStored true m p) })
-stepFrameChecked m (frame k count) = record { state = m; answer = success (bigEndian32 (m .kept .outs)) }
+stepFrameChecked m (frame k count) = record { state = m; answer = success (bigEndian32 (saturate32 (m .kept .outs))) }
 
 -- The code validates what a frame uses and then takes the program's own step, `stepFrameIn`, which maps a path the quick way. That is the step
 -- defined above (proofs/QuickLaws.antt).

@@ -27,7 +27,8 @@ fn validate_path(
     table: &[usize],
     count: usize,
 ) -> refusal::Validation
-    ensures { λ r. ⌜ r ≡ validateRoute (lentRoute (now (store .entry)) (now (slots .entry)) (now (table .entry)) count) (lastBytes n (now (frame .entry)) ∷ []) ⌝ }
+    ensures { λ r. ⌜ r ≡ validateRoute (lentRoute (now (store .entry)) (now (slots .entry)) (now (table .entry)) count)
+        (lastBytes n (now (frame .entry)) ∷ []) ⌝ }
 {
     let q = route_legs::validate_legs(store, slots, table, count);
     validate::first_refusal(q, path::new(last_bytes(frame, n)))
@@ -44,7 +45,8 @@ pub fn validate_use(
     slots: &[usize],
     table: &[usize],
 ) -> refusal::Validation
-    ensures { λ r. ⌜ r ≡ validateUse (framesMemory k (now (bytes .entry)) (now (places .entry)) (now (store .entry)) (now (slots .entry)) (now (table .entry))) (actionIn (now (frame .entry)) header) ⌝ }
+    ensures { λ r. ⌜ r ≡ validateUse (framesMemory k (now (bytes .entry)) (now (places .entry)) (now (store .entry))
+        (now (slots .entry)) (now (table .entry))) (actionIn (now (frame .entry)) header) ⌝ }
 {
     let opened = k.opened;
     let legs = k.legs;

@@ -1,4 +1,4 @@
--- The result of `decode`, and the contents of the lent buffer afterwards.
+-- Meaning: The result of `decode`, and the contents of the lent buffer afterwards.
 use Prim.Native.Nat.{ℕ}
 use mathlib.Core.Bool.{Bool, true, false, cond, _&&_}
 use mathlib.Core.List.{[], _∷_}

@@ -1,4 +1,4 @@
--- Hexadecimal digits, two for each byte, the high one first. The bytes: 0 is 48, A is 65, a is 97.
+-- Meaning: Hexadecimal digits, two for each byte, the high one first. The bytes: 0 is 48, A is 65, a is 97.
 use Prim.Native.Nat.{ℕ, _+_, _-_, _*_, _/_, _%_}
 use mathlib.Core.Path.{_≡_}
 use mathlib.Core.Bool.{Bool, true, cond, _&&_}

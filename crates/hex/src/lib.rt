@@ -99,7 +99,8 @@ fn hex_digit(v: u8) -> u8
 // Writes the two digits of a byte, the high one first.
 fn write_byte(b: u8, at: usize, out: &mut [u8])
     requires { ⌜ at + 1 < length (now out) ⌝ }
-    ensures { λ _. ⌜ now (out .exit) ≡ set (set (now (out .entry)) at (hexDigit (b / 16))) (at + 1) (hexDigit (b % 16)) ⌝ }
+    ensures { λ _. ⌜ now (out .exit) ≡ set (set (now (out .entry)) at (hexDigit (b / 16))) (at + 1)
+        (hexDigit (b % 16)) ⌝ }
 {
     out[at] = hex_digit(b / 16);
     out[at + 1] = hex_digit(b % 16);

@@ -1,4 +1,4 @@
--- Functions on one 64-bit float that the time offsets need beyond the logic's own IEEE 754 (`lib.Ieee`). There a NaN is the one value
+-- Meaning: Functions on one 64-bit float that the time offsets need beyond the logic's own IEEE 754 (`lib.Ieee`). There a NaN is the one value
 -- `nan`, with no sign and no payload, so an equation between floats states the requirement. Requirements: "Results agree bit for bit; a NaN
 -- agrees with a NaN."
 use Prim.Native.Nat.{ℕ}

@@ -1,4 +1,4 @@
--- Time offsets: the result of each function of LayerOffset in the Rust sdf/mod.rs, as a formula over IEEE 754. Each operation rounds once,
+-- Meaning: Time offsets: the result of each function of LayerOffset in the Rust sdf/mod.rs, as a formula over IEEE 754. Each operation rounds once,
 -- in the order of the formula. OpenUSD: SdfLayerOffset.
 use mathlib.Core.Bool.{Bool, not, cond, _&&_}
 use lib.Dec.{eqb}

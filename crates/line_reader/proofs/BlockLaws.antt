@@ -10,9 +10,9 @@ use lib.Dec.{eqb, leb}
 use lib.ListN.{length, take}
 use borrow.Author.Tests.{le-leb, leb-true}
 use Rattle.text.specs.Text.{Text}
-use Rattle.line_reader.specs.Lines.{Line, text, overlong, foldAnswers}
+use Rattle.line_reader.specs.Lines.{Line, text, overlong, foldAnswers, lineCapacity, lineInBuffer}
 use Rattle.line_reader.specs.Blocks.{pushByte, pushBytes, stepByte, stepBlock, answerBlock, answerEnd}
-use Rattle.line_reader.specs.TakeLine.{newlineIndex, lineCapacity, lineInBuffer}
+use Rattle.line_reader.specs.TakeLine.{newlineIndex}
 use Rattle.line_reader.proofs.TakeLaws.{most-le}
 
 module _ {S : Type 0} (most : ℕ) (next : S → Line → S) (reply : S → Line → Text) where

@@ -10,9 +10,9 @@ use lib.ListN.{length, take, drop, length-append, length-drop}
 use lib.Seq.{length-take-le, take-at}
 use borrow.Author.Tests.{le-leb, lt-leb, leb-true, leb-false}
 use Rattle.text.specs.Text.{Text, writtenIfFits}
-use Rattle.line_reader.specs.Lines.{Line, text, overlong, lineOf}
+use Rattle.line_reader.specs.Lines.{Line, text, overlong, lineOf, lineCapacity, lineInBuffer}
 use Rattle.line_reader.specs.Blocks.{pushByte, pushBytes}
-use Rattle.line_reader.specs.TakeLine.{lineCapacity, lineInBuffer, lineLengthAfter, lineBufferAfter}
+use Rattle.line_reader.specs.TakeLine.{lineLengthAfter, lineBufferAfter}
 use Rattle.line_reader.proofs.TakeLaws.{most-le}
 
 -- An overlong line stays overlong.

@@ -11,7 +11,8 @@ use lib.ListN.{length, getD, take, drop, drop-of-length-le}
 use lib.Seq.{drop-cons, length-take-le}
 use borrow.Author.Tests.{eq-eqb, ne-eqb, le-leb, lt-leb, leb-true, leb-false, lt-ltb, le-ltb}
 use Rattle.text.specs.Text.{Text, writtenIfFits}
-use Rattle.line_reader.specs.TakeLine.{newlineIndex, lineCapacity, lineLengthAfter, lineBufferAfter, takeLineReply, takeLineBuffer}
+use Rattle.line_reader.specs.TakeLine.{newlineIndex, lineLengthAfter, lineBufferAfter, takeLineReply, takeLineBuffer}
+use Rattle.line_reader.specs.Lines.{lineCapacity}
 
 -- Lemmas for `newline_index`.
 pub newline-on : (s : Text) (i : ℕ) → i < length s → getD s i 0 ≢ 10 → newlineIndex s ≡ i + newlineIndex (drop i s) → newlineIndex s ≡ i + 1 + newlineIndex (drop (i + 1) s)

@@ -1,4 +1,4 @@
--- An input that arrives in blocks of any size. Between two blocks only the line so far and the state are kept.
+-- Meaning: An input that arrives in blocks of any size. Between two blocks only the line so far and the state are kept.
 use Prim.Native.Nat.{ℕ, suc}
 use mathlib.Core.Path.{_≡_}
 use mathlib.Core.Bool.{cond}

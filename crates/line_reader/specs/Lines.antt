@@ -1,9 +1,9 @@
--- The lines of an input and the replies to them, independent of what a line contains. The newline is byte 10.
+-- Meaning: The lines of an input and the replies to them, independent of what a line contains. The newline is byte 10.
 use Prim.Native.Nat.{ℕ}
 use mathlib.Core.Bool.{cond}
 use mathlib.Core.List.{List, [], _∷_, _++_, map}
 use lib.Dec.{eqb, leb}
-use lib.ListN.{length}
+use lib.ListN.{length, take}
 use Rattle.text.specs.Text.{Text}
 use Rattle.text.specs.Bytes.{newline}
 
@@ -36,3 +36,12 @@ linesOf most s = map (lineOf most) (splitLines [] s)
 unfoldable pub foldAnswers : {S : Type 0} → (S → Line → S) → (S → Line → Text) → S → List Line → Text
 foldAnswers next reply st [] = []
 foldAnswers next reply st (l ∷ ls) = reply st l ++ foldAnswers next reply (next st l) ls
+
+-- The maximum line length for a line buffer of capacity `room`. Requirements: "a line of at most 4,096 digits".
+unfoldable pub lineCapacity : ℕ → ℕ
+lineCapacity room = cond (leb room 4096) room 4096
+
+-- The line in the first n bytes of the buffer; overlong if n exceeds the maximum line length.
+unfoldable pub lineInBuffer : ℕ → Text → Line
+unfolding lineCapacity
+lineInBuffer n mem = cond (leb n (lineCapacity (length mem))) (text (take n mem)) overlong

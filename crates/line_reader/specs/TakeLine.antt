@@ -1,4 +1,4 @@
--- One call of `take_line`: it consumes the bytes of a block up to the end of one line. The line so far is in the lent line buffer; its
+-- Method: One call of `take_line`: it consumes the bytes of a block up to the end of one line. The line so far is in the lent line buffer; its
 -- length is a separate number.
 use Prim.Native.Nat.{ℕ, suc, _+_}
 use mathlib.Core.Bool.{true, false, cond}
@@ -7,22 +7,13 @@ use lib.Dec.{eqb, leb, ltb}
 use lib.ListN.{length, take}
 use Rattle.text.specs.Text.{Text, writtenIfFits}
 use Rattle.text.specs.Bytes.{newline}
-use Rattle.line_reader.specs.Lines.{Line, text, overlong}
+use Rattle.line_reader.specs.Lines.{lineCapacity}
 use Rattle.line_reader.specs.declared.Taken.{Taken}
 
 -- The number of bytes before the first newline; the length of the text if it has none.
 unfoldable pub newlineIndex : Text → ℕ
 newlineIndex [] = 0
 newlineIndex (b ∷ s) = cond (eqb b newline) 0 (suc (newlineIndex s))
-
--- The maximum line length for a line buffer of capacity `room`. Requirements: "a line of at most 4,096 digits".
-unfoldable pub lineCapacity : ℕ → ℕ
-lineCapacity room = cond (leb room 4096) room 4096
-
--- The line in the first n bytes of the buffer; overlong if n exceeds the maximum line length.
-unfoldable pub lineInBuffer : ℕ → Text → Line
-unfolding lineCapacity
-lineInBuffer n mem = cond (leb n (lineCapacity (length mem))) (text (take n mem)) overlong
 
 -- The length of a line of n bytes after k more; every overlong line has the length `most + 1`.
 unfoldable pub lineLengthAfter : ℕ → ℕ → ℕ → ℕ

@@ -2,7 +2,8 @@
 // function has a precondition.
 ghost use mathlib.Core.Path.{_≡_};
 ghost use lib.ListN.{length};
-ghost use Rattle.line_reader.specs.TakeLine.{newlineIndex, lineCapacity, lineLengthAfter, lineBufferAfter, takeLineReply, takeLineBuffer};
+ghost use Rattle.line_reader.specs.TakeLine.{newlineIndex, lineLengthAfter, lineBufferAfter, takeLineReply, takeLineBuffer};
+ghost use Rattle.line_reader.specs.Lines.{lineCapacity};
 
 // The maximum length of a line in bytes.
 const MOST: usize = 4096;
@@ -45,7 +46,8 @@ fn line_capacity(room: usize) -> usize
 // stored.
 fn append_to_line(s: &[u8], line: &mut [u8], len: usize) -> usize
     ensures { λ r. ⌜ r ≡ lineLengthAfter (lineCapacity (length (now (line .entry)))) len (length (now (s .entry))) ⌝ }
-    ensures { λ r. ⌜ now (line .exit) ≡ lineBufferAfter (lineCapacity (length (now (line .entry)))) len (now (s .entry)) (now (line .entry)) ⌝ }
+    ensures { λ r. ⌜ now (line .exit) ≡ lineBufferAfter (lineCapacity (length (now (line .entry)))) len (now (s .entry))
+        (now (line .entry)) ⌝ }
 {
     let most = line_capacity(line.len());
     if most < len {

@@ -1,4 +1,4 @@
--- Plain mapping and translation as the code performs them, on any bytes: `joinIllegal` decides question 8, without scanning the joined path
+-- Method: Plain mapping and translation as the code performs them, on any bytes: `joinIllegal` decides question 8, without scanning the joined path
 -- again. For ends and a legal path of at most 255 bytes this agrees with the questions (proofs/FastLaws.antt).
 use Prim.Native.Nat.{ℕ}
 use mathlib.Core.Bool.{Bool, true, false, cond, _&&_}

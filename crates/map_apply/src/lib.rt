@@ -11,7 +11,8 @@ ghost use Rattle.map_apply.specs.Fast.{joinChecked, keepPath, mapFast, t
 // Writes the path with its old prefix replaced by the new one, with questions 7 and 8.
 fn apply_pair(old: &[u8], new: &[u8], path: &[u8], out: &mut [u8; 255]) -> refusal::Reply
     requires { ⌜ length (now old) ≤ length (now path) ⌝ }
-    ensures { λ r. ⌜ ReturnsPath (joinChecked (now (old .entry)) (now (new .entry)) (drop (length (now (old .entry))) (now (path .entry)))) r (now (out .entry)) (now (out .exit)) ⌝ }
+    ensures { λ r. ⌜ ReturnsPath (joinChecked (now (old .entry)) (now (new .entry))
+        (drop (length (now (old .entry))) (now (path .entry)))) r (now (out .entry)) (now (out .exit)) ⌝ }
 {
     let k = old.len();
     if path_join::is_join_illegal(new, &path[k..]) {
@@ -48,7 +49,8 @@ pub fn map_text(
     path: &[u8],
     out: &mut [u8; 255],
 ) -> refusal::Reply
-    ensures { λ r. ⌜ ReturnsPath (mapFast invert (lentMap (now (store .entry)) (now (places .entry)) n mark) (now (path .entry))) r (now (out .entry)) (now (out .exit)) ⌝ }
+    ensures { λ r. ⌜ ReturnsPath (mapFast invert (lentMap (now (store .entry)) (now (places .entry)) n mark)
+        (now (path .entry))) r (now (out .entry)) (now (out .exit)) ⌝ }
 {
     let f = map_lookup::best_prefix(store, places, n, invert, path);
     if !f.found {
@@ -74,7 +76,8 @@ fn translate_by_mark(
     path: &[u8],
     out: &mut [u8; 255],
 ) -> refusal::Reply
-    ensures { λ r. ⌜ ReturnsPath (translateByMark (lentMap (now (store .entry)) (now (places .entry)) n mark) (now (path .entry))) r (now (out .entry)) (now (out .exit)) ⌝ }
+    ensures { λ r. ⌜ ReturnsPath (translateByMark (lentMap (now (store .entry)) (now (places .entry)) n mark)
+        (now (path .entry))) r (now (out .entry)) (now (out .exit)) ⌝ }
 {
     if !mark {
         return refusal::Reply::Refused(refusal::Refusal::NoPath);
@@ -109,7 +112,8 @@ fn translate_by_pair(
     rest: &[u8],
     out: &mut [u8; 255],
 ) -> refusal::Reply
-    ensures { λ r. ⌜ ReturnsPath (translateByPair (lentMap (now (store .entry)) (now (places .entry)) n mark) i (now (old .entry)) (now (new .entry)) (now (rest .entry))) r (now (out .entry)) (now (out .exit)) ⌝ }
+    ensures { λ r. ⌜ ReturnsPath (translateByPair (lentMap (now (store .entry)) (now (places .entry)) n mark) i
+        (now (old .entry)) (now (new .entry)) (now (rest .entry))) r (now (out .entry)) (now (out .exit)) ⌝ }
 {
     let mut made = [0u8; 512];
     let fit = path_join::join(old, new, rest, &mut made);
@@ -132,7 +136,8 @@ pub fn translate_text(
     path: &[u8],
     out: &mut [u8; 255],
 ) -> refusal::Reply
-    ensures { λ r. ⌜ ReturnsPath (translateFast (lentMap (now (store .entry)) (now (places .entry)) n mark) (now (path .entry))) r (now (out .entry)) (now (out .exit)) ⌝ }
+    ensures { λ r. ⌜ ReturnsPath (translateFast (lentMap (now (store .entry)) (now (places .entry)) n mark)
+        (now (path .entry))) r (now (out .entry)) (now (out .exit)) ⌝ }
 {
     let f = map_lookup::best_prefix(store, places, n, false, path);
     if !f.found {

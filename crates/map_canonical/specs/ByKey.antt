@@ -1,4 +1,4 @@
--- The order in which the code goes through a list by a key, without sorting it: level after level, each in the order of the list.
+-- Method: The order in which the code goes through a list by a key, without sorting it: level after level, each in the order of the list.
 -- proofs/LevelLaws.antt proves that this is the stable sort.
 use Prim.Native.Nat.{ℕ, zero, suc}
 use mathlib.Core.Bool.{cond}

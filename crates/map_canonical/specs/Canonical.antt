@@ -1,4 +1,4 @@
--- The pairs of a lent list that a map keeps, by their indices in the list. proofs/KeptLaws.antt proves that they are the pairs of the map.
+-- Method: The pairs of a lent list that a map keeps, by their indices in the list. proofs/KeptLaws.antt proves that they are the pairs of the map.
 use Prim.Native.Nat.{ℕ, zero, suc, max, _<_}
 use mathlib.Core.Path.{_≡_}
 use mathlib.Core.Bool.{Bool, not, cond, _&&_}

@@ -79,7 +79,8 @@ fn fill_element_counts(
 // Returns whether the first n kept pairs, or the mark, map the source to the target, so that such a pair
 // is redundant.
 fn is_redundant(store: &[u8], kept: &[usize], n: usize, mark: bool, s: &[u8], t: &[u8]) -> bool
-    ensures { λ r. ⌜ r ≡ isRedundant (lentMap (now (store .entry)) (now (kept .entry)) n mark) (record { source = now (s .entry); target = now (t .entry) }) ⌝ }
+    ensures { λ r. ⌜ r ≡ isRedundant (lentMap (now (store .entry)) (now (kept .entry)) n mark)
+        (record { source = now (s .entry); target = now (t .entry) }) ⌝ }
 {
     let f = map_lookup::best_prefix(store, kept, n, false, s);
     if f.found {
@@ -107,8 +108,11 @@ fn keep_pair(
     w: usize,
 ) -> usize
     requires { ⌜ w ≤ length (now kept) ⌝ }
-    ensures { λ r. ⌜ r ≡ cond (keepsPair isRedundant (now (store .entry)) (now (places .entry)) i (key .0) (e .0) mark (now (kept .entry)) w) (w + 1) w ⌝ }
-    ensures { λ r. ⌜ now (kept .exit) ≡ cond (keepsPair isRedundant (now (store .entry)) (now (places .entry)) i (key .0) (e .0) mark (now (kept .entry)) w) (copyEntry (now (places .entry)) i w (now (kept .entry))) (now (kept .entry)) ⌝ }
+    ensures { λ r. ⌜ r ≡ cond (keepsPair isRedundant (now (store .entry)) (now (places .entry)) i (key .0) (e .0) mark
+        (now (kept .entry)) w) (w + 1) w ⌝ }
+    ensures { λ r. ⌜ now (kept .exit) ≡ cond
+        (keepsPair isRedundant (now (store .entry)) (now (places .entry)) i (key .0) (e .0) mark (now (kept .entry)) w)
+        (copyEntry (now (places .entry)) i w (now (kept .entry))) (now (kept .entry)) ⌝ }
 {
     if key.0 != e.0 {
         return w;
@@ -140,7 +144,10 @@ fn keep_level(
     requires { ⌜ (4 * n ≤ length (now places)) × (n ≤ length (now keys)) ⌝ }
     requires { ⌜ HoldsElementCounts (now store) (now places) n (now keys) ⌝ }
     requires { ⌜ 4 * (w + length (nonRootWithElements (now store) (now places) (e .0) n)) ≤ length (now kept) ⌝ }
-    ensures { λ r. ⌜ ((picks old : List ℕ) → HoldsEntries (now (places .entry)) picks old (now (kept .entry)) w → HoldsEntries (now (places .entry)) (keptIndices isRedundant (now (store .entry)) (now (places .entry)) mark picks (nonRootWithElements (now (store .entry)) (now (places .entry)) (e .0) n)) old (now (kept .exit)) r) ⌝ }
+    ensures { λ r. ⌜ ((picks old : List ℕ) → HoldsEntries (now (places .entry)) picks old (now (kept .entry)) w →
+        HoldsEntries (now (places .entry))
+        (keptIndices isRedundant (now (store .entry)) (now (places .entry)) mark picks
+        (nonRootWithElements (now (store .entry)) (now (places .entry)) (e .0) n)) old (now (kept .exit)) r) ⌝ }
 {
     let mut k = w;
     let mut i = 0;
@@ -158,7 +165,9 @@ fn keep_level(
 fn canonicalize(store: &[u8], places: &[usize], n: usize, mark: bool, kept: &mut [usize]) -> usize
     requires { ⌜ (n ≤ 64) × (4 * n ≤ length (now places)) ⌝ }
     requires { ⌜ 256 ≤ length (now kept) ⌝ }
-    ensures { λ r. ⌜ HoldsEntries (now (places .entry)) (canonicalIndices isRedundant (now (store .entry)) (now (places .entry)) n mark) (now (kept .entry)) (now (kept .exit)) r ⌝ }
+    ensures { λ r. ⌜ HoldsEntries (now (places .entry))
+        (canonicalIndices isRedundant (now (store .entry)) (now (places .entry)) n mark) (now (kept .entry))
+        (now (kept .exit)) r ⌝ }
 {
     let mut keys = [0usize; 64];
     let top = fill_element_counts(store, places, n, &mut keys);
@@ -180,8 +189,11 @@ pub fn canonical_places(
     mark: bool,
     kept: &mut [usize],
 ) -> usize
-    ensures { λ r. ⌜ r ≡ length (canonicalSelection (lentList (now (store .entry)) (now (places .entry)) n) mark (length (now (kept .entry)))) ⌝ }
-    ensures { λ r. ⌜ now (kept .exit) ≡ writtenEntries (now (places .entry)) (canonicalSelection (lentList (now (store .entry)) (now (places .entry)) n) mark (length (now (kept .entry)))) (now (kept .entry)) ⌝ }
+    ensures { λ r. ⌜ r ≡ length (canonicalSelection (lentList (now (store .entry)) (now (places .entry)) n) mark
+        (length (now (kept .entry)))) ⌝ }
+    ensures { λ r. ⌜ now (kept .exit) ≡ writtenEntries (now (places .entry))
+        (canonicalSelection (lentList (now (store .entry)) (now (places .entry)) n) mark (length (now (kept .entry))))
+        (now (kept .entry)) ⌝ }
 {
     if !validate::can_select(places, n, kept.len()) {
         return 0;

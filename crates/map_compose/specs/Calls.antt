@@ -1,4 +1,4 @@
--- The `compose` call: validation, then the composed map.
+-- Meaning: The `compose` call: validation, then the composed map.
 use mathlib.Core.Path.{_≡_}
 use mathlib.Core.Bool.{true, cond, _&&_}
 use mathlib.Core.List.{List, [], _∷_}

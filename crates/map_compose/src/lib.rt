@@ -38,7 +38,9 @@ fn compose_in(
     requires { ⌜ ValidList (listOf (now store) (now places) outer) ⌝ }
     requires { ⌜ ValidList (listOf (now istore) (now iplaces) inner) ⌝ }
     requires { ⌜ ScratchRoom 1534 (inner .count + outer .count) (now bytes) (now own) ⌝ }
-    ensures { λ r. ⌜ ReturnsMap (composeLists (mapOf (now (store .entry)) (now (places .entry)) outer) (mapOf (now (istore .entry)) (now (iplaces .entry)) inner) time (now (out .entry)) (now (slots .entry))) r (now (out .entry)) (now (out .exit)) (now (slots .entry)) (now (slots .exit)) ⌝ }
+    ensures { λ r. ⌜ ReturnsMap (composeLists (mapOf (now (store .entry)) (now (places .entry)) outer)
+        (mapOf (now (istore .entry)) (now (iplaces .entry)) inner) time (now (out .entry)) (now (slots .entry))) r
+        (now (out .entry)) (now (out .exit)) (now (slots .entry)) (now (slots .exit)) ⌝ }
 {
     let mark = outer.has_root_identity;
     let imark = inner.has_root_identity;
@@ -73,7 +75,9 @@ fn compose_lists(
 ) -> map_function::MapReply
     requires { ⌜ ValidList (listOf (now store) (now places) outer) ⌝ }
     requires { ⌜ ValidList (listOf (now istore) (now iplaces) inner) ⌝ }
-    ensures { λ r. ⌜ ReturnsMap (composeLists (mapOf (now (store .entry)) (now (places .entry)) outer) (mapOf (now (istore .entry)) (now (iplaces .entry)) inner) time (now (out .entry)) (now (slots .entry))) r (now (out .entry)) (now (out .exit)) (now (slots .entry)) (now (slots .exit)) ⌝ }
+    ensures { λ r. ⌜ ReturnsMap (composeLists (mapOf (now (store .entry)) (now (places .entry)) outer)
+        (mapOf (now (istore .entry)) (now (iplaces .entry)) inner) time (now (out .entry)) (now (slots .entry))) r
+        (now (out .entry)) (now (out .exit)) (now (slots .entry)) (now (slots .exit)) ⌝ }
 {
     if inner.count + outer.count <= 4 {
         let mut bytes = [0u8; 6136];
@@ -120,7 +124,9 @@ pub fn compose(
     out: &mut [u8],
     slots: &mut [usize],
 ) -> map_function::MapReply
-    ensures { λ r. ⌜ ReturnsMap (composeCall (now (store .entry)) (now (places .entry)) outer (now (istore .entry)) (now (iplaces .entry)) inner (now (out .entry)) (now (slots .entry))) r (now (out .entry)) (now (out .exit)) (now (slots .entry)) (now (slots .exit)) ⌝ }
+    ensures { λ r. ⌜ ReturnsMap (composeCall (now (store .entry)) (now (places .entry)) outer (now (istore .entry))
+        (now (iplaces .entry)) inner (now (out .entry)) (now (slots .entry))) r (now (out .entry)) (now (out .exit))
+        (now (slots .entry)) (now (slots .exit)) ⌝ }
 {
     let n = outer.count;
     let mark = outer.has_root_identity;

@@ -1,4 +1,4 @@
--- The `deepen_to` call: validation, then the map.
+-- Meaning: The `deepen_to` call: validation, then the map.
 use mathlib.Core.Path.{_≡_}
 use mathlib.Core.Bool.{true, false, cond}
 use mathlib.Core.List.{List, [], _∷_, map as mapped}

@@ -1,4 +1,4 @@
--- The intermediate values of the search for the class that `deepen_to` deepens.
+-- Method: The intermediate values of the search for the class that `deepen_to` deepens.
 use Prim.Native.Nat.{ℕ}
 use mathlib.Core.Option.{Option}
 use Rattle.pair_list.specs.BestStep.{bestKept, indexKept}

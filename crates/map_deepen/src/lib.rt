@@ -38,7 +38,9 @@ fn deepen_pair(
     requires { ⌜ length (now below) ≤ 511 ⌝ }
     requires { ⌜ at + 766 ≤ length (now bytes) ⌝ }
     requires { ⌜ 4 * n + 4 ≤ length (now slots) ⌝ }
-    ensures { λ r. ⌜ AppendedPair (deepenedPair (now (node .entry)) (now (above .entry)) (now (below .entry)) (pair (now (s .entry)) (now (t .entry)))) n at (now (bytes .entry)) (now (slots .entry)) r (now (bytes .exit)) (now (slots .exit)) ⌝ }
+    ensures { λ r. ⌜ AppendedPair (deepenedPair (now (node .entry)) (now (above .entry)) (now (below .entry))
+        (pair (now (s .entry)) (now (t .entry)))) n at (now (bytes .entry)) (now (slots .entry)) r (now (bytes .exit))
+        (now (slots .exit)) ⌝ }
     ensures { λ r. ⌜ r ≤ at + 766 ⌝ }
 {
     if text::is_equal(s, above) {
@@ -62,7 +64,8 @@ fn deepen_all(
     requires { ⌜ length (now node) ≤ 255 ⌝ }
     requires { ⌜ length (now below) ≤ 511 ⌝ }
     requires { ⌜ ScratchRoom 766 n (now bytes) (now slots) ⌝ }
-    ensures { λ r. ⌜ HoldsList (deepenedPairs (now (node .entry)) (now (above .entry)) (now (below .entry)) (pairsIn (now (store .entry)) (now (places .entry)) n)) n r (now (bytes .exit)) (now (slots .exit)) ⌝ }
+    ensures { λ r. ⌜ HoldsList (deepenedPairs (now (node .entry)) (now (above .entry)) (now (below .entry))
+        (pairsIn (now (store .entry)) (now (places .entry)) n)) n r (now (bytes .exit)) (now (slots .exit)) ⌝ }
 {
     let mut at = 0;
     let mut i = 0;
@@ -92,7 +95,9 @@ fn deepen_in(
     requires { ⌜ length (now node) ≤ 255 ⌝ }
     requires { ⌜ length (now below) ≤ 511 ⌝ }
     requires { ⌜ ScratchRoom 766 (map .count) (now bytes) (now own) ⌝ }
-    ensures { λ r. ⌜ ReturnsMap (deepenedMap (mapOf (now (store .entry)) (now (places .entry)) map) (now (node .entry)) (now (above .entry)) (now (below .entry)) (map .«time_offset») (now (out .entry)) (now (slots .entry))) r (now (out .entry)) (now (out .exit)) (now (slots .entry)) (now (slots .exit)) ⌝ }
+    ensures { λ r. ⌜ ReturnsMap (deepenedMap (mapOf (now (store .entry)) (now (places .entry)) map) (now (node .entry))
+        (now (above .entry)) (now (below .entry)) (map .«time_offset») (now (out .entry)) (now (slots .entry))) r
+        (now (out .entry)) (now (out .exit)) (now (slots .entry)) (now (slots .exit)) ⌝ }
 {
     let n = map.count;
     let mark = map.has_root_identity;
@@ -116,7 +121,9 @@ fn deepen_pairs(
     requires { ⌜ ValidList (listOf (now store) (now places) map) ⌝ }
     requires { ⌜ length (now node) ≤ 255 ⌝ }
     requires { ⌜ length (now below) ≤ 511 ⌝ }
-    ensures { λ r. ⌜ ReturnsMap (deepenedMap (mapOf (now (store .entry)) (now (places .entry)) map) (now (node .entry)) (now (above .entry)) (now (below .entry)) (map .«time_offset») (now (out .entry)) (now (slots .entry))) r (now (out .entry)) (now (out .exit)) (now (slots .entry)) (now (slots .exit)) ⌝ }
+    ensures { λ r. ⌜ ReturnsMap (deepenedMap (mapOf (now (store .entry)) (now (places .entry)) map) (now (node .entry))
+        (now (above .entry)) (now (below .entry)) (map .«time_offset») (now (out .entry)) (now (slots .entry))) r
+        (now (out .entry)) (now (out .exit)) (now (slots .entry)) (now (slots .exit)) ⌝ }
 {
     if map.count <= 4 {
         let mut bytes = [0u8; 3064];
@@ -163,7 +170,9 @@ fn deepen_by(
     requires { ⌜ ValidList (listOf (now store) (now places) map) ⌝ }
     requires { ⌜ length (now node) ≤ 255 ⌝ }
     requires { ⌜ i < map .count ⌝ }
-    ensures { λ r. ⌜ ReturnsMap (deepenedAt (now (store .entry)) (now (places .entry)) map (now (node .entry)) i (now (out .entry)) (now (slots .entry))) r (now (out .entry)) (now (out .exit)) (now (slots .entry)) (now (slots .exit)) ⌝ }
+    ensures { λ r. ⌜ ReturnsMap (deepenedAt (now (store .entry)) (now (places .entry)) map (now (node .entry)) i
+        (now (out .entry)) (now (slots .entry))) r (now (out .entry)) (now (out .exit)) (now (slots .entry))
+        (now (slots .exit)) ⌝ }
 {
     let above = pair_list::key_at(store, places, i, false);
     let new = pair_list::key_at(store, places, i, true);
@@ -182,7 +191,8 @@ struct ClassSoFar {
 // The search result after the source at i: that source if it is a prefix of the node with at least as many
 // elements as the one found so far. An empty source is a prefix like any other.
 fn consider_class(f: ClassSoFar, node: &[u8], source: &[u8], i: usize) -> ClassSoFar
-    ensures { λ r. ⌜ classKept r ≡ considerIndex (classKept f) (hasPrefix (now (node .entry)) (now (source .entry))) i (elementCount (now (source .entry))) ⌝ }
+    ensures { λ r. ⌜ classKept r ≡ considerIndex (classKept f) (hasPrefix (now (node .entry)) (now (source .entry))) i
+        (elementCount (now (source .entry))) ⌝ }
 {
     if !path_prefix::has_prefix(node, source) {
         return f;
@@ -202,7 +212,8 @@ fn consider_class(f: ClassSoFar, node: &[u8], source: &[u8], i: usize) -> ClassS
 
 // The class: the pair whose source is a prefix of the node with most elements, the later on a tie.
 fn find_class(store: &[u8], places: &[usize], n: usize, node: &[u8]) -> ClassSoFar
-    ensures { λ r. ⌜ classIndex r ≡ longestBy (hasPrefix (now (node .entry))) (keyAt (now (store .entry)) (now (places .entry)) false) n ⌝ }
+    ensures { λ r. ⌜ classIndex r ≡ longestBy (hasPrefix (now (node .entry)))
+        (keyAt (now (store .entry)) (now (places .entry)) false) n ⌝ }
 {
     let mut f = ClassSoFar {
         found: false,
@@ -228,7 +239,9 @@ fn deepen_node(
     slots: &mut [usize],
 ) -> map_function::MapReply
     requires { ⌜ now node ≡ strip (now path) ⌝ }
-    ensures { λ r. ⌜ ReturnsMap (deepenToCall (now (store .entry)) (now (places .entry)) map (now (path .entry)) (now (out .entry)) (now (slots .entry))) r (now (out .entry)) (now (out .exit)) (now (slots .entry)) (now (slots .exit)) ⌝ }
+    ensures { λ r. ⌜ ReturnsMap (deepenToCall (now (store .entry)) (now (places .entry)) map (now (path .entry))
+        (now (out .entry)) (now (slots .entry))) r (now (out .entry)) (now (out .exit)) (now (slots .entry))
+        (now (slots .exit)) ⌝ }
 {
     let n = map.count;
     let mark = map.has_root_identity;
@@ -270,7 +283,9 @@ pub fn deepen_to(
     out: &mut [u8],
     slots: &mut [usize],
 ) -> map_function::MapReply
-    ensures { λ r. ⌜ ReturnsMap (deepenToCall (now (store .entry)) (now (places .entry)) map (now (path .entry)) (now (out .entry)) (now (slots .entry))) r (now (out .entry)) (now (out .exit)) (now (slots .entry)) (now (slots .exit)) ⌝ }
+    ensures { λ r. ⌜ ReturnsMap (deepenToCall (now (store .entry)) (now (places .entry)) map (now (path .entry))
+        (now (out .entry)) (now (slots .entry))) r (now (out .entry)) (now (out .exit)) (now (slots .entry))
+        (now (slots .exit)) ⌝ }
 {
     if 255 < path.len() {
         return map_function::MapReply::Refused(refusal::Refusal::TooLong);

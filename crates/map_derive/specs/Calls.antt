@@ -1,4 +1,4 @@
--- The calls that build a map from one map: validation in the order of the questions, then the result.
+-- Meaning: The calls that build a map from one map: validation in the order of the questions, then the result.
 use Prim.Native.Nat.{ℕ}
 use mathlib.Core.Bool.{Bool, true, not, _&&_}
 use mathlib.Core.List.{List, [], _∷_, map}

@@ -1,4 +1,4 @@
--- The places of a list of pairs with source and target exchanged.
+-- Method: The places of a list of pairs with source and target exchanged.
 use mathlib.Core.Bool.{cond, _&&_}
 use mathlib.Core.List.{List, [], _∷_, _++_}
 use Prim.Native.Nat.{ℕ, zero, suc, _+_, _*_}

@@ -18,7 +18,8 @@ pub fn with_root_identity(
     out: &mut [u8],
     slots: &mut [usize],
 ) -> map_function::MapReply
-    ensures { λ r. ⌜ ReturnsMap (withRootIdentityCall (now (store .entry)) (now (places .entry)) map (now (out .entry)) (now (slots .entry))) r (now (out .entry)) (now (out .exit)) (now (slots .entry)) (now (slots .exit)) ⌝ }
+    ensures { λ r. ⌜ ReturnsMap (withRootIdentityCall (now (store .entry)) (now (places .entry)) map (now (out .entry))
+        (now (slots .entry))) r (now (out .entry)) (now (out .exit)) (now (slots .entry)) (now (slots .exit)) ⌝ }
 {
     let n = map.count;
     let q = validate::validate_list(store, places, n);
@@ -62,7 +63,8 @@ pub fn inverse(
     out: &mut [u8],
     slots: &mut [usize],
 ) -> map_function::MapReply
-    ensures { λ r. ⌜ ReturnsMap (inverseCall (now (store .entry)) (now (places .entry)) map (now (out .entry)) (now (slots .entry))) r (now (out .entry)) (now (out .exit)) (now (slots .entry)) (now (slots .exit)) ⌝ }
+    ensures { λ r. ⌜ ReturnsMap (inverseCall (now (store .entry)) (now (places .entry)) map (now (out .entry))
+        (now (slots .entry))) r (now (out .entry)) (now (out .exit)) (now (slots .entry)) (now (slots .exit)) ⌝ }
 {
     let n = map.count;
     let mark = map.has_root_identity;
@@ -87,7 +89,9 @@ fn keep_other(
 ) -> usize
     requires { ⌜ 4 * i + 4 ≤ length (now places) ⌝ }
     requires { ⌜ 4 * w + 4 ≤ length (now kept) ⌝ }
-    ensures { λ r. ⌜ pairsIn (now (store .entry)) (now (kept .exit)) r ≡ pairsIn (now (store .entry)) (now (kept .entry)) w ++ withoutSource (now (source .entry)) (pairIn (now (store .entry)) (now (places .entry)) i ∷ []) ⌝ }
+    ensures { λ r. ⌜ pairsIn (now (store .entry)) (now (kept .exit)) r ≡ pairsIn (now (store .entry))
+        (now (kept .entry)) w ++ withoutSource (now (source .entry))
+        (pairIn (now (store .entry)) (now (places .entry)) i ∷ []) ⌝ }
 {
     if text::is_equal(pair_list::key_at(store, places, i, false), source) {
         return w;
@@ -106,7 +110,8 @@ fn without_source(
 ) -> usize
     requires { ⌜ 4 * n ≤ length (now places) ⌝ }
     requires { ⌜ 4 * n ≤ length (now kept) ⌝ }
-    ensures { λ r. ⌜ pairsIn (now (store .entry)) (now (kept .exit)) r ≡ withoutSource (now (source .entry)) (pairsIn (now (store .entry)) (now (places .entry)) n) ⌝ }
+    ensures { λ r. ⌜ pairsIn (now (store .entry)) (now (kept .exit)) r ≡ withoutSource (now (source .entry))
+        (pairsIn (now (store .entry)) (now (places .entry)) n) ⌝ }
 {
     let mut w = 0;
     let mut i = 0;
@@ -126,7 +131,9 @@ pub fn dropping_source(
     out: &mut [u8],
     slots: &mut [usize],
 ) -> map_function::MapReply
-    ensures { λ r. ⌜ ReturnsMap (droppingSourceCall (now (store .entry)) (now (places .entry)) map (now (source .entry)) (now (out .entry)) (now (slots .entry))) r (now (out .entry)) (now (out .exit)) (now (slots .entry)) (now (slots .exit)) ⌝ }
+    ensures { λ r. ⌜ ReturnsMap (droppingSourceCall (now (store .entry)) (now (places .entry)) map (now (source .entry))
+        (now (out .entry)) (now (slots .entry))) r (now (out .entry)) (now (out .exit)) (now (slots .entry))
+        (now (slots .exit)) ⌝ }
 {
     let n = map.count;
     let mark = map.has_root_identity;

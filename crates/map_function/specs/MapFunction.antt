@@ -1,4 +1,4 @@
--- The properties of a map's struct. OpenUSD: PcpMapFunction::Identity, IsNull, IsIdentity, HasRootIdentity, GetTimeOffset.
+-- Meaning: The properties of a map's struct. OpenUSD: PcpMapFunction::Identity, IsNull, IsIdentity, HasRootIdentity, GetTimeOffset.
 use Prim.Native.Nat.{ℕ}
 use mathlib.Core.Bool.{Bool, not, _&&_}
 use mathlib.Core.List.{List}

@@ -1,4 +1,4 @@
--- The outcome of a call that builds a map. Its reply and the contents of the lent buffers afterwards are all derived from this one value.
+-- Meaning: The outcome of a call that builds a map. Its reply and the contents of the lent buffers afterwards are all derived from this one value.
 use mathlib.Core.Path.{_≡_}
 use Prim.Native.Nat.{ℕ, _/_}
 use mathlib.Core.Bool.{Bool, cond}

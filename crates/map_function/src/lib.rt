@@ -114,7 +114,9 @@ pub fn from_parts(
     out: &mut [u8],
     slots: &mut [usize],
 ) -> MapReply
-    ensures { λ r. ⌜ ReturnsMap (countInSlice (lentList (now (store .entry)) (now (places .entry)) n) (fromPartsOutcome (pairsIn (now (store .entry)) (now (places .entry)) n) mark time (now (out .entry)) (now (slots .entry)))) r (now (out .entry)) (now (out .exit)) (now (slots .entry)) (now (slots .exit)) ⌝ }
+    ensures { λ r. ⌜ ReturnsMap (countInSlice (lentList (now (store .entry)) (now (places .entry)) n)
+        (fromPartsOutcome (pairsIn (now (store .entry)) (now (places .entry)) n) mark time (now (out .entry))
+        (now (slots .entry)))) r (now (out .entry)) (now (out .exit)) (now (slots .entry)) (now (slots .exit)) ⌝ }
 {
     if 64 < n {
         return MapReply::Refused(refusal::Refusal::TooMany);
@@ -149,7 +151,9 @@ pub fn without_dropping(
     out: &mut [u8],
     slots: &mut [usize],
 ) -> MapReply
-    ensures { λ r. ⌜ ReturnsMap (countInSlice (lentList (now (store .entry)) (now (places .entry)) n) (withoutDropping (pairsIn (now (store .entry)) (now (places .entry)) n) mark time (now (out .entry)) (now (slots .entry)))) r (now (out .entry)) (now (out .exit)) (now (slots .entry)) (now (slots .exit)) ⌝ }
+    ensures { λ r. ⌜ ReturnsMap (countInSlice (lentList (now (store .entry)) (now (places .entry)) n)
+        (withoutDropping (pairsIn (now (store .entry)) (now (places .entry)) n) mark time (now (out .entry))
+        (now (slots .entry)))) r (now (out .entry)) (now (out .exit)) (now (slots .entry)) (now (slots .exit)) ⌝ }
 {
     if 64 < n {
         return MapReply::Refused(refusal::Refusal::TooMany);

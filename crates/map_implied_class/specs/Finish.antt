@@ -1,4 +1,4 @@
--- The intermediate values of the code for `implied_class`.
+-- Method: The intermediate values of the code for `implied_class`.
 use mathlib.Core.Bool.{Bool, cond, _&&_, _||_}
 use mathlib.Core.List.{List}
 use Prim.Native.Nat.{ℕ, _+_, _/_}

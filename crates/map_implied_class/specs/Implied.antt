@@ -1,4 +1,4 @@
--- The `implied_class` call: three maps are constructed, each from the one before, and the questions are put to the lists of all three.
+-- Meaning: The `implied_class` call: three maps are constructed, each from the one before, and the questions are put to the lists of all three.
 use mathlib.Core.Path.{_≡_}
 use mathlib.Core.Bool.{Bool, cond, _&&_}
 use mathlib.Core.List.{List, [], _∷_, _++_, map as mapped}

@@ -41,9 +41,14 @@ fn finish_map(
 ) -> map_function::MapFunction
     requires { ⌜ (n ≤ 64) × (4 * n ≤ length (now places)) ⌝ }
     requires { ⌜ listFitsBuffers (pairsIn (now store) (now places) n) (now out) (now slots) ≡ true ⌝ }
-    ensures { λ r. ⌜ r ≡ mapFunction (finishedMap whole (pairsIn (now (store .entry)) (now (places .entry)) n) mark) identityOffset ⌝ }
-    ensures { λ r. ⌜ now (out .exit) ≡ mapBytes (map (finishedMap whole (pairsIn (now (store .entry)) (now (places .entry)) n) mark) identityOffset) (now (out .entry)) ⌝ }
-    ensures { λ r. ⌜ now (slots .exit) ≡ mapSlots (map (finishedMap whole (pairsIn (now (store .entry)) (now (places .entry)) n) mark) identityOffset) (now (slots .entry)) ⌝ }
+    ensures { λ r. ⌜ r ≡ mapFunction (finishedMap whole (pairsIn (now (store .entry)) (now (places .entry)) n) mark)
+        identityOffset ⌝ }
+    ensures { λ r. ⌜ now (out .exit) ≡ mapBytes
+        (map (finishedMap whole (pairsIn (now (store .entry)) (now (places .entry)) n) mark) identityOffset)
+        (now (out .entry)) ⌝ }
+    ensures { λ r. ⌜ now (slots .exit) ≡ mapSlots
+        (map (finishedMap whole (pairsIn (now (store .entry)) (now (places .entry)) n) mark) identityOffset)
+        (now (slots .entry)) ⌝ }
 {
     let time = layer_offset::LayerOffset::IDENTITY;
     if whole {
@@ -73,7 +78,8 @@ fn invert(
     requires { ⌜ allShort (pairsIn (now store) (now places) n) ≡ true ⌝ }
     requires { ⌜ 65408 ≤ length (now out) ⌝ }
     requires { ⌜ 256 ≤ length (now slots) ⌝ }
-    ensures { λ r. ⌜ mapOf (now (out .exit)) (now (slots .exit)) r ≡ inverse (lentMap (now (store .entry)) (now (places .entry)) n mark) ⌝ }
+    ensures { λ r. ⌜ mapOf (now (out .exit)) (now (slots .exit)) r ≡ inverse
+        (lentMap (now (store .entry)) (now (places .entry)) n mark) ⌝ }
 {
     let mut own = [0usize; 256];
     map_derive::swap_ends(places, n, &mut own);
@@ -92,8 +98,11 @@ fn compose_list(
     bytes: &mut [u8],
     own: &mut [usize],
 ) -> compose_pairs::Built
-    requires { ⌜ CanCompose (pairsIn (now store) (now places) (outer .count)) (pairsIn (now istore) (now iplaces) (inner .count)) (inner .count + outer .count) (now bytes) (now own) ⌝ }
-    ensures { λ r. ⌜ HoldsList (composedFrom (mapOf (now (store .entry)) (now (places .entry)) outer) (mapOf (now (istore .entry)) (now (iplaces .entry)) inner)) (r .n) (r .at) (now (bytes .exit)) (now (own .exit)) ⌝ }
+    requires { ⌜ CanCompose (pairsIn (now store) (now places) (outer .count))
+        (pairsIn (now istore) (now iplaces) (inner .count)) (inner .count + outer .count) (now bytes) (now own) ⌝ }
+    ensures { λ r. ⌜ HoldsList (composedFrom (mapOf (now (store .entry)) (now (places .entry)) outer)
+        (mapOf (now (istore .entry)) (now (iplaces .entry)) inner)) (r .n) (r .at) (now (bytes .exit))
+        (now (own .exit)) ⌝ }
 {
     let n = outer.count;
     let mark = outer.has_root_identity;
@@ -149,9 +158,14 @@ fn finish_composed(
 ) -> map_function::MapFunction
     requires { ⌜ (n ≤ 64) × (4 * n ≤ length (now places)) ⌝ }
     requires { ⌜ listFitsBuffers (pairsIn (now store) (now places) n) (now out) (now slots) ≡ true ⌝ }
-    ensures { λ r. ⌜ r ≡ mapFunction (composedMap outer inner (pairsIn (now (store .entry)) (now (places .entry)) n)) identityOffset ⌝ }
-    ensures { λ r. ⌜ now (out .exit) ≡ mapBytes (map (composedMap outer inner (pairsIn (now (store .entry)) (now (places .entry)) n)) identityOffset) (now (out .entry)) ⌝ }
-    ensures { λ r. ⌜ now (slots .exit) ≡ mapSlots (map (composedMap outer inner (pairsIn (now (store .entry)) (now (places .entry)) n)) identityOffset) (now (slots .entry)) ⌝ }
+    ensures { λ r. ⌜ r ≡ mapFunction (composedMap outer inner (pairsIn (now (store .entry)) (now (places .entry)) n))
+        identityOffset ⌝ }
+    ensures { λ r. ⌜ now (out .exit) ≡ mapBytes
+        (map (composedMap outer inner (pairsIn (now (store .entry)) (now (places .entry)) n)) identityOffset)
+        (now (out .entry)) ⌝ }
+    ensures { λ r. ⌜ now (slots .exit) ≡ mapSlots
+        (map (composedMap outer inner (pairsIn (now (store .entry)) (now (places .entry)) n)) identityOffset)
+        (now (slots .entry)) ⌝ }
 {
     let whole = either_is_identity(outer, inner);
     let mark = validate::both(outer.has_root_identity, inner.has_root_identity);
@@ -169,7 +183,8 @@ fn has_room_beside(
     slots: usize,
 ) -> bool
     requires { ⌜ (n ≤ 64) × ((b .n ≤ 64) × (d .n ≤ 64)) ⌝ }
-    ensures { λ r. ⌜ r ≡ roomBesideTransfer (pairsIn (now (store .entry)) (now (places .entry)) n) (b .n + d .n) (b .at + d .at) room slots ⌝ }
+    ensures { λ r. ⌜ r ≡ roomBesideTransfer (pairsIn (now (store .entry)) (now (places .entry)) n) (b .n + d .n)
+        (b .at + d .at) room slots ⌝ }
 {
     if slots / 4 < n + (b.n + d.n) {
         return false;
@@ -202,8 +217,11 @@ fn finish(
     slots: &mut [usize],
 ) -> map_function::MapReply
     requires { ⌜ (transfer .count ≤ 64) × (b .n ≤ 64) ⌝ }
-    requires { ⌜ CanCompose (pairsIn (now store) (now places) (transfer .count)) (pairsIn (now mid) (now mids) (class .count)) (class .count + transfer .count) (now bytes) (now own) ⌝ }
-    ensures { λ r. ⌜ ReturnsMap (impliedAfterClass (mapOf (now (store .entry)) (now (places .entry)) transfer) (mapOf (now (mid .entry)) (now (mids .entry)) class) (b .n) (b .at) short time (now (out .entry)) (now (slots .entry))) r (now (out .entry)) (now (out .exit)) (now (slots .entry)) (now (slots .exit)) ⌝ }
+    requires { ⌜ CanCompose (pairsIn (now store) (now places) (transfer .count))
+        (pairsIn (now mid) (now mids) (class .count)) (class .count + transfer .count) (now bytes) (now own) ⌝ }
+    ensures { λ r. ⌜ ReturnsMap (impliedAfterClass (mapOf (now (store .entry)) (now (places .entry)) transfer)
+        (mapOf (now (mid .entry)) (now (mids .entry)) class) (b .n) (b .at) short time (now (out .entry))
+        (now (slots .entry))) r (now (out .entry)) (now (out .exit)) (now (slots .entry)) (now (slots .exit)) ⌝ }
 {
     let n = transfer.count;
     let d = compose_list(store, places, transfer, mid, mids, class, bytes, own);
@@ -238,7 +256,9 @@ fn implied_in(
 ) -> map_function::MapReply
     requires { ⌜ ValidList (listOf (now store) (now places) transfer) ⌝ }
     requires { ⌜ ValidList (listOf (now cstore) (now cplaces) class) ⌝ }
-    ensures { λ r. ⌜ ReturnsMap (impliedOutcome (mapOf (now (store .entry)) (now (places .entry)) transfer) (mapOf (now (cstore .entry)) (now (cplaces .entry)) class) (impliedTime transfer class) (now (out .entry)) (now (slots .entry))) r (now (out .entry)) (now (out .exit)) (now (slots .entry)) (now (slots .exit)) ⌝ }
+    ensures { λ r. ⌜ ReturnsMap (impliedOutcome (mapOf (now (store .entry)) (now (places .entry)) transfer)
+        (mapOf (now (cstore .entry)) (now (cplaces .entry)) class) (impliedTime transfer class) (now (out .entry))
+        (now (slots .entry))) r (now (out .entry)) (now (out .exit)) (now (slots .entry)) (now (slots .exit)) ⌝ }
 {
     let mut bytes = [0u8; 196352];
     let mut own = [0usize; 512];
@@ -294,7 +314,9 @@ pub fn implied_class(
     out: &mut [u8],
     slots: &mut [usize],
 ) -> map_function::MapReply
-    ensures { λ r. ⌜ ReturnsMap (impliedClassCall (now (store .entry)) (now (places .entry)) transfer (now (cstore .entry)) (now (cplaces .entry)) class (now (out .entry)) (now (slots .entry))) r (now (out .entry)) (now (out .exit)) (now (slots .entry)) (now (slots .exit)) ⌝ }
+    ensures { λ r. ⌜ ReturnsMap (impliedClassCall (now (store .entry)) (now (places .entry)) transfer
+        (now (cstore .entry)) (now (cplaces .entry)) class (now (out .entry)) (now (slots .entry))) r (now (out .entry))
+        (now (out .exit)) (now (slots .entry)) (now (slots .exit)) ⌝ }
 {
     let n = class.count;
     let mark = class.has_root_identity;

@@ -1,4 +1,4 @@
--- The steps of the search for the longest match: what it keeps, and which keys it skips.
+-- Method: The steps of the search for the longest match: what it keeps, and which keys it skips.
 use mathlib.Core.Path.{_≡_}
 use Prim.Native.Nat.{ℕ, _+_, _/_}
 use mathlib.Core.Bool.{Bool, true, false, not, cond, _&&_, _||_}

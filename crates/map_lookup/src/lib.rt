@@ -121,7 +121,8 @@ fn key_offset(invert: bool) -> usize
 // Finds the longest match: the key that is a nonempty prefix of the path and has most elements, the
 // later on a tie.
 pub fn best_prefix(store: &[u8], places: &[usize], n: usize, invert: bool, path: &[u8]) -> Found
-    ensures { λ r. ⌜ r ≡ foundOf (longestMatch (now (path .entry)) (keyAt (now (store .entry)) (now (places .entry)) invert) n) ⌝ }
+    ensures { λ r. ⌜ r ≡ foundOf (longestMatch (now (path .entry))
+        (keyAt (now (store .entry)) (now (places .entry)) invert) n) ⌝ }
 {
     let present = key_count(places, n, invert);
     let offset = key_offset(invert);
@@ -171,7 +172,8 @@ fn other_wins(
     requires { ⌜ limit ≤ length (now store) ⌝ }
     requires { ⌜ limit ≤ length (now path) ⌝ }
     requires { ⌜ limit ≡ minimum (length (now store)) (length (now path)) ⌝ }
-    ensures { λ r. ⌜ r ≡ otherWins (now (path .entry)) (substring (now (store .entry)) start n) k i (now (key .entry)) ⌝ }
+    ensures { λ r. ⌜ r ≡ otherWins (now (path .entry)) (substring (now (store .entry)) start n) k i
+        (now (key .entry)) ⌝ }
 {
     if n == 0 {
         return false;
@@ -198,7 +200,8 @@ pub fn is_longest_match(
     path: &[u8],
     i: usize,
 ) -> bool
-    ensures { λ r. ⌜ r ≡ isIndex i (longestMatch (now (path .entry)) (keyAt (now (store .entry)) (now (places .entry)) invert) n) ⌝ }
+    ensures { λ r. ⌜ r ≡ isIndex i (longestMatch (now (path .entry))
+        (keyAt (now (store .entry)) (now (places .entry)) invert) n) ⌝ }
 {
     if n <= i {
         return false;

@@ -1,4 +1,4 @@
--- The calls that build a map from pairs: validation in the order of the questions, then the result.
+-- Meaning: The calls that build a map from pairs: validation in the order of the questions, then the result.
 use Prim.Native.Nat.{ℕ}
 use mathlib.Core.List.{List, [], _∷_}
 use Rattle.text.specs.Text.{Text}

@@ -18,7 +18,8 @@ pub fn new(
     out: &mut [u8],
     slots: &mut [usize],
 ) -> map_function::MapReply
-    ensures { λ r. ⌜ ReturnsMap (mapNewCall (now (store .entry)) (now (places .entry)) count (now (out .entry)) (now (slots .entry))) r (now (out .entry)) (now (out .exit)) (now (slots .entry)) (now (slots .exit)) ⌝ }
+    ensures { λ r. ⌜ ReturnsMap (mapNewCall (now (store .entry)) (now (places .entry)) count (now (out .entry))
+        (now (slots .entry))) r (now (out .entry)) (now (out .exit)) (now (slots .entry)) (now (slots .exit)) ⌝ }
 {
     let q = validate::validate_list(store, places, count);
     if let refusal::Validation::Refused(x) = q {
@@ -32,7 +33,8 @@ pub fn new(
 fn store_pair(s: &[u8], t: &[u8], store: &mut [u8], places: &mut [usize])
     requires { ⌜ length (now s) + length (now t) ≤ length (now store) ⌝ }
     requires { ⌜ 4 ≤ length (now places) ⌝ }
-    ensures { λ _. ⌜ pairsIn (now (store .exit)) (now (places .exit)) 1 ≡ pair (now (s .entry)) (now (t .entry)) ∷ [] ⌝ }
+    ensures { λ _. ⌜ pairsIn (now (store .exit)) (now (places .exit)) 1 ≡ pair (now (s .entry)) (now (t .entry)) ∷
+        [] ⌝ }
 {
     pair_list_write::push_pair(s, t, 0, 0, store, places);
 }
@@ -44,7 +46,8 @@ pub fn from_pair(
     out: &mut [u8],
     slots: &mut [usize],
 ) -> map_function::MapReply
-    ensures { λ r. ⌜ ReturnsMap (fromPairCall (now (source .entry)) (now (target .entry)) (now (out .entry)) (now (slots .entry))) r (now (out .entry)) (now (out .exit)) (now (slots .entry)) (now (slots .exit)) ⌝ }
+    ensures { λ r. ⌜ ReturnsMap (fromPairCall (now (source .entry)) (now (target .entry)) (now (out .entry))
+        (now (slots .entry))) r (now (out .entry)) (now (out .exit)) (now (slots .entry)) (now (slots .exit)) ⌝ }
 {
     let q = validate::validate_ends(source, target);
     if let refusal::Validation::Refused(x) = q {
@@ -64,7 +67,8 @@ pub fn from_pair_identity(
     out: &mut [u8],
     slots: &mut [usize],
 ) -> map_function::MapReply
-    ensures { λ r. ⌜ ReturnsMap (fromPairIdentityCall (now (source .entry)) (now (target .entry)) (now (out .entry)) (now (slots .entry))) r (now (out .entry)) (now (out .exit)) (now (slots .entry)) (now (slots .exit)) ⌝ }
+    ensures { λ r. ⌜ ReturnsMap (fromPairIdentityCall (now (source .entry)) (now (target .entry)) (now (out .entry))
+        (now (slots .entry))) r (now (out .entry)) (now (out .exit)) (now (slots .entry)) (now (slots .exit)) ⌝ }
 {
     let q = validate::validate_ends(source, target);
     if let refusal::Validation::Refused(x) = q {

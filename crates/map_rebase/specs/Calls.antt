@@ -1,4 +1,4 @@
--- The `rebase_target` call: validation, then the map.
+-- Meaning: The `rebase_target` call: validation, then the map.
 use mathlib.Core.Path.{_≡_}
 use mathlib.Core.Bool.{cond}
 use mathlib.Core.List.{List, [], _∷_, map as mapped}

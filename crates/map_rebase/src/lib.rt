@@ -32,7 +32,9 @@ fn rebase_pair(
     requires { ⌜ length (now to) ≤ 255 ⌝ }
     requires { ⌜ at + 766 ≤ length (now bytes) ⌝ }
     requires { ⌜ 4 * n + 4 ≤ length (now slots) ⌝ }
-    ensures { λ r. ⌜ AppendedPair (pair (now (s .entry)) (replacedOrSame (now (t .entry)) (now (from .entry)) (now (to .entry)))) n at (now (bytes .entry)) (now (slots .entry)) r (now (bytes .exit)) (now (slots .exit)) ⌝ }
+    ensures { λ r. ⌜ AppendedPair (pair (now (s .entry))
+        (replacedOrSame (now (t .entry)) (now (from .entry)) (now (to .entry)))) n at (now (bytes .entry))
+        (now (slots .entry)) r (now (bytes .exit)) (now (slots .exit)) ⌝ }
     ensures { λ r. ⌜ r ≤ at + 766 ⌝ }
 {
     let mut made = [0u8; 511];
@@ -67,7 +69,8 @@ fn rebase_all(
     requires { ⌜ allShort (pairsIn (now store) (now places) n) ≡ true ⌝ }
     requires { ⌜ length (now to) ≤ 255 ⌝ }
     requires { ⌜ ScratchRoom 766 n (now bytes) (now slots) ⌝ }
-    ensures { λ r. ⌜ HoldsList (rebasedPairs (now (from .entry)) (now (to .entry)) (pairsIn (now (store .entry)) (now (places .entry)) n)) n r (now (bytes .exit)) (now (slots .exit)) ⌝ }
+    ensures { λ r. ⌜ HoldsList (rebasedPairs (now (from .entry)) (now (to .entry))
+        (pairsIn (now (store .entry)) (now (places .entry)) n)) n r (now (bytes .exit)) (now (slots .exit)) ⌝ }
 {
     let mut at = 0;
     let mut i = 0;
@@ -95,7 +98,9 @@ fn rebase_in(
     requires { ⌜ ValidList (listOf (now store) (now places) map) ⌝ }
     requires { ⌜ length (now to) ≤ 255 ⌝ }
     requires { ⌜ ScratchRoom 766 (map .count) (now bytes) (now own) ⌝ }
-    ensures { λ r. ⌜ ReturnsMap (rebasedMap (mapOf (now (store .entry)) (now (places .entry)) map) (now (from .entry)) (now (to .entry)) (map .«time_offset») (now (out .entry)) (now (slots .entry))) r (now (out .entry)) (now (out .exit)) (now (slots .entry)) (now (slots .exit)) ⌝ }
+    ensures { λ r. ⌜ ReturnsMap (rebasedMap (mapOf (now (store .entry)) (now (places .entry)) map) (now (from .entry))
+        (now (to .entry)) (map .«time_offset») (now (out .entry)) (now (slots .entry))) r (now (out .entry))
+        (now (out .exit)) (now (slots .entry)) (now (slots .exit)) ⌝ }
 {
     let n = map.count;
     let mark = map.has_root_identity;
@@ -117,7 +122,9 @@ fn rebase_pairs(
 ) -> map_function::MapReply
     requires { ⌜ ValidList (listOf (now store) (now places) map) ⌝ }
     requires { ⌜ length (now to) ≤ 255 ⌝ }
-    ensures { λ r. ⌜ ReturnsMap (rebasedMap (mapOf (now (store .entry)) (now (places .entry)) map) (now (from .entry)) (now (to .entry)) (map .«time_offset») (now (out .entry)) (now (slots .entry))) r (now (out .entry)) (now (out .exit)) (now (slots .entry)) (now (slots .exit)) ⌝ }
+    ensures { λ r. ⌜ ReturnsMap (rebasedMap (mapOf (now (store .entry)) (now (places .entry)) map) (now (from .entry))
+        (now (to .entry)) (map .«time_offset») (now (out .entry)) (now (slots .entry))) r (now (out .entry))
+        (now (out .exit)) (now (slots .entry)) (now (slots .exit)) ⌝ }
 {
     if map.count <= 4 {
         let mut bytes = [0u8; 3064];
@@ -159,7 +166,9 @@ fn from_pair_identity(
 ) -> map_function::MapReply
     requires { ⌜ length (now s) ≤ 255 ⌝ }
     requires { ⌜ length (now t) ≤ 255 ⌝ }
-    ensures { λ r. ⌜ ReturnsMap (withinLimits (pair (now (s .entry)) (now (t .entry)) ∷ []) (fromPairIdentity (pair (now (s .entry)) (now (t .entry)))) time (now (out .entry)) (now (slots .entry))) r (now (out .entry)) (now (out .exit)) (now (slots .entry)) (now (slots .exit)) ⌝ }
+    ensures { λ r. ⌜ ReturnsMap (withinLimits (pair (now (s .entry)) (now (t .entry)) ∷ [])
+        (fromPairIdentity (pair (now (s .entry)) (now (t .entry)))) time (now (out .entry)) (now (slots .entry))) r
+        (now (out .entry)) (now (out .exit)) (now (slots .entry)) (now (slots .exit)) ⌝ }
 {
     let mut bytes = [0u8; 510];
     let mut own = [0usize; 4];
@@ -178,7 +187,9 @@ pub fn rebase_target(
     out: &mut [u8],
     slots: &mut [usize],
 ) -> map_function::MapReply
-    ensures { λ r. ⌜ ReturnsMap (rebaseTargetCall (now (store .entry)) (now (places .entry)) map (now (from .entry)) (now (to .entry)) (now (out .entry)) (now (slots .entry))) r (now (out .entry)) (now (out .exit)) (now (slots .entry)) (now (slots .exit)) ⌝ }
+    ensures { λ r. ⌜ ReturnsMap (rebaseTargetCall (now (store .entry)) (now (places .entry)) map (now (from .entry))
+        (now (to .entry)) (now (out .entry)) (now (slots .entry))) r (now (out .entry)) (now (out .exit))
+        (now (slots .entry)) (now (slots .exit)) ⌝ }
 {
     let n = map.count;
     let mark = map.has_root_identity;

@@ -1,4 +1,4 @@
--- The composition of two maps. It composes pairs, not functions, so the result may differ from applying one map after the other. OpenUSD:
+-- Meaning: The composition of two maps. It composes pairs, not functions, so the result may differ from applying one map after the other. OpenUSD:
 -- PcpMapFunction::Compose.
 use mathlib.Core.Bool.{Bool, true, false, cond, _&&_, _||_}
 use mathlib.Core.List.{List, [], _∷_, _++_, map}

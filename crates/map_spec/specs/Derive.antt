@@ -1,4 +1,4 @@
--- Maps derived from other maps.
+-- Meaning: Maps derived from other maps.
 use Prim.Native.Nat.{ℕ}
 use mathlib.Core.Bool.{Bool, true, false, cond, _||_}
 use mathlib.Core.List.{List, [], _∷_, map}

@@ -1,4 +1,4 @@
--- A map as one leg of a route: its outcomes out and home, and the terms of the round-trip requirement (demand 3).
+-- Meaning: A map as one leg of a route: its outcomes out and home, and the terms of the round-trip requirement (demand 3).
 use mathlib.Core.Path.{_≡_}
 use mathlib.Core.Bool.{true, false}
 use mathlib.Core.Option.{some}

@@ -1,4 +1,4 @@
--- Path maps. Requirements: "A map is a list of pairs, a root-identity mark and a time offset." The time offset does not affect where a path
+-- Meaning: Path maps. Requirements: "A map is a list of pairs, a root-identity mark and a time offset." The time offset does not affect where a path
 -- is mapped, so it is kept apart. OpenUSD: PcpMapFunction.
 use Prim.Native.Nat.{ℕ}
 use mathlib.Core.Bool.{Bool, true, false, cond}

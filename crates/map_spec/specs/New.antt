@@ -1,4 +1,4 @@
--- Building a map from pairs, in canonical form: root pairs become the mark, and redundant pairs are dropped. OpenUSD:
+-- Meaning: Building a map from pairs, in canonical form: root pairs become the mark, and redundant pairs are dropped. OpenUSD:
 -- PcpMapFunction::Create.
 use Prim.Native.Nat.{ℕ}
 use mathlib.Core.Bool.{Bool, true, false, cond, _&&_, _||_}

@@ -1,4 +1,4 @@
--- The calls that map a path through a map in lent memory: validation in the order of the questions, then the result.
+-- Meaning: The calls that map a path through a map in lent memory: validation in the order of the questions, then the result.
 use Prim.Native.Nat.{ℕ}
 use mathlib.Core.List.{List, [], _∷_}
 use Rattle.text.specs.Text.{Text}

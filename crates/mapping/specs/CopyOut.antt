@@ -1,4 +1,4 @@
--- Copying a path from a scratch buffer to the lent buffer.
+-- Method: Copying a path from a scratch buffer to the lent buffer.
 use Prim.Native.Nat.{ℕ, _≤_}
 use lib.ListN.{take}
 use Rattle.text.specs.Text.{Text, writtenIfFits}

@@ -1,4 +1,4 @@
--- The calls that map a path, as the code computes them, and on a list that was validated before.
+-- Method: The calls that map a path, as the code computes them, and on a list that was validated before.
 use Prim.Native.Nat.{ℕ}
 use mathlib.Core.Bool.{true, false}
 use mathlib.Core.List.{List}

@@ -47,7 +47,8 @@ fn map_into(
     out: &mut [u8],
 ) -> refusal::Reply
     requires { ⌜ 255 ≤ length (now out) ⌝ }
-    ensures { λ r. ⌜ ReturnsPath (mapFast invert (lentMap (now (store .entry)) (now (places .entry)) n mark) (now (path .entry))) r (now (out .entry)) (now (out .exit)) ⌝ }
+    ensures { λ r. ⌜ ReturnsPath (mapFast invert (lentMap (now (store .entry)) (now (places .entry)) n mark)
+        (now (path .entry))) r (now (out .entry)) (now (out .exit)) ⌝ }
 {
     let mut made = [0u8; 255];
     let r = map_apply::map_text(store, places, n, mark, invert, path, &mut made);
@@ -64,7 +65,8 @@ fn translate_into(
     out: &mut [u8],
 ) -> refusal::Reply
     requires { ⌜ 255 ≤ length (now out) ⌝ }
-    ensures { λ r. ⌜ ReturnsPath (translateFast (lentMap (now (store .entry)) (now (places .entry)) n mark) (now (path .entry))) r (now (out .entry)) (now (out .exit)) ⌝ }
+    ensures { λ r. ⌜ ReturnsPath (translateFast (lentMap (now (store .entry)) (now (places .entry)) n mark)
+        (now (path .entry))) r (now (out .entry)) (now (out .exit)) ⌝ }
 {
     let mut made = [0u8; 255];
     let r = map_apply::translate_text(store, places, n, mark, path, &mut made);
@@ -81,7 +83,8 @@ fn translate_stripped(
     out: &mut [u8],
 ) -> refusal::Reply
     requires { ⌜ (length (now path) ≤ 255) × (255 ≤ length (now out)) ⌝ }
-    ensures { λ r. ⌜ ReturnsPath (translateFast (lentMap (now (store .entry)) (now (places .entry)) n mark) (strip (now (path .entry)))) r (now (out .entry)) (now (out .exit)) ⌝ }
+    ensures { λ r. ⌜ ReturnsPath (translateFast (lentMap (now (store .entry)) (now (places .entry)) n mark)
+        (strip (now (path .entry)))) r (now (out .entry)) (now (out .exit)) ⌝ }
 {
     if text::lacks_byte(path, b'{') {
         return translate_into(store, places, n, mark, path, out);
@@ -105,7 +108,8 @@ fn map_in_direction(
     out: &mut [u8],
 ) -> refusal::Reply
     requires { ⌜ (length (now path) ≤ 255) × (255 ≤ length (now out)) ⌝ }
-    ensures { λ r. ⌜ ReturnsPath (mapFastIn direction (lentMap (now (store .entry)) (now (places .entry)) n mark) (now (path .entry))) r (now (out .entry)) (now (out .exit)) ⌝ }
+    ensures { λ r. ⌜ ReturnsPath (mapFastIn direction (lentMap (now (store .entry)) (now (places .entry)) n mark)
+        (now (path .entry))) r (now (out .entry)) (now (out .exit)) ⌝ }
 {
     match direction {
         Direction::Out => map_into(store, places, n, mark, false, path, out),
@@ -125,7 +129,8 @@ pub fn map_after_list(
     path: &[u8],
     out: &mut [u8],
 ) -> refusal::Reply
-    ensures { λ r. ⌜ ReturnsPath (afterListValidated list direction (now (store .entry)) (now (places .entry)) map (now (path .entry)) (length (now (out .entry)))) r (now (out .entry)) (now (out .exit)) ⌝ }
+    ensures { λ r. ⌜ ReturnsPath (afterListValidated list direction (now (store .entry)) (now (places .entry)) map
+        (now (path .entry)) (length (now (out .entry)))) r (now (out .entry)) (now (out .exit)) ⌝ }
 {
     let count = map.count;
     let mark = map.has_root_identity;
@@ -148,7 +153,8 @@ fn call(
     path: &[u8],
     out: &mut [u8],
 ) -> refusal::Reply
-    ensures { λ r. ⌜ ReturnsPath (directionCall direction (now (store .entry)) (now (places .entry)) map (now (path .entry)) (length (now (out .entry)))) r (now (out .entry)) (now (out .exit)) ⌝ }
+    ensures { λ r. ⌜ ReturnsPath (directionCall direction (now (store .entry)) (now (places .entry)) map
+        (now (path .entry)) (length (now (out .entry)))) r (now (out .entry)) (now (out .exit)) ⌝ }
 {
     let list = validate::validate_list_and_path(store, places, map.count, &path[..0]);
     map_after_list(list, store, places, map, direction, path, out)
@@ -162,7 +168,8 @@ pub fn map_source_to_target(
     path: &[u8],
     out: &mut [u8],
 ) -> refusal::Reply
-    ensures { λ r. ⌜ ReturnsPath (mapSourceToTargetCall (now (store .entry)) (now (places .entry)) map (now (path .entry)) (length (now (out .entry)))) r (now (out .entry)) (now (out .exit)) ⌝ }
+    ensures { λ r. ⌜ ReturnsPath (mapSourceToTargetCall (now (store .entry)) (now (places .entry)) map
+        (now (path .entry)) (length (now (out .entry)))) r (now (out .entry)) (now (out .exit)) ⌝ }
 {
     call(store, places, map, Direction::Out, path, out)
 }
@@ -175,7 +182,8 @@ pub fn map_target_to_source(
     path: &[u8],
     out: &mut [u8],
 ) -> refusal::Reply
-    ensures { λ r. ⌜ ReturnsPath (mapTargetToSourceCall (now (store .entry)) (now (places .entry)) map (now (path .entry)) (length (now (out .entry)))) r (now (out .entry)) (now (out .exit)) ⌝ }
+    ensures { λ r. ⌜ ReturnsPath (mapTargetToSourceCall (now (store .entry)) (now (places .entry)) map
+        (now (path .entry)) (length (now (out .entry)))) r (now (out .entry)) (now (out .exit)) ⌝ }
 {
     call(store, places, map, Direction::Home, path, out)
 }
@@ -189,7 +197,8 @@ pub fn translate_to_target(
     path: &[u8],
     out: &mut [u8],
 ) -> refusal::Reply
-    ensures { λ r. ⌜ ReturnsPath (translateToTargetCall (now (store .entry)) (now (places .entry)) map (now (path .entry)) (length (now (out .entry)))) r (now (out .entry)) (now (out .exit)) ⌝ }
+    ensures { λ r. ⌜ ReturnsPath (translateToTargetCall (now (store .entry)) (now (places .entry)) map
+        (now (path .entry)) (length (now (out .entry)))) r (now (out .entry)) (now (out .exit)) ⌝ }
 {
     call(store, places, map, Direction::Translated, path, out)
 }

@@ -17,10 +17,19 @@ pub extern "C" fn mudvizsor_frames_line(
     table: &mut [usize],
     out: &mut [u8],
 ) -> usize
-    ensures { λ r. ⌜ r ≡ replyCode (lineReply (wholeLine (now (line .entry))) (now (kept .entry)) (lentMemory (now (kept .entry)) (now (bytes .entry)) (now (places .entry)) (now (store .entry)) (now (slots .entry)) (now (table .entry))) (now (out .entry))) ⌝ }
-    ensures { λ r. ⌜ now (kept .exit) ≡ lineCounters (wholeLine (now (line .entry))) (now (kept .entry)) (lentMemory (now (kept .entry)) (now (bytes .entry)) (now (places .entry)) (now (store .entry)) (now (slots .entry)) (now (table .entry))) (now (out .entry)) ⌝ }
-    ensures { λ r. ⌜ lentMemory (now (kept .exit)) (now (bytes .exit)) (now (places .exit)) (now (store .exit)) (now (slots .exit)) (now (table .exit)) ≡ lineMemory (wholeLine (now (line .entry))) (now (kept .entry)) (lentMemory (now (kept .entry)) (now (bytes .entry)) (now (places .entry)) (now (store .entry)) (now (slots .entry)) (now (table .entry))) (now (out .entry)) ⌝ }
-    ensures { λ r. ⌜ now (out .exit) ≡ lineOut (wholeLine (now (line .entry))) (now (kept .entry)) (lentMemory (now (kept .entry)) (now (bytes .entry)) (now (places .entry)) (now (store .entry)) (now (slots .entry)) (now (table .entry))) (now (out .entry)) ⌝ }
+    ensures { λ r. ⌜ r ≡ replyCode (lineReply (wholeLine (now (line .entry))) (now (kept .entry))
+        (lentMemory (now (kept .entry)) (now (bytes .entry)) (now (places .entry)) (now (store .entry))
+        (now (slots .entry)) (now (table .entry))) (now (out .entry))) ⌝ }
+    ensures { λ r. ⌜ now (kept .exit) ≡ lineCounters (wholeLine (now (line .entry))) (now (kept .entry))
+        (lentMemory (now (kept .entry)) (now (bytes .entry)) (now (places .entry)) (now (store .entry))
+        (now (slots .entry)) (now (table .entry))) (now (out .entry)) ⌝ }
+    ensures { λ r. ⌜ lentMemory (now (kept .exit)) (now (bytes .exit)) (now (places .exit)) (now (store .exit))
+        (now (slots .exit)) (now (table .exit)) ≡ lineMemory (wholeLine (now (line .entry))) (now (kept .entry))
+        (lentMemory (now (kept .entry)) (now (bytes .entry)) (now (places .entry)) (now (store .entry))
+        (now (slots .entry)) (now (table .entry))) (now (out .entry)) ⌝ }
+    ensures { λ r. ⌜ now (out .exit) ≡ lineOut (wholeLine (now (line .entry))) (now (kept .entry))
+        (lentMemory (now (kept .entry)) (now (bytes .entry)) (now (places .entry)) (now (store .entry))
+        (now (slots .entry)) (now (table .entry))) (now (out .entry)) ⌝ }
 {
     ffi_values::reply_code(ffi_line::answer_whole(
         line,

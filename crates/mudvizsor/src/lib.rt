@@ -75,7 +75,8 @@ pub extern "C" fn mudvizsor_path_replace_prefix(
     new: &[u8],
     out: &mut [u8],
 ) -> usize
-    ensures { λ r. ⌜ ReturnsPathCode (replacePrefixCall (now (path .entry)) (now (old .entry)) (now (new .entry)) (length (now (out .entry)))) r (now (out .entry)) (now (out .exit)) ⌝ }
+    ensures { λ r. ⌜ ReturnsPathCode (replacePrefixCall (now (path .entry)) (now (old .entry)) (now (new .entry))
+        (length (now (out .entry)))) r (now (out .entry)) (now (out .exit)) ⌝ }
 {
     ffi_values::reply_code(path_derive::replace_prefix(path, old, new, out))
 }
@@ -83,7 +84,8 @@ pub extern "C" fn mudvizsor_path_replace_prefix(
 // Writes the parent to out: the path without its last element or its property.
 #[no_mangle]
 pub extern "C" fn mudvizsor_path_parent(path: &[u8], out: &mut [u8]) -> usize
-    ensures { λ r. ⌜ ReturnsPathCode (parentCall (now (path .entry)) (length (now (out .entry)))) r (now (out .entry)) (now (out .exit)) ⌝ }
+    ensures { λ r. ⌜ ReturnsPathCode (parentCall (now (path .entry)) (length (now (out .entry)))) r (now (out .entry))
+        (now (out .exit)) ⌝ }
 {
     ffi_values::reply_code(path_derive::parent(path, out))
 }
@@ -91,7 +93,8 @@ pub extern "C" fn mudvizsor_path_parent(path: &[u8], out: &mut [u8]) -> usize
 // Writes the path without its property, or without the last selection if it ends in one, to out.
 #[no_mangle]
 pub extern "C" fn mudvizsor_path_prim_path(path: &[u8], out: &mut [u8]) -> usize
-    ensures { λ r. ⌜ ReturnsPathCode (primPathCall (now (path .entry)) (length (now (out .entry)))) r (now (out .entry)) (now (out .exit)) ⌝ }
+    ensures { λ r. ⌜ ReturnsPathCode (primPathCall (now (path .entry)) (length (now (out .entry)))) r (now (out .entry))
+        (now (out .exit)) ⌝ }
 {
     ffi_values::reply_code(path_derive::prim_path(path, out))
 }
@@ -99,7 +102,8 @@ pub extern "C" fn mudvizsor_path_prim_path(path: &[u8], out: &mut [u8]) -> usize
 // Writes the prim path of a property to out; the name is the text after the dot that follows it.
 #[no_mangle]
 pub extern "C" fn mudvizsor_path_split_property(path: &[u8], out: &mut [u8]) -> usize
-    ensures { λ r. ⌜ ReturnsPathCode (splitPropertyCall (now (path .entry)) (length (now (out .entry)))) r (now (out .entry)) (now (out .exit)) ⌝ }
+    ensures { λ r. ⌜ ReturnsPathCode (splitPropertyCall (now (path .entry)) (length (now (out .entry)))) r
+        (now (out .entry)) (now (out .exit)) ⌝ }
 {
     ffi_values::reply_code(path_derive::split_property(path, out))
 }
@@ -107,7 +111,8 @@ pub extern "C" fn mudvizsor_path_split_property(path: &[u8], out: &mut [u8]) -> 
 // Writes the path without its selections to out.
 #[no_mangle]
 pub extern "C" fn mudvizsor_path_strip_variant_selections(path: &[u8], out: &mut [u8]) -> usize
-    ensures { λ r. ⌜ ReturnsPathCode (stripCall (now (path .entry)) (length (now (out .entry)))) r (now (out .entry)) (now (out .exit)) ⌝ }
+    ensures { λ r. ⌜ ReturnsPathCode (stripCall (now (path .entry)) (length (now (out .entry)))) r (now (out .entry))
+        (now (out .exit)) ⌝ }
 {
     ffi_values::reply_code(path_derive::strip_variant_selections(path, out))
 }
@@ -116,7 +121,9 @@ pub extern "C" fn mudvizsor_path_strip_variant_selections(path: &[u8], out: &mut
 #[no_mangle]
 pub extern "C" fn mudvizsor_path_ancestors(path: &[u8], lengths: &mut [usize]) -> usize
     ensures { λ r. ⌜ r ≡ replyCode (ancestorsReply (now (path .entry)) (length (now (lengths .entry)))) ⌝ }
-    ensures { λ r. ⌜ now (lengths .exit) ≡ writtenIfAccepted (ancestorsReply (now (path .entry)) (length (now (lengths .entry)))) (ancestorLens (now (path .entry))) (now (lengths .entry)) ⌝ }
+    ensures { λ r. ⌜ now (lengths .exit) ≡ writtenIfAccepted
+        (ancestorsReply (now (path .entry)) (length (now (lengths .entry)))) (ancestorLens (now (path .entry)))
+        (now (lengths .entry)) ⌝ }
 {
     ffi_values::reply_code(path_derive::ancestors(path, lengths))
 }
@@ -131,7 +138,9 @@ pub extern "C" fn mudvizsor_map_source_to_target(
     path: &[u8],
     out: &mut [u8],
 ) -> usize
-    ensures { λ r. ⌜ ReturnsPathCode (mapSourceToTargetCall (now (store .entry)) (now (places .entry)) (untimedMap count mark) (now (path .entry)) (length (now (out .entry)))) r (now (out .entry)) (now (out .exit)) ⌝ }
+    ensures { λ r. ⌜ ReturnsPathCode (mapSourceToTargetCall (now (store .entry)) (now (places .entry))
+        (untimedMap count mark) (now (path .entry)) (length (now (out .entry)))) r (now (out .entry))
+        (now (out .exit)) ⌝ }
 {
     let map = ffi_values::untimed_map(count, mark);
     ffi_values::reply_code(mapping::map_source_to_target(store, places, map, path, out))
@@ -147,7 +156,9 @@ pub extern "C" fn mudvizsor_map_target_to_source(
     path: &[u8],
     out: &mut [u8],
 ) -> usize
-    ensures { λ r. ⌜ ReturnsPathCode (mapTargetToSourceCall (now (store .entry)) (now (places .entry)) (untimedMap count mark) (now (path .entry)) (length (now (out .entry)))) r (now (out .entry)) (now (out .exit)) ⌝ }
+    ensures { λ r. ⌜ ReturnsPathCode (mapTargetToSourceCall (now (store .entry)) (now (places .entry))
+        (untimedMap count mark) (now (path .entry)) (length (now (out .entry)))) r (now (out .entry))
+        (now (out .exit)) ⌝ }
 {
     let map = ffi_values::untimed_map(count, mark);
     ffi_values::reply_code(mapping::map_target_to_source(store, places, map, path, out))
@@ -164,7 +175,9 @@ pub extern "C" fn mudvizsor_translate_to_target(
     path: &[u8],
     out: &mut [u8],
 ) -> usize
-    ensures { λ r. ⌜ ReturnsPathCode (translateToTargetCall (now (store .entry)) (now (places .entry)) (untimedMap count mark) (now (path .entry)) (length (now (out .entry)))) r (now (out .entry)) (now (out .exit)) ⌝ }
+    ensures { λ r. ⌜ ReturnsPathCode (translateToTargetCall (now (store .entry)) (now (places .entry))
+        (untimedMap count mark) (now (path .entry)) (length (now (out .entry)))) r (now (out .entry))
+        (now (out .exit)) ⌝ }
 {
     let map = ffi_values::untimed_map(count, mark);
     ffi_values::reply_code(mapping::translate_to_target(store, places, map, path, out))
@@ -187,7 +200,11 @@ pub extern "C" fn mudvizsor_map_all(
     out: &mut [u8],
     replies: &mut [usize],
 ) -> usize
-    ensures { λ r. ⌜ (let map = untimedMap count mark in ReturnsBatchCode (validateMapAll (now (store .entry)) (now (places .entry)) map n (now (spots .entry)) (now (out .entry)) (now (replies .entry))) (mappedAt (directionOf direction) (now (store .entry)) (now (places .entry)) map (now (texts .entry)) (now (spots .entry))) n r (now (out .entry)) (now (out .exit)) (now (replies .entry)) (now (replies .exit))) ⌝ }
+    ensures { λ r. ⌜ (let map = untimedMap count mark in ReturnsBatchCode
+        (validateMapAll (now (store .entry)) (now (places .entry)) map n (now (spots .entry)) (now (out .entry))
+        (now (replies .entry))) (mappedAt (directionOf direction) (now (store .entry)) (now (places .entry)) map
+        (now (texts .entry)) (now (spots .entry))) n r (now (out .entry)) (now (out .exit)) (now (replies .entry))
+        (now (replies .exit))) ⌝ }
 {
     let map = ffi_values::untimed_map(count, mark);
     let direction = ffi_values::direction_of(direction);

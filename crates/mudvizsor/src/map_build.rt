@@ -22,7 +22,9 @@ pub extern "C" fn mudvizsor_map_new(
     slots: &mut [usize],
     time: &mut [f64; 2],
 ) -> usize
-    ensures { λ r. ⌜ ReturnsMapCode (mapNewCall (now (store .entry)) (now (places .entry)) count (now (out .entry)) (now (slots .entry))) r (now (out .entry)) (now (out .exit)) (now (slots .entry)) (now (slots .exit)) (now (time .entry)) (now (time .exit)) ⌝ }
+    ensures { λ r. ⌜ ReturnsMapCode (mapNewCall (now (store .entry)) (now (places .entry)) count (now (out .entry))
+        (now (slots .entry))) r (now (out .entry)) (now (out .exit)) (now (slots .entry)) (now (slots .exit))
+        (now (time .entry)) (now (time .exit)) ⌝ }
 {
     ffi_values::map_code(map_new::new(store, places, count, out, slots), time)
 }
@@ -40,7 +42,9 @@ pub extern "C" fn mudvizsor_map_with_root_identity(
     slots: &mut [usize],
     time: &mut [f64; 2],
 ) -> usize
-    ensures { λ r. ⌜ ReturnsMapCode (withRootIdentityCall (now (store .entry)) (now (places .entry)) (mapFromNumbers count mark offset scale) (now (out .entry)) (now (slots .entry))) r (now (out .entry)) (now (out .exit)) (now (slots .entry)) (now (slots .exit)) (now (time .entry)) (now (time .exit)) ⌝ }
+    ensures { λ r. ⌜ ReturnsMapCode (withRootIdentityCall (now (store .entry)) (now (places .entry))
+        (mapFromNumbers count mark offset scale) (now (out .entry)) (now (slots .entry))) r (now (out .entry))
+        (now (out .exit)) (now (slots .entry)) (now (slots .exit)) (now (time .entry)) (now (time .exit)) ⌝ }
 {
     let map = ffi_values::map_from_numbers(count, mark, offset, scale);
     ffi_values::map_code(
@@ -68,7 +72,10 @@ pub extern "C" fn mudvizsor_map_compose(
     slots: &mut [usize],
     time: &mut [f64; 2],
 ) -> usize
-    ensures { λ r. ⌜ ReturnsMapCode (composeCall (now (store .entry)) (now (places .entry)) (mapFromNumbers count mark offset scale) (now (istore .entry)) (now (iplaces .entry)) (mapFromNumbers icount imark ioffset iscale) (now (out .entry)) (now (slots .entry))) r (now (out .entry)) (now (out .exit)) (now (slots .entry)) (now (slots .exit)) (now (time .entry)) (now (time .exit)) ⌝ }
+    ensures { λ r. ⌜ ReturnsMapCode (composeCall (now (store .entry)) (now (places .entry))
+        (mapFromNumbers count mark offset scale) (now (istore .entry)) (now (iplaces .entry))
+        (mapFromNumbers icount imark ioffset iscale) (now (out .entry)) (now (slots .entry))) r (now (out .entry))
+        (now (out .exit)) (now (slots .entry)) (now (slots .exit)) (now (time .entry)) (now (time .exit)) ⌝ }
 {
     let map = ffi_values::map_from_numbers(count, mark, offset, scale);
     let inner = ffi_values::map_from_numbers(icount, imark, ioffset, iscale);
@@ -87,7 +94,9 @@ pub extern "C" fn mudvizsor_map_from_pair(
     slots: &mut [usize],
     time: &mut [f64; 2],
 ) -> usize
-    ensures { λ r. ⌜ ReturnsMapCode (fromPairCall (now (source .entry)) (now (target .entry)) (now (out .entry)) (now (slots .entry))) r (now (out .entry)) (now (out .exit)) (now (slots .entry)) (now (slots .exit)) (now (time .entry)) (now (time .exit)) ⌝ }
+    ensures { λ r. ⌜ ReturnsMapCode (fromPairCall (now (source .entry)) (now (target .entry)) (now (out .entry))
+        (now (slots .entry))) r (now (out .entry)) (now (out .exit)) (now (slots .entry)) (now (slots .exit))
+        (now (time .entry)) (now (time .exit)) ⌝ }
 {
     ffi_values::map_code(map_new::from_pair(source, target, out, slots), time)
 }
@@ -101,7 +110,9 @@ pub extern "C" fn mudvizsor_map_from_pair_identity(
     slots: &mut [usize],
     time: &mut [f64; 2],
 ) -> usize
-    ensures { λ r. ⌜ ReturnsMapCode (fromPairIdentityCall (now (source .entry)) (now (target .entry)) (now (out .entry)) (now (slots .entry))) r (now (out .entry)) (now (out .exit)) (now (slots .entry)) (now (slots .exit)) (now (time .entry)) (now (time .exit)) ⌝ }
+    ensures { λ r. ⌜ ReturnsMapCode (fromPairIdentityCall (now (source .entry)) (now (target .entry)) (now (out .entry))
+        (now (slots .entry))) r (now (out .entry)) (now (out .exit)) (now (slots .entry)) (now (slots .exit))
+        (now (time .entry)) (now (time .exit)) ⌝ }
 {
     ffi_values::map_code(
         map_new::from_pair_identity(source, target, out, slots),
@@ -122,7 +133,9 @@ pub extern "C" fn mudvizsor_map_inverse(
     slots: &mut [usize],
     time: &mut [f64; 2],
 ) -> usize
-    ensures { λ r. ⌜ ReturnsMapCode (inverseCall (now (store .entry)) (now (places .entry)) (mapFromNumbers count mark offset scale) (now (out .entry)) (now (slots .entry))) r (now (out .entry)) (now (out .exit)) (now (slots .entry)) (now (slots .exit)) (now (time .entry)) (now (time .exit)) ⌝ }
+    ensures { λ r. ⌜ ReturnsMapCode (inverseCall (now (store .entry)) (now (places .entry))
+        (mapFromNumbers count mark offset scale) (now (out .entry)) (now (slots .entry))) r (now (out .entry))
+        (now (out .exit)) (now (slots .entry)) (now (slots .exit)) (now (time .entry)) (now (time .exit)) ⌝ }
 {
     let map = ffi_values::map_from_numbers(count, mark, offset, scale);
     ffi_values::map_code(map_derive::inverse(store, places, map, out, slots), time)
@@ -142,7 +155,10 @@ pub extern "C" fn mudvizsor_map_dropping_source(
     slots: &mut [usize],
     time: &mut [f64; 2],
 ) -> usize
-    ensures { λ r. ⌜ ReturnsMapCode (droppingSourceCall (now (store .entry)) (now (places .entry)) (mapFromNumbers count mark offset scale) (now (source .entry)) (now (out .entry)) (now (slots .entry))) r (now (out .entry)) (now (out .exit)) (now (slots .entry)) (now (slots .exit)) (now (time .entry)) (now (time .exit)) ⌝ }
+    ensures { λ r. ⌜ ReturnsMapCode (droppingSourceCall (now (store .entry)) (now (places .entry))
+        (mapFromNumbers count mark offset scale) (now (source .entry)) (now (out .entry)) (now (slots .entry))) r
+        (now (out .entry)) (now (out .exit)) (now (slots .entry)) (now (slots .exit)) (now (time .entry))
+        (now (time .exit)) ⌝ }
 {
     let map = ffi_values::map_from_numbers(count, mark, offset, scale);
     ffi_values::map_code(
@@ -166,7 +182,10 @@ pub extern "C" fn mudvizsor_map_rebase_target(
     slots: &mut [usize],
     time: &mut [f64; 2],
 ) -> usize
-    ensures { λ r. ⌜ ReturnsMapCode (rebaseTargetCall (now (store .entry)) (now (places .entry)) (mapFromNumbers count mark offset scale) (now (from .entry)) (now (to .entry)) (now (out .entry)) (now (slots .entry))) r (now (out .entry)) (now (out .exit)) (now (slots .entry)) (now (slots .exit)) (now (time .entry)) (now (time .exit)) ⌝ }
+    ensures { λ r. ⌜ ReturnsMapCode (rebaseTargetCall (now (store .entry)) (now (places .entry))
+        (mapFromNumbers count mark offset scale) (now (from .entry)) (now (to .entry)) (now (out .entry))
+        (now (slots .entry))) r (now (out .entry)) (now (out .exit)) (now (slots .entry)) (now (slots .exit))
+        (now (time .entry)) (now (time .exit)) ⌝ }
 {
     let map = ffi_values::map_from_numbers(count, mark, offset, scale);
     ffi_values::map_code(
@@ -189,7 +208,10 @@ pub extern "C" fn mudvizsor_map_deepen_to(
     slots: &mut [usize],
     time: &mut [f64; 2],
 ) -> usize
-    ensures { λ r. ⌜ ReturnsMapCode (deepenToCall (now (store .entry)) (now (places .entry)) (mapFromNumbers count mark offset scale) (now (path .entry)) (now (out .entry)) (now (slots .entry))) r (now (out .entry)) (now (out .exit)) (now (slots .entry)) (now (slots .exit)) (now (time .entry)) (now (time .exit)) ⌝ }
+    ensures { λ r. ⌜ ReturnsMapCode (deepenToCall (now (store .entry)) (now (places .entry))
+        (mapFromNumbers count mark offset scale) (now (path .entry)) (now (out .entry)) (now (slots .entry))) r
+        (now (out .entry)) (now (out .exit)) (now (slots .entry)) (now (slots .exit)) (now (time .entry))
+        (now (time .exit)) ⌝ }
 {
     let map = ffi_values::map_from_numbers(count, mark, offset, scale);
     ffi_values::map_code(
@@ -217,7 +239,10 @@ pub extern "C" fn mudvizsor_map_implied_class(
     slots: &mut [usize],
     time: &mut [f64; 2],
 ) -> usize
-    ensures { λ r. ⌜ ReturnsMapCode (impliedClassCall (now (store .entry)) (now (places .entry)) (mapFromNumbers count mark offset scale) (now (istore .entry)) (now (iplaces .entry)) (mapFromNumbers icount imark ioffset iscale) (now (out .entry)) (now (slots .entry))) r (now (out .entry)) (now (out .exit)) (now (slots .entry)) (now (slots .exit)) (now (time .entry)) (now (time .exit)) ⌝ }
+    ensures { λ r. ⌜ ReturnsMapCode (impliedClassCall (now (store .entry)) (now (places .entry))
+        (mapFromNumbers count mark offset scale) (now (istore .entry)) (now (iplaces .entry))
+        (mapFromNumbers icount imark ioffset iscale) (now (out .entry)) (now (slots .entry))) r (now (out .entry))
+        (now (out .exit)) (now (slots .entry)) (now (slots .exit)) (now (time .entry)) (now (time .exit)) ⌝ }
 {
     let map = ffi_values::map_from_numbers(count, mark, offset, scale);
     let inner = ffi_values::map_from_numbers(icount, imark, ioffset, iscale);
@@ -237,7 +262,8 @@ pub extern "C" fn mudvizsor_map_is_noop(
     offset: f64,
     scale: f64,
 ) -> usize
-    ensures { λ r. ⌜ r ≡ testCode (isNoopCall (now (store .entry)) (now (places .entry)) (mapFromNumbers count mark offset scale)) ⌝ }
+    ensures { λ r. ⌜ r ≡ testCode (isNoopCall (now (store .entry)) (now (places .entry))
+        (mapFromNumbers count mark offset scale)) ⌝ }
 {
     let map = ffi_values::map_from_numbers(count, mark, offset, scale);
     ffi_values::test_code(map_derive::is_noop(store, places, map))

@@ -103,8 +103,11 @@ pub extern "C" fn mudvizsor_map_with_time_offset(
     new_scale: f64,
     time: &mut [f64; 2],
 ) -> usize
-    ensures { λ r. ⌜ r ≡ mapCode (withTimeOffsetCall (mapFromNumbers count mark offset scale) (layerOffset «new_offset» «new_scale»)) ⌝ }
-    ensures { λ r. ⌜ now (time .exit) ≡ mapTime (withTimeOffsetCall (mapFromNumbers count mark offset scale) (layerOffset «new_offset» «new_scale»)) (now (time .entry)) ⌝ }
+    ensures { λ r. ⌜ r ≡ mapCode (withTimeOffsetCall (mapFromNumbers count mark offset scale)
+        (layerOffset «new_offset» «new_scale»)) ⌝ }
+    ensures { λ r. ⌜ now (time .exit) ≡ mapTime
+        (withTimeOffsetCall (mapFromNumbers count mark offset scale) (layerOffset «new_offset» «new_scale»))
+        (now (time .entry)) ⌝ }
 {
     let map = ffi_values::map_from_numbers(count, mark, offset, scale);
     let new = layer_offset::LayerOffset {

@@ -16,8 +16,11 @@ pub extern "C" fn mudvizsor_analyze_relocate_occurrences(
     count: usize,
     out: &mut [u8],
 ) -> usize
-    ensures { λ r. ⌜ r ≡ replyCode (analyzeReply (lentList (now (store .entry)) (now (places .entry)) count) (length (now (out .entry)))) ⌝ }
-    ensures { λ r. ⌜ now (out .exit) ≡ analyzeBuffer (analyzeReply (lentList (now (store .entry)) (now (places .entry)) count) (length (now (out .entry)))) (lentList (now (store .entry)) (now (places .entry)) count) (now (out .entry)) ⌝ }
+    ensures { λ r. ⌜ r ≡ replyCode (analyzeReply (lentList (now (store .entry)) (now (places .entry)) count)
+        (length (now (out .entry)))) ⌝ }
+    ensures { λ r. ⌜ now (out .exit) ≡ analyzeBuffer
+        (analyzeReply (lentList (now (store .entry)) (now (places .entry)) count) (length (now (out .entry))))
+        (lentList (now (store .entry)) (now (places .entry)) count) (now (out .entry)) ⌝ }
 {
     ffi_values::reply_code(relocates::analyze_relocate_occurrences(store, places, count, out))
 }
@@ -35,8 +38,13 @@ pub extern "C" fn mudvizsor_chain_through_relocates(
     path: &[u8],
     out: &mut [u8],
 ) -> usize
-    ensures { λ r. ⌜ r ≡ chainCode (chainReply (chainCall (lentList (now (store .entry)) (now (places .entry)) count) (skippedSource skips (now (skipped .entry))) (now (path .entry)) (length (now (out .entry))))) ⌝ }
-    ensures { λ r. ⌜ now (out .exit) ≡ chainBuffer (chainCall (lentList (now (store .entry)) (now (places .entry)) count) (skippedSource skips (now (skipped .entry))) (now (path .entry)) (length (now (out .entry)))) (now (out .entry)) ⌝ }
+    ensures { λ r. ⌜ r ≡ chainCode (chainReply
+        (chainCall (lentList (now (store .entry)) (now (places .entry)) count)
+        (skippedSource skips (now (skipped .entry))) (now (path .entry)) (length (now (out .entry))))) ⌝ }
+    ensures { λ r. ⌜ now (out .exit) ≡ chainBuffer
+        (chainCall (lentList (now (store .entry)) (now (places .entry)) count)
+        (skippedSource skips (now (skipped .entry))) (now (path .entry)) (length (now (out .entry))))
+        (now (out .entry)) ⌝ }
 {
     ffi_values::chain_code(relocate_chain::chain_through_relocates(
         store,
@@ -58,7 +66,8 @@ pub extern "C" fn mudvizsor_shift_through_nearest_ancestor(
     endpoint: &[u8],
     out: &mut [u8],
 ) -> usize
-    ensures { λ r. ⌜ ReturnsPathCode (shiftCall (lentList (now (store .entry)) (now (places .entry)) count) (now (endpoint .entry)) (length (now (out .entry)))) r (now (out .entry)) (now (out .exit)) ⌝ }
+    ensures { λ r. ⌜ ReturnsPathCode (shiftCall (lentList (now (store .entry)) (now (places .entry)) count)
+        (now (endpoint .entry)) (length (now (out .entry)))) r (now (out .entry)) (now (out .exit)) ⌝ }
 {
     ffi_values::reply_code(relocate_chain::shift_through_nearest_ancestor(
         store,

@@ -20,7 +20,9 @@ pub extern "C" fn mudvizsor_route_out(
     path: &[u8],
     out: &mut [u8],
 ) -> usize
-    ensures { λ r. ⌜ ReturnsPathCode (routeCall false (lentRoute (now (store .entry)) (now (places .entry)) (now (legs .entry)) count) (now (path .entry)) (length (now (out .entry)))) r (now (out .entry)) (now (out .exit)) ⌝ }
+    ensures { λ r. ⌜ ReturnsPathCode (routeCall false
+        (lentRoute (now (store .entry)) (now (places .entry)) (now (legs .entry)) count) (now (path .entry))
+        (length (now (out .entry)))) r (now (out .entry)) (now (out .exit)) ⌝ }
 {
     ffi_values::reply_code(route::route_out(store, places, legs, count, path, out))
 }
@@ -35,7 +37,9 @@ pub extern "C" fn mudvizsor_route_home(
     path: &[u8],
     out: &mut [u8],
 ) -> usize
-    ensures { λ r. ⌜ ReturnsPathCode (routeCall true (lentRoute (now (store .entry)) (now (places .entry)) (now (legs .entry)) count) (now (path .entry)) (length (now (out .entry)))) r (now (out .entry)) (now (out .exit)) ⌝ }
+    ensures { λ r. ⌜ ReturnsPathCode (routeCall true
+        (lentRoute (now (store .entry)) (now (places .entry)) (now (legs .entry)) count) (now (path .entry))
+        (length (now (out .entry)))) r (now (out .entry)) (now (out .exit)) ⌝ }
 {
     ffi_values::reply_code(route::route_home(store, places, legs, count, path, out))
 }
@@ -55,7 +59,10 @@ pub extern "C" fn mudvizsor_route_all(
     out: &mut [u8],
     replies: &mut [usize],
 ) -> usize
-    ensures { λ r. ⌜ (let route = lentRoute (now (store .entry)) (now (places .entry)) (now (legs .entry)) count in ReturnsBatchCode (validateRouteAll route n (now (spots .entry)) (now (out .entry)) (now (replies .entry))) (routedAt home route (now (texts .entry)) (now (spots .entry))) n r (now (out .entry)) (now (out .exit)) (now (replies .entry)) (now (replies .exit))) ⌝ }
+    ensures { λ r. ⌜ (let route = lentRoute (now (store .entry)) (now (places .entry)) (now (legs .entry)) count
+        in ReturnsBatchCode (validateRouteAll route n (now (spots .entry)) (now (out .entry)) (now (replies .entry)))
+        (routedAt home route (now (texts .entry)) (now (spots .entry))) n r (now (out .entry)) (now (out .exit))
+        (now (replies .entry)) (now (replies .exit))) ⌝ }
 {
     ffi_values::validation_code(batch::route_all(
         store,

@@ -113,7 +113,8 @@ pub extern "C" fn mudvizsor_layer_offset_concatenate(
     inner_scale: f64,
     out: &mut [f64; 2],
 )
-    ensures { λ r. ⌜ now (out .exit) ≡ offsetNumbers (concatenateOffsets (layerOffset offset scale) (layerOffset «inner_offset» «inner_scale»)) ⌝ }
+    ensures { λ r. ⌜ now (out .exit) ≡ offsetNumbers
+        (concatenateOffsets (layerOffset offset scale) (layerOffset «inner_offset» «inner_scale»)) ⌝ }
 {
     let inner = layer_offset::LayerOffset {
         offset: inner_offset,

@@ -1,4 +1,4 @@
--- Adding a pair to the open list in lent memory: the reply, and every byte and place entry after the call, for any contents of the buffers.
+-- Meaning: Adding a pair to the open list in lent memory: the reply, and every byte and place entry after the call, for any contents of the buffers.
 use mathlib.Core.Path.{_≡_}
 use Prim.Native.Nat.{ℕ, suc, _+_, _*_, _≤_, _<_}
 use mathlib.Core.Bool.{cond, _&&_}

@@ -1,4 +1,4 @@
--- The invariant of the open list's buffers: its pairs are packed from the beginning. Adding a pair preserves it (proofs/OpenListLaws.antt),
+-- Meaning: The invariant of the open list's buffers: its pairs are packed from the beginning. Adding a pair preserves it (proofs/OpenListLaws.antt),
 -- so the pairs read by their places are the pairs of the list.
 use mathlib.Core.Path.{_≡_}
 use Prim.Native.Nat.{ℕ}

@@ -54,9 +54,14 @@ pub fn add_pair(
     bytes: &mut [u8],
     places: &mut [usize],
 ) -> Added
-    ensures { λ r. ⌜ r ≡ addReply (validateAdd k (now (source .entry)) (now (target .entry)) (length (now (bytes .entry))) (length (now (places .entry)))) k (now (source .entry)) (now (target .entry)) ⌝ }
-    ensures { λ r. ⌜ now (bytes .exit) ≡ addBytes (validateAdd k (now (source .entry)) (now (target .entry)) (length (now (bytes .entry))) (length (now (places .entry)))) k (now (source .entry)) (now (target .entry)) (now (bytes .entry)) ⌝ }
-    ensures { λ r. ⌜ now (places .exit) ≡ addPlaces (validateAdd k (now (source .entry)) (now (target .entry)) (length (now (bytes .entry))) (length (now (places .entry)))) k (now (source .entry)) (now (target .entry)) (now (places .entry)) ⌝ }
+    ensures { λ r. ⌜ r ≡ addReply (validateAdd k (now (source .entry)) (now (target .entry))
+        (length (now (bytes .entry))) (length (now (places .entry)))) k (now (source .entry)) (now (target .entry)) ⌝ }
+    ensures { λ r. ⌜ now (bytes .exit) ≡ addBytes
+        (validateAdd k (now (source .entry)) (now (target .entry)) (length (now (bytes .entry)))
+        (length (now (places .entry)))) k (now (source .entry)) (now (target .entry)) (now (bytes .entry)) ⌝ }
+    ensures { λ r. ⌜ now (places .exit) ≡ addPlaces
+        (validateAdd k (now (source .entry)) (now (target .entry)) (length (now (bytes .entry)))
+        (length (now (places .entry)))) k (now (source .entry)) (now (target .entry)) (now (places .entry)) ⌝ }
 {
     let q = validate_add(k, source, target, bytes.len(), places.len());
     if let refusal::Validation::Refused(x) = q {

@@ -1,4 +1,4 @@
--- Ends that a call has constructed, and the validation of a list of them.
+-- Meaning: Ends that a call has constructed, and the validation of a list of them.
 use mathlib.Core.Bool.{Bool, cond}
 use mathlib.Core.List.{List}
 use mathlib.Core.Option.{Option·getD}

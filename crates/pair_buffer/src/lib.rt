@@ -11,8 +11,10 @@ ghost use Rattle.pair_buffer.specs.Ends.{atMost, replacedOrSame, written
 // Writes the path with its prefix replaced, or the path itself if it does not have that prefix, and returns
 // its length; writes nothing and returns 0 if it does not fit.
 pub fn replace_into(path: &[u8], old: &[u8], new: &[u8], out: &mut [u8]) -> usize
-    ensures { λ r. ⌜ r ≡ writtenLength (fitOf (replacedOrSame (now (path .entry)) (now (old .entry)) (now (new .entry))) (now (out .entry))) ⌝ }
-    ensures { λ r. ⌜ now (out .exit) ≡ writtenIfFits 0 (replacedOrSame (now (path .entry)) (now (old .entry)) (now (new .entry))) (now (out .entry)) ⌝ }
+    ensures { λ r. ⌜ r ≡ writtenLength (fitOf (replacedOrSame (now (path .entry)) (now (old .entry)) (now (new .entry)))
+        (now (out .entry))) ⌝ }
+    ensures { λ r. ⌜ now (out .exit) ≡ writtenIfFits 0
+        (replacedOrSame (now (path .entry)) (now (old .entry)) (now (new .entry))) (now (out .entry)) ⌝ }
 {
     if !path_prefix::has_prefix(path, old) {
         if out.len() < path.len() {
@@ -79,7 +81,9 @@ pub fn from_ends_given(
     out: &mut [u8],
     slots: &mut [usize],
 ) -> map_function::MapReply
-    ensures { λ r. ⌜ ReturnsMap (countInSlice (lentList (now (store .entry)) (now (places .entry)) n) (fromEndsGiven legal (pairsIn (now (store .entry)) (now (places .entry)) n) mark time (now (out .entry)) (now (slots .entry)))) r (now (out .entry)) (now (out .exit)) (now (slots .entry)) (now (slots .exit)) ⌝ }
+    ensures { λ r. ⌜ ReturnsMap (countInSlice (lentList (now (store .entry)) (now (places .entry)) n)
+        (fromEndsGiven legal (pairsIn (now (store .entry)) (now (places .entry)) n) mark time (now (out .entry))
+        (now (slots .entry)))) r (now (out .entry)) (now (out .exit)) (now (slots .entry)) (now (slots .exit)) ⌝ }
 {
     if 64 < n {
         return map_function::MapReply::Refused(refusal::Refusal::TooMany);
@@ -113,7 +117,9 @@ pub fn from_ends(
     out: &mut [u8],
     slots: &mut [usize],
 ) -> map_function::MapReply
-    ensures { λ r. ⌜ ReturnsMap (countInSlice (lentList (now (store .entry)) (now (places .entry)) n) (fromEnds (pairsIn (now (store .entry)) (now (places .entry)) n) mark time (now (out .entry)) (now (slots .entry)))) r (now (out .entry)) (now (out .exit)) (now (slots .entry)) (now (slots .exit)) ⌝ }
+    ensures { λ r. ⌜ ReturnsMap (countInSlice (lentList (now (store .entry)) (now (places .entry)) n)
+        (fromEnds (pairsIn (now (store .entry)) (now (places .entry)) n) mark time (now (out .entry))
+        (now (slots .entry)))) r (now (out .entry)) (now (out .exit)) (now (slots .entry)) (now (slots .exit)) ⌝ }
 {
     if 64 < n {
         return map_function::MapReply::Refused(refusal::Refusal::TooMany);

@@ -1,4 +1,4 @@
--- The best index: of the indices below a number that pass a test, the one with the greatest weight, the later one on a tie. Each search for
+-- Meaning: The best index: of the indices below a number that pass a test, the one with the greatest weight, the later one on a tie. Each search for
 -- a longest match is of this form: maps weigh a key by its elements, chaining weighs a source by its bytes.
 use Prim.Native.Nat.{ℕ, zero, suc}
 use mathlib.Core.Bool.{Bool, true, cond, _&&_}

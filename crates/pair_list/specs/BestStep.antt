@@ -1,4 +1,4 @@
--- The steps of a search for the best index: what it keeps, and how it considers the next index.
+-- Method: The steps of a search for the best index: what it keeps, and how it considers the next index.
 use Prim.Native.Nat.{ℕ}
 use mathlib.Core.Bool.{Bool, true, cond, _&&_}
 use mathlib.Core.Option.{Option, none, some, Option·map}

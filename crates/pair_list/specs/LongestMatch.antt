@@ -1,4 +1,4 @@
--- The longest match: the pair of a map that applies to a path. Requirements: "Plain mapping takes, of the pairs whose key is a prefix of
+-- Meaning: The longest match: the pair of a map that applies to a path. Requirements: "Plain mapping takes, of the pairs whose key is a prefix of
 -- the path, the one whose key has most elements, the later on a tie; empty keys are skipped". OpenUSD: PcpMapFunction's search for the best
 -- match.
 use Prim.Native.Nat.{ℕ}

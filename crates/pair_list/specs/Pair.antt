@@ -1,4 +1,4 @@
--- Pairs of paths, and questions 1 and 3 for a list of pairs.
+-- Meaning: Pairs of paths, and questions 1 and 3 for a list of pairs.
 use mathlib.Core.Bool.{Bool, true, not, _&&_}
 use mathlib.Core.List.{List, [], _∷_}
 use Prim.Native.Nat.{ℕ}

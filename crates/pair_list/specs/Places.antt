@@ -1,4 +1,4 @@
--- A list of pairs in lent memory: a store of bytes, and four numbers for each pair: the place of its source, then the place of its target.
+-- Meaning: A list of pairs in lent memory: a store of bytes, and four numbers for each pair: the place of its source, then the place of its target.
 -- The ends of its pairs are a list of texts (crates/text_list). Only this file defines how such a list is read; everything else is defined
 -- on `List Pair`.
 use mathlib.Core.Path.{_≡_}

@@ -1,4 +1,4 @@
--- The result of writing a list of pairs, and the contents of the lent buffers afterwards.
+-- Meaning: The result of writing a list of pairs, and the contents of the lent buffers afterwards.
 use mathlib.Core.Bool.{Bool, cond, _&&_}
 use mathlib.Core.List.{List, [], _∷_}
 use Prim.Native.Nat.{ℕ, _+_, _-_, _*_, _/_}

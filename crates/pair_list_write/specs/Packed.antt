@@ -1,4 +1,4 @@
--- A packed list of pairs: its ends lie one after the other from the beginning of a buffer, and its places from the beginning of another.
+-- Method: A packed list of pairs: its ends lie one after the other from the beginning of a buffer, and its places from the beginning of another.
 use mathlib.Core.Path.{_≡_}
 use mathlib.Core.Bool.{Bool, cond, _&&_}
 use mathlib.Core.List.{List, _++_}

@@ -1,4 +1,4 @@
--- Pairs selected from a list in lent memory: their indices, and their numbers copied to another slice.
+-- Method: Pairs selected from a list in lent memory: their indices, and their numbers copied to another slice.
 use mathlib.Core.Path.{_≡_}
 use mathlib.Core.Bool.{Bool, cond}
 use mathlib.Core.List.{List, [], _∷_, _++_, map, flatMap}

@@ -93,8 +93,10 @@ pub fn push_pair(
     slots: &mut [usize],
 ) -> usize
     ensures { λ r. ⌜ r ≡ pairEnd (now (s .entry)) (now (t .entry)) n at (now (bytes .entry)) (now (slots .entry)) ⌝ }
-    ensures { λ r. ⌜ now (bytes .exit) ≡ pairBytes (now (s .entry)) (now (t .entry)) n at (now (bytes .entry)) (now (slots .entry)) ⌝ }
-    ensures { λ r. ⌜ now (slots .exit) ≡ pairSlots (now (s .entry)) (now (t .entry)) n at (now (bytes .entry)) (now (slots .entry)) ⌝ }
+    ensures { λ r. ⌜ now (bytes .exit) ≡ pairBytes (now (s .entry)) (now (t .entry)) n at (now (bytes .entry))
+        (now (slots .entry)) ⌝ }
+    ensures { λ r. ⌜ now (slots .exit) ≡ pairSlots (now (s .entry)) (now (t .entry)) n at (now (bytes .entry))
+        (now (slots .entry)) ⌝ }
 {
     if bytes.len() < at {
         return at;
@@ -123,9 +125,12 @@ pub fn append_list(
     out: &mut [u8],
     slots: &mut [usize],
 ) -> text::Fit
-    ensures { λ r. ⌜ r ≡ appendListReply at (pairsIn (now (store .entry)) (now (places .entry)) n) (now (out .entry)) (now (slots .entry)) ⌝ }
-    ensures { λ r. ⌜ now (out .exit) ≡ appendListBytes at (pairsIn (now (store .entry)) (now (places .entry)) n) (now (out .entry)) (now (slots .entry)) ⌝ }
-    ensures { λ r. ⌜ now (slots .exit) ≡ appendListSlots at (pairsIn (now (store .entry)) (now (places .entry)) n) (now (out .entry)) (now (slots .entry)) ⌝ }
+    ensures { λ r. ⌜ r ≡ appendListReply at (pairsIn (now (store .entry)) (now (places .entry)) n) (now (out .entry))
+        (now (slots .entry)) ⌝ }
+    ensures { λ r. ⌜ now (out .exit) ≡ appendListBytes at (pairsIn (now (store .entry)) (now (places .entry)) n)
+        (now (out .entry)) (now (slots .entry)) ⌝ }
+    ensures { λ r. ⌜ now (slots .exit) ≡ appendListSlots at (pairsIn (now (store .entry)) (now (places .entry)) n)
+        (now (out .entry)) (now (slots .entry)) ⌝ }
 {
     if slots.len() / 4 < n {
         return text::Fit::Over;
@@ -155,9 +160,12 @@ pub fn write_list(
     out: &mut [u8],
     slots: &mut [usize],
 ) -> text::Fit
-    ensures { λ r. ⌜ r ≡ writeListReply (pairsIn (now (store .entry)) (now (places .entry)) n) (now (out .entry)) (now (slots .entry)) ⌝ }
-    ensures { λ r. ⌜ now (out .exit) ≡ writeListBytes (pairsIn (now (store .entry)) (now (places .entry)) n) (now (out .entry)) (now (slots .entry)) ⌝ }
-    ensures { λ r. ⌜ now (slots .exit) ≡ writeListSlots (pairsIn (now (store .entry)) (now (places .entry)) n) (now (out .entry)) (now (slots .entry)) ⌝ }
+    ensures { λ r. ⌜ r ≡ writeListReply (pairsIn (now (store .entry)) (now (places .entry)) n) (now (out .entry))
+        (now (slots .entry)) ⌝ }
+    ensures { λ r. ⌜ now (out .exit) ≡ writeListBytes (pairsIn (now (store .entry)) (now (places .entry)) n)
+        (now (out .entry)) (now (slots .entry)) ⌝ }
+    ensures { λ r. ⌜ now (slots .exit) ≡ writeListSlots (pairsIn (now (store .entry)) (now (places .entry)) n)
+        (now (out .entry)) (now (slots .entry)) ⌝ }
 {
     append_list(store, places, n, 0, out, slots)
 }

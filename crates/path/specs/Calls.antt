@@ -1,4 +1,4 @@
--- The calls that test a path or count its elements: validation in the order of the questions, then the result.
+-- Meaning: The calls that test a path or count its elements: validation in the order of the questions, then the result.
 use Prim.Native.Nat.{ℕ}
 use mathlib.Core.Bool.{Bool}
 use mathlib.Core.List.{List, [], _∷_}

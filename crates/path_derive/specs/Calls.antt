@@ -1,4 +1,4 @@
--- The calls that derive a path: validation in the order of the questions, then the result. `room` is the capacity of the lent buffer.
+-- Meaning: The calls that derive a path: validation in the order of the questions, then the result. `room` is the capacity of the lent buffer.
 use Prim.Native.Nat.{ℕ}
 use mathlib.Core.Bool.{cond}
 use mathlib.Core.List.{[], _∷_}

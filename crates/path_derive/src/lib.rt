@@ -13,7 +13,8 @@ ghost use Rattle.path_derive.specs.Calls.{replacePrefixCall, parentCall,
 // is built in a scratch buffer, so that a refused call writes nothing.
 fn write_joined(old: &[u8], new: &[u8], rest: &[u8], out: &mut [u8]) -> refusal::Reply
     requires { ⌜ 255 ≤ length (now out) ⌝ }
-    ensures { λ r. ⌜ ReturnsPath (checked (join (now (old .entry)) (now (new .entry)) (now (rest .entry)))) r (now (out .entry)) (now (out .exit)) ⌝ }
+    ensures { λ r. ⌜ ReturnsPath (checked (join (now (old .entry)) (now (new .entry)) (now (rest .entry)))) r
+        (now (out .entry)) (now (out .exit)) ⌝ }
 {
     let mut made = [0u8; 255];
     let fit = path_join::join(old, new, rest, &mut made);
@@ -29,7 +30,8 @@ fn write_joined(old: &[u8], new: &[u8], rest: &[u8], out: &mut [u8]) -> refusal:
 
 // Writes the path with its old prefix replaced by the new one.
 pub fn replace_prefix(path: &[u8], old: &[u8], new: &[u8], out: &mut [u8]) -> refusal::Reply
-    ensures { λ r. ⌜ ReturnsPath (replacePrefixCall (now (path .entry)) (now (old .entry)) (now (new .entry)) (length (now (out .entry)))) r (now (out .entry)) (now (out .exit)) ⌝ }
+    ensures { λ r. ⌜ ReturnsPath (replacePrefixCall (now (path .entry)) (now (old .entry)) (now (new .entry))
+        (length (now (out .entry)))) r (now (out .entry)) (now (out .exit)) ⌝ }
 {
     let q = refusal::validate_texts(path, old, new);
     if let refusal::Validation::Refused(x) = q {
@@ -47,7 +49,8 @@ pub fn replace_prefix(path: &[u8], old: &[u8], new: &[u8], out: &mut [u8]) -> re
 
 // Writes the path without its last element or its property.
 pub fn parent(path: &[u8], out: &mut [u8]) -> refusal::Reply
-    ensures { λ r. ⌜ ReturnsPath (parentCall (now (path .entry)) (length (now (out .entry)))) r (now (out .entry)) (now (out .exit)) ⌝ }
+    ensures { λ r. ⌜ ReturnsPath (parentCall (now (path .entry)) (length (now (out .entry)))) r (now (out .entry))
+        (now (out .exit)) ⌝ }
 {
     let q = refusal::validate_texts(path, b"", b"");
     if let refusal::Validation::Refused(x) = q {
@@ -69,7 +72,8 @@ pub fn parent(path: &[u8], out: &mut [u8]) -> refusal::Reply
 
 // Writes the path without its property, or without the last selection if it ends in one.
 pub fn prim_path(path: &[u8], out: &mut [u8]) -> refusal::Reply
-    ensures { λ r. ⌜ ReturnsPath (primPathCall (now (path .entry)) (length (now (out .entry)))) r (now (out .entry)) (now (out .exit)) ⌝ }
+    ensures { λ r. ⌜ ReturnsPath (primPathCall (now (path .entry)) (length (now (out .entry)))) r (now (out .entry))
+        (now (out .exit)) ⌝ }
 {
     let q = refusal::validate_texts(path, b"", b"");
     if let refusal::Validation::Refused(x) = q {
@@ -86,7 +90,8 @@ pub fn prim_path(path: &[u8], out: &mut [u8]) -> refusal::Reply
 // Writes the prim path of a property path; the property's name is the text after the dot that follows
 // it.
 pub fn split_property(path: &[u8], out: &mut [u8]) -> refusal::Reply
-    ensures { λ r. ⌜ ReturnsPath (splitPropertyCall (now (path .entry)) (length (now (out .entry)))) r (now (out .entry)) (now (out .exit)) ⌝ }
+    ensures { λ r. ⌜ ReturnsPath (splitPropertyCall (now (path .entry)) (length (now (out .entry)))) r
+        (now (out .entry)) (now (out .exit)) ⌝ }
 {
     let q = refusal::validate_texts(path, b"", b"");
     if let refusal::Validation::Refused(x) = q {
@@ -105,7 +110,8 @@ pub fn split_property(path: &[u8], out: &mut [u8]) -> refusal::Reply
 
 // Writes the path without its variant selections.
 pub fn strip_variant_selections(path: &[u8], out: &mut [u8]) -> refusal::Reply
-    ensures { λ r. ⌜ ReturnsPath (stripCall (now (path .entry)) (length (now (out .entry)))) r (now (out .entry)) (now (out .exit)) ⌝ }
+    ensures { λ r. ⌜ ReturnsPath (stripCall (now (path .entry)) (length (now (out .entry)))) r (now (out .entry))
+        (now (out .exit)) ⌝ }
 {
     let q = refusal::validate_texts(path, b"", b"");
     if let refusal::Validation::Refused(x) = q {
@@ -123,7 +129,8 @@ pub fn strip_variant_selections(path: &[u8], out: &mut [u8]) -> refusal::Reply
 // Writes the lengths of the path and its ancestors; each of them is a prefix of the path.
 pub fn ancestors(path: &[u8], lengths: &mut [usize]) -> refusal::Reply
     ensures { λ r. ⌜ r ≡ ancestorsReply (now (path .entry)) (length (now (lengths .entry))) ⌝ }
-    ensures { λ r. ⌜ now (lengths .exit) ≡ writtenIfAccepted r (ancestorLens (now (path .entry))) (now (lengths .entry)) ⌝ }
+    ensures { λ r. ⌜ now (lengths .exit) ≡ writtenIfAccepted r (ancestorLens (now (path .entry)))
+        (now (lengths .entry)) ⌝ }
 {
     let q = refusal::validate_texts(path, b"", b"");
     if let refusal::Validation::Refused(x) = q {

@@ -1,4 +1,4 @@
--- The grammar of path texts, as data types and their rendering to text. Every value of these types is a path, and a text is legal exactly
+-- Meaning: The grammar of path texts, as data types and their rendering to text. Every value of these types is a path, and a text is legal exactly
 -- if it is the rendering of some path (`LegalIsRendered`, proved in proofs/Theorem.antt).
 use mathlib.Core.Path.{_≡_}
 use mathlib.Core.Bool.{Bool, true, _&&_}

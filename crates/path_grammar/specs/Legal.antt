@@ -1,4 +1,4 @@
--- Legal path texts, as an automaton that reads a text byte by byte. Grammar.antt defines the same texts by data types; proofs/Theorem.antt
+-- Meaning: Legal path texts, as an automaton that reads a text byte by byte. Grammar.antt defines the same texts by data types; proofs/Theorem.antt
 -- proves that the two agree. The bytes: . is 46, / is 47, : is 58, = is 61, _ is 95, { is 123, } is 125.
 use Prim.Native.Nat.{ℕ}
 use mathlib.Core.Bool.{Bool, true, false, not, cond, _&&_, _||_}

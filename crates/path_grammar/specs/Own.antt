@@ -1,4 +1,4 @@
--- What belongs to a path itself: its own part, and whether that has a variant selection or a property.
+-- Meaning: What belongs to a path itself: its own part, and whether that has a variant selection or a property.
 use mathlib.Core.Bool.{Bool, not}
 use Rattle.text.specs.Text.{Text, lacksByte}
 use Rattle.text.specs.Bytes.{dot, openBrace}

@@ -1,4 +1,4 @@
--- The transition table of the automaton: one number for each byte, with six bits for each state that hold the next state. The scan loads
+-- Method: The transition table of the automaton: one number for each byte, with six bits for each state that hold the next state. The scan loads
 -- the number of a byte and shifts it right by the current state.
 use Prim.Native.Nat.{ℕ, _+_, _*_, _^_}
 use mathlib.Core.Path.{_≡_}

@@ -1,4 +1,4 @@
--- Prefix replacement: the new prefix, a separator, and the remainder without its own leading slash. OpenUSD: SdfPath::ReplacePrefix; unlike
+-- Meaning: Prefix replacement: the new prefix, a separator, and the remainder without its own leading slash. OpenUSD: SdfPath::ReplacePrefix; unlike
 -- there, a path without the prefix yields no path here.
 use Prim.Native.Nat.{ℕ}
 use mathlib.Core.Path.{_≡_}

@@ -91,7 +91,8 @@ fn write_slash(k: usize, at: usize, out: &mut [u8])
 // nothing.
 pub fn join(old: &[u8], new: &[u8], rest: &[u8], out: &mut [u8]) -> text::Fit
     ensures { λ r. ⌜ r ≡ fitOf (join (now (old .entry)) (now (new .entry)) (now (rest .entry))) (now (out .entry)) ⌝ }
-    ensures { λ r. ⌜ now (out .exit) ≡ writtenIfFits 0 (join (now (old .entry)) (now (new .entry)) (now (rest .entry))) (now (out .entry)) ⌝ }
+    ensures { λ r. ⌜ now (out .exit) ≡ writtenIfFits 0 (join (now (old .entry)) (now (new .entry)) (now (rest .entry)))
+        (now (out .entry)) ⌝ }
 {
     let n = new.len();
     let room = out.len();

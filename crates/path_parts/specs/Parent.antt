@@ -1,4 +1,4 @@
--- Parents, prim paths, properties and ancestors. All of them are prefixes of the path's own text. OpenUSD: SdfPath::GetParentPath,
+-- Meaning: Parents, prim paths, properties and ancestors. All of them are prefixes of the path's own text. OpenUSD: SdfPath::GetParentPath,
 -- GetPrimPath, GetAncestorsRange.
 use Prim.Native.Nat.{ℕ, zero, suc, _-_}
 use mathlib.Core.Bool.{Bool, not, cond, _&&_, _||_}

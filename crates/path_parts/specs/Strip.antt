@@ -1,4 +1,4 @@
--- The removal of variant selections: `/A{v=p}B.c` becomes `/A/B.c`. OpenUSD: SdfPath::StripAllVariantSelections.
+-- Meaning: The removal of variant selections: `/A{v=p}B.c` becomes `/A/B.c`. OpenUSD: SdfPath::StripAllVariantSelections.
 use Prim.Native.Nat.{ℕ}
 use mathlib.Core.Bool.{Bool, true, false, not, cond}
 use mathlib.Core.List.{[], _∷_, _++_}

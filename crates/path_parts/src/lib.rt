@@ -137,8 +137,10 @@ fn inside_changes(inside: bool, a: u8) -> bool
 fn emit(path: &[u8], i: usize, inside: bool, out: &mut [u8], j: usize) -> usize
     requires { ⌜ i < length (now path) ⌝ }
     requires { ⌜ j < length (now out) ⌝ }
-    ensures { λ r. ⌜ r ≡ j + length (strippedByte inside (getD (now (path .entry)) i 0) (drop (i + 1) (now (path .entry)))) ⌝ }
-    ensures { λ r. ⌜ now (out .exit) ≡ writtenAt j (strippedByte inside (getD (now (path .entry)) i 0) (drop (i + 1) (now (path .entry)))) (now (out .entry)) ⌝ }
+    ensures { λ r. ⌜ r ≡ j + length (strippedByte inside (getD (now (path .entry)) i 0)
+        (drop (i + 1) (now (path .entry)))) ⌝ }
+    ensures { λ r. ⌜ now (out .exit) ≡ writtenAt j
+        (strippedByte inside (getD (now (path .entry)) i 0) (drop (i + 1) (now (path .entry)))) (now (out .entry)) ⌝ }
 {
     if inside {
         if starts_name_after(path, i) {

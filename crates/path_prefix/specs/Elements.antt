@@ -1,4 +1,4 @@
--- The number of elements of a path. Requirements: "Elements are names and selections; `/` and the empty path have none.
+-- Meaning: The number of elements of a path. Requirements: "Elements are names and selections; `/` and the empty path have none.
 -- `prim_element_count` counts names." OpenUSD: SdfPath::GetPathElementCount, which also counts a property; the Rust and the requirements do
 -- not.
 use Prim.Native.Nat.{ℕ, suc, _+_}

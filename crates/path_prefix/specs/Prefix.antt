@@ -1,4 +1,4 @@
--- Path prefixes. OpenUSD: SdfPath::HasPrefix; unlike there, the empty path is a prefix of every path here.
+-- Meaning: Path prefixes. OpenUSD: SdfPath::HasPrefix; unlike there, the empty path is a prefix of every path here.
 use Prim.Native.Nat.{ℕ}
 use mathlib.Core.Bool.{Bool, true, false, _||_}
 use mathlib.Core.List.{[], _∷_}

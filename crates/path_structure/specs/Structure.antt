@@ -1,4 +1,4 @@
--- Parents, prim paths, properties, ancestors and the removal of selections, on the data types of the grammar (crates/path_grammar/specs).
+-- Meaning: Parents, prim paths, properties, ancestors and the removal of selections, on the data types of the grammar (crates/path_grammar/specs).
 -- crates/path_parts defines them on texts, byte by byte; `StructureTheorems` states that the two agree on every path.
 use mathlib.Core.Path.{_≡_}
 use mathlib.Core.Bool.{Bool, true, false, cond}

@@ -1,4 +1,4 @@
--- The outcome of a call that writes a path. Its reply and the contents of the lent buffer afterwards are both derived from this one value.
+-- Meaning: The outcome of a call that writes a path. Its reply and the contents of the lent buffer afterwards are both derived from this one value.
 use mathlib.Core.Path.{_≡_}
 use Prim.Native.Nat.{ℕ}
 use mathlib.Core.Bool.{cond}

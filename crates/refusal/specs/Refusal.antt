@@ -1,4 +1,4 @@
--- Refusals, their numbers and their order, and the validation of texts (questions 1 and 2). Requirements: "The first 'no' gives its number".
+-- Meaning: Refusals, their numbers and their order, and the validation of texts (questions 1 and 2). Requirements: "The first 'no' gives its number".
 use Prim.Native.Nat.{ℕ}
 use mathlib.Core.Bool.{Bool, true, cond, _&&_}
 use mathlib.Core.List.{List, [], _∷_}

@@ -1,4 +1,4 @@
--- The calls that map a path through a relocate list by prefix replacement: validation (questions 1 to 5), then the result.
+-- Meaning: The calls that map a path through a relocate list by prefix replacement: validation (questions 1 to 5), then the result.
 use Prim.Native.Nat.{ℕ}
 use mathlib.Core.Bool.{Bool, cond}
 use mathlib.Core.List.{List, [], _∷_}

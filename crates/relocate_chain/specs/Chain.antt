@@ -1,4 +1,4 @@
--- Chaining: replacing prefixes of a path by the pairs of a relocate list, one pair after another. Requirements: "maps measure a key in
+-- Meaning: Chaining: replacing prefixes of a path by the pairs of a relocate list, one pair after another. Requirements: "maps measure a key in
 -- elements, chaining measures it in bytes".
 use Prim.Native.Nat.{ℕ, zero, suc}
 use mathlib.Core.Bool.{Bool, true, false, cond}

@@ -1,4 +1,4 @@
--- The intermediate values of the code for chaining: the result of the search, the result of one replacement, and the contents of the
+-- Method: The intermediate values of the code for chaining: the result of the search, the result of one replacement, and the contents of the
 -- scratch buffers.
 use Prim.Native.Nat.{ℕ, _≤_}
 use mathlib.Core.Bool.{Bool, cond}

@@ -31,7 +31,9 @@ fn shift_and_copy(
     out: &mut [u8],
 ) -> refusal::Reply
     requires { ⌜ (checked (now endpoint) ≡ path (now endpoint)) × (255 ≤ length (now out)) ⌝ }
-    ensures { λ r. ⌜ ReturnsPath (checked (shiftThroughNearestAncestor (pairsIn (now (store .entry)) (now (places .entry)) n) (now (endpoint .entry)))) r (now (out .entry)) (now (out .exit)) ⌝ }
+    ensures { λ r. ⌜ ReturnsPath (checked
+        (shiftThroughNearestAncestor (pairsIn (now (store .entry)) (now (places .entry)) n) (now (endpoint .entry)))) r
+        (now (out .entry)) (now (out .exit)) ⌝ }
 {
     let mut made = [0u8; 255];
     let s = steps::replace_once(store, places, n, false, true, endpoint, endpoint, &mut made);
@@ -57,7 +59,8 @@ pub fn shift_through_nearest_ancestor(
     endpoint: &[u8],
     out: &mut [u8],
 ) -> refusal::Reply
-    ensures { λ r. ⌜ ReturnsPath (shiftCall (lentList (now (store .entry)) (now (places .entry)) count) (now (endpoint .entry)) (length (now (out .entry)))) r (now (out .entry)) (now (out .exit)) ⌝ }
+    ensures { λ r. ⌜ ReturnsPath (shiftCall (lentList (now (store .entry)) (now (places .entry)) count)
+        (now (endpoint .entry)) (length (now (out .entry)))) r (now (out .entry)) (now (out .exit)) ⌝ }
 {
     let q = validate::validate_list_and_path(store, places, count, endpoint);
     if let refusal::Validation::Refused(x) = q {
@@ -90,8 +93,11 @@ fn chain_and_copy(
     out: &mut [u8],
 ) -> Chain
     requires { ⌜ (length (now path) ≤ 255) × (255 ≤ length (now out)) ⌝ }
-    ensures { λ r. ⌜ r ≡ chainReply (chain (skippedSource skips (now (skipped .entry))) (pairsIn (now (store .entry)) (now (places .entry)) n) (now (path .entry))) ⌝ }
-    ensures { λ r. ⌜ now (out .exit) ≡ chainBuffer (chain (skippedSource skips (now (skipped .entry))) (pairsIn (now (store .entry)) (now (places .entry)) n) (now (path .entry))) (now (out .entry)) ⌝ }
+    ensures { λ r. ⌜ r ≡ chainReply (chain (skippedSource skips (now (skipped .entry)))
+        (pairsIn (now (store .entry)) (now (places .entry)) n) (now (path .entry))) ⌝ }
+    ensures { λ r. ⌜ now (out .exit) ≡ chainBuffer
+        (chain (skippedSource skips (now (skipped .entry))) (pairsIn (now (store .entry)) (now (places .entry)) n)
+        (now (path .entry))) (now (out .entry)) ⌝ }
 {
     let mut current = [0u8; 255];
     let c = steps::chain_into(store, places, n, skips, skipped, path, &mut current);
@@ -116,8 +122,12 @@ pub fn chain_through_relocates(
     path: &[u8],
     out: &mut [u8],
 ) -> Chain
-    ensures { λ r. ⌜ r ≡ chainReply (chainCall (lentList (now (store .entry)) (now (places .entry)) count) (skippedSource skips (now (skipped .entry))) (now (path .entry)) (length (now (out .entry)))) ⌝ }
-    ensures { λ r. ⌜ now (out .exit) ≡ chainBuffer (chainCall (lentList (now (store .entry)) (now (places .entry)) count) (skippedSource skips (now (skipped .entry))) (now (path .entry)) (length (now (out .entry)))) (now (out .entry)) ⌝ }
+    ensures { λ r. ⌜ r ≡ chainReply (chainCall (lentList (now (store .entry)) (now (places .entry)) count)
+        (skippedSource skips (now (skipped .entry))) (now (path .entry)) (length (now (out .entry)))) ⌝ }
+    ensures { λ r. ⌜ now (out .exit) ≡ chainBuffer
+        (chainCall (lentList (now (store .entry)) (now (places .entry)) count)
+        (skippedSource skips (now (skipped .entry))) (now (path .entry)) (length (now (out .entry))))
+        (now (out .entry)) ⌝ }
 {
     let e = &path[..0];
     let k = skipped_text(skips, skipped);

@@ -45,7 +45,9 @@ fn is_skipped(skips: bool, skipped: &[u8], source: &[u8]) -> bool
 // Returns whether the path has the old prefix and, if `alters` is set, whether replacing that prefix changes
 // the path.
 fn replaces(alters: bool, path: &[u8], old: &[u8], new: &[u8]) -> bool
-    ensures { λ r. ⌜ r ≡ isSome (cond alters (ifAltered (now (path .entry)) (replacePrefix (now (path .entry)) (now (old .entry)) (now (new .entry)))) (replacePrefix (now (path .entry)) (now (old .entry)) (now (new .entry)))) ⌝ }
+    ensures { λ r. ⌜ r ≡ isSome (cond alters
+        (ifAltered (now (path .entry)) (replacePrefix (now (path .entry)) (now (old .entry)) (now (new .entry))))
+        (replacePrefix (now (path .entry)) (now (old .entry)) (now (new .entry)))) ⌝ }
 {
     if !path_prefix::has_prefix(path, old) {
         return false;
@@ -66,7 +68,8 @@ fn is_candidate(
     old: &[u8],
     new: &[u8],
 ) -> bool
-    ensures { λ r. ⌜ r ≡ isSome (replacement alters (skippedSource skips (now (skipped .entry))) (now (path .entry)) (pair (now (old .entry)) (now (new .entry)))) ⌝ }
+    ensures { λ r. ⌜ r ≡ isSome (replacement alters (skippedSource skips (now (skipped .entry))) (now (path .entry))
+        (pair (now (old .entry)) (now (new .entry)))) ⌝ }
 {
     if new.len() == 0 {
         return false;
@@ -108,7 +111,9 @@ fn longest_source(
     skipped: &[u8],
     path: &[u8],
 ) -> Longest
-    ensures { λ r. ⌜ longestIndex r ≡ longestSource (replacement alters (skippedSource skips (now (skipped .entry))) (now (path .entry))) (pairsIn (now (store .entry)) (now (places .entry)) n) n ⌝ }
+    ensures { λ r. ⌜ longestIndex r ≡ longestSource
+        (replacement alters (skippedSource skips (now (skipped .entry))) (now (path .entry)))
+        (pairsIn (now (store .entry)) (now (places .entry)) n) n ⌝ }
 {
     let mut f = Longest {
         found: false,
@@ -143,8 +148,12 @@ pub(crate) fn replace_once(
     made: &mut [u8],
 ) -> Step
     requires { ⌜ length (now made) ≡ 255 ⌝ }
-    ensures { λ r. ⌜ r ≡ stepReply (longestReplacement (replacement alters (skippedSource skips (now (skipped .entry))) (now (path .entry))) (pairsIn (now (store .entry)) (now (places .entry)) n)) ⌝ }
-    ensures { λ r. ⌜ now (made .exit) ≡ stepBuffer (longestReplacement (replacement alters (skippedSource skips (now (skipped .entry))) (now (path .entry))) (pairsIn (now (store .entry)) (now (places .entry)) n)) (now (made .entry)) ⌝ }
+    ensures { λ r. ⌜ r ≡ stepReply (longestReplacement
+        (replacement alters (skippedSource skips (now (skipped .entry))) (now (path .entry)))
+        (pairsIn (now (store .entry)) (now (places .entry)) n)) ⌝ }
+    ensures { λ r. ⌜ now (made .exit) ≡ stepBuffer
+        (longestReplacement (replacement alters (skippedSource skips (now (skipped .entry))) (now (path .entry)))
+        (pairsIn (now (store .entry)) (now (places .entry)) n)) (now (made .entry)) ⌝ }
 {
     let f = longest_source(store, places, n, alters, skips, skipped, path);
     if !f.found {
@@ -174,7 +183,8 @@ pub(crate) fn chain_into(
     current: &mut [u8],
 ) -> crate::Chain
     requires { ⌜ (length (now path) ≤ 255) × (length (now current) ≡ 255) ⌝ }
-    ensures { λ r. ⌜ chainInBuffer r (now (current .exit)) ≡ chain (skippedSource skips (now (skipped .entry))) (pairsIn (now (store .entry)) (now (places .entry)) n) (now (path .entry)) ⌝ }
+    ensures { λ r. ⌜ chainInBuffer r (now (current .exit)) ≡ chain (skippedSource skips (now (skipped .entry)))
+        (pairsIn (now (store .entry)) (now (places .entry)) n) (now (path .entry)) ⌝ }
     ensures { λ r. ⌜ chainWithin r 255 ⌝ }
 {
     let mut made = [0u8; 255];

@@ -1,4 +1,4 @@
--- The call that returns the statuses of a relocate list: validation (questions 1 to 5), then the result.
+-- Meaning: The call that returns the statuses of a relocate list: validation (questions 1 to 5), then the result.
 use Prim.Native.Nat.{ℕ}
 use mathlib.Core.Bool.{cond}
 use mathlib.Core.List.{[], _∷_}

@@ -1,4 +1,4 @@
--- An intermediate result of the code: the statuses before the search for conflicts, in a scratch buffer.
+-- Method: An intermediate result of the code: the statuses before the search for conflicts, in a scratch buffer.
 use mathlib.Core.Path.{_≡_}
 use Prim.Native.Nat.{ℕ, _<_}
 use mathlib.Core.List.{List}

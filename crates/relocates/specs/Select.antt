@@ -1,4 +1,4 @@
--- The Active pairs of a lent list, as indices into the list. proofs/ActiveLaws.antt proves that they select the pairs of `active`.
+-- Method: The Active pairs of a lent list, as indices into the list. proofs/ActiveLaws.antt proves that they select the pairs of `active`.
 use Prim.Native.Nat.{ℕ}
 use mathlib.Core.Bool.{cond}
 use mathlib.Core.List.{List, []}

@@ -1,4 +1,4 @@
--- A relocate's status: whether a pair written into a layer stack takes part in composition. OpenUSD: Pcp_ComputeRelocationsForLayerStack.
+-- Meaning: A relocate's status: whether a pair written into a layer stack takes part in composition. OpenUSD: Pcp_ComputeRelocationsForLayerStack.
 use Prim.Native.Nat.{ℕ, zero, suc}
 use mathlib.Core.Bool.{Bool, false, not, cond, _&&_, _||_}
 use mathlib.Core.List.{List, [], _∷_, _++_}

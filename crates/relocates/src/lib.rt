@@ -24,8 +24,10 @@ pub fn analyze_relocate_occurrences(
     count: usize,
     out: &mut [u8],
 ) -> refusal::Reply
-    ensures { λ r. ⌜ r ≡ analyzeReply (lentList (now (store .entry)) (now (places .entry)) count) (length (now (out .entry))) ⌝ }
-    ensures { λ r. ⌜ now (out .exit) ≡ analyzeBuffer r (lentList (now (store .entry)) (now (places .entry)) count) (now (out .entry)) ⌝ }
+    ensures { λ r. ⌜ r ≡ analyzeReply (lentList (now (store .entry)) (now (places .entry)) count)
+        (length (now (out .entry))) ⌝ }
+    ensures { λ r. ⌜ now (out .exit) ≡ analyzeBuffer r (lentList (now (store .entry)) (now (places .entry)) count)
+        (now (out .entry)) ⌝ }
 {
     let q = validate::validate_list_and_path(store, places, count, b"");
     if let refusal::Validation::Refused(x) = q {

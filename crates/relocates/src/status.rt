@@ -86,7 +86,8 @@ fn is_target_below(target: &[u8], other: &[u8]) -> bool
 
 // Returns whether the source lies strictly below the other source.
 fn is_source_below(source: &[u8], other: &[u8]) -> bool
-    ensures { λ r. ⌜ r ≡ (not (equal (now (source .entry)) (now (other .entry))) && hasPrefix (now (source .entry)) (now (other .entry))) ⌝ }
+    ensures { λ r. ⌜ r ≡ (not (equal (now (source .entry)) (now (other .entry))) && hasPrefix (now (source .entry))
+        (now (other .entry))) ⌝ }
 {
     if text::is_equal(source, other) {
         return false;
@@ -96,7 +97,8 @@ fn is_source_below(source: &[u8], other: &[u8]) -> bool
 
 // Returns whether the pair (sa, ta) conflicts with the pair (sb, tb).
 pub fn relocate_pair_conflicts(sa: &[u8], ta: &[u8], sb: &[u8], tb: &[u8]) -> bool
-    ensures { λ r. ⌜ r ≡ pairConflicts (pair (now (sa .entry)) (now (ta .entry))) (pair (now (sb .entry)) (now (tb .entry))) ⌝ }
+    ensures { λ r. ⌜ r ≡ pairConflicts (pair (now (sa .entry)) (now (ta .entry)))
+        (pair (now (sb .entry)) (now (tb .entry))) ⌝ }
 {
     if is_target_below(ta, sb) {
         return true;
@@ -110,7 +112,8 @@ pub fn relocate_pair_conflicts(sa: &[u8], ta: &[u8], sb: &[u8], tb: &[u8]) -> bo
 // Returns whether pair i conflicts with another pair j, or has the same non-empty target. `first` is the
 // status of pair j before the search for conflicts: 0 if j is neither structural nor a duplicate.
 fn conflicts_with(store: &[u8], places: &[usize], i: usize, j: usize, first: u8) -> bool
-    ensures { λ r. ⌜ r ≡ (not (eqb i j) && eqb first 0 && conflictsWith (pairIn (now (store .entry)) (now (places .entry)) i) (pairIn (now (store .entry)) (now (places .entry)) j)) ⌝ }
+    ensures { λ r. ⌜ r ≡ (not (eqb i j) && eqb first 0 && conflictsWith
+        (pairIn (now (store .entry)) (now (places .entry)) i) (pairIn (now (store .entry)) (now (places .entry)) j)) ⌝ }
 {
     if i == j {
         return false;
@@ -158,7 +161,8 @@ pub fn status_byte(o: crate::RelocateOccurrence) -> u8
 // Writes the status bytes of the first n pairs before the search for conflicts.
 fn write_initial(store: &[u8], places: &[usize], n: usize, out: &mut [u8])
     requires { ⌜ n ≤ length (now out) ⌝ }
-    ensures { λ _. ⌜ now (out .exit) ≡ written (initialStatuses (pairsIn (now (store .entry)) (now (places .entry)) n) n) (now (out .entry)) ⌝ }
+    ensures { λ _. ⌜ now (out .exit) ≡ written
+        (initialStatuses (pairsIn (now (store .entry)) (now (places .entry)) n) n) (now (out .entry)) ⌝ }
 {
     let mut i = 0;
     while i < n {
@@ -172,7 +176,8 @@ fn write_initial(store: &[u8], places: &[usize], n: usize, out: &mut [u8])
 fn write_conflicts(store: &[u8], places: &[usize], n: usize, first: &[u8; 64], out: &mut [u8])
     requires { ⌜ (n ≤ 64) × (n ≤ length (now out)) ⌝ }
     requires { ⌜ HoldsInitialStatuses (pairsIn (now store) (now places) n) (now first) ⌝ }
-    ensures { λ _. ⌜ now (out .exit) ≡ written (statusList (pairsIn (now (store .entry)) (now (places .entry)) n) n) (now (out .entry)) ⌝ }
+    ensures { λ _. ⌜ now (out .exit) ≡ written (statusList (pairsIn (now (store .entry)) (now (places .entry)) n) n)
+        (now (out .entry)) ⌝ }
 {
     let mut i = 0;
     'pairs: while i < n {
@@ -199,7 +204,8 @@ fn write_conflicts(store: &[u8], places: &[usize], n: usize, first: &[u8; 64], o
 // Writes the status bytes of the first n pairs. Requires n ≤ 64.
 pub(crate) fn write_statuses(store: &[u8], places: &[usize], n: usize, out: &mut [u8])
     requires { ⌜ (n ≤ 64) × (n ≤ length (now out)) ⌝ }
-    ensures { λ _. ⌜ now (out .exit) ≡ written (statusList (pairsIn (now (store .entry)) (now (places .entry)) n) n) (now (out .entry)) ⌝ }
+    ensures { λ _. ⌜ now (out .exit) ≡ written (statusList (pairsIn (now (store .entry)) (now (places .entry)) n) n)
+        (now (out .entry)) ⌝ }
 {
     let mut first = [0u8; 64];
     write_initial(store, places, n, &mut first);
@@ -211,7 +217,8 @@ pub(crate) fn write_statuses(store: &[u8], places: &[usize], n: usize, out: &mut
 fn keep_active(places: &[usize], i: usize, status: u8, kept: &mut [usize], w: usize) -> usize
     requires { ⌜ w < length (now kept) ⌝ }
     ensures { λ r. ⌜ r ≡ cond (eqb status 0) (w + 1) w ⌝ }
-    ensures { λ r. ⌜ now (kept .exit) ≡ cond (eqb status 0) (copyEntry (now (places .entry)) i w (now (kept .entry))) (now (kept .entry)) ⌝ }
+    ensures { λ r. ⌜ now (kept .exit) ≡ cond (eqb status 0) (copyEntry (now (places .entry)) i w (now (kept .entry)))
+        (now (kept .entry)) ⌝ }
 {
     if status != 0 {
         return w;
@@ -223,8 +230,11 @@ fn keep_active(places: &[usize], i: usize, status: u8, kept: &mut [usize], w: us
 // Writes the places of the Active pairs among the first n and returns their number; 0, with nothing written,
 // if question 4 refuses the list or `kept` cannot hold 64 pairs.
 pub fn active_pairs(store: &[u8], places: &[usize], n: usize, kept: &mut [usize]) -> usize
-    ensures { λ r. ⌜ r ≡ length (activeSelection (lentList (now (store .entry)) (now (places .entry)) n) (length (now (kept .entry)))) ⌝ }
-    ensures { λ r. ⌜ now (kept .exit) ≡ writtenEntries (now (places .entry)) (activeSelection (lentList (now (store .entry)) (now (places .entry)) n) (length (now (kept .entry)))) (now (kept .entry)) ⌝ }
+    ensures { λ r. ⌜ r ≡ length (activeSelection (lentList (now (store .entry)) (now (places .entry)) n)
+        (length (now (kept .entry)))) ⌝ }
+    ensures { λ r. ⌜ now (kept .exit) ≡ writtenEntries (now (places .entry))
+        (activeSelection (lentList (now (store .entry)) (now (places .entry)) n) (length (now (kept .entry))))
+        (now (kept .entry)) ⌝ }
 {
     if !validate::can_select(places, n, kept.len()) {
         return 0;

@@ -1,4 +1,4 @@
--- The route calls: validation, then the route. Requirements: "On a route 6, 7 and 8 are put to each leg before the next one".
+-- Meaning: The route calls: validation, then the route. Requirements: "On a route 6, 7 and 8 are put to each leg before the next one".
 use Prim.Native.Nat.{ℕ}
 use mathlib.Core.Bool.{Bool}
 use mathlib.Core.List.{[], _∷_}

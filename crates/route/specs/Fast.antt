@@ -1,4 +1,4 @@
--- The route as the code computes it, over legs that are all maps: each leg by the fast mapping of crates/map_apply. proofs/FastLaws.antt
+-- Method: The route as the code computes it, over legs that are all maps: each leg by the fast mapping of crates/map_apply. proofs/FastLaws.antt
 -- proves that the result is that of the definitions.
 use mathlib.Core.Path.{_≡_}
 use Prim.Native.Nat.{ℕ, zero, suc, _≤_}

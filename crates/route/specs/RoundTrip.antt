@@ -1,4 +1,4 @@
--- The round-trip requirement (demand 3) for the calls themselves: their replies and the lent buffers after them are determined by
+-- Meaning: The round-trip requirement (demand 3) for the calls themselves: their replies and the lent buffers after them are determined by
 -- `routeCall` (the contracts in src/lib.rt), so these statements are about the code. Proved in proofs/Corollary.antt.
 use mathlib.Core.Path.{_≡_}
 use mathlib.Core.Logic.{_↔_}

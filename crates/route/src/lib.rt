@@ -19,7 +19,9 @@ fn map_leg(
     path: &[u8],
     made: &mut [u8; 255],
 ) -> refusal::Reply
-    ensures { λ r. ⌜ ReturnsPath (legFast home (mapAt (lentRoute (now (store .entry)) (now (places .entry)) (now (legs .entry)) k) k) (now (path .entry))) r (now (made .entry)) (now (made .exit)) ⌝ }
+    ensures { λ r. ⌜ ReturnsPath (legFast home
+        (mapAt (lentRoute (now (store .entry)) (now (places .entry)) (now (legs .entry)) k) k) (now (path .entry))) r
+        (now (made .entry)) (now (made .exit)) ⌝ }
 {
     let list = route_legs::leg_places(places, legs, k);
     let n = route_legs::size_at(legs, k);
@@ -41,7 +43,9 @@ fn run_legs(
     len: usize,
 ) -> refusal::Reply
     requires { ⌜ (len ≤ 255) × (length (now here) ≡ 255) ⌝ }
-    ensures { λ r. ⌜ HoldsOutcome (legFast home (mapAt (lentRoute (now (store .entry)) (now (places .entry)) (now (legs .entry)) k) k) (take len (now (here .entry)))) r (now (here .exit)) ⌝ }
+    ensures { λ r. ⌜ HoldsOutcome (legFast home
+        (mapAt (lentRoute (now (store .entry)) (now (places .entry)) (now (legs .entry)) k) k)
+        (take len (now (here .entry)))) r (now (here .exit)) ⌝ }
 {
     let mut made = [0u8; 255];
     let r = map_leg(store, places, legs, k, home, &here[..len], &mut made);
@@ -62,7 +66,9 @@ fn run_out(
     len: usize,
 ) -> refusal::Reply
     requires { ⌜ (len ≤ 255) × (length (now here) ≡ 255) ⌝ }
-    ensures { λ r. ⌜ HoldsOutcome (runRouteFast false (lentRoute (now (store .entry)) (now (places .entry)) (now (legs .entry)) n) n (take len (now (here .entry)))) r (now (here .exit)) ⌝ }
+    ensures { λ r. ⌜ HoldsOutcome (runRouteFast false
+        (lentRoute (now (store .entry)) (now (places .entry)) (now (legs .entry)) n) n (take len (now (here .entry)))) r
+        (now (here .exit)) ⌝ }
 {
     let mut at = len;
     let mut k = 0;
@@ -87,7 +93,9 @@ fn run_home(
     len: usize,
 ) -> refusal::Reply
     requires { ⌜ (len ≤ 255) × (length (now here) ≡ 255) ⌝ }
-    ensures { λ r. ⌜ HoldsOutcome (runRouteFast true (lentRoute (now (store .entry)) (now (places .entry)) (now (legs .entry)) n) n (take len (now (here .entry)))) r (now (here .exit)) ⌝ }
+    ensures { λ r. ⌜ HoldsOutcome (runRouteFast true
+        (lentRoute (now (store .entry)) (now (places .entry)) (now (legs .entry)) n) n (take len (now (here .entry)))) r
+        (now (here .exit)) ⌝ }
 {
     let mut at = len;
     let mut k = n;
@@ -113,7 +121,9 @@ fn run_direction(
     len: usize,
 ) -> refusal::Reply
     requires { ⌜ (len ≤ 255) × (length (now here) ≡ 255) ⌝ }
-    ensures { λ r. ⌜ HoldsOutcome (runRouteFast home (lentRoute (now (store .entry)) (now (places .entry)) (now (legs .entry)) n) n (take len (now (here .entry)))) r (now (here .exit)) ⌝ }
+    ensures { λ r. ⌜ HoldsOutcome (runRouteFast home
+        (lentRoute (now (store .entry)) (now (places .entry)) (now (legs .entry)) n) n (take len (now (here .entry)))) r
+        (now (here .exit)) ⌝ }
 {
     if home {
         return run_home(store, places, legs, n, here, len);
@@ -161,7 +171,9 @@ fn run_path(
     out: &mut [u8],
 ) -> refusal::Reply
     requires { ⌜ (length (now path) ≤ 255) × (255 ≤ length (now out)) ⌝ }
-    ensures { λ r. ⌜ ReturnsPath (runRouteFast home (lentRoute (now (store .entry)) (now (places .entry)) (now (legs .entry)) n) n (enteringPath home n (now (path .entry)))) r (now (out .entry)) (now (out .exit)) ⌝ }
+    ensures { λ r. ⌜ ReturnsPath (runRouteFast home
+        (lentRoute (now (store .entry)) (now (places .entry)) (now (legs .entry)) n) n
+        (enteringPath home n (now (path .entry)))) r (now (out .entry)) (now (out .exit)) ⌝ }
 {
     let mut here = [0u8; 255];
     let len = enter_route(home, n, path, &mut here);
@@ -185,7 +197,9 @@ pub fn route_after(
     path: &[u8],
     out: &mut [u8],
 ) -> refusal::Reply
-    ensures { λ r. ⌜ ReturnsPath (afterRouteValidated list home (lentRoute (now (store .entry)) (now (places .entry)) (now (legs .entry)) n) (now (path .entry)) (length (now (out .entry)))) r (now (out .entry)) (now (out .exit)) ⌝ }
+    ensures { λ r. ⌜ ReturnsPath (afterRouteValidated list home
+        (lentRoute (now (store .entry)) (now (places .entry)) (now (legs .entry)) n) (now (path .entry))
+        (length (now (out .entry)))) r (now (out .entry)) (now (out .exit)) ⌝ }
 {
     let q = validate::first_refusal(list, path::new(path));
     if let refusal::Validation::Refused(x) = q {
@@ -218,7 +232,9 @@ fn route_call(
     path: &[u8],
     out: &mut [u8],
 ) -> refusal::Reply
-    ensures { λ r. ⌜ ReturnsPath (routeCall home (lentRoute (now (store .entry)) (now (places .entry)) (now (legs .entry)) n) (now (path .entry)) (length (now (out .entry)))) r (now (out .entry)) (now (out .exit)) ⌝ }
+    ensures { λ r. ⌜ ReturnsPath (routeCall home
+        (lentRoute (now (store .entry)) (now (places .entry)) (now (legs .entry)) n) (now (path .entry))
+        (length (now (out .entry)))) r (now (out .entry)) (now (out .exit)) ⌝ }
 {
     let list = route_legs::validate_legs(store, places, legs, n);
     if !needs_maps(list, legs, n) {
@@ -239,7 +255,9 @@ pub fn route_out(
     path: &[u8],
     out: &mut [u8],
 ) -> refusal::Reply
-    ensures { λ r. ⌜ ReturnsPath (routeCall false (lentRoute (now (store .entry)) (now (places .entry)) (now (legs .entry)) n) (now (path .entry)) (length (now (out .entry)))) r (now (out .entry)) (now (out .exit)) ⌝ }
+    ensures { λ r. ⌜ ReturnsPath (routeCall false
+        (lentRoute (now (store .entry)) (now (places .entry)) (now (legs .entry)) n) (now (path .entry))
+        (length (now (out .entry)))) r (now (out .entry)) (now (out .exit)) ⌝ }
 {
     route_call(store, places, legs, n, false, path, out)
 }
@@ -253,7 +271,9 @@ pub fn route_home(
     path: &[u8],
     out: &mut [u8],
 ) -> refusal::Reply
-    ensures { λ r. ⌜ ReturnsPath (routeCall true (lentRoute (now (store .entry)) (now (places .entry)) (now (legs .entry)) n) (now (path .entry)) (length (now (out .entry)))) r (now (out .entry)) (now (out .exit)) ⌝ }
+    ensures { λ r. ⌜ ReturnsPath (routeCall true
+        (lentRoute (now (store .entry)) (now (places .entry)) (now (legs .entry)) n) (now (path .entry))
+        (length (now (out .entry)))) r (now (out .entry)) (now (out .exit)) ⌝ }
 {
     route_call(store, places, legs, n, true, path, out)
 }

@@ -1,4 +1,4 @@
--- A route as the caller lends it: one byte store and one slice of places for all legs, and three numbers for each leg: its kind (0 a map, 1
+-- Meaning: A route as the caller lends it: one byte store and one slice of places for all legs, and three numbers for each leg: its kind (0 a map, 1
 -- a map with the root-identity mark, any other number a relocate list), the index of its first pair in the places, and its number of pairs.
 -- Only this file reads that layout; all other definitions are on `List Leg`.
 use Prim.Native.Nat.{ℕ, zero, suc, _+_, _*_, _/_}

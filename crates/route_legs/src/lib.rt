@@ -79,7 +79,8 @@ fn present_legs(legs: &[usize], count: usize) -> usize
 
 // Validates the number of legs (question 4).
 fn validate_count(legs: &[usize], count: usize) -> refusal::Validation
-    ensures { λ r. ⌜ r ≡ cond (legCountWithinLimit (lentRoute [] [] (now (legs .entry)) count)) Passed (Refused TooMany) ⌝ }
+    ensures { λ r. ⌜ r ≡ cond (legCountWithinLimit (lentRoute [] [] (now (legs .entry)) count)) Passed
+        (Refused TooMany) ⌝ }
 {
     if 16 < count {
         return refusal::Validation::Refused(refusal::Refusal::TooMany);
@@ -92,7 +93,8 @@ fn validate_count(legs: &[usize], count: usize) -> refusal::Validation
 
 // Validates the list of leg k (questions 1 to 4).
 fn validate_leg(store: &[u8], places: &[usize], legs: &[usize], k: usize) -> refusal::Validation
-    ensures { λ r. ⌜ r ≡ validateCall (listAt (lentRoute (now (store .entry)) (now (places .entry)) (now (legs .entry)) k) k ∷ []) [] [] ⌝ }
+    ensures { λ r. ⌜ r ≡ validateCall (listAt
+        (lentRoute (now (store .entry)) (now (places .entry)) (now (legs .entry)) k) k ∷ []) [] [] ⌝ }
 {
     validate::validate_list(store, leg_places(places, legs, k), size_at(legs, k))
 }
@@ -104,7 +106,8 @@ fn validate_leg_lists(
     legs: &[usize],
     n: usize,
 ) -> refusal::Validation
-    ensures { λ r. ⌜ r ≡ validateCall (listsIn (lentRoute (now (store .entry)) (now (places .entry)) (now (legs .entry)) n) n) [] [] ⌝ }
+    ensures { λ r. ⌜ r ≡ validateCall (listsIn
+        (lentRoute (now (store .entry)) (now (places .entry)) (now (legs .entry)) n) n) [] [] ⌝ }
 {
     let mut q = refusal::Validation::Passed;
     let mut k = 0;
@@ -122,7 +125,8 @@ pub fn validate_legs(
     legs: &[usize],
     count: usize,
 ) -> refusal::Validation
-    ensures { λ r. ⌜ r ≡ validateRoute (lentRoute (now (store .entry)) (now (places .entry)) (now (legs .entry)) count) [] ⌝ }
+    ensures { λ r. ⌜ r ≡ validateRoute (lentRoute (now (store .entry)) (now (places .entry)) (now (legs .entry)) count)
+        [] ⌝ }
 {
     let q = validate_leg_lists(store, places, legs, present_legs(legs, count));
     validate::first_refusal(q, validate_count(legs, count))

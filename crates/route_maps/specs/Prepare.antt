@@ -1,4 +1,4 @@
--- The lent buffers after `prepare_legs`: for each leg a block of 256 entries, the places of the pairs of its map, and three numbers in a table.
+-- Method: The lent buffers after `prepare_legs`: for each leg a block of 256 entries, the places of the pairs of its map, and three numbers in a table.
 -- proofs/ReadLaws.antt proves that the maps prepared are those of the legs.
 use Prim.Native.Nat.{ℕ, zero, suc, _*_}
 use mathlib.Core.Bool.{Bool, true, cond, _&&_}

@@ -1,4 +1,4 @@
--- A route in which every leg is a map, as the code processes it, and when such a route is equivalent to a route that also has relocate
+-- Method: A route in which every leg is a map, as the code processes it, and when such a route is equivalent to a route that also has relocate
 -- lists.
 use mathlib.Core.Path.{_≡_}
 use Prim.Native.Nat.{ℕ, _<_}

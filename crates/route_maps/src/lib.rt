@@ -29,7 +29,8 @@ pub fn has_relocates(legs: &[usize], n: usize) -> bool
 // Copies the places of the first n pairs.
 fn copy_pairs(places: &[usize], n: usize, block: &mut [usize])
     requires { ⌜ (4 * n ≤ length (now places)) × (4 * n ≤ length (now block)) ⌝ }
-    ensures { λ _. ⌜ now (block .exit) ≡ writtenEntries (now (places .entry)) (indicesWhere (λ (i : ℕ). true) n) (now (block .entry)) ⌝ }
+    ensures { λ _. ⌜ now (block .exit) ≡ writtenEntries (now (places .entry)) (indicesWhere (λ (i : ℕ). true) n)
+        (now (block .entry)) ⌝ }
 {
     let mut i = 0;
     while i < n {
@@ -40,8 +41,12 @@ fn copy_pairs(places: &[usize], n: usize, block: &mut [usize])
 
 // Writes the places of the pairs of a relocate list's map and returns their number.
 fn prepare_relocates(store: &[u8], places: &[usize], n: usize, block: &mut [usize]) -> usize
-    ensures { λ r. ⌜ r ≡ length (canonicalSelection (activeList (lentList (now (store .entry)) (now (places .entry)) n)) true (length (now (block .entry)))) ⌝ }
-    ensures { λ r. ⌜ now (block .exit) ≡ writtenEntries ((activeList (lentList (now (store .entry)) (now (places .entry)) n)) .places) (canonicalSelection (activeList (lentList (now (store .entry)) (now (places .entry)) n)) true (length (now (block .entry)))) (now (block .entry)) ⌝ }
+    ensures { λ r. ⌜ r ≡ length (canonicalSelection (activeList (lentList (now (store .entry)) (now (places .entry)) n))
+        true (length (now (block .entry)))) ⌝ }
+    ensures { λ r. ⌜ now (block .exit) ≡ writtenEntries
+        ((activeList (lentList (now (store .entry)) (now (places .entry)) n)) .places)
+        (canonicalSelection (activeList (lentList (now (store .entry)) (now (places .entry)) n)) true
+        (length (now (block .entry)))) (now (block .entry)) ⌝ }
 {
     let mut active = [0usize; 256];
     let w = relocates::status::active_pairs(store, places, n, &mut active);
@@ -56,8 +61,10 @@ fn prepare_pairs(
     n: usize,
     block: &mut [usize],
 ) -> usize
-    ensures { λ r. ⌜ r ≡ length (legSelection kind (lentList (now (store .entry)) (now (places .entry)) n) (length (now (block .entry)))) ⌝ }
-    ensures { λ r. ⌜ now (block .exit) ≡ legBlock kind (lentList (now (store .entry)) (now (places .entry)) n) (now (block .entry)) ⌝ }
+    ensures { λ r. ⌜ r ≡ length (legSelection kind (lentList (now (store .entry)) (now (places .entry)) n)
+        (length (now (block .entry)))) ⌝ }
+    ensures { λ r. ⌜ now (block .exit) ≡ legBlock kind (lentList (now (store .entry)) (now (places .entry)) n)
+        (now (block .entry)) ⌝ }
 {
     if 2 <= kind {
         return prepare_relocates(store, places, n, block);
@@ -91,8 +98,13 @@ fn prepare_leg(
 )
     requires { ⌜ k < 16 ⌝ }
     requires { ⌜ (length (now made) ≡ 4096) × (length (now table) ≡ 48) ⌝ }
-    ensures { λ _. ⌜ now (made .exit) ≡ writtenAt (256 * k) (legBlock (kindAt (now (legs .entry)) k) (listAt (lentRoute (now (store .entry)) (now (places .entry)) (now (legs .entry)) 0) k) (take 256 (drop (256 * k) (now (made .entry))))) (now (made .entry)) ⌝ }
-    ensures { λ _. ⌜ now (table .exit) ≡ writtenAt (3 * k) (preparedEntry (lentRoute (now (store .entry)) (now (places .entry)) (now (legs .entry)) 0) k) (now (table .entry)) ⌝ }
+    ensures { λ _. ⌜ now (made .exit) ≡ writtenAt (256 * k)
+        (legBlock (kindAt (now (legs .entry)) k)
+        (listAt (lentRoute (now (store .entry)) (now (places .entry)) (now (legs .entry)) 0) k)
+        (take 256 (drop (256 * k) (now (made .entry))))) (now (made .entry)) ⌝ }
+    ensures { λ _. ⌜ now (table .exit) ≡ writtenAt (3 * k)
+        (preparedEntry (lentRoute (now (store .entry)) (now (places .entry)) (now (legs .entry)) 0) k)
+        (now (table .entry)) ⌝ }
 {
     let kind = route_legs::kind_at(legs, k);
     let part = route_legs::leg_places(places, legs, k);
@@ -118,8 +130,12 @@ pub fn prepare_legs(
     made: &mut [usize],
     table: &mut [usize],
 )
-    ensures { λ _. ⌜ now (made .exit) ≡ placesAfterPrepare (lentRoute (now (store .entry)) (now (places .entry)) (now (legs .entry)) n) (now (made .entry)) (now (table .entry)) ⌝ }
-    ensures { λ _. ⌜ now (table .exit) ≡ tableAfterPrepare (lentRoute (now (store .entry)) (now (places .entry)) (now (legs .entry)) n) (now (made .entry)) (now (table .entry)) ⌝ }
+    ensures { λ _. ⌜ now (made .exit) ≡ placesAfterPrepare
+        (lentRoute (now (store .entry)) (now (places .entry)) (now (legs .entry)) n) (now (made .entry))
+        (now (table .entry)) ⌝ }
+    ensures { λ _. ⌜ now (table .exit) ≡ tableAfterPrepare
+        (lentRoute (now (store .entry)) (now (places .entry)) (now (legs .entry)) n) (now (made .entry))
+        (now (table .entry)) ⌝ }
 {
     if 16 < n {
         return;

@@ -1,4 +1,4 @@
--- One leg of a route. Requirements: "A leg is a map, or a relocate list".
+-- Meaning: One leg of a route. Requirements: "A leg is a map, or a relocate list".
 use mathlib.Core.Bool.{Bool, true, false}
 use mathlib.Core.List.{List}
 use lib.ListN.{length}

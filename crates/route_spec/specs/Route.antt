@@ -1,4 +1,4 @@
--- A route of legs, out and home, and the round-trip theorem about it (demand 3): "one claim about the whole list of legs, not one for each
+-- Meaning: A route of legs, out and home, and the round-trip theorem about it (demand 3): "one claim about the whole list of legs, not one for each
 -- leg".
 use mathlib.Core.Path.{_≡_}
 use mathlib.Core.Logic.{_↔_}

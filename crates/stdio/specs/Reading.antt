@@ -1,4 +1,4 @@
--- The result of reading.
+-- Meaning: The result of reading.
 use Prim.Native.Nat.{ℕ, _≤_}
 use Rattle.stdio.specs.declared.Reading.{Reading}
 use Rattle.stdio.specs.declared.Reading.the-variants.{Got, Failed}

@@ -1,4 +1,4 @@
--- Names for the ASCII bytes that the definitions speak of.
+-- Meaning: Names for the ASCII bytes that the definitions speak of.
 use Prim.Native.Nat.{ℕ}
 
 -- `/`

@@ -1,4 +1,4 @@
--- Byte texts, as lists of numbers (a byte is a number below 256). These definitions do not depend on the path syntax.
+-- Meaning: Byte texts, as lists of numbers (a byte is a number below 256). These definitions do not depend on the path syntax.
 use Prim.Native.Nat.{ℕ, _+_}
 use Prim.Native.Char.{code}
 use Prim.Native.String.{String, [] as []ˢ, _∷_ as _∷ˢ_}

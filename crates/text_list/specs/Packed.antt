@@ -1,4 +1,4 @@
--- A packed list of texts: the texts lie one after the other from the beginning of a buffer, and their places from the beginning of another.
+-- Meaning: A packed list of texts: the texts lie one after the other from the beginning of a buffer, and their places from the beginning of another.
 use mathlib.Core.Path.{_≡_}
 use mathlib.Core.Bool.{Bool, cond, _&&_}
 use mathlib.Core.List.{List, [], _∷_, _++_}

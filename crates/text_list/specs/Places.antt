@@ -1,4 +1,4 @@
--- Texts in lent memory: a store of bytes, and two numbers for each text, its start and its length. A place is one such start and length.
+-- Meaning: Texts in lent memory: a store of bytes, and two numbers for each text, its start and its length. A place is one such start and length.
 -- Only this file defines how such a text is read.
 use mathlib.Core.Bool.{Bool, cond}
 use mathlib.Core.List.{List, [], _∷_, _++_}

@@ -42,8 +42,10 @@ pub fn write_place(j: usize, start: usize, n: usize, places: &mut [usize])
 // returns `at` if it does not fit.
 pub fn push_text(t: &[u8], n: usize, at: usize, bytes: &mut [u8], places: &mut [usize]) -> usize
     ensures { λ r. ⌜ r ≡ textEnd (now (t .entry)) n at (now (bytes .entry)) (now (places .entry)) ⌝ }
-    ensures { λ r. ⌜ now (bytes .exit) ≡ bytesWithText (now (t .entry)) n at (now (bytes .entry)) (now (places .entry)) ⌝ }
-    ensures { λ r. ⌜ now (places .exit) ≡ placesWithText (now (t .entry)) n at (now (bytes .entry)) (now (places .entry)) ⌝ }
+    ensures { λ r. ⌜ now (bytes .exit) ≡ bytesWithText (now (t .entry)) n at (now (bytes .entry))
+        (now (places .entry)) ⌝ }
+    ensures { λ r. ⌜ now (places .exit) ≡ placesWithText (now (t .entry)) n at (now (bytes .entry))
+        (now (places .entry)) ⌝ }
 {
     if bytes.len() < at {
         return at;

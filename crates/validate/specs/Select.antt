@@ -1,4 +1,4 @@
--- Pairs that the code selects from a lent list and copies to a buffer for 64 pairs (256 numbers): when that is possible, and which pairs
+-- Method: Pairs that the code selects from a lent list and copies to a buffer for 64 pairs (256 numbers): when that is possible, and which pairs
 -- the buffer then holds.
 use Prim.Native.Nat.{ℕ}
 use mathlib.Core.Bool.{Bool, cond, _&&_}

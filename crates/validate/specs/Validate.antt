@@ -1,4 +1,4 @@
--- Validation of the lists and texts of a call (questions 1 to 4). Requirements: "The first 'no' gives its number."
+-- Meaning: Validation of the lists and texts of a call (questions 1 to 4). Requirements: "The first 'no' gives its number."
 use mathlib.Core.Path.{_≡_}
 use Prim.Native.Nat.{ℕ, _*_, _/_, _≤_}
 use mathlib.Core.Bool.{Bool, true, cond, _&&_}

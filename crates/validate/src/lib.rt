@@ -21,7 +21,8 @@ fn present_places(places: &[usize], count: usize) -> usize
 
 // Question 1 for a list and two texts: returns whether each text has at most 255 bytes.
 fn are_short(store: &[u8], places: &[usize], count: usize, p: &[u8], q: &[u8]) -> bool
-    ensures { λ r. ⌜ r ≡ (every atMost255 (now (p .entry) ∷ now (q .entry) ∷ []) && listShort (lentList (now (store .entry)) (now (places .entry)) count)) ⌝ }
+    ensures { λ r. ⌜ r ≡ (every atMost255 (now (p .entry) ∷ now (q .entry) ∷ []) && listShort
+        (lentList (now (store .entry)) (now (places .entry)) count)) ⌝ }
 {
     if 255 < p.len() {
         return false;
@@ -36,7 +37,8 @@ fn are_short(store: &[u8], places: &[usize], count: usize, p: &[u8], q: &[u8]) -
 // contain only ends, which are legal, it is not scanned again.
 fn are_legal(ends: bool, store: &[u8], places: &[usize], count: usize, p: &[u8], q: &[u8]) -> bool
     requires { ⌜ (not ends || listAll legal (lentList (now store) (now places) count)) ≡ true ⌝ }
-    ensures { λ r. ⌜ r ≡ (every legal (now (p .entry) ∷ now (q .entry) ∷ []) && listAll legal (lentList (now (store .entry)) (now (places .entry)) count)) ⌝ }
+    ensures { λ r. ⌜ r ≡ (every legal (now (p .entry) ∷ now (q .entry) ∷ []) && listAll legal
+        (lentList (now (store .entry)) (now (places .entry)) count)) ⌝ }
 {
     if !path_grammar::is_legal(p) {
         return false;
@@ -52,7 +54,8 @@ fn are_legal(ends: bool, store: &[u8], places: &[usize], count: usize, p: &[u8],
 
 // Question 3 for a list and two texts: returns whether each is a prim path, `/` or empty.
 fn are_ends(store: &[u8], places: &[usize], count: usize, e: &[u8], f: &[u8]) -> bool
-    ensures { λ r. ⌜ r ≡ (every isEnd (now (e .entry) ∷ now (f .entry) ∷ []) && listAll isEnd (lentList (now (store .entry)) (now (places .entry)) count)) ⌝ }
+    ensures { λ r. ⌜ r ≡ (every isEnd (now (e .entry) ∷ now (f .entry) ∷ []) && listAll isEnd
+        (lentList (now (store .entry)) (now (places .entry)) count)) ⌝ }
 {
     if !path_grammar::is_end(e) {
         return false;
@@ -138,7 +141,8 @@ pub fn validate_call(
     e: &[u8],
     f: &[u8],
 ) -> refusal::Validation
-    ensures { λ r. ⌜ r ≡ validateCall (lentList (now (store .entry)) (now (places .entry)) count ∷ []) (now (p .entry) ∷ now (q .entry) ∷ []) (now (e .entry) ∷ now (f .entry) ∷ []) ⌝ }
+    ensures { λ r. ⌜ r ≡ validateCall (lentList (now (store .entry)) (now (places .entry)) count ∷ [])
+        (now (p .entry) ∷ now (q .entry) ∷ []) (now (e .entry) ∷ now (f .entry) ∷ []) ⌝ }
 {
     let short = are_short(store, places, count, p, q);
     let ends = are_ends(store, places, count, e, f);
@@ -153,7 +157,8 @@ pub fn validate_list_and_path(
     count: usize,
     p: &[u8],
 ) -> refusal::Validation
-    ensures { λ r. ⌜ r ≡ validateCall (lentList (now (store .entry)) (now (places .entry)) count ∷ []) (now (p .entry) ∷ []) [] ⌝ }
+    ensures { λ r. ⌜ r ≡ validateCall (lentList (now (store .entry)) (now (places .entry)) count ∷ [])
+        (now (p .entry) ∷ []) [] ⌝ }
 {
     let e = &p[..0];
     validate_call(store, places, count, p, e, e, e)
@@ -169,7 +174,8 @@ pub fn validate_list(store: &[u8], places: &[usize], count: usize) -> refusal::V
 
 // Validates two ends (questions 1 to 3).
 pub fn validate_ends(e: &[u8], f: &[u8]) -> refusal::Validation
-    ensures { λ r. ⌜ r ≡ validateCall [] (now (e .entry) ∷ now (f .entry) ∷ []) (now (e .entry) ∷ now (f .entry) ∷ []) ⌝ }
+    ensures { λ r. ⌜ r ≡ validateCall [] (now (e .entry) ∷ now (f .entry) ∷ [])
+        (now (e .entry) ∷ now (f .entry) ∷ []) ⌝ }
 {
     let none = [0usize; 1];
     validate_call(e, &none, 0, e, f, e, f)
@@ -184,7 +190,8 @@ pub fn validate_lists(
     places2: &[usize],
     count2: usize,
 ) -> refusal::Validation
-    ensures { λ r. ⌜ r ≡ validateCall (lentList (now (store .entry)) (now (places .entry)) count ∷ lentList (now (store2 .entry)) (now (places2 .entry)) count2 ∷ []) [] [] ⌝ }
+    ensures { λ r. ⌜ r ≡ validateCall (lentList (now (store .entry)) (now (places .entry)) count ∷ lentList
+        (now (store2 .entry)) (now (places2 .entry)) count2 ∷ []) [] [] ⌝ }
 {
     let e = &store[..0];
     let short = both(

@@ -1,3 +1,5 @@
+-- The loop. After i iterations the first i paths have the blocks and the replies of the single calls, and the rest of both buffers is as
+-- it was.
 use Rattle.batch.proofs.BatchLaws.{room-spot, room-block, room-number, step-bytes, step-numbers, steps-end}
 use Rattle.batch.specs.BatchStep.{mapSpotBy}
 use Rattle.batch.specs.Batch.{pathBuffers, replyNumbers}

@@ -1,3 +1,4 @@
+-- The loop. After i inner pairs the buffer holds their images under the outer map; each takes at most 1,534 bytes.
 use mathlib.Core.Path.{_≡_, refl}
 use mathlib.Core.List.{map}
 use Prim.Native.Nat.{_*_, _≤_, _-_}

@@ -1,3 +1,4 @@
+-- The loop. After i outer pairs the buffer holds the inner half and what those pairs add to it; each takes at most 1,534 bytes.
 use mathlib.Core.Path.{_≡_, refl}
 use Prim.Native.Nat.{_+_, _*_, _≤_, _-_}
 use native.Mathlib.Omega.{arith}

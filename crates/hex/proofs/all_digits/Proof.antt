@@ -1,3 +1,4 @@
+-- The loop. The bytes before index i are digits, so the rest decides.
 use Rattle.hex.proofs.DecodeLaws.{testing}
 use borrow.Author.Needs.{needs}
 use mathlib.Core.Path.{_≡_}

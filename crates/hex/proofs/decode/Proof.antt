@@ -1,3 +1,4 @@
+-- The loop. The first i bytes of the buffer are those of the first 2 i digits.
 use Rattle.hex.proofs.DecodeLaws.{values, decoding}
 use borrow.Author.Needs.{needs}
 use mathlib.Core.Path.{_≡_}

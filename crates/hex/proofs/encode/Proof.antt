@@ -1,3 +1,4 @@
+-- The loop. The digits of the first i bytes are written.
 use Rattle.hex.proofs.EncodeLaws.{encoding}
 use borrow.Author.Needs.{needs}
 use mathlib.Core.Path.{_≡_}

@@ -1,3 +1,4 @@
+-- The loop. There is no newline before index i, so the index in the whole block is i plus that in the rest.
 use Rattle.line_reader.proofs.TakeLaws.{newlines}
 use borrow.Author.Needs.{needs}
 use mathlib.Core.Path.{_≡_}

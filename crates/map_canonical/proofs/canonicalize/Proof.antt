@@ -1,3 +1,4 @@
+-- The loop. The sources with fewer than e elements are done: what is kept is what the definition keeps of those levels.
 use mathlib.Core.Path.{_≡_, refl}
 use native.Mathlib.Omega.{arith}
 use Prim.Native.Nat.{_≤_, _-_}

@@ -1,3 +1,4 @@
+-- The loop. The first i counts are written, and `top` is their maximum.
 use mathlib.Core.Path.{_≡_, refl}
 use native.Mathlib.Omega.{arith}
 use Prim.Native.Nat.{_≤_, _-_}

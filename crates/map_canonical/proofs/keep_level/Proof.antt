@@ -1,3 +1,4 @@
+-- The loop. Of the first i pairs those of this level are kept or dropped as the definition says, and there is room for the others.
 use mathlib.Core.Path.{_≡_, refl}
 use native.Mathlib.Omega.{arith}
 use Prim.Native.Nat.{_≤_, _+_, _-_}

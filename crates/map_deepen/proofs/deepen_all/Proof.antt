@@ -1,3 +1,4 @@
+-- The loop. After i pairs the buffer holds their deepened form; each takes at most 766 bytes.
 use Rattle.map_deepen.specs.Calls.{deepenedPairs}
 use Rattle.pair_list_write.specs.Packed.{HoldsList}
 use Rattle.map_spec.specs.Derive.{deepenedPair}

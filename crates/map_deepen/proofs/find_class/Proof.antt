@@ -1,3 +1,4 @@
+-- The loop. The best so far is the best of the first i sources.
 use Rattle.pair_list.specs.Places.{keyAt}
 use mathlib.Core.Bool.{false}
 use Prim.Native.Nat.{ℕ, _≤_, _-_}

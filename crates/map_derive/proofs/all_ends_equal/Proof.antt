@@ -1,3 +1,4 @@
+-- The loop. The first i pairs have equal ends.
 use mathlib.Core.Path.{_≡_}
 use mathlib.Core.Bool.{true}
 use Prim.Native.Nat.{_≤_, _-_}

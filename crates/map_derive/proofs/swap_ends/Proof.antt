@@ -1,3 +1,4 @@
+-- The loop. The entries of the first i pairs are written with their ends exchanged.
 use native.Mathlib.Omega.{arith}
 use mathlib.Core.Path.{_≡_, refl}
 use Prim.Native.Nat.{_≤_, _-_}

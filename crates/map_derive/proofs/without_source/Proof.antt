@@ -1,3 +1,4 @@
+-- The loop. What is kept is the first i pairs without those of the source.
 use mathlib.Core.Path.{_≡_, refl}
 use native.Mathlib.Omega.{arith}
 use Prim.Native.Nat.{_≤_, _-_}

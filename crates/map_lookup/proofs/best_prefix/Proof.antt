@@ -1,3 +1,4 @@
+-- The loop. The best so far is the longest match among the first i keys.
 use Rattle.map_lookup.proofs.LookupBranches.{searching, matchKept, held-there, least-left, least-right, kept-none, kept-short, kept-on}
 use borrow.Author.Needs.{needs}
 use mathlib.Core.Path.{_≡_}

@@ -1,3 +1,4 @@
+-- The loop. None of the first k keys would be selected instead of key i.
 use borrow.Author.Needs.{needs}
 use Prim.Native.Nat.{_+_, _*_, _≤_, _-_}
 use lib.ListN.{length}

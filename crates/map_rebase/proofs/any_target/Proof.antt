@@ -1,3 +1,4 @@
+-- The loop. None of the first i targets is at or below `from`.
 use Rattle.map_spec.specs.Derive.{anyTargetBelow}
 use Rattle.pair_list.specs.Places.{pairsIn}
 use Prim.Native.Nat.{_≤_, _-_}

@@ -1,3 +1,4 @@
+-- The loop. After i pairs the buffer holds their rebased form; each takes at most 766 bytes.
 use Rattle.map_rebase.specs.Calls.{rebasedPairs}
 use Rattle.pair_list_write.specs.Packed.{HoldsList}
 use Rattle.map_spec.specs.Derive.{rebasedPair}

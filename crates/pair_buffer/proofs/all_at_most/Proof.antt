@@ -1,3 +1,4 @@
+-- The loop. The ends of the first i pairs are short enough.
 use mathlib.Core.Path.{_≡_}
 use mathlib.Core.Bool.{true}
 use Prim.Native.Nat.{_≤_, _-_}

@@ -1,3 +1,4 @@
+-- The loop. None of the first i pairs has the source.
 use borrow.Author.Needs.{needs}
 use mathlib.Core.Path.{_≡_}
 use mathlib.Core.Bool.{false}

@@ -1,3 +1,4 @@
+-- The loop. The bytes and the places of the first i pairs are written, one after the other from byte `at`.
 use mathlib.Core.Path.{_≡_, refl}
 use Prim.Native.Nat.{_+_, _≤_, _-_}
 use native.Mathlib.Omega.{arith}

@@ -1,3 +1,4 @@
+-- The loop. What is left and the bytes of the first i pairs make the whole capacity.
 use Rattle.pair_list_write.proofs.RoomBranches.{rooms}
 use borrow.Author.Needs.{needs}
 use mathlib.Core.Path.{_≡_}

@@ -1,3 +1,4 @@
+-- The loop. The number holds the state of the automaton after i bytes, with `.` and `{` read as bytes that no path has.
 use Prim.Native.Nat.{_≤_, _-_}
 use lib.ListN.{length}
 use native.Mathlib.Omega.{arith}

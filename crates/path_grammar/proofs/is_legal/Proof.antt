@@ -1,3 +1,4 @@
+-- The loop. The number s holds the state of the automaton after i bytes.
 use Prim.Native.Nat.{_≤_, _-_}
 use lib.ListN.{length}
 use native.Mathlib.Omega.{arith}

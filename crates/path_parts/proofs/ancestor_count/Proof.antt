@@ -1,3 +1,4 @@
+-- The loop. The paths counted so far and the ancestors of the first n bytes make all of them.
 use Rattle.path_parts.proofs.ScanLaws.{counts}
 use borrow.Author.Needs.{needs}
 use mathlib.Core.Path.{_≡_}

@@ -1,3 +1,4 @@
+-- The loop. No part begins at or after index i: the search goes backwards from the end.
 use Rattle.path_parts.proofs.PartLaws.{parents}
 use borrow.Author.Needs.{needs}
 use mathlib.Core.Path.{_≡_}

@@ -1,3 +1,4 @@
+-- The loop. The first i bytes are read, and their stripped form is in the first j bytes of the buffer.
 use Rattle.path_parts.proofs.EmitLaws.{Sofar, strips}
 use borrow.Author.Needs.{needs}
 use mathlib.Core.Path.{_≡_}

@@ -1,3 +1,4 @@
+-- The loop. The lengths of the first i paths are written, and n is the length of the next one.
 use Rattle.path_parts.proofs.ScanLaws.{Ahead, writes}
 use borrow.Author.Needs.{needs}
 use mathlib.Core.Path.{_≡_}

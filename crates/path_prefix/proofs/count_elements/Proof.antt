@@ -1,3 +1,4 @@
+-- The loop. n elements begin before index i; the rest has the others.
 use Rattle.path_prefix.proofs.CountBranches.{counts}
 use borrow.Author.Needs.{needs}
 use mathlib.Core.Path.{_≡_}

@@ -1,3 +1,4 @@
+-- The loop. The line buffer keeps its length; what is written is compared with recorded answers, not proved.
 use mathlib.Core.Path.{_≡_}
 use Prim.Native.Nat.{_-_}
 use lib.ListN.{length}

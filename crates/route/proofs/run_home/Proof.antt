@@ -1,3 +1,4 @@
+-- The loop. The legs before k, in reverse from the path so far, make the result of the whole route.
 use Rattle.route.proofs.RunBranches.{holds-size, home-begin, home-on, home-stopped, home-end}
 use Rattle.route.specs.Fast.{legFast, mapsIn, runRouteFast}
 use Rattle.route_legs.specs.LentRoute.{lentRoute}

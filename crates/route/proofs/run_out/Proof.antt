@@ -1,3 +1,4 @@
+-- The loop. After k legs the path so far is what those legs make of the starting path.
 use Rattle.route.proofs.RunBranches.{holds-size, out-begin, out-on, out-stopped, out-end}
 use Rattle.route.specs.Fast.{legFast, mapsIn}
 use Rattle.route_legs.specs.LentRoute.{lentRoute}

@@ -1,3 +1,4 @@
+-- The loop. The result so far is that of the lists of the first k legs.
 use borrow.Author.Needs.{needs}
 use Prim.Native.Nat.{_≤_, _-_}
 use mathlib.Core.Path.{_≡_}

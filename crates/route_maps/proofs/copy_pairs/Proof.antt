@@ -1,3 +1,4 @@
+-- The loop. The entries of the first i pairs are copied.
 use native.Mathlib.Omega.{arith}
 use borrow.Author.Needs.{needs}
 use Prim.Native.Nat.{ℕ, _≤_, _-_}

@@ -1,3 +1,4 @@
+-- The loop. None of the first k legs is a relocate list.
 use borrow.Author.Needs.{needs}
 use Prim.Native.Nat.{_≤_, _-_}
 use mathlib.Core.Path.{_≡_}

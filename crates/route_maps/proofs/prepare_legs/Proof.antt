@@ -1,3 +1,4 @@
+-- The loop. The maps of the first k legs are prepared.
 use Rattle.route_maps.proofs.PrepareBranches.{legs-over, legs-short, legs-small, places-none, table-none, places-on, table-on, legs-end}
 use Rattle.route_maps.specs.Prepare.{preparedEntry, preparedPlaces, preparedTable}
 use Rattle.route_legs.specs.LentRoute.{lentRoute, listAt}

@@ -1,3 +1,4 @@
+-- The loop. The first i bytes are written from index `at`.
 use Rattle.text.proofs.WriteLaws.{puts}
 use borrow.Author.Needs.{needs}
 use mathlib.Core.Path.{_≡_}

@@ -1,3 +1,4 @@
+-- The loop. After k replacements the chain from the path so far, with n - k replacements left, is the whole chain.
 use Rattle.relocate_chain.proofs.ChainBranches.{chain-begin, chain-end, chain-still, chain-stopped, chain-short, chain-inside, chain-part, chain-on}
 use borrow.Author.Needs.{needs}
 use mathlib.Core.Path.{_≡_, sym}

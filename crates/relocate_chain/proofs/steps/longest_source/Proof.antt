@@ -1,3 +1,4 @@
+-- The loop. The best so far is the longest source among the first i pairs.
 use Rattle.relocate_chain.proofs.SearchBranches.{searching, sourceBelow, source-on}
 use mathlib.Core.Path.{_≡_}
 use Prim.Native.Nat.{_≤_, _-_}

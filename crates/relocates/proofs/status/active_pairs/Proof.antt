@@ -1,3 +1,4 @@
+-- The loop. Of the first i pairs the Active ones are kept.
 use native.Mathlib.Omega.{arith}
 use borrow.Author.Needs.{needs}
 use Prim.Native.Nat.{_≤_, _-_}

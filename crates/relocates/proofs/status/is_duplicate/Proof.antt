@@ -1,3 +1,4 @@
+-- The loop. None of the first k pairs claims the source.
 use borrow.Author.Needs.{needs}
 use Rattle.relocates.proofs.StatusBranches.{duplicates, NoneBefore}
 use Prim.Native.Nat.{_≤_, _-_}

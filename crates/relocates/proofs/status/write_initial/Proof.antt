@@ -1,3 +1,4 @@
+-- The loop. The statuses of the first i pairs are written, conflicts aside.
 use Rattle.relocates.proofs.InitialBranches.{writing-first}
 use mathlib.Core.Path.{_≡_}
 use Prim.Native.Nat.{_≤_, _-_}
