@@ -59,8 +59,9 @@
        n        the number of paths, which is not limited
        out      255 bytes for each path: the result for path i is written at byte 255 * i
        replies  one number for each path: element i is set to the reply that the call for path i alone would return
-   The reply of the whole call is 0, or 5 if there are fewer than 2 * n spots, 255 * n bytes or n replies; then nothing
-   is written. Every other refusal is reported in `replies`, a spot that reaches outside `texts` as 1. */
+   The reply of the whole call is 0 or a refusal, and then nothing is written: 1 to 4 for the list or the route, also if n
+   is 0; then 4 if there are fewer than 2 * n spots; then 5 if there are fewer than 255 * n bytes or n replies. The
+   refusals of a path, 1, 2 and 6 to 8, are reported in `replies`, a spot that reaches outside `texts` as 1. */
 #ifndef MUDVIZSOR_H
 #define MUDVIZSOR_H
 
