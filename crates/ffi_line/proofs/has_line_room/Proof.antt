@@ -1,3 +1,4 @@
+-- The two comparisons are those of the definition.
 use Rattle.ffi_line.proofs.CallBranches.{few-kept, enough-kept}
 use Rattle.ffi_line.proofs.has_line_room.Statement.{statement}
 use Rattle.ffi_line.proofs.has_line_room.Tie as tie

@@ -1,3 +1,4 @@
+-- The counters are read, the line is answered at offset 0, and the counters are written back.
 use Rattle.ffi_line.specs.LineCall.{wholeLine}
 use Rattle.ffi_line.proofs.CallBranches.{line-processed}
 use borrow.Author.Needs.{needs}

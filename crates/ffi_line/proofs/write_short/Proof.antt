@@ -1,3 +1,4 @@
+-- The digits of the two bytes and the newline are written one after the other.
 use Rattle.ffi_line.proofs.CallBranches.{short-refused, short-written}
 use borrow.Author.Needs.{needs}
 use Rattle.ffi_line.proofs.write_short.Statement.{statement}

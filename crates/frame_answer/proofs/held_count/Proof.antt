@@ -1,3 +1,4 @@
+-- The comparison is that of the definition.
 use Rattle.frame_answer.proofs.ApplyBranches.{held-few, held-over}
 use Rattle.frame_answer.proofs.held_count.Statement.{statement}
 use Rattle.frame_answer.proofs.held_count.Tie as tie

@@ -1,3 +1,4 @@
+-- A path home and a refused path leave the count; a path out adds one below FFFFFFFF.
 use Rattle.frame_apply.proofs.ApplyBranches.{count-home, count-refused, count-held, count-more}
 use borrow.Author.Needs.{needs}
 use Rattle.frame_apply.proofs.count_out.Statement.{statement}

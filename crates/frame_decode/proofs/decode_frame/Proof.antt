@@ -1,3 +1,4 @@
+-- The first byte is the kind, and the part after it the payload.
 use Rattle.text.proofs.WriteLaws.{rest-whole}
 use Rattle.frame_decode.proofs.DecodeBranches.{frame-empty, frame-kind}
 use borrow.Author.Needs.{needs}

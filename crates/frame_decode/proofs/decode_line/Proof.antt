@@ -1,3 +1,4 @@
+-- An overlong line has no bytes; otherwise the bytes are those that the digits decode to.
 use Rattle.frame_decode.proofs.LineLaws.{line-long, line-beyond, line-bytes, line-bad, line-over}
 use borrow.Author.Needs.{needs}
 use Rattle.frame_decode.proofs.decode_line.Statement.{statement}

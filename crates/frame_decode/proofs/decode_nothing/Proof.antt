@@ -1,3 +1,4 @@
+-- The payload is empty or not.
 use borrow.Author.Needs.{needs}
 use Rattle.frame_decode.proofs.DecodeBranches.{alone}
 use Rattle.frame_decode.proofs.decode_nothing.Statement.{statement}

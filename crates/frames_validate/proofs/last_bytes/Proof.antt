@@ -1,3 +1,4 @@
+-- The part of the frame from its length less n on; the whole frame if n exceeds its length.
 use Prim.Native.Nat.{_-_}
 use lib.ListN.{length}
 use Rattle.text.proofs.WriteLaws.{rest-whole}

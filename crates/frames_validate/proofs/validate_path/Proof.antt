@@ -1,3 +1,4 @@
+-- The refusal of the legs and that of the path, whichever question is put first, is the refusal of both together.
 use Rattle.frames_validate.proofs.UseBranches.{path-validated}
 use borrow.Author.Needs.{needs}
 use Rattle.frames_validate.proofs.validate_path.Statement.{statement}
