@@ -11,8 +11,8 @@ use Rattle.refusal.specs.Outcome.{Outcome}
 use Rattle.route_legs.specs.LentRoute.{validateRoute}
 use Rattle.route.proofs.CallBranches.{validated-maps-run}
 use Rattle.frames_spec.specs.Frame.{frame, add-pair, statuses, close, route, count}
-use Rattle.frames_spec.specs.State.{Transition}
-use Rattle.frames_memory.specs.Memory.{FramesMemory, routeOf, routePathIn, stepFrameIn}
+use Rattle.frames_spec.specs.State.{outcomeAnswer, Transition}
+use Rattle.frames_memory.specs.Memory.{FramesMemory, routeOf, countIn, routePathIn, stepFrameIn}
 use Rattle.frames_validate.specs.Checked.{validateUse, refuseIn, routeStored, stepFrameChecked, QuickStep}
 
 -- A validated path takes the same way.
@@ -35,6 +35,6 @@ unfolding stepFrameChecked stepFrameIn validateUse
 quick-step m k (add-pair s t) = refl
 quick-step m k statuses = refl
 quick-step m k (close relocates) = refl
-quick-step m k (route false p) = routed m false p _
-quick-step m k (route true p) = routed m true p _
+quick-step m k (route false p) = routed m false p (λ (o : Outcome). countIn m o)
+quick-step m k (route true p) = routed m true p (λ (o : Outcome). record { state = m; answer = outcomeAnswer o })
 quick-step m k count = refl
