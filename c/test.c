@@ -818,6 +818,29 @@ static void check_altered(const char *what, const char *line, const char *answer
     check(memcmp(&frames, &before, sizeof frames) == 0, "mudvizsor_frames_line", what, "nothing is written");
 }
 
+/* Numbers that no run leaves, each with the lines that use it and their answers. */
+static const struct { const char *what; size_t *number, value; const char *line, *answer; } altered_numbers[] = {
+    {"a long path in the open list", &frames.places[1], 256, "03", "8301\n"},
+    {"65 pairs", &frames.kept[0], 65, "0100022F4100022F42", "8104\n"},
+    {"65 pairs", &frames.kept[0], 65, "04", "8404\n"},
+    {"bytes of the open list over the buffer", &frames.kept[1], sizeof frames.bytes + 1, "0100022F4100022F42", "8105\n"},
+    {"17 legs", &frames.kept[2], 17, "03", "8304\n"},
+    {"17 legs", &frames.kept[2], 17, "052F412F43", "8504\n"},
+    {"17 legs", &frames.kept[2], 17, "062F422F43", "8604\n"},
+    {"a leg of 65 pairs", &frames.table[2], 65, "052F412F43", "8504\n"},
+    {"bytes of the legs over the limit", &frames.kept[3], 32769, "03", "8305\n"},
+    {"a count over FFFFFFFF", &frames.kept[4], (size_t)4294967295 + 2, "07", "8700FFFFFFFF\n"},
+};
+
+/* Illegal paths in the open list and in the leg store, with the lines that use them. */
+static const struct { const char *what; char *byte, value; const char *line, *answer; } altered_bytes[] = {
+    {"an illegal path in the open list", &frames.bytes[1], '-', "02", "8202\n"},
+    {"an illegal path in the open list", &frames.bytes[1], '-', "03", "8302\n"},
+    {"an illegal path in the open list", &frames.bytes[1], '-', "04", "8402\n"},
+    {"an illegal list in the leg store", &frames.store[1], '.', "052F412F43", "8502\n"},
+    {"an illegal list in the leg store", &frames.store[1], '.', "062F422F43", "8602\n"},
+};
+
 static void test_altered_frames(void) {
     memset(&frames, 0, sizeof frames);
     frames_line("0100022F4100022F42", 5, lend(515, 0));
@@ -825,40 +848,20 @@ static void test_altered_frames(void) {
     frames_line("0100022F4100022F42", 5, lend(515, 0));
     static struct frames_memory good;
     good = frames;
-    frames.bytes[1] = '-';
-    check_altered("an illegal path in the open list", "02", "8202\n");
-    check_altered("an illegal path in the open list", "03", "8302\n");
-    check_altered("an illegal path in the open list", "04", "8402\n");
-    frames = good;
-    frames.places[1] = 256;
-    check_altered("a long path in the open list", "03", "8301\n");
-    frames = good;
-    frames.kept[0] = 65;
-    check_altered("65 pairs", "0100022F4100022F42", "8104\n");
-    check_altered("65 pairs", "04", "8404\n");
-    frames = good;
-    frames.kept[1] = sizeof frames.bytes + 1;
-    check_altered("bytes of the open list over the buffer", "0100022F4100022F42", "8105\n");
+    for (size_t i = 0; i < LENGTH(altered_numbers); i++) {
+        frames = good;
+        *altered_numbers[i].number = altered_numbers[i].value;
+        check_altered(altered_numbers[i].what, altered_numbers[i].line, altered_numbers[i].answer);
+    }
+    for (size_t i = 0; i < LENGTH(altered_bytes); i++) {
+        frames = good;
+        *altered_bytes[i].byte = altered_bytes[i].value;
+        check_altered(altered_bytes[i].what, altered_bytes[i].line, altered_bytes[i].answer);
+    }
     frames = good;
     frames.store[1] = '.';
-    check_altered("an illegal list in the leg store", "052F412F43", "8502\n");
-    check_altered("an illegal list in the leg store", "062F422F43", "8602\n");
     frames.slots[1] = 256;
     check_altered("a long path in the leg store and an illegal path", "052D", "8501\n");
-    frames = good;
-    frames.kept[2] = 17;
-    check_altered("17 legs", "03", "8304\n");
-    check_altered("17 legs", "052F412F43", "8504\n");
-    check_altered("17 legs", "062F422F43", "8604\n");
-    frames = good;
-    frames.table[2] = 65;
-    check_altered("a leg of 65 pairs", "052F412F43", "8504\n");
-    frames = good;
-    frames.kept[3] = 32769;
-    check_altered("bytes of the legs over the limit", "03", "8305\n");
-    frames = good;
-    frames.kept[4] = (size_t)4294967295 + 2;
-    check_altered("a count over FFFFFFFF", "07", "8700FFFFFFFF\n");
 }
 
 /* ---- Time offsets ---- */

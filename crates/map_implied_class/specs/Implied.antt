@@ -65,17 +65,17 @@ constructedPairs l = l .composed ++ l .implied
 
 -- The map m with the questions put to the lists: question 4 to each, question 5 "over all three lists", then questions 7 and 8 to the constructed
 -- ends.
-unfoldable pub askLists : ImpliedLists → Map → LayerOffset → Text → List ℕ → MapOutcome
+unfoldable pub requireImpliedLists : ImpliedLists → Map → LayerOffset → Text → List ℕ → MapOutcome
 unfolding requireListRoom requireShort requireLegal
-askLists l m time out slots =
+requireImpliedLists l m time out slots =
     cond (allWithin64 l)
     (requireListRoom (l .inverted ++ constructedPairs l) out slots (requireShort (constructedPairs l) (requireLegal (constructedPairs l) (map m time))))
     (refused TooMany)
 
 -- The implied class across a transfer that is not the identity. Question 8 never fails: `implied-legal` (proofs/ImpliedEnds.antt).
 unfoldable pub impliedOutcome : Map → Map → LayerOffset → Text → List ℕ → MapOutcome
-unfolding askLists classList impliedList impliedClass
-impliedOutcome transfer class time out slots = askLists (impliedLists transfer class) (impliedClass transfer class) time out slots
+unfolding requireImpliedLists classList impliedList impliedClass
+impliedOutcome transfer class time out slots = requireImpliedLists (impliedLists transfer class) (impliedClass transfer class) time out slots
 
 -- If the call returns a map, it is the implied class map (proved in proofs/ImpliedBranches.antt).
 abbrev pub ImpliesTo : Type 0
