@@ -5,7 +5,7 @@ use lib.ListN.{getD, drop}
 use Rattle.text.specs.Text.{Text, bytes}
 use Rattle.path_grammar.specs.Own.{hasVariantSelection}
 use Rattle.path_grammar.specs.Legal.{legal, atMost255}
-use Rattle.refusal.specs.Outcome.{Outcome, path, refused, outcomeBuffer}
+use Rattle.refusal.specs.Outcome.{Outcome, path, outcomeBuffer}
 use Rattle.path_derive.specs.Calls.{replacePrefixCall}
 use Rattle.pair_list.specs.Pair.{noEmptySource}
 use Rattle.map_spec.specs.Map.{mapSourceToTarget, mapTargetToSource}

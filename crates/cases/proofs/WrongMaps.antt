@@ -3,15 +3,10 @@ use mathlib.Core.Path.{refl}
 use mathlib.Core.List.{List, [], _∷_}
 use Prim.Native.Nat.{ℕ, _+_, _*_}
 use lib.Ieee.{add, sum, mul, eq, round, toBits}
-use Rattle.text.specs.Text.{Text}
-use Rattle.layer_offset.specs.declared.LayerOffset.{LayerOffset}
-use Rattle.layer_offset.specs.Number.{bitPattern}
 use Rattle.pair_list.specs.Pair.{Pair}
 use Rattle.pair_list.specs.Places.{pairsIn}
 use Rattle.refusal.specs.Refusal.{refusalNumber}
 use Rattle.path_prefix.specs.Elements.{countElements}
-use Rattle.map_spec.specs.Map.{Map}
-use Rattle.map_spec.specs.New.{identityMap, nullMap}
 use Rattle.map_function.specs.declared.MapFunction.{MapFunction}
 use Rattle.map_function.specs.declared.MapReply.{MapReply}
 use Rattle.map_function.specs.declared.MapReply.the-variants.{Made, Refused}
@@ -89,6 +84,7 @@ wrong-maps = record {
   out-unmoved = apart outcomeNumber refl;
   out-no-path = apart outcomeNumber refl;
   out-without-boundary = apart outcomeNumber refl;
+  out-to-empty = apart outcomeNumber refl;
   list-refused-first = apart outcomeNumber refl;
   home-by-sources = apart outcomeNumber refl;
   home-unmoved = apart outcomeNumber refl;

@@ -25,7 +25,8 @@ use Rattle.ffi_values.specs.MapCode.{withTimeOffsetCall, mapFromNumbers}
 use Rattle.cases.specs.WrongTimes.{five, two, fiveTwo}
 use Rattle.cases.specs.Lent.{stringPair, storeOf, placesOf, header, unmarkedHeader, markedHeader, unmarkedMap, markedMap, bytesLent, placesLent}
 
--- The lists `/A`→`/B`; `/B`→`/A`; `/B`→`/C`; `/A`→`/A`; `/A`→`/`; `/`→`/`; empty→`/X`; `/A`→`/X` and `/C`→`/A`; a list whose source is not legal.
+-- The lists `/A`→`/B`; `/B`→`/A`; `/B`→`/C`; `/A`→`/A`; `/A`→`/`; `/A`→empty; `/`→`/`; empty→`/X`; `/A`→`/X` and `/C`→`/A`; a list whose source is
+-- not legal.
 abbrev pub aToBList : List Pair
 aToBList = stringPair "/A" "/B" ∷ []
 
@@ -40,6 +41,9 @@ aToAList = stringPair "/A" "/A" ∷ []
 
 abbrev pub aToRootList : List Pair
 aToRootList = stringPair "/A" "/" ∷ []
+
+abbrev pub aToEmptyList : List Pair
+aToEmptyList = stringPair "/A" "" ∷ []
 
 abbrev pub rootToRootList : List Pair
 rootToRootList = stringPair "/" "/" ∷ []
@@ -105,13 +109,14 @@ pub record WrongMaps : Type 0 where
   -- `with_time_offset`: the old time offset; a map of 65 pairs.
   pub time-not-replaced : withTimeOffsetCall (unmarkedHeader aToBList) fiveTwo ≢ Made (unmarkedHeader aToBList)
   pub time-of-65 : withTimeOffsetCall (mapFromNumbers 65 false five two) identityOffset ≢ Made (mapFromNumbers 65 false five two)
-  -- `map_source_to_target`: the path unmoved; no path; an empty target taken for a path; the bytes of `/A` in `/AB`.
+  -- `map_source_to_target`: the path unmoved; no path; the bytes of `/A` in `/AD`; an empty target taken for a path.
   pub out-unmoved : mapSourceToTargetCall (storeOf aToBList) (placesOf aToBList) (unmarkedHeader aToBList) (bytes "/A/D") 255 ≢ path (bytes "/A/D")
   pub out-no-path : mapSourceToTargetCall (storeOf aToBList) (placesOf aToBList) (unmarkedHeader aToBList) (bytes "/A/D") 255 ≢ refused NoPath
   pub out-without-boundary : mapSourceToTargetCall (storeOf aToBList) (placesOf aToBList) (unmarkedHeader aToBList) (bytes "/AD") 255 ≢ path (bytes "/BD")
+  pub out-to-empty : mapSourceToTargetCall (storeOf aToEmptyList) (placesOf aToEmptyList) (unmarkedHeader aToEmptyList) (bytes "/A") 255 ≢ path []
   -- The refusal of the list although the path's question comes first.
   pub list-refused-first : mapSourceToTargetCall (storeOf illegalList) (placesOf illegalList) (unmarkedHeader illegalList) (replicate 256 65) 255 ≢ refused Illegal
-  -- `map_target_to_source`: the sources taken as keys.
+  -- `map_target_to_source`: the sources taken as keys; the path unmoved.
   pub home-by-sources : mapTargetToSourceCall (storeOf aToBList) (placesOf aToBList) (unmarkedHeader aToBList) (bytes "/A/D") 255 ≢ path (bytes "/B/D")
   pub home-unmoved : mapTargetToSourceCall (storeOf aToBList) (placesOf aToBList) (unmarkedHeader aToBList) (bytes "/B/D") 255 ≢ path (bytes "/B/D")
   -- `translate_to_target`: plain mapping; the selections kept.

@@ -2,10 +2,10 @@
 -- mistake would give that answer.
 use mathlib.Core.Logic.{_≢_}
 use mathlib.Core.Bool.{true, false}
-use mathlib.Core.List.{[], _∷_}
+use mathlib.Core.List.{[]}
 use lib.ListN.{replicate}
 use Rattle.text.specs.Text.{bytes}
-use Rattle.refusal.specs.declared.Refusal.the-variants.{TooLong, Illegal, NoRoom, NoPath, MadeTooLong}
+use Rattle.refusal.specs.declared.Refusal.the-variants.{Illegal, NoRoom, NoPath, MadeTooLong}
 use Rattle.refusal.specs.declared.Validation.the-variants.{Passed, Refused}
 use Rattle.refusal.specs.declared.Reply.the-variants.{Written}
 use Rattle.refusal.specs.Outcome.{path, refused}
@@ -37,12 +37,11 @@ pub record WrongPaths : Type 0 where
   -- `element_count` without the selections, `prim_element_count` with them.
   pub elements-are-names : elementCountCall (bytes "/A{v=p}") ≢ Counted (record { 0 = 1 })
   pub names-are-elements : primElementCountCall (bytes "/A{v=p}") ≢ Counted (record { 0 = 2 })
-  -- `replace_prefix`: the path unmoved; the slash missing or doubled; 5 without comparing lengths; 7 for 8.
+  -- `replace_prefix`: the path unmoved; the slash missing or doubled; 5 without comparing lengths; question 5 before question 2; 7 for 8.
   pub replaced-unmoved : replacePrefixCall (bytes "/A/D") (bytes "/A") (bytes "/B") 255 ≢ path (bytes "/A/D")
   pub replaced-without-slash : replacePrefixCall (bytes "/A{v=p}B") (bytes "/A{v=p}") (bytes "/C") 255 ≢ path (bytes "/CB")
   pub replaced-with-slash : replacePrefixCall (bytes "/A/B") (bytes "/A") (bytes "/C{v=p}") 255 ≢ path (bytes "/C{v=p}/B")
   pub replaced-no-room : replacePrefixCall (bytes "/A/D") (bytes "/A") (bytes "/B") 255 ≢ refused NoRoom
-  -- Question 5 before question 2.
   pub replaced-room-first : replacePrefixCall (bytes "A") (bytes "/A") (bytes "/B") 0 ≢ refused NoRoom
   pub replaced-seven : replacePrefixCall (bytes "/A.b") (bytes "/A") (bytes "/") 255 ≢ refused MadeTooLong
   -- `parent`: the prim of a property lost; the selection lost; `/` and the empty path have a parent.

@@ -2,17 +2,14 @@
 -- which mistake would give that answer.
 use mathlib.Core.Logic.{_≢_}
 use mathlib.Core.Bool.{true, false}
-use mathlib.Core.List.{List, [], _∷_, _++_}
+use mathlib.Core.List.{List, [], _∷_}
 use mathlib.Core.Option.{none, some}
-use Prim.Native.Nat.{ℕ}
-use lib.ListN.{length, replicate}
 use Rattle.text.specs.Text.{bytes}
 use Rattle.refusal.specs.declared.Refusal.the-variants.{NoRoom}
 use Rattle.refusal.specs.declared.Validation.the-variants.{Passed, Refused}
 use Rattle.refusal.specs.declared.Reply.the-variants.{Written}
 use Rattle.refusal.specs.Outcome.{path}
 use Rattle.pair_list.specs.Pair.{Pair}
-use Rattle.pair_list.specs.Places.{listText, listPlaces}
 use Rattle.relocates.specs.Calls.{analyzeReply, analyzeBuffer}
 use Rattle.relocate_chain.specs.Chain.{chained, stopped}
 use Rattle.relocate_chain.specs.Calls.{chainCall, chainBuffer, shiftCall}
@@ -33,12 +30,14 @@ twoLegs = let l : List Pair = stringPair "/A" "/B" ∷ stringPair "/B" "/C" ∷ 
     lentRoute (storeOf l) (placesOf l) (0 ∷ 0 ∷ 1 ∷ 0 ∷ 1 ∷ 1 ∷ []) 2
 
 pub record WrongRelocates : Type 0 where
-  -- `analyze_relocate_occurrences`: a pair that is itself in conflict conflicts with no other; every pair Active; 5 without comparing lengths.
+  -- `analyze_relocate_occurrences`: a pair that is itself in conflict conflicts with no other; every pair Active; nothing written; accepted with a
+  -- byte too few.
   pub conflict-among-active : analyzeBuffer (analyzeReply (lentPairs conflicting) 3) (lentPairs conflicting) (9 ∷ 9 ∷ 9 ∷ []) ≢ 3 ∷ 3 ∷ 0 ∷ []
   pub all-active : analyzeBuffer (analyzeReply (lentPairs conflicting) 3) (lentPairs conflicting) (9 ∷ 9 ∷ 9 ∷ []) ≢ 0 ∷ 0 ∷ 0 ∷ []
   pub nothing-written : analyzeBuffer (analyzeReply (lentPairs conflicting) 3) (lentPairs conflicting) (9 ∷ 9 ∷ 9 ∷ []) ≢ 9 ∷ 9 ∷ 9 ∷ []
   pub status-room : analyzeReply (lentPairs conflicting) 2 ≢ Written 3
-  -- `chain_through_relocates`: an invented step count; one step only; sources weighed by elements; 5 although 255 bytes are lent.
+  -- `chain_through_relocates`: an invented step count; one step only; sources weighed by elements; the skipped source used; 5 although 255 bytes
+  -- are lent.
   pub three-steps : chainCall (lentPairs rotating) none (bytes "/R/a/b/d/b/d") 255 ≢ chained (bytes "/R/a/b/d") 3
   pub one-step : chainCall (lentPairs rotating) none (bytes "/R/a/b/d/b/d") 255 ≢ chained (bytes "/R/c/d/b/d") 1
   pub by-elements : chainCall (lentPairs rootAndEmpty) none (bytes "/A") 255 ≢ chained (bytes "/Y/Y/A") 2
@@ -49,7 +48,7 @@ pub record WrongRelocates : Type 0 where
   -- `shift_through_nearest_ancestor`: the path unmoved; an endpoint that is itself a source moved.
   pub shift-unmoved : shiftCall (lentPairs aToBList) (bytes "/A/c") 255 ≢ path (bytes "/A/c")
   pub shift-at-itself : shiftCall (lentPairs aToBList) (bytes "/A") 255 ≢ path (bytes "/B")
-  -- `route_out`: the first leg only; the legs in reverse. `route_home`: the legs forward; the way out.
+  -- `route_out`: the first leg only; the path unmoved. `route_home`: the last leg only; the way out.
   pub first-leg-only : routeCall false twoLegs (bytes "/A/D") 255 ≢ path (bytes "/B/D")
   pub route-unmoved : routeCall false twoLegs (bytes "/A/D") 255 ≢ path (bytes "/A/D")
   pub home-last-leg-only : routeCall true twoLegs (bytes "/C/D") 255 ≢ path (bytes "/B/D")

@@ -2,7 +2,6 @@
 use mathlib.Core.Path.{_≡_, refl, sym, ap}
 use mathlib.Core.Bool.{Bool, true, false}
 use mathlib.Core.List.{[], _∷_}
-use Prim.Native.Nat.{ℕ}
 use Rattle.text.specs.Text.{Text}
 use Rattle.refusal.specs.declared.Validation.{Validation}
 use Rattle.refusal.specs.declared.Validation.the-variants.{Passed, Refused}
@@ -10,7 +9,7 @@ use Rattle.refusal.specs.Refusal.{refusedOr}
 use Rattle.refusal.specs.Outcome.{Outcome}
 use Rattle.route_legs.specs.LentRoute.{validateRoute}
 use Rattle.route.proofs.CallBranches.{validated-maps-run}
-use Rattle.frames_spec.specs.Frame.{frame, add-pair, statuses, close, route, count}
+use Rattle.frames_spec.specs.Frame.{add-pair, statuses, close, route, count}
 use Rattle.frames_spec.specs.State.{outcomeAnswer, Transition}
 use Rattle.frames_memory.specs.Memory.{FramesMemory, routeOf, countIn, routePathIn, stepFrameIn}
 use Rattle.frames_validate.specs.Checked.{validateUse, refuseIn, routeStored, stepFrameChecked, QuickStep}

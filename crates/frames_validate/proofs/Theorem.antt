@@ -13,7 +13,7 @@ use Rattle.refusal.specs.declared.Refusal.{Refusal}
 use Rattle.refusal.specs.declared.Validation.{Validation}
 use Rattle.refusal.specs.declared.Validation.the-variants.{Passed, Refused}
 use Rattle.refusal.specs.Refusal.{refusedOr}
-use Rattle.refusal.specs.Outcome.{refused, afterChecks}
+use Rattle.refusal.specs.Outcome.{afterChecks}
 use Rattle.path.specs.Calls.{pathNewCall}
 use Rattle.validate.specs.Validate.{firstRefusal}
 use Rattle.route_legs.specs.LentRoute.{validateRoute}
