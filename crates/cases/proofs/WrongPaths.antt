@@ -1,13 +1,15 @@
 -- Every wrong answer of a call on paths differs from the right one, by computing both.
 use mathlib.Core.Path.{refl}
+use Prim.Native.Nat.{ℕ}
 use Rattle.path_prefix.specs.Elements.{countElements}
+use Rattle.refusal.specs.Outcome.{outcomeBuffer}
 use Rattle.path.specs.Calls.{pathNewCall, isEndCall, hasVariantSelectionCall, hasPrefixCall, elementCountCall, primElementCountCall}
 use Rattle.path_derive.specs.Calls.{replacePrefixCall, parentCall, primPathCall, splitPropertyCall, stripCall, ancestorsReply}
 use Rattle.cases.specs.WrongPaths.{WrongPaths}
 use Rattle.cases.proofs.Tell.{apart, validationNumber, testNumber, countNumber, replyNumber, outcomeNumber}
 
 pub wrong-paths : WrongPaths
-unfolding countElements pathNewCall isEndCall hasVariantSelectionCall hasPrefixCall elementCountCall primElementCountCall replacePrefixCall parentCall primPathCall splitPropertyCall stripCall ancestorsReply validationNumber testNumber countNumber replyNumber outcomeNumber
+unfolding countElements outcomeBuffer pathNewCall isEndCall hasVariantSelectionCall hasPrefixCall elementCountCall primElementCountCall replacePrefixCall parentCall primPathCall splitPropertyCall stripCall ancestorsReply validationNumber testNumber countNumber replyNumber outcomeNumber
 wrong-paths = record {
   new-accepts-all = apart validationNumber refl;
   new-refuses-all = apart validationNumber refl;
@@ -28,6 +30,10 @@ wrong-paths = record {
   replaced-unmoved = apart outcomeNumber refl;
   replaced-without-slash = apart outcomeNumber refl;
   replaced-with-slash = apart outcomeNumber refl;
+  replaced-over-separator = apart outcomeNumber refl;
+  replaced-own-slash = apart outcomeNumber refl;
+  replaced-own-slash-refused = apart outcomeNumber refl;
+  replaced-slash-beyond = apart (λ (n : ℕ). n) refl;
   replaced-no-room = apart outcomeNumber refl;
   replaced-room-first = apart outcomeNumber refl;
   replaced-seven = apart outcomeNumber refl;

@@ -3,12 +3,13 @@
 use mathlib.Core.Logic.{_≢_}
 use mathlib.Core.Bool.{true, false}
 use mathlib.Core.List.{[]}
-use lib.ListN.{replicate}
+use lib.ListN.{getD, replicate}
 use Rattle.text.specs.Text.{bytes}
-use Rattle.refusal.specs.declared.Refusal.the-variants.{Illegal, NoRoom, NoPath, MadeTooLong}
+use Rattle.text.specs.Bytes.{lowerA, slash}
+use Rattle.refusal.specs.declared.Refusal.the-variants.{Illegal, NoRoom, NoPath, MadeTooLong, MadeIllegal}
 use Rattle.refusal.specs.declared.Validation.the-variants.{Passed, Refused}
 use Rattle.refusal.specs.declared.Reply.the-variants.{Written}
-use Rattle.refusal.specs.Outcome.{path, refused}
+use Rattle.refusal.specs.Outcome.{path, refused, outcomeBuffer}
 use Rattle.path.specs.declared.Test.the-variants.{Holds}
 use Rattle.path.specs.declared.Count.the-variants.{Counted}
 use Rattle.path.specs.Calls.{pathNewCall, isEndCall, hasVariantSelectionCall, hasPrefixCall, elementCountCall, primElementCountCall}
@@ -41,6 +42,11 @@ pub record WrongPaths : Type 0 where
   pub replaced-unmoved : replacePrefixCall (bytes "/A/D") (bytes "/A") (bytes "/B") 255 ≢ path (bytes "/A/D")
   pub replaced-without-slash : replacePrefixCall (bytes "/A{v=p}B") (bytes "/A{v=p}") (bytes "/C") 255 ≢ path (bytes "/CB")
   pub replaced-with-slash : replacePrefixCall (bytes "/A/B") (bytes "/A") (bytes "/C{v=p}") 255 ≢ path (bytes "/C{v=p}/B")
+  -- .. the remainder written over the separator; its own slash kept, and the result refused for that; a slash after the last byte of an exact match.
+  pub replaced-over-separator : replacePrefixCall (bytes "/A/B") (bytes "/A") (bytes "/C") 255 ≢ path (bytes "/CB")
+  pub replaced-own-slash : replacePrefixCall (bytes "/A/B") (bytes "/A") (bytes "/C") 255 ≢ path (bytes "/C//B")
+  pub replaced-own-slash-refused : replacePrefixCall (bytes "/A/B") (bytes "/A") (bytes "/C") 255 ≢ refused MadeIllegal
+  pub replaced-slash-beyond : getD (outcomeBuffer (replacePrefixCall (bytes "/A") (bytes "/A") (bytes "/C") 255) (replicate 255 lowerA)) 2 0 ≢ slash
   pub replaced-no-room : replacePrefixCall (bytes "/A/D") (bytes "/A") (bytes "/B") 255 ≢ refused NoRoom
   pub replaced-room-first : replacePrefixCall (bytes "A") (bytes "/A") (bytes "/B") 0 ≢ refused NoRoom
   pub replaced-seven : replacePrefixCall (bytes "/A.b") (bytes "/A") (bytes "/") 255 ≢ refused MadeTooLong

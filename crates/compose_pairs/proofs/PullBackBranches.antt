@@ -1,7 +1,7 @@
 -- Lemmas about the branches of `has_joined`, `add_joined` and `pull_back_pair`.
 use mathlib.Core.Path.{_≡_, refl, sym, ap, _∙_}
 use mathlib.Core.Bool.{Bool, true, false, not, cond, _&&_}
-use mathlib.Core.List.{List, [], _∷_, _++_, append-assoc, append-nil}
+use mathlib.Core.List.{List, [], _∷_, _++_, append-assoc}
 use mathlib.Core.Option.{Option, none, some}
 use Prim.Native.Nat.{ℕ, _+_, _*_, _-_, _≤_, _<_}
 use native.Mathlib.Omega.{arith}
@@ -12,6 +12,7 @@ use Rattle.text.proofs.BoolLaws.{eqb-self, not-true, not-false, told, known-fal
 use Rattle.text.proofs.TextLaws.{equal-is, equal-self, last-some, last-after}
 use Rattle.path_grammar.specs.Legal.{isRoot}
 use Rattle.path_join.specs.Join.{separator, body, join}
+use Rattle.path_join.proofs.JoinLaws.{join-none}
 use Rattle.pair_list.specs.Pair.{Pair, pair}
 use Rattle.pair_list.specs.Places.{keyAt, pairsIn}
 use Rattle.map_spec.specs.Compose.{hasSource, addIfNewSource}
@@ -89,8 +90,7 @@ module _ (s : Text) (o : Option Text) (mark : Bool) (e : o ≡ pathIfMarked mark
 
   -- The source joined to an empty prefix, with an empty rest, is the source.
   pub pull-marked : not mark ≡ false → o ≡ some (join [] s [])
-  unfolding join separator body
-  pull-marked k = e ∙ rw (not-false mark k, append-nil s) refl
+  pull-marked k = e ∙ rw (not-false mark k, join-none [] s) refl
 
 module _ (l : List Pair) (t : Text) (o : Option Text) (n at : ℕ) (bytes : Text) (slots : List ℕ) where
   pub pull-none : o ≡ none → PackedList l n at bytes slots bytes slots → PackedList (addIfNewSource l t o) n at bytes slots bytes slots

@@ -12,10 +12,10 @@ use Rattle.text.specs.Text.{Text, isNil, endsWithByte}
 use Rattle.text.proofs.BoolLaws.{and-l, and-r, and-no, not-true}
 use Rattle.path_grammar.specs.Legal.{isIdentifierStart, isIdentifierCont, isRoot, legal, atMost255, isEnd}
 use Rattle.path_prefix.specs.Prefix.{hasPrefix}
-use Rattle.path_join.specs.Join.{isChild, slashUnless, separator, body, join, replacePrefix, startsSuffix, joinIllegal}
+use Rattle.path_join.specs.Join.{isChild, separatorLen, join, replacePrefix, startsSuffix, joinIllegal}
 use Rattle.path_prefix.proofs.PrefixLaws.{prefix-rest}
 use Rattle.path_join.proofs.ReplaceLaws.{replace-prefix}
-use Rattle.path_join.proofs.JoinBranches.{join-length, separator-short, body-short}
+use Rattle.path_join.proofs.SeparatorLaws.{separator-after-root, separator-before-suffix, separator-short, join-length, body-short}
 use Rattle.path_join.proofs.JoinLegal.{join-legal}
 use Rattle.pair_list.specs.Pair.{allShort, allEnds}
 use Rattle.pair_list.specs.LongestMatch.{longestMatch, matches}
@@ -38,31 +38,33 @@ suffix-child s a h = go (eqb a 46) refl (eqb a 123) refl h
     go false e true f g = rw (eqb-true a 123 f) (and-no (endsWithByte 125 s))
     go false e false f g = absurd (false≢true g)
 
-unslashed : (b : Bool) (a : ℕ) (r : Text) → length (cond b r (a ∷ r)) ≤ 1 + length r
-unslashed true a r = omega arith
-unslashed false a r = omega arith
-
-root-length : (t : Text) → (isNil t || isRoot t) ≡ true → length t + length (slashUnless (isRoot t)) ≡ 1
+root-length : (t : Text) → (isNil t || isRoot t) ≡ true → length t + cond (isRoot t) 0 1 ≡ 1
 root-length [] h = refl
 root-length (a ∷ []) h = rw h
 root-length (a ∷ b ∷ t) h = absurd (false≢true (sym (and-no (eqb a 47)) ∙ h))
 
 -- An illegal joined path is no longer than the original path: only `/` or nothing precedes the remainder.
 illegal-short : (s t r : Text) → isNil s ≡ false → joinIllegal t r ≡ true → length (join s t r) ≤ length s + length r
-unfolding join separator body joinIllegal
+unfolding joinIllegal
 illegal-short s t [] n h = absurd (false≢true (sym (and-no (isNil t || isRoot t)) ∙ h))
 illegal-short [] t (a ∷ r) n h = absurd (true≢false n)
 illegal-short (c ∷ s) t (a ∷ r) n h = go (isRoot (c ∷ s)) refl
   where
-    one : length t + length (slashUnless (isRoot t)) ≡ 1
+    p : Text
+    p = c ∷ s
+
+    one : length t + cond (isRoot t) 0 1 ≡ 1
     one = root-length t (and-l (isNil t || isRoot t) (startsSuffix (a ∷ r)) h)
 
-    hang : (eqb a 46 || eqb a 123) ≡ true
-    hang = and-r (isNil t || isRoot t) (startsSuffix (a ∷ r)) h
+    suffix : (eqb a 46 || eqb a 123) ≡ true
+    suffix = and-r (isNil t || isRoot t) (startsSuffix (a ∷ r)) h
 
-    go : (b : Bool) → isRoot (c ∷ s) ≡ b → length (join (c ∷ s) t (a ∷ r)) ≤ length (c ∷ s) + length (a ∷ r)
-    go true e = rw e (simp length-append (omega (arith, one)))
-    go false e = rw (e, suffix-child (c ∷ s) a hang, length-append t (cond (eqb a 47) r (a ∷ r))) (omega (arith, one, unslashed (eqb a 47) a r))
+    separated : (b : Bool) → isRoot p ≡ b → length t + separatorLen p t (a ∷ r) ≤ 1
+    separated true e = rw (separator-after-root p t a r e) (omega (arith, one))
+    separated false e = rw (separator-before-suffix p t a r e (suffix-child p a suffix)) (omega (arith, one))
+
+    go : (b : Bool) → isRoot p ≡ b → length (join p t (a ∷ r)) ≤ length p + length (a ∷ r)
+    go b e = omega (arith, join-length p t (a ∷ r), separated b e, body-short p (a ∷ r))
 
 -- The joined path of ends that the code builds, with questions 7 and 8 as defined.
 joining-made : (s t p : Text) → isEnd s ≡ true → isNil s ≡ false → isEnd t ≡ true → legal p ≡ true → length p ≤ 255 → hasPrefix p s ≡ true

@@ -3,16 +3,17 @@ use mathlib.Core.Path.{_≡_, refl, sym, ap, _∙_}
 use mathlib.Core.Bool.{Bool, true, false, not, cond, _&&_, _||_}
 use mathlib.Core.List.{List, [], _∷_, _++_}
 use mathlib.Core.Option.{Option, none, some}
-use Prim.Native.Nat.{ℕ}
+use Prim.Native.Nat.{ℕ, zero, suc}
 use lib.Dec.{eqb}
-use lib.ListN.{length, drop}
+use lib.ListN.{length, take, drop}
+use lib.Seq.{take-nil}
 use Rattle.text.specs.Text.{Text, isNil, lacksByte}
 use Rattle.text.proofs.BoolLaws.{and-l, and-r, and-no, not-true}
 use Rattle.text.proofs.TextLaws.{no-text, lacks-first, lacks-rest, lacks-after, lacks-join}
 use Rattle.path_grammar.specs.Legal.{isRoot, legal, isEnd}
 use Rattle.path_grammar.proofs.LegalLaws.{end-scan, end-legal, end-lacks, end-undotted}
 use Rattle.path_prefix.specs.Prefix.{hasPrefix, canFollow}
-use Rattle.path_join.specs.Join.{isChild, endsWithSeparator, slashUnless, separator, body, join, replacePrefix, startsSuffix, joinIllegal}
+use Rattle.path_join.specs.Join.{separatorLen, separator, body, join, replacePrefix, startsSuffix, joinIllegal}
 use Rattle.path_prefix.proofs.PrefixLaws.{prefix-rest}
 use Rattle.path_join.proofs.ReplaceLaws.{replace-prefix}
 use Rattle.path_join.proofs.JoinLegal.{join-legal}
@@ -25,15 +26,14 @@ use Rattle.map_compose.specs.Calls.{ComposedEnds}
 use Rattle.compose_pairs.proofs.EveryLaws.{composed-every}
 
 -- A byte other than the slash that is in neither text is not in their join.
-slash-lacks : (b : ℕ) → eqb 47 b ≡ false → (c : Bool) → lacksByte b (slashUnless c) ≡ true
+slash-lacks : (b : ℕ) → eqb 47 b ≡ false → (k : ℕ) → lacksByte b (take k (47 ∷ [])) ≡ true
 unfolding lacksByte
-slash-lacks b h true = refl
-slash-lacks b h false = rw h
+slash-lacks b h zero = refl
+slash-lacks b h (suc k) = rw (h, take-nil k)
 
 separator-lacks : (b : ℕ) → eqb 47 b ≡ false → (s t r : Text) → lacksByte b (separator s t r) ≡ true
-unfolding separator lacksByte
-separator-lacks b h s t [] = refl
-separator-lacks b h s t (a ∷ r) = slash-lacks b h (cond (isRoot s) (isRoot t) (not (isChild s a) || endsWithSeparator t))
+unfolding separator
+separator-lacks b h s t r = slash-lacks b h (separatorLen s t r)
 
 body-lacks : (b : ℕ) (s r : Text) → lacksByte b r ≡ true → lacksByte b (body s r) ≡ true
 unfolding body

@@ -15,7 +15,7 @@ use Rattle.path_prefix.specs.Prefix.{hasPrefix}
 use Rattle.path_join.specs.Join.{join}
 use Rattle.path_prefix.proofs.PrefixLaws.{prefix-rest}
 use Rattle.path_join.proofs.ReplaceLaws.{replace-prefix, replace-other}
-use Rattle.path_join.proofs.JoinBranches.{join-length, separator-short, body-short}
+use Rattle.path_join.proofs.SeparatorLaws.{separator-short, join-length, body-short}
 use Rattle.pair_list.specs.Pair.{Pair, sourceAt, targetAt, everyEnd, allShort}
 use Rattle.pair_list.specs.Places.{keyAt, pairsIn}
 use Rattle.pair_list.proofs.PlaceLaws.{pairsIn-source, pairsIn-target}

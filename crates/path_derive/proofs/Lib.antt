@@ -2,3 +2,4 @@
 mod UnfoldedCalls
 mod DeriveBranches
 mod PartBranches
+mod PartLaws

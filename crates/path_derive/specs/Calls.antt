@@ -3,9 +3,10 @@ use Prim.Native.Nat.{ℕ}
 use mathlib.Core.Bool.{cond}
 use mathlib.Core.List.{[], _∷_}
 use lib.Dec.{leb}
-use lib.ListN.{length}
+use lib.ListN.{length, drop}
 use Rattle.text.specs.Text.{Text}
 use Rattle.path_join.specs.Join.{replacePrefix}
+use Rattle.path_join.specs.JoinParts.{JoinParts}
 use Rattle.path_parts.specs.Parent.{parent, primPath, splitProperty, ancestorLens}
 use Rattle.path_parts.specs.Strip.{strip}
 use Rattle.refusal.specs.declared.Refusal.the-variants.{NoRoom}
@@ -18,6 +19,12 @@ use Rattle.refusal.specs.Outcome.{Outcome, afterChecks, checked, checkedOption}
 unfoldable pub replacePrefixCall : Text → Text → Text → ℕ → Outcome
 unfolding afterChecks validateTexts checkedOption replacePrefix
 replacePrefixCall p s t room = afterChecks (validateTexts (p ∷ s ∷ t ∷ [])) room (checkedOption (replacePrefix p s t))
+
+-- What an accepted call of `replace_prefix` has written, n bytes of the lent buffer: the new prefix, the separator and the remainder without its own
+-- leading slash, one after the other. This follows from `replacePrefixCall` by the theorem `JoinInParts`.
+abbrev pub WrittenInParts : Text → Text → Text → Reply → Text → Type 0
+WrittenInParts p s t (Written n) out = JoinParts s t (drop (length s) p) n out
+WrittenInParts p s t (Refused x) out = Unit {0}
 
 -- The call `parent`.
 unfoldable pub parentCall : Text → ℕ → Outcome

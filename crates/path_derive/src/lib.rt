@@ -7,7 +7,7 @@ ghost use lib.ListN.{length};
 ghost use Rattle.path_join.specs.Join.{join};
 ghost use Rattle.path_parts.specs.Parent.{ancestorLens};
 ghost use Rattle.refusal.specs.Outcome.{checked, ReturnsPath, writtenIfAccepted};
-ghost use Rattle.path_derive.specs.Calls.{replacePrefixCall, parentCall, primPathCall, splitPropertyCall, stripCall, ancestorsReply};
+ghost use Rattle.path_derive.specs.Calls.{replacePrefixCall, WrittenInParts, parentCall, primPathCall, splitPropertyCall, stripCall, ancestorsReply};
 
 // Writes the new prefix followed by the remainder after the old prefix, with questions 7 and 8. The path
 // is built in a scratch buffer, so that a refused call writes nothing.
@@ -32,6 +32,7 @@ fn write_joined(old: &[u8], new: &[u8], rest: &[u8], out: &mut [u8]) -> refusal:
 pub fn replace_prefix(path: &[u8], old: &[u8], new: &[u8], out: &mut [u8]) -> refusal::Reply
     ensures { λ r. ⌜ ReturnsPath (replacePrefixCall (now (path .entry)) (now (old .entry)) (now (new .entry))
         (length (now (out .entry)))) r (now (out .entry)) (now (out .exit)) ⌝ }
+    ensures { λ r. ⌜ WrittenInParts (now (path .entry)) (now (old .entry)) (now (new .entry)) r (now (out .exit)) ⌝ }
 {
     let q = refusal::validate_texts(path, old, new);
     if let refusal::Validation::Refused(x) = q {

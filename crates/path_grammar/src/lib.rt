@@ -128,28 +128,19 @@ pub fn is_root(p: &[u8]) -> bool
 fn is_between(low: u8, a: u8, high: u8) -> bool
     ensures { λ r. ⌜ r ≡ (leb low a && leb a high) ⌝ }
 {
-    if low <= a { a <= high } else { false }
+    (low <= a) & (a <= high)
 }
 
 // Returns whether the byte may begin a name.
 fn is_identifier_start(a: u8) -> bool
     ensures { λ r. ⌜ r ≡ isIdentifierStart a ⌝ }
 {
-    if is_between(b'A', a, b'Z') {
-        return true;
-    }
-    if is_between(b'a', a, b'z') {
-        return true;
-    }
-    a == b'_'
+    is_between(b'A', a, b'Z') | is_between(b'a', a, b'z') | (a == b'_')
 }
 
 // Returns whether the byte may follow the first byte of a name.
 pub fn is_identifier_cont(a: u8) -> bool
     ensures { λ r. ⌜ r ≡ isIdentifierCont a ⌝ }
 {
-    if is_identifier_start(a) {
-        return true;
-    }
-    is_between(b'0', a, b'9')
+    is_identifier_start(a) | is_between(b'0', a, b'9')
 }

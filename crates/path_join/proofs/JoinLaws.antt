@@ -6,7 +6,7 @@ use mathlib.Core.Option.{some}
 use Prim.Native.Nat.{ℕ, _+_}
 use native.Mathlib.Omega.{arith}
 use lib.Dec.{eqb}
-use lib.ListN.{length, drop}
+use lib.ListN.{length, take, drop}
 use borrow.Author.Tests.{eqb-true}
 use Rattle.text.specs.Text.{Text, isNil, endsWithByte, lacksByte}
 use Rattle.text.proofs.BoolLaws.{and-no, or-false}
@@ -16,7 +16,7 @@ use Rattle.path_grammar.specs.Legal.{isIdentifierCont, isRoot, legal, isEnd}
 use Rattle.path_grammar.proofs.OwnLaws.{free-lacks, lacks-free}
 use Rattle.path_grammar.proofs.LegalLaws.{no-root-dot, legal-last, end-lacks, end-close, root-is}
 use Rattle.path_prefix.specs.Prefix.{canFollow, hasPrefix}
-use Rattle.path_join.specs.Join.{slashUnless, join, replacePrefix}
+use Rattle.path_join.specs.Join.{join, replacePrefix}
 use Rattle.path_prefix.specs.Elements.{countElements}
 use Rattle.path_prefix.proofs.PrefixLaws.{prefix-made, prefix-rest}
 use Rattle.path_join.proofs.ReplaceLaws.{replace-made, replace-prefix, replaced-prefix}
@@ -48,10 +48,10 @@ swap (under x r) = under x r
 swap (dotted r h k) = dotted r k h
 
 -- A slash is written unless the new prefix is `/`.
-slash-stem : (t y : Text) → t ++ (slashUnless (isRoot t) ++ y) ≡ stem t ++ 47 ∷ y
+slash-stem : (t y : Text) → t ++ (take (cond (isRoot t) 0 1) (47 ∷ []) ++ y) ≡ stem t ++ 47 ∷ y
 slash-stem t y = go (isRoot t) refl
   where
-    go : (b : Bool) → isRoot t ≡ b → t ++ (slashUnless b ++ y) ≡ stem t ++ 47 ∷ y
+    go : (b : Bool) → isRoot t ≡ b → t ++ (take (cond b 0 1) (47 ∷ []) ++ y) ≡ stem t ++ 47 ∷ y
     go true h = rw (root-is t h, stem-root)
     go false h = sym (stem-not t (47 ∷ y) h)
 

@@ -6,85 +6,104 @@ ghost use mathlib.Core.Bool.{_||_};
 ghost use lib.Dec.{eqb};
 ghost use Prim.Native.Nat.{_≤_};
 ghost use mathlib.Core.List.{[], _∷_};
-ghost use lib.ListN.{length, take, drop};
-ghost use Rattle.text.specs.Text.{equal, fitOf, writtenIfFits};
+ghost use lib.ListN.{take, drop};
+ghost use Rattle.text.specs.Text.{equal, startsWith, fitOf, writtenIfFits};
 ghost use Rattle.text.specs.Bytes.{dot, openBrace, slash};
-ghost use Rattle.path_join.specs.Join.{isChild, endsWithSeparator, separator, body, join, joinIllegal};
+ghost use Rattle.path_join.specs.Join.{join, joinIllegal};
+ghost use Rattle.path_join.specs.Layout.{asNumber, firstByte, lastByte, separatorBy, LaysOut};
 
-// Returns whether a remainder that begins with byte `a` after the prefix is a child prim.
-fn is_child(prefix: &[u8], a: u8) -> bool
-    ensures { λ r. ⌜ r ≡ isChild (now (prefix .entry)) a ⌝ }
-{
-    if a == b'/' {
-        return true;
-    }
-    if !text::last_is(prefix, b'}') {
-        return false;
-    }
-    path_grammar::is_identifier_cont(a)
+// Where the parts of a join are; each number is 0 or 1.
+struct Layout {
+    // The length of the separator.
+    separator: usize,
+    // The index at which the remainder begins without its own leading slash.
+    start: usize,
 }
 
-// Returns whether a child prim is appended to the prefix without a slash.
-fn ends_with_separator(prefix: &[u8]) -> bool
-    ensures { λ r. ⌜ r ≡ endsWithSeparator (now (prefix .entry)) ⌝ }
+// 1 if the test holds, otherwise 0.
+fn as_number(test: bool) -> usize
+    ensures { λ r. ⌜ r ≡ asNumber test ⌝ }
 {
-    if path_grammar::is_root(prefix) {
-        return true;
-    }
-    text::last_is(prefix, b'}')
+    test as usize
 }
 
-// The length, 0 or 1, of the separator between the new prefix and the remainder after the old one.
-fn separator_len(old: &[u8], new: &[u8], rest: &[u8]) -> usize
-    ensures { λ r. ⌜ r ≡ length (separator (now (old .entry)) (now (new .entry)) (now (rest .entry))) ⌝ }
+// The first byte of the text, or 0 if the text is empty.
+fn first_byte(text: &[u8]) -> u8
+    ensures { λ r. ⌜ r ≡ firstByte (now (text .entry)) ⌝ }
 {
-    if rest.len() == 0 {
+    if text.len() == 0 {
         return 0;
     }
-    if path_grammar::is_root(old) {
-        if path_grammar::is_root(new) {
-            return 0;
-        }
-        return 1;
-    }
-    if !is_child(old, rest[0]) {
-        return 0;
-    }
-    if ends_with_separator(new) {
-        return 0;
-    }
-    1
+    text[0]
 }
 
-// The index, 0 or 1, at which the remainder after the old prefix begins without its own leading slash.
-fn body_start(old: &[u8], rest: &[u8]) -> usize
-    ensures { λ r. ⌜ drop r (now (rest .entry)) ≡ body (now (old .entry)) (now (rest .entry)) ⌝ }
-    ensures { λ r. ⌜ r ≤ length (now (rest .entry)) ⌝ }
+// The last byte of the text, or 0 if the text is empty.
+fn last_byte(text: &[u8]) -> u8
+    ensures { λ r. ⌜ r ≡ lastByte (now (text .entry)) ⌝ }
 {
-    if rest.len() == 0 {
+    let n = text.len();
+    if n == 0 {
         return 0;
     }
-    if rest[0] != b'/' {
-        return 0;
-    }
-    if path_grammar::is_root(old) {
-        return 0;
-    }
-    1
+    text[n - 1]
 }
 
-// Writes a slash at index `at` if `k` is not 0 and the index is in the buffer. A single store is used
-// because copying one byte would be a call.
-fn write_slash(k: usize, at: usize, out: &mut [u8])
+// The length, 0 or 1, of the separator, by five tests: there is a remainder, the old prefix is `/`, the new
+// one is `/`, the remainder is a child, and a child follows the new prefix directly. The tests become
+// numbers, so that no branch depends on them.
+fn separator_len(
+    follows: bool,
+    old_is_root: bool,
+    new_is_root: bool,
+    child: bool,
+    direct: bool,
+) -> usize
+    ensures { λ r. ⌜ r ≡ separatorBy follows «old_is_root» «new_is_root» child direct ⌝ }
+{
+    let root = as_number(old_is_root);
+    let after_root = root * (1 - as_number(new_is_root));
+    let after_prim = (1 - root) * as_number(child) * (1 - as_number(direct));
+    as_number(follows) * (after_root + after_prim)
+}
+
+// The layout of a join, from the lengths of its texts and the bytes at their ends, each of which is read once.
+fn layout_of(old: &[u8], new: &[u8], rest: &[u8]) -> Layout
+    ensures { λ r. ⌜ LaysOut (now (old .entry)) (now (new .entry)) (now (rest .entry)) (r .separator) (r .start) ⌝ }
+{
+    let first = first_byte(rest);
+    let old_last = last_byte(old);
+    let new_last = last_byte(new);
+    let old_is_root = (old.len() == 1) & (old_last == b'/');
+    let new_is_root = (new.len() == 1) & (new_last == b'/');
+    let child = (first == b'/') | ((old_last == b'}') & path_grammar::is_identifier_cont(first));
+    let direct = new_is_root | (new_last == b'}');
+    Layout {
+        separator: separator_len(rest.len() != 0, old_is_root, new_is_root, child, direct),
+        start: as_number(!old_is_root & (first == b'/')),
+    }
+}
+
+// Writes `k` bytes of a slash at index `at`, if the index is in the buffer. The byte stored there is the
+// slash or the old byte, by the number `k`, so that no branch depends on it.
+fn write_separator(k: usize, at: usize, out: &mut [u8])
+    requires { ⌜ k ≤ 1 ⌝ }
     ensures { λ _. ⌜ now (out .exit) ≡ writtenIfFits at (take k (slash ∷ [])) (now (out .entry)) ⌝ }
 {
-    if k == 0 {
-        return;
-    }
     if out.len() <= at {
         return;
     }
-    out[at] = b'/';
+    let choice = [out[at], b'/'];
+    out[at] = choice[k];
+}
+
+// Returns whether the text has `k` bytes of a slash at index `at`.
+fn has_separator(k: usize, at: usize, text: &[u8]) -> bool
+    ensures { λ r. ⌜ r ≡ startsWith (take k (slash ∷ [])) (drop at (now (text .entry))) ⌝ }
+{
+    if text.len() <= at {
+        return k == 0;
+    }
+    (k == 0) | (text[at] == b'/')
 }
 
 // Writes the new prefix followed by the remainder after the old prefix if it fits; otherwise writes
@@ -95,42 +114,39 @@ pub fn join(old: &[u8], new: &[u8], rest: &[u8], out: &mut [u8]) -> text::Fit
         (now (out .entry)) ⌝ }
 {
     let n = new.len();
-    let room = out.len();
-    if room < n {
-        return text::Fit::Over;
-    }
-    let k = separator_len(old, new, rest);
-    if room - n < k {
-        return text::Fit::Over;
-    }
-    let from = body_start(old, rest);
-    let body = &rest[from..];
-    let at = n + k;
-    if room - at < body.len() {
+    let layout = layout_of(old, new, rest);
+    let start = layout.start;
+    let body = &rest[start..];
+    let at = n + layout.separator;
+    let len = at + body.len();
+    if out.len() < len {
         return text::Fit::Over;
     }
     text::write_at(new, 0, out);
-    write_slash(k, n, out);
+    write_separator(layout.separator, n, out);
     text::write_at(body, at, out);
-    text::Fit::Written(at + body.len())
+    text::Fit::Written(len)
 }
 
 // Returns whether the text is what `join` would write, without writing it.
 pub fn is_join(old: &[u8], new: &[u8], rest: &[u8], text: &[u8]) -> bool
     ensures { λ r. ⌜ r ≡ equal (join (now (old .entry)) (now (new .entry)) (now (rest .entry))) (now (text .entry)) ⌝ }
 {
+    let n = new.len();
+    let layout = layout_of(old, new, rest);
+    let start = layout.start;
+    let body = &rest[start..];
+    let at = n + layout.separator;
+    if text.len() != at + body.len() {
+        return false;
+    }
     if !text::starts_with(text, new) {
         return false;
     }
-    let n = new.len();
-    let tail = &text[n..];
-    let k = separator_len(old, new, rest);
-    let slash = [b'/'; 1];
-    if !text::starts_with(tail, &slash[..k]) {
+    if !has_separator(layout.separator, n, text) {
         return false;
     }
-    let from = body_start(old, rest);
-    text::is_equal(&rest[from..], &tail[k..])
+    text::is_equal(body, &text[at..])
 }
 
 // Returns whether the joined path would be illegal: the new prefix is `/` or empty, and the remainder

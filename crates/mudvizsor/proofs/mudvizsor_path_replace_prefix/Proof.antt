@@ -14,7 +14,10 @@ same-length : tie.Need-same-length
 same-length c = search needs
 
 returns : tie.Need-returns
-returns c = (c .reply-code .ensures ∙ ap replyCode (c .before .before .before .replace-prefix .ensures .0), c .before .before .before .replace-prefix .ensures .1)
+returns c =
+    let at-replace-prefix = c .before .before .before in
+    let returned = at-replace-prefix .replace-prefix .ensures .0 in
+    (c .reply-code .ensures ∙ ap replyCode (returned .0), returned .1)
 
 pub mudvizsor-path-replace-prefix-spec : {M : Type 1} → statement M
 mudvizsor-path-replace-prefix-spec =

@@ -6,6 +6,7 @@ use Rattle.path_prefix.proofs.PrefixLaws.{prefix-long}
 use Rattle.path_join.proofs.ReplaceLaws.{replace-prefix, replace-other}
 use Rattle.refusal.specs.Outcome.{checkedOption}
 use Rattle.path_derive.proofs.UnfoldedCalls.{replace-unfolded}
+use Rattle.path_derive.proofs.PartLaws.{written-in-parts}
 use Rattle.refusal.proofs.CallBranches.{answered-refused, answered-short, answered-passed, refusing, answering}
 use borrow.Author.Needs.{needs}
 use Rattle.path_derive.proofs.replace_prefix.Statement.{statement}
@@ -18,13 +19,18 @@ enum-known-q : tie.Need-enum-known-q
 enum-known-q c = search needs
 
 returns : tie.Need-returns
-returns c = refusing _ _ (replace-unfolded _ _ _ _ ∙ answered-refused _ _ _ _ (c .before .before .before .validate-texts .ensures) _ (c .before .q .given .1)) _
+returns c =
+    let at-validate-texts = c .before .before .before in
+    (refusing _ _ (replace-unfolded _ _ _ _ ∙ answered-refused _ _ _ _ (at-validate-texts .validate-texts .ensures) _ (c .before .q .given .1)) _, tt)
 
 enum-told : tie.Need-enum-told
 enum-told c = search needs
 
 returns-2 : tie.Need-returns-2
-returns-2 c = refusing _ _ (replace-unfolded _ _ _ _ ∙ answered-short _ _ _ _ (c .before .before .before .validate-texts .ensures) (c .before .enum-told .given .1) (c .if1 .taken)) _
+returns-2 c =
+    let at-enum-told = c .before in
+    let at-validate-texts = at-enum-told .before .before in
+    (refusing _ _ (replace-unfolded _ _ _ _ ∙ answered-short _ _ _ _ (at-validate-texts .validate-texts .ensures) (at-enum-told .enum-told .given .1) (c .if1 .taken)) _, tt)
 
 has-prefix-requires : tie.Need-has-prefix-requires
 has-prefix-requires c κs = search needs
@@ -35,11 +41,13 @@ returns-3 c =
     let at-has-prefix = c .before in
     let at-if1 = at-has-prefix .before in
     let at-enum-told = at-if1 .before in
-    let at-validate-texts = at-enum-told .before .before in
-    refusing _ _
-    (replace-unfolded _ _ _ _ ∙ answered-passed _ _ _ _ (at-validate-texts .validate-texts .ensures) (at-enum-told .enum-told .given .1)
-    (at-if1 .if1 .left) ∙ ap checkedOption (replace-other _ _ _ (known-false (at-has-prefix .has-prefix .ensures) (c .if2 .taken))))
-    _
+    let at-validate-texts = at-enum-told .before .before in (
+      refusing _ _
+          (replace-unfolded _ _ _ _ ∙ answered-passed _ _ _ _ (at-validate-texts .validate-texts .ensures) (at-enum-told .enum-told .given .1)
+          (at-if1 .if1 .left) ∙ ap checkedOption (replace-other _ _ _ (known-false (at-has-prefix .has-prefix .ensures) (c .if2 .taken))))
+          _,
+      tt,
+    )
 
 sub-write-joined : tie.Need-sub-write-joined
 sub-write-joined c = prefix-long _ _ (known-true (c .before .has-prefix .ensures) (c .if2 .left))
@@ -66,10 +74,13 @@ returns-4 c =
     let at-enum-told = at-if1 .before in
     let at-validate-texts = at-enum-told .before .before in
     let at-start = at-validate-texts .before .before .before .before .before in
-    answering _ _
-    (replace-unfolded _ _ _ _ ∙ answered-passed _ _ _ _ (at-validate-texts .validate-texts .ensures) (at-enum-told .enum-told .given .1)
-    (at-if1 .if1 .left) ∙ ap checkedOption (replace-prefix _ _ _ (known-true (at-has-prefix .has-prefix .ensures) (at-if2 .if2 .left))))
-    _ _ _ (rw (rest-whole (at-start .args .path .now) (length (at-start .args .old .now))) at (at-write-joined .write-joined .ensures))
+    let joined = rw (rest-whole (at-start .args .path .now) (length (at-start .args .old .now))) at (at-write-joined .write-joined .ensures) in (
+      answering _ _
+          (replace-unfolded _ _ _ _ ∙ answered-passed _ _ _ _ (at-validate-texts .validate-texts .ensures) (at-enum-told .enum-told .given .1)
+          (at-if1 .if1 .left) ∙ ap checkedOption (replace-prefix _ _ _ (known-true (at-has-prefix .has-prefix .ensures) (at-if2 .if2 .left))))
+          _ _ _ joined,
+      written-in-parts _ _ _ _ _ _ joined,
+    )
 
 pub replace-prefix-spec : {M : Type 1} → statement M
 replace-prefix-spec =

@@ -6,15 +6,11 @@ use Rattle.path_grammar.proofs.is_identifier_cont.Tie as tie
 is-identifier-start-requires : tie.Need-is-identifier-start-requires
 is-identifier-start-requires c κs = search needs
 
-returns : tie.Need-returns
-returns c = search (needs, bytes)
-
 is-between-requires : tie.Need-is-between-requires
 is-between-requires c κs = search needs
 
-returns-2 : tie.Need-returns-2
-returns-2 c = search (needs, bytes)
+returns : tie.Need-returns
+returns c = search (needs, bytes)
 
 pub is-identifier-cont-spec : {M : Type 1} → statement M
-is-identifier-cont-spec =
-    tie.close (tie.spec is-identifier-start-requires returns is-between-requires returns-2)
+is-identifier-cont-spec = tie.close (tie.spec is-identifier-start-requires is-between-requires returns)

@@ -6,18 +6,11 @@ use Rattle.path_grammar.proofs.is_identifier_start.Tie as tie
 is-between-requires : tie.Need-is-between-requires
 is-between-requires c κs = search needs
 
-returns : tie.Need-returns
-returns c = search (needs, bytes)
-
 is-between-requires-2 : tie.Need-is-between-requires-2
 is-between-requires-2 c κs = search needs
 
-returns-2 : tie.Need-returns-2
-returns-2 c = search (needs, bytes)
-
-returns-3 : tie.Need-returns-3
-returns-3 c = search (needs, bytes)
+returns : tie.Need-returns
+returns c = search (needs, bytes)
 
 pub is-identifier-start-spec : {M : Type 1} → statement M
-is-identifier-start-spec =
-    tie.close (tie.spec is-between-requires returns is-between-requires-2 returns-2 returns-3)
+is-identifier-start-spec = tie.close (tie.spec is-between-requires is-between-requires-2 returns)
