@@ -1,6 +1,7 @@
 //! Times both sides alternately.
 
-use std::time::Instant;
+use std::sync::OnceLock;
+use std::time::{Duration, Instant};
 
 /// The number of rounds, of which the best counts.
 const ROUNDS: usize = 15;
@@ -37,4 +38,26 @@ fn time(calls: usize, run: &mut impl FnMut()) -> f64 {
         run();
     }
     start.elapsed().as_nanos() as f64 / (REPEATS * calls) as f64
+}
+
+/// The cycles of the processor's time-stamp counter in a nanosecond, measured once; `None` if there is no such counter.
+pub fn cycles_per_nanosecond() -> Option<f64> {
+    static RATE: OnceLock<Option<f64>> = OnceLock::new();
+    *RATE.get_or_init(|| {
+        let (start, first) = (Instant::now(), time_stamp()?);
+        while start.elapsed() < Duration::from_millis(50) {}
+        let (elapsed, last) = (start.elapsed(), time_stamp()?);
+        Some((last - first) as f64 / elapsed.as_nanos() as f64)
+    })
+}
+
+#[cfg(target_arch = "x86_64")]
+fn time_stamp() -> Option<u64> {
+    // SAFETY: the instruction reads a register that every x86-64 processor has; it reads and writes no memory.
+    Some(unsafe { std::arch::x86_64::_rdtsc() })
+}
+
+#[cfg(not(target_arch = "x86_64"))]
+fn time_stamp() -> Option<u64> {
+    None
 }

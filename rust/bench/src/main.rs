@@ -1,10 +1,12 @@
-//! `bench`: times the library and the original Rust code on the same texts, and the program `frames` and a Rust program of
-//! the same protocol on the same inputs, and prints tables of the ratios. `bench --help` describes the options.
+//! `bench`: times the library and the original Rust code on the same texts, the program `frames` and a Rust program of the
+//! same protocol on the same inputs, and two forms of a join on the same joins, and prints tables of the ratios. `bench
+//! --help` describes the options.
 
 mod calls;
 mod clock;
 mod frames;
 mod inputs;
+mod joins;
 mod makes;
 mod maps;
 mod options;
@@ -45,6 +47,7 @@ fn print_tables(options: &Options) -> io::Result<()> {
             Part::Makes => makes::print(),
             Part::Routes => routes::print(),
             Part::Frames => frames::print(options)?,
+            Part::Joins => joins::print(&options.orders),
         }
     }
     Ok(())

@@ -5,14 +5,16 @@ use std::path::PathBuf;
 
 pub const USAGE: &str = "bench: times the library against the original Rust code, and the program `frames` against a Rust program
 
-usage: bench [--only calls|maps|makes|routes|frames] [--frames N] [--rounds N] [--program PATH]
+usage: bench [--only calls|maps|makes|routes|frames|joins] [--frames N] [--rounds N] [--program PATH] [--order ORDER]
 
 Both sides get the same inputs and must give equal results. Prints a table of times and ratios for each part; the best round counts.
 
-  --only PART       only this table: calls (single path calls), maps (mapping paths), makes (building maps), routes or frames
+  --only PART       only this table: calls (single path calls), maps (mapping paths), makes (building maps), routes, frames, or
+                    joins (two forms of the join that replaces a prefix)
   --frames N        frames in each input of the table `frames` (default 1000000)
   --rounds N        rounds of the table `frames` (default 5)
   --program PATH    the program `frames` (default: the environment variable FRAMES, else target/bin/frames)
+  --order ORDER     the order of the joins in the table `joins`: predictable or shuffled (default: a row for each)
   --help            print this text
 
 For example:
@@ -29,10 +31,11 @@ pub enum Part {
     Makes,
     Routes,
     Frames,
+    Joins,
 }
 
 impl Part {
-    const ALL: [Part; 5] = [Part::Calls, Part::Maps, Part::Makes, Part::Routes, Part::Frames];
+    const ALL: [Part; 6] = [Part::Calls, Part::Maps, Part::Makes, Part::Routes, Part::Frames, Part::Joins];
 
     pub fn name(self) -> &'static str {
         match self {
@@ -41,6 +44,26 @@ impl Part {
             Part::Makes => "makes",
             Part::Routes => "routes",
             Part::Frames => "frames",
+            Part::Joins => "joins",
+        }
+    }
+}
+
+/// The order in which the same joins are made.
+#[derive(Clone, Copy, PartialEq, Eq)]
+pub enum Order {
+    /// Sorted, so that a branch goes the same way many times in a row.
+    Predictable,
+    Shuffled,
+}
+
+impl Order {
+    const ALL: [Order; 2] = [Order::Predictable, Order::Shuffled];
+
+    pub fn title(self) -> &'static str {
+        match self {
+            Order::Predictable => "predictable",
+            Order::Shuffled => "shuffled",
         }
     }
 }
@@ -53,13 +76,15 @@ pub struct Options {
     pub rounds: usize,
     /// The program `frames`.
     pub program: PathBuf,
+    /// The orders of the joins.
+    pub orders: Vec<Order>,
 }
 
 impl Options {
     /// Parses the arguments. The error is a message for the user.
     pub fn read(arguments: impl Iterator<Item = String>) -> Result<Self, String> {
-        let parts = Part::ALL.to_vec();
-        let mut options = Options { parts, frames: 1_000_000, rounds: 5, program: program::usual() };
+        let (parts, orders) = (Part::ALL.to_vec(), Order::ALL.to_vec());
+        let mut options = Options { parts, frames: 1_000_000, rounds: 5, program: program::usual(), orders };
         options.parse(arguments).ok_or(USAGE)?;
         if options.parts.contains(&Part::Frames) {
             program::check(&options.program)?;
@@ -76,6 +101,7 @@ impl Options {
                 "--frames" => self.frames = value.parse().ok()?,
                 "--rounds" => self.rounds = value.parse().ok()?,
                 "--program" => self.program = value.into(),
+                "--order" => self.orders = vec![Order::ALL.into_iter().find(|order| order.title() == value)?],
                 _ => return None,
             }
         }

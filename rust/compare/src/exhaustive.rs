@@ -1,6 +1,7 @@
 //! Compares the calls for paths on all texts of small sets, and on all pairs and triples of smaller sets.
 
 use crate::comparison::Comparison;
+use crate::joins;
 use crate::phase::phase;
 use crate::text::Text;
 use texts::damage::{with_byte_changed, with_byte_inserted};
@@ -22,6 +23,7 @@ pub fn run(comparison: &mut Comparison) {
         pairs(comparison, &legal(b"/A1{}=.:", 9));
         pairs(comparison, &legal(b"/A{}=.", 12));
     });
+    phase(comparison, "joins with every prefix end and remainder", joins::run);
     phase(comparison, "triples of legal texts", |comparison| {
         triples(comparison, &legal(b"/AB1{}=.:", 5));
         triples(comparison, &legal(b"/A{}=.", 9));

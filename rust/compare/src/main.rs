@@ -7,6 +7,7 @@ mod comparison;
 mod exhaustive;
 mod facts;
 mod frames;
+mod joins;
 mod lent;
 mod makes;
 mod many;
