@@ -67,17 +67,13 @@ pub after-prefix : (o n c d : Bool)
 after-prefix o n c d = rw (after-root o n, after-prim o c d) (number-choice o (not n) (c && not d))
 
 pub separator-is : (f o n c d : Bool)
-    → asNumber f * (asNumber o * (1 - asNumber n) + (1 - asNumber o) * asNumber c * (1 - asNumber d)) ≡ asNumber (f && cond o (not n) (c && not d))
+    → asNumber f * (asNumber o * (1 - asNumber n) + (1 - asNumber o) * asNumber c * (1 - asNumber d)) ≡ separatorBy f o n c d
+unfolding separatorBy
 separator-is f o n c d = rw (after-prefix o n c d) (number-and f (cond o (not n) (c && not d)))
 
-pub separator-computed : (f o n c d : Bool) → asNumber (f && cond o (not n) (c && not d)) ≡ separatorBy f o n c d
-unfolding asNumber separatorBy
-separator-computed false o n c d = refl
-separator-computed true true true c d = refl
-separator-computed true true false c d = refl
-separator-computed true false n false d = refl
-separator-computed true false n true true = refl
-separator-computed true false n true false = refl
+pub separator-fits : (f o n c d : Bool) → Fits w64 (separatorBy f o n c d)
+unfolding separatorBy
+separator-fits f o n c d = number-fits (f && cond o (not n) (c && not d))
 
 -- The tests on a prefix, by its length and its last byte.
 pub root-by-last : (s : Text) → (eqb (length s) 1 && eqb (lastByte s) 47) ≡ isRoot s
@@ -96,7 +92,15 @@ separator-by-tests : (s t r : Text)
     → separatorBy (not (eqb (length r) 0)) (isRoot s) (isRoot t) (isChild s (firstByte r)) (endsWithSeparator t) ≡ separatorLen s t r
 unfolding separatorBy separatorLen firstByte
 separator-by-tests s t [] = refl
-separator-by-tests s t (a ∷ r) = rw (ne-eqb (length (a ∷ r)) 0 (λ z. omega arith))
+separator-by-tests s t (a ∷ r) =
+    rw (ne-eqb (length (a ∷ r)) 0 (λ z. omega arith)) (go (isRoot s) (isRoot t) (isChild s a) (endsWithSeparator t))
+  where
+    go : (o n c d : Bool) → asNumber (cond o (not n) (c && not d)) ≡ cond o (cond n 0 1) (cond (not c) 0 (cond d 0 1))
+    go true true c d = refl
+    go true false c d = refl
+    go false n false d = refl
+    go false n true true = refl
+    go false n true false = refl
 
 body-by-tests : (s r : Text) → drop (asNumber (not (isRoot s) && eqb (firstByte r) 47)) r ≡ body s r
 unfolding body asNumber firstByte

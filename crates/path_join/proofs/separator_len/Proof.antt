@@ -1,5 +1,5 @@
 -- Every intermediate value is a test as a number, so it is 0 or 1 and fits.
-use Rattle.path_join.proofs.LayoutLaws.{number-short, number-fits, after-root, child-after-prim, after-prim, after-prefix, separator-is, separator-computed}
+use Rattle.path_join.proofs.LayoutLaws.{number-short, number-fits, after-root, child-after-prim, after-prim, after-prefix, separator-is, separator-fits}
 use borrow.Author.Needs.{needs}
 use Rattle.path_join.proofs.separator_len.Statement.{statement}
 use Rattle.path_join.proofs.separator_len.Tie as tie
@@ -54,7 +54,14 @@ mul-result c =
     let at-as-number3 = at-as-number4 .before in
     let at-as-number2 = at-as-number3 .before in
     let at-as-number = at-as-number2 .before in
-    rw (c .as-number5 .ensures, at-as-number .as-number .ensures, at-as-number2 .as-number2 .ensures, at-as-number3 .as-number3 .ensures, at-as-number4 .as-number4 .ensures, separator-is) (number-fits _)
+    rw (
+      c .as-number5 .ensures,
+      at-as-number .as-number .ensures,
+      at-as-number2 .as-number2 .ensures,
+      at-as-number3 .as-number3 .ensures,
+      at-as-number4 .as-number4 .ensures,
+      separator-is,
+    ) (separator-fits _ _ _ _ _)
 
 returns : tie.Need-returns
 returns c =
@@ -62,7 +69,13 @@ returns c =
     let at-as-number3 = at-as-number4 .before in
     let at-as-number2 = at-as-number3 .before in
     let at-as-number = at-as-number2 .before in
-    rw (c .as-number5 .ensures, at-as-number .as-number .ensures, at-as-number2 .as-number2 .ensures, at-as-number3 .as-number3 .ensures, at-as-number4 .as-number4 .ensures, separator-is) (separator-computed _ _ _ _ _)
+    rw (
+      c .as-number5 .ensures,
+      at-as-number .as-number .ensures,
+      at-as-number2 .as-number2 .ensures,
+      at-as-number3 .as-number3 .ensures,
+      at-as-number4 .as-number4 .ensures,
+    ) (separator-is _ _ _ _ _)
 
 pub separator-len-spec : {M : Type 1} → statement M
 separator-len-spec =
