@@ -79,8 +79,8 @@ fn print_row(call: &str, names: Names, lengths: impl Iterator<Item = usize>, tim
         call,
         names.title(),
         &format!("{mean:.0}"),
-        &nanoseconds(times.original),
-        &nanoseconds(times.library),
+        &nanoseconds(times.reference),
+        &nanoseconds(times.measured),
         &ratio(times.ratio()),
     ]);
 }

@@ -9,25 +9,25 @@ const ROUNDS: usize = 15;
 /// The number of runs of each side in a round.
 const REPEATS: usize = 5;
 
-/// The nanoseconds of one call on each side.
+/// The nanoseconds of one call on each side: the original, or another reference, and what is measured against it.
 #[derive(Clone, Copy)]
 pub struct Times {
-    pub original: f64,
-    pub library: f64,
+    pub reference: f64,
+    pub measured: f64,
 }
 
 impl Times {
     pub fn ratio(self) -> f64 {
-        self.library / self.original
+        self.measured / self.reference
     }
 }
 
 /// Returns the best times of all rounds for one call, where each run makes the given number of calls.
-pub fn best_times(calls: usize, mut original: impl FnMut(), mut library: impl FnMut()) -> Times {
-    let mut best = Times { original: f64::MAX, library: f64::MAX };
+pub fn best_times(calls: usize, mut reference: impl FnMut(), mut measured: impl FnMut()) -> Times {
+    let mut best = Times { reference: f64::MAX, measured: f64::MAX };
     for _ in 0..ROUNDS {
-        best.original = best.original.min(time(calls, &mut original));
-        best.library = best.library.min(time(calls, &mut library));
+        best.reference = best.reference.min(time(calls, &mut reference));
+        best.measured = best.measured.min(time(calls, &mut measured));
     }
     best
 }

@@ -3,7 +3,7 @@
 //! in Rust here, function by function as in crates/path_join, so that they are compiled alike.
 
 mod arithmetic;
-mod forked;
+mod branching;
 mod inputs;
 
 use crate::clock::{best_times, cycles_per_nanosecond};
@@ -35,9 +35,9 @@ pub fn print(orders: &[Order]) {
 fn time_joins(title: &str, order: Order, joins: &[Join]) {
     joins.iter().for_each(assert_forms_agree);
     let (mut out, mut other_out) = ([0; MAX_PATH_LEN], [0; MAX_PATH_LEN]);
-    let forked = || {
+    let branching = || {
         for each in joins {
-            black_box(forked::join(each.old, each.new, each.rest, black_box(&mut out)));
+            black_box(branching::join(each.old, each.new, each.rest, black_box(&mut out)));
         }
     };
     let arithmetic = || {
@@ -45,15 +45,15 @@ fn time_joins(title: &str, order: Order, joins: &[Join]) {
             black_box(arithmetic::join(each.old, each.new, each.rest, black_box(&mut other_out)));
         }
     };
-    let times = best_times(joins.len(), forked, arithmetic);
+    let times = best_times(joins.len(), branching, arithmetic);
     let cycles = |time: f64| cycles_per_nanosecond().map_or("-".into(), |rate| nanoseconds(time * rate));
     row(&[
         title,
         order.title(),
-        &nanoseconds(times.original),
-        &nanoseconds(times.library),
-        &cycles(times.original),
-        &cycles(times.library),
+        &nanoseconds(times.reference),
+        &nanoseconds(times.measured),
+        &cycles(times.reference),
+        &cycles(times.measured),
         &ratio(times.ratio()),
     ]);
 }
@@ -61,7 +61,7 @@ fn time_joins(title: &str, order: Order, joins: &[Join]) {
 /// Both forms write the same bytes, and those of the library's `replace_prefix` if it accepts the result.
 fn assert_forms_agree(join: &Join) {
     let [mut by_branches, mut by_arithmetic, mut by_library] = [[b'x'; MAX_PATH_LEN]; 3];
-    let length = forked::join(join.old, join.new, join.rest, &mut by_branches);
+    let length = branching::join(join.old, join.new, join.rest, &mut by_branches);
     assert_eq!(length, arithmetic::join(join.old, join.new, join.rest, &mut by_arithmetic));
     assert_eq!(by_branches, by_arithmetic);
     let path = [join.old, join.rest].concat();

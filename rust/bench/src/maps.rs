@@ -105,7 +105,7 @@ fn print_row(call: &MapCall, setting: &Setting) {
     let [parsed_each, parsed_once] = each_and_once(call, setting, from_paths);
     let ratios = [text_each, text_once, parsed_each, parsed_once].map(|times| ratio(times.ratio()));
     let [a, b, c, d] = ratios.each_ref().map(String::as_str);
-    let once = nanoseconds(text_once.library.min(parsed_once.library));
+    let once = nanoseconds(text_once.measured.min(parsed_once.measured));
     row(&[call.name, &setting.count.to_string(), a, b, c, d, &once]);
 }
 

@@ -131,5 +131,5 @@ fn time_direction(sides: &Sides, home: bool, texts: &[String]) -> String {
         black_box((&out, &replies));
     };
     let times = best_times(PATHS, original, library);
-    format!("{}, {:.0}", ratio(times.ratio()), times.library)
+    format!("{}, {:.0}", ratio(times.ratio()), times.measured)
 }
