@@ -48,21 +48,6 @@ add-result c =
     let at-as-number = at-as-number2 .before in
     rw (at-as-number .as-number .ensures, at-as-number2 .as-number2 .ensures, at-as-number3 .as-number3 .ensures, at-as-number4 .as-number4 .ensures, after-prefix) (number-fits _)
 
-mul-result : tie.Need-mul-result
-mul-result c =
-    let at-as-number4 = c .before in
-    let at-as-number3 = at-as-number4 .before in
-    let at-as-number2 = at-as-number3 .before in
-    let at-as-number = at-as-number2 .before in
-    rw (
-      c .as-number5 .ensures,
-      at-as-number .as-number .ensures,
-      at-as-number2 .as-number2 .ensures,
-      at-as-number3 .as-number3 .ensures,
-      at-as-number4 .as-number4 .ensures,
-      separator-is,
-    ) (separator-fits _ _ _ _ _)
-
 returns : tie.Need-returns
 returns c =
     let at-as-number4 = c .before in
@@ -76,6 +61,10 @@ returns c =
       at-as-number3 .as-number3 .ensures,
       at-as-number4 .as-number4 .ensures,
     ) (separator-is _ _ _ _ _)
+
+-- The product is what is returned, which is 0 or 1.
+mul-result : tie.Need-mul-result
+mul-result c = rw (returns c) (separator-fits _ _ _ _ _)
 
 pub separator-len-spec : {M : Type 1} → statement M
 separator-len-spec =
