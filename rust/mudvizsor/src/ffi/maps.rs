@@ -46,6 +46,16 @@ pub fn apply(direction: Direction, list: List, path: &[u8], out: &mut [u8]) -> R
     }
 }
 
+/// Maps `path` as [`apply`] does, and tells which part of it was carried over unaltered: the rest, from an index to the end of
+/// `path`. The value is the length written, plus 256 times the index where the rest begins, plus 65,536 times its length.
+pub fn apply_carried(direction: Direction, list: List, path: &[u8], out: &mut [u8]) -> Reply {
+    match direction {
+        Direction::Out => entry!(mudvizsor_map_source_to_target_carried: list list, text path, out out,),
+        Direction::Home => entry!(mudvizsor_map_target_to_source_carried: list list, text path, out out,),
+        Direction::Translated => entry!(mudvizsor_translate_to_target_carried: list list, text path, out out,),
+    }
+}
+
 /// Many paths as they are lent to one call.
 #[derive(Clone, Copy)]
 pub struct Paths<'a> {

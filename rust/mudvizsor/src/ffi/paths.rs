@@ -32,6 +32,12 @@ pub fn has_prefix(text: &[u8], prefix: &[u8]) -> Reply {
     entry!(mudvizsor_path_has_prefix: text text, text prefix,)
 }
 
+/// The value is 1 if `prefix` is a prefix of the path, plus 256 times the index where the rest of the path begins; 0 if it is
+/// no prefix. A separating slash belongs to the rest.
+pub fn rest_start(text: &[u8], prefix: &[u8]) -> Reply {
+    entry!(mudvizsor_path_rest_start: text text, text prefix,)
+}
+
 /// Writes `path` with its prefix `old` replaced by `new`. The value is the length written.
 pub fn replace_prefix(path: &[u8], old: &[u8], new: &[u8], out: &mut [u8]) -> Reply {
     entry!(mudvizsor_path_replace_prefix: text path, text old, text new, out out,)

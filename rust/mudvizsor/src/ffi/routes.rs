@@ -27,6 +27,18 @@ pub fn route_home(route: Route, path: &[u8], out: &mut [u8]) -> Reply {
     entry!(mudvizsor_route_home: route route, text path, out out,)
 }
 
+/// Maps `path` out as [`route_out`] does, and tells which part of it all legs carried over unaltered. The value is the length
+/// written, plus 256 times the index where that part begins in `path`, plus 65,536 times its length.
+pub fn route_out_carried(route: Route, path: &[u8], out: &mut [u8]) -> Reply {
+    entry!(mudvizsor_route_out_carried: route route, text path, out out,)
+}
+
+/// Maps `path` home as [`route_home`] does, and tells which part of it all legs carried over unaltered. The value is that of
+/// [`route_out_carried`].
+pub fn route_home_carried(route: Route, path: &[u8], out: &mut [u8]) -> Reply {
+    entry!(mudvizsor_route_home_carried: route route, text path, out out,)
+}
+
 /// Maps each path out, or home if `home` is true. The result for path i is written to `out` at byte 255 i, and the number of
 /// the [`Reply`] that [`route_out`] or [`route_home`] would return for it to element i of `replies`.
 pub fn route_all(route: Route, home: bool, paths: Paths, out: &mut [u8], replies: &mut [usize]) -> Reply {
