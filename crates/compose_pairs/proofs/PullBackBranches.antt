@@ -88,7 +88,7 @@ module _ (s : Text) (o : Option Text) (mark : Bool) (e : o ≡ pathIfMarked mark
   pub pull-unmarked : not mark ≡ true → o ≡ none
   pull-unmarked k = e ∙ rw (not-true mark k) refl
 
-  -- The source joined to an empty prefix, with an empty rest, is the source.
+  -- The source joined to an empty prefix, with an empty remainder, is the source.
   pub pull-marked : not mark ≡ false → o ≡ some (join [] s [])
   pull-marked k = e ∙ rw (not-false mark k, join-none [] s) refl
 

@@ -22,14 +22,14 @@ enum Image {
     Made(usize),
 }
 
-// Writes the new prefix joined with the rest at offset `at` and returns its length.
-fn join_at(old: &[u8], new: &[u8], rest: &[u8], at: usize, bytes: &mut [u8]) -> usize
-    requires { ⌜ at + length (join (now old) (now new) (now rest)) ≤ length (now bytes) ⌝ }
-    ensures { λ r. ⌜ r ≡ length (join (now (old .entry)) (now (new .entry)) (now (rest .entry))) ⌝ }
+// Writes the new prefix joined with the remainder at offset `at` and returns its length.
+fn join_at(old: &[u8], new: &[u8], remainder: &[u8], at: usize, bytes: &mut [u8]) -> usize
+    requires { ⌜ at + length (join (now old) (now new) (now remainder)) ≤ length (now bytes) ⌝ }
+    ensures { λ r. ⌜ r ≡ length (join (now (old .entry)) (now (new .entry)) (now (remainder .entry))) ⌝ }
     ensures { λ r. ⌜ now (bytes .exit) ≡ writtenIfFits at
-        (join (now (old .entry)) (now (new .entry)) (now (rest .entry))) (now (bytes .entry)) ⌝ }
+        (join (now (old .entry)) (now (new .entry)) (now (remainder .entry))) (now (bytes .entry)) ⌝ }
 {
-    let fit = path_join::join(old, new, rest, &mut bytes[at..]);
+    let fit = path_join::join(old, new, remainder, &mut bytes[at..]);
     match fit {
         text::Fit::Written(n) => n,
         text::Fit::Over => 0,
@@ -136,29 +136,41 @@ fn compose_pair(
     m + k
 }
 
-// Returns whether the text is the new prefix joined with the rest. If the rest has at least two bytes, so
+// Returns whether the text is the new prefix joined with the remainder. If the remainder has at least two bytes, so
 // that the join ends in its last byte, that byte is compared first.
-fn is_joined(old: &[u8], new: &[u8], rest: &[u8], text: &[u8]) -> bool
-    ensures { λ r. ⌜ r ≡ equal (join (now (old .entry)) (now (new .entry)) (now (rest .entry))) (now (text .entry)) ⌝ }
+fn is_joined(old: &[u8], new: &[u8], remainder: &[u8], text: &[u8]) -> bool
+    ensures { λ r. ⌜ r ≡ equal (join (now (old .entry)) (now (new .entry)) (now (remainder .entry))) (now (text .entry)) ⌝ }
 {
-    let k = rest.len();
+    let k = remainder.len();
     if k < 2 {
-        return path_join::is_join(old, new, rest, text);
+        return path_join::is_join(old, new, remainder, text);
     }
-    if !text::last_is(text, rest[k - 1]) {
+    if !text::last_is(text, remainder[k - 1]) {
         return false;
     }
-    path_join::is_join(old, new, rest, text)
+    path_join::is_join(old, new, remainder, text)
 }
 
-// Returns whether one of the first n pairs has the new prefix joined with the rest as its source.
-fn has_joined(bytes: &[u8], slots: &[usize], n: usize, old: &[u8], new: &[u8], rest: &[u8]) -> bool
+// Returns whether one of the first n pairs has the new prefix joined with the remainder as its source.
+fn has_joined(
+    bytes: &[u8],
+    slots: &[usize],
+    n: usize,
+    old: &[u8],
+    new: &[u8],
+    remainder: &[u8],
+) -> bool
     ensures { λ r. ⌜ r ≡ hasSource (pairsIn (now (bytes .entry)) (now (slots .entry)) n)
-        (join (now (old .entry)) (now (new .entry)) (now (rest .entry))) ⌝ }
+        (join (now (old .entry)) (now (new .entry)) (now (remainder .entry))) ⌝ }
 {
     let mut i = 0;
     while i < n {
-        if is_joined(old, new, rest, pair_list::key_at(bytes, slots, i, false)) {
+        if is_joined(
+            old,
+            new,
+            remainder,
+            pair_list::key_at(bytes, slots, i, false),
+        ) {
             return true;
         }
         i += 1;
@@ -172,30 +184,30 @@ pub struct Built {
     pub at: usize,
 }
 
-// Appends a pair with the new prefix joined with the rest as its source and t as its target, unless a pair
+// Appends a pair with the new prefix joined with the remainder as its source and t as its target, unless a pair
 // already has that source.
 fn add_joined(
     old: &[u8],
     new: &[u8],
-    rest: &[u8],
+    remainder: &[u8],
     t: &[u8],
     b: Built,
     bytes: &mut [u8],
     slots: &mut [usize],
 ) -> Built
     requires { ⌜ IsPacked (b .n) (b .at) (now bytes) (now slots) ⌝ }
-    requires { ⌜ b .at + (length (join (now old) (now new) (now rest)) + length (now t)) ≤ length (now bytes) ⌝ }
+    requires { ⌜ b .at + (length (join (now old) (now new) (now remainder)) + length (now t)) ≤ length (now bytes) ⌝ }
     requires { ⌜ 4 * b .n + 4 ≤ length (now slots) ⌝ }
     ensures { λ r. ⌜ PackedList (addIfNewSource (pairsIn (now (bytes .entry)) (now (slots .entry)) (b .n))
-        (now (t .entry)) (some (join (now (old .entry)) (now (new .entry)) (now (rest .entry))))) (r .n) (r .at)
+        (now (t .entry)) (some (join (now (old .entry)) (now (new .entry)) (now (remainder .entry))))) (r .n) (r .at)
         (now (bytes .entry)) (now (slots .entry)) (now (bytes .exit)) (now (slots .exit)) ⌝ }
 {
     let at = b.at;
     let n = b.n;
-    if has_joined(bytes, slots, n, old, new, rest) {
+    if has_joined(bytes, slots, n, old, new, remainder) {
         return b;
     }
-    let k = join_at(old, new, rest, at, bytes);
+    let k = join_at(old, new, remainder, at, bytes);
     let end = at + k;
     let next = Built {
         n: n + 1,

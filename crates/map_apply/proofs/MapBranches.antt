@@ -49,10 +49,10 @@ module _ (q out : Text) (f : Fit) (h : f ≡ fitOf q out) (l : length out ≡ 25
       rw (lt-leb (length q) 255 (omega arith)) (refl, o)
 
 -- Lemmas for `apply_pair`; the remainder as the code cuts it.
-abbrev restOf : Text → Text → Text
-restOf s p = take (length p - length s) (drop (length s) p)
+abbrev remainderOf : Text → Text → Text
+remainderOf s p = take (length p - length s) (drop (length s) p)
 
-module _ (s t p out : Text) (b : Bool) (h : b ≡ joinIllegal t (restOf s p)) where
+module _ (s t p out : Text) (b : Bool) (h : b ≡ joinIllegal t (remainderOf s p)) where
   pub apply-illegal : b ≡ true → (Refused MadeIllegal ≡ outcomeReply (joinChecked s t (drop (length s) p))) × (out ≡ outcomeBuffer (joinChecked s t (drop (length s) p)) out)
   unfolding joinChecked outcomeReply outcomeBuffer
   apply-illegal k = let e : joinIllegal t (drop (length s) p) ≡ true = rw (rest-whole p (length s)) at (told h k) in rw e (refl, refl)
@@ -62,8 +62,8 @@ module _ (s t p out : Text) (b : Bool) (h : b ≡ joinIllegal t (restOf s p)) wh
     unspoilt = rw (rest-whole p (length s)) at (told h k)
 
     pub apply-made : (r : Reply) (out′ : Text)
-        → (r ≡ outcomeReply (cond (atMost255 (join s t (restOf s p))) (path (join s t (restOf s p))) (refused MadeTooLong)))
-        × (out′ ≡ outcomeBuffer (cond (atMost255 (join s t (restOf s p))) (path (join s t (restOf s p))) (refused MadeTooLong)) out)
+        → (r ≡ outcomeReply (cond (atMost255 (join s t (remainderOf s p))) (path (join s t (remainderOf s p))) (refused MadeTooLong)))
+        × (out′ ≡ outcomeBuffer (cond (atMost255 (join s t (remainderOf s p))) (path (join s t (remainderOf s p))) (refused MadeTooLong)) out)
         → (r ≡ outcomeReply (joinChecked s t (drop (length s) p))) × (out′ ≡ outcomeBuffer (joinChecked s t (drop (length s) p)) out)
     unfolding joinChecked
     apply-made r out′ w = rw unspoilt (rw (rest-whole p (length s)) at w)

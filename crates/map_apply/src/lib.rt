@@ -109,21 +109,21 @@ fn translate_by_pair(
     i: usize,
     old: &[u8],
     new: &[u8],
-    rest: &[u8],
+    remainder: &[u8],
     out: &mut [u8; 255],
 ) -> refusal::Reply
     ensures { λ r. ⌜ ReturnsPath (translateByPair (lentMap (now (store .entry)) (now (places .entry)) n mark) i
-        (now (old .entry)) (now (new .entry)) (now (rest .entry))) r (now (out .entry)) (now (out .exit)) ⌝ }
+        (now (old .entry)) (now (new .entry)) (now (remainder .entry))) r (now (out .entry)) (now (out .exit)) ⌝ }
 {
     let mut made = [0u8; 512];
-    let fit = path_join::join(old, new, rest, &mut made);
+    let fit = path_join::join(old, new, remainder, &mut made);
     let text::Fit::Written(len) = fit else {
         return refusal::Reply::Refused(refusal::Refusal::MadeTooLong);
     };
     if !map_lookup::is_longest_match(store, places, n, true, &made[..len], i) {
         return refusal::Reply::Refused(refusal::Refusal::NoPath);
     }
-    let illegal = path_join::is_join_illegal(new, rest);
+    let illegal = path_join::is_join_illegal(new, remainder);
     finish_join(illegal, &made[..len], out)
 }
 

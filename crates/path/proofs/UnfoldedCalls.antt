@@ -9,8 +9,10 @@ use Rattle.path_prefix.specs.Prefix.{hasPrefix}
 use Rattle.path_prefix.specs.Elements.{elementCount, primElementCount}
 use Rattle.path.specs.declared.Test.the-variants.{Holds, Refused as RefusedTest}
 use Rattle.path.specs.declared.Count.the-variants.{Counted, Refused as RefusedCount}
+use Rattle.path_rest.specs.Rest.{restStart}
+use Rattle.path.specs.declared.RestTest.the-variants.{Tested, Refused as RefusedRestTest}
 use Rattle.refusal.specs.Refusal.{validateTexts, refusedOr}
-use Rattle.path.specs.Calls.{isEndCall, hasVariantSelectionCall, elementCountCall, primElementCountCall, hasPrefixCall}
+use Rattle.path.specs.Calls.{isEndCall, hasVariantSelectionCall, elementCountCall, primElementCountCall, hasPrefixCall, restStartCall}
 
 module _ (p : Text) where
   pub is-end-unfolded : isEndCall p ≡ refusedOr (validateTexts (p ∷ [] ∷ [] ∷ [])) RefusedTest (Holds (isEnd p))
@@ -32,3 +34,7 @@ module _ (p : Text) where
   pub prefix-unfolded : (s : Text) → hasPrefixCall p s ≡ refusedOr (validateTexts (p ∷ s ∷ [] ∷ [])) RefusedTest (Holds (hasPrefix p s))
   unfolding hasPrefixCall
   prefix-unfolded s = refl
+
+  pub rest-unfolded : (s : Text) → restStartCall p s ≡ refusedOr (validateTexts (p ∷ s ∷ [] ∷ [])) RefusedRestTest (Tested (restStart p s))
+  unfolding restStartCall
+  rest-unfolded s = refl

@@ -7,11 +7,14 @@ use Rattle.path_grammar.specs.Own.{hasVariantSelection}
 use Rattle.path_grammar.specs.Legal.{isEnd}
 use Rattle.path_prefix.specs.Prefix.{hasPrefix}
 use Rattle.path_prefix.specs.Elements.{elementCount, primElementCount}
+use Rattle.path_rest.specs.Rest.{restStart}
 use Rattle.refusal.specs.declared.Validation.{Validation}
 use Rattle.path.specs.declared.Test.{Test}
 use Rattle.path.specs.declared.Test.the-variants.{Holds, Refused as RefusedTest}
 use Rattle.path.specs.declared.Count.{Count}
 use Rattle.path.specs.declared.Count.the-variants.{Counted, Refused as RefusedCount}
+use Rattle.path.specs.declared.RestTest.{RestTest}
+use Rattle.path.specs.declared.RestTest.the-variants.{Tested, Refused as RefusedRestTest}
 use Rattle.refusal.specs.Refusal.{validateTexts, refusedOr}
 
 -- The call `new`: validates one path. The Rust Path::new refuses the empty text; the requirements count it as legal.
@@ -38,6 +41,11 @@ hasVariantSelectionCall p = testCall (p ∷ []) (hasVariantSelection p)
 unfoldable pub hasPrefixCall : Text → Text → Test
 unfolding testCall hasPrefix
 hasPrefixCall p s = testCall (p ∷ s ∷ []) (hasPrefix p s)
+
+-- The call `rest_start`. Requirements: "The prefix test now says also where the rest begins".
+unfoldable pub restStartCall : Text → Text → RestTest
+unfolding validateTexts restStart
+restStartCall p s = refusedOr (validateTexts (p ∷ s ∷ [])) RefusedRestTest (Tested (restStart p s))
 
 -- The reply of a call that counts elements of the text p: the refusal if validation fails, otherwise n.
 unfoldable pub countCall : Text → ℕ → Count

@@ -1,8 +1,8 @@
 // Calls that test a path or count its elements. Ports new, has_prefix, element_count and prim_element_count
-// of the Rust sdf/path.rs. Each call validates its texts first (questions 1 and 2); the first failed question
-// decides the refusal.
+// of the Rust sdf/path.rs; rest_start is has_prefix with the place where the rest begins. Each call validates
+// its texts first (questions 1 and 2); the first failed question decides the refusal.
 ghost use mathlib.Core.Path.{_≡_};
-ghost use Rattle.path.specs.Calls.{pathNewCall, isEndCall, hasVariantSelectionCall, elementCountCall, primElementCountCall, hasPrefixCall};
+ghost use Rattle.path.specs.Calls.{pathNewCall, isEndCall, hasVariantSelectionCall, elementCountCall, primElementCountCall, hasPrefixCall, restStartCall};
 
 // The reply of a call that tests a path or a map.
 pub enum Test {
@@ -13,6 +13,12 @@ pub enum Test {
 // The reply of a call that counts elements.
 pub enum Count {
     Counted(path_prefix::Elements),
+    Refused(refusal::Refusal),
+}
+
+// The reply of the prefix test that tells where the rest begins.
+pub enum RestTest {
+    Tested(path_rest::Rest),
     Refused(refusal::Refusal),
 }
 
@@ -54,6 +60,17 @@ pub fn has_prefix(path: &[u8], prefix: &[u8]) -> Test
         return Test::Refused(x);
     }
     Test::Holds(path_prefix::has_prefix(path, prefix))
+}
+
+// Returns where the rest of the path after the prefix begins; nothing if it is no prefix of the path.
+pub fn rest_start(path: &[u8], prefix: &[u8]) -> RestTest
+    ensures { λ r. ⌜ r ≡ restStartCall (now (path .entry)) (now (prefix .entry)) ⌝ }
+{
+    let q = refusal::validate_texts(path, prefix, b"");
+    if let refusal::Validation::Refused(x) = q {
+        return RestTest::Refused(x);
+    }
+    RestTest::Tested(path_rest::rest_start(path, prefix))
 }
 
 // Returns the number of names and selections in the path.

@@ -11,13 +11,13 @@ ghost use Rattle.path_derive.specs.Calls.{replacePrefixCall, WrittenInPa
 
 // Writes the new prefix followed by the remainder after the old prefix, with questions 7 and 8. The path
 // is built in a scratch buffer, so that a refused call writes nothing.
-fn write_joined(old: &[u8], new: &[u8], rest: &[u8], out: &mut [u8]) -> refusal::Reply
+fn write_joined(old: &[u8], new: &[u8], remainder: &[u8], out: &mut [u8]) -> refusal::Reply
     requires { ⌜ 255 ≤ length (now out) ⌝ }
-    ensures { λ r. ⌜ ReturnsPath (checked (join (now (old .entry)) (now (new .entry)) (now (rest .entry)))) r
+    ensures { λ r. ⌜ ReturnsPath (checked (join (now (old .entry)) (now (new .entry)) (now (remainder .entry)))) r
         (now (out .entry)) (now (out .exit)) ⌝ }
 {
     let mut made = [0u8; 255];
-    let fit = path_join::join(old, new, rest, &mut made);
+    let fit = path_join::join(old, new, remainder, &mut made);
     let text::Fit::Written(n) = fit else {
         return refusal::Reply::Refused(refusal::Refusal::MadeTooLong);
     };

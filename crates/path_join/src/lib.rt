@@ -67,10 +67,10 @@ fn separator_len(
 }
 
 // The layout of a join, from the lengths of its texts and the bytes at their ends, each of which is read once.
-fn layout_of(old: &[u8], new: &[u8], rest: &[u8]) -> Layout
-    ensures { λ r. ⌜ LaysOut (now (old .entry)) (now (new .entry)) (now (rest .entry)) (r .separator) (r .start) ⌝ }
+fn layout_of(old: &[u8], new: &[u8], remainder: &[u8]) -> Layout
+    ensures { λ r. ⌜ LaysOut (now (old .entry)) (now (new .entry)) (now (remainder .entry)) (r .separator) (r .start) ⌝ }
 {
-    let first = first_byte(rest);
+    let first = first_byte(remainder);
     let old_last = last_byte(old);
     let new_last = last_byte(new);
     let old_is_root = (old.len() == 1) & (old_last == b'/');
@@ -78,7 +78,13 @@ fn layout_of(old: &[u8], new: &[u8], rest: &[u8]) -> Layout
     let child = (first == b'/') | ((old_last == b'}') & path_grammar::is_identifier_cont(first));
     let direct = new_is_root | (new_last == b'}');
     Layout {
-        separator: separator_len(rest.len() != 0, old_is_root, new_is_root, child, direct),
+        separator: separator_len(
+            remainder.len() != 0,
+            old_is_root,
+            new_is_root,
+            child,
+            direct,
+        ),
         start: as_number(!old_is_root & (first == b'/')),
     }
 }
@@ -108,15 +114,15 @@ fn has_separator(k: usize, at: usize, text: &[u8]) -> bool
 
 // Writes the new prefix followed by the remainder after the old prefix if it fits; otherwise writes
 // nothing.
-pub fn join(old: &[u8], new: &[u8], rest: &[u8], out: &mut [u8]) -> text::Fit
-    ensures { λ r. ⌜ r ≡ fitOf (join (now (old .entry)) (now (new .entry)) (now (rest .entry))) (now (out .entry)) ⌝ }
-    ensures { λ r. ⌜ now (out .exit) ≡ writtenIfFits 0 (join (now (old .entry)) (now (new .entry)) (now (rest .entry)))
+pub fn join(old: &[u8], new: &[u8], remainder: &[u8], out: &mut [u8]) -> text::Fit
+    ensures { λ r. ⌜ r ≡ fitOf (join (now (old .entry)) (now (new .entry)) (now (remainder .entry))) (now (out .entry)) ⌝ }
+    ensures { λ r. ⌜ now (out .exit) ≡ writtenIfFits 0 (join (now (old .entry)) (now (new .entry)) (now (remainder .entry)))
         (now (out .entry)) ⌝ }
 {
     let n = new.len();
-    let layout = layout_of(old, new, rest);
+    let layout = layout_of(old, new, remainder);
     let start = layout.start;
-    let body = &rest[start..];
+    let body = &remainder[start..];
     let at = n + layout.separator;
     let len = at + body.len();
     if out.len() < len {
@@ -129,13 +135,13 @@ pub fn join(old: &[u8], new: &[u8], rest: &[u8], out: &mut [u8]) -> text::Fit
 }
 
 // Returns whether the text is what `join` would write, without writing it.
-pub fn is_join(old: &[u8], new: &[u8], rest: &[u8], text: &[u8]) -> bool
-    ensures { λ r. ⌜ r ≡ equal (join (now (old .entry)) (now (new .entry)) (now (rest .entry))) (now (text .entry)) ⌝ }
+pub fn is_join(old: &[u8], new: &[u8], remainder: &[u8], text: &[u8]) -> bool
+    ensures { λ r. ⌜ r ≡ equal (join (now (old .entry)) (now (new .entry)) (now (remainder .entry))) (now (text .entry)) ⌝ }
 {
     let n = new.len();
-    let layout = layout_of(old, new, rest);
+    let layout = layout_of(old, new, remainder);
     let start = layout.start;
-    let body = &rest[start..];
+    let body = &remainder[start..];
     let at = n + layout.separator;
     if text.len() != at + body.len() {
         return false;
@@ -151,13 +157,13 @@ pub fn is_join(old: &[u8], new: &[u8], rest: &[u8], text: &[u8]) -> bool
 
 // Returns whether the joined path would be illegal: the new prefix is `/` or empty, and the remainder
 // begins with `.` or `{`, which cannot follow it.
-pub fn is_join_illegal(new: &[u8], rest: &[u8]) -> bool
-    ensures { λ r. ⌜ r ≡ joinIllegal (now (new .entry)) (now (rest .entry)) ⌝ }
+pub fn is_join_illegal(new: &[u8], remainder: &[u8]) -> bool
+    ensures { λ r. ⌜ r ≡ joinIllegal (now (new .entry)) (now (remainder .entry)) ⌝ }
 {
-    if rest.len() == 0 {
+    if remainder.len() == 0 {
         return false;
     }
-    if !starts_suffix(rest[0]) {
+    if !starts_suffix(remainder[0]) {
         return false;
     }
     if new.len() == 0 {

@@ -20,7 +20,7 @@ returns c =
     let at-start = at-has-joined .before .before .before .before .before .before .before .before .before in
     let args = at-start .args in
     add-there (pairsIn (args .bytes .now) (args .slots .now) (args .b .n)) (args .b .n) (args .b .at) (args .bytes .now) (args .slots .now)
-    (at-start .pre .0) (args .t .now) (join (args .old .now) (args .new .now) (args .rest .now)) _ (at-has-joined .has-joined .ensures)
+    (at-start .pre .0) (args .t .now) (join (args .old .now) (args .new .now) (args .remainder .now)) _ (at-has-joined .has-joined .ensures)
     (c .if1 .taken)
 
 join-at-requires : tie.Need-join-at-requires
@@ -58,7 +58,7 @@ returns-2 c =
     let args = at-start .args in
     let pre = at-start .pre in
     add-new (pairsIn (args .bytes .now) (args .slots .now) (args .b .n)) (args .b .n) (args .b .at) (args .bytes .now) (args .slots .now) (pre .0)
-    (args .t .now) (join (args .old .now) (args .new .now) (args .rest .now)) _ (at-has-joined .has-joined .ensures) (at-if1 .if1 .left) (pre .1 .0)
+    (args .t .now) (join (args .old .now) (args .new .now) (args .remainder .now)) _ (at-has-joined .has-joined .ensures) (at-if1 .if1 .left) (pre .1 .0)
     (pre .1 .1) _ (at-join-at .join-at .ensures .0) _ _ _ (at-join-at .join-at .ensures .1) (at-write-at .write-at .ensures)
     (at-write-entry .write-entry .ensures)
 

@@ -11,10 +11,10 @@ use Rattle.compose_pairs.proofs.has_joined.Statement.{statement}
 use Rattle.compose_pairs.proofs.has_joined.Tie as tie
 
 abbrev Inv-loop : tie.InvT-loop
-Inv-loop bytes slots n old new rest i₀ i = (i ≤ n) × (hasSource (pairsIn bytes slots i) (join old new rest) ≡ false)
+Inv-loop bytes slots n old new remainder i₀ i = (i ≤ n) × (hasSource (pairsIn bytes slots i) (join old new remainder) ≡ false)
 
 abbrev μ-loop : tie.MeasureT-loop
-μ-loop bytes slots n old new rest i₀ i = n - i
+μ-loop bytes slots n old new remainder i₀ i = n - i
 
 loop-holds : tie.Need-loop-holds Inv-loop μ-loop
 loop-holds c = search (needs, joins)
