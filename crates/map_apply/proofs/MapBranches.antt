@@ -1,4 +1,4 @@
--- Lemmas for the branches of `apply_pair`, `keep_path` and `map_text`.
+-- Lemmas for the branches of `apply_pair`, `keep_path` and `map_text_carried`.
 use mathlib.Core.Path.{_≡_, refl, sym, ap, _∙_}
 use mathlib.Core.Logic.{_≢_}
 use mathlib.Core.Bool.{Bool, true, false, not, cond}
@@ -21,15 +21,19 @@ use Rattle.pair_list.specs.Places.{keyAt}
 use Rattle.pair_list.specs.LongestMatch.{longestMatch, matches}
 use Rattle.map_lookup.specs.LookupStep.{foundOf}
 use Rattle.map_lookup.proofs.FoundLaws.{found-none, found-some}
-use Rattle.pair_list.proofs.LongestMatchLaws.{chosen-best}
+use Rattle.pair_list.proofs.LongestMatchLaws.{chosen-best, served}
 use Rattle.map_lookup.specs.declared.Found.{Found}
 use Rattle.refusal.specs.declared.Refusal.the-variants.{NoPath, MadeTooLong, MadeIllegal}
 use Rattle.refusal.specs.declared.Reply.{Reply}
 use Rattle.refusal.specs.declared.Reply.the-variants.{Written, Refused}
 use Rattle.refusal.specs.Outcome.{Outcome, path, refused, outcomeReply, outcomeBuffer}
 use Rattle.map_spec.specs.Map.{Map, lentMap, mapSource, mapTarget}
+use Rattle.path_rest.specs.declared.Rest.the-variants.{From}
+use Rattle.path_rest.specs.Rest.{restIndex}
+use Rattle.path_rest.proofs.RestLaws.{rest-from}
+use Rattle.map_rest.specs.MapRest.{restBy, sourceRest, targetRest}
 use Rattle.map_spec.proofs.LentLaws.{matched-long, out-keys, home-keys, ends-by}
-use Rattle.map_apply.specs.Fast.{joinChecked, keepPath, mapFastBy, mapFast}
+use Rattle.map_apply.specs.Fast.{joinChecked, keepPath, mapFastBy, mapFast, plainRest}
 
 -- The buffer after writing a text that fits 255 bytes, and one that does not.
 module _ (q out : Text) (f : Fit) (h : f ≡ fitOf q out) (l : length out ≡ 255) where
@@ -83,12 +87,17 @@ module _ (mark : Bool) (p out : Text) where
   unfolding keepPath outcomeReply outcomeBuffer atMost255
   keep-whole out′ k l e m = rw (not-false mark k, le-leb (length p) 255 l) (refl, m ∙ placed-first p out (omega arith))
 
--- Lemmas for `map_text`; the keys that the code reads are the ends of the map in lent memory.
+-- Lemmas for `map_text_carried`; the keys that the code reads are the ends of the map in lent memory.
 module _ (mark : Bool) (p : Text) (a a′ b b′ t t′ : ℕ → Text) where
   by-same : (o : Option ℕ) → ((i : ℕ) → o ≡ some i → (a i ≡ a′ i) × (b i ≡ b′ i) × (t i ≡ t′ i)) → mapFastBy mark a b t p o ≡ mapFastBy mark a′ b′ t′ p o
   unfolding mapFastBy
   by-same none same = refl
   by-same (some i) same = let e = same i refl in rw (e .0, e .1, e .2)
+
+rest-same : (a a′ : ℕ → Text) (p : Text) (o : Option ℕ) → ((i : ℕ) → o ≡ some i → a i ≡ a′ i) → restBy a p o ≡ restBy a′ p o
+unfolding restBy
+rest-same a a′ p none same = refl
+rest-same a a′ p (some i) same = rw (same i refl)
 
 module _ (store : Text) (places : List ℕ) (n : ℕ) (mark : Bool) (p : Text) where
   abbrev key : Bool → ℕ → Text
@@ -108,7 +117,21 @@ module _ (store : Text) (places : List ℕ) (n : ℕ) (mark : Bool) (p : Text) w
       ∙ by-same mark p (mapTarget lent) (key true) (mapSource lent) (key false) (mapTarget lent) (key true) (longestMatch p (key true) n)
       (λ i e. let z = ends-by store places n mark p true i e in (z .1, z .0, z .1))
 
+  rest-by : (invert : Bool) → plainRest invert lent p ≡ restBy (key invert) p (longestMatch p (key invert) n)
+  unfolding plainRest sourceRest targetRest
+  rest-by false =
+      ap (restBy (mapSource lent) p) (out-keys store places n mark p)
+      ∙ rest-same (mapSource lent) (key false) p (longestMatch p (key false) n) (λ i e. ends-by store places n mark p false i e .0)
+  rest-by true =
+      ap (restBy (mapTarget lent) p) (home-keys store places n mark p)
+      ∙ rest-same (mapTarget lent) (key true) p (longestMatch p (key true) n) (λ i e. ends-by store places n mark p true i e .1)
+
   module _ (invert : Bool) (f : Found) (h : f ≡ foundOf (longestMatch p (key invert) n)) where
+    -- With the mark only, the rest is the whole path.
+    pub rest-none : not (f .found) ≡ true → plainRest invert lent p ≡ From 0
+    unfolding restBy
+    rest-none k = rest-by invert ∙ ap (restBy (key invert) p) (found-none f (longestMatch p (key invert) n) h (not-true (f .found) k))
+
     pub map-none : not (f .found) ≡ true → mapFast invert lent p ≡ keepPath mark p
     unfolding mapFastBy
     map-none k = fast-by invert ∙ ap (mapFastBy mark (key invert) (key (not invert)) (key true) p) (found-none f (longestMatch p (key invert) n) h (not-true (f .found) k))
@@ -116,6 +139,14 @@ module _ (store : Text) (places : List ℕ) (n : ℕ) (mark : Bool) (p : Text) w
     module _ (k : not (f .found) ≡ false) where
       chosen : longestMatch p (key invert) n ≡ some (f .at)
       chosen = found-some f (longestMatch p (key invert) n) h (not-false (f .found) k)
+
+      -- With a pair, the rest begins where the prefix test says: a key that is selected is a prefix of the path.
+      pub rest-found : (s : Text) (j : ℕ) → s ≡ key invert (f .at) → j ≡ restIndex p s → plainRest invert lent p ≡ From j
+      unfolding restBy longestMatch
+      rest-found s j e i =
+          rw (i, e)
+          (rest-by invert ∙ ap (restBy (key invert) p) chosen
+          ∙ rest-from p (key invert (f .at)) (served p (key invert (f .at)) ((chosen-best (matches p) (key invert) n (f .at) chosen) .does-pass)))
 
       pub map-block : (b : Text) → b ≡ key true (f .at) → length b ≡ 0 → mapFast invert lent p ≡ refused NoPath
       unfolding mapFastBy

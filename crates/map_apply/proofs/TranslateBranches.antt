@@ -24,7 +24,11 @@ use Rattle.refusal.specs.declared.Reply.{Reply}
 use Rattle.refusal.specs.declared.Reply.the-variants.{Refused}
 use Rattle.refusal.specs.Outcome.{refused, outcomeReply, outcomeBuffer}
 use Rattle.map_spec.specs.Map.{lentMap, Map, matchSource, matchTarget, eqIndex}
-use Rattle.map_apply.specs.Fast.{checkedJoin, joinChecked, keepPath, translateByMark, translateByPair, translateFastBy, translateFast}
+use Rattle.path_rest.specs.declared.Rest.the-variants.{From}
+use Rattle.path_rest.specs.Rest.{restIndex}
+use Rattle.map_rest.specs.MapRest.{sourceRest}
+use Rattle.map_apply.proofs.MapBranches.{rest-none, rest-found}
+use Rattle.map_apply.specs.Fast.{plainRest, checkedJoin, joinChecked, keepPath, translateByMark, translateByPair, translateFastBy, translateFast}
 use Rattle.map_spec.proofs.LentLaws.{out-keys, home-keys, ends-by}
 use Rattle.text.proofs.TextLaws.{nil-length, nil-not}
 
@@ -69,7 +73,15 @@ module _ (store : Text) (places : List ℕ) (n : ℕ) (mark : Bool) (p : Text) w
     unfolding translateFast translateFastBy
     text-none k = rw (found-none f (matchSource lent p) out-is (not-true (f .found) k))
 
+    pub source-none : not (f .found) ≡ true → sourceRest lent p ≡ From 0
+    unfolding plainRest
+    source-none k = rest-none store places n mark p false f h k
+
     module _ (k : not (f .found) ≡ false) where
+      pub source-found : (s : Text) (j : ℕ) → s ≡ keyAt store places false (f .at) → j ≡ restIndex p s → sourceRest lent p ≡ From j
+      unfolding plainRest
+      source-found s j e i = rest-found store places n mark p false f h k s j e i
+
       chosen : longestMatch p (keyAt store places false) n ≡ some (f .at)
       chosen = found-some f (longestMatch p (keyAt store places false) n) h (not-false (f .found) k)
 

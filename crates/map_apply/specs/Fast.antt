@@ -10,6 +10,8 @@ use Rattle.path_grammar.specs.Legal.{atMost255}
 use Rattle.path_join.specs.Join.{join, joinIllegal}
 use Rattle.refusal.specs.declared.Refusal.the-variants.{NoPath, MadeTooLong, MadeIllegal}
 use Rattle.refusal.specs.Outcome.{Outcome, path, refused}
+use Rattle.path_rest.specs.declared.Rest.{Rest}
+use Rattle.map_rest.specs.MapRest.{sourceRest, targetRest}
 use Rattle.map_spec.specs.Map.{Map, mapSource, mapTarget, matchSource, matchTarget, eqIndex}
 
 -- The outcome for a path q that was built, and that is illegal if `illegal` is set. Question 8 comes before 7 here: after validation, an
@@ -38,6 +40,12 @@ unfoldable pub mapFast : Bool → Map → Text → Outcome
 unfolding mapFastBy matchSource matchTarget
 mapFast false m p = mapFastBy (m .mark) (mapSource m) (mapTarget m) (mapTarget m) p (matchSource m p)
 mapFast true m p = mapFastBy (m .mark) (mapTarget m) (mapSource m) (mapTarget m) p (matchTarget m p)
+
+-- The rest of plain mapping: forward, or backwards if the flag is set.
+unfoldable pub plainRest : Bool → Map → Text → Rest
+unfolding sourceRest targetRest
+plainRest false m p = sourceRest m p
+plainRest true m p = targetRest m p
 
 -- No pair is selected.
 abbrev pub isNone : Option ℕ → Bool

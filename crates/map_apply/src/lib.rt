@@ -1,12 +1,15 @@
 // Maps a path through a list of pairs: plain mapping (map_source_to_target, map_target_to_source) and
-// translation (translate_to_target) of the Rust pcp/mapping.rs. Defined for any bytes and any numbers,
-// so that a caller can validate a list once and then map many paths through it.
+// translation (translate_to_target) of the Rust pcp/mapping.rs, with the rest of the path beside the reply or
+// without it. Defined for any bytes and any numbers, so that a caller can validate a list once and then map
+// many paths through it.
 ghost use mathlib.Core.Path.{_≡_};
 ghost use Prim.Native.Nat.{_≤_};
 ghost use lib.ListN.{length, drop};
 ghost use Rattle.refusal.specs.Outcome.{ReturnsPath};
+ghost use Rattle.path_rest.specs.Carried.{ReturnsCarried};
 ghost use Rattle.map_spec.specs.Map.{lentMap};
-ghost use Rattle.map_apply.specs.Fast.{joinChecked, keepPath, mapFast, translateByMark, checkedJoin, translateByPair, translateFast};
+ghost use Rattle.map_rest.specs.MapRest.{sourceRest};
+ghost use Rattle.map_apply.specs.Fast.{joinChecked, keepPath, mapFast, plainRest, translateByMark, checkedJoin, translateByPair, translateFast};
 
 // Writes the path with its old prefix replaced by the new one, with questions 7 and 8.
 fn apply_pair(old: &[u8], new: &[u8], path: &[u8], out: &mut [u8; 255]) -> refusal::Reply
@@ -39,6 +42,35 @@ fn keep_path(mark: bool, path: &[u8], out: &mut [u8; 255]) -> refusal::Reply
     refusal::Reply::Written(path.len())
 }
 
+// Plain mapping through the first n pairs, forward, or backwards if `invert` is set, with the rest of the path.
+pub fn map_text_carried(
+    store: &[u8],
+    places: &[usize],
+    n: usize,
+    mark: bool,
+    invert: bool,
+    path: &[u8],
+    out: &mut [u8; 255],
+) -> path_rest::Carried
+    ensures { λ r. ⌜ (let m = lentMap (now (store .entry)) (now (places .entry)) n mark in
+        ReturnsCarried (mapFast invert m (now (path .entry))) (plainRest invert m (now (path .entry))) r
+        (now (out .entry)) (now (out .exit))) ⌝ }
+{
+    let f = map_lookup::best_prefix(store, places, n, invert, path);
+    if !f.found {
+        return path_rest::with_rest(keep_path(mark, path, out), path_rest::Rest::From(0));
+    }
+    let i = f.at;
+    let block = pair_list::key_at(store, places, i, true);
+    if block.len() == 0 {
+        return path_rest::Carried::Refused(refusal::Refusal::NoPath);
+    }
+    let old = pair_list::key_at(store, places, i, invert);
+    let new = pair_list::key_at(store, places, i, !invert);
+    let reply = apply_pair(old, new, path, out);
+    path_rest::with_rest(reply, path_rest::Rest::From(path_rest::rest_index(path, old)))
+}
+
 // Plain mapping through the first n pairs, forward, or backwards if `invert` is set.
 pub fn map_text(
     store: &[u8],
@@ -52,18 +84,7 @@ pub fn map_text(
     ensures { λ r. ⌜ ReturnsPath (mapFast invert (lentMap (now (store .entry)) (now (places .entry)) n mark)
         (now (path .entry))) r (now (out .entry)) (now (out .exit)) ⌝ }
 {
-    let f = map_lookup::best_prefix(store, places, n, invert, path);
-    if !f.found {
-        return keep_path(mark, path, out);
-    }
-    let i = f.at;
-    let block = pair_list::key_at(store, places, i, true);
-    if block.len() == 0 {
-        return refusal::Reply::Refused(refusal::Refusal::NoPath);
-    }
-    let old = pair_list::key_at(store, places, i, invert);
-    let new = pair_list::key_at(store, places, i, !invert);
-    apply_pair(old, new, path, out)
+    path_rest::reply_of(map_text_carried(store, places, n, mark, invert, path, out))
 }
 
 // Translation of a path that no pair matches: the mark returns the path, unless some target is a prefix
@@ -127,6 +148,35 @@ fn translate_by_pair(
     finish_join(illegal, &made[..len], out)
 }
 
+// Translation of a path without selections through the first n pairs, with the rest of the path.
+pub fn translate_text_carried(
+    store: &[u8],
+    places: &[usize],
+    n: usize,
+    mark: bool,
+    path: &[u8],
+    out: &mut [u8; 255],
+) -> path_rest::Carried
+    ensures { λ r. ⌜ (let m = lentMap (now (store .entry)) (now (places .entry)) n mark in
+        ReturnsCarried (translateFast m (now (path .entry))) (sourceRest m (now (path .entry))) r
+        (now (out .entry)) (now (out .exit))) ⌝ }
+{
+    let f = map_lookup::best_prefix(store, places, n, false, path);
+    if !f.found {
+        let reply = translate_by_mark(store, places, n, mark, path, out);
+        return path_rest::with_rest(reply, path_rest::Rest::From(0));
+    }
+    let i = f.at;
+    let new = pair_list::key_at(store, places, i, true);
+    if new.len() == 0 {
+        return path_rest::Carried::Refused(refusal::Refusal::NoPath);
+    }
+    let old = pair_list::key_at(store, places, i, false);
+    let k = old.len();
+    let reply = translate_by_pair(store, places, n, mark, i, old, new, &path[k..], out);
+    path_rest::with_rest(reply, path_rest::Rest::From(path_rest::rest_index(path, old)))
+}
+
 // Translation of a path without selections through the first n pairs.
 pub fn translate_text(
     store: &[u8],
@@ -139,16 +189,5 @@ pub fn translate_text(
     ensures { λ r. ⌜ ReturnsPath (translateFast (lentMap (now (store .entry)) (now (places .entry)) n mark)
         (now (path .entry))) r (now (out .entry)) (now (out .exit)) ⌝ }
 {
-    let f = map_lookup::best_prefix(store, places, n, false, path);
-    if !f.found {
-        return translate_by_mark(store, places, n, mark, path, out);
-    }
-    let i = f.at;
-    let new = pair_list::key_at(store, places, i, true);
-    if new.len() == 0 {
-        return refusal::Reply::Refused(refusal::Refusal::NoPath);
-    }
-    let old = pair_list::key_at(store, places, i, false);
-    let k = old.len();
-    translate_by_pair(store, places, n, mark, i, old, new, &path[k..], out)
+    path_rest::reply_of(translate_text_carried(store, places, n, mark, path, out))
 }

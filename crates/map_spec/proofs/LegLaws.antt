@@ -26,7 +26,7 @@ use Rattle.map_spec.proofs.OutcomeLaws.{checked-path, path-checked}
 use Rattle.map_spec.proofs.EndLaws.{ends-source, ends-target, full-source}
 
 -- A key that matches is not empty; a nonempty prefix matches.
-matches-full : (p k : Text) → matches p k ≡ true → isNil k ≡ false
+pub matches-full : (p k : Text) → matches p k ≡ true → isNil k ≡ false
 unfolding matches
 matches-full p k e = not-true (isNil k) (and-l (not (isNil k)) (hasPrefix p k) e)
 
@@ -116,7 +116,7 @@ module _ (m : Map) (p q : Text) (em : allEnds (m .pairs) ≡ true) (lp : legal p
         eq-eqb i j (omega arith)
 
 -- A path that passes the invertibility check was plainly mapped, and mapping it back selects the same pair.
-invertible-some : (m : Map) (i : Option ℕ) (o : Option Text) (q : Text) → requireInvertible m i o ≡ some q → (o ≡ some q) × (eqIndex i (matchTarget m q) ≡ true)
+pub invertible-some : (m : Map) (i : Option ℕ) (o : Option Text) (q : Text) → requireInvertible m i o ≡ some q → (o ≡ some q) × (eqIndex i (matchTarget m q) ≡ true)
 unfolding requireInvertible
 invertible-some m i none q e = absurd (no-text e)
 invertible-some m i (some r) q e = go (eqIndex i (matchTarget m r)) refl e

@@ -2,3 +2,4 @@
 mod RestBranches
 mod CarriedBranches
 pub mod RestLaws
+pub mod CarriedLaws

@@ -1,87 +1,17 @@
-use mathlib.Core.Bool.{false}
-use Rattle.text.proofs.WriteLaws.{rest-whole}
-use Rattle.refusal.proofs.CallBranches.{refusing, answering}
-use Rattle.map_apply.proofs.MapBranches.{map-inside}
-use Rattle.map_apply.proofs.TranslateBranches.{text-none, text-block, text-pair}
+use Rattle.path_rest.proofs.CarriedLaws.{without-rest}
 use borrow.Author.Needs.{needs}
 use Rattle.map_apply.proofs.translate_text.Statement.{statement}
 use Rattle.map_apply.proofs.translate_text.Tie as tie
 
-best-prefix-requires : tie.Need-best-prefix-requires
-best-prefix-requires c κs = search needs
+translate-text-carried-requires : tie.Need-translate-text-carried-requires
+translate-text-carried-requires c κs = search needs
 
-translate-by-mark-requires : tie.Need-translate-by-mark-requires
-translate-by-mark-requires c κs = search needs
+reply-of-requires : tie.Need-reply-of-requires
+reply-of-requires c κs = search needs
 
 returns : tie.Need-returns
-returns c =
-    let at-if1 = c .before .before in
-    let at-best-prefix = at-if1 .before .before in
-    answering _ _ (text-none _ _ _ _ _ (at-best-prefix .best-prefix .result) (at-best-prefix .best-prefix .ensures) (at-if1 .if1 .taken)) _ _ _
-    (c .translate-by-mark .ensures)
-
-key-at-requires : tie.Need-key-at-requires
-key-at-requires c κs = search needs
-
-returns-2 : tie.Need-returns-2
-returns-2 c =
-    let at-key-at = c .before in
-    let at-if1 = at-key-at .before in
-    let at-best-prefix = at-if1 .before .before in
-    refusing _ _
-    (text-block _ _ _ _ _ (at-best-prefix .best-prefix .result) (at-best-prefix .best-prefix .ensures) (at-if1 .if1 .left) _
-    (at-key-at .key-at .ensures) (c .if2 .taken))
-    _
-
-key-at-requires-2 : tie.Need-key-at-requires-2
-key-at-requires-2 c κs = search needs
-
-sub-translate-by-pair : tie.Need-sub-translate-by-pair
-sub-translate-by-pair c =
-    let at-if1 = c .before .before .before in
-    let at-best-prefix = at-if1 .before .before in
-    let at-start = at-best-prefix .before .before .before .before in
-    map-inside _ _ _ (at-start .args .mark) _ false (at-best-prefix .best-prefix .result) (at-best-prefix .best-prefix .ensures) (at-if1 .if1 .left) _
-    (c .key-at2 .ensures)
-
-part-translate-by-pair-start : tie.Need-part-translate-by-pair-start
-part-translate-by-pair-start c =
-    let at-if1 = c .before .before .before in
-    let at-best-prefix = at-if1 .before .before in
-    let at-start = at-best-prefix .before .before .before .before in
-    map-inside _ _ _ (at-start .args .mark) _ false (at-best-prefix .best-prefix .result) (at-best-prefix .best-prefix .ensures) (at-if1 .if1 .left) _
-    (c .key-at2 .ensures)
-
-part-translate-by-pair-end : tie.Need-part-translate-by-pair-end
-part-translate-by-pair-end c = search needs
-
-translate-by-pair-requires : tie.Need-translate-by-pair-requires
-translate-by-pair-requires c κs = search needs
-
-returns-3 : tie.Need-returns-3
-returns-3 c =
-    let at-key-at2 = c .before .before .before in
-    let at-if2 = at-key-at2 .before in
-    let at-key-at = at-if2 .before in
-    let at-if1 = at-key-at .before in
-    let at-best-prefix = at-if1 .before .before in
-    answering _ _
-    (text-pair _ _ _ _ _ (at-best-prefix .best-prefix .result) (at-best-prefix .best-prefix .ensures) (at-if1 .if1 .left) _ _
-    (at-key-at .key-at .ensures) (at-if2 .if2 .left) (at-key-at2 .key-at2 .ensures))
-    _ _ _ (rw rest-whole at (c .translate-by-pair .ensures))
+returns c = without-rest _ _ _ _ _ _ (c .reply-of .ensures) (c .before .translate-text-carried .ensures)
 
 pub translate-text-spec : {M : Type 1} → statement M
 translate-text-spec =
-    tie.close
-    (tie.spec
-    best-prefix-requires
-    translate-by-mark-requires
-    returns
-    key-at-requires
-    returns-2
-    key-at-requires-2
-    sub-translate-by-pair
-    part-translate-by-pair-start
-    part-translate-by-pair-end
-    translate-by-pair-requires
-    returns-3)
+    tie.close (tie.spec translate-text-carried-requires reply-of-requires returns)

@@ -1,0 +1,1 @@
+// The rest of a mapped path: definitions and theorems only (specs/, proofs/), no code.
