@@ -68,7 +68,10 @@ pub fn map_text_carried(
     let old = pair_list::key_at(store, places, i, invert);
     let new = pair_list::key_at(store, places, i, !invert);
     let reply = apply_pair(old, new, path, out);
-    path_rest::with_rest(reply, path_rest::Rest::From(path_rest::rest_index(path, old)))
+    path_rest::with_rest(
+        reply,
+        path_rest::Rest::From(path_rest::rest_index(path, old)),
+    )
 }
 
 // Plain mapping through the first n pairs, forward, or backwards if `invert` is set.
@@ -174,7 +177,10 @@ pub fn translate_text_carried(
     let old = pair_list::key_at(store, places, i, false);
     let k = old.len();
     let reply = translate_by_pair(store, places, n, mark, i, old, new, &path[k..], out);
-    path_rest::with_rest(reply, path_rest::Rest::From(path_rest::rest_index(path, old)))
+    path_rest::with_rest(
+        reply,
+        path_rest::Rest::From(path_rest::rest_index(path, old)),
+    )
 }
 
 // Translation of a path without selections through the first n pairs.

@@ -129,12 +129,12 @@ module _ (m : Map) (a b : ℕ → Text) (p q : Text) (ea : (i : ℕ) → isEnd (
           let found : some p ≡ some q = rw k at e in
           let same : p ≡ q = cc in
           record {
-              byMark = λ x. (refl, sym same);
-              given = λ i x. absurd (Option·none-ne-some i x);
-              made = λ i x. absurd (Option·none-ne-some i x);
-              joined = λ i x. absurd (Option·none-ne-some i x);
-              endsGiven = ([], refl);
-              endsMade = ([], sym same)
+            byMark = λ x. (refl, sym same);
+            given = λ i x. absurd (Option·none-ne-some i x);
+            made = λ i x. absurd (Option·none-ne-some i x);
+            joined = λ i x. absurd (Option·none-ne-some i x);
+            endsGiven = ([], refl);
+            endsMade = ([], sym same);
           }
       go false k = absurd (no-text (rw k at e))
   rest-unaltered (some j) n e = go (isNil (mapTarget m j)) refl
@@ -149,12 +149,12 @@ module _ (m : Map) (a b : ℕ → Text) (p q : Text) (ea : (i : ℕ) → isEnd (
           let given : p ≡ followedBy (a j) rest = given-by-pair (a j) (b j) p q (n j refl) (ea j) (eb j) lp lq replaced in
           let made : q ≡ followedBy (b j) rest = made-by-pair (a j) (b j) p q (n j refl) (ea j) (eb j) lp lq replaced in
           record {
-              byMark = λ x. absurd (Option·some-ne-none j x);
-              given = λ i x. let same : j ≡ i = cc in rw (← same) given;
-              made = λ i x. let same : j ≡ i = cc in rw (← same) made;
-              joined = λ i x. let same : j ≡ i = cc in rw (← same) (made ∙ followed-join (b j) rest (eb j) (rw made at lq));
-              endsGiven = rw (← given) at (followed-ends (a j) rest);
-              endsMade = rw (← made) at (followed-ends (b j) rest)
+            byMark = λ x. absurd (Option·some-ne-none j x);
+            given = λ i x. let same : j ≡ i = cc in rw (← same) given;
+            made = λ i x. let same : j ≡ i = cc in rw (← same) made;
+            joined = λ i x. let same : j ≡ i = cc in rw (← same) (made ∙ followed-join (b j) rest (eb j) (rw made at lq));
+            endsGiven = rw (← given) at (followed-ends (a j) rest);
+            endsMade = rw (← made) at (followed-ends (b j) rest);
           }
 
 -- The keys are ends, and the one that is selected is not empty.

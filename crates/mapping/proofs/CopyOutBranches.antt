@@ -14,7 +14,7 @@ use Rattle.text.specs.declared.Fit.the-variants.{Written as WrittenFit}
 use Rattle.text.proofs.BoolLaws.{told}
 use Rattle.text.proofs.WriteLaws.{placed-first, read-back}
 use Rattle.path_grammar.specs.Legal.{atMost255}
-use Rattle.path_grammar.proofs.OwnLaws.{lacks-free}
+use Rattle.path_grammar.proofs.OwnLaws.{lacks-free, selection-scan}
 use Rattle.path_join.specs.Join.{join, joinIllegal}
 use Rattle.path_parts.specs.Strip.{strip, stripFit, stripBuffer}
 use Rattle.path_parts.proofs.StripLaws.{strip-same, strip-back}
@@ -25,6 +25,8 @@ use Rattle.refusal.specs.declared.Validation.the-variants.{Passed, Refused as R
 use Rattle.refusal.specs.declared.Reply.{Reply}
 use Rattle.refusal.specs.declared.Reply.the-variants.{Written}
 use Rattle.refusal.specs.Outcome.{Outcome, path, refused, outcomeReply, outcomeBuffer, requireRoom, afterChecks}
+use Rattle.path_rest.specs.declared.Rest.the-variants.{Nothing}
+use Rattle.map_rest.specs.MapRest.{sourceRest, translatedRest}
 use Rattle.map_spec.specs.Map.{Map, mapSource, mapTarget, matchSource, matchTarget, eqIndex}
 use Rattle.map_apply.specs.Fast.{joinChecked, keepPath, mapFastBy, mapFast, isNone, translateByMark, translateByPair, translateFastBy, translateFast}
 use Rattle.mapping.specs.CopyOut.{replyWithin, copiedOut}
@@ -120,6 +122,16 @@ module _ (o : Outcome) (r : Reply) (buf made : Text) (h : r ≡ outcomeReply o) 
 -- Lemmas for `translate_stripped`.
 pub translate-plain : (m : Map) (p : Text) (b : Bool) → b ≡ lacksByte 123 p → b ≡ true → translateFast m (strip p) ≡ translateFast m p
 translate-plain m p b h k = ap (translateFast m) (strip-same p (lacks-free p (told h k)))
+
+-- A path without selections has the rest of plain mapping; one with selections has none.
+module _ (m : Map) (p : Text) (b : Bool) (h : b ≡ lacksByte 123 p) where
+  pub rest-plain : b ≡ true → translatedRest m p ≡ sourceRest m p
+  unfolding translatedRest
+  rest-plain k = rw (lacks-free p (told h k))
+
+  pub rest-stripped : b ≡ false → translatedRest m p ≡ Nothing
+  unfolding translatedRest
+  rest-stripped k = rw (selection-scan p, told h k)
 
 pub translate-back : (p buf : Text) (f : Fit) → length p ≤ length buf → f ≡ stripFit p buf → (k : ℕ) → f ≡ WrittenFit k → (mem : Text) → mem ≡ stripBuffer p buf → (o : Map)
     → translateFast o (strip p) ≡ translateFast o (take k mem)

@@ -20,13 +20,14 @@ use Rattle.path_parts.specs.Strip.{strip}
 use Rattle.validate.specs.Validate.{lentList, validateCall, firstRefusal}
 use Rattle.validate.proofs.RefusalLaws.{never, none-earlier, one-by-one}
 use Rattle.map_spec.specs.Map.{Map}
-use Rattle.map_apply.specs.Fast.{mapFast, translateFast}
+use Rattle.map_rest.specs.MapRest.{translatedRest}
+use Rattle.map_apply.specs.Fast.{mapFast, plainRest, translateFast}
 use Rattle.map_function.specs.declared.MapFunction.{MapFunction}
 use Rattle.map_function.specs.MapFunction.{mapOf}
 use Rattle.mapping.specs.declared.Direction.{Direction}
 use Rattle.mapping.specs.declared.Direction.the-variants.{Out, Home, Translated}
 use Rattle.mapping.specs.Direction.{mapFastIn, afterListValidated}
-use Rattle.mapping.specs.Calls.{directionCall}
+use Rattle.mapping.specs.Calls.{directionCall, directionRest}
 use Rattle.mapping.proofs.CopyOutBranches.{Short, short-fast, short-translate, short-answered}
 use Rattle.mapping.proofs.MappingBranches.{out-validated, home-validated, translate-validated}
 use Rattle.validate.proofs.PassedLaws.{empty-validated}
@@ -44,6 +45,18 @@ module _ (direction : Direction) (m : Map) (p : Text) where
   pub direction-translated : direction ≡ Translated → mapFastIn direction m p ≡ translateFast m (strip p)
   unfolding mapFastIn
   direction-translated h = rw h
+
+  pub rest-out : direction ≡ Out → directionRest direction m p ≡ plainRest false m p
+  unfolding directionRest plainRest
+  rest-out h = rw h
+
+  pub rest-home : direction ≡ Home → directionRest direction m p ≡ plainRest true m p
+  unfolding directionRest plainRest
+  rest-home h = rw h
+
+  pub rest-translated : direction ≡ Translated → directionRest direction m p ≡ translatedRest m p
+  unfolding directionRest
+  rest-translated h = rw h
 
 new-short : (p : Text) → pathNewCall p ≡ Passed → length p ≤ 255
 unfolding pathNewCall validateTexts allTextsShort atMost255

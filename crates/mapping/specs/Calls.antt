@@ -6,7 +6,9 @@ use Rattle.refusal.specs.Outcome.{Outcome, afterChecks, checkedOption}
 use Rattle.validate.specs.Validate.{validateCall}
 use Rattle.map_function.specs.declared.MapFunction.{MapFunction}
 use Rattle.map_function.specs.MapFunction.{listOf, mapOf}
-use Rattle.map_spec.specs.Map.{mapSourceToTarget, mapTargetToSource, translateToTarget}
+use Rattle.path_rest.specs.declared.Rest.{Rest}
+use Rattle.map_spec.specs.Map.{Map, mapSourceToTarget, mapTargetToSource, translateToTarget}
+use Rattle.map_rest.specs.MapRest.{sourceRest, targetRest, translatedRest}
 use Rattle.mapping.specs.declared.Direction.{Direction}
 use Rattle.mapping.specs.declared.Direction.the-variants.{Out, Home, Translated}
 
@@ -35,3 +37,10 @@ unfolding mapSourceToTargetCall mapTargetToSourceCall translateToTargetCall
 directionCall Out store places f p room = mapSourceToTargetCall store places f p room
 directionCall Home store places f p room = mapTargetToSourceCall store places f p room
 directionCall Translated store places f p room = translateToTargetCall store places f p room
+
+-- The rest that this call tells beside its reply.
+unfoldable pub directionRest : Direction → Map → Text → Rest
+unfolding sourceRest targetRest translatedRest
+directionRest Out m p = sourceRest m p
+directionRest Home m p = targetRest m p
+directionRest Translated m p = translatedRest m p

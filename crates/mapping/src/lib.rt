@@ -1,15 +1,19 @@
 // Calls that map a path through a map in lent memory. Ports map_source_to_target, map_target_to_source
-// and translate_to_target of MapFunction in the Rust pcp/mapping.rs. Each call validates in the order of
-// the questions; a refused call writes nothing.
+// and translate_to_target of MapFunction in the Rust pcp/mapping.rs; each has a form that also tells the rest
+// of the path, the part that was carried over unaltered. Each call validates in the order of the questions; a
+// refused call writes nothing.
 ghost use mathlib.Core.Path.{_≡_};
 ghost use Prim.Native.Nat.{_≤_};
 ghost use lib.ListN.{length};
 ghost use Rattle.path_parts.specs.Strip.{strip};
 ghost use Rattle.refusal.specs.Outcome.{ReturnsPath};
+ghost use Rattle.path_rest.specs.Carried.{ReturnsCarried};
 ghost use Rattle.map_spec.specs.Map.{lentMap};
-ghost use Rattle.map_apply.specs.Fast.{mapFast, translateFast};
+ghost use Rattle.map_rest.specs.MapRest.{sourceRest, targetRest, translatedRest};
+ghost use Rattle.map_apply.specs.Fast.{mapFast, plainRest, translateFast};
+ghost use Rattle.map_function.specs.MapFunction.{mapOf};
 ghost use Rattle.mapping.specs.CopyOut.{replyWithin, copiedOut};
-ghost use Rattle.mapping.specs.Calls.{mapSourceToTargetCall, mapTargetToSourceCall, translateToTargetCall, directionCall};
+ghost use Rattle.mapping.specs.Calls.{mapSourceToTargetCall, mapTargetToSourceCall, translateToTargetCall, directionCall, directionRest};
 ghost use Rattle.mapping.specs.Direction.{mapFastIn, afterListValidated};
 
 // How a path is mapped.
@@ -45,14 +49,16 @@ fn map_into(
     invert: bool,
     path: &[u8],
     out: &mut [u8],
-) -> refusal::Reply
+) -> path_rest::Carried
     requires { ⌜ 255 ≤ length (now out) ⌝ }
-    ensures { λ r. ⌜ ReturnsPath (mapFast invert (lentMap (now (store .entry)) (now (places .entry)) n mark)
-        (now (path .entry))) r (now (out .entry)) (now (out .exit)) ⌝ }
+    ensures { λ r. ⌜ (let m = lentMap (now (store .entry)) (now (places .entry)) n mark in
+        ReturnsCarried (mapFast invert m (now (path .entry))) (plainRest invert m (now (path .entry))) r
+        (now (out .entry)) (now (out .exit))) ⌝ }
 {
     let mut made = [0u8; 255];
-    let r = map_apply::map_text(store, places, n, mark, invert, path, &mut made);
-    copy_out(r, &made, out)
+    let c = map_apply::map_text_carried(store, places, n, mark, invert, path, &mut made);
+    copy_out(path_rest::reply_of(c), &made, out);
+    c
 }
 
 // Translation of a path without selections into the lent buffer.
@@ -63,17 +69,20 @@ fn translate_into(
     mark: bool,
     path: &[u8],
     out: &mut [u8],
-) -> refusal::Reply
+) -> path_rest::Carried
     requires { ⌜ 255 ≤ length (now out) ⌝ }
-    ensures { λ r. ⌜ ReturnsPath (translateFast (lentMap (now (store .entry)) (now (places .entry)) n mark)
-        (now (path .entry))) r (now (out .entry)) (now (out .exit)) ⌝ }
+    ensures { λ r. ⌜ (let m = lentMap (now (store .entry)) (now (places .entry)) n mark in
+        ReturnsCarried (translateFast m (now (path .entry))) (sourceRest m (now (path .entry))) r
+        (now (out .entry)) (now (out .exit))) ⌝ }
 {
     let mut made = [0u8; 255];
-    let r = map_apply::translate_text(store, places, n, mark, path, &mut made);
-    copy_out(r, &made, out)
+    let c = map_apply::translate_text_carried(store, places, n, mark, path, &mut made);
+    copy_out(path_rest::reply_of(c), &made, out);
+    c
 }
 
-// Translation into the lent buffer; the path's selections are stripped first, if it has any.
+// Translation into the lent buffer; the path's selections are stripped first, if it has any, and then there is
+// no rest.
 fn translate_stripped(
     store: &[u8],
     places: &[usize],
@@ -81,10 +90,11 @@ fn translate_stripped(
     mark: bool,
     path: &[u8],
     out: &mut [u8],
-) -> refusal::Reply
+) -> path_rest::Carried
     requires { ⌜ (length (now path) ≤ 255) × (255 ≤ length (now out)) ⌝ }
-    ensures { λ r. ⌜ ReturnsPath (translateFast (lentMap (now (store .entry)) (now (places .entry)) n mark)
-        (strip (now (path .entry)))) r (now (out .entry)) (now (out .exit)) ⌝ }
+    ensures { λ r. ⌜ (let m = lentMap (now (store .entry)) (now (places .entry)) n mark in
+        ReturnsCarried (translateFast m (strip (now (path .entry)))) (translatedRest m (now (path .entry))) r
+        (now (out .entry)) (now (out .exit))) ⌝ }
 {
     if text::lacks_byte(path, b'{') {
         return translate_into(store, places, n, mark, path, out);
@@ -92,9 +102,10 @@ fn translate_stripped(
     let mut plain = [0u8; 255];
     let fit = path_parts::strip_into(path, &mut plain);
     let text::Fit::Written(k) = fit else {
-        return refusal::Reply::Refused(refusal::Refusal::MadeTooLong);
+        return path_rest::Carried::Refused(refusal::Refusal::MadeTooLong);
     };
-    translate_into(store, places, n, mark, &plain[..k], out)
+    let c = translate_into(store, places, n, mark, &plain[..k], out);
+    path_rest::with_rest(path_rest::reply_of(c), path_rest::Rest::Nothing)
 }
 
 // Maps the path into the lent buffer in one of the three ways.
@@ -106,10 +117,11 @@ fn map_in_direction(
     direction: Direction,
     path: &[u8],
     out: &mut [u8],
-) -> refusal::Reply
+) -> path_rest::Carried
     requires { ⌜ (length (now path) ≤ 255) × (255 ≤ length (now out)) ⌝ }
-    ensures { λ r. ⌜ ReturnsPath (mapFastIn direction (lentMap (now (store .entry)) (now (places .entry)) n mark)
-        (now (path .entry))) r (now (out .entry)) (now (out .exit)) ⌝ }
+    ensures { λ r. ⌜ (let m = lentMap (now (store .entry)) (now (places .entry)) n mark in
+        ReturnsCarried (mapFastIn direction m (now (path .entry))) (directionRest direction m (now (path .entry))) r
+        (now (out .entry)) (now (out .exit))) ⌝ }
 {
     match direction {
         Direction::Out => map_into(store, places, n, mark, false, path, out),
@@ -118,8 +130,35 @@ fn map_in_direction(
     }
 }
 
-// One of the three calls, given the result `list` of validating the list; only the path is validated
-// here. So a list can be validated once for many paths.
+// One of the three calls with the rest, given the result `list` of validating the list; only the path is
+// validated here. So a list can be validated once for many paths.
+pub fn map_after_list_carried(
+    list: refusal::Validation,
+    store: &[u8],
+    places: &[usize],
+    map: map_function::MapFunction,
+    direction: Direction,
+    path: &[u8],
+    out: &mut [u8],
+) -> path_rest::Carried
+    ensures { λ r. ⌜ ReturnsCarried (afterListValidated list direction (now (store .entry)) (now (places .entry)) map
+        (now (path .entry)) (length (now (out .entry)))) (directionRest direction
+        (mapOf (now (store .entry)) (now (places .entry)) map) (now (path .entry))) r (now (out .entry))
+        (now (out .exit)) ⌝ }
+{
+    let count = map.count;
+    let mark = map.has_root_identity;
+    let q = validate::first_refusal(list, path::new(path));
+    if let refusal::Validation::Refused(x) = q {
+        return path_rest::Carried::Refused(x);
+    }
+    if out.len() < 255 {
+        return path_rest::Carried::Refused(refusal::Refusal::NoRoom);
+    }
+    map_in_direction(store, places, count, mark, direction, path, out)
+}
+
+// One of the three calls, given the result `list` of validating the list.
 pub fn map_after_list(
     list: refusal::Validation,
     store: &[u8],
@@ -132,19 +171,10 @@ pub fn map_after_list(
     ensures { λ r. ⌜ ReturnsPath (afterListValidated list direction (now (store .entry)) (now (places .entry)) map
         (now (path .entry)) (length (now (out .entry)))) r (now (out .entry)) (now (out .exit)) ⌝ }
 {
-    let count = map.count;
-    let mark = map.has_root_identity;
-    let q = validate::first_refusal(list, path::new(path));
-    if let refusal::Validation::Refused(x) = q {
-        return refusal::Reply::Refused(x);
-    }
-    if out.len() < 255 {
-        return refusal::Reply::Refused(refusal::Refusal::NoRoom);
-    }
-    map_in_direction(store, places, count, mark, direction, path, out)
+    path_rest::reply_of(map_after_list_carried(list, store, places, map, direction, path, out))
 }
 
-// One of the three calls: validates the list, then the path.
+// One of the three calls with the rest: validates the list, then the path.
 fn call(
     store: &[u8],
     places: &[usize],
@@ -152,12 +182,14 @@ fn call(
     direction: Direction,
     path: &[u8],
     out: &mut [u8],
-) -> refusal::Reply
-    ensures { λ r. ⌜ ReturnsPath (directionCall direction (now (store .entry)) (now (places .entry)) map
-        (now (path .entry)) (length (now (out .entry)))) r (now (out .entry)) (now (out .exit)) ⌝ }
+) -> path_rest::Carried
+    ensures { λ r. ⌜ ReturnsCarried (directionCall direction (now (store .entry)) (now (places .entry)) map
+        (now (path .entry)) (length (now (out .entry)))) (directionRest direction
+        (mapOf (now (store .entry)) (now (places .entry)) map) (now (path .entry))) r (now (out .entry))
+        (now (out .exit)) ⌝ }
 {
     let list = validate::validate_list_and_path(store, places, map.count, &path[..0]);
-    map_after_list(list, store, places, map, direction, path, out)
+    map_after_list_carried(list, store, places, map, direction, path, out)
 }
 
 // Maps the path from the source to the target namespace by plain mapping.
@@ -171,7 +203,7 @@ pub fn map_source_to_target(
     ensures { λ r. ⌜ ReturnsPath (mapSourceToTargetCall (now (store .entry)) (now (places .entry)) map
         (now (path .entry)) (length (now (out .entry)))) r (now (out .entry)) (now (out .exit)) ⌝ }
 {
-    call(store, places, map, Direction::Out, path, out)
+    path_rest::reply_of(call(store, places, map, Direction::Out, path, out))
 }
 
 // Maps the path from the target back to the source namespace by plain mapping.
@@ -185,7 +217,7 @@ pub fn map_target_to_source(
     ensures { λ r. ⌜ ReturnsPath (mapTargetToSourceCall (now (store .entry)) (now (places .entry)) map
         (now (path .entry)) (length (now (out .entry)))) r (now (out .entry)) (now (out .exit)) ⌝ }
 {
-    call(store, places, map, Direction::Home, path, out)
+    path_rest::reply_of(call(store, places, map, Direction::Home, path, out))
 }
 
 // Translates the path, without its selections, to the target namespace; no path if mapping the result
@@ -199,6 +231,51 @@ pub fn translate_to_target(
 ) -> refusal::Reply
     ensures { λ r. ⌜ ReturnsPath (translateToTargetCall (now (store .entry)) (now (places .entry)) map
         (now (path .entry)) (length (now (out .entry)))) r (now (out .entry)) (now (out .exit)) ⌝ }
+{
+    path_rest::reply_of(call(store, places, map, Direction::Translated, path, out))
+}
+
+// Like `map_source_to_target`, with the rest of the path.
+pub fn map_source_to_target_carried(
+    store: &[u8],
+    places: &[usize],
+    map: map_function::MapFunction,
+    path: &[u8],
+    out: &mut [u8],
+) -> path_rest::Carried
+    ensures { λ r. ⌜ ReturnsCarried (mapSourceToTargetCall (now (store .entry)) (now (places .entry)) map
+        (now (path .entry)) (length (now (out .entry)))) (sourceRest (mapOf (now (store .entry)) (now (places .entry)) map)
+        (now (path .entry))) r (now (out .entry)) (now (out .exit)) ⌝ }
+{
+    call(store, places, map, Direction::Out, path, out)
+}
+
+// Like `map_target_to_source`, with the rest of the path.
+pub fn map_target_to_source_carried(
+    store: &[u8],
+    places: &[usize],
+    map: map_function::MapFunction,
+    path: &[u8],
+    out: &mut [u8],
+) -> path_rest::Carried
+    ensures { λ r. ⌜ ReturnsCarried (mapTargetToSourceCall (now (store .entry)) (now (places .entry)) map
+        (now (path .entry)) (length (now (out .entry)))) (targetRest (mapOf (now (store .entry)) (now (places .entry)) map)
+        (now (path .entry))) r (now (out .entry)) (now (out .exit)) ⌝ }
+{
+    call(store, places, map, Direction::Home, path, out)
+}
+
+// Like `translate_to_target`, with the rest of the path; there is none if selections were stripped.
+pub fn translate_to_target_carried(
+    store: &[u8],
+    places: &[usize],
+    map: map_function::MapFunction,
+    path: &[u8],
+    out: &mut [u8],
+) -> path_rest::Carried
+    ensures { λ r. ⌜ ReturnsCarried (translateToTargetCall (now (store .entry)) (now (places .entry)) map
+        (now (path .entry)) (length (now (out .entry)))) (translatedRest (mapOf (now (store .entry)) (now (places .entry)) map)
+        (now (path .entry))) r (now (out .entry)) (now (out .exit)) ⌝ }
 {
     call(store, places, map, Direction::Translated, path, out)
 }

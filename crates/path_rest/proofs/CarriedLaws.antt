@@ -32,6 +32,10 @@ module _ (o : Outcome) (rest : Rest) where
       → c ≡ withRest r known → ReturnsPath m r out out′ → ReturnsCarried o rest c out out′
   answering-carried m known e k r c out out′ h w = rw (e, k) (h ∙ ap (λ (x : Reply). withRest x known) (w .0), w .1)
 
+  pub same-carried : (m : Outcome) (known : Rest) → o ≡ m → rest ≡ known → (c : Carried) (out out′ : Text) → ReturnsCarried m known c out out′
+      → ReturnsCarried o rest c out out′
+  same-carried m known e k c out out′ w = rw (e, k) w
+
   -- A caller that does not want the rest gets the reply and the same buffer.
   pub without-rest : (c : Carried) (r : Reply) (out out′ : Text) → r ≡ replyOf c → ReturnsCarried o rest c out out′ → ReturnsPath o r out out′
   without-rest c r out out′ h w = (h ∙ ap replyOf (w .0) ∙ reply-with (outcomeReply o) rest, w .1)

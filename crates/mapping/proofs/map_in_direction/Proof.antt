@@ -1,5 +1,5 @@
-use Rattle.refusal.proofs.CallBranches.{answering}
-use Rattle.mapping.proofs.DirectionLaws.{direction-out, direction-home, direction-translated}
+use Rattle.path_rest.proofs.CarriedLaws.{same-carried}
+use Rattle.mapping.proofs.DirectionLaws.{direction-out, direction-home, direction-translated, rest-out, rest-home, rest-translated}
 use borrow.Author.Needs.{needs}
 use Rattle.mapping.proofs.map_in_direction.Statement.{statement}
 use Rattle.mapping.proofs.map_in_direction.Tie as tie
@@ -26,19 +26,25 @@ same-length : tie.Need-same-length
 same-length c = search needs
 
 returns : tie.Need-returns
-returns c = answering _ _ (direction-out _ _ _ (c .before .before .before .before .enum-told .given .1)) _ _ _ (c .before .before .map-into .ensures)
+returns c =
+    let told = c .before .before .before .before .enum-told .given .1 in
+    same-carried _ _ _ _ (direction-out _ _ _ told) (rest-out _ _ _ told) _ _ _ (c .before .before .map-into .ensures)
 
 same-length-2 : tie.Need-same-length-2
 same-length-2 c = search needs
 
 returns-2 : tie.Need-returns-2
-returns-2 c = answering _ _ (direction-home _ _ _ (c .before .before .before .before .enum-told2 .given .1)) _ _ _ (c .before .before .map-into2 .ensures)
+returns-2 c =
+    let told = c .before .before .before .before .enum-told2 .given .1 in
+    same-carried _ _ _ _ (direction-home _ _ _ told) (rest-home _ _ _ told) _ _ _ (c .before .before .map-into2 .ensures)
 
 same-length-3 : tie.Need-same-length-3
 same-length-3 c = search needs
 
 returns-3 : tie.Need-returns-3
-returns-3 c = answering _ _ (direction-translated _ _ _ (c .before .before .before .before .enum-told3 .given .1)) _ _ _ (c .before .before .translate-stripped .ensures)
+returns-3 c =
+    let told = c .before .before .before .before .enum-told3 .given .1 in
+    same-carried _ _ _ _ (direction-translated _ _ _ told) (rest-translated _ _ _ told) _ _ _ (c .before .before .translate-stripped .ensures)
 
 pub map-in-direction-spec : {M : Type 1} → statement M
 map-in-direction-spec =

@@ -1,6 +1,6 @@
 use Rattle.path_parts.proofs.StripLaws.{strip-never, strip-part, strip-inside}
-use Rattle.refusal.proofs.CallBranches.{answering}
-use Rattle.mapping.proofs.CopyOutBranches.{translate-plain, translate-back}
+use Rattle.path_rest.proofs.CarriedLaws.{same-carried, without-rest, answering-carried}
+use Rattle.mapping.proofs.CopyOutBranches.{translate-plain, translate-back, rest-plain, rest-stripped}
 use borrow.Author.Needs.{needs}
 use Rattle.mapping.proofs.translate_stripped.Statement.{statement}
 use Rattle.mapping.proofs.translate_stripped.Tie as tie
@@ -19,7 +19,9 @@ returns c =
     let at-translate-into = c .before .before in
     let at-if1 = at-translate-into .before .before in
     let at-lacks-byte = at-if1 .before in
-    answering _ _ (translate-plain _ _ _ (at-lacks-byte .lacks-byte .ensures) (at-if1 .if1 .taken)) _ _ _ (at-translate-into .translate-into .ensures)
+    let lacks = at-lacks-byte .lacks-byte .ensures in
+    same-carried _ _ _ _ (translate-plain _ _ _ lacks (at-if1 .if1 .taken)) (rest-plain _ _ _ lacks (at-if1 .if1 .taken)) _ _ _
+    (at-translate-into .translate-into .ensures)
 
 slice-aggregate-strip-into : tie.Need-slice-aggregate-strip-into
 slice-aggregate-strip-into c = search needs
@@ -56,19 +58,29 @@ slice-aggregate-translate-into c =
 translate-into-requires-2 : tie.Need-translate-into-requires-2
 translate-into-requires-2 c κs = search needs
 
+reply-of-requires : tie.Need-reply-of-requires
+reply-of-requires c κs = search needs
+
+with-rest-requires : tie.Need-with-rest-requires
+with-rest-requires c κs = search needs
+
 same-length-2 : tie.Need-same-length-2
 same-length-2 c = search needs
 
 returns-3 : tie.Need-returns-3
 returns-3 c =
-    let at-translate-into2 = c .before .before in
+    let at-reply-of = c .before in
+    let at-translate-into2 = at-reply-of .before .before .before in
     let at-fit = at-translate-into2 .before .before .before .before in
     let at-strip-into = at-fit .before .before .before in
-    let at-start = at-strip-into .before .before .before .before .before .before .before .before in
-    answering _ _
+    let at-if1 = at-strip-into .before .before in
+    let at-lacks-byte = at-if1 .before in
+    let at-start = at-lacks-byte .before .before .before .before .before in
+    answering-carried _ _ _ _
     (translate-back _ _ _ (at-start .pre .0) (at-strip-into .strip-into .ensures .0) _ (at-fit .fit .given .1) _
     (at-strip-into .strip-into .ensures .1) _)
-    _ _ _ (at-translate-into2 .translate-into2 .ensures)
+    (rest-stripped _ _ _ (at-lacks-byte .lacks-byte .ensures) (at-if1 .if1 .left))
+    _ _ _ _ (c .with-rest .ensures) (without-rest _ _ _ _ _ _ (at-reply-of .reply-of .ensures) (at-translate-into2 .translate-into2 .ensures))
 
 pub translate-stripped-spec : {M : Type 1} → statement M
 translate-stripped-spec =
@@ -86,5 +98,7 @@ translate-stripped-spec =
     array-share-prefix-plain
     slice-aggregate-translate-into
     translate-into-requires-2
+    reply-of-requires
+    with-rest-requires
     same-length-2
     returns-3)
