@@ -1,3 +1,4 @@
 -- The definitions of this crate.
 pub mod Leg
 pub mod Route
+pub mod Rest
