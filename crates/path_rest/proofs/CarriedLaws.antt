@@ -1,6 +1,7 @@
 -- Laws of replies with a rest.
 use mathlib.Core.Path.{_≡_, refl, ap, _∙_}
 use Prim.Native.Nat.{ℕ}
+use native.Mathlib.Omega.{arith}
 use Rattle.text.specs.Text.{Text}
 use Rattle.refusal.specs.declared.Refusal.{Refusal}
 use Rattle.refusal.specs.declared.Reply.{Reply}
@@ -9,7 +10,7 @@ use Rattle.refusal.specs.Outcome.{Outcome, path, refused, outcomeReply, outcome
 use Rattle.path_rest.specs.declared.Rest.{Rest}
 use Rattle.path_rest.specs.declared.Carried.{Carried}
 use Rattle.path_rest.specs.declared.Carried.the-variants.{Written, Refused}
-use Rattle.path_rest.specs.Carried.{withRest, replyOf, ReturnsCarried}
+use Rattle.path_rest.specs.Carried.{withRest, replyOf, carriedRest, ReturnsCarried}
 
 -- Without the rest, the reply is what it was.
 pub reply-with : (r : Reply) (rest : Rest) → replyOf (withRest r rest) ≡ r
@@ -17,10 +18,17 @@ unfolding replyOf withRest
 reply-with (WrittenPath n) rest = refl
 reply-with (RefusedPath x) rest = refl
 
--- The rest does not matter to a refusal.
-pub refused-with : (r : Reply) (x : Refusal) (a b : Rest) → r ≡ RefusedPath x → withRest r a ≡ withRest r b
-unfolding withRest
-refused-with r x a b e = rw e
+-- The rest of a reply that is no refusal is the one that it was given.
+pub known-rest : (r : Reply) (rest : Rest) (c : Carried) → c ≡ withRest r rest → (n : ℕ) → replyOf c ≡ WrittenPath n → carriedRest c ≡ rest
+unfolding withRest replyOf carriedRest
+known-rest (WrittenPath k) rest c e n h = rw e
+known-rest (RefusedPath x) rest c e n h = absurd (let z : _≡_ {A = ℕ} 0 1 = let v : RefusedPath x ≡ WrittenPath n = rw e at h in cc in omega arith)
+
+-- Of two rests that agree if the outcome is a path, either may stand beside the reply.
+pub rest-if-path : (o : Outcome) (a b : Rest) → ((q : Text) → o ≡ path q → a ≡ b) → withRest (outcomeReply o) a ≡ withRest (outcomeReply o) b
+unfolding withRest outcomeReply
+rest-if-path (path q) a b same = rw (same q refl)
+rest-if-path (refused x) a b same = refl
 
 -- The reply of a call and the contents of the buffer, once its outcome and its rest are known.
 module _ (o : Outcome) (rest : Rest) where

@@ -2,8 +2,8 @@
 use mathlib.Core.Path.{_≡_, refl, sym, ap, _∙_}
 use mathlib.Core.Logic.{_≢_}
 use mathlib.Core.Bool.{Bool, true, false, not, cond}
-use mathlib.Core.List.{List, [], _∷_}
-use Prim.Native.Nat.{ℕ, zero, suc, _≤_, _<_}
+use mathlib.Core.List.{List, [], _∷_, reverse}
+use Prim.Native.Nat.{ℕ, zero, suc, _-_, _≤_, _<_}
 use native.Mathlib.Omega.{arith}
 use lib.ListN.{length, take}
 use lib.Seq.{length-take-le}
@@ -11,11 +11,12 @@ use borrow.Author.Tests.{le-leb}
 use Rattle.text.specs.Text.{Text, lacksByte, writtenIfFits}
 use Rattle.text.specs.declared.Fit.{Fit}
 use Rattle.text.specs.declared.Fit.the-variants.{Written as WrittenFit}
-use Rattle.text.proofs.BoolLaws.{not-true}
+use Rattle.text.proofs.BoolLaws.{not-true, not-false}
 use Rattle.text.proofs.WriteLaws.{placed-first, read-back}
 use Rattle.path_grammar.specs.Legal.{atMost255}
 use Rattle.path_parts.specs.Strip.{strip, stripFit, stripBuffer}
-use Rattle.path_grammar.proofs.OwnLaws.{lacks-free}
+use Rattle.path_grammar.specs.Own.{hasVariantSelection}
+use Rattle.path_grammar.proofs.OwnLaws.{selection-scan}
 use Rattle.path_parts.proofs.StripLaws.{strip-same, strip-back, strip-inside}
 use Rattle.refusal.specs.declared.Refusal.{Refusal}
 use Rattle.refusal.specs.declared.Refusal.the-variants.{NoRoom}
@@ -23,7 +24,13 @@ use Rattle.refusal.specs.declared.Validation.{Validation}
 use Rattle.refusal.specs.declared.Validation.the-variants.{Passed, Refused as RefusedValidation}
 use Rattle.refusal.specs.declared.Reply.{Reply}
 use Rattle.refusal.specs.declared.Reply.the-variants.{Written, Refused}
-use Rattle.refusal.specs.Outcome.{Outcome, refused, outcomeReply, outcomeBuffer, afterChecks}
+use Rattle.refusal.specs.Outcome.{Outcome, path, refused, outcomeReply, outcomeBuffer, afterChecks}
+use Rattle.path_rest.specs.declared.Rest.{Rest}
+use Rattle.path_rest.specs.declared.Rest.the-variants.{From, Nothing}
+use Rattle.path_rest.specs.declared.Carried.{Carried}
+use Rattle.path_rest.specs.Carried.{withRest, ReturnsCarried}
+use Rattle.path_rest.proofs.CarriedLaws.{rest-if-path}
+use Rattle.map_apply.specs.Fast.{plainRest}
 use Rattle.path.specs.Calls.{pathNewCall}
 use Rattle.refusal.proofs.CallBranches.{answered-refused, answered-short, answered-passed, answered-same}
 use Rattle.validate.specs.Validate.{firstRefusal}
@@ -33,75 +40,129 @@ use Rattle.route_maps.specs.Prepared.{hasRelocates, Prepared, PreparedIfPassed}
 use Rattle.route_legs.proofs.RouteLaws.{route-one-by-one, route-sound, route-short, route-legal}
 use Rattle.route_maps.proofs.PreparedLaws.{prepared-itself}
 use Rattle.route_spec.specs.Route.{runRoute}
+use Rattle.route_spec.specs.Rest.{routeRest}
 use Rattle.route.specs.Calls.{routeCall}
-use Rattle.route.specs.Fast.{runRouteFast, enteringPath, EntersUnchanged, HoldsPath, HoldsOutcome, needsMaps, afterRouteValidated}
+use Rattle.route.specs.Fast.{legFast, mapsIn, runRouteFast, enteringPath, entersStripped, HoldsPath, HoldsOutcome, needsMaps, afterRouteValidated}
+use Rattle.route.specs.declared.Step.{Step}
+use Rattle.route.specs.Unaltered.{unalteredFast, restFast, routeRestFast, HoldsStep}
 use Rattle.route.proofs.FastLaws.{Whole, fast-run, fast-map-legs}
+use Rattle.route.proofs.RestLaws.{fast-rest}
+use Rattle.route.proofs.UnalteredBranches.{unaltered-le}
+use Rattle.route.proofs.Corollary.{answered-path}
 use Rattle.route.proofs.RunBranches.{holds-path, holds-refused, holds-inside}
 
+-- No leg adds to the unaltered bytes.
+fast-le : (home : Bool) (s : LentRoute) (n k : ℕ) (p : Text) → unalteredFast home s n k p ≤ k
+unfolding unalteredFast
+fast-le false s n k p = unaltered-le (legFast false) (plainRest false) (mapsIn s n) k p
+fast-le true s n k p = unaltered-le (legFast true) (plainRest true) (reverse (mapsIn s n)) k p
+
 -- `run_direction`
-pub run-is : (home b : Bool) (s : LentRoute) (n : ℕ) (p : Text) (r : Reply) (mem : Text) → home ≡ b → HoldsOutcome (runRouteFast b s n p) r mem → HoldsOutcome (runRouteFast home s n p) r mem
-run-is home b s n p r mem h w = rw h w
+pub run-is : (home b : Bool) (s : LentRoute) (n k : ℕ) (p : Text) (r : Step) (mem : Text) → home ≡ b → HoldsStep (runRouteFast b s n p) (unalteredFast b s n k p) r mem
+    → HoldsStep (runRouteFast home s n p) (unalteredFast home s n k p) r mem
+run-is home b s n k p r mem h w = rw h w
 
--- `keeps_selections`
+-- `enters_stripped`
 module _ (home : Bool) (n : ℕ) (p : Text) where
-  pub keeps-home : home ≡ true → EntersUnchanged true home n p
-  unfolding EntersUnchanged enteringPath
-  keeps-home h = rw h
+  pub strips-home : home ≡ true → false ≡ entersStripped home n p
+  unfolding entersStripped
+  strips-home h = rw h
 
-  pub keeps-none : home ≡ false → n ≡ 0 → EntersUnchanged true home n p
-  unfolding EntersUnchanged enteringPath
-  keeps-none h k = rw (h, k)
+  pub strips-none : home ≡ false → n ≡ 0 → false ≡ entersStripped home n p
+  unfolding entersStripped
+  strips-none h k = rw (h, k)
 
-  pub keeps-lacks : home ≡ false → n ≢ 0 → (b : Bool) → b ≡ lacksByte 123 p → EntersUnchanged b home n p
-  unfolding EntersUnchanged enteringPath
-  keeps-lacks h k b e = rw h (go n k b e)
+  pub strips-first : home ≡ false → n ≢ 0 → (b : Bool) → b ≡ lacksByte 123 p → not b ≡ entersStripped home n p
+  unfolding entersStripped
+  strips-first h k b e = rw h (go n k)
     where
-      go : (n : ℕ) → n ≢ 0 → (b : Bool) → b ≡ lacksByte 123 p → enteringPath false n p ≡ cond b p (strip p)
-      go zero k b e = absurd (k refl)
-      go (suc n) k true e = strip-same p (lacks-free p (sym e))
-      go (suc n) k false e = refl
+      go : (n : ℕ) → n ≢ 0 → not b ≡ entersStripped false n p
+      go zero k = absurd (k refl)
+      go (suc n) k = ap not e ∙ sym (selection-scan p)
 
-pub ruleset keeping = (keeps-home, keeps-none, keeps-lacks)
+pub ruleset stripping = (strips-home, strips-none, strips-first)
+
+-- The path enters the first leg without its selections exactly if that leg strips some.
+pub entering-is : (home : Bool) (n : ℕ) (p : Text) → enteringPath home n p ≡ cond (entersStripped home n p) (strip p) p
+unfolding enteringPath entersStripped
+entering-is false zero p = refl
+entering-is false (suc n) p = go (hasVariantSelection p) refl
+  where
+    go : (b : Bool) → hasVariantSelection p ≡ b → strip p ≡ cond b (strip p) p
+    go true h = refl
+    go false h = strip-same p h
+entering-is true n p = refl
 
 -- `enter_route`
-module _ (home : Bool) (n : ℕ) (p here : Text) (l : length here ≡ 255) (s : length p ≤ 255) (b : Bool) (k : EntersUnchanged b home n p) where
+module _ (b : Bool) (p here : Text) (l : length here ≡ 255) (s : length p ≤ 255) where
   fits-here : length p ≤ length here
   fits-here = omega (arith, l, s)
 
-  pub enter-kept : b ≡ true → (here′ : Text) → here′ ≡ writtenIfFits 0 p here → HoldsPath (enteringPath home n p) (length p) here′
-  unfolding EntersUnchanged HoldsPath
-  enter-kept h here′ w = (rw (w, placed-first p here fits-here) (read-back p here) ∙ sym (k ∙ ap (λ (x : Bool). cond x p (strip p)) h), s)
+  pub enter-kept : not b ≡ true → (here′ : Text) → here′ ≡ writtenIfFits 0 p here → HoldsPath (cond b (strip p) p) (length p) here′
+  unfolding HoldsPath
+  enter-kept h here′ w = rw (not-true b h) (rw (w, placed-first p here fits-here) (read-back p here), s)
 
-  module _ (f : Fit) (e : f ≡ stripFit p here) (h : b ≡ false) where
-    pub enter-stripped : (j : ℕ) → f ≡ WrittenFit j → (here′ : Text) → here′ ≡ stripBuffer p here → length here′ ≡ 255 → HoldsPath (enteringPath home n p) j here′
-    unfolding EntersUnchanged HoldsPath
+  module _ (f : Fit) (e : f ≡ stripFit p here) (h : not b ≡ false) where
+    pub enter-stripped : (j : ℕ) → f ≡ WrittenFit j → (here′ : Text) → here′ ≡ stripBuffer p here → length here′ ≡ 255 → HoldsPath (cond b (strip p) p) j here′
+    unfolding HoldsPath
     enter-stripped j g here′ w z =
-        (strip-back p here f fits-here e j g here′ w ∙ sym (k ∙ ap (λ (x : Bool). cond x p (strip p)) h), omega (arith, strip-inside p here f fits-here e j g here′ w, z))
+        rw (not-false b h) (strip-back p here f fits-here e j g here′ w, omega (arith, strip-inside p here f fits-here e j g here′ w, z))
 
 pub entered-size : (t : Text) (k : ℕ) (mem : Text) → HoldsPath t k mem → k ≤ 255
 unfolding HoldsPath
 entered-size t k mem e = e .1
 
--- `run_path`
-module _ (home : Bool) (s : LentRoute) (n : ℕ) (t : Text) (k : ℕ) (here : Text) (e : HoldsPath t k here) (r : Reply) (there : Text) (h : HoldsOutcome (runRouteFast home s n (take k here)) r there) where
+-- `run_path`: the path that enters the first leg, and the step over all legs.
+module _ (home : Bool) (s : LentRoute) (n : ℕ) (p : Text) (stripped : Bool) (f : stripped ≡ entersStripped home n p) (k : ℕ) (here : Text)
+    (e : HoldsPath (cond stripped (strip p) p) k here) (r : Step) (there : Text)
+    (h : HoldsStep (runRouteFast home s n (take k here)) (unalteredFast home s n k (take k here)) r there) where
   abbrev whole : Outcome
-  whole = runRouteFast home s n t
+  whole = runRouteFast home s n (enteringPath home n p)
 
   same-run : whole ≡ runRouteFast home s n (take k here)
   unfolding HoldsPath
-  same-run = ap (runRouteFast home s n) (sym (e .0))
+  same-run = ap (runRouteFast home s n) (entering-is home n p ∙ rw (← f) (sym (e .0)))
 
-  pub run-refused : (x : Refusal) → r ≡ Refused x → (out : Text) → (r ≡ outcomeReply whole) × (out ≡ outcomeBuffer whole out)
-  unfolding outcomeReply outcomeBuffer
-  run-refused x w out = rw (same-run ∙ holds-refused (runRouteFast home s n (take k here)) r there h x w) (w, refl)
+  pub run-refused : (x : Refusal) → r .reply ≡ Refused x → (c : Carried) → c ≡ withRest (r .reply) Nothing → (rest : Rest) (out : Text) → ReturnsCarried whole rest c out out
+  unfolding outcomeReply outcomeBuffer withRest
+  run-refused x w c g rest out = rw (same-run ∙ holds-refused (runRouteFast home s n (take k here)) (r .reply) there (h .outcome) x w) (g ∙ rw w refl, refl)
 
-  pub run-written : (m : ℕ) → r ≡ Written m → length there ≡ 255 → (out out′ : Text) → 255 ≤ length out → out′ ≡ writtenIfFits 0 (take m there) out
-      → (Written m ≡ outcomeReply whole) × (out′ ≡ outcomeBuffer whole out)
-  unfolding outcomeReply outcomeBuffer
-  run-written m w l out out′ g d =
-      let i : m ≤ length there = holds-inside (runRouteFast home s n (take k here)) r there h m w in
-      let z : length (take m there) ≡ m = length-take-le m there i in
-      rw (same-run ∙ holds-path (runRouteFast home s n (take k here)) r there h m w) (ap Written (sym z), d ∙ placed-first (take m there) out (omega (arith, i, l, g, z)))
+  module _ (m : ℕ) (w : r .reply ≡ Written m) where
+    pub run-inside : m ≤ length there
+    run-inside = holds-inside (runRouteFast home s n (take k here)) (r .reply) there (h .outcome) m w
+
+    -- Without stripping, all bytes of the path entered the first leg, and no leg adds to the unaltered ones.
+    module _ (l : length here ≡ 255) (g : stripped ≡ false) where
+      entered : (take k here ≡ p) × (k ≡ length p)
+      unfolding HoldsPath
+      entered =
+          let same : take k here ≡ p = rw g at (e .0) in
+          (same, sym (length-take-le k here (omega (arith, l, e .1))) ∙ ap length same)
+
+      all-unaltered : r .unaltered ≡ unalteredFast home s n (length p) p
+      all-unaltered = h .unalteredIs m w ∙ rw (entered .0, entered .1)
+
+      pub unaltered-inside : r .unaltered ≤ length p
+      unaltered-inside = rw all-unaltered (fast-le home s n (length p) p)
+
+    rest-is : length here ≡ 255 → restFast stripped (length p) (r .unaltered) ≡ routeRestFast home s n p
+    unfolding routeRestFast restFast
+    rest-is l = rw (← f) (go stripped refl)
+      where
+        go : (b : Bool) → stripped ≡ b
+            → cond b Nothing (From (length p - r .unaltered)) ≡ cond b Nothing (From (length p - unalteredFast home s n (length p) p))
+        go true g = refl
+        go false g = ap (λ (j : ℕ). From (length p - j)) (all-unaltered l g)
+
+    pub run-written : length here ≡ 255 → length there ≡ 255 → (rest : Rest) → rest ≡ restFast stripped (length p) (r .unaltered) → (c : Carried) → c ≡ withRest (Written m) rest
+        → (out out′ : Text) → 255 ≤ length out → out′ ≡ writtenIfFits 0 (take m there) out → ReturnsCarried whole (routeRestFast home s n p) c out out′
+    unfolding outcomeReply outcomeBuffer
+    run-written l z rest t c g out out′ a d =
+        let size : length (take m there) ≡ m = length-take-le m there run-inside in
+        rw (same-run ∙ holds-path (runRouteFast home s n (take k here)) (r .reply) there (h .outcome) m w) (
+          g ∙ ap (withRest (Written m)) (t ∙ rest-is l) ∙ ap (λ (j : ℕ). withRest (Written j) (routeRestFast home s n p)) (sym size),
+          d ∙ placed-first (take m there) out (omega (arith, run-inside, z, a, size)),
+        )
 
 -- `route_after`
 module _ (list : Validation) (home : Bool) (s : LentRoute) (p : Text) (room : ℕ) (n q : Validation) (g : n ≡ pathNewCall p) (h : q ≡ firstRefusal list n) where
@@ -146,6 +207,11 @@ module _ (home : Bool) (r : LentRoute) (p : Text) (room : ℕ) (list : Validatio
   whole-path h = record { is-legal = route-legal r p h; is-short = le-leb (length p) 255 (route-short r p h) }
 
   module _ (s : LentRoute) (k : s .count ≡ r .count) (ready : list ≡ Passed → Prepared r s (r .count)) where
+    rest-same : validateRoute r (p ∷ []) ≡ Passed → routeRest home (legsIn r (r .count)) p ≡ routeRestFast home s (s .count) p
+    rest-same h =
+        fast-rest r s home (r .count) (ready (none-earlier list (pathNewCall p) (validated-same ∙ h) .0)) (route-sound r (p ∷ []) h) p (whole-path h)
+        ∙ ap (λ (n : ℕ). routeRestFast home s n p) (sym k)
+
     run-same : validateRoute r (p ∷ []) ≡ Passed → runRoute home (legsIn r (r .count)) p ≡ runRouteFast home s (s .count) (enteringPath home (s .count) p)
     run-same h =
         fast-run r s home (r .count) (ready (none-earlier list (pathNewCall p) (validated-same ∙ h) .0)) (route-sound r (p ∷ []) h) p (whole-path h)
@@ -157,15 +223,44 @@ module _ (home : Bool) (r : LentRoute) (p : Text) (room : ℕ) (list : Validatio
         answered-same (validateRoute r (p ∷ [])) room (runRoute home (legsIn r (r .count)) p) (runRouteFast home s (s .count) (enteringPath home (s .count) p)) run-same
         ∙ ap (λ (a : Validation). afterChecks a room (runRouteFast home s (s .count) (enteringPath home (s .count) p))) (sym validated-same)
 
+    -- The rest matters only if the call is accepted.
+    pub call-returns : (c : Carried) (out out′ : Text) → ReturnsCarried (afterRouteValidated list home s p room) (routeRestFast home s (s .count) p) c out out′
+        → ReturnsCarried (routeCall home r p room) (routeRest home (legsIn r (r .count)) p) c out out′
+    unfolding routeCall
+    call-returns c out out′ w =
+        let accepted : (q : Text) → routeCall home r p room ≡ path q → routeRest home (legsIn r (r .count)) p ≡ routeRestFast home s (s .count) p = λ q e. rest-same (passed q e) in
+        let rests = rest-if-path (routeCall home r p room) (routeRest home (legsIn r (r .count)) p) (routeRestFast home s (s .count) p) accepted in
+        let returned : ReturnsCarried (routeCall home r p room) (routeRestFast home s (s .count) p) c out out′ = rw call-is-after w in
+        (returned .0 ∙ sym rests, returned .1)
+      where
+        passed : (q : Text) → routeCall home r p room ≡ path q → validateRoute r (p ∷ []) ≡ Passed
+        passed q e = answered-path (validateRoute r (p ∷ [])) room (runRoute home (legsIn r (r .count)) p) q e .0
+
   -- A route without relocate lists is used unchanged.
-  pub call-as-it-is : (b : Bool) → b ≡ needsMaps list (r .legs) (r .count) → not b ≡ true → routeCall home r p room ≡ afterRouteValidated list home r p room
-  unfolding needsMaps
-  call-as-it-is b h k = call-is-after r refl (λ w. prepared-itself r (r .count) (sym (rw w at h) ∙ not-true b k))
+  module _ (b : Bool) (h : b ≡ needsMaps list (r .legs) (r .count)) (k : not b ≡ true) where
+    as-it-is : list ≡ Passed → Prepared r r (r .count)
+    unfolding needsMaps
+    as-it-is w = prepared-itself r (r .count) (sym (rw w at h) ∙ not-true b k)
+
+    pub call-as-it-is : routeCall home r p room ≡ afterRouteValidated list home r p room
+    call-as-it-is = call-is-after r refl as-it-is
+
+    pub returns-as-it-is : (c : Carried) (out out′ : Text) → ReturnsCarried (afterRouteValidated list home r p room) (routeRestFast home r (r .count) p) c out out′
+        → ReturnsCarried (routeCall home r p room) (routeRest home (legsIn r (r .count)) p) c out out′
+    returns-as-it-is = call-returns r refl as-it-is
 
   -- A route with relocate lists is used with its prepared maps.
-  pub call-prepared : (s : LentRoute) → s .count ≡ r .count → length (s .places) ≡ 4096 → length (s .legs) ≡ 48 → PreparedIfPassed r s (r .count) → routeCall home r p room ≡ afterRouteValidated list home s p room
-  unfolding PreparedIfPassed
-  call-prepared s k l m ready = call-is-after s k (λ w. ready (sym e ∙ w) l m)
+  module _ (s : LentRoute) (k : s .count ≡ r .count) (l : length (s .places) ≡ 4096) (m : length (s .legs) ≡ 48) (ready : PreparedIfPassed r s (r .count)) where
+    prepared : list ≡ Passed → Prepared r s (r .count)
+    unfolding PreparedIfPassed
+    prepared w = ready (sym e ∙ w) l m
+
+    pub call-prepared : routeCall home r p room ≡ afterRouteValidated list home s p room
+    call-prepared = call-is-after s k prepared
+
+    pub returns-prepared : (c : Carried) (out out′ : Text) → ReturnsCarried (afterRouteValidated list home s p room) (routeRestFast home s (s .count) p) c out out′
+        → ReturnsCarried (routeCall home r p room) (routeRest home (legsIn r (r .count)) p) c out out′
+    returns-prepared = call-returns s k prepared
 
 -- Over validated legs that are all maps, and a validated path, the quick way is the route over these maps.
 pub validated-maps-run : (home : Bool) (r : LentRoute) (p : Text) → validateRoute r (p ∷ []) ≡ Passed → afterRouteValidated Passed home r p 255 ≡ runRoute home (mapLegs r (r .count)) p

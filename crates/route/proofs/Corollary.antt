@@ -35,7 +35,7 @@ use Rattle.route.proofs.RunBranches.{fold-snoc}
 use Rattle.path.proofs.PathLaws.{new-passed}
 
 -- If a call yields a path, validation passed and the route yields that path.
-answered-path : (a : Validation) (room : ℕ) (o : Outcome) (q : Text) → afterChecks a room o ≡ path q → (a ≡ Passed) × (255 ≤ room) × (o ≡ path q)
+pub answered-path : (a : Validation) (room : ℕ) (o : Outcome) (q : Text) → afterChecks a room o ≡ path q → (a ≡ Passed) × (255 ≤ room) × (o ≡ path q)
 unfolding afterChecks requireRoom
 answered-path Passed room o q e = go (leb 255 room) refl e
   where

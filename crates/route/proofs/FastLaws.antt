@@ -66,12 +66,12 @@ module _ (m : Map) (s : soundMap m ≡ true) where
   its-shorts = and-r (allEnds (m .pairs)) (allShort (m .pairs)) s
 
 -- The direction out, for a path without selections.
-out-leg : (m : Map) (p : Text) → soundMap m ≡ true → SelectionFreePath p → translateChecked m p ≡ legFast false m p
+pub out-leg : (m : Map) (p : Text) → soundMap m ≡ true → SelectionFreePath p → translateChecked m p ≡ legFast false m p
 unfolding translateChecked translateToTarget legFast
 out-leg m p s c =
     rw (strip-same p (c .is-plain)) (sym (fast-translated m p (its-ends m s) (its-shorts m s) (c .is-legal) (fits-short p (c .is-short))))
 
-out-next : (m : Map) (p q : Text) → soundMap m ≡ true → SelectionFreePath p → translateChecked m p ≡ path q → SelectionFreePath q
+pub out-next : (m : Map) (p q : Text) → soundMap m ≡ true → SelectionFreePath p → translateChecked m p ≡ path q → SelectionFreePath q
 out-next m p q s c = leg-next m (its-ends m s) p q c
 
 fast-out-run : (ms : List Map) (p : Text) → every soundMap ms ≡ true → SelectionFreePath p → foldLegs translateChecked ms p ≡ foldLegs (legFast false) ms p
@@ -82,11 +82,11 @@ pub record Whole (p : Text) : Type 0 where
   pub is-legal : legal p ≡ true
   pub is-short : atMost255 p ≡ true
 
-home-leg : (m : Map) (p : Text) → soundMap m ≡ true → Whole p → mapBackChecked m p ≡ legFast true m p
+pub home-leg : (m : Map) (p : Text) → soundMap m ≡ true → Whole p → mapBackChecked m p ≡ legFast true m p
 unfolding mapBackChecked legFast
 home-leg m p s c = sym (home-fast m p (its-ends m s) (c .is-legal) (fits-short p (c .is-short)))
 
-home-next : (m : Map) (p q : Text) → soundMap m ≡ true → Whole p → mapBackChecked m p ≡ path q → Whole q
+pub home-next : (m : Map) (p q : Text) → soundMap m ≡ true → Whole p → mapBackChecked m p ≡ path q → Whole q
 unfolding mapBackChecked
 home-next m p q s c h = let w = checked-path (mapTargetToSource m p) q h in record { is-legal = w .2; is-short = w .1 }
 
@@ -118,13 +118,13 @@ unfolding every
 every-snoc good [] x e h = rw h
 every-snoc good (y ∷ xs) x e h = rw (and-l (good y) (every good xs) e) (every-snoc good xs x (and-r (good y) (every good xs) e) h)
 
-every-reverse : {A : Type 0} (good : A → Bool) (xs : List A) → every good xs ≡ true → every good (reverse xs) ≡ true
+pub every-reverse : {A : Type 0} (good : A → Bool) (xs : List A) → every good xs ≡ true → every good (reverse xs) ≡ true
 unfolding every
 every-reverse good [] e = refl
 every-reverse good (x ∷ xs) e =
     rw (reverse-cons x xs) (every-snoc good (reverse xs) x (every-reverse good xs (and-r (good x) (every good xs) e)) (and-l (good x) (every good xs) e))
 
-map-reverse : {A B : Type 0} (f : A → B) (xs : List A) → map f (reverse xs) ≡ reverse (map f xs)
+pub map-reverse : {A B : Type 0} (f : A → B) (xs : List A) → map f (reverse xs) ≡ reverse (map f xs)
 map-reverse f [] = refl
 map-reverse f (x ∷ xs) =
     rw (reverse-cons x xs, reverse-cons (f x) (map f xs), map-append f (reverse xs) (x ∷ []), map-reverse f xs)
@@ -166,7 +166,7 @@ module _ (r : LentRoute) where
   unfolding legsIn
   maps-snoc n = map-append legMap (legsIn r n) (legAt r n ∷ [])
 
-  sound-legs : (n : ℕ) → ((k : ℕ) → k < n → ValidList (listAt r k)) → every soundMap (map legMap (legsIn r n)) ≡ true
+  pub sound-legs : (n : ℕ) → ((k : ℕ) → k < n → ValidList (listAt r k)) → every soundMap (map legMap (legsIn r n)) ≡ true
   unfolding legsIn legAt every
   sound-legs zero s = refl
   sound-legs (suc n) s =
@@ -175,12 +175,12 @@ module _ (r : LentRoute) where
       (sound-leg (kindAt (r .legs) n) (pairsOf (listAt r n)) (s n (omega arith) .ends) (s n (omega arith) .shorts)))
 
   -- A prepared route has the maps of the legs.
-  prepared-maps : (s : LentRoute) (n : ℕ) → Prepared r s n → mapsIn s n ≡ map legMap (legsIn r n)
+  pub prepared-maps : (s : LentRoute) (n : ℕ) → Prepared r s n → mapsIn s n ≡ map legMap (legsIn r n)
   unfolding mapsIn legsIn Prepared
   prepared-maps s zero h = refl
   prepared-maps s (suc n) h = rw (maps-snoc n, prepared-maps s n (λ k i. h k (omega arith)), h n (omega arith))
 
-  legs-length : (n : ℕ) → length (legsIn r n) ≡ n
+  pub legs-length : (n : ℕ) → length (legsIn r n) ≡ n
   unfolding legsIn
   legs-length zero = refl
   legs-length (suc n) = rw (length-append (legsIn r n) (legAt r n ∷ []), legs-length n) (omega arith)

@@ -15,14 +15,15 @@ use Rattle.refusal.specs.declared.Reply.{Reply}
 use Rattle.refusal.specs.declared.Reply.the-variants.{Written, Refused}
 use Rattle.refusal.specs.Outcome.{Outcome, path, refused, outcomeReply, outcomeBuffer}
 use Rattle.map_spec.specs.Map.{Map, lentMap}
-use Rattle.map_apply.specs.Fast.{mapFast, translateFast}
+use Rattle.map_rest.specs.MapRest.{sourceRest}
+use Rattle.map_apply.specs.Fast.{mapFast, plainRest, translateFast}
 use Rattle.mapping.proofs.CopyOutBranches.{Short, short-fast, short-translate}
 use Rattle.route_spec.specs.Route.{andThen, foldLegs}
 use Rattle.route_legs.specs.LentRoute.{LentRoute, lentRoute, kindAt, firstAt, sizeAt, listAt, mapAt}
 use Rattle.route.specs.Fast.{legFast, mapsIn, runRouteFast, HoldsOutcome}
 
 -- An accepted reply is not a refusal.
-written-refused : (n : ℕ) (x : Refusal) → Written n ≡ Refused x → ⊥
+pub written-refused : (n : ℕ) (x : Refusal) → Written n ≡ Refused x → ⊥
 written-refused n x e = let z : _≡_ {A = ℕ} 0 1 = cc in omega arith
 
 -- `run_legs`
@@ -220,3 +221,10 @@ module _ (store : Text) (places legs : List ℕ) (k n kind : ℕ) (list : List �
   pub leg-out : (home : Bool) (p : Text) → home ≡ false → legFast home (mapAt (lentRoute store places legs k) k) p ≡ translateFast (lentMap store list n (eqb kind 1)) p
   unfolding legFast
   leg-out home p h = rw h (ap (λ (m : Map). translateFast m p) (sym its-map))
+
+  pub rest-home : (home : Bool) (p : Text) → home ≡ true → plainRest home (mapAt (lentRoute store places legs k) k) p ≡ plainRest true (lentMap store list n (eqb kind 1)) p
+  rest-home home p h = rw h (ap (λ (m : Map). plainRest true m p) (sym its-map))
+
+  pub rest-out : (home : Bool) (p : Text) → home ≡ false → plainRest home (mapAt (lentRoute store places legs k) k) p ≡ sourceRest (lentMap store list n (eqb kind 1)) p
+  unfolding plainRest
+  rest-out home p h = rw h (ap (λ (m : Map). sourceRest m p) (sym its-map))

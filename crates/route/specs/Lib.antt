@@ -1,4 +1,5 @@
 -- The definitions of this crate.
 pub mod Calls
 pub mod Fast
+pub mod Unaltered
 pub mod RoundTrip

@@ -1,12 +1,9 @@
-use Rattle.route.proofs.CallBranches.{enter-kept, enter-stripped}
-use Rattle.path_parts.proofs.StripLaws.{strip-never}
 use native.Mathlib.Omega.{arith}
+use Rattle.path_parts.proofs.StripLaws.{strip-never}
+use Rattle.route.proofs.CallBranches.{enter-kept, enter-stripped}
 use borrow.Author.Needs.{needs}
 use Rattle.route.proofs.enter_route.Statement.{statement}
 use Rattle.route.proofs.enter_route.Tie as tie
-
-keeps-selections-requires : tie.Need-keeps-selections-requires
-keeps-selections-requires c κs = search needs
 
 write-at-requires : tie.Need-write-at-requires
 write-at-requires c κs = search needs
@@ -18,10 +15,8 @@ returns : tie.Need-returns
 returns c =
     let at-write-at = c .before .before in
     let at-if1 = at-write-at .before .before in
-    let at-keeps-selections = at-if1 .before in
-    let at-start = at-keeps-selections .before .before .before in
-    enter-kept _ _ _ _ (at-start .pre .1) (at-start .pre .0) _ (at-keeps-selections .keeps-selections .ensures) (at-if1 .if1 .taken) _
-    (at-write-at .write-at .ensures)
+    let at-start = at-if1 .before .before .before in
+    enter-kept (at-start .args .stripped) _ _ (at-start .pre .1) (at-start .pre .0) (at-if1 .if1 .taken) _ (at-write-at .write-at .ensures)
 
 strip-into-requires : tie.Need-strip-into-requires
 strip-into-requires c κs = search needs
@@ -38,7 +33,7 @@ same-length-2 c = search needs
 returns-2 : tie.Need-returns-2
 returns-2 c =
     let at-strip-into = c .before .before .before .before in
-    let at-start = at-strip-into .before .before .before .before .before .before in
+    let at-start = at-strip-into .before .before .before .before .before in
     absurd (strip-never _ _ _ (omega (arith, at-start .pre .0, at-start .pre .1)) (at-strip-into .strip-into .ensures .0) (c .enum-told .given .1))
 
 same-length-3 : tie.Need-same-length-3
@@ -46,17 +41,17 @@ same-length-3 c = search needs
 
 returns-3 : tie.Need-returns-3
 returns-3 c =
-    enter-stripped _ _ _ _ (c .before .before .before .before .before .before .before .before .before .before .before .pre .1)
-    (c .before .before .before .before .before .before .before .before .before .before .before .pre .0) _
-    (c .before .before .before .before .before .before .before .before .keeps-selections .ensures) _
-    (c .before .before .before .before .before .strip-into .ensures .0) (c .before .before .before .before .before .before .before .if1 .left) _
-    (c .before .fit .given .1) _ (c .before .before .before .before .before .strip-into .ensures .1) (search needs)
+    let at-fit = c .before in
+    let at-strip-into = at-fit .before .before .before .before in
+    let at-if1 = at-strip-into .before .before in
+    let at-start = at-if1 .before .before .before in
+    enter-stripped (at-start .args .stripped) _ _ (at-start .pre .1) (at-start .pre .0) _ (at-strip-into .strip-into .ensures .0) (at-if1 .if1 .left) _ (at-fit .fit .given .1) _
+    (at-strip-into .strip-into .ensures .1) (search needs)
 
 pub enter-route-spec : {M : Type 1} → statement M
 enter-route-spec =
     tie.close
     (tie.spec
-    keeps-selections-requires
     write-at-requires
     same-length
     returns

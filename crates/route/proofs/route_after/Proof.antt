@@ -1,61 +1,20 @@
-use Rattle.route.proofs.CallBranches.{after-refused, after-short, after-passed}
-use Rattle.mapping.proofs.DirectionLaws.{after-length}
-use Rattle.refusal.proofs.CallBranches.{refusing, answering}
+use Rattle.path_rest.proofs.CarriedLaws.{without-rest}
 use borrow.Author.Needs.{needs}
 use Rattle.route.proofs.route_after.Statement.{statement}
 use Rattle.route.proofs.route_after.Tie as tie
 
-new-requires : tie.Need-new-requires
-new-requires c κs = search needs
+route-after-carried-requires : tie.Need-route-after-carried-requires
+route-after-carried-requires c κs = search needs
 
-first-refusal-requires : tie.Need-first-refusal-requires
-first-refusal-requires c κs = search needs
-
-enum-known-q : tie.Need-enum-known-q
-enum-known-q c = search needs
-
-returns : tie.Need-returns
-returns c = refusing _ _ (after-refused _ _ _ _ _ _ _ (c .before .before .before .before .new .ensures) (c .before .before .before .first-refusal .ensures) _ (c .before .q .given .1)) _
-
-enum-told : tie.Need-enum-told
-enum-told c = search needs
-
-returns-2 : tie.Need-returns-2
-returns-2 c = refusing _ _ (after-short _ _ _ _ _ _ _ (c .before .before .before .before .new .ensures) (c .before .before .before .first-refusal .ensures) (c .before .enum-told .given .1) (c .if1 .taken)) _
-
-run-path-requires : tie.Need-run-path-requires
-run-path-requires c κs =
-    let at-if1 = c .before in
-    let at-enum-told = at-if1 .before in
-    let at-first-refusal = at-enum-told .before .before in
-    let at-new = at-first-refusal .before in
-    (after-length _ _ _ _ (at-new .new .ensures) (at-first-refusal .first-refusal .ensures) (at-enum-told .enum-told .given .1), at-if1 .if1 .left)
+reply-of-requires : tie.Need-reply-of-requires
+reply-of-requires c κs = search needs
 
 same-length : tie.Need-same-length
 same-length c = search needs
 
-returns-3 : tie.Need-returns-3
-returns-3 c =
-    let at-run-path = c .before .before in
-    let at-if1 = at-run-path .before .before in
-    let at-enum-told = at-if1 .before in
-    let at-first-refusal = at-enum-told .before .before in
-    let at-new = at-first-refusal .before in
-    answering _ _
-    (after-passed _ _ _ _ _ _ _ (at-new .new .ensures) (at-first-refusal .first-refusal .ensures) (at-enum-told .enum-told .given .1)
-    (at-if1 .if1 .left))
-    _ _ _ (at-run-path .run-path .ensures)
+returns : tie.Need-returns
+returns c = without-rest _ _ _ _ _ _ (c .reply-of .ensures) (c .before .before .before .route-after-carried .ensures)
 
 pub route-after-spec : {M : Type 1} → statement M
 route-after-spec =
-    tie.close
-    (tie.spec
-    new-requires
-    first-refusal-requires
-    enum-known-q
-    returns
-    enum-told
-    returns-2
-    run-path-requires
-    same-length
-    returns-3)
+    tie.close (tie.spec route-after-carried-requires reply-of-requires same-length returns)

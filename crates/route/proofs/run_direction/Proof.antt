@@ -10,7 +10,7 @@ same-length : tie.Need-same-length
 same-length c = search needs
 
 returns : tie.Need-returns
-returns c = run-is _ _ _ _ _ _ _ (c .before .before .before .before .if1 .taken) (c .before .before .run-home .ensures)
+returns c = run-is _ _ _ _ _ _ _ _ (c .before .before .before .before .if1 .taken) (c .before .before .run-home .ensures)
 
 run-out-requires : tie.Need-run-out-requires
 run-out-requires c κs = search needs
@@ -19,7 +19,7 @@ same-length-2 : tie.Need-same-length-2
 same-length-2 c = search needs
 
 returns-2 : tie.Need-returns-2
-returns-2 c = run-is _ _ _ _ _ _ _ (c .before .before .before .before .if1 .left) (c .before .before .run-out .ensures)
+returns-2 c = run-is _ _ _ _ _ _ _ _ (c .before .before .before .before .if1 .left) (c .before .before .run-out .ensures)
 
 pub run-direction-spec : {M : Type 1} → statement M
 run-direction-spec =
