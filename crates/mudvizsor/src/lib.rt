@@ -5,13 +5,15 @@ ghost use mathlib.Core.Path.{_≡_};
 ghost use lib.ListN.{length};
 ghost use Rattle.path_parts.specs.Parent.{ancestorLens};
 ghost use Rattle.refusal.specs.Outcome.{writtenIfAccepted};
-ghost use Rattle.path.specs.Calls.{pathNewCall, isEndCall, hasVariantSelectionCall, elementCountCall, primElementCountCall, hasPrefixCall};
+ghost use Rattle.path.specs.Calls.{pathNewCall, isEndCall, hasVariantSelectionCall, elementCountCall, primElementCountCall, hasPrefixCall, restStartCall};
 ghost use Rattle.path_derive.specs.Calls.{replacePrefixCall, parentCall, primPathCall, splitPropertyCall, stripCall, ancestorsReply};
 ghost use Rattle.mapping.specs.Calls.{mapSourceToTargetCall, mapTargetToSourceCall, translateToTargetCall};
 ghost use Rattle.batch.specs.Batch.{mappedAt, validateMapAll, ReturnsBatchCode};
+ghost use Rattle.ffi_rest.specs.RestCode.{restTestCode};
 ghost use Rattle.ffi_values.specs.Map.{untimedMap, directionOf};
 ghost use Rattle.ffi_values.specs.Code.{validationCode, testCode, countCode, replyCode, ReturnsPathCode};
 
+mod carried;
 mod frames;
 mod map_build;
 mod map_info;
@@ -65,6 +67,15 @@ pub extern "C" fn mudvizsor_path_has_prefix(path: &[u8], prefix: &[u8]) -> usize
     ensures { λ r. ⌜ r ≡ testCode (hasPrefixCall (now (path .entry)) (now (prefix .entry))) ⌝ }
 {
     ffi_values::test_code(path::has_prefix(path, prefix))
+}
+
+// Returns whether the prefix is a prefix of the path and, if it is, the index at which the rest begins: the
+// value is 0, or 1 plus 256 times the index. A separating slash belongs to the rest.
+#[no_mangle]
+pub extern "C" fn mudvizsor_path_rest_start(path: &[u8], prefix: &[u8]) -> usize
+    ensures { λ r. ⌜ r ≡ restTestCode (restStartCall (now (path .entry)) (now (prefix .entry))) ⌝ }
+{
+    ffi_rest::rest_test_code(path::rest_start(path, prefix))
 }
 
 // Writes the path with its old prefix replaced by the new one to out.
