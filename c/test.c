@@ -349,6 +349,7 @@ static const struct {
     size_t rest_start, rest_length;
 } mappings[] = {
     {ENTRY_AND_CARRIED(map_source_to_target), "/A>/X /A>/Y", false, "/A/c", 0, "/Y/c", 2, 2},
+    {ENTRY_AND_CARRIED(map_source_to_target), "/A/B>/Y /A>/X", false, "/A/B/c", 0, "/Y/c", 4, 2},
     {ENTRY_AND_CARRIED(map_source_to_target), "/A>/X", true, "/X/y", 0, "/X/y", 0, 4},
     {ENTRY_AND_CARRIED(map_source_to_target), ">/", true, "/A", 0, "/A", 0, 2},
     {ENTRY_AND_CARRIED(map_source_to_target), "/A>/X", false, "/A{v=p}B.c", 0, "/X{v=p}B.c", 2, 8},
@@ -369,6 +370,7 @@ static const struct {
     {ENTRY_AND_CARRIED(translate_to_target), "/A>/X", false, "/A{v=p}B.c", 0, "/X/B.c", 0, 0},
     {ENTRY_AND_CARRIED(translate_to_target), "/A>/X", true, "/B{v=p}", 0, "/B", 0, 0},
     {ENTRY_AND_CARRIED(translate_to_target), "/A>/X", false, "/A/B.c", 0, "/X/B.c", 2, 4},
+    {ENTRY_AND_CARRIED(translate_to_target), "/A>/X /A/B>/Y", false, "/A/B.c", 0, "/Y.c", 4, 2},
     {ENTRY_AND_CARRIED(translate_to_target), "/A>/X", false, "/A", 0, "/X", 2, 0},
     {ENTRY_AND_CARRIED(translate_to_target), "/>/X", false, "/A", 0, "/X/A", 0, 2},
     {ENTRY_AND_CARRIED(translate_to_target), "/A>/X", true, "/B/C", 0, "/B/C", 0, 4},
