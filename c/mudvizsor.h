@@ -53,6 +53,12 @@
                        and its number of pairs; legs may share pairs
        count           the number of legs: at most 16, and no more than `legs` holds, else the call is refused with 4
 
+   THE REST of a path that is mapped is the part of it that is carried over unaltered: what follows the end (the source or,
+   from targets to sources, the target) that is replaced. A separating slash belongs to the rest, so under the end `/` the
+   rest of a longer path is the whole path. The rest is also the whole path if no pair matches and the mark maps the path to
+   itself, and it is empty if a pair matches the whole path. The resulting path ends with the rest, too. The calls whose
+   names end in _carried do what the calls without that ending do, and their replies tell also where the rest is.
+
    MANY PATHS are passed as
        texts    their bytes, in any order; they may overlap or have gaps
        spots    two numbers for each path: its start in `texts` and its length
@@ -127,6 +133,16 @@ static inline bool mudvizsor_mark(size_t reply) { return reply / 256 % 2 == 1; }
 static inline size_t mudvizsor_chain_length(size_t reply) { return reply / 256 % 256; }
 static inline size_t mudvizsor_chain_steps(size_t reply) { return reply / 65536; }
 
+/* For the reply of mudvizsor_path_rest_start: whether the path has the prefix, and the index at which the rest begins. */
+static inline bool mudvizsor_prefix_found(size_t reply) { return reply / 256 % 256 == 1; }
+static inline size_t mudvizsor_prefix_rest_start(size_t reply) { return reply / 65536; }
+
+/* For the reply of a call whose name ends in _carried: the length of the resulting path, and the start and length of the
+   rest in the path given. All three are 0 for a refusal. */
+static inline size_t mudvizsor_carried_length(size_t reply) { return reply / 256 % 256; }
+static inline size_t mudvizsor_carried_rest_start(size_t reply) { return reply / 65536 % 256; }
+static inline size_t mudvizsor_carried_rest_length(size_t reply) { return reply / 16777216; }
+
 /* ---- Paths ---- */
 
 /* Checks that the text is a legal path of at most 255 bytes. The reply is 0 if it is, else a refusal: 1, 2. */
@@ -148,6 +164,12 @@ size_t mudvizsor_path_prim_element_count(const char *path, size_t path_length);
 /* The value is 1 if `prefix` is the path itself or one of its ancestors, else 0. The empty path is a prefix of every
    path. Refusals: 1, 2. */
 size_t mudvizsor_path_has_prefix(const char *path, size_t path_length, const char *prefix, size_t prefix_length);
+
+/* Tells whether the path has the prefix, and also where the rest of the path begins, which follows the prefix. The value is
+   0 if the path does not have the prefix, else 1 plus 256 times the index at which the rest begins;
+   mudvizsor_prefix_found and mudvizsor_prefix_rest_start extract them from the reply. The index is the length of the prefix,
+   but 0 if the prefix is `/` and the path is longer, since a separating slash belongs to the rest. Refusals: 1, 2. */
+size_t mudvizsor_path_rest_start(const char *path, size_t path_length, const char *prefix, size_t prefix_length);
 
 /* Writes the path with its prefix `old_prefix` replaced by `new_prefix`. The value is the length written.
    `out` needs 255 bytes. Refusals: 1, 2, 5, 6 if the path does not have the prefix, 7, 8. */
@@ -209,6 +231,27 @@ size_t mudvizsor_map_all(
     const char *store, size_t store_length, const size_t *places, size_t places_length, size_t count, bool mark,
     size_t direction, const char *texts, size_t texts_length, const size_t *spots, size_t spots_length, size_t n, char *out,
     size_t out_length, size_t *replies, size_t replies_length);
+
+/* Does what mudvizsor_map_source_to_target does, and tells also where the rest is. The value is the length written, plus
+   256 times the start of the rest in `path`, plus 65,536 times its length; mudvizsor_carried_length,
+   mudvizsor_carried_rest_start and mudvizsor_carried_rest_length extract them from the reply. The rest always reaches to the
+   end of `path`, so an empty one starts at `path_length`. Refusals: as in mudvizsor_map_source_to_target. */
+size_t mudvizsor_map_source_to_target_carried(
+    const char *store, size_t store_length, const size_t *places, size_t places_length, size_t count, bool mark,
+    const char *path, size_t path_length, char *out, size_t out_length);
+
+/* Does what mudvizsor_map_target_to_source does, and tells also where the rest is. The value is as in
+   mudvizsor_map_source_to_target_carried. Refusals: as in mudvizsor_map_target_to_source. */
+size_t mudvizsor_map_target_to_source_carried(
+    const char *store, size_t store_length, const size_t *places, size_t places_length, size_t count, bool mark,
+    const char *path, size_t path_length, char *out, size_t out_length);
+
+/* Does what mudvizsor_translate_to_target does, and tells also where the rest is. The value is as in
+   mudvizsor_map_source_to_target_carried, but if the path has a variant selection, start and length of the rest are 0.
+   Refusals: as in mudvizsor_translate_to_target. */
+size_t mudvizsor_translate_to_target_carried(
+    const char *store, size_t store_length, const size_t *places, size_t places_length, size_t count, bool mark,
+    const char *path, size_t path_length, char *out, size_t out_length);
 
 /* ---- Building maps ----
 
@@ -394,6 +437,21 @@ size_t mudvizsor_route_all(
     const char *store, size_t store_length, const size_t *places, size_t places_length, const size_t *legs,
     size_t legs_length, size_t count, bool home, const char *texts, size_t texts_length, const size_t *spots,
     size_t spots_length, size_t n, char *out, size_t out_length, size_t *replies, size_t replies_length);
+
+/* Does what mudvizsor_route_out does, and tells also where the rest is: here the part of the path that all legs carry over
+   unaltered, which is the shortest of the rests of the legs. `path`, the result of each leg and the resulting path end with
+   it. With no legs it is the whole path. The value is as in mudvizsor_map_source_to_target_carried, but if there is a leg and
+   the path has a variant selection, start and length of the rest are 0. Refusals: as in mudvizsor_route_out. */
+size_t mudvizsor_route_out_carried(
+    const char *store, size_t store_length, const size_t *places, size_t places_length, const size_t *legs,
+    size_t legs_length, size_t count, const char *path, size_t path_length, char *out, size_t out_length);
+
+/* Does what mudvizsor_route_home does, and tells also where the rest is, which is that of all legs as in
+   mudvizsor_route_out_carried. Selections are not removed on the way home, so the rest always reaches to the end of `path`.
+   Refusals: as in mudvizsor_route_home. */
+size_t mudvizsor_route_home_carried(
+    const char *store, size_t store_length, const size_t *places, size_t places_length, const size_t *legs,
+    size_t legs_length, size_t count, const char *path, size_t path_length, char *out, size_t out_length);
 
 /* ---- One line of the program `frames` ---- */
 

@@ -3,8 +3,9 @@
    have exactly the stated length: they end just before an inaccessible page or start just after one, so that accessing one
    byte too many is a fault; or they are allocated with malloc, so that valgrind checks them. After each call the program
    checks that the reply is well formed, that a refused call has changed nothing, that an accepted one has changed only its
-   result, that its input and the bytes around the lent slices are unchanged, that a written path is legal, and that the same
-   call with other buffers and other old contents has the same result.
+   result, that its input and the bytes around the lent slices are unchanged, that a written path is legal, that a rest is the
+   end of the given path and of the written one, and that the same call with other buffers and other old contents has the same
+   result.
 
        robust [--calls N | --seconds N] [--seed N] [--table] */
 #define _GNU_SOURCE
@@ -285,7 +286,12 @@ static void make_many(void) {
 #define A_MAP_BUFFERS (BIT(OUT) | BIT(SLOTS) | BIT(TIME))
 
 /* The kind of result of an entry. */
-enum kind { A_TEST, A_COUNT, A_PATH, LENGTHS, STATUSES, A_MAP, A_CHAIN, MANY_REPLIES };
+enum kind {
+    A_TEST, A_COUNT, A_PATH, LENGTHS, STATUSES, A_MAP, A_CHAIN, MANY_REPLIES,
+    REST_START, /* whether there is a prefix, and where the rest begins */
+    CARRIED,    /* a path and the rest */
+    TRANSLATED  /* the same of a call that removes selections */
+};
 
 /* Each entry: its name, its kind of result, the slices that it is lent, and its arguments. */
 #define ENTRIES(E)                                                                                                            \
@@ -295,6 +301,7 @@ enum kind { A_TEST, A_COUNT, A_PATH, LENGTHS, STATUSES, A_MAP, A_CHAIN, MANY_REP
     E(path_element_count, A_COUNT, BIT(PATH), BYTES(PATH))                                                                    \
     E(path_prim_element_count, A_COUNT, BIT(PATH), BYTES(PATH))                                                               \
     E(path_has_prefix, A_TEST, BIT(PATH) | BIT(SECOND), BYTES(PATH), BYTES(SECOND))                                           \
+    E(path_rest_start, REST_START, BIT(PATH) | BIT(SECOND), BYTES(PATH), BYTES(SECOND))                                       \
     E(path_replace_prefix, A_PATH, BIT(PATH) | BIT(SECOND) | BIT(THIRD) | BIT(OUT), BYTES(PATH), BYTES(SECOND),               \
       BYTES(THIRD), OUT_BUFFER)                                                                                               \
     E(path_parent, A_PATH, BIT(PATH) | BIT(OUT), BYTES(PATH), OUT_BUFFER)                                                     \
@@ -305,6 +312,9 @@ enum kind { A_TEST, A_COUNT, A_PATH, LENGTHS, STATUSES, A_MAP, A_CHAIN, MANY_REP
     E(map_source_to_target, A_PATH, A_LIST | BIT(PATH) | BIT(OUT), PAIRS, mark, BYTES(PATH), OUT_BUFFER)                      \
     E(map_target_to_source, A_PATH, A_LIST | BIT(PATH) | BIT(OUT), PAIRS, mark, BYTES(PATH), OUT_BUFFER)                      \
     E(translate_to_target, A_PATH, A_LIST | BIT(PATH) | BIT(OUT), PAIRS, mark, BYTES(PATH), OUT_BUFFER)                       \
+    E(map_source_to_target_carried, CARRIED, A_LIST | BIT(PATH) | BIT(OUT), PAIRS, mark, BYTES(PATH), OUT_BUFFER)             \
+    E(map_target_to_source_carried, CARRIED, A_LIST | BIT(PATH) | BIT(OUT), PAIRS, mark, BYTES(PATH), OUT_BUFFER)             \
+    E(translate_to_target_carried, TRANSLATED, A_LIST | BIT(PATH) | BIT(OUT), PAIRS, mark, BYTES(PATH), OUT_BUFFER)           \
     E(map_all, MANY_REPLIES, A_LIST | MANY_PATHS, PAIRS, mark, direction, MANY)                                                     \
     E(map_new, A_MAP, A_LIST | A_MAP_BUFFERS, PAIRS, MAP_BUFFERS)                                                             \
     E(map_with_root_identity, A_MAP, A_LIST | A_MAP_BUFFERS, MAP, MAP_BUFFERS)                                                \
@@ -324,6 +334,8 @@ enum kind { A_TEST, A_COUNT, A_PATH, LENGTHS, STATUSES, A_MAP, A_CHAIN, MANY_REP
     E(shift_through_nearest_ancestor, A_PATH, A_LIST | BIT(PATH) | BIT(OUT), PAIRS, BYTES(PATH), OUT_BUFFER)                  \
     E(route_out, A_PATH, A_LIST | BIT(LEGS) | BIT(PATH) | BIT(OUT), ROUTE, BYTES(PATH), OUT_BUFFER)                           \
     E(route_home, A_PATH, A_LIST | BIT(LEGS) | BIT(PATH) | BIT(OUT), ROUTE, BYTES(PATH), OUT_BUFFER)                          \
+    E(route_out_carried, TRANSLATED, A_LIST | BIT(LEGS) | BIT(PATH) | BIT(OUT), ROUTE, BYTES(PATH), OUT_BUFFER)               \
+    E(route_home_carried, CARRIED, A_LIST | BIT(LEGS) | BIT(PATH) | BIT(OUT), ROUTE, BYTES(PATH), OUT_BUFFER)                 \
     E(route_all, MANY_REPLIES, A_LIST | BIT(LEGS) | MANY_PATHS, ROUTE, flag, MANY)
 
 #define CALL(name, kind, uses, ...) \
@@ -377,6 +389,28 @@ static void check_path(unsigned uses, size_t length) {
     check(length <= 255 && contents[OUT].length >= 255, "a path in a buffer that is too small");
     check(legal_at(0, length), "an illegal path");
     check_rest(uses, length, 0);
+}
+
+/* Checks the index of the rest: the length of the prefix, but 0 if the prefix is `/` and the path is longer. */
+static void check_prefix_rest(size_t reply) {
+    size_t path = contents[PATH].length, prefix = contents[SECOND].length;
+    bool found = mudvizsor_path_has_prefix(BYTES(PATH), BYTES(SECOND)) == 256;
+    size_t start = prefix == 1 && path > 1 ? 0 : prefix;
+    check(mudvizsor_prefix_found(reply) == found, "another answer than has_prefix");
+    check(reply == (found ? 256 + 65536 * start : 0), "the start of the rest");
+}
+
+/* Checks a path and its rest: the end of the given path and of the written one, or 0 and 0 if selections are removed. */
+static void check_carried(unsigned uses, size_t reply, bool translated) {
+    size_t length = mudvizsor_carried_length(reply), start = mudvizsor_carried_rest_start(reply);
+    size_t rest = mudvizsor_carried_rest_length(reply);
+    bool no_legs = (uses & BIT(LEGS)) && count == 0;
+    bool stripped = translated && !no_legs && mudvizsor_path_has_variant_selection(BYTES(PATH)) == 256;
+    check_path(uses, length);
+    check(start + rest == (stripped ? 0 : contents[PATH].length), "a rest that is not the end of the path");
+    if (rest > length || start + rest > contents[PATH].length) check(false, "a rest that is too long");
+    else if (rest > 0)
+        check(memcmp(lent[PATH].at + start, lent[OUT].at + length - rest, rest) == 0, "a rest that is not the end of the result");
 }
 
 static void check_lengths(unsigned uses, size_t value) {
@@ -434,6 +468,9 @@ static void check_answer(const struct entry *entry, size_t reply) {
         check_path(entry->uses, mudvizsor_chain_length(reply));
         break;
     case MANY_REPLIES: check(value == 0, "a value"), check_many(entry->uses); break;
+    case REST_START: check_prefix_rest(reply); break;
+    case CARRIED: check_carried(entry->uses, reply, false); break;
+    case TRANSLATED: check_carried(entry->uses, reply, true); break;
     }
 }
 
@@ -525,6 +562,7 @@ static size_t filled(const struct entry *entry, size_t i, size_t reply) {
     if (i == TIME) return 2 * sizeof(double);
     if (entry->kind == LENGTHS) return value * sizeof(size_t);
     if (entry->kind == A_CHAIN) return mudvizsor_chain_length(reply);
+    if (entry->kind == CARRIED || entry->kind == TRANSLATED) return mudvizsor_carried_length(reply);
     if (entry->kind == MANY_REPLIES) return i == SLOTS ? paths * sizeof(size_t) : 0;
     if (entry->kind != A_MAP) return value;
     if (i == SLOTS) return mudvizsor_pairs(reply) * 4 * sizeof(size_t);

@@ -12,6 +12,7 @@
 #define OUT(r) (r)->out.lent, (r)->out_length
 #define MAP_BUFFERS(r) OUT(r), (r)->slots.lent, (r)->slots_length, (r)->time
 #define ENTRY(name) "mudvizsor_" #name, mudvizsor_##name
+#define ENTRY_AND_CARRIED(name) ENTRY(name), ENTRY(name##_carried)
 #define LENGTH(a) (sizeof(a) / sizeof((a)[0]))
 
 /* ---- Checks, and which entries were called ---- */
@@ -107,6 +108,20 @@ static void check_path(const char *entry, const char *input, size_t reply, const
     check_reply(entry, input, reply, number, length);
     check(bytes_are(buffers, path, length), entry, input, "bytes");
     check(numbers_are(buffers, NULL, 0), entry, input, "numbers");
+}
+
+/* Checks a call that writes a path and tells also where the rest of the given path is. */
+static void check_carried(const char *entry, const char *input, size_t reply, const struct buffers *buffers, int number,
+                          const char *path, size_t rest_start, size_t rest_length) {
+    size_t length = number == 0 ? strlen(path) : 0;
+    check_reply(entry, input, reply, number, length + 256 * rest_start + 65536 * rest_length);
+    check(mudvizsor_carried_length(reply) == length, entry, input, "length");
+    check(mudvizsor_carried_rest_start(reply) == rest_start, entry, input, "start of the rest");
+    check(mudvizsor_carried_rest_length(reply) == rest_length, entry, input, "length of the rest");
+    check(bytes_are(buffers, path, length), entry, input, "bytes");
+    check(numbers_are(buffers, NULL, 0), entry, input, "numbers");
+    check(rest_length <= length && memcmp(input + rest_start, path + length - rest_length, rest_length) == 0, entry, input,
+          "rest of both paths");
 }
 
 /* ---- Lists, written as "/A>/X /B>/" ---- */
@@ -208,6 +223,41 @@ static void test_has_prefix(void) {
 }
 
 static const struct {
+    const char *path, *prefix;
+    int number;
+    bool found;
+    size_t rest_start;
+} prefix_rests[] = {
+    {"/A/B", "/A", 0, true, 2},
+    {"/A{v=p}B", "/A", 0, true, 2},
+    {"/A.b", "/A.b", 0, true, 4},
+    {"/A/B", "/", 0, true, 0},
+    {"/", "/", 0, true, 1},
+    {"/A/B", "", 0, true, 0},
+    {"", "", 0, true, 0},
+    {"/AB", "/A", 0, false, 0},
+    {"/A", "/A/B", 0, false, 0},
+    {"", "/", 0, false, 0},
+    {"/A", "A", 2, false, 0},
+    {"A", "/A", 2, false, 0},
+};
+
+static void test_rest_start(void) {
+    const char *entry = "mudvizsor_path_rest_start";
+    for (size_t i = 0; i < LENGTH(prefix_rests); i++) {
+        const char *path = prefix_rests[i].path;
+        size_t rest_start = prefix_rests[i].rest_start, value = prefix_rests[i].found ? 1 + 256 * rest_start : 0;
+        size_t reply = mudvizsor_path_rest_start(TEXT(path), TEXT(prefix_rests[i].prefix));
+        check_reply(entry, path, reply, prefix_rests[i].number, value);
+        check(mudvizsor_prefix_found(reply) == prefix_rests[i].found, entry, path, "prefix");
+        check(mudvizsor_prefix_rest_start(reply) == rest_start, entry, path, "start of the rest");
+    }
+    check_reply(entry, "/A, NULL", mudvizsor_path_rest_start(TEXT("/A"), NULL, 0), 0, 1);
+    check_reply(entry, "255 bytes", mudvizsor_path_rest_start(TEXT(path_of(255)), TEXT(path_of(255))), 0, 1 + 256 * 255);
+    check_reply(entry, "A, 256 bytes", mudvizsor_path_rest_start(TEXT("A"), TEXT(path_of(256))), 1, 0);
+}
+
+static const struct {
     const char *path, *old_prefix, *new_prefix;
     size_t out_length;
     int number;
@@ -289,27 +339,45 @@ typedef size_t mapper(const char *, size_t, const size_t *, size_t, size_t, bool
 static const struct {
     const char *entry;
     mapper *map;
+    const char *carried_entry;
+    mapper *map_carried;
     const char *pairs;
     bool mark;
     const char *path;
     int number;
     const char *result;
+    size_t rest_start, rest_length;
 } mappings[] = {
-    {ENTRY(map_source_to_target), "/A>/X /A>/Y", false, "/A/c", 0, "/Y/c"},
-    {ENTRY(map_source_to_target), "/A>/X", true, "/X/y", 0, "/X/y"},
-    {ENTRY(map_source_to_target), ">/", true, "/A", 0, "/A"},
-    {ENTRY(map_source_to_target), "/A>", false, "/A/B", 6, ""},
-    {ENTRY(map_source_to_target), "/A>/", false, "/A.b", 8, ""},
-    {ENTRY(map_source_to_target), "/A{v=p}>/X", false, "/A", 3, ""},
-    {ENTRY(map_target_to_source), "/A>/X", false, "/X/y", 0, "/A/y"},
-    {ENTRY(map_target_to_source), ">/X", false, "/X/y", 0, "/y"},
-    {ENTRY(map_target_to_source), "/A>/X", false, "/A", 6, ""},
-    {ENTRY(map_target_to_source), ">/X", false, "/X.p", 8, ""},
-    {ENTRY(translate_to_target), "/A>/X", false, "/A{v=p}B.c", 0, "/X/B.c"},
-    {ENTRY(translate_to_target), "/A>/X", true, "/X/y", 6, ""},
-    {ENTRY(translate_to_target), ">/", true, "/A", 6, ""},
-    {ENTRY(translate_to_target), "/A>/ /B>/", false, "/A.b", 6, ""},
-    {ENTRY(translate_to_target), "/A>/X", false, "A", 2, ""},
+    {ENTRY_AND_CARRIED(map_source_to_target), "/A>/X /A>/Y", false, "/A/c", 0, "/Y/c", 2, 2},
+    {ENTRY_AND_CARRIED(map_source_to_target), "/A/B>/Y /A>/X", false, "/A/B/c", 0, "/Y/c", 4, 2},
+    {ENTRY_AND_CARRIED(map_source_to_target), "/A>/X", true, "/X/y", 0, "/X/y", 0, 4},
+    {ENTRY_AND_CARRIED(map_source_to_target), ">/", true, "/A", 0, "/A", 0, 2},
+    {ENTRY_AND_CARRIED(map_source_to_target), "/A>/X", false, "/A{v=p}B.c", 0, "/X{v=p}B.c", 2, 8},
+    {ENTRY_AND_CARRIED(map_source_to_target), "/A>/X", true, "/A", 0, "/X", 2, 0},
+    {ENTRY_AND_CARRIED(map_source_to_target), "/>/X", false, "/A/B", 0, "/X/A/B", 0, 4},
+    {ENTRY_AND_CARRIED(map_source_to_target), "/>/X", false, "/", 0, "/X", 1, 0},
+    {ENTRY_AND_CARRIED(map_source_to_target), "/A/B>/", false, "/A/B/c", 0, "/c", 4, 2},
+    {ENTRY_AND_CARRIED(map_source_to_target), "/A>", false, "/A/B", 6, "", 0, 0},
+    {ENTRY_AND_CARRIED(map_source_to_target), "/A>/", false, "/A.b", 8, "", 0, 0},
+    {ENTRY_AND_CARRIED(map_source_to_target), "/A{v=p}>/X", false, "/A", 3, "", 0, 0},
+    {ENTRY_AND_CARRIED(map_target_to_source), "/A>/X", false, "/X/y", 0, "/A/y", 2, 2},
+    {ENTRY_AND_CARRIED(map_target_to_source), ">/X", false, "/X/y", 0, "/y", 2, 2},
+    {ENTRY_AND_CARRIED(map_target_to_source), "/A>/X/Y", false, "/X/Y", 0, "/A", 4, 0},
+    {ENTRY_AND_CARRIED(map_target_to_source), "/A>/", false, "/B.c", 0, "/A/B.c", 0, 4},
+    {ENTRY_AND_CARRIED(map_target_to_source), "/A>", true, "/B.c", 0, "/B.c", 0, 4},
+    {ENTRY_AND_CARRIED(map_target_to_source), "/A>/X", false, "/A", 6, "", 0, 0},
+    {ENTRY_AND_CARRIED(map_target_to_source), ">/X", false, "/X.p", 8, "", 0, 0},
+    {ENTRY_AND_CARRIED(translate_to_target), "/A>/X", false, "/A{v=p}B.c", 0, "/X/B.c", 0, 0},
+    {ENTRY_AND_CARRIED(translate_to_target), "/A>/X", true, "/B{v=p}", 0, "/B", 0, 0},
+    {ENTRY_AND_CARRIED(translate_to_target), "/A>/X", false, "/A/B.c", 0, "/X/B.c", 2, 4},
+    {ENTRY_AND_CARRIED(translate_to_target), "/A>/X /A/B>/Y", false, "/A/B.c", 0, "/Y.c", 4, 2},
+    {ENTRY_AND_CARRIED(translate_to_target), "/A>/X", false, "/A", 0, "/X", 2, 0},
+    {ENTRY_AND_CARRIED(translate_to_target), "/>/X", false, "/A", 0, "/X/A", 0, 2},
+    {ENTRY_AND_CARRIED(translate_to_target), "/A>/X", true, "/B/C", 0, "/B/C", 0, 4},
+    {ENTRY_AND_CARRIED(translate_to_target), "/A>/X", true, "/X/y", 6, "", 0, 0},
+    {ENTRY_AND_CARRIED(translate_to_target), ">/", true, "/A", 6, "", 0, 0},
+    {ENTRY_AND_CARRIED(translate_to_target), "/A>/ /B>/", false, "/A.b", 6, "", 0, 0},
+    {ENTRY_AND_CARRIED(translate_to_target), "/A>/X", false, "A", 2, "", 0, 0},
 };
 
 static void test_mappings(void) {
@@ -325,6 +393,28 @@ static void test_mappings(void) {
         buffers = lend(255, 0);
         reply = mappings[i].map(NULL, 0, NULL, 0, 0, true, TEXT("/A"), OUT(buffers));
         check_path(mappings[i].entry, "no pairs", reply, buffers, 0, "/A");
+    }
+}
+
+/* The same calls in the form that tells the rest. */
+static void test_carried_mappings(void) {
+    for (size_t i = 0; i < LENGTH(mappings); i++) {
+        const char *entry = mappings[i].carried_entry;
+        struct list *list = list_of(mappings[i].pairs);
+        struct buffers *buffers = lend(255, 0);
+        size_t reply = mappings[i].map_carried(LIST(list), mappings[i].mark, TEXT(mappings[i].path), OUT(buffers));
+        check_carried(entry, mappings[i].path, reply, buffers, mappings[i].number, mappings[i].result,
+                      mappings[i].rest_start, mappings[i].rest_length);
+        list = list_of("/A>/X");
+        buffers = lend(254, 0);
+        reply = mappings[i].map_carried(LIST(list), true, TEXT("/A"), OUT(buffers));
+        check_carried(entry, "254 lent bytes", reply, buffers, MUDVIZSOR_NO_ROOM, "", 0, 0);
+        buffers = lend(255, 0);
+        reply = mappings[i].map_carried(NULL, 0, NULL, 0, 0, true, TEXT("/A"), OUT(buffers));
+        check_carried(entry, "/A", reply, buffers, 0, "/A", 0, 2);
+        buffers = lend(255, 0);
+        reply = mappings[i].map_carried(NULL, 0, NULL, 0, 0, true, TEXT(path_of(255)), OUT(buffers));
+        check_carried(entry, path_of(255), reply, buffers, 0, path_of(255), 0, 255);
     }
 }
 
@@ -698,21 +788,32 @@ typedef size_t router(const char *, size_t, const size_t *, size_t, const size_t
 static const struct {
     const char *entry;
     router *call;
+    const char *carried_entry;
+    router *call_carried;
     size_t count;
     const char *path;
     int number;
     const char *result;
+    size_t rest_start, rest_length;
 } route_cases[] = {
-    {ENTRY(route_out), 2, "/A{v=p}c/x", 0, "/B/d/x"},
-    {ENTRY(route_out), 1, "/A/c/x", 0, "/B/c/x"},
-    {ENTRY(route_out), 0, "/A{v=p}", 0, "/A{v=p}"},
-    {ENTRY(route_out), 2, "/Q", 6, ""},
-    {ENTRY(route_out), 3, "/A", 4, ""},
-    {ENTRY(route_out), SIZE_MAX, "/A", 4, ""},
-    {ENTRY(route_home), 2, "/B/d/x", 0, "/A/c/x"},
-    {ENTRY(route_home), 2, "/B/c", 0, "/A/c"},
-    {ENTRY(route_home), 2, "/Q", 6, ""},
-    {ENTRY(route_home), 2, "/B/", 2, ""},
+    {ENTRY_AND_CARRIED(route_out), 2, "/A{v=p}c/x", 0, "/B/d/x", 0, 0},
+    {ENTRY_AND_CARRIED(route_out), 2, "/A/c/x", 0, "/B/d/x", 4, 2},
+    {ENTRY_AND_CARRIED(route_out), 2, "/A/e.x", 0, "/B/e.x", 2, 4},
+    {ENTRY_AND_CARRIED(route_out), 2, "/A/c", 0, "/B/d", 4, 0},
+    {ENTRY_AND_CARRIED(route_out), 1, "/A/c/x", 0, "/B/c/x", 2, 4},
+    {ENTRY_AND_CARRIED(route_out), 1, "/A", 0, "/B", 2, 0},
+    {ENTRY_AND_CARRIED(route_out), 0, "/A{v=p}", 0, "/A{v=p}", 0, 7},
+    {ENTRY_AND_CARRIED(route_out), 2, "/Q", 6, "", 0, 0},
+    {ENTRY_AND_CARRIED(route_out), 2, "/A/d", 6, "", 0, 0},
+    {ENTRY_AND_CARRIED(route_out), 3, "/A", 4, "", 0, 0},
+    {ENTRY_AND_CARRIED(route_out), SIZE_MAX, "/A", 4, "", 0, 0},
+    {ENTRY_AND_CARRIED(route_home), 2, "/B/d/x", 0, "/A/c/x", 4, 2},
+    {ENTRY_AND_CARRIED(route_home), 2, "/B/c", 0, "/A/c", 2, 2},
+    {ENTRY_AND_CARRIED(route_home), 2, "/B{v=p}c", 0, "/A{v=p}c", 2, 6},
+    {ENTRY_AND_CARRIED(route_home), 2, "/B", 0, "/A", 2, 0},
+    {ENTRY_AND_CARRIED(route_home), 0, "/B/c", 0, "/B/c", 0, 4},
+    {ENTRY_AND_CARRIED(route_home), 2, "/Q", 6, "", 0, 0},
+    {ENTRY_AND_CARRIED(route_home), 2, "/B/", 2, "", 0, 0},
 };
 
 static void test_route_cases(void) {
@@ -725,6 +826,22 @@ static void test_route_cases(void) {
         buffers = lend(254, 0);
         reply = route_cases[i].call(ROUTE(list, two_legs, 1), TEXT("/A"), OUT(buffers));
         check_path(route_cases[i].entry, "254 lent bytes", reply, buffers, MUDVIZSOR_NO_ROOM, "");
+    }
+}
+
+/* The same calls in the form that tells the rest. */
+static void test_carried_route_cases(void) {
+    struct list *list = list_of("/A>/B /B/c>/B/d");
+    for (size_t i = 0; i < LENGTH(route_cases); i++) {
+        const char *entry = route_cases[i].carried_entry;
+        struct buffers *buffers = lend(255, 0);
+        size_t reply = route_cases[i].call_carried(ROUTE(list, two_legs, route_cases[i].count), TEXT(route_cases[i].path),
+                                                   OUT(buffers));
+        check_carried(entry, route_cases[i].path, reply, buffers, route_cases[i].number, route_cases[i].result,
+                      route_cases[i].rest_start, route_cases[i].rest_length);
+        buffers = lend(254, 0);
+        reply = route_cases[i].call_carried(ROUTE(list, two_legs, 1), TEXT("/A"), OUT(buffers));
+        check_carried(entry, "254 lent bytes", reply, buffers, MUDVIZSOR_NO_ROOM, "", 0, 0);
     }
 }
 
@@ -983,11 +1100,12 @@ static void test_times_of_maps(void) {
 
 int main(void) {
     void (*const tests[])(void) = {
-        test_path_tests, test_has_prefix, test_replace_prefix, test_parts, test_ancestors, test_mappings,
-        test_damaged_lists, test_map_all, test_new, test_built_map_is_lent, test_pair_builds, test_map_builds,
-        test_path_builds, test_rebases, test_two_builds, test_is_noop, test_analyses, test_chains, test_shifts, test_route_cases,
-        test_many_legs, test_route_all, test_frames, test_altered_frames, test_time_tests, test_resulting_times, test_bits, test_info,
-        test_plain_maps, test_times_of_maps,
+        test_path_tests, test_has_prefix, test_rest_start, test_replace_prefix, test_parts, test_ancestors, test_mappings,
+        test_carried_mappings, test_damaged_lists, test_map_all, test_new, test_built_map_is_lent, test_pair_builds,
+        test_map_builds, test_path_builds, test_rebases, test_two_builds, test_is_noop, test_analyses, test_chains,
+        test_shifts, test_route_cases, test_carried_route_cases, test_many_legs, test_route_all, test_frames,
+        test_altered_frames, test_time_tests, test_resulting_times, test_bits, test_info, test_plain_maps,
+        test_times_of_maps,
     };
     for (size_t i = 0; i < LENGTH(tests); i++) tests[i]();
     for (size_t i = 0; i < entry_count; i++)

@@ -1,4 +1,4 @@
-/* Faulty entries that robust.c must detect. They are linked in place of two entries of the library (with --wrap of ld); each
+/* Faulty entries that robust.c must detect. They are linked in place of four entries of the library (with --wrap of ld); each
    calls the real entry and makes one fault, selected by WRONG. */
 #include "mudvizsor.h"
 
@@ -10,6 +10,15 @@ size_t __real_mudvizsor_map_new(
 size_t __wrap_mudvizsor_map_new(
     const char *store, size_t store_length, const size_t *places, size_t places_length, size_t count, char *out,
     size_t out_length, size_t *slots, size_t slots_length, double time[2]);
+
+size_t __real_mudvizsor_path_rest_start(const char *path, size_t path_length, const char *prefix, size_t prefix_length);
+size_t __wrap_mudvizsor_path_rest_start(const char *path, size_t path_length, const char *prefix, size_t prefix_length);
+size_t __real_mudvizsor_translate_to_target_carried(
+    const char *store, size_t store_length, const size_t *places, size_t places_length, size_t count, bool mark,
+    const char *path, size_t path_length, char *out, size_t out_length);
+size_t __wrap_mudvizsor_translate_to_target_carried(
+    const char *store, size_t store_length, const size_t *places, size_t places_length, size_t count, bool mark,
+    const char *path, size_t path_length, char *out, size_t out_length);
 
 static volatile char seen;
 
@@ -36,5 +45,26 @@ size_t __wrap_mudvizsor_map_new(
     size_t reply = __real_mudvizsor_map_new(store, store_length, places, places_length, count, out, out_length, slots,
                                             slots_length, time);
     if (WRONG == 10 && mudvizsor_number(reply) == MUDVIZSOR_NO_ROOM) time[0] = 0; /* writes a time in a refused call */
+    return reply;
+}
+
+size_t __wrap_mudvizsor_path_rest_start(const char *path, size_t path_length, const char *prefix, size_t prefix_length) {
+    size_t reply = __real_mudvizsor_path_rest_start(path, path_length, prefix, prefix_length);
+    bool root = prefix_length == 1 && path_length > 1 && mudvizsor_prefix_found(reply);
+    if (WRONG == 11 && root) return reply + 65536;                                /* the slash is not in the rest */
+    return reply;
+}
+
+size_t __wrap_mudvizsor_translate_to_target_carried(
+    const char *store, size_t store_length, const size_t *places, size_t places_length, size_t count, bool mark,
+    const char *path, size_t path_length, char *out, size_t out_length) {
+    size_t reply = __real_mudvizsor_translate_to_target_carried(
+        store, store_length, places, places_length, count, mark, path, path_length, out, out_length);
+    size_t start = mudvizsor_carried_rest_start(reply), rest = mudvizsor_carried_rest_length(reply);
+    bool stripped = start + rest < path_length;
+    if (mudvizsor_number(reply) != MUDVIZSOR_ANSWER) return reply;
+    if (WRONG == 12 && rest > 0) return reply - 16777216;                         /* the rest lacks its last byte */
+    if (WRONG == 13 && start > 0) return reply - 65536 + 16777216;                /* the rest has a byte of the source */
+    if (WRONG == 14 && stripped) return reply + 65536 * path_length;              /* an empty rest at the end, not at 0 */
     return reply;
 }

@@ -71,9 +71,15 @@ mod tests {
         many_legs.lend().numbers[2] = 17;
         let mut many_bytes = state.clone();
         many_bytes.lend().numbers[3] = 32_769;
-        assert_eq!(["02", "03", "04"].map(|frame| answer(&mut illegal_list, frame)), ["8202", "8302", "8402"]);
+        assert_eq!(
+            ["02", "03", "04"].map(|frame| answer(&mut illegal_list, frame)),
+            ["8202", "8302", "8402"]
+        );
         assert_eq!(["052F41", "062F42"].map(|frame| answer(&mut illegal_leg, frame)), ["8502", "8602"]);
-        assert_eq!(["03", "052F41", "062F42"].map(|frame| answer(&mut many_legs, frame)), ["8304", "8504", "8604"]);
+        assert_eq!(
+            ["03", "052F41", "062F42"].map(|frame| answer(&mut many_legs, frame)),
+            ["8304", "8504", "8604"]
+        );
         assert_eq!(answer(&mut many_bytes, "03"), "8305");
         assert_eq!(answer(&mut state, "052F41"), "85002F42");
     }

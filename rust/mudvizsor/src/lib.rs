@@ -43,6 +43,7 @@
 #![deny(unsafe_op_in_unsafe_fn, unsafe_code, missing_docs)]
 
 mod batch;
+mod carried;
 pub mod ffi;
 mod frames;
 mod layer_offset;
@@ -53,6 +54,7 @@ mod refusal;
 mod relocates;
 mod route;
 
+pub use carried::Carried;
 pub use ffi::maps::Direction;
 pub use frames::Frames;
 pub use layer_offset::LayerOffset;

@@ -1,6 +1,7 @@
 //! Maps of paths: a list of pairs, a root-identity mark and a time offset.
 
 use crate::batch::map_in_batches;
+use crate::carried::read_carried;
 use crate::ffi::Reply;
 use crate::ffi::map_build::{self, Map, MapBuffers};
 use crate::ffi::map_info;
@@ -9,7 +10,7 @@ use crate::layer_offset;
 use crate::pair_list::{Packed, PairList, Pairs};
 use crate::path::read_path;
 use crate::refusal::{Result, accepted, never_refused, read};
-use crate::{LayerOffset, MAX_PAIRS, MAX_PATH_LEN, Path};
+use crate::{Carried, LayerOffset, MAX_PAIRS, MAX_PATH_LEN, Path};
 
 /// The maximum number of bytes of a pair that is composed, rebased or deepened. The library counts them before it refuses an
 /// end that is too long. One end is an input, of at most 255 bytes. The other one is a path of at most 255 bytes with its
@@ -288,6 +289,66 @@ impl MapFunction {
         self.map_path(Direction::Translated, path)
     }
 
+    /// Maps the path as [`map_source_to_target`](Self::map_source_to_target) does, and also returns the range of it that was
+    /// carried over unaltered.
+    ///
+    /// # Errors
+    ///
+    /// As for [`map_source_to_target`](Self::map_source_to_target).
+    ///
+    /// ```
+    /// # use mudvizsor::{MapFunction, Path};
+    /// let map = MapFunction::from_pair_identity("/Mast", "/Line7/Signal_1")?;
+    /// let carried = map.map_source_to_target_carried(&Path::new("/Mast/Head.lit")?)?;
+    /// assert_eq!(carried.path.as_str(), "/Line7/Signal_1/Head.lit");
+    /// assert_eq!((carried.rest.clone(), carried.rest_str()), (5..14, "/Head.lit"));
+    ///
+    /// // Only the mark maps this one.
+    /// assert_eq!(map.map_source_to_target_carried(&Path::new("/Bench")?)?.rest, 0..6);
+    /// # Ok::<(), mudvizsor::Refusal>(())
+    /// ```
+    pub fn map_source_to_target_carried(&self, path: &Path) -> Result<Carried> {
+        self.map_carried(Direction::Out, path)
+    }
+
+    /// Maps the path as [`map_target_to_source`](Self::map_target_to_source) does, and also returns the range of it that was
+    /// carried over unaltered.
+    ///
+    /// # Errors
+    ///
+    /// As for [`map_target_to_source`](Self::map_target_to_source).
+    ///
+    /// ```
+    /// # use mudvizsor::{MapFunction, Path};
+    /// let map = MapFunction::from_pair("/Mast", "/Line7/Signal_1")?;
+    /// let carried = map.map_target_to_source_carried(&Path::new("/Line7/Signal_1/Head.lit")?)?;
+    /// assert_eq!(carried.path.as_str(), "/Mast/Head.lit");
+    /// assert_eq!((carried.rest.clone(), carried.rest_str()), (15..24, "/Head.lit"));
+    /// # Ok::<(), mudvizsor::Refusal>(())
+    /// ```
+    pub fn map_target_to_source_carried(&self, path: &Path) -> Result<Carried> {
+        self.map_carried(Direction::Home, path)
+    }
+
+    /// Maps the path as [`translate_to_target`](Self::translate_to_target) does, and also returns the range of it that was
+    /// carried over unaltered. That range is `0..0` if the path has a variant selection.
+    ///
+    /// # Errors
+    ///
+    /// As for [`translate_to_target`](Self::translate_to_target).
+    ///
+    /// ```
+    /// # use mudvizsor::{MapFunction, Path};
+    /// let map = MapFunction::from_pair("/Mast", "/Line7/Signal_1")?;
+    /// assert_eq!(map.translate_to_target_carried(&Path::new("/Mast/Head.lit")?)?.rest, 5..14);
+    /// let stripped = map.translate_to_target_carried(&Path::new("/Mast{season=winter}Head.lit")?)?;
+    /// assert_eq!((stripped.path.as_str(), stripped.rest), ("/Line7/Signal_1/Head.lit", 0..0));
+    /// # Ok::<(), mudvizsor::Refusal>(())
+    /// ```
+    pub fn translate_to_target_carried(&self, path: &Path) -> Result<Carried> {
+        self.map_carried(Direction::Translated, path)
+    }
+
     /// Maps many paths and returns the results in the same order. The list of pairs is validated only once for all paths, so
     /// this is faster than a call for each.
     ///
@@ -308,9 +369,14 @@ impl MapFunction {
         })
     }
 
-    /// Makes the mapping call that `way` selects.
+    /// Makes the mapping call that `direction` selects.
     fn map_path(&self, direction: Direction, path: &Path) -> Result<Path> {
         read_path(|out| maps::apply(direction, self.lent_list(), path.as_bytes(), out))
+    }
+
+    /// Makes the mapping call that `direction` selects, in the form that also tells what was carried over.
+    fn map_carried(&self, direction: Direction, path: &Path) -> Result<Carried> {
+        read_carried(|out| maps::apply_carried(direction, self.lent_list(), path.as_bytes(), out))
     }
 }
 

@@ -163,6 +163,26 @@ impl Path {
         accepted(paths::has_prefix(self.as_bytes(), prefix.as_bytes())) != 0
     }
 
+    /// Returns the index at which the rest of the path begins, which follows `prefix`; `None` if the path does not have that
+    /// [prefix](Self::has_prefix).
+    ///
+    /// A separating slash belongs to the rest. So after the prefix `/` the rest of a longer path is the whole path.
+    ///
+    /// ```
+    /// # use mudvizsor::Path;
+    /// let lamp = Path::new("/Line7/Quay/Lamp_2.lit")?;
+    /// assert_eq!(lamp.rest_start(&Path::new("/Line7/Quay")?), Some(11));
+    /// assert_eq!(&lamp.as_str()[11..], "/Lamp_2.lit");
+    /// assert_eq!(lamp.rest_start(&lamp), Some(lamp.as_str().len()));
+    /// assert_eq!(lamp.rest_start(&Path::root()), Some(0));
+    /// assert_eq!(lamp.rest_start(&Path::new("/Line")?), None);
+    /// # Ok::<(), mudvizsor::Refusal>(())
+    /// ```
+    pub fn rest_start(&self, prefix: &Path) -> Option<usize> {
+        let value = accepted(paths::rest_start(self.as_bytes(), prefix.as_bytes()));
+        (value % 256 == 1).then_some(value / 256)
+    }
+
     /// Returns the path with its prefix `old` replaced by `new`.
     ///
     /// # Errors

@@ -1,11 +1,12 @@
 //! Routes of maps and relocate lists.
 
 use crate::batch::map_in_batches;
+use crate::carried::read_carried;
 use crate::ffi::routes::{self, Route as Lent};
 use crate::pair_list::{Packed, Pairs};
 use crate::path::{MAX_PATH_LEN, read_path};
 use crate::refusal::{Refusal, Result, read};
-use crate::{MapFunction, Path, Relocates};
+use crate::{Carried, MapFunction, Path, Relocates};
 use std::ops::Range;
 
 /// A leg of a [`Route`].
@@ -171,6 +172,54 @@ impl Route {
     /// ```
     pub fn home(&self, path: &Path) -> Result<Path> {
         self.map_over(0..self.legs.len(), true, path)
+    }
+
+    /// Maps the path out as [`out`](Self::out) does, and also returns the range of it that all legs carried over unaltered.
+    ///
+    /// That text is the end of the path, of the result of every leg and of the path made. The range is `0..0` if the first
+    /// leg removed selections; with no legs it is the whole path.
+    ///
+    /// # Errors
+    ///
+    /// As for [`out`](Self::out).
+    ///
+    /// ```
+    /// # use mudvizsor::{MapFunction, Path, Relocates, Route};
+    /// let placed = MapFunction::from_pair("/Mast", "/Line7/Harbour/Signal_1")?;
+    /// let moved = Relocates::new([("/Line7/Harbour/Signal_1/Head", "/Line7/Quay/Lamps")])?;
+    /// let route = Route::new([placed.into(), moved.into()])?;
+    /// let lamp = Path::new("/Mast/Head/Lamp_2.lit")?;
+    /// let there = route.out_carried(&lamp)?;
+    /// assert_eq!(there.path.as_str(), "/Line7/Quay/Lamps/Lamp_2.lit");
+    /// assert_eq!(&lamp.as_str()[there.rest.clone()], "/Lamp_2.lit");
+    /// assert_eq!(there.rest_str(), "/Lamp_2.lit");
+    /// # Ok::<(), mudvizsor::Refusal>(())
+    /// ```
+    pub fn out_carried(&self, path: &Path) -> Result<Carried> {
+        let route = self.lent(0..self.legs.len());
+        read_carried(|out| routes::route_out_carried(route, path.as_bytes(), out))
+    }
+
+    /// Maps the path home as [`home`](Self::home) does, and also returns the range of it that all legs carried over unaltered.
+    ///
+    /// That text is the end of the path, of the result of every leg and of the path made. With no legs the range is the whole
+    /// path.
+    ///
+    /// # Errors
+    ///
+    /// As for [`home`](Self::home).
+    ///
+    /// ```
+    /// # use mudvizsor::{MapFunction, Path, Route};
+    /// let route = Route::new([MapFunction::from_pair("/Mast", "/Line7/Signal_1")?.into()])?;
+    /// let home = route.home_carried(&Path::new("/Line7/Signal_1/Head.lit")?)?;
+    /// assert_eq!(home.path.as_str(), "/Mast/Head.lit");
+    /// assert_eq!((home.rest.clone(), home.rest_str()), (15..24, "/Head.lit"));
+    /// # Ok::<(), mudvizsor::Refusal>(())
+    /// ```
+    pub fn home_carried(&self, path: &Path) -> Result<Carried> {
+        let route = self.lent(0..self.legs.len());
+        read_carried(|out| routes::route_home_carried(route, path.as_bytes(), out))
     }
 
     /// Maps many paths out over the legs and returns the results in the same order. The legs are validated only once for all

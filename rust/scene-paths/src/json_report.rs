@@ -6,6 +6,7 @@ use crate::scenario::Section;
 use crate::trace::{Outcome, Trace};
 use mudvizsor::{Leg, Path, Refusal};
 use std::io::{Result, Write};
+use std::ops::Range;
 
 pub struct JsonReport<W: Write> {
     out: W,
@@ -20,6 +21,10 @@ impl<W: Write> JsonReport<W> {
 }
 
 impl<W: Write> Report for JsonReport<W> {
+    fn shows_unaltered(&self) -> bool {
+        true
+    }
+
     fn begin(&mut self, legs: &[Section]) -> Result<()> {
         let legs: Vec<String> = legs.iter().enumerate().map(|(i, section)| leg(i + 1, section)).collect();
         let lines =
@@ -66,8 +71,9 @@ fn members(trace: &Trace) -> Vec<(&'static str, String)> {
         ("line", trace.signal.line.to_string()),
         ("signal", string(&trace.signal.text)),
         ("steps", array(trace.steps.iter().map(|step| string(step.as_str())))),
-        ("came_home", matches!(trace.outcome, Outcome::Home(_)).to_string()),
     ];
+    members.extend(trace.unaltered.as_ref().map(unaltered));
+    members.push(("came_home", matches!(trace.outcome, Outcome::Home(_)).to_string()));
     members.extend(match &trace.outcome {
         Outcome::Home(path) | Outcome::Elsewhere(Ok(path)) => vec![home(path)],
         Outcome::BadPath(refusal) => stopped("signal", None, *refusal),
@@ -75,6 +81,12 @@ fn members(trace: &Trace) -> Vec<(&'static str, String)> {
         Outcome::Elsewhere(Err(refusal)) => stopped("home", None, *refusal),
     });
     members
+}
+
+/// Which part of the signal's text all legs carried over unaltered, in bytes.
+fn unaltered(range: &Range<usize>) -> (&'static str, String) {
+    let numbers = [("start", range.start), ("length", range.len())];
+    ("unaltered", object(numbers.map(|(name, number)| (name, number.to_string()))))
 }
 
 fn home(path: &Path) -> (&'static str, String) {
@@ -95,9 +107,9 @@ mod tests {
     use super::*;
     use crate::scenario::Signal;
 
-    fn written(outcome: Outcome) -> String {
+    fn written(unaltered: Option<Range<usize>>, outcome: Outcome) -> String {
         let signal = Signal { line: 3, text: "/A\"".to_string() };
-        object(members(&Trace { signal: &signal, steps: vec![Path::root()], outcome }))
+        object(members(&Trace { signal: &signal, steps: vec![Path::root()], unaltered, outcome }))
     }
 
     #[test]
@@ -122,7 +134,19 @@ mod tests {
             ),
         ];
         for (outcome, expected) in cases {
-            assert_eq!(written(outcome), format!("{before}{expected}"));
+            assert_eq!(written(None, outcome), format!("{before}{expected}"));
+        }
+    }
+
+    #[test]
+    fn the_unaltered_part_comes_after_the_steps() {
+        for (range, numbers) in [(1..3, "\"start\": 1, \"length\": 2"), (0..0, "\"start\": 0, \"length\": 0")]
+        {
+            let text = written(Some(range), Outcome::Home(Path::root()));
+            let expected = format!(
+                "\"steps\": [\"/\"], \"unaltered\": {{{numbers}}}, \"came_home\": true, \"home\": \"/\"}}"
+            );
+            assert!(text.ends_with(&expected), "{text}");
         }
     }
 }

@@ -14,7 +14,7 @@ use options::{Command, Options};
 use progress::Progress;
 use report::{Report, Summary};
 use scenario::{Problem, Scenario};
-use std::io::{self, ErrorKind, Read, Write};
+use std::io::{self, ErrorKind, IsTerminal, Read, Write};
 use std::process::ExitCode;
 use std::{env, fs};
 use trace::LegRoutes;
@@ -88,15 +88,16 @@ fn read_input(options: &Options) -> io::Result<Vec<u8>> {
 fn run_scenario(scenario: &Scenario, options: &Options) -> io::Result<Summary> {
     let mut out = io::BufWriter::new(io::stdout().lock());
     let mut progress = Progress::of_signals(scenario.signals.len());
+    let color = options.color.is_on(io::stdout().is_terminal(), env::var_os("NO_COLOR").as_deref());
     let report: &mut dyn Report = match options.json {
         true => &mut json_report::JsonReport::new(&mut out),
-        false => &mut text_report::TextReport::new(&mut out),
+        false => &mut text_report::TextReport::new(&mut out, color),
     };
     let routes = LegRoutes::new(&scenario.legs);
     let mut summary = Summary::default();
     report.begin(&scenario.legs)?;
     for signals in scenario.signals.chunks(BATCH) {
-        let traces = routes.trace_all(signals);
+        let traces = routes.trace_all(signals, report.shows_unaltered());
         progress.clear();
         for trace in &traces {
             report.trace(trace)?;

@@ -6,6 +6,8 @@ use std::io;
 
 /// A format of the report.
 pub trait Report {
+    /// Whether it shows [`Trace::unaltered`], which is computed only then.
+    fn shows_unaltered(&self) -> bool;
     fn begin(&mut self, legs: &[Section]) -> io::Result<()>;
     fn trace(&mut self, trace: &Trace) -> io::Result<()>;
     fn end(&mut self, summary: &Summary) -> io::Result<()>;

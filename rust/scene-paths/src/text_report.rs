@@ -4,13 +4,30 @@ use crate::report::{Report, Summary};
 use crate::scenario::Section;
 use crate::trace::{Outcome, Trace, meaning};
 use mudvizsor::{Leg, Path, Refusal, Relocates, Status};
+use std::fmt;
 use std::io::{Result, Write};
 
-pub struct TextReport<W: Write>(W);
+/// The escape sequence that begins a highlighted text, bold and green, and the one that ends it.
+const HIGHLIGHT: &str = "\x1b[1;32m";
+const RESET: &str = "\x1b[0m";
+
+pub struct TextReport<W: Write> {
+    out: W,
+    /// Whether the unaltered end of each path is highlighted.
+    color: bool,
+}
 
 impl<W: Write> TextReport<W> {
-    pub fn new(out: W) -> Self {
-        TextReport(out)
+    pub fn new(out: W, color: bool) -> Self {
+        TextReport { out, color }
+    }
+
+    /// The end of the paths of a trace that is highlighted; empty if none is.
+    fn tail<'a>(&self, trace: &Trace<'a>) -> &'a str {
+        match &trace.unaltered {
+            Some(range) if self.color => &trace.signal.text[range.clone()],
+            _ => "",
+        }
     }
 
     /// Writes the relocates that are not used.
@@ -20,7 +37,10 @@ impl<W: Write> TextReport<W> {
         {
             if *status != Status::Active {
                 let (number, source, target) = (*status as u8, shown(source), shown(target));
-                writeln!(self.0, "  line {line}: {source} -> {target} does not count: {status} ({number})")?;
+                writeln!(
+                    self.out,
+                    "  line {line}: {source} -> {target} does not count: {status} ({number})"
+                )?;
             }
         }
         Ok(())
@@ -28,47 +48,68 @@ impl<W: Write> TextReport<W> {
 }
 
 impl<W: Write> Report for TextReport<W> {
+    fn shows_unaltered(&self) -> bool {
+        self.color
+    }
+
     fn begin(&mut self, legs: &[Section]) -> Result<()> {
         for (i, section) in legs.iter().enumerate() {
             let (leg, kind, line) = (i + 1, section.kind(), section.line);
             let title =
                 if section.title.is_empty() { String::new() } else { format!(": {}", plain(&section.title)) };
-            writeln!(self.0, "leg {leg}, {kind}, line {line}, {}{title}", pairs(section))?;
+            writeln!(self.out, "leg {leg}, {kind}, line {line}, {}{title}", pairs(section))?;
             if let Leg::Relocates(relocates) = &section.leg {
                 self.statuses(relocates, &section.lines)?;
             }
         }
-        if legs.is_empty() { writeln!(self.0, "no legs") } else { Ok(()) }
+        if legs.is_empty() { writeln!(self.out, "no legs") } else { Ok(()) }
     }
 
     fn trace(&mut self, trace: &Trace) -> Result<()> {
-        writeln!(self.0, "\nline {}: {}", trace.signal.line, plain(shown_text(&trace.signal.text)))?;
+        let tail = self.tail(trace);
+        let text = plain(shown_text(&trace.signal.text));
+        writeln!(self.out, "\nline {}: {}", trace.signal.line, Highlighted { text: &text, tail })?;
         for (i, step) in trace.steps.iter().enumerate() {
-            writeln!(self.0, "  leg {:<2}  {}", i + 1, shown(step))?;
+            writeln!(self.out, "  leg {:<2}  {}", i + 1, Highlighted { text: shown(step), tail })?;
         }
         match &trace.outcome {
             Outcome::Home(path) if path.as_str() == trace.signal.text => {
-                writeln!(self.0, "  home    {}", shown(path))
+                writeln!(self.out, "  home    {}", Highlighted { text: shown(path), tail })
             }
-            Outcome::Home(path) => writeln!(self.0, "  home    {}, its selections left out", shown(path)),
-            Outcome::BadPath(refusal) => writeln!(self.0, "  no signal: {}", why(*refusal)),
+            Outcome::Home(path) => writeln!(self.out, "  home    {}, its selections left out", shown(path)),
+            Outcome::BadPath(refusal) => writeln!(self.out, "  no signal: {}", why(*refusal)),
             Outcome::Stopped { leg, refusal } => {
-                writeln!(self.0, "  leg {leg:<2}  stopped: {}", why(*refusal))
+                writeln!(self.out, "  leg {leg:<2}  stopped: {}", why(*refusal))
             }
-            Outcome::Elsewhere(Ok(path)) => writeln!(self.0, "  home    astray at {}", shown(path)),
-            Outcome::Elsewhere(Err(refusal)) => writeln!(self.0, "  home    astray: {}", why(*refusal)),
+            Outcome::Elsewhere(Ok(path)) => writeln!(self.out, "  home    astray at {}", shown(path)),
+            Outcome::Elsewhere(Err(refusal)) => writeln!(self.out, "  home    astray: {}", why(*refusal)),
         }
     }
 
     fn end(&mut self, summary: &Summary) -> Result<()> {
         let Summary { signals, came_home } = *summary;
         let lost = signals - came_home;
-        writeln!(self.0, "\n{}: {came_home} came home, {lost} did not", counted(signals, "signal"))?;
-        self.0.flush()
+        writeln!(self.out, "\n{}: {came_home} came home, {lost} did not", counted(signals, "signal"))?;
+        self.out.flush()
     }
 
     fn flush(&mut self) -> Result<()> {
-        self.0.flush()
+        self.out.flush()
+    }
+}
+
+/// A text whose end is highlighted if it is `tail` and not empty.
+struct Highlighted<'a> {
+    text: &'a str,
+    tail: &'a str,
+}
+
+impl fmt::Display for Highlighted<'_> {
+    fn fmt(&self, f: &mut fmt::Formatter) -> fmt::Result {
+        match self.text.strip_suffix(self.tail) {
+            Some(head) if !self.tail.is_empty() => write!(f, "{head}{HIGHLIGHT}{}{RESET}", self.tail),
+            _ => f.write_str(self.text),
+        }
     }
 }
 
@@ -110,11 +151,15 @@ mod tests {
     use super::*;
     use crate::scenario::Signal;
 
+    fn reported(color: bool, trace: &Trace) -> String {
+        let mut out = Vec::new();
+        TextReport::new(&mut out, color).trace(trace).unwrap();
+        String::from_utf8(out).unwrap()
+    }
+
     fn written(outcome: Outcome, text: &str) -> String {
         let signal = Signal { line: 3, text: text.to_string() };
-        let mut out = Vec::new();
-        TextReport::new(&mut out).trace(&Trace { signal: &signal, steps: Vec::new(), outcome }).unwrap();
-        String::from_utf8(out).unwrap()
+        reported(true, &Trace { signal: &signal, steps: Vec::new(), unaltered: None, outcome })
     }
 
     #[test]
@@ -132,6 +177,36 @@ mod tests {
         );
         let stopped = Outcome::Stopped { leg: 12, refusal: Refusal::NoPath };
         assert!(written(stopped, "").starts_with("\nline 3: -\n  leg 12  stopped: 6, no path: no pair"));
+    }
+
+    #[test]
+    fn the_unaltered_end_is_highlighted() {
+        let signal = Signal { line: 3, text: "/A/b.c".to_string() };
+        let path = |text: &str| Path::new(text).unwrap();
+        let home = Outcome::Home(path("/A/b.c"));
+        let mut trace = Trace {
+            signal: &signal,
+            steps: vec![path("/X/b.c"), path("/b.c")],
+            unaltered: Some(2..6),
+            outcome: home,
+        };
+        let plain = "\nline 3: /A/b.c\n  leg 1   /X/b.c\n  leg 2   /b.c\n  home    /A/b.c\n";
+        assert_eq!(reported(true, &trace), plain.replace("/b.c", "\x1b[1;32m/b.c\x1b[0m"));
+        assert_eq!(reported(false, &trace), plain);
+        for nothing in [Some(6..6), Some(0..0), None] {
+            trace.unaltered = nothing;
+            assert_eq!(reported(true, &trace), plain);
+        }
+    }
+
+    /// A path that does not end like the signal is not highlighted.
+    #[test]
+    fn only_the_same_end_is_highlighted() {
+        let highlighted = |text, tail| Highlighted { text, tail }.to_string();
+        assert_eq!(highlighted("/A/b", "/b"), "/A\x1b[1;32m/b\x1b[0m");
+        assert_eq!(highlighted("/A", "/A"), "\x1b[1;32m/A\x1b[0m");
+        assert_eq!(highlighted("/A/c", "/b"), "/A/c");
+        assert_eq!(highlighted("-", ""), "-");
     }
 
     #[test]

@@ -2,6 +2,7 @@
 
 use crate::scenario::{Section, Signal};
 use mudvizsor::{Path, Refusal, Result, Route};
+use std::ops::Range;
 
 /// The trace of a signal: the path after each leg, and how it ended.
 #[derive(Debug)]
@@ -9,6 +10,9 @@ pub struct Trace<'a> {
     pub signal: &'a Signal,
     /// The path after each leg.
     pub steps: Vec<Path>,
+    /// The range of the signal's text that all legs carried over unaltered: the end of the signal and of each step. `None` if
+    /// it was not asked for, or if the signal did not come out over all legs.
+    pub unaltered: Option<Range<usize>>,
     pub outcome: Outcome,
 }
 
@@ -35,6 +39,7 @@ pub struct LegRoutes {
 struct PartialTrace {
     start: Path,
     steps: Vec<Path>,
+    unaltered: Option<Range<usize>>,
     outcome: Option<Outcome>,
 }
 
@@ -53,17 +58,31 @@ impl LegRoutes {
         LegRoutes { legs: sections.chunks(1).map(route).collect(), whole: route(sections) }
     }
 
-    /// Traces the signals and returns the traces in the same order. All signals are mapped over a leg in one call.
-    pub fn trace_all<'a>(&self, signals: &'a [Signal]) -> Vec<Trace<'a>> {
+    /// Traces the signals and returns the traces in the same order. All signals are mapped over a leg in one call. What was
+    /// carried over unaltered takes one more call for each signal, and is determined only if `with_unaltered` is true.
+    pub fn trace_all<'a>(&self, signals: &'a [Signal], with_unaltered: bool) -> Vec<Trace<'a>> {
         let starts = signals.iter().map(|signal| Path::new(&signal.text));
         let mut partials: Vec<Result<PartialTrace>> = starts
-            .map(|start| Ok(PartialTrace { start: start?, steps: Vec::new(), outcome: None }))
+            .map(|start| {
+                Ok(PartialTrace { start: start?, steps: Vec::new(), unaltered: None, outcome: None })
+            })
             .collect();
         for (i, leg) in self.legs.iter().enumerate() {
             map_over_leg(leg, i + 1, partials.iter_mut().flatten());
         }
+        if with_unaltered {
+            self.find_unaltered(partials.iter_mut().flatten());
+        }
         self.map_home(partials.iter_mut().flatten());
         signals.iter().zip(partials).map(|(signal, partial)| trace(signal, partial)).collect()
+    }
+
+    /// Determines what was carried over unaltered, for all signals that came out over the last leg.
+    fn find_unaltered<'a>(&self, partials: impl Iterator<Item = &'a mut PartialTrace>) {
+        for partial in partials.filter(|partial| partial.outcome.is_none()) {
+            let there = self.whole.out_carried(&partial.start);
+            partial.unaltered = Some(there.expect("what comes out over each leg comes out over all").rest);
+        }
     }
 
     /// Maps all signals home that came out over the last leg.
@@ -95,11 +114,13 @@ fn map_over_leg<'a>(route: &Route, leg: usize, partials: impl Iterator<Item = &'
 
 fn trace(signal: &Signal, partial: Result<PartialTrace>) -> Trace<'_> {
     match partial {
-        Ok(PartialTrace { steps, outcome, .. }) => {
+        Ok(PartialTrace { steps, unaltered, outcome, .. }) => {
             let outcome = outcome.expect("every trace has an outcome");
-            Trace { signal, steps, outcome }
+            Trace { signal, steps, unaltered, outcome }
         }
-        Err(refusal) => Trace { signal, steps: Vec::new(), outcome: Outcome::BadPath(refusal) },
+        Err(refusal) => {
+            Trace { signal, steps: Vec::new(), unaltered: None, outcome: Outcome::BadPath(refusal) }
+        }
     }
 }
 
@@ -123,7 +144,8 @@ mod tests {
     /// The steps and the outcome of each signal.
     fn outcomes(text: &str) -> Vec<(Vec<String>, Outcome)> {
         let scenario = Scenario::read(text.as_bytes()).unwrap();
-        let traces = LegRoutes::new(&scenario.legs).trace_all(&scenario.signals);
+        let traces = LegRoutes::new(&scenario.legs).trace_all(&scenario.signals, false);
+        assert!(traces.iter().all(|trace| trace.unaltered.is_none()));
         let steps = |trace: &Trace| trace.steps.iter().map(Path::to_string).collect();
         traces.into_iter().map(|trace| (steps(&trace), trace.outcome)).collect()
     }
@@ -161,10 +183,34 @@ mod tests {
             "map\n/A -> /B\n/B -> /A\nrelocates\n/A/c -> /A/d\nmap\n/ -> /\nsignals\n/A/c\n/B/c\n/B/d\n/A\n";
         let scenario = Scenario::read(text.as_bytes()).unwrap();
         let routes = LegRoutes::new(&scenario.legs);
-        for trace in routes.trace_all(&scenario.signals) {
+        for trace in routes.trace_all(&scenario.signals, false) {
             let whole = routes.whole.out(&path(&trace.signal.text));
             assert_eq!(whole.is_ok(), matches!(trace.outcome, Outcome::Home(_)));
             assert!(whole.is_err() || whole.as_ref().ok() == trace.steps.last());
         }
+    }
+
+    /// What all legs carried over, or `None` for a signal that stopped. It is the end of the signal and of each step.
+    #[test]
+    fn unaltered_ends() {
+        let text = "map\n/A -> /B\n/ -> /\nrelocates\n/B/c -> /B/d\nsignals\n\
+                    /A/c.x\n/A/e.x\n/A/c\n/Q/r\n/A{v=p}c.x\n/A/d\n/A.\n-\n";
+        let scenario = Scenario::read(text.as_bytes()).unwrap();
+        let traces = LegRoutes::new(&scenario.legs).trace_all(&scenario.signals, true);
+        let ranges: Vec<_> = traces.iter().map(|trace| trace.unaltered.clone()).collect();
+        let expected = [Some(4..6), Some(2..6), Some(4..4), Some(0..4), Some(0..0), None, None, Some(0..0)];
+        assert_eq!(ranges, expected);
+        for trace in traces {
+            let Some(range) = trace.unaltered else { continue };
+            let tail = &trace.signal.text[range];
+            assert!(trace.steps.iter().all(|step| step.as_str().ends_with(tail)), "{}", trace.signal.text);
+        }
+    }
+
+    #[test]
+    fn without_legs_the_whole_signal_is_unaltered() {
+        let scenario = Scenario::read(b"signals\n/A{v=p}B").unwrap();
+        let traces = LegRoutes::new(&scenario.legs).trace_all(&scenario.signals, true);
+        assert_eq!(traces[0].unaltered, Some(0..8));
     }
 }

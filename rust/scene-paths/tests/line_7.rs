@@ -6,6 +6,10 @@ use common::{Ran, run};
 use std::fs;
 use std::path::PathBuf;
 
+/// The escape sequences around a highlighted text.
+const HIGHLIGHT: &str = "\x1b[1;32m";
+const RESET: &str = "\x1b[0m";
+
 /// The path of a file in the folder `scenarios`.
 fn scenario(name: &str) -> PathBuf {
     PathBuf::from(env!("CARGO_MANIFEST_DIR")).join("../../scenarios").join(name)
@@ -27,6 +31,18 @@ fn text_is_as_recorded() {
 #[test]
 fn json_is_as_recorded() {
     assert_eq!(line_7(&["--json"]), Ran { out: recorded("line-7.json"), errors: String::new(), status: 1 });
+}
+
+/// With colours the report is the same text, and its unaltered ends are highlighted in the signal's line, after each leg and at
+/// home.
+#[test]
+fn colors_highlight_the_unaltered_ends() {
+    let colored = line_7(&["--color", "always"]).out;
+    assert_eq!(colored.replace(HIGHLIGHT, "").replace(RESET, ""), recorded("line-7.report"));
+    for (tail, count) in [("/Head/Lamp_2.aspect:state", 5), (".position", 5)] {
+        assert_eq!(colored.matches(&format!("{HIGHLIGHT}{tail}{RESET}\n")).count(), count, "{colored}");
+    }
+    assert_eq!(colored.matches(HIGHLIGHT).count(), 10, "{colored}");
 }
 
 #[test]

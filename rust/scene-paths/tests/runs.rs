@@ -2,7 +2,7 @@
 
 mod common;
 
-use common::{Ran, run};
+use common::{Ran, run, run_with_no_color};
 
 const LEGS: &str = "map one\n/A -> /B\nrelocates two\n/B/c -> /B/d\n";
 
@@ -63,6 +63,14 @@ fn bad_arguments() {
     for (arguments, expected) in [
         (&["--jsn"][..], "scene-paths: unknown option `--jsn`; see `scene-paths --help`\n"),
         (&["a", "b"], "scene-paths: expected one scenario, but 2 files are given\n"),
+        (
+            &["--color=red"],
+            "scene-paths: `--color` takes `always`, `never` or `auto`, but `red` is given; see `scene-paths --help`\n",
+        ),
+        (
+            &["--color"],
+            "scene-paths: `--color` takes `always`, `never` or `auto`, but nothing is given; see `scene-paths --help`\n",
+        ),
     ] {
         let expected = Ran { out: String::new(), errors: expected.to_string(), status: 2 };
         assert_eq!(run(arguments, b""), expected);
@@ -72,6 +80,55 @@ fn bad_arguments() {
         missing.status == 2 && missing.errors.starts_with("scene-paths: no-such-file.scene: "),
         "{missing:?}"
     );
+}
+
+/// The signals of a scenario for the tests of colours: one whose end is unaltered, one that is replaced as a whole, one with a
+/// selection, and one that stops.
+const COLORED: &str = "signals\n/A/c.x\n/A/c\n/A{v=p}c.x\n/A/d.x\n";
+
+/// The unaltered end `.x` of the first signal is highlighted, and nothing else.
+#[test]
+fn unaltered_ends_are_highlighted() {
+    let text = format!("{LEGS}{COLORED}");
+    let plain = run(&["--color", "never"], text.as_bytes());
+    let highlighted = run(&["--color=always"], text.as_bytes());
+    let first = "line 6: /A/c.x\n  leg 1   /B/c.x\n  leg 2   /B/d.x\n  home    /A/c.x\n";
+    assert!(plain.out.contains(first), "{}", plain.out);
+    let expected = plain.out.replace(first, &first.replace(".x", "\x1b[1;32m.x\x1b[0m"));
+    assert_eq!(highlighted.out, expected);
+    assert_eq!((highlighted.errors, highlighted.status), (plain.errors, plain.status));
+}
+
+/// `NO_COLOR` does not matter if colours are asked for. Standard output is not a terminal here, so `auto` means no colours.
+#[test]
+fn colors_are_off_by_default() {
+    let text = format!("{LEGS}{COLORED}");
+    let plain = run(&["--color=never"], text.as_bytes());
+    assert!(!plain.out.contains('\x1b'), "{}", plain.out);
+    for no_color in ["", "1"] {
+        for arguments in [&[][..], &["--color=auto"], &["--color=always", "--color=auto"]] {
+            assert_eq!(run_with_no_color(no_color, arguments, text.as_bytes()), plain);
+        }
+        let highlighted = run_with_no_color(no_color, &["--color=always"], text.as_bytes());
+        assert!(highlighted.out.contains("\x1b[1;32m.x\x1b[0m\n"), "{}", highlighted.out);
+    }
+}
+
+#[test]
+fn json_has_ranges_and_no_colors() {
+    let text = format!("{LEGS}{COLORED}");
+    let json = run(&["--json"], text.as_bytes());
+    assert_eq!(run(&["--json", "--color=always"], text.as_bytes()), json);
+    for (line, range) in [(6, Some((4, 2))), (7, Some((4, 0))), (8, Some((0, 0))), (9, None)] {
+        let signal = json.out.lines().find(|text| text.contains(&format!("{{\"line\": {line}, \"signal\"")));
+        let signal = signal.expect("a line for each signal");
+        assert_eq!(signal.contains("\"unaltered\""), range.is_some(), "{signal}");
+        if let Some((start, length)) = range {
+            let member =
+                format!("], \"unaltered\": {{\"start\": {start}, \"length\": {length}}}, \"came_home\": ");
+            assert!(signal.contains(&member), "{signal}");
+        }
+    }
 }
 
 /// The example in the help text works, and the help text explains each refusal that a trace can have.

@@ -52,7 +52,9 @@ pub fn apply_carried(direction: Direction, list: List, path: &[u8], out: &mut [u
     match direction {
         Direction::Out => entry!(mudvizsor_map_source_to_target_carried: list list, text path, out out,),
         Direction::Home => entry!(mudvizsor_map_target_to_source_carried: list list, text path, out out,),
-        Direction::Translated => entry!(mudvizsor_translate_to_target_carried: list list, text path, out out,),
+        Direction::Translated => {
+            entry!(mudvizsor_translate_to_target_carried: list list, text path, out out,)
+        }
     }
 }
 

@@ -140,3 +140,76 @@ fn many_paths_map_like_single_ones() {
         assert_eq!(some.map_all(direction, &paths), singly);
     }
 }
+
+/// A result of a call that tells what was carried over.
+fn carried(text: &str, rest: std::ops::Range<usize>) -> Result<Carried> {
+    Ok(Carried { path: path(text), rest })
+}
+
+#[test]
+fn rests_of_plain_mapping() {
+    let some = map(&[("/A", "/X"), ("/A/B", "/Y"), ("/C", "/"), ("/", "/")]);
+    for (text, expected) in [
+        ("/A/c.d", carried("/X/c.d", 2..6)),
+        ("/A{v=p}c", carried("/X{v=p}c", 2..8)),
+        ("/A/B/c", carried("/Y/c", 4..6)),
+        ("/A/B", carried("/Y", 4..4)),
+        ("/C/d", carried("/d", 2..4)),
+        ("/C.d", Err(Refusal::MadeNotLegal)),
+        ("/Q/r", carried("/Q/r", 0..4)),
+        ("/", carried("/", 0..1)),
+        ("", carried("", 0..0)),
+    ] {
+        assert_eq!(some.map_source_to_target_carried(&path(text)), expected, "{text}");
+    }
+    assert_eq!(some.map_target_to_source_carried(&path("/X/c.d")), carried("/A/c.d", 2..6));
+    assert_eq!(some.map_target_to_source_carried(&path("/X")), carried("/A", 2..2));
+}
+
+/// Under the key `/` the rest of a longer path is the whole path.
+#[test]
+fn rests_under_the_root() {
+    let below = MapFunction::from_pair("/", "/X").unwrap();
+    assert_eq!(below.map_source_to_target_carried(&path("/a.b")), carried("/X/a.b", 0..4));
+    assert_eq!(below.map_source_to_target_carried(&path("/")), carried("/X", 1..1));
+    assert_eq!(below.translate_to_target_carried(&path("/a")), carried("/X/a", 0..2));
+    let above = below.inverse();
+    assert_eq!(above.map_target_to_source_carried(&path("/a.b")), carried("/X/a.b", 0..4));
+    assert_eq!(above.map_source_to_target_carried(&path("/X/a")), carried("/a", 2..4));
+}
+
+#[test]
+fn rests_of_translations() {
+    let marked = MapFunction::from_pair_identity("/A", "/X").unwrap();
+    for (text, expected) in [
+        ("/A/b.c", carried("/X/b.c", 2..6)),
+        ("/A", carried("/X", 2..2)),
+        ("/Q/r", carried("/Q/r", 0..4)),
+        ("/A{v=p}b.c", carried("/X/b.c", 0..0)),
+        ("/A/b{v=p}", carried("/X/b", 0..0)),
+        ("/Q{v=p}", carried("/Q", 0..0)),
+        ("/X/y", Err(Refusal::NoPath)),
+    ] {
+        assert_eq!(marked.translate_to_target_carried(&path(text)), expected, "{text}");
+    }
+}
+
+/// The results and the refusals are those of the plain calls, and the rest is the end of both paths unless it is empty.
+#[test]
+fn carried_results_are_the_plain_ones() {
+    let long = named('L', MAX_PATH_LEN);
+    let some = map(&[("/A", "/X"), ("/A/B", ""), ("/C", "/X/C"), ("/D", &long), ("/E", "/")]);
+    let texts = ["", "/", "/A/b.c", "/A/B/C", "/C", "/X/C", "/A{v=p}", "/D/e", "/E.f", "/E{v=p}f", "/Q"];
+    for map in [&some, &some.with_root_identity(), &some.inverse()] {
+        for (text, direction) in texts.iter().flat_map(|text| {
+            [Direction::Out, Direction::Home, Direction::Translated].map(|direction| (text, direction))
+        }) {
+            let given = path(text);
+            let told = map.map_carried(direction, &given);
+            assert_eq!(told.clone().map(|carried| carried.path), map.map_path(direction, &given), "{text}");
+            if let Ok(carried) = told {
+                assert_eq!(carried.rest_str(), &text[carried.rest.clone()], "{text}");
+            }
+        }
+    }
+}

@@ -68,6 +68,30 @@ fn prefixes() {
     }
 }
 
+/// The rest begins after the prefix, but after `/` a longer path is its own rest.
+#[test]
+fn rests() {
+    for (text, prefix, expected) in [
+        ("/A/b", "/A", Some(2)),
+        ("/A.b", "/A", Some(2)),
+        ("/A{v=p}B", "/A", Some(2)),
+        ("/A{v=p}B", "/A{v=p}", Some(7)),
+        ("/A/b", "/A/b", Some(4)),
+        ("/A/b", "/", Some(0)),
+        ("/", "/", Some(1)),
+        ("/A/b", "", Some(0)),
+        ("", "", Some(0)),
+        ("/AB", "/A", None),
+        ("/A", "/A/b", None),
+        ("", "/", None),
+    ] {
+        assert_eq!(path(text).rest_start(&path(prefix)), expected, "{text} {prefix}");
+        assert_eq!(path(text).has_prefix(&path(prefix)), expected.is_some(), "{text} {prefix}");
+    }
+    let longest = path(&named(MAX_PATH_LEN));
+    assert_eq!(longest.rest_start(&longest), Some(MAX_PATH_LEN));
+}
+
 #[test]
 fn kinds_of_paths() {
     for (text, end, selection) in

@@ -85,12 +85,54 @@ fn many_paths_map_like_single_ones() {
     assert_eq!(route.home_all(&paths), paths.iter().map(|each| route.home(each)).collect::<Vec<_>>());
 }
 
+/// The rest over a route is the end that every leg carried over.
+#[test]
+fn rests_over_several_legs() {
+    let route = tram_line();
+    for (text, rest) in [
+        ("/Mast/Lamp_2.aspect:state", 5..25),
+        ("/Mast", 5..5),
+        ("/Mast{season=winter}Head", 0..0),
+        ("/Switch.position", 7..16),
+    ] {
+        let there = route.out_carried(&path(text)).unwrap();
+        assert_eq!((&there.path, &there.rest), (&route.out(&path(text)).unwrap(), &rest), "{text}");
+        assert_eq!(there.rest_str(), &text[rest], "{text}");
+        let home = route.home_carried(&there.path).unwrap();
+        assert_eq!(home.path, route.home(&there.path).unwrap(), "{text}");
+        assert_eq!(home.rest.end, there.path.as_str().len(), "{text}");
+        assert_eq!(home.rest_str(), &there.path.as_str()[home.rest.clone()], "{text}");
+    }
+    for text in ["/Mast/Spare", "/Barrier", "/", ""] {
+        assert_eq!(route.out_carried(&path(text)), Err(Refusal::NoPath), "{text}");
+        assert_eq!(route.home_carried(&path(text)), Err(Refusal::NoPath), "{text}");
+    }
+}
+
+/// The leg with the shortest rest decides, wherever it is on the way.
+#[test]
+fn the_shortest_rest_decides() {
+    let legs = [map(&[("/A", "/B")]), relocates(&[("/B/c/d", "/B/e")]), map(&[("/", "/"), ("/B", "/F")])];
+    let route = Route::new(legs).unwrap();
+    let carried = |text, rest| Ok(Carried { path: path(text), rest });
+    assert_eq!(route.out_carried(&path("/A/c/d/x.y")), carried("/F/e/x.y", 6..10));
+    assert_eq!(route.home_carried(&path("/F/e/x.y")), carried("/A/c/d/x.y", 4..8));
+    assert_eq!(route.out_carried(&path("/A/c/d")), carried("/F/e", 6..6));
+    assert_eq!(route.out_carried(&path("/A/g")), carried("/F/g", 2..4));
+    let marked = Route::new([map(&[("/", "/"), ("/A", "/B")]), relocates(&[])]).unwrap();
+    assert_eq!(marked.out_carried(&path("/C.d")), carried("/C.d", 0..4));
+    assert_eq!(marked.home_carried(&path("/C{v=p}")), carried("/C{v=p}", 0..7));
+}
+
 #[test]
 fn no_legs() {
     let route = Route::new([]).unwrap();
     let start = path("/A{v=p}B.c");
     assert_eq!((route.out(&start), route.home(&start)), (Ok(start.clone()), Ok(start.clone())));
     assert_eq!(route.steps_out(&start).count(), 0);
+    let whole = Carried { rest: 0..start.as_str().len(), path: start.clone() };
+    assert_eq!(route.out_carried(&start), Ok(whole.clone()));
+    assert_eq!(route.home_carried(&start), Ok(whole));
 }
 
 #[test]
