@@ -1,5 +1,6 @@
-//! Compares the calls that also tell the rest, the part of a path that is carried over unaltered. The original has no counterpart,
-//! so they are compared with a second reading of the requirements (`reader`), with the plain calls, and with the paths themselves.
+//! Compares the calls that also tell the rest, the part of a path that is carried over unaltered. The original has no
+//! counterpart, so they are compared with a second reading of the requirements (`reader`), with the plain calls, and with the
+//! paths themselves.
 
 mod calls;
 mod entries;
