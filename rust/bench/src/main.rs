@@ -1,8 +1,9 @@
 //! `bench`: times the library and the original Rust code on the same texts, the program `frames` and a Rust program of the
-//! same protocol on the same inputs, and two forms of a join on the same joins, and prints tables of the ratios. `bench
-//! --help` describes the options.
+//! same protocol on the same inputs, two forms of a join on the same joins, and the calls that tell the rest beside the plain
+//! calls, and prints tables of the ratios. `bench --help` describes the options.
 
 mod calls;
+mod carried;
 mod clock;
 mod frames;
 mod inputs;
@@ -48,6 +49,7 @@ fn print_tables(options: &Options) -> io::Result<()> {
             Part::Routes => routes::print(),
             Part::Frames => frames::print(options)?,
             Part::Joins => joins::print(&options.orders),
+            Part::Carried => carried::print(),
         }
     }
     Ok(())

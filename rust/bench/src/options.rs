@@ -5,12 +5,12 @@ use std::path::PathBuf;
 
 pub const USAGE: &str = "bench: times the library against the original Rust code, and the program `frames` against a Rust program
 
-usage: bench [--only calls|maps|makes|routes|frames|joins] [--frames N] [--rounds N] [--program PATH] [--order ORDER]
+usage: bench [--only PART] [--frames N] [--rounds N] [--program PATH] [--order ORDER]
 
 Both sides get the same inputs and must give equal results. Prints a table of times and ratios for each part; the best round counts.
 
-  --only PART       only this table: calls (single path calls), maps (mapping paths), makes (building maps), routes, frames, or
-                    joins (two forms of the join that replaces a prefix)
+  --only PART       only this table: calls (single path calls), maps (mapping paths), makes (building maps), routes, frames,
+                    joins (two forms of the join that replaces a prefix), or carried (the calls that tell the rest)
   --frames N        frames in each input of the table `frames` (default 1000000)
   --rounds N        rounds of the table `frames` (default 5)
   --program PATH    the program `frames` (default: the environment variable FRAMES, else target/bin/frames)
@@ -32,10 +32,12 @@ pub enum Part {
     Routes,
     Frames,
     Joins,
+    Carried,
 }
 
 impl Part {
-    const ALL: [Part; 6] = [Part::Calls, Part::Maps, Part::Makes, Part::Routes, Part::Frames, Part::Joins];
+    const ALL: [Part; 7] =
+        [Part::Calls, Part::Maps, Part::Makes, Part::Routes, Part::Frames, Part::Joins, Part::Carried];
 
     pub fn name(self) -> &'static str {
         match self {
@@ -45,6 +47,7 @@ impl Part {
             Part::Routes => "routes",
             Part::Frames => "frames",
             Part::Joins => "joins",
+            Part::Carried => "carried",
         }
     }
 }

@@ -1,6 +1,7 @@
 //! Calls both sides with the same texts and compares the results.
 
 use crate::calls::{self, NumberCall, PathCall};
+use crate::carried::kinds::Kinds;
 use crate::lent::Lent;
 use crate::routes::reach::Reach;
 use crate::tally::{Call, Given, Tally};
@@ -24,6 +25,9 @@ const PATH_CALLS: [PathCall; 4] =
 /// The sizes of the buffers lent for a path, in bytes.
 const CAPACITIES: [usize; 5] = [0, MAX_PATH_LEN - 1, MAX_PATH_LEN, MAX_PATH_LEN + 1, 300];
 
+/// The maximum size of a buffer lent for a path.
+const LONGEST: usize = CAPACITIES[CAPACITIES.len() - 1];
+
 /// The maximum size of the buffer lent for the lengths of ancestors: one number for each length, and three more.
 const NUMBERS: usize = MAX_PATH_LEN + 1 + 3;
 
@@ -33,7 +37,11 @@ pub struct Comparison {
     pub refused_by_original: BTreeSet<Vec<u8>>,
     /// Statistics on how far the paths of random routes get.
     pub reach: Reach,
-    bytes: Lent<u8>,
+    /// What the calls that tell the rest were examples of.
+    pub kinds: Kinds,
+    pub bytes: Lent<u8>,
+    /// The buffer of a second call that is compared with the first.
+    pub other_bytes: Lent<u8>,
     numbers: Lent<usize>,
 }
 
@@ -43,7 +51,9 @@ impl Comparison {
             tally: Tally::default(),
             refused_by_original: BTreeSet::new(),
             reach: Reach::default(),
-            bytes: Lent::bytes(CAPACITIES[CAPACITIES.len() - 1]),
+            kinds: Kinds::default(),
+            bytes: Lent::bytes(LONGEST),
+            other_bytes: Lent::bytes(LONGEST),
             numbers: Lent::numbers(NUMBERS),
         }
     }

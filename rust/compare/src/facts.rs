@@ -53,7 +53,7 @@ fn splits_at_dot(path: &Path) -> bool {
 
 /// "Equal texts; or the text begins with the prefix and the prefix is `/`, or the rest begins with `/`, `.` or
 /// `{`, or the prefix ends in `}`."
-fn is_prefix(text: &[u8], prefix: &[u8]) -> bool {
+pub fn is_prefix(text: &[u8], prefix: &[u8]) -> bool {
     text.strip_prefix(prefix).is_some_and(|rest| {
         rest.is_empty() || prefix == b"/" || matches!(rest[0], b'/' | b'.' | b'{') || prefix.ends_with(b"}")
     })

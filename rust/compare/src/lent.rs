@@ -52,4 +52,13 @@ impl<T: Copy + PartialEq> Lent<T> {
         let at = self.memory.iter().zip(expected).position(|(found, expected)| found != expected)?;
         Some(at as isize - MARGIN as isize)
     }
+
+    /// Returns the first index at which another buffer of the same size has other contents.
+    pub fn first_difference(&self, other: &Self) -> Option<isize> {
+        if self.memory == other.memory {
+            return None;
+        }
+        let at = self.memory.iter().zip(&other.memory).position(|(one, other)| one != other)?;
+        Some(at as isize - MARGIN as isize)
+    }
 }

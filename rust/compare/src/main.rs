@@ -2,6 +2,7 @@
 //! byte by byte. `compare --help` describes the options.
 
 mod calls;
+mod carried;
 mod cases;
 mod comparison;
 mod exhaustive;

@@ -3,7 +3,7 @@
 use crate::comparison::Comparison;
 use crate::options::Options;
 use crate::phase::random_phase;
-use crate::{cases, exhaustive, frames, makes, maps, relocates, routes, times};
+use crate::{carried, cases, exhaustive, frames, makes, maps, relocates, routes, times};
 
 pub struct Part {
     pub name: &'static str,
@@ -19,6 +19,7 @@ pub const PARTS: &[Part] = &[
     Part { name: "makes", run: makes },
     Part { name: "relocates", run: relocates },
     Part { name: "routes", run: routes },
+    Part { name: "carried", run: carried },
     Part { name: "times", run: times },
     Part { name: FRAMES, run: frames },
 ];
@@ -53,6 +54,10 @@ fn routes(comparison: &mut Comparison, options: &Options) {
     routes::run(comparison, options.seed);
     random_phase(comparison, "routes", options.seed, &options.limit, routes::cases::case);
     println!("{}", comparison.reach);
+}
+
+fn carried(comparison: &mut Comparison, options: &Options) {
+    carried::run(comparison, options.seed, &options.limit);
 }
 
 fn times(comparison: &mut Comparison, options: &Options) {

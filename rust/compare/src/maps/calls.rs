@@ -15,7 +15,7 @@ use texts::MAX_PATH_LEN;
 /// A call that maps a path.
 pub struct MapCall {
     name: &'static str,
-    direction: Direction,
+    pub direction: Direction,
     original: fn(&MapFunction, &Path) -> Option<Path>,
 }
 
@@ -40,7 +40,7 @@ pub const TRANSLATED: MapCall = MapCall {
 pub const CALLS: [MapCall; 3] = [OUT, BACK, TRANSLATED];
 
 /// The sizes of the buffers lent for the path, in bytes.
-const CAPACITIES: [usize; 3] = [MAX_PATH_LEN - 1, MAX_PATH_LEN, 300];
+pub const CAPACITIES: [usize; 3] = [MAX_PATH_LEN - 1, MAX_PATH_LEN, 300];
 
 impl MapCall {
     pub fn expected(&self, list: &List, text: &Text) -> Answer<Path> {

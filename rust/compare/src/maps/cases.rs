@@ -13,33 +13,36 @@ pub type Pair = [Vec<u8>; 2];
 /// The number of paths for each list.
 const PATHS: usize = 4;
 
-/// Tries a list, one in six flawed, with some paths.
+/// Tries a list with some paths.
 pub fn case(comparison: &mut Comparison, random: &mut Random) {
-    let pairs = pairs(random);
-    let lent = lay_out(random, &pairs);
-    if random.one_in(6) {
-        flawed_call(comparison, random, &pairs, lent);
-        return;
-    }
-    let list = List::new(lent);
+    let (list, texts) = list_and_paths(random);
     comparison.list_facts(&list);
-    let texts = [(); PATHS].map(|()| Text::new(&path_for(random, &pairs)));
     for text in &texts {
         comparison.map(&list, text);
     }
     comparison.map_all(&list, &texts);
 }
 
-fn flawed_call(comparison: &mut Comparison, random: &mut Random, pairs: &[Pair], mut lent: LentList) {
+/// A list, one in six flawed, and some paths.
+pub fn list_and_paths(random: &mut Random) -> (List, Vec<Text>) {
+    let pairs = pairs(random);
+    let lent = lay_out(random, &pairs);
+    if random.one_in(6) {
+        return flawed(random, &pairs, lent);
+    }
+    let texts = (0..PATHS).map(|_| Text::new(&path_for(random, &pairs)));
+    (List::new(lent), texts.collect())
+}
+
+/// The list and a path with one or two flaws, and another path.
+fn flawed(random: &mut Random, pairs: &[Pair], mut lent: LentList) -> (List, Vec<Text>) {
     let mut path = path_for(random, pairs);
     for _ in 0..random.within(1..=2) {
         let flaw = *random.pick(&FLAWS);
         flaw(random, &mut lent, &mut path);
     }
-    let (list, text) = (List::new(lent), Text::new(&path));
-    comparison.map(&list, &text);
-    let other = Text::new(&path_for(random, pairs));
-    comparison.map_all(&list, &[text, other]);
+    let other = path_for(random, pairs);
+    (List::new(lent), vec![Text::new(&path), Text::new(&other)])
 }
 
 /// Pairs with few different ends, so that keys are often equal.

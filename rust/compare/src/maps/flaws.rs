@@ -1,7 +1,6 @@
 //! The flaws of the input that a call that maps a path checks first, alone and together: of several flaws the one that is
 //! checked first decides.
 
-use crate::comparison::Comparison;
 use crate::maps::list::{LentList, List, MAX_PAIRS};
 use crate::text::Text;
 use texts::MAX_PATH_LEN;
@@ -24,25 +23,24 @@ pub const FLAWS: [Flaw; 9] = [
     garbage_after_the_list,
 ];
 
-/// The number of calls for each set of flaws.
-const ROUNDS: usize = 150;
-
 /// Illegal texts.
 const ILLEGAL: [&[u8]; 9] = [b"A", b".", b"//", b"/A/", b"/A//B", b"/1", b"/A b", b"/\xC3\xA9", b"/A.b[/C]"];
 
 /// Legal texts that are not ends.
 const NOT_ENDS: [&[u8]; 5] = [b"/A.b", b"/A/B.c:d", b"/A{v=p}", b"/A{v=p}B", b"/A{v=p}.b"];
 
-pub fn every_set(comparison: &mut Comparison, random: &mut Random) {
+/// Visits so many lists and paths with each set of flaws.
+pub fn every_set(random: &mut Random, rounds: usize, visit: &mut impl FnMut(List, Text)) {
     for set in 0..1 << FLAWS.len() {
-        for _ in 0..ROUNDS {
-            with_flaws(comparison, random, set);
+        for _ in 0..rounds {
+            let (list, text) = with_flaws(random, set);
+            visit(list, text);
         }
     }
 }
 
-/// Tries a call with the flaws given by the bits of `set`.
-fn with_flaws(comparison: &mut Comparison, random: &mut Random, set: usize) {
+/// A list and a path with the flaws given by the bits of `set`.
+fn with_flaws(random: &mut Random, set: usize) -> (List, Text) {
     let count = *random.pick(&[1, 2, 5, MAX_PAIRS]);
     let mut list = LentList::packed(&vec![["/A", "/B"]; count], random.one_in(2));
     let mut path = b"/A/C".to_vec();
@@ -51,9 +49,7 @@ fn with_flaws(comparison: &mut Comparison, random: &mut Random, set: usize) {
             flaw(random, &mut list, &mut path);
         }
     }
-    let (list, text) = (List::new(list), Text::new(&path));
-    comparison.map(&list, &text);
-    comparison.map_all(&list, &[text, Text::new(b"/A/C")]);
+    (List::new(list), Text::new(&path))
 }
 
 pub fn long_path(random: &mut Random, _: &mut LentList, path: &mut Vec<u8>) {

@@ -1,8 +1,10 @@
 //! Every list of a few pairs over a few ends, with and without the mark, and some short paths.
 
-use crate::comparison::Comparison;
 use crate::maps::list::List;
 use crate::text::Text;
+
+/// Gets a list and the paths to try with it.
+type Visit<'a> = &'a mut dyn FnMut(&List, &[Text]);
 
 pub const ENDS: [&str; 10] = ["", "/", "/A", "/B", "/AB", "/A/A", "/A/B", "/B/A", "/A/B/C", "/A/B/C/A"];
 
@@ -55,25 +57,25 @@ const PATHS: [&str; 44] = [
     "/A/B/C{v=p}A.a",
 ];
 
-pub fn lists_of_at_most_two(comparison: &mut Comparison) {
+pub fn lists_of_at_most_two(visit: Visit) {
     let texts = texts();
     let pairs = pairs(&ENDS);
-    either_mark(comparison, &[], &texts);
+    either_mark(visit, &[], &texts);
     for one in &pairs {
-        either_mark(comparison, &[*one], &texts);
+        either_mark(visit, &[*one], &texts);
         for other in &pairs {
-            either_mark(comparison, &[*one, *other], &texts);
+            either_mark(visit, &[*one, *other], &texts);
         }
     }
 }
 
-pub fn lists_of_three(comparison: &mut Comparison) {
+pub fn lists_of_three(visit: Visit) {
     let texts = texts();
     let pairs = pairs(&FEW_ENDS);
     for one in &pairs {
         for two in &pairs {
             for three in &pairs {
-                either_mark(comparison, &[*one, *two, *three], &texts);
+                either_mark(visit, &[*one, *two, *three], &texts);
             }
         }
     }
@@ -87,12 +89,8 @@ pub fn pairs(ends: &[&'static str]) -> Vec<[&'static str; 2]> {
     ends.iter().flat_map(|source| ends.iter().map(|target| [*source, *target])).collect()
 }
 
-fn either_mark(comparison: &mut Comparison, pairs: &[[&str; 2]], texts: &[Text]) {
+fn either_mark(visit: Visit, pairs: &[[&str; 2]], texts: &[Text]) {
     for mark in [false, true] {
-        let list = List::packed(pairs, mark);
-        comparison.list_facts(&list);
-        for text in texts {
-            comparison.map(&list, text);
-        }
+        visit(&List::packed(pairs, mark), texts);
     }
 }

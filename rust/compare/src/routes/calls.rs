@@ -17,8 +17,8 @@ use texts::MAX_PATH_LEN;
 /// A call that maps a path over a route.
 pub struct RouteCall {
     name: &'static str,
-    home: bool,
-    entry: fn(routes::Route, &[u8], &mut [u8]) -> Reply,
+    pub home: bool,
+    pub entry: fn(routes::Route, &[u8], &mut [u8]) -> Reply,
 }
 
 pub const OUT: RouteCall = RouteCall { name: "route_out", home: false, entry: route_out };

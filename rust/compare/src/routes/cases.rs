@@ -24,8 +24,18 @@ struct Leg {
     pairs: Vec<Pair>,
 }
 
-/// Tries a route, one in six flawed, with some paths.
+/// Tries a route with some paths.
 pub fn case(comparison: &mut Comparison, random: &mut Random) {
+    let (route, texts) = route_and_paths(random);
+    for text in &texts {
+        comparison.reach.count(&route, text);
+        comparison.route(&route, text, &CAPACITIES);
+    }
+    comparison.route_all(&route, &texts);
+}
+
+/// A route, one in six flawed, and some paths.
+pub fn route_and_paths(random: &mut Random) -> (Route, Vec<Text>) {
     let size = random.within(3..=12);
     let ends = family(random, size);
     let pair = [random.pick(&ends).clone(), random.pick(&ends).clone()];
@@ -41,12 +51,7 @@ pub fn case(comparison: &mut Comparison, random: &mut Random) {
         }
     }
     texts.push(Text::new(&path));
-    let route = Route::new(lent);
-    for text in &texts {
-        comparison.reach.count(&route, text);
-        comparison.route(&route, text, &CAPACITIES);
-    }
-    comparison.route_all(&route, &texts);
+    (Route::new(lent), texts)
 }
 
 /// Legs of which most map the result of the leg before.

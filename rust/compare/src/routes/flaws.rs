@@ -1,10 +1,8 @@
 //! The flaws of the input that a call for a route checks first, alone and together: of several flaws the one that is checked
 //! first decides.
 
-use crate::comparison::Comparison;
 use crate::maps::flaws;
 use crate::maps::list::MAX_PAIRS;
-use crate::routes::calls::CAPACITIES;
 use crate::routes::lent_route::{LentRoute, MAX_LEGS, Route};
 use crate::text::Text;
 use texts::random::Random;
@@ -27,22 +25,21 @@ pub const FLAWS: [Flaw; 12] = [
     garbage_after,
 ];
 
-/// The number of calls for each set of flaws.
-const ROUNDS: usize = 15;
-
 /// Numbers that overflow when multiplied by three or four, and would then wrap to a small number.
 const FAR: [usize; 4] = [usize::MAX / 4 + 1, usize::MAX / 3 + 1, usize::MAX / 2 + 1, usize::MAX];
 
-pub fn every_set(comparison: &mut Comparison, random: &mut Random) {
+/// Visits so many routes and paths with each set of flaws.
+pub fn every_set(random: &mut Random, rounds: usize, visit: &mut impl FnMut(Route, Text)) {
     for set in 0..1 << FLAWS.len() {
-        for _ in 0..ROUNDS {
-            with_flaws(comparison, random, set);
+        for _ in 0..rounds {
+            let (route, text) = with_flaws(random, set);
+            visit(route, text);
         }
     }
 }
 
-/// Tries a call with the flaws given by the bits of `set`.
-fn with_flaws(comparison: &mut Comparison, random: &mut Random, set: usize) {
+/// A route and a path with the flaws given by the bits of `set`.
+fn with_flaws(random: &mut Random, set: usize) -> (Route, Text) {
     let size = *random.pick(&[1, 2, 5]);
     let (there, back) = (vec![["/A/B", "/A/C"]; size], vec![["/A/C", "/A/B"]; size]);
     let count = *random.pick(&[1, 2, 3, MAX_LEGS]);
@@ -55,9 +52,7 @@ fn with_flaws(comparison: &mut Comparison, random: &mut Random, set: usize) {
             flaw(random, &mut route, &mut path);
         }
     }
-    let (route, text) = (Route::new(route), Text::new(&path));
-    comparison.route(&route, &text, &CAPACITIES);
-    comparison.route_all(&route, &[text, Text::new(b"/A/B/C")]);
+    (Route::new(route), Text::new(&path))
 }
 
 /// The index of the numbers of one of the present legs.

@@ -1,10 +1,11 @@
 //! Every route of one or two legs of a few pairs over a few ends, and every path of a few elements.
 
-use crate::comparison::Comparison;
 use crate::maps::small::{ENDS, pairs};
 use crate::routes::lent_route::Route;
 use crate::text::Text;
-use texts::MAX_PATH_LEN;
+
+/// Gets a route and the paths to try with it.
+type Visit<'a> = &'a mut dyn FnMut(&Route, &[Text]);
 
 /// A map, a map with the mark, and a relocate list.
 const KINDS: [usize; 3] = [0, 1, 2];
@@ -14,44 +15,42 @@ const THREE_ENDS: [&str; 3] = ["/A", "/A/A", "/A/B"];
 
 type List = Vec<[&'static str; 2]>;
 
-/// Tries every list of at most one pair with more paths, then of two pairs with fewer paths.
-pub fn one_leg(comparison: &mut Comparison) {
+/// Visits every list of at most one pair with more paths, then of two pairs with fewer paths.
+pub fn one_leg(visit: Visit) {
     let (more, fewer) = (paths(4), paths(2));
     for list in lists(&ENDS, 1) {
-        every_kind(comparison, &list, &more);
+        every_kind(visit, &list, &more);
     }
     for list in lists(&ENDS, 2).iter().filter(|list| list.len() == 2) {
-        every_kind(comparison, list, &fewer);
+        every_kind(visit, list, &fewer);
     }
 }
 
-/// Tries every two legs of at most one pair over all ends, then of at most two pairs over three ends.
-pub fn two_legs(comparison: &mut Comparison) {
-    every_two(comparison, &lists(&ENDS, 1), &paths(2));
-    every_two(comparison, &lists(&THREE_ENDS, 2), &paths(3));
+/// Visits every two legs of at most one pair over all ends, then of at most two pairs over three ends.
+pub fn two_legs(visit: Visit) {
+    two_legs_of_one_pair(visit);
+    every_two(visit, &lists(&THREE_ENDS, 2), &paths(3));
 }
 
-fn every_kind(comparison: &mut Comparison, list: &List, texts: &[Text]) {
+/// Visits every two legs of at most one pair over all ends.
+pub fn two_legs_of_one_pair(visit: Visit) {
+    every_two(visit, &lists(&ENDS, 1), &paths(2));
+}
+
+fn every_kind(visit: Visit, list: &List, texts: &[Text]) {
     for kind in KINDS {
-        every_path(comparison, &Route::packed(&[(kind, list)]), texts);
+        visit(&Route::packed(&[(kind, list)]), texts);
     }
 }
 
-fn every_two(comparison: &mut Comparison, lists: &[List], texts: &[Text]) {
+fn every_two(visit: Visit, lists: &[List], texts: &[Text]) {
     let legs: Vec<(usize, &[_])> =
         lists.iter().flat_map(|list| KINDS.map(|kind| (kind, list.as_slice()))).collect();
     for one in &legs {
         for other in &legs {
-            every_path(comparison, &Route::packed(&[*one, *other]), texts);
+            visit(&Route::packed(&[*one, *other]), texts);
         }
     }
-}
-
-fn every_path(comparison: &mut Comparison, route: &Route, texts: &[Text]) {
-    for text in texts {
-        comparison.route(route, text, &[MAX_PATH_LEN]);
-    }
-    comparison.route_all(route, texts);
 }
 
 /// Every list of at most `most` pairs over these ends.
