@@ -1,7 +1,7 @@
 //! Mapping signals out over the legs and home again.
 
 use crate::scenario::{Section, Signal};
-use mudvizsor::{Path, Refusal, Result, Route};
+use mudvizsor::{Leg, MapFunction, Path, Refusal, Result, Route};
 use std::ops::Range;
 
 /// The trace of a signal: the path after each leg, and how it ended.
@@ -33,6 +33,9 @@ pub enum Outcome {
 pub struct LegRoutes {
     legs: Vec<Route>,
     whole: Route,
+    /// The route of all legs with the map of each relocate list in its place. The library builds these maps in each call, so
+    /// calls for single signals are much faster over this route.
+    maps: Route,
 }
 
 /// The trace of a signal so far.
@@ -53,9 +56,11 @@ impl PartialTrace {
 impl LegRoutes {
     /// Creates the routes. A scenario has no more legs than a route may have.
     pub fn new(sections: &[Section]) -> Self {
-        let route = |some: &[Section]| Route::new(some.iter().map(|section| section.leg.clone()));
-        let route = |some| route(some).expect("a scenario has at most 16 legs");
-        LegRoutes { legs: sections.chunks(1).map(route).collect(), whole: route(sections) }
+        let route = |some: &[Section], leg: fn(&Leg) -> Leg| {
+            Route::new(some.iter().map(|section| leg(&section.leg))).expect("a scenario has at most 16 legs")
+        };
+        let legs = sections.chunks(1).map(|section| route(section, Leg::clone)).collect();
+        LegRoutes { legs, whole: route(sections, Leg::clone), maps: route(sections, map_of) }
     }
 
     /// Traces the signals and returns the traces in the same order. All signals are mapped over a leg in one call. What was
@@ -80,7 +85,7 @@ impl LegRoutes {
     /// Determines what was carried over unaltered, for all signals that came out over the last leg.
     fn find_unaltered<'a>(&self, partials: impl Iterator<Item = &'a mut PartialTrace>) {
         for partial in partials.filter(|partial| partial.outcome.is_none()) {
-            let there = self.whole.out_carried(&partial.start);
+            let there = self.maps.out_carried(&partial.start);
             partial.unaltered = Some(there.expect("what comes out over each leg comes out over all").rest);
         }
     }
@@ -97,6 +102,19 @@ impl LegRoutes {
             partial.outcome =
                 Some(if home == Ok(own.clone()) { Outcome::Home(own) } else { Outcome::Elsewhere(home) });
         }
+    }
+}
+
+/// The leg as a map. A relocate list stands for the map of its active pairs and `/` to `/`. If all 64 pairs of a list are
+/// active, that is one pair too many to build the map here, and the list stays.
+fn map_of(leg: &Leg) -> Leg {
+    let Leg::Relocates(relocates) = leg else {
+        return leg.clone();
+    };
+    let root = Path::root();
+    match MapFunction::new(relocates.active_pairs().chain([(&root, &root)])) {
+        Ok(map) => Leg::Map(map),
+        Err(_) => leg.clone(),
     }
 }
 
@@ -187,6 +205,21 @@ mod tests {
             let whole = routes.whole.out(&path(&trace.signal.text));
             assert_eq!(whole.is_ok(), matches!(trace.outcome, Outcome::Home(_)));
             assert!(whole.is_err() || whole.as_ref().ok() == trace.steps.last());
+        }
+    }
+
+    /// A relocate list and the map in its place have the same results, also for 64 active pairs.
+    #[test]
+    fn maps_agree_with_relocates() {
+        let many: String = (0..64).map(|i| format!("/L/s{i} -> /L/t{i}\n")).collect();
+        for pairs in ["/A/c -> /A/d\n/A/e -> -\n/A -> /B\n", &many] {
+            let text = format!("relocates\n{pairs}signals\n/A/c.x\n/A/e\n/A/d\n/B\n/L/s63/x\n/L/t0\n/\n");
+            let scenario = Scenario::read(text.as_bytes()).unwrap();
+            let routes = LegRoutes::new(&scenario.legs);
+            for signal in &scenario.signals {
+                let start = path(&signal.text);
+                assert_eq!(routes.maps.out_carried(&start), routes.whole.out_carried(&start), "{start}");
+            }
         }
     }
 

@@ -1,0 +1,30 @@
+use borrow.Author.Needs.{needs}
+use Rattle.mudvizsor.proofs.carried.mudvizsor_map_target_to_source_carried.Statement.{
+  statement,
+}
+use Rattle.mudvizsor.proofs.carried.mudvizsor_map_target_to_source_carried.Tie as tie
+
+untimed-map-requires : tie.Need-untimed-map-requires
+untimed-map-requires c κs = search needs
+
+map-target-to-source-carried-requires : tie.Need-map-target-to-source-carried-requires
+map-target-to-source-carried-requires c κs = search needs
+
+carried-code-requires : tie.Need-carried-code-requires
+carried-code-requires c κs = search needs
+
+same-length : tie.Need-same-length
+same-length c = search needs
+
+returns : tie.Need-returns
+returns c = ?
+
+pub mudvizsor-map-target-to-source-carried-spec : {M : Type 1} → statement M
+mudvizsor-map-target-to-source-carried-spec =
+    tie.close
+    (tie.spec
+    untimed-map-requires
+    map-target-to-source-carried-requires
+    carried-code-requires
+    same-length
+    returns)
