@@ -6,4 +6,5 @@ pub mod WrongPaths
 pub mod WrongTimes
 pub mod WrongMaps
 pub mod WrongRelocates
+pub mod WrongRests
 pub mod WrongFrames

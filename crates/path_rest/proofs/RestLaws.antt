@@ -13,7 +13,7 @@ use Rattle.path_grammar.proofs.LegalLaws.{root-is}
 use Rattle.path_prefix.specs.Prefix.{hasPrefix}
 use Rattle.path_prefix.proofs.PrefixLaws.{prefix-rest, prefix-long}
 use Rattle.path_rest.specs.declared.Rest.the-variants.{From}
-use Rattle.path_rest.specs.Rest.{restIndex, restStart, restText, followedBy, PrefixAndRest, EndsWith}
+use Rattle.path_rest.specs.Rest.{restIndex, restStart, restText, RestExamples, followedBy, PrefixAndRest, EndsWith}
 
 -- If s is a prefix of p, the rest begins at the index of the definition.
 pub rest-from : (p s : Text) → hasPrefix p s ≡ true → restStart p s ≡ From (restIndex p s)
@@ -72,3 +72,18 @@ prefix-and-rest p s h = rw (rest-from p s h) (go (isRoot s) (isRoot p) refl refl
         whole : (t : Text) → 1 ≤ length t → followedBy s t ≡ t
         whole [] n = absurd (not-suc-le-zero n)
         whole (a ∷ r) n = followed-root s a r k
+
+pub rest-examples : RestExamples
+unfolding restStart restText
+rest-examples = record {
+  child = (refl, refl);
+  property = (refl, refl);
+  selection = (refl, refl);
+  childOfSelection = (refl, refl);
+  exactMatch = (refl, refl);
+  belowRoot = (refl, refl);
+  rootItself = (refl, refl);
+  emptyPrefix = (refl, refl);
+  longerName = refl;
+  longerPrefix = refl;
+}

@@ -3,3 +3,4 @@ pub mod RelocateLaws
 pub mod Theorem
 pub mod Necessary
 pub mod RouteLaws
+pub mod RestTheorem

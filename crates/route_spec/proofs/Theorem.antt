@@ -28,7 +28,7 @@ map-ends (by-relocates l) e = relocate-ends l e
 
 -- One leg.
 module _ (x : Leg) (e : legEnds x ≡ true) (p q : Text) (c : SelectionFreePath p) where
-  step-next : outward x p ≡ path q → SelectionFreePath q
+  pub step-next : outward x p ≡ path q → SelectionFreePath q
   unfolding outward
   step-next = leg-next (legMap x) (map-ends x e) p q c
 
@@ -42,7 +42,7 @@ module _ (x : Leg) (e : legEnds x ≡ true) (p q : Text) (c : SelectionFreePath 
 
 -- The steps of a route.
 module _ (go : Leg → Text → Outcome) (p : Text) where
-  fold-nil : foldLegs go [] p ≡ path p
+  pub fold-nil : foldLegs go [] p ≡ path p
   unfolding foldLegs
   fold-nil = refl
 
@@ -51,11 +51,11 @@ module _ (go : Leg → Text → Outcome) (p : Text) where
   trace-nil = refl
 
 module _ (go : Leg → Text → Outcome) (x : Leg) (xs : List Leg) (p : Text) where
-  fold-path : (q : Text) → go x p ≡ path q → foldLegs go (x ∷ xs) p ≡ foldLegs go xs q
+  pub fold-path : (q : Text) → go x p ≡ path q → foldLegs go (x ∷ xs) p ≡ foldLegs go xs q
   unfolding foldLegs
   fold-path q h = rw h
 
-  fold-refused : (n : Refusal) → go x p ≡ refused n → foldLegs go (x ∷ xs) p ≡ refused n
+  pub fold-refused : (n : Refusal) → go x p ≡ refused n → foldLegs go (x ∷ xs) p ≡ refused n
   unfolding foldLegs
   fold-refused n h = rw h
 
@@ -92,11 +92,11 @@ one-more go (y ∷ ys) x q p1 p0 e h = by (go y q) refl (λ r. one-more go ys x 
     by (refused n) k ih = absurd (no-path (sym (fold-refused go y ys q n k) ∙ e))
 
 -- The ends of a route's first leg, and of the other legs.
-first-ends : (x : Leg) (xs : List Leg) → routeEnds (x ∷ xs) ≡ true → legEnds x ≡ true
+pub first-ends : (x : Leg) (xs : List Leg) → routeEnds (x ∷ xs) ≡ true → legEnds x ≡ true
 unfolding routeEnds
 first-ends x xs e = and-l (legEnds x) (routeEnds xs) e
 
-rest-ends : (x : Leg) (xs : List Leg) → routeEnds (x ∷ xs) ≡ true → routeEnds xs ≡ true
+pub rest-ends : (x : Leg) (xs : List Leg) → routeEnds (x ∷ xs) ≡ true → routeEnds xs ≡ true
 unfolding routeEnds
 rest-ends x xs e = and-r (legEnds x) (routeEnds xs) e
 
