@@ -41,13 +41,13 @@ use Rattle.route_legs.proofs.RouteLaws.{route-one-by-one, route-sound, route-sh
 use Rattle.route_maps.proofs.PreparedLaws.{prepared-itself}
 use Rattle.route_spec.specs.Route.{runRoute}
 use Rattle.route_spec.specs.Rest.{routeRest}
+use Rattle.route_spec.proofs.RestTheorem.{unaltered-le}
 use Rattle.route.specs.Calls.{routeCall}
 use Rattle.route.specs.Fast.{legFast, mapsIn, runRouteFast, enteringPath, entersStripped, HoldsPath, HoldsOutcome, needsMaps, afterRouteValidated}
 use Rattle.route.specs.declared.Step.{Step}
 use Rattle.route.specs.Unaltered.{unalteredFast, restFast, routeRestFast, HoldsStep}
 use Rattle.route.proofs.FastLaws.{Whole, fast-run, fast-map-legs}
 use Rattle.route.proofs.RestLaws.{fast-rest}
-use Rattle.route.proofs.UnalteredBranches.{unaltered-le}
 use Rattle.route.proofs.Corollary.{answered-path}
 use Rattle.route.proofs.RunBranches.{holds-path, holds-refused, holds-inside}
 

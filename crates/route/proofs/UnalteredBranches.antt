@@ -3,7 +3,6 @@ use mathlib.Core.Path.{_≡_, refl, sym, ap, _∙_}
 use mathlib.Core.Bool.{Bool, true, false}
 use mathlib.Core.List.{List, [], _∷_, _++_, reverse, reverse-append}
 use Prim.Native.Nat.{ℕ, zero, suc, _+_, _-_, _≤_, _<_, min}
-use native.Mathlib.Nat.{min-le-left}
 use native.Mathlib.Omega.{arith}
 use lib.ListN.{length, take}
 use Rattle.text.specs.Text.{Text, writtenIfFits}
@@ -71,19 +70,6 @@ unaltered-snoc {A} go rest (y ∷ xs) x n p q t e h = by (go y p) e (λ s. unalt
         → nextLength (unalteredLength go rest (xs ++ x ∷ []) fewer) o ≡ min (nextLength (unalteredLength go rest xs fewer) o) (length (restText q (rest x q)))
     by (path s) k ih = ih s k h
     by (refused z) k ih = absurd (let v : _≡_ {A = ℕ} 0 1 = cc in omega arith)
-
--- The legs never leave more unaltered than there was before them.
-pub unaltered-le : {A : Type 0} (go : A → Text → Outcome) (rest : A → Text → Rest) (xs : List A) (n : ℕ) (p : Text) → unalteredLength go rest xs n p ≤ n
-unfolding unalteredLength
-unaltered-le go rest [] n p = omega arith
-unaltered-le {A} go rest (x ∷ xs) n p = by (go x p) (unaltered-le go rest xs (min n (length (restText p (rest x p)))))
-  where
-    fewer : ℕ
-    fewer = min n (length (restText p (rest x p)))
-
-    by : (o : Outcome) → ((q : Text) → unalteredLength go rest xs fewer q ≤ fewer) → nextLength (unalteredLength go rest xs fewer) o ≤ n
-    by (path q) ih = omega (arith, ih q, min-le-left n (length (restText p (rest x p))))
-    by (refused z) ih = omega arith
 
 module _ (store : Text) (places legs : List ℕ) (n : ℕ) where
   abbrev route : ℕ → LentRoute

@@ -43,6 +43,19 @@ last-of-end k t r (s, e) h =
 end-fits : (t r : Text) → EndsWith t r → length r ≤ length t
 end-fits t r (s, e) = rw (e, length-append s r) (omega arith)
 
+-- Legs do not raise the number of unaltered bytes.
+pub unaltered-le : {A : Type 0} (go : A → Text → Outcome) (rest : A → Text → Rest) (xs : List A) (n : ℕ) (p : Text) → unalteredLength go rest xs n p ≤ n
+unfolding unalteredLength
+unaltered-le go rest [] n p = omega arith
+unaltered-le {A} go rest (x ∷ xs) n p = by (go x p) (unaltered-le go rest xs fewer)
+  where
+    fewer : ℕ
+    fewer = min n (length (restText p (rest x p)))
+
+    by : (o : Outcome) → ((q : Text) → unalteredLength go rest xs fewer q ≤ fewer) → nextLength (unalteredLength go rest xs fewer) o ≤ n
+    by (path q) ih = omega (arith, ih q, min-le-left n (length (restText p (rest x p))))
+    by (refused y) ih = omega arith
+
 -- What one leg does: its rest is the end of both paths, and the path that it yields has the property C again.
 record LegKeeps (C : Text → Type 0) (p q r : Text) : Type 0 where
   ends-given : EndsWith p r
@@ -59,17 +72,6 @@ module _ (go : Leg → Text → Outcome) (rest : Leg → Text → Rest) where
       → unalteredLength go rest (x ∷ xs) n p ≡ unalteredLength go rest xs (min n (restLength x p)) q
   unfolding unalteredLength
   unaltered-path x xs n p q e = rw e
-
-  -- Legs do not raise the number of unaltered bytes.
-  unaltered-few : (xs : List Leg) (n : ℕ) (p : Text) → unalteredLength go rest xs n p ≤ n
-  unfolding unalteredLength
-  unaltered-few [] n p = omega arith
-  unaltered-few (x ∷ xs) n p = by (go x p) (unaltered-few xs (min n (restLength x p)))
-    where
-      by : (o : Outcome) → ((q : Text) → unalteredLength go rest xs (min n (restLength x p)) q ≤ min n (restLength x p))
-          → nextLength (unalteredLength go rest xs (min n (restLength x p))) o ≤ n
-      by (path q) ih = omega (arith, ih q, min-le-left n (restLength x p))
-      by (refused m) ih = omega arith
 
   -- So the last unaltered bytes of the path given are the end of the path made.
   module _ (C : Text → Type 0)
@@ -89,7 +91,7 @@ module _ (go : Leg → Text → Outcome) (rest : Leg → Text → Rest) where
             let r = restText p (rest x p) in
             let leg : LegKeeps C p y r = step x (first-ends x xs ends) p y c k in
             let last = unalteredLength go rest xs fewer y in
-            let few : last ≤ length r = omega (arith, unaltered-few xs fewer y, min-le-right n (length r)) in
+            let few : last ≤ length r = omega (arith, unaltered-le go rest xs fewer y, min-le-right n (length r)) in
             let fits : fewer ≤ length y = omega (arith, min-le-right n (length r), end-fits y r (leg .ends-made)) in
             let of-made : lastBytes last y ≡ lastBytes last r = last-of-end last y r (leg .ends-made) few in
             let of-given : lastBytes last p ≡ lastBytes last r = last-of-end last p r (leg .ends-given) few in

@@ -1,3 +1,5 @@
+use mathlib.Core.Path.{ap, _∙_}
+use Rattle.ffi_rest.specs.RestCode.{restTestCode}
 use borrow.Author.Needs.{needs}
 use Rattle.mudvizsor.proofs.mudvizsor_path_rest_start.Statement.{statement}
 use Rattle.mudvizsor.proofs.mudvizsor_path_rest_start.Tie as tie
@@ -9,7 +11,7 @@ rest-test-code-requires : tie.Need-rest-test-code-requires
 rest-test-code-requires c κs = search needs
 
 returns : tie.Need-returns
-returns c = ?
+returns c = c .rest-test-code .ensures ∙ ap restTestCode (c .before .rest-start .ensures)
 
 pub mudvizsor-path-rest-start-spec : {M : Type 1} → statement M
 mudvizsor-path-rest-start-spec =

@@ -1,3 +1,5 @@
+use mathlib.Core.Path.{ap, _∙_}
+use Rattle.ffi_rest.specs.RestCode.{carriedCode}
 use borrow.Author.Needs.{needs}
 use Rattle.mudvizsor.proofs.carried.mudvizsor_translate_to_target_carried.Statement.{
   statement,
@@ -17,7 +19,11 @@ same-length : tie.Need-same-length
 same-length c = search needs
 
 returns : tie.Need-returns
-returns c = ?
+returns c =
+    let at-mapped = c .before .before .before in
+    let at-untimed-map = at-mapped .before .before in
+    let mapped = at-mapped .translate-to-target-carried .ensures in
+    rw (← (at-untimed-map .untimed-map .ensures)) (c .carried-code .ensures ∙ ap (carriedCode _) (mapped .0), mapped .1)
 
 pub mudvizsor-translate-to-target-carried-spec : {M : Type 1} → statement M
 mudvizsor-translate-to-target-carried-spec =
