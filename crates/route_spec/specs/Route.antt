@@ -22,8 +22,8 @@ routeEnds (x ∷ xs) = legEnds x && routeEnds xs
 
 -- Passes the path that a leg yields to the remainder of the route; a refusal ends the route.
 abbrev pub andThen : (Text → Outcome) → Outcome → Outcome
-andThen rest (path q) = rest q
-andThen rest (refused x) = refused x
+andThen next (path q) = next q
+andThen next (refused x) = refused x
 
 -- A path mapped over legs one after another: "leg after leg, the first given the starting path, each later one what the leg before gave".
 unfoldable pub foldLegs : {A : Type 0} → (A → Text → Outcome) → List A → Text → Outcome
@@ -32,8 +32,8 @@ foldLegs go (x ∷ xs) p = andThen (foldLegs go xs) (go x p)
 
 -- Continues the trace with the path that a leg yields; a refusal ends the trace.
 abbrev pub traceFrom : (Text → List Text) → Outcome → List Text
-traceFrom rest (path q) = rest q
-traceFrom rest (refused x) = []
+traceFrom next (path q) = next q
+traceFrom next (refused x) = []
 
 -- The trace of a route: the path that reaches each leg, and the result of the last leg.
 unfoldable pub trace : (Leg → Text → Outcome) → List Leg → Text → List Text

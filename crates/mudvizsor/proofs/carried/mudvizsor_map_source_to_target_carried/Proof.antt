@@ -22,8 +22,8 @@ returns : tie.Need-returns
 returns c =
     let at-mapped = c .before .before .before in
     let at-untimed-map = at-mapped .before .before in
-    let mapped = at-mapped .map-source-to-target-carried .ensures in
-    rw (← (at-untimed-map .untimed-map .ensures)) (c .carried-code .ensures ∙ ap (carriedCode _) (mapped .0), mapped .1)
+    let mapped = rw (at-untimed-map .untimed-map .ensures) at (at-mapped .map-source-to-target-carried .ensures) in
+    (c .carried-code .ensures ∙ ap (carriedCode _) (mapped .0), mapped .1)
 
 pub mudvizsor-map-source-to-target-carried-spec : {M : Type 1} → statement M
 mudvizsor-map-source-to-target-carried-spec =

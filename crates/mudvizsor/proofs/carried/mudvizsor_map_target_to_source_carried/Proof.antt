@@ -22,8 +22,8 @@ returns : tie.Need-returns
 returns c =
     let at-mapped = c .before .before .before in
     let at-untimed-map = at-mapped .before .before in
-    let mapped = at-mapped .map-target-to-source-carried .ensures in
-    rw (← (at-untimed-map .untimed-map .ensures)) (c .carried-code .ensures ∙ ap (carriedCode _) (mapped .0), mapped .1)
+    let mapped = rw (at-untimed-map .untimed-map .ensures) at (at-mapped .map-target-to-source-carried .ensures) in
+    (c .carried-code .ensures ∙ ap (carriedCode _) (mapped .0), mapped .1)
 
 pub mudvizsor-map-target-to-source-carried-spec : {M : Type 1} → statement M
 mudvizsor-map-target-to-source-carried-spec =

@@ -22,8 +22,8 @@ returns : tie.Need-returns
 returns c =
     let at-mapped = c .before .before .before in
     let at-untimed-map = at-mapped .before .before in
-    let mapped = at-mapped .translate-to-target-carried .ensures in
-    rw (← (at-untimed-map .untimed-map .ensures)) (c .carried-code .ensures ∙ ap (carriedCode _) (mapped .0), mapped .1)
+    let mapped = rw (at-untimed-map .untimed-map .ensures) at (at-mapped .translate-to-target-carried .ensures) in
+    (c .carried-code .ensures ∙ ap (carriedCode _) (mapped .0), mapped .1)
 
 pub mudvizsor-translate-to-target-carried-spec : {M : Type 1} → statement M
 mudvizsor-translate-to-target-carried-spec =
