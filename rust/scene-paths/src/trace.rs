@@ -105,17 +105,15 @@ impl LegRoutes {
     }
 }
 
-/// The leg as a map. A relocate list stands for the map of its active pairs and `/` to `/`. If all 64 pairs of a list are
-/// active, that is one pair too many to build the map here, and the list stays.
+/// The leg as a map. A relocate list stands for the map of its active pairs and `/` to `/`, which is the mark. The mark is
+/// added here after the map is built, since 64 active pairs leave no place for another pair. The map is the same: beside the
+/// mark only a pair with equal ends is redundant, and no such pair is active, unless both ends are empty and it never matches.
 fn map_of(leg: &Leg) -> Leg {
     let Leg::Relocates(relocates) = leg else {
         return leg.clone();
     };
-    let root = Path::root();
-    match MapFunction::new(relocates.active_pairs().chain([(&root, &root)])) {
-        Ok(map) => Leg::Map(map),
-        Err(_) => leg.clone(),
-    }
+    let active = MapFunction::new(relocates.active_pairs()).expect("a list has at most 64 pairs of ends");
+    Leg::Map(active.with_root_identity())
 }
 
 /// Maps all signals that have not stopped over one leg.
@@ -212,7 +210,9 @@ mod tests {
     #[test]
     fn maps_agree_with_relocates() {
         let many: String = (0..64).map(|i| format!("/L/s{i} -> /L/t{i}\n")).collect();
-        for pairs in ["/A/c -> /A/d\n/A/e -> -\n/A -> /B\n", &many] {
+        for pairs in
+            ["/A/c -> /A/d\n/A/e -> -\n/A -> /B\n", "- -> -\n/ -> -\n", "- -> -\n/A/c -> /A/d\n", &many]
+        {
             let text = format!("relocates\n{pairs}signals\n/A/c.x\n/A/e\n/A/d\n/B\n/L/s63/x\n/L/t0\n/\n");
             let scenario = Scenario::read(text.as_bytes()).unwrap();
             let routes = LegRoutes::new(&scenario.legs);
