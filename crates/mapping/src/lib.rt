@@ -132,7 +132,7 @@ fn map_in_direction(
 
 // One of the three calls with the rest, given the result `list` of validating the list; only the path is
 // validated here. So a list can be validated once for many paths.
-pub fn map_after_list_carried(
+fn map_after_list_carried(
     list: refusal::Validation,
     store: &[u8],
     places: &[usize],

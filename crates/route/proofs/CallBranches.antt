@@ -44,8 +44,8 @@ use Rattle.route_spec.specs.Rest.{routeRest}
 use Rattle.route_spec.proofs.RestTheorem.{unaltered-le}
 use Rattle.route.specs.Calls.{routeCall}
 use Rattle.route.specs.Fast.{legFast, mapsIn, runRouteFast, enteringPath, entersStripped, HoldsPath, HoldsOutcome, needsMaps, afterRouteValidated}
-use Rattle.route.specs.declared.Step.{Step}
-use Rattle.route.specs.Unaltered.{unalteredFast, restFast, routeRestFast, HoldsStep}
+use Rattle.route.specs.declared.Run.{Run}
+use Rattle.route.specs.Unaltered.{unalteredFast, restFast, routeRestFast, HoldsRun}
 use Rattle.route.proofs.FastLaws.{Whole, fast-run, fast-map-legs}
 use Rattle.route.proofs.RestLaws.{fast-rest}
 use Rattle.route.proofs.Corollary.{answered-path}
@@ -58,8 +58,8 @@ fast-le false s n k p = unaltered-le (legFast false) (plainRest false) (mapsIn s
 fast-le true s n k p = unaltered-le (legFast true) (plainRest true) (reverse (mapsIn s n)) k p
 
 -- `run_direction`
-pub run-is : (home b : Bool) (s : LentRoute) (n k : ℕ) (p : Text) (r : Step) (mem : Text) → home ≡ b → HoldsStep (runRouteFast b s n p) (unalteredFast b s n k p) r mem
-    → HoldsStep (runRouteFast home s n p) (unalteredFast home s n k p) r mem
+pub run-is : (home b : Bool) (s : LentRoute) (n k : ℕ) (p : Text) (r : Run) (mem : Text) → home ≡ b → HoldsRun (runRouteFast b s n p) (unalteredFast b s n k p) r mem
+    → HoldsRun (runRouteFast home s n p) (unalteredFast home s n k p) r mem
 run-is home b s n k p r mem h w = rw h w
 
 -- `enters_stripped`
@@ -112,10 +112,10 @@ pub entered-size : (t : Text) (k : ℕ) (mem : Text) → HoldsPath t k mem → k
 unfolding HoldsPath
 entered-size t k mem e = e .1
 
--- `run_path`: the path that enters the first leg, and the step over all legs.
+-- `run_path`: the path that enters the first leg, and the run over all legs.
 module _ (home : Bool) (s : LentRoute) (n : ℕ) (p : Text) (stripped : Bool) (f : stripped ≡ entersStripped home n p) (k : ℕ) (here : Text)
-    (e : HoldsPath (cond stripped (strip p) p) k here) (r : Step) (there : Text)
-    (h : HoldsStep (runRouteFast home s n (take k here)) (unalteredFast home s n k (take k here)) r there) where
+    (e : HoldsPath (cond stripped (strip p) p) k here) (r : Run) (there : Text)
+    (h : HoldsRun (runRouteFast home s n (take k here)) (unalteredFast home s n k (take k here)) r there) where
   abbrev whole : Outcome
   whole = runRouteFast home s n (enteringPath home n p)
 

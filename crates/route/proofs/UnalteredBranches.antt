@@ -20,9 +20,9 @@ use Rattle.map_apply.specs.Fast.{plainRest}
 use Rattle.route_spec.specs.Route.{andThen, foldLegs}
 use Rattle.route_spec.specs.Rest.{nextLength, unalteredLength}
 use Rattle.route_legs.specs.LentRoute.{LentRoute, lentRoute, listAt, mapAt}
-use Rattle.route.specs.declared.Step.{Step}
+use Rattle.route.specs.declared.Run.{Run}
 use Rattle.route.specs.Fast.{legFast, mapsIn, runRouteFast, HoldsOutcome}
-use Rattle.route.specs.Unaltered.{restLength, unalteredFast, HoldsStep}
+use Rattle.route.specs.Unaltered.{restLength, unalteredFast, HoldsRun}
 use Rattle.route.proofs.RunBranches.{written-refused, over-refused, over-inside, over-written, holds-path}
 
 -- `run_legs`: the leg's reply, and the length of the rest that it tells.
@@ -36,23 +36,23 @@ module _ (home : Bool) (m : Map) (p buf made : Text) (c : Carried) (w : ReturnsC
   rest-told n k =
       ap length (d ∙ ap (restText p) (known-rest (outcomeReply (legFast home m p)) (plainRest home m p) c (w .0) n (sym e ∙ k)))
 
-  pub step-refused : (x : Refusal) → r ≡ Refused x → (mem : Text) → HoldsStep (legFast home m p) (restLength home m p) (record { reply = r; unaltered = length t }) mem
-  step-refused x k mem = record { outcome = over-refused (legFast home m p) r mem (replied .0) x k; unalteredIs = rest-told }
+  pub run-over-refused : (x : Refusal) → r ≡ Refused x → (mem : Text) → HoldsRun (legFast home m p) (restLength home m p) (record { reply = r; unaltered = length t }) mem
+  run-over-refused x k mem = record { outcome = over-refused (legFast home m p) r mem (replied .0) x k; unalteredIs = rest-told }
 
   module _ (n : ℕ) (k : r ≡ Written n) where
-    pub step-inside : n ≤ length made
-    step-inside = over-inside home m p buf made r replied n k
+    pub run-over-inside : n ≤ length made
+    run-over-inside = over-inside home m p buf made r replied n k
 
-    pub step-written : (here here′ : Text) → length here ≡ 255 → here′ ≡ writtenIfFits 0 (take n made) here
-        → HoldsStep (legFast home m p) (restLength home m p) (record { reply = Written n; unaltered = length t }) here′
-    step-written here here′ l g = record {
+    pub run-over-written : (here here′ : Text) → length here ≡ 255 → here′ ≡ writtenIfFits 0 (take n made) here
+        → HoldsRun (legFast home m p) (restLength home m p) (record { reply = Written n; unaltered = length t }) here′
+    run-over-written here here′ l g = record {
       outcome = over-written home m p buf made r replied n k here here′ l g;
       unalteredIs = λ j e. rest-told n k;
     }
 
--- A step that was refused holds whatever is said of unaltered bytes.
-pub refused-step : (o : Outcome) (n : ℕ) (r : Step) (mem : Text) (x : Refusal) → HoldsOutcome o (r .reply) mem → r .reply ≡ Refused x → HoldsStep o n r mem
-refused-step o n r mem x h e = record { outcome = h; unalteredIs = λ m k. absurd (written-refused m x (sym k ∙ e)) }
+-- A run that was refused holds whatever is said of unaltered bytes.
+pub refused-run : (o : Outcome) (n : ℕ) (r : Run) (mem : Text) (x : Refusal) → HoldsOutcome o (r .reply) mem → r .reply ≡ Refused x → HoldsRun o n r mem
+refused-run o n r mem x h e = record { outcome = h; unalteredIs = λ m k. absurd (written-refused m x (sym k ∙ e)) }
 
 -- One more leg at the end.
 unaltered-snoc : {A : Type 0} (go : A → Text → Outcome) (rest : A → Text → Rest) (xs : List A) (x : A) (n : ℕ) (p q t : Text) → foldLegs go xs p ≡ path q → go x q ≡ path t
@@ -84,7 +84,7 @@ module _ (store : Text) (places legs : List ℕ) (n : ℕ) where
   out-first len p = refl
 
   pub out-fewer : (len : ℕ) (p : Text) (k at : ℕ) (here : Text) → foldLegs (legFast false) (mapsIn (route n) k) p ≡ path (take at here) → (u : ℕ) → after k len p ≡ u
-      → (r : Step) (here′ : Text) → HoldsStep (legFast false (mapAt (route k) k) (take at here)) (restLength false (mapAt (route k) k) (take at here)) r here′
+      → (r : Run) (here′ : Text) → HoldsRun (legFast false (mapAt (route k) k) (take at here)) (restLength false (mapAt (route k) k) (take at here)) r here′
       → (m : ℕ) → r .reply ≡ Written m → (u′ : ℕ) → u′ ≡ min u (r .unaltered) → after (k + 1) len p ≡ u′
   unfolding mapsIn mapAt listAt restLength
   out-fewer len p k at here e u f r here′ h m w u′ g =
@@ -93,7 +93,7 @@ module _ (store : Text) (places legs : List ℕ) (n : ℕ) where
       rw (z, g, ← f, h .unalteredIs m w) (unaltered-snoc (legFast false) (plainRest false) (mapsIn (route n) k) (mapAt (route n) k) len p (take at here) (take m here′) e made)
 
   pub out-all : (len : ℕ) (p : Text) (k at : ℕ) (here : Text) (u : ℕ) → n ≤ k → k ≤ n → after k len p ≡ u → HoldsOutcome (runRouteFast false (route n) n p) (Written at) here
-      → HoldsStep (runRouteFast false (route n) n p) (unalteredFast false (route n) n len p) (record { reply = Written at; unaltered = u }) here
+      → HoldsRun (runRouteFast false (route n) n p) (unalteredFast false (route n) n len p) (record { reply = Written at; unaltered = u }) here
   unfolding unalteredFast
   out-all len p k at here u a b f h = let z : k ≡ n = omega arith in record { outcome = h; unalteredIs = λ m w. sym (rw z at f) }
 
@@ -111,7 +111,7 @@ module _ (store : Text) (places legs : List ℕ) (n : ℕ) where
   home-first len p = refl
 
   pub home-fewer : (total : ℕ) (k at : ℕ) (here : Text) → 0 < k → (u : ℕ) → before k u (take at here) ≡ total
-      → (r : Step) (here′ : Text) → HoldsStep (legFast true (mapAt (route (k - 1)) (k - 1)) (take at here)) (restLength true (mapAt (route (k - 1)) (k - 1)) (take at here)) r here′
+      → (r : Run) (here′ : Text) → HoldsRun (legFast true (mapAt (route (k - 1)) (k - 1)) (take at here)) (restLength true (mapAt (route (k - 1)) (k - 1)) (take at here)) r here′
       → (m : ℕ) → r .reply ≡ Written m → (u′ : ℕ) → u′ ≡ min u (r .unaltered) → before (k - 1) u′ (take m here′) ≡ total
   unfolding mapAt listAt restLength
   home-fewer total k at here l u f r here′ h m w u′ g =
@@ -122,6 +122,6 @@ module _ (store : Text) (places legs : List ℕ) (n : ℕ) where
 
   pub home-all : (len : ℕ) (p : Text) (k at : ℕ) (here : Text) (u : ℕ) → k ≤ 0 → before k u (take at here) ≡ unalteredFast true (route n) n len p
       → HoldsOutcome (runRouteFast true (route n) n p) (Written at) here
-      → HoldsStep (runRouteFast true (route n) n p) (unalteredFast true (route n) n len p) (record { reply = Written at; unaltered = u }) here
+      → HoldsRun (runRouteFast true (route n) n p) (unalteredFast true (route n) n len p) (record { reply = Written at; unaltered = u }) here
   unfolding mapsIn unalteredLength
   home-all len p k at here u b f h = let z : k ≡ 0 = omega arith in record { outcome = h; unalteredIs = λ m w. rw z at f }

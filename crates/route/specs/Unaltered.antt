@@ -14,7 +14,7 @@ use Rattle.map_spec.specs.Map.{Map}
 use Rattle.map_apply.specs.Fast.{plainRest}
 use Rattle.route_spec.specs.Rest.{unalteredLength}
 use Rattle.route_legs.specs.LentRoute.{LentRoute}
-use Rattle.route.specs.declared.Step.{Step}
+use Rattle.route.specs.declared.Run.{Run}
 use Rattle.route.specs.Fast.{legFast, mapsIn, entersStripped, HoldsOutcome}
 
 -- The length of the rest that a leg with the map m leaves of the path p.
@@ -37,7 +37,7 @@ unfoldable pub routeRestFast : Bool → LentRoute → ℕ → Text → Rest
 unfolding restFast entersStripped unalteredFast
 routeRestFast home s n p = restFast (entersStripped home n p) (length p) (unalteredFast home s n (length p) p)
 
--- The buffer holds the outcome of some legs, and if that is a path, the step states that n bytes are unaltered.
-pub record HoldsStep (o : Outcome) (n : ℕ) (r : Step) (mem : Text) : Type 0 where
+-- The buffer holds the outcome of some legs, and if that is a path, the run states that n bytes are unaltered.
+pub record HoldsRun (o : Outcome) (n : ℕ) (r : Run) (mem : Text) : Type 0 where
   pub outcome : HoldsOutcome o (r .reply) mem
   pub unalteredIs : (m : ℕ) → r .reply ≡ Written m → r .unaltered ≡ n

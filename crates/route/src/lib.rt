@@ -13,11 +13,11 @@ ghost use Rattle.route_spec.specs.Rest.{routeRest};
 ghost use Rattle.route_legs.specs.LentRoute.{lentRoute, mapAt, legsIn};
 ghost use Rattle.route.specs.Calls.{routeCall};
 ghost use Rattle.route.specs.Fast.{legFast, runRouteFast, entersStripped, enteringPath, HoldsPath, needsMaps, afterRouteValidated};
-ghost use Rattle.route.specs.Unaltered.{restLength, unalteredFast, restFast, routeRestFast, HoldsStep};
+ghost use Rattle.route.specs.Unaltered.{restLength, unalteredFast, restFast, routeRestFast, HoldsRun};
 
 // The reply of some legs, and how many bytes at the end of the path that reached them they carried over
 // unaltered.
-struct Step {
+struct Run {
     reply: refusal::Reply,
     unaltered: usize,
 }
@@ -54,21 +54,21 @@ fn run_legs(
     home: bool,
     here: &mut [u8],
     len: usize,
-) -> Step
+) -> Run
     requires { ⌜ (len ≤ 255) × (length (now here) ≡ 255) ⌝ }
     ensures { λ r. ⌜ (let m = mapAt (lentRoute (now (store .entry)) (now (places .entry)) (now (legs .entry)) k) k in
         let p = take len (now (here .entry)) in
-        HoldsStep (legFast home m p) (restLength home m p) r (now (here .exit))) ⌝ }
+        HoldsRun (legFast home m p) (restLength home m p) r (now (here .exit))) ⌝ }
 {
     let mut made = [0u8; 255];
     let c = map_leg(store, places, legs, k, home, &here[..len], &mut made);
     let unaltered = path_rest::carried_rest(&here[..len], c).len();
     let reply = path_rest::reply_of(c);
     let refusal::Reply::Written(n) = reply else {
-        return Step { reply, unaltered };
+        return Run { reply, unaltered };
     };
     text::write_at(&made[..n], 0, here);
-    Step { reply, unaltered }
+    Run { reply, unaltered }
 }
 
 // The smaller of two numbers.
@@ -89,26 +89,26 @@ fn run_out(
     n: usize,
     here: &mut [u8],
     len: usize,
-) -> Step
+) -> Run
     requires { ⌜ (len ≤ 255) × (length (now here) ≡ 255) ⌝ }
     ensures { λ r. ⌜ (let s = lentRoute (now (store .entry)) (now (places .entry)) (now (legs .entry)) n in
         let p = take len (now (here .entry)) in
-        HoldsStep (runRouteFast false s n p) (unalteredFast false s n len p) r (now (here .exit))) ⌝ }
+        HoldsRun (runRouteFast false s n p) (unalteredFast false s n len p) r (now (here .exit))) ⌝ }
 {
     let mut at = len;
     let mut unaltered = len;
     let mut k = 0;
     while k < n {
-        let step = run_legs(store, places, legs, k, false, here, at);
-        let reply = step.reply;
+        let run = run_legs(store, places, legs, k, false, here, at);
+        let reply = run.reply;
         let refusal::Reply::Written(m) = reply else {
-            return step;
+            return run;
         };
         at = m;
-        unaltered = min(unaltered, step.unaltered);
+        unaltered = min(unaltered, run.unaltered);
         k += 1;
     }
-    Step {
+    Run {
         reply: refusal::Reply::Written(at),
         unaltered,
     }
@@ -122,26 +122,26 @@ fn run_home(
     n: usize,
     here: &mut [u8],
     len: usize,
-) -> Step
+) -> Run
     requires { ⌜ (len ≤ 255) × (length (now here) ≡ 255) ⌝ }
     ensures { λ r. ⌜ (let s = lentRoute (now (store .entry)) (now (places .entry)) (now (legs .entry)) n in
         let p = take len (now (here .entry)) in
-        HoldsStep (runRouteFast true s n p) (unalteredFast true s n len p) r (now (here .exit))) ⌝ }
+        HoldsRun (runRouteFast true s n p) (unalteredFast true s n len p) r (now (here .exit))) ⌝ }
 {
     let mut at = len;
     let mut unaltered = len;
     let mut k = n;
     while 0 < k {
         k -= 1;
-        let step = run_legs(store, places, legs, k, true, here, at);
-        let reply = step.reply;
+        let run = run_legs(store, places, legs, k, true, here, at);
+        let reply = run.reply;
         let refusal::Reply::Written(m) = reply else {
-            return step;
+            return run;
         };
         at = m;
-        unaltered = min(unaltered, step.unaltered);
+        unaltered = min(unaltered, run.unaltered);
     }
-    Step {
+    Run {
         reply: refusal::Reply::Written(at),
         unaltered,
     }
@@ -156,11 +156,11 @@ fn run_direction(
     home: bool,
     here: &mut [u8],
     len: usize,
-) -> Step
+) -> Run
     requires { ⌜ (len ≤ 255) × (length (now here) ≡ 255) ⌝ }
     ensures { λ r. ⌜ (let s = lentRoute (now (store .entry)) (now (places .entry)) (now (legs .entry)) n in
         let p = take len (now (here .entry)) in
-        HoldsStep (runRouteFast home s n p) (unalteredFast home s n len p) r (now (here .exit))) ⌝ }
+        HoldsRun (runRouteFast home s n p) (unalteredFast home s n len p) r (now (here .exit))) ⌝ }
 {
     if home {
         return run_home(store, places, legs, n, here, len);
@@ -230,13 +230,13 @@ fn run_path(
     let stripped = enters_stripped(home, n, path);
     let mut here = [0u8; 255];
     let len = enter_route(stripped, path, &mut here);
-    let step = run_direction(store, places, legs, n, home, &mut here, len);
-    let reply = step.reply;
+    let run = run_direction(store, places, legs, n, home, &mut here, len);
+    let reply = run.reply;
     let refusal::Reply::Written(m) = reply else {
         return path_rest::with_rest(reply, path_rest::Rest::Nothing);
     };
     text::write_at(&here[..m], 0, out);
-    path_rest::with_rest(reply, rest_at_end(stripped, path.len(), step.unaltered))
+    path_rest::with_rest(reply, rest_at_end(stripped, path.len(), run.unaltered))
 }
 
 // Maps a path over a route of maps, with the rest. `list` is the result of the route's own validation, so only

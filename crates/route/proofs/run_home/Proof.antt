@@ -1,7 +1,7 @@
 -- The loop. The legs before k, in reverse from the path so far, make the result of the whole route, and leave unaltered what it leaves.
 use borrow.Author.Needs.{needs}
 use Rattle.route.proofs.RunBranches.{holds-size, home-begin, home-on, home-stopped, home-end}
-use Rattle.route.proofs.UnalteredBranches.{refused-step, home-first, home-fewer, home-all}
+use Rattle.route.proofs.UnalteredBranches.{refused-run, home-first, home-fewer, home-all}
 use Rattle.route.specs.Fast.{legFast, mapsIn, runRouteFast}
 use Rattle.route.specs.Unaltered.{unalteredFast}
 use Rattle.map_apply.specs.Fast.{plainRest}
@@ -48,9 +48,9 @@ returns c =
     let at-run-legs = c .before .before .before .before in
     let at-loop-test = at-run-legs .before .before in
     let at-loop = at-loop-test .before in
-    let step = at-run-legs .run-legs .ensures in
-    refused-step _ _ _ _ _
-    (home-stopped _ _ _ _ _ _ (at-loop .loop .at) (at-loop .loop .here) (at-loop-test .loop-test .taken) (at-loop .loop .inv .3) _ _ (step .outcome) _
+    let run = at-run-legs .run-legs .ensures in
+    refused-run _ _ _ _ _
+    (home-stopped _ _ _ _ _ _ (at-loop .loop .at) (at-loop .loop .here) (at-loop-test .loop-test .taken) (at-loop .loop .inv .3) _ _ (run .outcome) _
     (c .enum-told .given .1))
     (c .enum-told .given .1)
 
@@ -66,14 +66,14 @@ loop-again c =
     let at-run-legs = at-reply .before .before .before .before in
     let at-loop-test = at-run-legs .before .before in
     let at-loop = at-loop-test .before in
-    let step = at-run-legs .run-legs .ensures in
+    let run = at-run-legs .run-legs .ensures in
     let inv = at-loop .loop .inv in
     let written = at-reply .reply .given .1 in (
       search needs,
-      holds-size _ _ _ (step .outcome) _ written (search needs),
+      holds-size _ _ _ (run .outcome) _ written (search needs),
       search needs,
-      home-on _ _ _ _ _ _ (at-loop .loop .at) (at-loop .loop .here) (at-loop-test .loop-test .taken) (inv .3) _ _ (step .outcome) _ written,
-      home-fewer _ _ _ _ _ _ (at-loop .loop .at) (at-loop .loop .here) (at-loop-test .loop-test .taken) _ (inv .4) _ _ step _ written _ (c .min .ensures),
+      home-on _ _ _ _ _ _ (at-loop .loop .at) (at-loop .loop .here) (at-loop-test .loop-test .taken) (inv .3) _ _ (run .outcome) _ written,
+      home-fewer _ _ _ _ _ _ (at-loop .loop .at) (at-loop .loop .here) (at-loop-test .loop-test .taken) _ (inv .4) _ _ run _ written _ (c .min .ensures),
     )
 
 same-length-2 : tie.Need-same-length-2 Inv-loop μ-loop

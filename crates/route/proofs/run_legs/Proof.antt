@@ -1,6 +1,6 @@
 use native.Mathlib.Omega.{arith}
 use Rattle.text.proofs.WriteLaws.{part-size}
-use Rattle.route.proofs.UnalteredBranches.{step-refused, step-inside, step-written}
+use Rattle.route.proofs.UnalteredBranches.{run-over-refused, run-over-inside, run-over-written}
 use borrow.Author.Needs.{needs}
 use Rattle.route.proofs.run_legs.Statement.{statement}
 use Rattle.route.proofs.run_legs.Tie as tie
@@ -44,7 +44,7 @@ returns c =
     let at-reply-of = c .before .before in
     let at-carried-rest = at-reply-of .before in
     let at-map-leg = at-carried-rest .before .before in
-    step-refused _ _ _ _ _ _ (at-map-leg .map-leg .ensures) _ (at-reply-of .reply-of .ensures) _ (at-carried-rest .carried-rest .ensures) _
+    run-over-refused _ _ _ _ _ _ (at-map-leg .map-leg .ensures) _ (at-reply-of .reply-of .ensures) _ (at-carried-rest .carried-rest .ensures) _
     (c .enum-told .given .1) _
 
 array-share-prefix-made : tie.Need-array-share-prefix-made
@@ -53,7 +53,7 @@ array-share-prefix-made c =
     let at-reply-of = at-reply .before .before in
     let at-carried-rest = at-reply-of .before in
     let at-map-leg = at-carried-rest .before .before in
-    step-inside _ _ _ _ _ _ (at-map-leg .map-leg .ensures) _ (at-reply-of .reply-of .ensures) _ (at-carried-rest .carried-rest .ensures) _
+    run-over-inside _ _ _ _ _ _ (at-map-leg .map-leg .ensures) _ (at-reply-of .reply-of .ensures) _ (at-carried-rest .carried-rest .ensures) _
     (at-reply .reply .given .1)
 
 slice-aggregate-write-at : tie.Need-slice-aggregate-write-at
@@ -63,7 +63,7 @@ slice-aggregate-write-at c =
     let at-carried-rest = at-reply-of .before in
     let at-map-leg = at-carried-rest .before .before in
     part-size _ _
-    (step-inside _ _ _ _ _ _ (at-map-leg .map-leg .ensures) _ (at-reply-of .reply-of .ensures) _ (at-carried-rest .carried-rest .ensures) _
+    (run-over-inside _ _ _ _ _ _ (at-map-leg .map-leg .ensures) _ (at-reply-of .reply-of .ensures) _ (at-carried-rest .carried-rest .ensures) _
     (at-reply .reply .given .1))
 
 write-at-requires : tie.Need-write-at-requires
@@ -80,7 +80,7 @@ returns-2 c =
     let at-carried-rest = at-reply-of .before in
     let at-map-leg = at-carried-rest .before .before in
     let at-start = at-map-leg .before .before .before .before .before .before .before in
-    step-written _ _ _ _ _ _ (at-map-leg .map-leg .ensures) _ (at-reply-of .reply-of .ensures) _ (at-carried-rest .carried-rest .ensures) _
+    run-over-written _ _ _ _ _ _ (at-map-leg .map-leg .ensures) _ (at-reply-of .reply-of .ensures) _ (at-carried-rest .carried-rest .ensures) _
     (at-reply .reply .given .1) _ _ (at-start .pre .1) (at-write-at .write-at .ensures)
 
 pub run-legs-spec : {M : Type 1} → statement M

@@ -1,7 +1,7 @@
 -- The loop. After k legs the path so far is what those legs make of the starting path, and the number is what they leave unaltered of it.
 use borrow.Author.Needs.{needs}
 use Rattle.route.proofs.RunBranches.{holds-size, out-begin, out-on, out-stopped, out-end}
-use Rattle.route.proofs.UnalteredBranches.{refused-step, out-first, out-fewer, out-all}
+use Rattle.route.proofs.UnalteredBranches.{refused-run, out-first, out-fewer, out-all}
 use Rattle.route.specs.Fast.{legFast, mapsIn}
 use Rattle.map_apply.specs.Fast.{plainRest}
 use Rattle.route_legs.specs.LentRoute.{lentRoute}
@@ -43,9 +43,9 @@ returns c =
     let at-run-legs = c .before .before .before .before in
     let at-loop-test = at-run-legs .before .before in
     let at-loop = at-loop-test .before in
-    let step = at-run-legs .run-legs .ensures in
-    refused-step _ _ _ _ _
-    (out-stopped _ _ _ _ _ _ (at-loop .loop .at) (at-loop .loop .here) (at-loop .loop .inv .3) _ _ (step .outcome) (at-loop-test .loop-test .taken) _
+    let run = at-run-legs .run-legs .ensures in
+    refused-run _ _ _ _ _
+    (out-stopped _ _ _ _ _ _ (at-loop .loop .at) (at-loop .loop .here) (at-loop .loop .inv .3) _ _ (run .outcome) (at-loop-test .loop-test .taken) _
     (c .enum-told .given .1))
     (c .enum-told .given .1)
 
@@ -63,14 +63,14 @@ loop-again c =
     let at-reply = c .before .before in
     let at-run-legs = at-reply .before .before .before .before in
     let at-loop = at-run-legs .before .before .before in
-    let step = at-run-legs .run-legs .ensures in
+    let run = at-run-legs .run-legs .ensures in
     let inv = at-loop .loop .inv in
     let written = at-reply .reply .given .1 in (
       search needs,
-      holds-size _ _ _ (step .outcome) _ written (search needs),
+      holds-size _ _ _ (run .outcome) _ written (search needs),
       search needs,
-      out-on _ _ _ _ _ _ (at-loop .loop .at) (at-loop .loop .here) (inv .3) _ _ (step .outcome) _ written,
-      out-fewer _ _ _ _ _ _ _ (at-loop .loop .at) (at-loop .loop .here) (inv .3) _ (inv .4) _ _ step _ written _ (c .min .ensures),
+      out-on _ _ _ _ _ _ (at-loop .loop .at) (at-loop .loop .here) (inv .3) _ _ (run .outcome) _ written,
+      out-fewer _ _ _ _ _ _ _ (at-loop .loop .at) (at-loop .loop .here) (inv .3) _ (inv .4) _ _ run _ written _ (c .min .ensures),
     )
 
 same-length-2 : tie.Need-same-length-2 Inv-loop μ-loop
