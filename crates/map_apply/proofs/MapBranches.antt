@@ -94,10 +94,10 @@ module _ (mark : Bool) (p : Text) (a a′ b b′ t t′ : ℕ → Text) where
   by-same none same = refl
   by-same (some i) same = let e = same i refl in rw (e .0, e .1, e .2)
 
-rest-same : (a a′ : ℕ → Text) (p : Text) (o : Option ℕ) → ((i : ℕ) → o ≡ some i → a i ≡ a′ i) → restBy a p o ≡ restBy a′ p o
+rest-by-same : (a a′ : ℕ → Text) (p : Text) (o : Option ℕ) → ((i : ℕ) → o ≡ some i → a i ≡ a′ i) → restBy a p o ≡ restBy a′ p o
 unfolding restBy
-rest-same a a′ p none same = refl
-rest-same a a′ p (some i) same = rw (same i refl)
+rest-by-same a a′ p none same = refl
+rest-by-same a a′ p (some i) same = rw (same i refl)
 
 module _ (store : Text) (places : List ℕ) (n : ℕ) (mark : Bool) (p : Text) where
   abbrev key : Bool → ℕ → Text
@@ -121,10 +121,10 @@ module _ (store : Text) (places : List ℕ) (n : ℕ) (mark : Bool) (p : Text) w
   unfolding plainRest sourceRest targetRest
   rest-by false =
       ap (restBy (mapSource lent) p) (out-keys store places n mark p)
-      ∙ rest-same (mapSource lent) (key false) p (longestMatch p (key false) n) (λ i e. ends-by store places n mark p false i e .0)
+      ∙ rest-by-same (mapSource lent) (key false) p (longestMatch p (key false) n) (λ i e. ends-by store places n mark p false i e .0)
   rest-by true =
       ap (restBy (mapTarget lent) p) (home-keys store places n mark p)
-      ∙ rest-same (mapTarget lent) (key true) p (longestMatch p (key true) n) (λ i e. ends-by store places n mark p true i e .1)
+      ∙ rest-by-same (mapTarget lent) (key true) p (longestMatch p (key true) n) (λ i e. ends-by store places n mark p true i e .1)
 
   module _ (invert : Bool) (f : Found) (h : f ≡ foundOf (longestMatch p (key invert) n)) where
     -- With the mark only, the rest is the whole path.

@@ -4,7 +4,8 @@ use mathlib.Core.Logic.{_≢_}
 use mathlib.Core.Bool.{Bool, true, false, not, cond, _&&_, _||_, false≢true}
 use mathlib.Core.List.{List, [], _∷_, _++_}
 use mathlib.Core.Option.{Option, none, some}
-use Prim.Native.Nat.{ℕ, suc, _+_, _*_, _-_, _/_, _≤_, _<_}
+use Prim.Native.Nat.{ℕ, suc, _+_, _*_, _-_, _/_, _≤_, _<_, min}
+use native.Mathlib.Nat.{min-le-left, min-le-right, min-eq-left, min-eq-right}
 use native.Mathlib.Numerals.{add-one}
 use native.Mathlib.Omega.{arith}
 use lib.Dec.{eqb, leb}
@@ -19,7 +20,7 @@ use Rattle.path_prefix.specs.Elements.{elementCount}
 use Rattle.path_prefix.proofs.CountLaws.{count-more}
 use Rattle.path_prefix.proofs.PrefixLaws.{prefix-rest, prefix-starts, prefix-long}
 use Rattle.map_lookup.specs.declared.BestSoFar.{BestSoFar}
-use Rattle.map_lookup.specs.LookupStep.{substring, keyCount, minimum, foundOf, notWorse, CoveredDecidesAlike, considerKey}
+use Rattle.map_lookup.specs.LookupStep.{substring, keyCount, foundOf, notWorse, CoveredDecidesAlike, considerKey}
 use Rattle.text_list.specs.Places.{textAt}
 use Rattle.pair_list.specs.Places.{keyAt}
 use Rattle.pair_list.specs.Best.{notLighter}
@@ -81,32 +82,24 @@ module _ (f : BestSoFar) (p k : Text) (i : ℕ) where
       choose-more n = rw (known-true h l, lt-leb (f .covered) (length k) m, ← e, ← d, le-leb y x n)
 
 -- Lemmas for `min`.
-pub least-first : (a b : ℕ) → a ≤ b → a ≡ minimum a b
-least-first a b h = rw (le-leb a b h)
+pub least-first : (a b : ℕ) → a ≤ b → a ≡ min a b
+least-first a b h = sym (min-eq-left h)
 
-pub least-second : (a b : ℕ) → b < a → b ≡ minimum a b
-least-second a b h = rw (lt-leb a b h)
+pub least-second : (a b : ℕ) → b < a → b ≡ min a b
+least-second a b h = let l : b ≤ a = omega arith in sym (min-eq-right l)
 
-pub least-left : (m a b : ℕ) → m ≡ minimum a b → m ≤ a
-least-left m a b h = rw h (go (leb a b) refl)
-  where
-    go : (c : Bool) → leb a b ≡ c → cond c a b ≤ a
-    go true e = omega arith
-    go false e = omega (arith, leb-false a b e)
+pub least-left : (m a b : ℕ) → m ≡ min a b → m ≤ a
+least-left m a b h = rw h (min-le-left a b)
 
-pub least-right : (m a b : ℕ) → m ≡ minimum a b → m ≤ b
-least-right m a b h = rw h (go (leb a b) refl)
-  where
-    go : (c : Bool) → leb a b ≡ c → cond c a b ≤ b
-    go true e = leb-true a b e
-    go false e = omega arith
+pub least-right : (m a b : ℕ) → m ≡ min a b → m ≤ b
+least-right m a b h = rw h (min-le-right a b)
 
-below-one : (a b n : ℕ) → minimum a b < n → n ≤ a → b < n
+below-one : (a b n : ℕ) → min a b < n → n ≤ a → b < n
 below-one a b n l m = go (leb a b) refl
   where
     go : (c : Bool) → leb a b ≡ c → b < n
-    go true e = absurd (omega (arith, rw e at l))
-    go false e = rw e at l
+    go true e = let q : a ≤ b = leb-true a b e in absurd (omega (arith, m, rw (min-eq-left q) at l))
+    go false e = let q : b ≤ a = omega (arith, leb-false a b e) in rw (min-eq-right q) at l
 
 -- Lemmas for `consider`.
 refused : (p k : Text) → (matches p k ≡ true → ⊥) → matches p k ≡ false
@@ -143,7 +136,7 @@ module _ (p store : Text) (start n : ℕ) where
         rw part
         (refused p (take n (drop start store)) (λ s. omega (arith, part-length, prefix-long p (take n (drop start store)) (served p (take n (drop start store)) s))))
 
-  pub cut-long : (limit : ℕ) → limit ≡ minimum (length store) (length p) → limit < n → matches p (substring store start n) ≡ false
+  pub cut-long : (limit : ℕ) → limit ≡ min (length store) (length p) → limit < n → matches p (substring store start n) ≡ false
   cut-long limit e l = go (leb (start + n) (length store)) refl
     where
       go : (b : Bool) → leb (start + n) (length store) ≡ b → matches p (substring store start n) ≡ false
@@ -179,7 +172,7 @@ module _ (f : BestSoFar) (p store : Text) (start n i : ℕ) where
   pub consider-none : n ≡ 0 → f ≡ considerKey f p (substring store start n) i
   consider-none h = other f p (substring store start n) i (cut-none p store start n h)
 
-  pub consider-long : (limit : ℕ) → limit ≡ minimum (length store) (length p) → limit < n → f ≡ considerKey f p (substring store start n) i
+  pub consider-long : (limit : ℕ) → limit ≡ min (length store) (length p) → limit < n → f ≡ considerKey f p (substring store start n) i
   consider-long limit e l = other f p (substring store start n) i (cut-long p store start n limit e l)
 
   pub consider-outside : (limit : ℕ) → limit ≤ length store → n ≤ limit → length store - n < start → f ≡ considerKey f p (substring store start n) i
@@ -193,11 +186,11 @@ module _ (f : BestSoFar) (p store : Text) (start n i : ℕ) where
     consider-chosen r e = rw (cut-is p store start n limit k z l h) at e
 
 -- Lemmas for `key_count`.
-pub held-targets : (places : List ℕ) (n m : ℕ) (invert : Bool) → invert ≡ true → m ≡ minimum n (length places / 2 / 2) → m ≡ minimum n (keyCount places invert)
+pub held-targets : (places : List ℕ) (n m : ℕ) (invert : Bool) → invert ≡ true → m ≡ min n (length places / 2 / 2) → m ≡ min n (keyCount places invert)
 unfolding keyCount
 held-targets places n m invert h e = let z : length places / 2 + 0 ≡ length places / 2 = omega arith in rw (h, z) e
 
-pub held-sources : (places : List ℕ) (n m : ℕ) (invert : Bool) → invert ≡ false → m ≡ minimum n ((length places / 2 + 1) / 2) → m ≡ minimum n (keyCount places invert)
+pub held-sources : (places : List ℕ) (n m : ℕ) (invert : Bool) → invert ≡ false → m ≡ min n ((length places / 2 + 1) / 2) → m ≡ min n (keyCount places invert)
 unfolding keyCount
 held-sources places n m invert h e = rw h e
 
@@ -253,7 +246,7 @@ module _ (p : Text) (key : ℕ → Text) (i : ℕ) where
       go (some j) w = rw (ne-eqb (length (key j)) 0 (matched-long p (key j) (w .does-pass)))
 
 -- The numbers of the keys that count lie in the slice.
-pub held-there : (places : List ℕ) (n held offset : ℕ) (invert : Bool) → held ≡ minimum n (keyCount places invert) → offset ≡ 2 * cond invert 1 0
+pub held-there : (places : List ℕ) (n held offset : ℕ) (invert : Bool) → held ≡ min n (keyCount places invert) → offset ≡ 2 * cond invert 1 0
     → 4 * held + offset ≤ length places + 2
 unfolding keyCount
 held-there places n held offset true e o = omega (arith, least-right held n (keyCount places true) e)
@@ -275,22 +268,23 @@ unfolding keyCount
 key-after store places true k h = sym (text-missing store places (2 * k + 1) (omega arith))
 key-after store places false k h = sym (text-missing store places (2 * k + 0) (omega arith))
 
-pub kept-end : (p store : Text) (places : List ℕ) (n : ℕ) (invert : Bool) (held i : ℕ) (f : BestSoFar) → held ≡ minimum n (keyCount places invert)
+pub kept-end : (p store : Text) (places : List ℕ) (n : ℕ) (invert : Bool) (held i : ℕ) (f : BestSoFar) → held ≡ min n (keyCount places invert)
     → f ≡ matchKept (keyAt store places invert) (longestMatch p (keyAt store places invert) i) → held ≤ i → i ≤ held
     → record { found = not (eqb (f .covered) 0); at = f .at } ≡ foundOf (longestMatch p (keyAt store places invert) n)
 unfolding longestMatch
 kept-end p store places n invert held i f m h l r =
-    let e : i ≡ minimum n (keyCount places invert) = omega arith in
+    let e : i ≡ min n (keyCount places invert) = omega arith in
     found-kept p key i f h ∙ rw e (ap (λ (o : Option ℕ). foundOf o) (go (leb n (keyCount places invert)) refl))
   where
     key : ℕ → Text
     key = keyAt store places invert
 
-    go : (b : Bool) → leb n (keyCount places invert) ≡ b → longestMatch p key (cond b n (keyCount places invert)) ≡ longestMatch p key n
-    go true t = refl
+    go : (b : Bool) → leb n (keyCount places invert) ≡ b → longestMatch p key (min n (keyCount places invert)) ≡ longestMatch p key n
+    go true t = let q : n ≤ keyCount places invert = leb-true n (keyCount places invert) t in rw (min-eq-left q)
     go false t =
-        let q : keyCount places invert < n = leb-false n (keyCount places invert) t in
-        best-rest (λ (k : ℕ). matches p (key k)) (λ (k : ℕ). elementCount (key k)) (keyCount places invert) n (omega arith)
-        (λ k h. rw (key-after store places invert k h) (sym (matches-empty p [] refl)))
+        let q : keyCount places invert ≤ n = omega (arith, leb-false n (keyCount places invert) t) in
+        rw (min-eq-right q)
+        (best-rest (λ (k : ℕ). matches p (key k)) (λ (k : ℕ). elementCount (key k)) (keyCount places invert) n (omega arith)
+        (λ k h. rw (key-after store places invert k h) (sym (matches-empty p [] refl))))
 
 pub ruleset searching = (matches-empty, matches-prefix, choose-other, choose-longer, choose-fewer, choose-more, least-first, least-second, consider-none, consider-long, consider-outside, consider-differs, consider-chosen, held-targets, held-sources, offset-target, offset-source, least-left, least-right, kept-end)

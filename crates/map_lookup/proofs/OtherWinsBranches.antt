@@ -4,7 +4,8 @@ use mathlib.Core.Logic.{_≢_}
 use mathlib.Core.Bool.{Bool, true, false, not, cond, _&&_, _||_, false≢true, true≢false}
 use mathlib.Core.List.{List, []}
 use mathlib.Core.Option.{Option, none, some}
-use Prim.Native.Nat.{ℕ, _+_, _*_, _-_, _≤_, _<_}
+use Prim.Native.Nat.{ℕ, _+_, _*_, _-_, _≤_, _<_, min}
+use native.Mathlib.Nat.{min-eq-left, min-eq-right}
 use native.Mathlib.Omega.{arith}
 use native.Mathlib.Decide.{ℕ-discrete}
 use lib.Dec.{eqb, leb, ltb}
@@ -13,7 +14,7 @@ use borrow.Author.Tests.{eqb-false, eq-eqb, ne-eqb, ltb-true, ltb-false, leb-tru
 use Rattle.text.specs.Text.{Text}
 use Rattle.text.proofs.BoolLaws.{and-l, and-r, and-no, told, known-false, known-true, not-true}
 use Rattle.path_prefix.specs.Elements.{elementCount}
-use Rattle.map_lookup.specs.LookupStep.{substring, keyCount, minimum, isIndex, wins, otherWins}
+use Rattle.map_lookup.specs.LookupStep.{substring, keyCount, isIndex, wins, otherWins}
 use Rattle.pair_list.specs.Places.{keyAt}
 use Rattle.pair_list.specs.LongestMatch.{matches, longestMatch}
 use Rattle.pair_list.proofs.LongestMatchLaws.{IsLongest, SaysLongest, best-says}
@@ -43,7 +44,7 @@ module _ (p store : Text) (start n k i : ℕ) (key : Text) where
   pub other-none : n ≡ 0 → false ≡ otherWins p (substring store start n) k i key
   other-none h = no-other p (substring store start n) k i key (cut-none p store start n h)
 
-  pub other-long : (limit : ℕ) → limit ≡ minimum (length store) (length p) → limit < n → false ≡ otherWins p (substring store start n) k i key
+  pub other-long : (limit : ℕ) → limit ≡ min (length store) (length p) → limit < n → false ≡ otherWins p (substring store start n) k i key
   other-long limit e l = no-other p (substring store start n) k i key (cut-long p store start n limit e l)
 
   pub other-outside : (limit : ℕ) → limit ≤ length store → n ≤ limit → length store - n < start → false ≡ otherWins p (substring store start n) k i key
@@ -159,7 +160,7 @@ module _ (p : Text) (key : ℕ → Text) (n i : ℕ) where
           ]
 
 -- The keys in lent memory.
-module _ (p store : Text) (places : List ℕ) (n : ℕ) (invert : Bool) (i : ℕ) (s : Text) (b : Bool) (e : s ≡ keyAt store places invert i) (h : b ≡ matches p s) (held : ℕ) (m : held ≡ minimum n (keyCount places invert)) where
+module _ (p store : Text) (places : List ℕ) (n : ℕ) (invert : Bool) (i : ℕ) (s : Text) (b : Bool) (e : s ≡ keyAt store places invert i) (h : b ≡ matches p s) (held : ℕ) (m : held ≡ min n (keyCount places invert)) where
   pub best-lost : (offset k : ℕ) → offset ≡ 2 * cond invert 1 0 → k < held → (r : Bool)
       → r ≡ otherWins p (substring store (getD places (4 * k + offset) 0) (getD places (4 * k + offset + 1) 0)) k i s → r ≡ true
       → false ≡ isIndex i (longestMatch p (keyAt store places invert) n)
@@ -174,5 +175,5 @@ module _ (p store : Text) (places : List ℕ) (n : ℕ) (invert : Bool) (i : ℕ
       best-alone p (keyAt store places invert) n i s b e h l q held (after (leb n (keyCount places invert)) refl) (rw z at u)
     where
       after : (c : Bool) → leb n (keyCount places invert) ≡ c → (j : ℕ) → j < n → held ≤ j → keyAt store places invert j ≡ []
-      after true d j y x = let w : held ≡ n = rw d at m in absurd (omega arith)
-      after false d j y x = let w : held ≡ keyCount places invert = rw d at m in key-after store places invert j (omega arith)
+      after true d j y x = let w : held ≡ n = m ∙ min-eq-left (leb-true n (keyCount places invert) d) in absurd (omega arith)
+      after false d j y x = let q : keyCount places invert ≤ n = omega (arith, leb-false n (keyCount places invert) d) in let w : held ≡ keyCount places invert = m ∙ min-eq-right q in key-after store places invert j (omega arith)

@@ -49,10 +49,6 @@ unfoldable pub otherWins : Text → Text → ℕ → ℕ → Text → Bool
 unfolding wins
 otherWins p t k i key = not (eqb k i) && wins p t (ltb k i) key
 
--- The smaller of two numbers.
-abbrev pub minimum : ℕ → ℕ → ℕ
-minimum a b = cond (leb a b) a b
-
 -- The text of n bytes from `start`; empty if it reaches outside the store, as for `textAt`.
 unfoldable pub substring : Text → ℕ → ℕ → Text
 substring store start n = cond (leb (start + n) (length store)) (take n (drop start store)) []

@@ -3,8 +3,8 @@
 ghost use mathlib.Core.Path.{_≡_};
 ghost use mathlib.Core.Bool.{cond};
 ghost use lib.ListN.{length};
-ghost use Prim.Native.Nat.{_*_, _≤_};
-ghost use Rattle.map_lookup.specs.LookupStep.{substring, keyCount, minimum, foundOf, considerKey, isIndex, wins, otherWins};
+ghost use Prim.Native.Nat.{_*_, _≤_, min};
+ghost use Rattle.map_lookup.specs.LookupStep.{substring, keyCount, foundOf, considerKey, isIndex, wins, otherWins};
 ghost use Rattle.pair_list.specs.Places.{keyAt};
 ghost use Rattle.pair_list.specs.LongestMatch.{matches, longestMatch};
 
@@ -67,7 +67,7 @@ fn consider(
 ) -> BestSoFar
     requires { ⌜ limit ≤ length (now store) ⌝ }
     requires { ⌜ limit ≤ length (now path) ⌝ }
-    requires { ⌜ limit ≡ minimum (length (now store)) (length (now path)) ⌝ }
+    requires { ⌜ limit ≡ min (length (now store)) (length (now path)) ⌝ }
     requires { ⌜ f .covered ≤ length (now path) ⌝ }
     ensures { λ r. ⌜ r ≡ considerKey f (now (path .entry)) (substring (now (store .entry)) start n) i ⌝ }
 {
@@ -89,7 +89,7 @@ fn consider(
 
 // The smaller of two numbers.
 fn min(a: usize, b: usize) -> usize
-    ensures { λ r. ⌜ r ≡ minimum a b ⌝ }
+    ensures { λ r. ⌜ r ≡ min a b ⌝ }
 {
     if a <= b {
         return a;
@@ -99,7 +99,7 @@ fn min(a: usize, b: usize) -> usize
 
 // The number of the first n pairs whose key lies in the slice, which may end after a source.
 fn key_count(places: &[usize], n: usize, invert: bool) -> usize
-    ensures { λ r. ⌜ r ≡ minimum n (keyCount (now (places .entry)) invert) ⌝ }
+    ensures { λ r. ⌜ r ≡ min n (keyCount (now (places .entry)) invert) ⌝ }
 {
     let half = places.len() / 2;
     if invert {
@@ -171,7 +171,7 @@ fn other_wins(
 ) -> bool
     requires { ⌜ limit ≤ length (now store) ⌝ }
     requires { ⌜ limit ≤ length (now path) ⌝ }
-    requires { ⌜ limit ≡ minimum (length (now store)) (length (now path)) ⌝ }
+    requires { ⌜ limit ≡ min (length (now store)) (length (now path)) ⌝ }
     ensures { λ r. ⌜ r ≡ otherWins (now (path .entry)) (substring (now (store .entry)) start n) k i
         (now (key .entry)) ⌝ }
 {

@@ -125,13 +125,13 @@ translate-plain m p b h k = ap (translateFast m) (strip-same p (lacks-free p (to
 
 -- A path without selections has the rest of plain mapping; one with selections has none.
 module _ (m : Map) (p : Text) (b : Bool) (h : b ≡ lacksByte 123 p) where
-  pub rest-plain : b ≡ true → translatedRest m p ≡ sourceRest m p
+  pub translated-rest-plain : b ≡ true → translatedRest m p ≡ sourceRest m p
   unfolding translatedRest
-  rest-plain k = rw (lacks-free p (told h k))
+  translated-rest-plain k = rw (lacks-free p (told h k))
 
-  pub rest-stripped : b ≡ false → translatedRest m p ≡ Nothing
+  pub translated-rest-stripped : b ≡ false → translatedRest m p ≡ Nothing
   unfolding translatedRest
-  rest-stripped k = rw (selection-scan p, told h k)
+  translated-rest-stripped k = rw (selection-scan p, told h k)
 
 pub translate-back : (p buf : Text) (f : Fit) → length p ≤ length buf → f ≡ stripFit p buf → (k : ℕ) → f ≡ WrittenFit k → (mem : Text) → mem ≡ stripBuffer p buf → (o : Map)
     → translateFast o (strip p) ≡ translateFast o (take k mem)

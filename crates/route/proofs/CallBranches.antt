@@ -40,10 +40,10 @@ use Rattle.route_maps.specs.Prepared.{hasRelocates, Prepared, PreparedIfPassed}
 use Rattle.route_legs.proofs.RouteLaws.{route-one-by-one, route-sound, route-short, route-legal}
 use Rattle.route_maps.proofs.PreparedLaws.{prepared-itself}
 use Rattle.route_spec.specs.Route.{runRoute}
-use Rattle.route_spec.specs.Rest.{routeRest}
+use Rattle.route_spec.specs.Rest.{isStripped, routeRest}
 use Rattle.route_spec.proofs.RestTheorem.{unaltered-le}
 use Rattle.route.specs.Calls.{routeCall}
-use Rattle.route.specs.Fast.{legFast, mapsIn, runRouteFast, enteringPath, entersStripped, HoldsPath, HoldsOutcome, needsMaps, afterRouteValidated}
+use Rattle.route.specs.Fast.{legFast, mapsIn, runRouteFast, enteringPath, HoldsPath, HoldsOutcome, needsMaps, afterRouteValidated}
 use Rattle.route.specs.declared.Run.{Run}
 use Rattle.route.specs.Unaltered.{unalteredFast, restFast, routeRestFast, HoldsRun}
 use Rattle.route.proofs.FastLaws.{Whole, fast-run, fast-map-legs}
@@ -64,27 +64,27 @@ run-is home b s n k p r mem h w = rw h w
 
 -- `enters_stripped`
 module _ (home : Bool) (n : ℕ) (p : Text) where
-  pub strips-home : home ≡ true → false ≡ entersStripped home n p
-  unfolding entersStripped
+  pub strips-home : home ≡ true → false ≡ isStripped home n p
+  unfolding isStripped
   strips-home h = rw h
 
-  pub strips-none : home ≡ false → n ≡ 0 → false ≡ entersStripped home n p
-  unfolding entersStripped
+  pub strips-none : home ≡ false → n ≡ 0 → false ≡ isStripped home n p
+  unfolding isStripped
   strips-none h k = rw (h, k)
 
-  pub strips-first : home ≡ false → n ≢ 0 → (b : Bool) → b ≡ lacksByte 123 p → not b ≡ entersStripped home n p
-  unfolding entersStripped
+  pub strips-first : home ≡ false → n ≢ 0 → (b : Bool) → b ≡ lacksByte 123 p → not b ≡ isStripped home n p
+  unfolding isStripped
   strips-first h k b e = rw h (go n k)
     where
-      go : (n : ℕ) → n ≢ 0 → not b ≡ entersStripped false n p
+      go : (n : ℕ) → n ≢ 0 → not b ≡ isStripped false n p
       go zero k = absurd (k refl)
       go (suc n) k = ap not e ∙ sym (selection-scan p)
 
 pub ruleset stripping = (strips-home, strips-none, strips-first)
 
 -- The path enters the first leg without its selections exactly if that leg strips some.
-pub entering-is : (home : Bool) (n : ℕ) (p : Text) → enteringPath home n p ≡ cond (entersStripped home n p) (strip p) p
-unfolding enteringPath entersStripped
+pub entering-is : (home : Bool) (n : ℕ) (p : Text) → enteringPath home n p ≡ cond (isStripped home n p) (strip p) p
+unfolding enteringPath isStripped
 entering-is false zero p = refl
 entering-is false (suc n) p = go (hasVariantSelection p) refl
   where
@@ -113,7 +113,7 @@ unfolding HoldsPath
 entered-size t k mem e = e .1
 
 -- `run_path`: the path that enters the first leg, and the run over all legs.
-module _ (home : Bool) (s : LentRoute) (n : ℕ) (p : Text) (stripped : Bool) (f : stripped ≡ entersStripped home n p) (k : ℕ) (here : Text)
+module _ (home : Bool) (s : LentRoute) (n : ℕ) (p : Text) (stripped : Bool) (f : stripped ≡ isStripped home n p) (k : ℕ) (here : Text)
     (e : HoldsPath (cond stripped (strip p) p) k here) (r : Run) (there : Text)
     (h : HoldsRun (runRouteFast home s n (take k here)) (unalteredFast home s n k (take k here)) r there) where
   abbrev whole : Outcome
@@ -207,8 +207,8 @@ module _ (home : Bool) (r : LentRoute) (p : Text) (room : ℕ) (list : Validatio
   whole-path h = record { is-legal = route-legal r p h; is-short = le-leb (length p) 255 (route-short r p h) }
 
   module _ (s : LentRoute) (k : s .count ≡ r .count) (ready : list ≡ Passed → Prepared r s (r .count)) where
-    rest-same : validateRoute r (p ∷ []) ≡ Passed → routeRest home (legsIn r (r .count)) p ≡ routeRestFast home s (s .count) p
-    rest-same h =
+    validated-rest : validateRoute r (p ∷ []) ≡ Passed → routeRest home (legsIn r (r .count)) p ≡ routeRestFast home s (s .count) p
+    validated-rest h =
         fast-rest r s home (r .count) (ready (none-earlier list (pathNewCall p) (validated-same ∙ h) .0)) (route-sound r (p ∷ []) h) p (whole-path h)
         ∙ ap (λ (n : ℕ). routeRestFast home s n p) (sym k)
 
@@ -228,7 +228,7 @@ module _ (home : Bool) (r : LentRoute) (p : Text) (room : ℕ) (list : Validatio
         → ReturnsCarried (routeCall home r p room) (routeRest home (legsIn r (r .count)) p) c out out′
     unfolding routeCall
     call-returns c out out′ w =
-        let accepted : (q : Text) → routeCall home r p room ≡ path q → routeRest home (legsIn r (r .count)) p ≡ routeRestFast home s (s .count) p = λ q e. rest-same (passed q e) in
+        let accepted : (q : Text) → routeCall home r p room ≡ path q → routeRest home (legsIn r (r .count)) p ≡ routeRestFast home s (s .count) p = λ q e. validated-rest (passed q e) in
         let rests = rest-if-path (routeCall home r p room) (routeRest home (legsIn r (r .count)) p) (routeRestFast home s (s .count) p) accepted in
         let returned : ReturnsCarried (routeCall home r p room) (routeRestFast home s (s .count) p) c out out′ = rw call-is-after w in
         (returned .0 ∙ sym rests, returned .1)

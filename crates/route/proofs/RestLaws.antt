@@ -21,7 +21,7 @@ use Rattle.route_spec.specs.Leg.{Leg, legMap, outward, homeward}
 use Rattle.route_spec.specs.Rest.{legRest, nextLength, unalteredLength, unalteredOver, isStripped, routeRest}
 use Rattle.route_legs.specs.LentRoute.{LentRoute, listAt, legsIn}
 use Rattle.route_maps.specs.Prepared.{Prepared}
-use Rattle.route.specs.Fast.{legFast, mapsIn, entersStripped}
+use Rattle.route.specs.Fast.{legFast, mapsIn}
 use Rattle.route.specs.Unaltered.{unalteredFast, restFast, routeRestFast}
 use Rattle.route.proofs.FastLaws.{Whole, soundMap, out-leg, out-next, home-leg, home-next, every-reverse, map-reverse, sound-legs, prepared-maps, legs-length}
 
@@ -90,14 +90,14 @@ home-unaltered legs n p s c =
     (every-reverse soundMap (map legMap legs) s) c
 
 module _ (s : LentRoute) where
-  no-legs : (p : Text) → routeRest false [] p ≡ routeRestFast false s 0 p
-  unfolding routeRest routeRestFast restFast isStripped entersStripped unalteredOver unalteredFast unalteredLength mapsIn
-  no-legs p = refl
+  rest-without-legs : (p : Text) → routeRest false [] p ≡ routeRestFast false s 0 p
+  unfolding routeRest routeRestFast restFast isStripped unalteredOver unalteredFast unalteredLength mapsIn
+  rest-without-legs p = refl
 
   out-rests : (n : ℕ) (legs : List Leg) → length legs ≡ n → mapsIn s n ≡ map legMap legs → every soundMap (map legMap legs) ≡ true → (p : Text) → Whole p
       → routeRest false legs p ≡ routeRestFast false s n p
-  unfolding routeRest routeRestFast restFast isStripped entersStripped unalteredOver unalteredFast
-  out-rests zero [] l e sound p c = no-legs p
+  unfolding routeRest routeRestFast restFast isStripped unalteredOver unalteredFast
+  out-rests zero [] l e sound p c = rest-without-legs p
   out-rests zero (x ∷ legs) l e sound p c = absurd (omega arith)
   out-rests (suc n) [] l e sound p c = absurd (omega arith)
   out-rests (suc n) (x ∷ legs) l e sound p c = go (hasVariantSelection p) refl
@@ -113,7 +113,7 @@ module _ (s : LentRoute) where
 
   home-rests : (n : ℕ) (legs : List Leg) → length legs ≡ n → mapsIn s n ≡ map legMap legs → every soundMap (map legMap legs) ≡ true → (p : Text) → Whole p
       → routeRest true legs p ≡ routeRestFast true s n p
-  unfolding routeRest routeRestFast restFast isStripped entersStripped unalteredOver unalteredFast
+  unfolding routeRest routeRestFast restFast isStripped unalteredOver unalteredFast
   home-rests n legs l e sound p c = rw e (ap (λ (k : ℕ). From (length p - k)) (home-unaltered legs (length p) p sound c))
 
   rest-maps : (home : Bool) (n : ℕ) (legs : List Leg) → length legs ≡ n → mapsIn s n ≡ map legMap legs → every soundMap (map legMap legs) ≡ true → (p : Text) → Whole p

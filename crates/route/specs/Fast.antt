@@ -6,7 +6,6 @@ use mathlib.Core.Bool.{Bool, true, false, cond}
 use mathlib.Core.List.{List, [], _∷_, _++_, reverse}
 use lib.ListN.{length, take}
 use Rattle.text.specs.Text.{Text}
-use Rattle.path_grammar.specs.Own.{hasVariantSelection}
 use Rattle.path_parts.specs.Strip.{strip}
 use Rattle.refusal.specs.declared.Validation.{Validation}
 use Rattle.refusal.specs.declared.Validation.the-variants.{Passed, Refused as RefusedValidation}
@@ -38,13 +37,6 @@ unfoldable pub runRouteFast : Bool → LentRoute → ℕ → Text → Outcome
 unfolding foldLegs legFast mapsIn
 runRouteFast false s n p = foldLegs (legFast false) (mapsIn s n) p
 runRouteFast true s n p = foldLegs (legFast true) (reverse (mapsIn s n)) p
-
--- The first leg strips selections from the path p: only the first leg of a way out does.
-unfoldable pub entersStripped : Bool → ℕ → Text → Bool
-unfolding hasVariantSelection
-entersStripped false zero p = false
-entersStripped false (suc n) p = hasVariantSelection p
-entersStripped true n p = false
 
 -- The path as the first leg receives it: on the way out, if there is a leg, without its selections.
 unfoldable pub enteringPath : Bool → ℕ → Text → Text

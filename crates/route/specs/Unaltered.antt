@@ -12,10 +12,10 @@ use Rattle.path_rest.specs.declared.Rest.the-variants.{From, Nothing}
 use Rattle.path_rest.specs.Rest.{restText}
 use Rattle.map_spec.specs.Map.{Map}
 use Rattle.map_apply.specs.Fast.{plainRest}
-use Rattle.route_spec.specs.Rest.{unalteredLength}
+use Rattle.route_spec.specs.Rest.{isStripped, unalteredLength}
 use Rattle.route_legs.specs.LentRoute.{LentRoute}
 use Rattle.route.specs.declared.Run.{Run}
-use Rattle.route.specs.Fast.{legFast, mapsIn, entersStripped, HoldsOutcome}
+use Rattle.route.specs.Fast.{legFast, mapsIn, HoldsOutcome}
 
 -- The length of the rest that a leg with the map m leaves of the path p.
 unfoldable pub restLength : Bool → Map → Text → ℕ
@@ -34,8 +34,8 @@ restFast stripped n k = cond stripped Nothing (From (n - k))
 
 -- The rest of the path p over the first n legs.
 unfoldable pub routeRestFast : Bool → LentRoute → ℕ → Text → Rest
-unfolding restFast entersStripped unalteredFast
-routeRestFast home s n p = restFast (entersStripped home n p) (length p) (unalteredFast home s n (length p) p)
+unfolding restFast isStripped unalteredFast
+routeRestFast home s n p = restFast (isStripped home n p) (length p) (unalteredFast home s n (length p) p)
 
 -- The buffer holds the outcome of some legs, and if that is a path, the run states that n bytes are unaltered.
 pub record HoldsRun (o : Outcome) (n : ℕ) (r : Run) (mem : Text) : Type 0 where

@@ -9,10 +9,10 @@ ghost use Rattle.path_parts.specs.Strip.{strip};
 ghost use Rattle.refusal.specs.Outcome.{ReturnsPath};
 ghost use Rattle.path_rest.specs.Carried.{ReturnsCarried};
 ghost use Rattle.map_apply.specs.Fast.{plainRest};
-ghost use Rattle.route_spec.specs.Rest.{routeRest};
+ghost use Rattle.route_spec.specs.Rest.{isStripped, routeRest};
 ghost use Rattle.route_legs.specs.LentRoute.{lentRoute, mapAt, legsIn};
 ghost use Rattle.route.specs.Calls.{routeCall};
-ghost use Rattle.route.specs.Fast.{legFast, runRouteFast, entersStripped, enteringPath, HoldsPath, needsMaps, afterRouteValidated};
+ghost use Rattle.route.specs.Fast.{legFast, runRouteFast, enteringPath, HoldsPath, needsMaps, afterRouteValidated};
 ghost use Rattle.route.specs.Unaltered.{restLength, unalteredFast, restFast, routeRestFast, HoldsRun};
 
 // The reply of some legs, and how many bytes at the end of the path that reached them they carried over
@@ -171,7 +171,7 @@ fn run_direction(
 // Returns whether the path enters the first leg without its selections: only the first leg of a way out strips
 // them.
 fn enters_stripped(home: bool, n: usize, path: &[u8]) -> bool
-    ensures { λ r. ⌜ r ≡ entersStripped home n (now (path .entry)) ⌝ }
+    ensures { λ r. ⌜ r ≡ isStripped home n (now (path .entry)) ⌝ }
 {
     if home {
         return false;

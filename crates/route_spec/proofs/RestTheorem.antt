@@ -122,7 +122,7 @@ reverse-ends (x ∷ xs) e = rw (reverse-cons x xs) (legs-more (reverse xs) x (re
 
 -- The path made, in both directions, unless selections were stripped.
 over-route : (home : Bool) (legs : List Leg) (p q : Text) → routeEnds legs ≡ true → legal p ≡ true → atMost255 p ≡ true
-    → isStripped home legs p ≡ false → runRoute home legs p ≡ path q → EndsWith q (lastBytes (unalteredOver home legs p) p)
+    → isStripped home (length legs) p ≡ false → runRoute home legs p ≡ path q → EndsWith q (lastBytes (unalteredOver home legs p) p)
 unfolding isStripped unalteredOver runRoute
 over-route true legs p q ends l s k e =
     let back : routeEnds (reverse legs) ≡ true = reverse-ends legs ends in
@@ -134,11 +134,11 @@ over-route false (x ∷ xs) p q ends l s k e =
 
 pub route-rest-unaltered : RouteRestUnaltered
 unfolding routeRest restText
-route-rest-unaltered home legs p q ends l s e = go (isStripped home legs p) refl
+route-rest-unaltered home legs p q ends l s e = go (isStripped home (length legs) p) refl
   where
     rest : Bool → Text
     rest b = restText p (cond b Nothing (From (length p - unalteredOver home legs p)))
 
-    go : (b : Bool) → isStripped home legs p ≡ b → EndsWith p (rest b) × EndsWith q (rest b)
+    go : (b : Bool) → isStripped home (length legs) p ≡ b → EndsWith p (rest b) × EndsWith q (rest b)
     go true k = ((p, sym (append-nil p)), (q, sym (append-nil q)))
     go false k = (last-ends (unalteredOver home legs p) p, over-route home legs p q ends l s k e)

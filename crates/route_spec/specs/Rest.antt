@@ -1,5 +1,5 @@
 -- Meaning: The part of a path that every leg of a route carries over unaltered: its last bytes, as many as the shortest of the legs' rests has.
-use Prim.Native.Nat.{ℕ, _-_, min}
+use Prim.Native.Nat.{ℕ, zero, suc, _-_, min}
 use mathlib.Core.Path.{_≡_}
 use mathlib.Core.Bool.{Bool, true, false, cond}
 use mathlib.Core.List.{List, [], _∷_, reverse}
@@ -39,17 +39,18 @@ unfolding unalteredLength legRest
 unalteredOver false legs p = unalteredLength outward (legRest false) legs (length p) p
 unalteredOver true legs p = unalteredLength homeward (legRest true) (reverse legs) (length p) p
 
--- The first leg of a way out strips selections from the path p.
-unfoldable pub isStripped : {A : Type 0} → Bool → List A → Text → Bool
+-- Of a route of n legs, the first one strips selections from the path p: on the way out it does. Requirements: "`translate_to_target` strips
+-- selections".
+unfoldable pub isStripped : Bool → ℕ → Text → Bool
 unfolding hasVariantSelection
-isStripped false [] p = false
-isStripped false (x ∷ xs) p = hasVariantSelection p
-isStripped true xs p = false
+isStripped false zero p = false
+isStripped false (suc n) p = hasVariantSelection p
+isStripped true n p = false
 
 -- The rest of a path over a route. Requirements: "gives the rest only where there is no selection to strip, and an empty part otherwise."
 unfoldable pub routeRest : Bool → List Leg → Text → Rest
 unfolding isStripped unalteredOver
-routeRest home legs p = cond (isStripped home legs p) Nothing (From (length p - unalteredOver home legs p))
+routeRest home legs p = cond (isStripped home (length legs) p) Nothing (From (length p - unalteredOver home legs p))
 
 -- Theorem (proofs/RestTheorem.antt): for every accepted route the rest is the end of the path given and of the path made.
 abbrev pub RouteRestUnaltered : Type 0

@@ -1,6 +1,6 @@
 use Rattle.path_parts.proofs.StripLaws.{strip-never, strip-part, strip-inside}
 use Rattle.path_rest.proofs.CarriedLaws.{same-carried, without-rest, answering-carried}
-use Rattle.mapping.proofs.CopyOutBranches.{translate-plain, translate-back, rest-plain, rest-stripped}
+use Rattle.mapping.proofs.CopyOutBranches.{translate-plain, translate-back, translated-rest-plain, translated-rest-stripped}
 use borrow.Author.Needs.{needs}
 use Rattle.mapping.proofs.translate_stripped.Statement.{statement}
 use Rattle.mapping.proofs.translate_stripped.Tie as tie
@@ -20,7 +20,7 @@ returns c =
     let at-if1 = at-translate-into .before .before in
     let at-lacks-byte = at-if1 .before in
     let lacks = at-lacks-byte .lacks-byte .ensures in
-    same-carried _ _ _ _ (translate-plain _ _ _ lacks (at-if1 .if1 .taken)) (rest-plain _ _ _ lacks (at-if1 .if1 .taken)) _ _ _
+    same-carried _ _ _ _ (translate-plain _ _ _ lacks (at-if1 .if1 .taken)) (translated-rest-plain _ _ _ lacks (at-if1 .if1 .taken)) _ _ _
     (at-translate-into .translate-into .ensures)
 
 slice-aggregate-strip-into : tie.Need-slice-aggregate-strip-into
@@ -79,7 +79,7 @@ returns-3 c =
     answering-carried _ _ _ _
     (translate-back _ _ _ (at-start .pre .0) (at-strip-into .strip-into .ensures .0) _ (at-fit .fit .given .1) _
     (at-strip-into .strip-into .ensures .1) _)
-    (rest-stripped _ _ _ (at-lacks-byte .lacks-byte .ensures) (at-if1 .if1 .left))
+    (translated-rest-stripped _ _ _ (at-lacks-byte .lacks-byte .ensures) (at-if1 .if1 .left))
     _ _ _ _ (c .with-rest .ensures) (without-rest _ _ _ _ _ _ (at-reply-of .reply-of .ensures) (at-translate-into2 .translate-into2 .ensures))
 
 pub translate-stripped-spec : {M : Type 1} → statement M
