@@ -70,3 +70,13 @@ pub fn strip_variant_selections(path: &[u8], out: &mut [u8]) -> Reply {
 pub fn ancestors(path: &[u8], lengths: &mut [usize]) -> Reply {
     entry!(mudvizsor_path_ancestors: text path, slots lengths,)
 }
+
+/// Writes the path in the path's brackets, without the brackets. The value is the length written.
+pub fn embedded_target(path: &[u8], out: &mut [u8]) -> Reply {
+    entry!(mudvizsor_path_embedded_target: text path, out out,)
+}
+
+/// Writes `path` with the path in its brackets replaced by `target`. The value is the length written.
+pub fn replace_embedded_target(path: &[u8], target: &[u8], out: &mut [u8]) -> Reply {
+    entry!(mudvizsor_path_replace_embedded_target: text path, text target, out out,)
+}
