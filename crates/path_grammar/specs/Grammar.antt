@@ -5,9 +5,9 @@ use mathlib.Core.Bool.{Bool, true, _&&_}
 use mathlib.Core.List.{List, [], _∷_, _++_}
 use mathlib.Core.Option.{Option, none, some}
 use mathlib.Core.Logic.{_↔_}
-use Prim.Native.Nat.{ℕ}
+use Prim.Native.Nat.{ℕ, suc}
 use Rattle.text.specs.Text.{Text}
-use Rattle.text.specs.Bytes.{closeBrace, colon, dot, equalsSign, openBrace, slash}
+use Rattle.text.specs.Bytes.{closeBrace, closeBracket, colon, dot, equalsSign, openBrace, openBracket, slash}
 use Rattle.path_grammar.specs.Legal.{isIdentifierStart, isIdentifierCont, isVariantByte, legal}
 
 -- Every byte is a letter, a digit or `_`.
@@ -48,13 +48,21 @@ pub record Property : Type 0 where
   pub first : Name
   pub more : List Name
 
--- A path. Requirements: "It is empty, or `/`, or `/` and a name followed by elements, then perhaps a property."
+-- An absolute path with at most d opening brackets. Requirements: "`/`, or `/` and a name followed by elements, then perhaps a property".
+pub data Absolute : ℕ → Type 0 where
+  root : {d : ℕ} → Absolute d
+  prims : {d : ℕ} → Prim → List Prim → Option Property → Absolute d
+  -- A path to a target, which is another path. Requirements: "A property may be followed by a legal absolute path in brackets, which ends the
+  -- text".
+  target : {d : ℕ} → Prim → List Prim → Property → Absolute d → Absolute (suc d)
+
+-- A path. Requirements: "It is empty, or .."; "a bracketed path may hold another, four deep, so a text has at most four opening brackets".
 pub data Path : Type 0 where
   empty : Path
-  root : Path
-  prims : Prim → List Prim → Option Property → Path
+  absolute : Absolute 4 → Path
 
--- The text of a name. In this and the following renderings the bytes are: . is 46, / is 47, : is 58, = is 61, { is 123, } is 125.
+-- The text of a name. In this and the following renderings the bytes are: . is 46, / is 47, : is 58, = is 61, [ is 91, ] is 93,
+-- { is 123, } is 125.
 unfoldable pub nameText : Name → Text
 nameText n = n .first ∷ n .more
 
@@ -96,18 +104,33 @@ unfolding nameText
 moreText [] = []
 moreText (n ∷ r) = colon ∷ (nameText n ++ moreText r)
 
+-- The text of a property.
+unfoldable pub dottedText : Property → Text
+unfolding nameText moreText
+dottedText x = dot ∷ (nameText (x .first) ++ moreText (x .more))
+
 -- The text of a property, if there is one.
 unfoldable pub propertyText : Option Property → Text
-unfolding nameText moreText
+unfolding dottedText
 propertyText none = []
-propertyText (some x) = dot ∷ (nameText (x .first) ++ moreText (x .more))
+propertyText (some x) = dottedText x
+
+-- The text of a path in brackets, with the brackets.
+unfoldable pub bracketText : Text → Text
+bracketText t = openBracket ∷ (t ++ (closeBracket ∷ []))
+
+-- The text of an absolute path.
+unfoldable pub absoluteText : {d : ℕ} → Absolute d → Text
+unfolding primsText propertyText dottedText bracketText
+absoluteText root = slash ∷ []
+absoluteText (prims p r x) = slash ∷ (primsText p r ++ propertyText x)
+absoluteText (target p r x q) = (slash ∷ (primsText p r ++ dottedText x)) ++ bracketText (absoluteText q)
 
 -- The text of a path.
 unfoldable pub render : Path → Text
-unfolding primsText propertyText
+unfolding absoluteText
 render empty = []
-render root = slash ∷ []
-render (prims p r x) = slash ∷ (primsText p r ++ propertyText x)
+render (absolute q) = absoluteText q
 
 -- The text s is the rendering of some path.
 pub record Rendered (s : Text) : Type 0 where

@@ -1,13 +1,14 @@
--- Meaning: Legal path texts, as an automaton that reads a text byte by byte. Grammar.antt defines the same texts by data types; proofs/Theorem.antt
--- proves that the two agree. The bytes: . is 46, / is 47, : is 58, = is 61, _ is 95, { is 123, } is 125.
-use Prim.Native.Nat.{ℕ}
+-- Meaning: Legal path texts: an automaton reads a path's own part byte by byte, and the path in its brackets is asked the same. Grammar.antt
+-- defines the same texts by data types; proofs/Theorem.antt proves that the two agree. The bytes: . is 46, / is 47, : is 58, = is 61, [ is 91,
+-- ] is 93, _ is 95, { is 123, } is 125.
+use Prim.Native.Nat.{ℕ, zero, suc}
 use mathlib.Core.Bool.{Bool, true, false, not, cond, _&&_, _||_}
 use mathlib.Core.List.{[], _∷_}
 use lib.Dec.{eqb, leb}
 use lib.ListN.{length}
-use Rattle.text.specs.Text.{Text, isNil}
-use Rattle.text.specs.Bytes.{closeBrace, colon, digit0, digit9, dot, equalsSign, lowerA, lowerZ, openBrace, slash, underscore, upperA, upperZ}
-use Rattle.path_grammar.specs.Own.{hasVariantSelection, hasProperty}
+use Rattle.text.specs.Text.{Text, isNil, endsWithByte, dropLast}
+use Rattle.text.specs.Bytes.{closeBrace, closeBracket, colon, digit0, digit9, dot, equalsSign, lowerA, lowerZ, openBrace, slash, underscore, upperA, upperZ}
+use Rattle.path_grammar.specs.Own.{ownPart, targetPart, hasVariantSelection, hasProperty}
 
 -- The byte may begin a name (Rust: is_identifier_start). Requirements: "A name is a letter or `_`, then letters, digits, `_`."
 unfoldable pub isIdentifierStart : ℕ → Bool
@@ -89,12 +90,41 @@ abbrev pub isRoot : Text → Bool
 isRoot [] = false
 isRoot (a ∷ r) = eqb a slash && isNil r
 
--- The text is a legal path; its length is checked separately, by `atMost255`. Requirements: "It is empty, or `/`, or `/` and a name followed by
--- elements, then perhaps a property."
-unfoldable pub legal : Text → Bool
+-- The text is a legal path without brackets. Requirements: "It is empty, or `/`, or `/` and a name followed by elements, then perhaps a
+-- property."
+unfoldable pub legalOwn : Text → Bool
 unfolding run accept
-legal [] = true
-legal (a ∷ r) = eqb a slash && (isNil r || accept (run Slash r))
+legalOwn [] = true
+legalOwn (a ∷ r) = eqb a slash && (isNil r || accept (run Slash r))
+
+-- The path is absolute: it begins with a slash.
+abbrev pub isAbsolute : Text → Bool
+isAbsolute [] = false
+isAbsolute (a ∷ r) = eqb a slash
+
+-- The text that follows a `[` is an absolute path that passes the test, then a `]`, which ends the text.
+unfoldable pub closesTarget : (Text → Bool) → Text → Bool
+unfolding endsWithByte dropLast
+closesTarget test r = endsWithByte closeBracket r && (isAbsolute (dropLast r) && test (dropLast r))
+
+-- The target part of a path is legal: there is none, or it follows a property. Requirements: "A property may be followed by a legal absolute path
+-- in brackets, which ends the text".
+unfoldable pub legalTarget : (Text → Bool) → Bool → Text → Bool
+unfolding closesTarget
+legalTarget test property [] = true
+legalTarget test property (a ∷ r) = property && closesTarget test r
+
+-- The text is a legal path with at most d opening brackets.
+unfoldable pub legalWithin : ℕ → Text → Bool
+unfolding legalOwn legalTarget ownPart targetPart hasProperty
+legalWithin zero p = legalOwn p
+legalWithin (suc d) p = legalOwn (ownPart p) && legalTarget (λ (t : Text). legalWithin d t) (hasProperty p) (targetPart p)
+
+-- The text is a legal path; its length is checked separately, by `atMost255`. Requirements: "a bracketed path may hold another, four deep, so a
+-- text has at most four opening brackets".
+unfoldable pub legal : Text → Bool
+unfolding legalWithin
+legal p = legalWithin 4 p
 
 -- The text has at most 255 bytes. Requirements: "A legal path is at most 255 ASCII bytes."
 unfoldable pub atMost255 : Text → Bool

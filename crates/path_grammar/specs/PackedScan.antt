@@ -7,7 +7,7 @@ use mathlib.Core.List.{map}
 use lib.Dec.{eqb}
 use Rattle.text.specs.Text.{Text}
 use Rattle.text.specs.Bytes.{dot, openBrace}
-use Rattle.path_grammar.specs.Legal.{ScanState, Name, Closed, Prop, Slash, Opened, Set, Equals, Sel, Dot, Dead, step, legal, isEnd}
+use Rattle.path_grammar.specs.Legal.{ScanState, Name, Closed, Prop, Slash, Opened, Set, Equals, Sel, Dot, Dead, step, legalOwn, isEnd}
 
 -- The bit offset of a state in the packed number: six times its index. The accepting states are those below 18.
 unfoldable pub stateCode : ScanState → ℕ
@@ -46,6 +46,6 @@ packedSteps a =
 abbrev pub endByte : ℕ → ℕ
 endByte a = cond (eqb a dot || eqb a openBrace) 0 a
 
--- Theorem (proofs/EndLaws.antt): a text is an end exactly if it is legal after this replacement.
+-- Theorem (proofs/EndLaws.antt): a text is an end exactly if it is legal, without brackets, after this replacement.
 abbrev pub EndsByScan : Type 0
-EndsByScan = (s : Text) → isEnd s ≡ legal (map endByte s)
+EndsByScan = (s : Text) → isEnd s ≡ legalOwn (map endByte s)

@@ -200,6 +200,14 @@ unfolding lacksByte
 lacks-after b [] r e = e
 lacks-after b (a ∷ s) r e = lacks-after b s r (and-r (not (eqb a b)) (lacksByte b (s ++ r)) e)
 
+pub lacks-append : (b : ℕ) (s r : Text) → lacksByte b (s ++ r) ≡ (lacksByte b s && lacksByte b r)
+unfolding lacksByte
+lacks-append b [] r = refl
+lacks-append b (a ∷ s) r = rw (lacks-append b s r) (sym (and-assoc (not (eqb a b)) (lacksByte b s) (lacksByte b r)))
+
+pub lacks-before : (b : ℕ) (s r : Text) → lacksByte b (s ++ r) ≡ true → lacksByte b s ≡ true
+lacks-before b s r e = and-l (lacksByte b s) (lacksByte b r) (sym (lacks-append b s r) ∙ e)
+
 pub lacks-join : (b : ℕ) (s r : Text) → lacksByte b s ≡ true → lacksByte b r ≡ true → lacksByte b (s ++ r) ≡ true
 unfolding lacksByte
 lacks-join b [] r e f = f

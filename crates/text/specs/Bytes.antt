@@ -29,6 +29,14 @@ openBrace = 123
 abbrev pub closeBrace : ℕ
 closeBrace = 125
 
+-- `[`
+abbrev pub openBracket : ℕ
+openBracket = 91
+
+-- `]`
+abbrev pub closeBracket : ℕ
+closeBracket = 93
+
 -- the newline
 abbrev pub newline : ℕ
 newline = 10

@@ -58,6 +58,22 @@ unfoldable pub lacksByte : ℕ → Text → Bool
 lacksByte b [] = true
 lacksByte b (a ∷ r) = not (eqb a b) && lacksByte b r
 
+-- The bytes before the first byte b; the whole text if there is none.
+unfoldable pub takeUntil : ℕ → Text → Text
+takeUntil b [] = []
+takeUntil b (a ∷ r) = cond (eqb a b) [] (a ∷ takeUntil b r)
+
+-- The text from the first byte b on; empty if there is none.
+unfoldable pub dropUntil : ℕ → Text → Text
+dropUntil b [] = []
+dropUntil b (a ∷ r) = cond (eqb a b) (a ∷ r) (dropUntil b r)
+
+-- The text without its last byte.
+unfoldable pub dropLast : Text → Text
+dropLast [] = []
+dropLast (a ∷ []) = []
+dropLast (a ∷ c ∷ r) = a ∷ dropLast (c ∷ r)
+
 -- The buffer `out` with the text t written over its beginning: the text, then the remaining old bytes.
 abbrev pub written : Text → Text → Text
 written t out = t ++ drop (length t) out

@@ -1,7 +1,8 @@
 // Byte-string primitives: comparison, search for a byte, and copying into a caller's buffer. Every
 // function is total: none has a precondition.
 ghost use mathlib.Core.Path.{_≡_};
-ghost use Rattle.text.specs.Text.{equal, startsWith, endsWithByte, lacksByte, writtenIfFits};
+ghost use lib.ListN.{length};
+ghost use Rattle.text.specs.Text.{equal, startsWith, endsWithByte, lacksByte, takeUntil, writtenIfFits};
 
 // The result of writing to a lent buffer.
 pub enum Fit {
@@ -67,6 +68,24 @@ pub fn lacks_byte(text: &[u8], b: u8) -> bool
         i += 1;
     }
     lacks
+}
+
+// Returns the index of the first byte `b`, or the length of the text if there is none. Most texts that are
+// asked have none, and `lacks_byte` finds that out faster than the loop.
+pub fn find_byte(text: &[u8], b: u8) -> usize
+    ensures { λ r. ⌜ r ≡ length (takeUntil b (now (text .entry))) ⌝ }
+{
+    if lacks_byte(text, b) {
+        return text.len();
+    }
+    let mut i = 0;
+    while i < text.len() {
+        if text[i] == b {
+            return i;
+        }
+        i += 1;
+    }
+    i
 }
 
 // Copies the text into the buffer from index `at` if it fits; otherwise writes nothing.
