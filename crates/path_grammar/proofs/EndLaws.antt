@@ -11,10 +11,10 @@ use lib.ListN.{length, getD, length-map, List·getD-map}
 use borrow.Author.Tests.{eqb-true}
 use Rattle.text.specs.Text.{Text, isNil, lacksByte}
 use Rattle.text.proofs.BoolLaws.{and-no, and-yes, upTo}
-use Rattle.path_grammar.specs.Legal.{ScanState, Slash, Name, Opened, Set, Equals, Sel, Closed, Dot, Prop, Dead, step, run, accept, legal, isEnd}
+use Rattle.path_grammar.specs.Legal.{ScanState, Slash, Name, Opened, Set, Equals, Sel, Closed, Dot, Prop, Dead, step, run, accept, legalOwn, isEnd}
 use Rattle.path_grammar.specs.PackedScan.{packedSteps, endByte, EndsByScan}
 use Rattle.path_grammar.proofs.RunLaws.{run-dead}
-use Rattle.path_grammar.proofs.LegalLaws.{end-scan}
+use Rattle.path_grammar.proofs.LegalLaws.{end-own}
 use Rattle.path_grammar.proofs.ScanLaws.{upper-1, lower-1, more-1, upper-2, lower-2, more-2, digits-1, digits-2, listed, Reads, first, on, none, other, root, whole}
 
 -- No path contains the byte 0.
@@ -46,10 +46,10 @@ run-plain s (a ∷ r) = go (eqb a 46) (eqb a 123) refl refl (run-plain (step s a
     go false true h k ih = rw (h, k, and-no (accept (run (step s a) r))) (sym (null-refused s (map endByte r)))
     go false false h k ih = rw (h, k) ih
 
-legal-plain : (s : Text) → (legal s && (lacksByte 123 s && lacksByte 46 s)) ≡ legal (map endByte s)
-unfolding legal lacksByte
-legal-plain [] = refl
-legal-plain (a ∷ r) = go (eqb a 47) refl
+legalOwn-plain : (s : Text) → (legalOwn s && (lacksByte 123 s && lacksByte 46 s)) ≡ legalOwn (map endByte s)
+unfolding legalOwn lacksByte
+legalOwn-plain [] = refl
+legalOwn-plain (a ∷ r) = go (eqb a 47) refl
   where
     rest : (r : Text) → ((isNil r || accept (run Slash r)) && (lacksByte 123 r && lacksByte 46 r)) ≡ (isNil (map endByte r) || accept (run Slash (map endByte r)))
     rest [] = refl
@@ -59,12 +59,12 @@ legal-plain (a ∷ r) = go (eqb a 47) refl
     other-head true h = refl
     other-head false h = h
 
-    go : (b : Bool) → eqb a 47 ≡ b → (legal (a ∷ r) && (lacksByte 123 (a ∷ r) && lacksByte 46 (a ∷ r))) ≡ legal (map endByte (a ∷ r))
+    go : (b : Bool) → eqb a 47 ≡ b → (legalOwn (a ∷ r) && (lacksByte 123 (a ∷ r) && lacksByte 46 (a ∷ r))) ≡ legalOwn (map endByte (a ∷ r))
     go true h = rw (eqb-true a 47 h) (rest r)
     go false h = rw (h, other-head (eqb a 46 || eqb a 123) h)
 
 pub ends-by-plain : EndsByScan
-ends-by-plain s = end-scan s ∙ legal-plain s
+ends-by-plain s = end-own s ∙ legalOwn-plain s
 
 -- Lemmas for `end_row`.
 abbrev pub end-pack : ℕ → ℕ

@@ -1,19 +1,21 @@
 -- Lemmas about legal texts and ends, mainly about what they cannot contain.
 use mathlib.Core.Path.{_≡_, refl, sym, ap, _∙_}
-use mathlib.Core.Bool.{Bool, true, false, not, cond, _&&_, true≢false, false≢true, Bool·not-not}
-use mathlib.Core.List.{[], _∷_}
-use Prim.Native.Nat.{ℕ, _≤_}
+use mathlib.Core.Bool.{Bool, true, false, not, cond, _&&_, _||_, true≢false, false≢true}
+use mathlib.Core.List.{[], _∷_, _++_, append-nil}
+use Prim.Native.Nat.{ℕ, zero, suc, _≤_}
 use lib.Dec.{eqb}
 use borrow.Author.Tests.{eqb-true, leb-true, le-leb}
-use Rattle.text.specs.Text.{Text, endsWithByte, lacksByte}
-use Rattle.text.proofs.BoolLaws.{and-l, and-r, not-true}
-use Rattle.path_grammar.specs.Legal.{ScanState, Slash, Name, Opened, Set, Equals, Sel, Closed, Dot, Prop, Dead, isIdentifierStart, isIdentifierCont, step, run, accept, isRoot, legal, isEnd, atMost255}
-use Rattle.path_grammar.specs.Own.{hasVariantSelection, hasProperty}
-use Rattle.path_grammar.proofs.RunLaws.{run-dead}
-use Rattle.path_grammar.proofs.OwnLaws.{lacks-free, property-scan}
+use Rattle.text.specs.Text.{Text, isNil, endsWithByte, lacksByte, takeUntil, dropLast}
+use Rattle.text.proofs.BoolLaws.{and-l, and-r, and-no, and-yes, not-true}
+use Rattle.text.proofs.TextLaws.{last-snoc, last-after}
+use Rattle.text.proofs.UntilLaws.{last-split}
+use Rattle.path_grammar.specs.Legal.{ScanState, Slash, Name, Opened, Set, Equals, Sel, Closed, Dot, Prop, Dead, isIdentifierStart, isIdentifierCont, step, run, accept, isRoot, legalOwn, isAbsolute, closesTarget, legalTarget, legalWithin, legal, isEnd, atMost255}
+use Rattle.path_grammar.specs.Own.{ownPart, targetPart, hasVariantSelection, hasProperty}
+use Rattle.path_grammar.proofs.RunLaws.{dead-refuses}
+use Rattle.path_grammar.proofs.OwnLaws.{own-parts, own-all, target-none, target-nil, no-property, selection-scan, property-scan, own-lacks-too, lacks-free}
 use lib.ListN.{length}
 
--- A legal text other than `/` does not end in a slash.
+-- A legal text without brackets, other than `/`, does not end in a slash.
 slash-ends : (s : ScanState) → accept (step s 47) ≡ false
 unfolding accept step
 slash-ends Slash = refl
@@ -27,15 +29,52 @@ slash-ends Dot = refl
 slash-ends Prop = refl
 slash-ends Dead = refl
 
-run-last : (s : ScanState) (r : Text) → accept (run s r) ≡ true → endsWithByte 47 r ≡ false
-unfolding run endsWithByte
-run-last s [] e = refl
-run-last s (a ∷ []) e = go (eqb a 47) refl
+-- The automaton accepts no bracket.
+bracket-dead : (s : ScanState) → step s 91 ≡ Dead
+unfolding step isIdentifierStart isIdentifierCont
+bracket-dead Slash = refl
+bracket-dead Name = refl
+bracket-dead Opened = refl
+bracket-dead Set = refl
+bracket-dead Equals = refl
+bracket-dead Sel = refl
+bracket-dead Closed = refl
+bracket-dead Dot = refl
+bracket-dead Prop = refl
+bracket-dead Dead = refl
+
+run-unbracketed : (s : ScanState) (r : Text) → accept (run s r) ≡ true → lacksByte 91 r ≡ true
+unfolding run lacksByte
+run-unbracketed s [] e = refl
+run-unbracketed s (a ∷ r) e = go (eqb a 91) refl (run-unbracketed (step s a) r e)
   where
-    go : (t : Bool) → eqb a 47 ≡ t → eqb a 47 ≡ false
-    go true h = absurd (true≢false (sym e ∙ rw (eqb-true a 47 h) (slash-ends s)))
+    go : (t : Bool) → eqb a 91 ≡ t → lacksByte 91 r ≡ true → (not (eqb a 91) && lacksByte 91 r) ≡ true
+    go true h f = absurd (dead-refuses r (rw (eqb-true a 91 h, bracket-dead s) at e))
+    go false h f = rw h f
+
+close-bracket-ends : (s : ScanState) → accept (step s 93) ≡ false
+unfolding accept step isIdentifierStart isIdentifierCont
+close-bracket-ends Slash = refl
+close-bracket-ends Name = refl
+close-bracket-ends Opened = refl
+close-bracket-ends Set = refl
+close-bracket-ends Equals = refl
+close-bracket-ends Sel = refl
+close-bracket-ends Closed = refl
+close-bracket-ends Dot = refl
+close-bracket-ends Prop = refl
+close-bracket-ends Dead = refl
+
+-- If no state accepts after byte b, no accepted text ends in it.
+run-last : (b : ℕ) → ((s : ScanState) → accept (step s b) ≡ false) → (s : ScanState) (r : Text) → accept (run s r) ≡ true → endsWithByte b r ≡ false
+unfolding run endsWithByte
+run-last b refused s [] e = refl
+run-last b refused s (a ∷ []) e = go (eqb a b) refl
+  where
+    go : (t : Bool) → eqb a b ≡ t → eqb a b ≡ false
+    go true h = absurd (true≢false (sym e ∙ rw (eqb-true a b h) (refused s)))
     go false h = h
-run-last s (a ∷ b ∷ r) e = run-last (step s a) (b ∷ r) e
+run-last b refused s (a ∷ c ∷ r) e = run-last b refused (step s a) (c ∷ r) e
 
 -- From a state outside a selection, a text without `{` contains no `}`.
 abbrev outside : ScanState → Bool
@@ -92,20 +131,147 @@ run-close s (a ∷ b ∷ r) o f e =
     run-close (step s a) (b ∷ r) (stays s a o (not-true (eqb a 123) (and-l (not (eqb a 123)) (lacksByte 123 (b ∷ r)) f)))
     (and-r (not (eqb a 123)) (lacksByte 123 (b ∷ r)) f) e
 
-pub no-root-dot : (r : Text) → legal (47 ∷ 46 ∷ r) ≡ true → ⊥
+-- What a legal text without brackets cannot contain.
+pub own-unbracketed : (p : Text) → legalOwn p ≡ true → lacksByte 91 p ≡ true
+unfolding legalOwn lacksByte
+own-unbracketed [] e = refl
+own-unbracketed (a ∷ []) e = rw (eqb-true a 47 (and-l (eqb a 47) true e))
+own-unbracketed (a ∷ b ∷ r) e =
+    let c : Bool = accept (run Slash (b ∷ r)) in
+    rw (eqb-true a 47 (and-l (eqb a 47) c e)) (run-unbracketed Slash (b ∷ r) (and-r (eqb a 47) c e))
+
+pub own-last : (p : Text) → legalOwn p ≡ true → isRoot p ≡ false → endsWithByte 47 p ≡ false
+unfolding legalOwn endsWithByte
+own-last [] e n = refl
+own-last (a ∷ []) e n = absurd (true≢false (sym e ∙ n))
+own-last (a ∷ b ∷ r) e n = run-last 47 slash-ends Slash (b ∷ r) (and-r (eqb a 47) (accept (run Slash (b ∷ r))) e)
+
+pub own-no-close-bracket : (p : Text) → legalOwn p ≡ true → endsWithByte 93 p ≡ false
+unfolding legalOwn endsWithByte
+own-no-close-bracket [] e = refl
+own-no-close-bracket (a ∷ []) e = rw (eqb-true a 47 (and-l (eqb a 47) true e))
+own-no-close-bracket (a ∷ b ∷ r) e = run-last 93 close-bracket-ends Slash (b ∷ r) (and-r (eqb a 47) (accept (run Slash (b ∷ r))) e)
+
+-- Legality by parts: that of the own part, and that of the target part.
+module _ (p : Text) where
+  pub legal-parts : legal p ≡ (legalOwn (ownPart p) && legalTarget (legalWithin 3) (hasProperty p) (targetPart p))
+  unfolding legal legalWithin
+  legal-parts = refl
+
+  pub legal-own-part : legal p ≡ true → legalOwn (ownPart p) ≡ true
+  legal-own-part e = and-l (legalOwn (ownPart p)) (legalTarget (legalWithin 3) (hasProperty p) (targetPart p)) (sym legal-parts ∙ e)
+
+  pub legal-target-part : legal p ≡ true → legalTarget (legalWithin 3) (hasProperty p) (targetPart p) ≡ true
+  legal-target-part e = and-r (legalOwn (ownPart p)) (legalTarget (legalWithin 3) (hasProperty p) (targetPart p)) (sym legal-parts ∙ e)
+
+  -- A text without brackets is legal exactly if the automaton accepts it.
+  pub legal-without : lacksByte 91 p ≡ true → legal p ≡ legalOwn p
+  unfolding legalTarget
+  legal-without h = legal-parts ∙ rw (own-all p h, target-none p h) (and-yes (legalOwn p))
+
+  pub own-legal : legalOwn p ≡ true → legal p ≡ true
+  own-legal e = legal-without (own-unbracketed p e) ∙ e
+
+  -- A path with a target has a property, and ends in a closing bracket.
+  pub target-property : legal p ≡ true → isNil (targetPart p) ≡ false → hasProperty p ≡ true
+  unfolding legalTarget
+  target-property e n = go (targetPart p) n (legal-target-part e)
+    where
+      go : (t : Text) → isNil t ≡ false → legalTarget (legalWithin 3) (hasProperty p) t ≡ true → hasProperty p ≡ true
+      go [] n h = absurd (true≢false n)
+      go (a ∷ r) n h = and-l (hasProperty p) (closesTarget (legalWithin 3) r) h
+
+-- A legal path that is not empty is absolute.
+pub own-absolute : (a : ℕ) (r : Text) → legalOwn (a ∷ r) ≡ true → eqb a 47 ≡ true
+unfolding legalOwn
+own-absolute a r e = and-l (eqb a 47) (isNil r || accept (run Slash r)) e
+
+pub within-absolute : (d : ℕ) (t : Text) → isNil t ≡ false → legalWithin d t ≡ true → isAbsolute t ≡ true
+unfolding legalWithin ownPart takeUntil
+within-absolute d [] n e = absurd (true≢false n)
+within-absolute zero (a ∷ r) n e = own-absolute a r e
+within-absolute (suc d) (a ∷ r) n e = go (eqb a 91) refl
+  where
+    go : (b : Bool) → eqb a 91 ≡ b → eqb a 47 ≡ true
+    go true h = absurd (false≢true (rw h at e))
+    go false h = own-absolute a (ownPart r) (and-l (legalOwn (a ∷ ownPart r)) _ (rw h at e))
+
+pub absolute-first : (a : ℕ) (r : Text) → legal (a ∷ r) ≡ true → eqb a 47 ≡ true
 unfolding legal
-no-root-dot r e = true≢false (sym e ∙ ap accept (run-dead r))
+absolute-first a r e = within-absolute 4 (a ∷ r) refl e
+
+-- If two texts have the same target part and both or neither have a property, the one is legal as the other is, if its own part is.
+pub legal-as : (p q : Text) → legal p ≡ true → hasProperty q ≡ hasProperty p → targetPart q ≡ targetPart p → legal q ≡ legalOwn (ownPart q)
+legal-as p q e h t = legal-parts q ∙ rw (h, t, legal-target-part p e) (and-yes (legalOwn (ownPart q)))
+
+pub no-root-dot : (r : Text) → legal (47 ∷ 46 ∷ r) ≡ true → ⊥
+unfolding legalOwn ownPart takeUntil run step isIdentifierStart
+no-root-dot r e = dead-refuses (ownPart r) (legal-own-part (47 ∷ 46 ∷ r) e)
 
 pub legal-last : (p : Text) → legal p ≡ true → isRoot p ≡ false → endsWithByte 47 p ≡ false
-unfolding legal endsWithByte
-legal-last [] e n = refl
-legal-last (a ∷ []) e n = absurd (true≢false (sym e ∙ n))
-legal-last (a ∷ b ∷ r) e n = run-last Slash (b ∷ r) (and-r (eqb a 47) (accept (run Slash (b ∷ r))) e)
+unfolding legalTarget closesTarget endsWithByte
+legal-last p e n = go (targetPart p) refl
+  where
+    closed : (r : Text) → endsWithByte 93 r ≡ true → endsWithByte 47 r ≡ false
+    closed r h = rw (← last-split 93 r h) (last-snoc 47 (dropLast r) 93)
 
--- Lemmas about the ends of pairs.
-pub end-scan : (s : Text) → isEnd s ≡ (legal s && (lacksByte 123 s && lacksByte 46 s))
+    ends : (a : ℕ) (r : Text) → legalTarget (legalWithin 3) (hasProperty p) (a ∷ r) ≡ true → endsWithByte 93 r ≡ true
+    ends a r h =
+        and-l (endsWithByte 93 r) (isAbsolute (dropLast r) && legalWithin 3 (dropLast r)) (and-r (hasProperty p) (closesTarget (legalWithin 3) r) h)
+
+    after : (a : ℕ) (r : Text) → endsWithByte 93 r ≡ true → endsWithByte 47 (a ∷ r) ≡ false
+    after a [] h = absurd (false≢true h)
+    after a (c ∷ r) h = closed (c ∷ r) h
+
+    go : (t : Text) → targetPart p ≡ t → endsWithByte 47 p ≡ false
+    go [] h = let k : ownPart p ≡ p = sym (append-nil (ownPart p)) ∙ rw h at (own-parts p) in own-last p (rw k at (legal-own-part p e)) n
+    go (a ∷ r) h =
+        let k : ownPart p ++ a ∷ r ≡ p = rw h at (own-parts p) in
+        rw (← k) (last-after 47 (ownPart p) a r ∙ after a r (ends a r (rw h at (legal-target-part p e))))
+
+-- Lemmas about the ends of pairs. An end has no property, so it has no brackets, and the whole text decides.
+pub end-own : (s : Text) → isEnd s ≡ (legalOwn s && (lacksByte 123 s && lacksByte 46 s))
 unfolding isEnd
-end-scan s = rw (Bool·not-not (lacksByte 123 s), Bool·not-not (lacksByte 46 s))
+end-own s = go (lacksByte 91 s) refl
+  where
+    free : (b : Bool) → b ≡ not (not b)
+    free true = refl
+    free false = refl
+
+    refuted : legalOwn s ≡ true → lacksByte 91 s ≡ false → ⊥
+    refuted e h = true≢false (sym (own-unbracketed s e) ∙ h)
+
+    none : (b c : Bool) → legal s ≡ b → hasProperty s ≡ c → lacksByte 91 s ≡ false → (b && (not (hasVariantSelection s) && not c)) ≡ false
+    none true true e f h = and-no (not (hasVariantSelection s))
+    none true false e f h = absurd (true≢false (sym (target-property s e (target-nil s ∙ h)) ∙ f))
+    none false c e f h = refl
+
+    own-none : (b : Bool) → legalOwn s ≡ b → lacksByte 91 s ≡ false → (b && (lacksByte 123 s && lacksByte 46 s)) ≡ false
+    own-none true e h = absurd (refuted e h)
+    own-none false e h = refl
+
+    go : (b : Bool) → lacksByte 91 s ≡ b → (legal s && (not (hasVariantSelection s) && not (hasProperty s))) ≡ (legalOwn s && (lacksByte 123 s && lacksByte 46 s))
+    go true h = rw (legal-without s h, selection-scan s, property-scan s, own-all s h, ← free (lacksByte 123 s), ← free (lacksByte 46 s))
+    go false h = none (legal s) (hasProperty s) refl refl h ∙ sym (own-none (legalOwn s) refl h)
+
+pub end-scan : (s : Text) → isEnd s ≡ (legal s && (lacksByte 123 s && lacksByte 46 s))
+end-scan s = end-own s ∙ go (lacksByte 91 s) refl
+  where
+    go : (b : Bool) → lacksByte 91 s ≡ b → (legalOwn s && (lacksByte 123 s && lacksByte 46 s)) ≡ (legal s && (lacksByte 123 s && lacksByte 46 s))
+    go true h = rw (legal-without s h)
+    go false h = only (legalOwn s) (legal s) (lacksByte 46 s) refl refl refl
+      where
+        only : (b c d : Bool) → legalOwn s ≡ b → legal s ≡ c → lacksByte 46 s ≡ d → (b && (lacksByte 123 s && d)) ≡ (c && (lacksByte 123 s && d))
+        only true c d e f k = absurd (true≢false (sym (own-unbracketed s e) ∙ h))
+        only false true true e f k = absurd (true≢false (sym (target-property s f (target-nil s ∙ h)) ∙ no-property s .1 (own-lacks-too s 46 k)))
+        only false true false e f k = sym (and-no (lacksByte 123 s))
+        only false false d e f k = refl
+
+pub end-own-legal : (s : Text) → isEnd s ≡ true → legalOwn s ≡ true
+end-own-legal s e = and-l (legalOwn s) (lacksByte 123 s && lacksByte 46 s) (sym (end-own s) ∙ e)
+
+pub end-unbracketed : (s : Text) → isEnd s ≡ true → lacksByte 91 s ≡ true
+end-unbracketed s e = own-unbracketed s (end-own-legal s e)
 
 pub end-legal : (s : Text) → isEnd s ≡ true → legal s ≡ true
 end-legal s e = and-l (legal s) (lacksByte 123 s && lacksByte 46 s) (sym (end-scan s) ∙ e)
@@ -124,17 +290,17 @@ pub end-no-selection : (s : Text) → isEnd s ≡ true → hasVariantSelection s
 end-no-selection s e = lacks-free s (end-lacks s e)
 
 pub end-no-property : (s : Text) → isEnd s ≡ true → hasProperty s ≡ false
-end-no-property s e = property-scan s ∙ ap not (end-undotted s e)
+end-no-property s e = no-property s .1 (own-lacks-too s 46 (end-undotted s e))
 
-free-close : (s : Text) → legal s ≡ true → lacksByte 123 s ≡ true → endsWithByte 125 s ≡ false
-unfolding legal endsWithByte lacksByte
+free-close : (s : Text) → legalOwn s ≡ true → lacksByte 123 s ≡ true → endsWithByte 125 s ≡ false
+unfolding legalOwn endsWithByte lacksByte
 free-close [] e f = refl
 free-close (a ∷ []) e f = rw (eqb-true a 47 (and-l (eqb a 47) true e))
 free-close (a ∷ b ∷ r) e f =
     run-close Slash (b ∷ r) refl (and-r (not (eqb a 123)) (lacksByte 123 (b ∷ r)) f) (and-r (eqb a 47) (accept (run Slash (b ∷ r))) e)
 
 pub end-close : (s : Text) → isEnd s ≡ true → endsWithByte 125 s ≡ false
-end-close s e = free-close s (end-legal s e) (end-lacks s e)
+end-close s e = free-close s (end-own-legal s e) (end-lacks s e)
 
 -- Texts of at most 255 bytes.
 pub fits-short : (p : Text) → atMost255 p ≡ true → length p ≤ 255

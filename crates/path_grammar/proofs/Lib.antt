@@ -2,9 +2,11 @@
 pub mod RunLaws
 pub mod OwnLaws
 pub mod LegalLaws
-mod Render
+pub mod RenderLacks
+pub mod Render
 mod Parse
 pub mod Theorem
 mod ScanLaws
 mod ByteLaws
 mod EndLaws
+mod InnerLaws

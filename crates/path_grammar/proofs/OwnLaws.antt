@@ -10,7 +10,7 @@ use lib.ListN.{length, take, drop}
 use Rattle.text.specs.Text.{Text, isNil, lacksByte, takeUntil, dropUntil}
 use Rattle.text.proofs.BoolLaws.{not-false}
 use Rattle.text.proofs.TextLaws.{lacks-append, lacks-before}
-use Rattle.text.proofs.UntilLaws.{until-parts, until-lacks, take-until-after, drop-until-after, take-until-all, drop-until-none, drop-until-lacks, take-until-slice, drop-until-slice, take-until-length, take-drop-until, drop-drop-until}
+use Rattle.text.proofs.UntilLaws.{until-parts, until-lacks, take-until-after, drop-until-after, take-until-all, drop-until-none, drop-until-lacks, take-until-slice, drop-until-slice, take-until-length, take-drop-until, drop-drop-until, drop-until-head}
 use Rattle.path_grammar.specs.Own.{ownPart, targetPart, hasVariantSelection, hasProperty}
 
 module _ (p : Text) where
@@ -85,6 +85,21 @@ module _ (x y : Text) (h : lacksByte 91 x ≡ true) where
 
   pub lacks-own-after : (b : ℕ) → lacksByte b x ≡ true → lacksByte b (ownPart (x ++ y)) ≡ lacksByte b (ownPart y)
   lacks-own-after b k = rw (own-after, lacks-append b x (ownPart y), k)
+
+-- A text that begins with a bracket is a target part.
+module _ (r : Text) where
+  pub own-open : ownPart (91 ∷ r) ≡ []
+  unfolding ownPart takeUntil
+  own-open = refl
+
+  pub target-open : targetPart (91 ∷ r) ≡ 91 ∷ r
+  unfolding targetPart dropUntil
+  target-open = refl
+
+-- A target part begins with a bracket.
+pub target-head : (p : Text) (a : ℕ) (r : Text) → targetPart p ≡ a ∷ r → a ≡ 91
+unfolding targetPart
+target-head p a r h = drop-until-head 91 p a r h
 
 -- Such a text followed by the target part of a path has these two parts.
 module _ (x p : Text) (h : lacksByte 91 x ≡ true) where

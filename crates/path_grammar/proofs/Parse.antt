@@ -9,7 +9,7 @@ use borrow.Author.Tests.{eqb-true}
 use Rattle.text.specs.Text.{Text}
 use Rattle.path_grammar.specs.Legal.{ScanState, Slash, Name, Opened, Set, Equals, Sel, Closed, Dot, Prop, Dead, isIdentifierStart, isIdentifierCont, step, run, accept}
 use Rattle.path_grammar.specs.Grammar as g
-use Rattle.path_grammar.specs.Grammar.{allCont, nameText, wordText, selectionText, selectionsText, primText, primSeparator, primsText, moreText, propertyText, render}
+use Rattle.path_grammar.specs.Grammar.{allCont, nameText, wordText, selectionText, selectionsText, primText, primSeparator, primsText, moreText, propertyText, dottedText}
 use Rattle.path_grammar.proofs.RunLaws.{dead-refuses}
 
 -- The remaining bytes of a name.
@@ -138,11 +138,11 @@ more-selection n w x =
     ∙ selection-text (record { variantSet = n; variant = w }) (afterSelection x)
 
 property-name : (n : g.Name) (r : List g.Name) → afterName (with-property n r) ≡ 46 ∷ (nameText n ++ moreText r)
-unfolding with-property afterName follow selectionsText propertyText
+unfolding with-property afterName follow selectionsText propertyText dottedText
 property-name n r = refl
 
 property-selection : (n : g.Name) (r : List g.Name) → afterSelection (with-property n r) ≡ 46 ∷ (nameText n ++ moreText r)
-unfolding with-property afterSelection follow selectionsText propertyText
+unfolding with-property afterSelection follow selectionsText propertyText dottedText
 property-selection n r = refl
 
 -- One more byte in front.
@@ -254,12 +254,21 @@ parse Dot (a ∷ r) e = on-dot a r (isIdentifierStart a) refl (λ h. parse Prop 
 parse Prop (a ∷ r) e = on-prop a r (isIdentifierCont a) (eqb a 58) refl refl (λ h. parse Prop r h) (λ h. parse Dot r h) e
 parse Dead (a ∷ r) e = absurd (dead-refuses r e)
 
+-- The text r is that of prims and perhaps a property, which follow the first slash.
+pub record RenderedPrims (r : Text) : Type 0 where
+  pub prim : g.Prim
+  pub more : List g.Prim
+  pub property : Option g.Property
+  pub same : primsText prim more ++ propertyText property ≡ r
+
 -- The texts that are accepted after the first slash.
-pub body : (r : Text) → accept (run Slash r) ≡ true → g.Rendered (47 ∷ r)
-unfolding text render
+pub body : (r : Text) → accept (run Slash r) ≡ true → RenderedPrims r
+unfolding text
 body r e =
     let w : Found Slash r = parse Slash r e in
     record {
-      path = g.prims (record { name = w .what .0; selections = w .what .1 .selections }) (w .what .1 .rest) (w .what .1 .property);
-      same = put 47 (prims-text (w .what .0) (w .what .1) ∙ w .same);
+      prim = record { name = w .what .0; selections = w .what .1 .selections };
+      more = w .what .1 .rest;
+      property = w .what .1 .property;
+      same = prims-text (w .what .0) (w .what .1) ∙ w .same;
     }

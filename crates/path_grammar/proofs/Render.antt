@@ -1,15 +1,21 @@
 -- The rendering of a path is legal: the other half of the theorem.
 use mathlib.Core.Path.{_≡_, refl, ap, _∙_}
-use mathlib.Core.Bool.{true}
-use mathlib.Core.List.{List, [], _∷_, _++_}
+use mathlib.Core.Bool.{true, false}
+use mathlib.Core.List.{List, [], _∷_, _++_, append-nil}
 use mathlib.Core.Option.{Option, none, some}
-use Prim.Native.Nat.{ℕ}
-use Rattle.text.specs.Text.{Text, isNil}
-use Rattle.path_grammar.specs.Legal.{ScanState, Slash, Name, Opened, Set, Equals, Sel, Closed, Dot, Prop, isIdentifierStart, isIdentifierCont, step, run, accept, legal}
+use Prim.Native.Nat.{ℕ, zero, suc}
+use Rattle.text.specs.Text.{Text, isNil, lacksByte}
+use Rattle.path_grammar.specs.Legal.{ScanState, Slash, Name, Opened, Set, Equals, Sel, Closed, Dot, Prop, isIdentifierStart, isIdentifierCont, step, run, accept, legalOwn, isAbsolute, closesTarget, legalTarget, legalWithin, legal}
+use Rattle.path_grammar.specs.Own.{hasProperty}
 use Rattle.text.proofs.BoolLaws.{and-l, and-r, or-right}
+use Rattle.text.proofs.TextLaws.{last-snoc}
+use Rattle.text.proofs.UntilLaws.{drop-last-snoc}
 use Rattle.path_grammar.proofs.RunLaws.{run-app}
+use Rattle.path_grammar.proofs.OwnLaws.{own-all, target-none, own-after, target-after}
+use Rattle.path_grammar.proofs.LegalLaws.{own-unbracketed}
+use Rattle.path_grammar.proofs.RenderLacks.{dot-found}
 use Rattle.path_grammar.specs.Grammar as g
-use Rattle.path_grammar.specs.Grammar.{allCont, nameText, wordText, selectionText, selectionsText, primText, primSeparator, primsText, moreText, propertyText, render}
+use Rattle.path_grammar.specs.Grammar.{allCont, nameText, wordText, selectionText, selectionsText, primText, primSeparator, primsText, moreText, dottedText, propertyText, bracketText, absoluteText, render}
 
 -- A state that letters, digits and `_` do not leave.
 abbrev keeps : ScanState → Type 0
@@ -136,16 +142,57 @@ reads-property : (x : g.Property) → run Dot (nameText (x .first) ++ moreText (
 reads-property x = rw (run-app Dot (nameText (x .first)) (moreText (x .more)), from-dot (x .first)) (reads-more (x .more))
 
 accepts : (r : List g.Selection) (x : Option g.Property) → accept (run (after r) (propertyText x)) ≡ true
-unfolding accept run step propertyText isIdentifierStart isIdentifierCont
+unfolding accept run step propertyText dottedText isIdentifierStart isIdentifierCont
 accepts [] none = refl
 accepts (s ∷ r) none = refl
 accepts [] (some x) = rw (reads-property x)
 accepts (s ∷ r) (some x) = rw (reads-property x)
 
-pub legal-render : (p : g.Path) → legal (render p) ≡ true
-unfolding legal render
-legal-render g.empty = refl
-legal-render g.root = refl
-legal-render (g.prims p r x) =
+-- The text of an own part.
+pub own-render : (p : g.Prim) (r : List g.Prim) (x : Option g.Property) → legalOwn (47 ∷ (primsText p r ++ propertyText x)) ≡ true
+unfolding legalOwn
+own-render p r x =
     or-right (isNil (primsText p r ++ propertyText x)) (accept (run Slash (primsText p r ++ propertyText x)))
     (rw (run-app Slash (primsText p r) (propertyText x), reads-prims Slash from-slash p r) (accepts (last p r) x))
+
+-- The text of an own part and a target part is legal if the own part is, has a property, and the target is an absolute path that is legal one
+-- level deeper.
+bracket-legal : (d : ℕ) (o t : Text) → legalOwn o ≡ true → lacksByte 46 o ≡ false → isAbsolute t ≡ true → legalWithin d t ≡ true
+    → legalWithin (suc d) (o ++ bracketText t) ≡ true
+unfolding legalWithin legalTarget closesTarget bracketText hasProperty
+bracket-legal d o t lo n a l =
+    let u : lacksByte 91 o ≡ true = own-unbracketed o lo in
+    rw (
+      own-after o (91 ∷ (t ++ (93 ∷ []))) u,
+      target-after o (91 ∷ (t ++ (93 ∷ []))) u,
+      append-nil o,
+      lo,
+      n,
+      last-snoc 93 t 93,
+      drop-last-snoc t 93,
+      a,
+      l,
+    )
+
+absolute-render : {d : ℕ} (q : g.Absolute d) → isAbsolute (absoluteText q) ≡ true
+unfolding absoluteText
+absolute-render g.root = refl
+absolute-render (g.prims p r x) = refl
+absolute-render (g.target p r x q) = refl
+
+within-own : (d : ℕ) (t : Text) → legalOwn t ≡ true → legalWithin d t ≡ true
+unfolding legalWithin legalTarget
+within-own zero t e = e
+within-own (suc d) t e = let h : lacksByte 91 t ≡ true = own-unbracketed t e in rw (own-all t h, target-none t h, e)
+
+within-render : {d : ℕ} (q : g.Absolute d) → legalWithin d (absoluteText q) ≡ true
+unfolding absoluteText legalOwn propertyText dottedText
+within-render (g.root {d}) = within-own d (47 ∷ []) refl
+within-render (g.prims {d} p r x) = within-own d (47 ∷ (primsText p r ++ propertyText x)) (own-render p r x)
+within-render (g.target {d} p r x q) =
+    bracket-legal d (47 ∷ (primsText p r ++ dottedText x)) (absoluteText q) (own-render p r (some x)) (dot-found (47 ∷ primsText p r) (nameText (x .first) ++ moreText (x .more))) (absolute-render q) (within-render q)
+
+pub legal-render : (p : g.Path) → legal (render p) ≡ true
+unfolding legal legalWithin render
+legal-render g.empty = refl
+legal-render (g.absolute q) = within-render q

@@ -13,7 +13,7 @@ use lib.ListN.{length, getD, drop, drop-of-length-le}
 use lib.Seq.{drop-cons}
 use Rattle.text.specs.Text.{Text}
 use Rattle.text.proofs.BoolLaws.{and-l, and-r, or-false, upTo, at-each}
-use Rattle.path_grammar.specs.Legal.{ScanState, Name, Closed, Prop, Slash, Opened, Set, Equals, Sel, Dot, Dead, step, accept, run, legal}
+use Rattle.path_grammar.specs.Legal.{ScanState, Name, Closed, Prop, Slash, Opened, Set, Equals, Sel, Dot, Dead, step, accept, run, legalOwn}
 use Rattle.path_grammar.specs.PackedScan.{stateCode, packedSteps}
 
 -- The packed number of byte a holds the next state of state s at the bit offset of s.
@@ -154,24 +154,24 @@ on p k i m h w l e =
       rest = rw (add-one i) (rw (drop-cons p i 0 h) at (w .rest));
     }
 
-pub none : (p : Text) → length p ≡ 0 → true ≡ legal p
-unfolding legal
+pub none : (p : Text) → length p ≡ 0 → true ≡ legalOwn p
+unfolding legalOwn
 none [] h = refl
 none (a ∷ p) h = absurd (omega arith)
 
-pub other : (p : Text) → length p ≢ 0 → getD p 0 0 ≢ 47 → false ≡ legal p
-unfolding legal
+pub other : (p : Text) → length p ≢ 0 → getD p 0 0 ≢ 47 → false ≡ legalOwn p
+unfolding legalOwn
 other [] n h = absurd (n refl)
 other (a ∷ p) n h = rw (ne-eqb a 47 h)
 
-pub root : (p : Text) → getD p 0 0 ≡ 47 → length p ≡ 1 → true ≡ legal p
-unfolding legal
+pub root : (p : Text) → getD p 0 0 ≡ 47 → length p ≡ 1 → true ≡ legalOwn p
+unfolding legalOwn
 root [] h l = absurd (omega arith)
 root (a ∷ []) h l = rw h
 root (a ∷ c ∷ p) h l = absurd (omega arith)
 
-pub whole : (p : Text) (k i : ℕ) → getD p 0 0 ≡ 47 → length p ≢ 0 → length p ≢ 1 → Reads p k i → length p ≤ i → ltb (k % 64) 18 ≡ legal p
-unfolding legal run
+pub whole : (p : Text) (k i : ℕ) → getD p 0 0 ≡ 47 → length p ≢ 0 → length p ≢ 1 → Reads p k i → length p ≤ i → ltb (k % 64) 18 ≡ legalOwn p
+unfolding legalOwn run
 whole [] k i h n m w l = absurd (n refl)
 whole (x ∷ []) k i h n m w l = absurd (m refl)
 whole (x ∷ y ∷ p) k i h n m w l =

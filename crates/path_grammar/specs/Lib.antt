@@ -2,4 +2,5 @@
 pub mod Grammar
 pub mod Own
 pub mod Legal
+pub mod InnerText
 pub mod PackedScan

@@ -1,11 +1,14 @@
 // The path grammar: validates path texts (the role of Path::new in the Rust sdf/path.rs, with a narrower
 // grammar). The scan is a table-driven automaton that reads one byte at a time and keeps its state in
-// the low six bits of a number.
+// the low six bits of a number. It reads a path's own part; the path in brackets is checked apart.
 ghost use mathlib.Core.Path.{_≡_};
-ghost use mathlib.Core.Bool.{_&&_};
+ghost use mathlib.Core.Bool.{_&&_, not};
 ghost use Prim.Native.Nat.{_/_, _%_, _^_};
 ghost use lib.Dec.{leb};
-ghost use Rattle.path_grammar.specs.Legal.{isIdentifierStart, isIdentifierCont, isRoot, legal, isEnd};
+ghost use Rattle.path_grammar.specs.Legal.{isIdentifierStart, isIdentifierCont, isRoot, legalOwn, legalWithin, legal, isEnd};
+ghost use Rattle.text.specs.Text.{lacksByte};
+ghost use Rattle.text.specs.Bytes.{dot};
+ghost use Rattle.path_grammar.specs.InnerText.{innerText};
 ghost use Rattle.path_grammar.specs.PackedScan.{packedSteps, endByte};
 
 // The transition table: the next state of every state at the byte `a`, six bits for each. A match whose
@@ -41,9 +44,9 @@ fn next(s: u64, a: u8) -> u64
     row(a) >> (s % 64)
 }
 
-// Returns whether the text is a legal path, regardless of its length.
-pub fn is_legal(p: &[u8]) -> bool
-    ensures { λ r. ⌜ r ≡ legal (now (p .entry)) ⌝ }
+// Returns whether the text is a legal path without brackets.
+fn is_legal_own(p: &[u8]) -> bool
+    ensures { λ r. ⌜ r ≡ legalOwn (now (p .entry)) ⌝ }
 {
     if p.len() == 0 {
         return true;
@@ -61,6 +64,57 @@ pub fn is_legal(p: &[u8]) -> bool
         return s % 64 < 18;
     }
     false
+}
+
+// Returns whether the text is a legal path without brackets that has a property, which a target may
+// follow.
+fn is_legal_property(p: &[u8]) -> bool
+    ensures { λ r. ⌜ r ≡ (legalOwn (now (p .entry)) && not (lacksByte dot (now (p .entry)))) ⌝ }
+{
+    if !is_legal_own(p) {
+        return false;
+    }
+    !text::lacks_byte(p, b'.')
+}
+
+// Returns the text in the brackets of a path whose own part is legal and has a property; empty if there is
+// no such text. Only a text that ends in `]` can have brackets, so the last byte is tested first.
+fn inner_text(p: &[u8]) -> &[u8]
+    ensures { λ r. ⌜ now r ≡ innerText (now (p .entry)) ⌝ }
+{
+    if !text::last_is(p, b']') {
+        return &p[..0];
+    }
+    let m = text::find_byte(p, b'[');
+    if p.len() - m <= 1 {
+        return &p[..0];
+    }
+    if !is_legal_property(&p[..m]) {
+        return &p[..0];
+    }
+    &p[m + 1..p.len() - 1]
+}
+
+// Returns whether the text is a legal path with at most `depth` opening brackets: asks the same of the text in
+// the brackets, with the remaining depth falling.
+fn is_legal_within(p: &[u8], depth: usize) -> bool
+    ensures { λ r. ⌜ r ≡ legalWithin depth (now (p .entry)) ⌝ }
+{
+    let inner = inner_text(p);
+    if inner.len() == 0 {
+        return is_legal_own(p);
+    }
+    if depth == 0 {
+        return false;
+    }
+    is_legal_within(inner, depth - 1)
+}
+
+// Returns whether the text is a legal path, regardless of its length.
+pub fn is_legal(p: &[u8]) -> bool
+    ensures { λ r. ⌜ r ≡ legal (now (p .entry)) ⌝ }
+{
+    is_legal_within(p, 4)
 }
 
 // Like `row`, but treats `.` and `{` as bytes that no path contains.

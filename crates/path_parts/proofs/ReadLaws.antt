@@ -1,4 +1,4 @@
--- Lemmas about how the automaton reads legal texts, and about the bytes of names.
+-- Lemmas about how the automaton reads legal texts.
 use mathlib.Core.Path.{_≡_, refl, sym, _∙_}
 use mathlib.Core.Bool.{Bool, true, false, cond, true≢false}
 use mathlib.Core.List.{[], _∷_}
@@ -45,11 +45,3 @@ closes Closed r e = dies r e
 closes Dot r e = dies r e
 closes Prop r e = dies r e
 closes Dead r e = dies r e
-
--- Lemmas about the bytes of names.
-pub not-name : (a k : ℕ) → isIdentifierCont k ≡ false → isIdentifierCont a ≡ true → eqb a k ≡ false
-not-name a k n h = go (eqb a k) refl
-  where
-    go : (t : Bool) → eqb a k ≡ t → t ≡ false
-    go true e = absurd (true≢false (sym h ∙ rw (eqb-true a k e) n))
-    go false e = refl

@@ -21,61 +21,12 @@ use Rattle.path_structure.specs.Structure.{dropLastPart, pathOfPrims, an
 use Rattle.path_structure.proofs.PartLaws.{prims-named, prims-part}
 use Rattle.path_structure.proofs.ParentTheorem.{before-slash, prims-before, property-before, no-property-text, prims-name}
 
--- A name and a variant lack every byte that no name contains.
-module _ (b : ℕ) (no : isIdentifierCont b ≡ false) where
-  cont-lacks : (t : Text) → allCont t ≡ true → lacksByte b t ≡ true
-  unfolding allCont lacksByte
-  cont-lacks [] e = refl
-  cont-lacks (a ∷ t) e =
-      rw (not-name a b no (and-l (isIdentifierCont a) (allCont t) e)) (cont-lacks t (and-r (isIdentifierCont a) (allCont t) e))
-
-  pub name-lacks : (n : g.Name) → lacksByte b (nameText n) ≡ true
-  unfolding nameText lacksByte
-  name-lacks n = rw (not-name (n .first) b no (start-cont (n .first) (n .first-is))) (cont-lacks (n .more) (n .more-are))
-
-  pub word-lacks : (w : g.Word) → lacksByte b (wordText w) ≡ true
-  unfolding wordText lacksByte
-  word-lacks w = rw (not-name (w .first) b no (w .first-is)) (cont-lacks (w .more) (w .more-are))
-
--- Bytes that no name contains.
-dot-no-name : isIdentifierCont 46 ≡ false
-unfolding isIdentifierCont isIdentifierStart
-dot-no-name = refl
-
-pub close-no-name : isIdentifierCont 125 ≡ false
-unfolding isIdentifierCont isIdentifierStart
-close-no-name = refl
-
--- Prims lack the dot.
-selection-dotless : (s : g.Selection) → lacksByte 46 (selectionText s) ≡ true
-unfolding selectionText lacksByte
-selection-dotless s =
-    lacks-join 46 (nameText (s .variantSet)) (61 ∷ (wordText (s .variant) ++ (125 ∷ []))) (name-lacks 46 dot-no-name (s .variantSet))
-    (lacks-join 46 (wordText (s .variant)) (125 ∷ []) (word-lacks 46 dot-no-name (s .variant)) refl)
-
-selections-dotless : (r : List g.Selection) → lacksByte 46 (selectionsText r) ≡ true
-unfolding selectionsText lacksByte
-selections-dotless [] = refl
-selections-dotless (s ∷ r) = lacks-join 46 (selectionText s) (selectionsText r) (selection-dotless s) (selections-dotless r)
-
-prim-dotless : (p : g.Prim) → lacksByte 46 (primText p) ≡ true
-unfolding primText
-prim-dotless p = lacks-join 46 (nameText (p .name)) (selectionsText (p .selections)) (name-lacks 46 dot-no-name (p .name)) (selections-dotless (p .selections))
-
-separator-dotless : (r : List g.Selection) → lacksByte 46 (primSeparator r) ≡ true
-unfolding primSeparator lacksByte
-separator-dotless [] = refl
-separator-dotless (s ∷ r) = refl
-
-prims-dotless : (p : g.Prim) (r : List g.Prim) → lacksByte 46 (primsText p r) ≡ true
-unfolding primsText
-prims-dotless p [] = prim-dotless p
-prims-dotless p (q ∷ r) =
-    lacks-join 46 (primText p) (primSeparator (p .selections) ++ primsText q r) (prim-dotless p)
-    (lacks-join 46 (primSeparator (p .selections)) (primsText q r) (separator-dotless (p .selections)) (prims-dotless q r))
-
 -- So a path has a property exactly if its text has a dot.
 undotted : (p : g.Prim) (r : List g.Prim) → hasProperty (47 ∷ primsText p r) ≡ false
+unfolding lacksByte
+undotted p r = property-scan (47 ∷ primsText p r) ∙ ap not (prims-dotless p r)
+
+dotted : (p : g.Prim) (r : List g.Prim) → hasProperty (47 ∷ primsText p r) ≡ false
 unfolding lacksByte
 undotted p r = property-scan (47 ∷ primsText p r) ∙ ap not (prims-dotless p r)
 

@@ -84,6 +84,15 @@ module _ (b : ℕ) where
       go true h ih = rw h
       go false h ih = ih
 
+  pub drop-until-head : (p : Text) (a : ℕ) (r : Text) → dropUntil b p ≡ a ∷ r → a ≡ b
+  unfolding dropUntil
+  drop-until-head [] a r e = absurd (omega (arith, ap length e))
+  drop-until-head (c ∷ p) a r e = go (eqb c b) refl (drop-until-head p a r)
+    where
+      go : (t : Bool) → eqb c b ≡ t → (dropUntil b p ≡ a ∷ r → a ≡ b) → a ≡ b
+      go true h ih = let k : c ∷ p ≡ a ∷ r = rw h at e in let i : c ≡ b = eqb-true c b h in cc
+      go false h ih = ih (rw h at e)
+
   -- The parts as slices of the text.
   pub take-until-slice : (p : Text) → take (length (takeUntil b p)) p ≡ takeUntil b p
   take-until-slice p = ap (take (length (takeUntil b p))) (sym (until-parts p)) ∙ take-append-seam (takeUntil b p) (dropUntil b p)
