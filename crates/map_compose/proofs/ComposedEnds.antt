@@ -6,16 +6,16 @@ use mathlib.Core.Option.{Option, none, some}
 use Prim.Native.Nat.{ℕ, zero, suc}
 use lib.Dec.{eqb}
 use lib.ListN.{length, take, drop}
-use lib.Seq.{take-nil}
 use Rattle.text.specs.Text.{Text, isNil, lacksByte}
 use Rattle.text.proofs.BoolLaws.{and-l, and-r, and-no, not-true}
-use Rattle.text.proofs.TextLaws.{no-text, lacks-first, lacks-rest, lacks-after, lacks-join}
+use Rattle.text.proofs.TextLaws.{no-text, lacks-first, lacks-after}
 use Rattle.path_grammar.specs.Legal.{isRoot, legal, isEnd}
 use Rattle.path_grammar.proofs.LegalLaws.{end-scan, end-legal, end-lacks, end-undotted}
 use Rattle.path_prefix.specs.Prefix.{hasPrefix, canFollow}
-use Rattle.path_join.specs.Join.{separatorLen, separator, body, join, replacePrefix, startsSuffix, joinIllegal}
+use Rattle.path_join.specs.Join.{join, replacePrefix, startsSuffix, joinIllegal}
 use Rattle.path_prefix.proofs.PrefixLaws.{prefix-rest}
 use Rattle.path_join.proofs.ReplaceLaws.{replace-prefix}
+use Rattle.path_join.proofs.TailLaws.{join-lacks}
 use Rattle.path_join.proofs.JoinLegal.{join-legal}
 use Rattle.pair_list.specs.Pair.{Pair, everyEnd, allEnds}
 use Rattle.pair_list.specs.LongestMatch.{longestMatch, matches}
@@ -24,30 +24,6 @@ use Rattle.map_spec.specs.Map.{Map, mapSource, mapTarget, mapSize, mapBy, match
 use Rattle.map_spec.proofs.EndLaws.{ends-source, ends-target}
 use Rattle.map_compose.specs.Calls.{ComposedEnds}
 use Rattle.compose_pairs.proofs.EveryLaws.{composed-every}
-
--- A byte other than the slash that is in neither text is not in their join.
-slash-lacks : (b : ℕ) → eqb 47 b ≡ false → (k : ℕ) → lacksByte b (take k (47 ∷ [])) ≡ true
-unfolding lacksByte
-slash-lacks b h zero = refl
-slash-lacks b h (suc k) = rw (h, take-nil k)
-
-separator-lacks : (b : ℕ) → eqb 47 b ≡ false → (s t r : Text) → lacksByte b (separator s t r) ≡ true
-unfolding separator
-separator-lacks b h s t r = slash-lacks b h (separatorLen s t r)
-
-body-lacks : (b : ℕ) (s r : Text) → lacksByte b r ≡ true → lacksByte b (body s r) ≡ true
-unfolding body
-body-lacks b s [] e = e
-body-lacks b s (a ∷ r) e = go (not (isRoot s) && eqb a 47)
-  where
-    go : (c : Bool) → lacksByte b (cond c r (a ∷ r)) ≡ true
-    go true = lacks-rest b a r e
-    go false = e
-
-join-lacks : (b : ℕ) → eqb 47 b ≡ false → (s t r : Text) → lacksByte b t ≡ true → lacksByte b r ≡ true → lacksByte b (join s t r) ≡ true
-unfolding join
-join-lacks b h s t r e f =
-    lacks-join b t (separator s t r ++ body s r) e (lacks-join b (separator s t r) (body s r) (separator-lacks b h s t r) (body-lacks b s r f))
 
 -- The remainder after a prefix of an end begins with no property and no selection.
 no-suffix : (r : Text) → lacksByte 123 r ≡ true → lacksByte 46 r ≡ true → startsSuffix r ≡ false
@@ -63,7 +39,7 @@ join-end s t r ep es ns et f =
     let g : lacksByte 46 r ≡ true = lacks-after 46 s r (end-undotted (s ++ r) ep) in
     let l : legal (join s t r) ≡ true
     = join-legal s t r (end-legal (s ++ r) ep) es ns et f ∙ ap not (ap (λ (b : Bool). (isNil t || isRoot t) && b) (no-suffix r e g) ∙ and-no (isNil t || isRoot t)) in
-    rw (end-scan (join s t r), l, join-lacks 123 refl s t r (end-lacks t et) e, join-lacks 46 refl s t r (end-undotted t et) g)
+    rw (end-scan (join s t r), l, join-lacks 123 refl s t r (end-lacks t et), e, join-lacks 46 refl s t r (end-undotted t et), g)
 
 replaced-end : (p s t q : Text) → isEnd p ≡ true → isEnd s ≡ true → isNil s ≡ false → isEnd t ≡ true → hasPrefix p s ≡ true → replacePrefix p s t ≡ some q
     → isEnd q ≡ true

@@ -9,7 +9,7 @@ use borrow.Author.Tests.{eqb-true}
 use Rattle.text.specs.Text.{Text}
 use Rattle.path_grammar.specs.Legal.{ScanState, Slash, Name, Opened, Set, Equals, Sel, Closed, Dot, Prop, Dead, isIdentifierStart, isIdentifierCont, step, run, accept}
 use Rattle.path_grammar.specs.Grammar as g
-use Rattle.path_grammar.specs.Grammar.{allCont, nameText, wordText, selectionText, selectionsText, primText, primSeparator, primsText, moreText, propertyText, dottedText}
+use Rattle.path_grammar.specs.Grammar.{allCont, nameText, wordText, selectionText, selectionsText, primText, primSeparator, primsText, moreText, propertyText}
 use Rattle.path_grammar.proofs.RunLaws.{dead-refuses}
 
 -- The remaining bytes of a name.
@@ -138,11 +138,11 @@ more-selection n w x =
     ∙ selection-text (record { variantSet = n; variant = w }) (afterSelection x)
 
 property-name : (n : g.Name) (r : List g.Name) → afterName (with-property n r) ≡ 46 ∷ (nameText n ++ moreText r)
-unfolding with-property afterName follow selectionsText propertyText dottedText
+unfolding with-property afterName follow selectionsText propertyText
 property-name n r = refl
 
 property-selection : (n : g.Name) (r : List g.Name) → afterSelection (with-property n r) ≡ 46 ∷ (nameText n ++ moreText r)
-unfolding with-property afterSelection follow selectionsText propertyText dottedText
+unfolding with-property afterSelection follow selectionsText propertyText
 property-selection n r = refl
 
 -- One more byte in front.

@@ -4,9 +4,9 @@ use mathlib.Core.Bool.{true, false}
 use mathlib.Core.List.{List, [], _∷_, _++_, append-nil}
 use mathlib.Core.Option.{Option, none, some}
 use Prim.Native.Nat.{ℕ, zero, suc}
-use Rattle.text.specs.Text.{Text, isNil, lacksByte}
+use Rattle.text.specs.Text.{Text, isNil, lacksByte, takeUntil, dropUntil}
 use Rattle.path_grammar.specs.Legal.{ScanState, Slash, Name, Opened, Set, Equals, Sel, Closed, Dot, Prop, isIdentifierStart, isIdentifierCont, step, run, accept, legalOwn, isAbsolute, closesTarget, legalTarget, legalWithin, legal}
-use Rattle.path_grammar.specs.Own.{hasProperty}
+use Rattle.path_grammar.specs.Own.{ownPart, targetPart, hasProperty}
 use Rattle.text.proofs.BoolLaws.{and-l, and-r, or-right}
 use Rattle.text.proofs.TextLaws.{last-snoc}
 use Rattle.text.proofs.UntilLaws.{drop-last-snoc}
@@ -15,7 +15,7 @@ use Rattle.path_grammar.proofs.OwnLaws.{own-all, target-none, own-after
 use Rattle.path_grammar.proofs.LegalLaws.{own-unbracketed}
 use Rattle.path_grammar.proofs.RenderLacks.{dot-found}
 use Rattle.path_grammar.specs.Grammar as g
-use Rattle.path_grammar.specs.Grammar.{allCont, nameText, wordText, selectionText, selectionsText, primText, primSeparator, primsText, moreText, dottedText, propertyText, bracketText, absoluteText, render}
+use Rattle.path_grammar.specs.Grammar.{allCont, nameText, wordText, selectionText, selectionsText, primText, primSeparator, primsText, moreText, propertyText, ownText, bracketText, absoluteText, render}
 
 -- A state that letters, digits and `_` do not leave.
 abbrev keeps : ScanState → Type 0
@@ -142,15 +142,15 @@ reads-property : (x : g.Property) → run Dot (nameText (x .first) ++ moreText (
 reads-property x = rw (run-app Dot (nameText (x .first)) (moreText (x .more)), from-dot (x .first)) (reads-more (x .more))
 
 accepts : (r : List g.Selection) (x : Option g.Property) → accept (run (after r) (propertyText x)) ≡ true
-unfolding accept run step propertyText dottedText isIdentifierStart isIdentifierCont
+unfolding accept run step propertyText isIdentifierStart isIdentifierCont
 accepts [] none = refl
 accepts (s ∷ r) none = refl
 accepts [] (some x) = rw (reads-property x)
 accepts (s ∷ r) (some x) = rw (reads-property x)
 
 -- The text of an own part.
-pub own-render : (p : g.Prim) (r : List g.Prim) (x : Option g.Property) → legalOwn (47 ∷ (primsText p r ++ propertyText x)) ≡ true
-unfolding legalOwn
+pub own-render : (p : g.Prim) (r : List g.Prim) (x : Option g.Property) → legalOwn (ownText p r x) ≡ true
+unfolding legalOwn ownText
 own-render p r x =
     or-right (isNil (primsText p r ++ propertyText x)) (accept (run Slash (primsText p r ++ propertyText x)))
     (rw (run-app Slash (primsText p r) (propertyText x), reads-prims Slash from-slash p r) (accepts (last p r) x))
@@ -175,7 +175,7 @@ bracket-legal d o t lo n a l =
     )
 
 absolute-render : {d : ℕ} (q : g.Absolute d) → isAbsolute (absoluteText q) ≡ true
-unfolding absoluteText
+unfolding absoluteText ownText
 absolute-render g.root = refl
 absolute-render (g.prims p r x) = refl
 absolute-render (g.target p r x q) = refl
@@ -185,14 +185,40 @@ unfolding legalWithin legalTarget
 within-own zero t e = e
 within-own (suc d) t e = let h : lacksByte 91 t ≡ true = own-unbracketed t e in rw (own-all t h, target-none t h, e)
 
+-- A path with a property has a dot.
+pub own-dotted : (p : g.Prim) (r : List g.Prim) (x : g.Property) → lacksByte 46 (ownText p r (some x)) ≡ false
+unfolding ownText propertyText
+own-dotted p r x = dot-found (47 ∷ primsText p r) (nameText (x .first) ++ moreText (x .more))
+
 within-render : {d : ℕ} (q : g.Absolute d) → legalWithin d (absoluteText q) ≡ true
-unfolding absoluteText legalOwn propertyText dottedText
+unfolding absoluteText legalOwn
 within-render (g.root {d}) = within-own d (47 ∷ []) refl
-within-render (g.prims {d} p r x) = within-own d (47 ∷ (primsText p r ++ propertyText x)) (own-render p r x)
+within-render (g.prims {d} p r x) = within-own d (ownText p r x) (own-render p r x)
 within-render (g.target {d} p r x q) =
-    bracket-legal d (47 ∷ (primsText p r ++ dottedText x)) (absoluteText q) (own-render p r (some x)) (dot-found (47 ∷ primsText p r) (nameText (x .first) ++ moreText (x .more))) (absolute-render q) (within-render q)
+    bracket-legal d (ownText p r (some x)) (absoluteText q) (own-render p r (some x)) (own-dotted p r x) (absolute-render q) (within-render q)
 
 pub legal-render : (p : g.Path) → legal (render p) ≡ true
 unfolding legal legalWithin render
 legal-render g.empty = refl
 legal-render (g.absolute q) = within-render q
+
+-- The two parts of a path's text.
+module _ (p : g.Prim) (r : List g.Prim) where
+  pub own-unbracketed-text : (x : Option g.Property) → lacksByte 91 (ownText p r x) ≡ true
+  own-unbracketed-text x = own-unbracketed (ownText p r x) (own-render p r x)
+
+  pub own-prims : (x : Option g.Property) → ownPart (ownText p r x) ≡ ownText p r x
+  own-prims x = own-all (ownText p r x) (own-unbracketed-text x)
+
+  pub target-prims : (x : Option g.Property) → targetPart (ownText p r x) ≡ []
+  target-prims x = target-none (ownText p r x) (own-unbracketed-text x)
+
+  module _ (x : g.Property) (t : Text) where
+    pub own-target : ownPart (ownText p r (some x) ++ bracketText t) ≡ ownText p r (some x)
+    unfolding bracketText ownPart takeUntil
+    own-target =
+        own-after (ownText p r (some x)) (bracketText t) (own-unbracketed-text (some x)) ∙ append-nil (ownText p r (some x))
+
+    pub target-target : targetPart (ownText p r (some x) ++ bracketText t) ≡ bracketText t
+    unfolding bracketText targetPart dropUntil
+    target-target = target-after (ownText p r (some x)) (bracketText t) (own-unbracketed-text (some x))

@@ -12,7 +12,7 @@ use Rattle.text.proofs.UntilLaws.{last-split}
 use Rattle.path_grammar.specs.Own.{ownPart, targetPart, hasProperty}
 use Rattle.path_grammar.specs.Legal.{Slash, run, accept, legalOwn, isAbsolute, closesTarget, legalTarget, legalWithin, legal}
 use Rattle.path_grammar.specs.Grammar as g
-use Rattle.path_grammar.specs.Grammar.{Rendered, LegalIsRendered, primsText, dottedText, propertyText, bracketText, absoluteText, render}
+use Rattle.path_grammar.specs.Grammar.{Rendered, LegalIsRendered, primsText, propertyText, ownText, bracketText, absoluteText, render}
 use Rattle.path_grammar.proofs.OwnLaws.{own-parts, own-all, property-scan, target-head}
 use Rattle.path_grammar.proofs.LegalLaws.{absolute-first}
 use Rattle.path_grammar.proofs.RenderLacks.{prims-dotless}
@@ -26,7 +26,7 @@ record RenderedAbsolute (d : ℕ) (s : Text) : Type 0 where
 
 -- A legal own part.
 own-written : (d : ℕ) (s : Text) → isAbsolute s ≡ true → legalOwn s ≡ true → RenderedAbsolute d s
-unfolding legalOwn absoluteText
+unfolding legalOwn absoluteText ownText
 own-written d [] a e = absurd (false≢true a)
 own-written d (c ∷ []) a e = let q : c ≡ 47 = eqb-true c 47 a in record { path = g.root; same = cc }
 own-written d (c ∷ b ∷ r) a e =
@@ -39,10 +39,10 @@ record RenderedProperty (o : Text) : Type 0 where
   prim : g.Prim
   more : List g.Prim
   property : g.Property
-  same : 47 ∷ (primsText prim more ++ dottedText property) ≡ o
+  same : ownText prim more (some property) ≡ o
 
 property-written : (o : Text) → legalOwn o ≡ true → lacksByte 46 o ≡ false → RenderedProperty o
-unfolding legalOwn lacksByte propertyText
+unfolding legalOwn lacksByte ownText
 property-written [] e n = absurd (true≢false n)
 property-written (c ∷ []) e n = absurd (true≢false (rw (eqb-true c 47 (and-l (eqb c 47) true e)) at n))
 property-written (c ∷ b ∷ r) e n = go (w .property) (w .same)

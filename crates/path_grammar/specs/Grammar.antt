@@ -104,16 +104,16 @@ unfolding nameText
 moreText [] = []
 moreText (n ∷ r) = colon ∷ (nameText n ++ moreText r)
 
--- The text of a property.
-unfoldable pub dottedText : Property → Text
-unfolding nameText moreText
-dottedText x = dot ∷ (nameText (x .first) ++ moreText (x .more))
-
 -- The text of a property, if there is one.
 unfoldable pub propertyText : Option Property → Text
-unfolding dottedText
+unfolding nameText moreText
 propertyText none = []
-propertyText (some x) = dottedText x
+propertyText (some x) = dot ∷ (nameText (x .first) ++ moreText (x .more))
+
+-- The text of prims and perhaps a property: the own part of a path.
+unfoldable pub ownText : Prim → List Prim → Option Property → Text
+unfolding primsText propertyText
+ownText p r x = slash ∷ (primsText p r ++ propertyText x)
 
 -- The text of a path in brackets, with the brackets.
 unfoldable pub bracketText : Text → Text
@@ -121,10 +121,10 @@ bracketText t = openBracket ∷ (t ++ (closeBracket ∷ []))
 
 -- The text of an absolute path.
 unfoldable pub absoluteText : {d : ℕ} → Absolute d → Text
-unfolding primsText propertyText dottedText bracketText
+unfolding ownText bracketText
 absoluteText root = slash ∷ []
-absoluteText (prims p r x) = slash ∷ (primsText p r ++ propertyText x)
-absoluteText (target p r x q) = (slash ∷ (primsText p r ++ dottedText x)) ++ bracketText (absoluteText q)
+absoluteText (prims p r x) = ownText p r x
+absoluteText (target p r x q) = ownText p r (some x) ++ bracketText (absoluteText q)
 
 -- The text of a path.
 unfoldable pub render : Path → Text

@@ -8,13 +8,13 @@ use native.Mathlib.Omega.{arith}
 use lib.Dec.{eqb}
 use lib.ListN.{length, take, drop}
 use borrow.Author.Tests.{eqb-true}
-use Rattle.text.specs.Text.{Text, isNil, endsWithByte, lacksByte}
+use Rattle.text.specs.Text.{Text, isNil, endsWithByte, lacksByte, takeUntil}
 use Rattle.text.proofs.BoolLaws.{and-no, or-false}
-use Rattle.text.proofs.TextLaws.{last-snoc, lacks-first, lacks-after, lacks-join}
-use Rattle.path_grammar.specs.Own.{hasVariantSelection}
+use Rattle.text.proofs.TextLaws.{last-snoc, lacks-after}
+use Rattle.path_grammar.specs.Own.{ownPart, hasVariantSelection}
 use Rattle.path_grammar.specs.Legal.{isIdentifierCont, isRoot, legal, isEnd}
-use Rattle.path_grammar.proofs.OwnLaws.{free-lacks, lacks-free}
-use Rattle.path_grammar.proofs.LegalLaws.{no-root-dot, legal-last, end-lacks, end-close, root-is}
+use Rattle.path_grammar.proofs.OwnLaws.{no-selection, own-after, lacks-own-after}
+use Rattle.path_grammar.proofs.LegalLaws.{no-root-dot, legal-last, end-lacks, end-close, end-unbracketed, end-no-selection, root-is}
 use Rattle.path_prefix.specs.Prefix.{canFollow, hasPrefix}
 use Rattle.path_join.specs.Join.{join, replacePrefix}
 use Rattle.path_prefix.specs.Elements.{countElements}
@@ -111,8 +111,20 @@ after-dot s t r h es lq = go (isRoot t) refl
     go true k = absurd (no-root-dot r (rw (is, root-is t k) at lq))
     go false k = rw is (dotted r h k)
 
+-- What follows an end in a path without selections of its own does not begin with `{`.
+no-open : (s : Text) (a : ℕ) (r : Text) → isEnd s ≡ true → hasVariantSelection (s ++ a ∷ r) ≡ false → eqb a 123 ≡ false
+unfolding ownPart takeUntil lacksByte
+no-open s a r es f = go (eqb a 123) refl
+  where
+    after : lacksByte 123 (ownPart (a ∷ r)) ≡ true
+    after = lacks-after 123 s (ownPart (a ∷ r)) (rw (own-after s (a ∷ r) (end-unbracketed s es)) at (no-selection (s ++ a ∷ r) .0 f))
+
+    go : (b : Bool) → eqb a 123 ≡ b → b ≡ false
+    go true h = absurd (false≢true (rw (eqb-true a 123 h) at after))
+    go false h = refl
+
 -- A path s ++ r, where r may follow s, is related to the joined text.
-pub rests : (s t r : Text) → isNil s ≡ false → isEnd s ≡ true → isEnd t ≡ true → legal (s ++ r) ≡ true → lacksByte 123 (s ++ r) ≡ true
+pub rests : (s t r : Text) → isNil s ≡ false → isEnd s ≡ true → isEnd t ≡ true → legal (s ++ r) ≡ true → hasVariantSelection (s ++ r) ≡ false
     → canFollow s r ≡ true → legal (join s t r) ≡ true → Rel s t (s ++ r) (join s t r)
 unfolding canFollow
 rests s t [] n es et lp f j lq = rw (join-none s t, append-nil s) whole
@@ -120,7 +132,7 @@ rests s t (a ∷ r) n es et lp f j lq = root (isRoot s) refl
   where
     dot : (b : Bool) → isRoot s ≡ false → eqb a 47 ≡ false → eqb a 46 ≡ b → Rel s t (s ++ a ∷ r) (join s t (a ∷ r))
     dot true h k e = rw (eqb-true a 46 e) (after-dot s t r h es (rw (eqb-true a 46 e) at lq))
-    dot false h k e = absurd (false≢true (rw (h, k, e, lacks-first 123 a r (lacks-after 123 s (a ∷ r) f), end-close s es) at j))
+    dot false h k e = absurd (false≢true (rw (h, k, e, no-open s a r es f, end-close s es) at j))
 
     slash : (b : Bool) → isRoot s ≡ false → eqb a 47 ≡ b → Rel s t (s ++ a ∷ r) (join s t (a ∷ r))
     slash true h k = rw (eqb-true a 47 k) (under-slash s t r n h et (rw (eqb-true a 47 k) at lp))
@@ -139,7 +151,7 @@ replaced p s t q n es et lp f e lq = go (drop (length s) p) (prefix-rest p s h .
     h = replaced-prefix p s t q e
 
     go : (r : Text) → p ≡ s ++ r → canFollow s r ≡ true → some (join s t r) ≡ some q → Rel s t p q
-    go r k j i = let m : join s t r ≡ q = cc in rw (k, ← m) (rests s t r n es et (rw k at lp) (rw k at (free-lacks p f)) j (rw (← m) at lq))
+    go r k j i = let m : join s t r ≡ q = cc in rw (k, ← m) (rests s t r n es et (rw k at lp) (rw k at f) j (rw (← m) at lq))
 
 count-stem : (f : Bool) (s y : Text) → isEnd s ≡ true → countElements f (stem s ++ 47 ∷ y) ≡ countElements f s + countElements f (47 ∷ y)
 unfolding isIdentifierCont
@@ -156,20 +168,26 @@ weigh f whole es et = omega arith
 weigh {s} {t} f (under x r) es et = omega (arith, count-stem f s (x ∷ r) es, count-stem f t (x ∷ r) et)
 weigh {s} {t} f (dotted r h k) es et = omega (arith, count-after f s 46 r refl es h, count-after f t 46 r refl et k)
 
-stem-lacks : (t : Text) → lacksByte 123 t ≡ true → lacksByte 123 (stem t) ≡ true
+-- A text without brackets before a remainder, and another without selections before the same: if the first path has no selection of its own,
+-- the second has none.
+selection-moves : (x y r : Text) → lacksByte 91 x ≡ true → lacksByte 91 y ≡ true → lacksByte 123 y ≡ true → hasVariantSelection (x ++ r) ≡ false
+    → hasVariantSelection (y ++ r) ≡ false
+selection-moves x y r hx hy f e =
+    no-selection (y ++ r) .1
+    (lacks-own-after y r hy 123 f ∙ lacks-after 123 x (ownPart r) (rw (own-after x r hx) at (no-selection (x ++ r) .0 e)))
+
+stem-lacks : (b : ℕ) (t : Text) → lacksByte b t ≡ true → lacksByte b (stem t) ≡ true
 unfolding stem lacksByte
-stem-lacks t f = go (isRoot t)
+stem-lacks b t f = go (isRoot t)
   where
-    go : (b : Bool) → lacksByte 123 (cond b [] t) ≡ true
+    go : (c : Bool) → lacksByte b (cond c [] t) ≡ true
     go true = refl
     go false = f
 
--- If p has no selection, q has none.
-still-lacks : {s t p q : Text} → Rel s t p q → isEnd t ≡ true → lacksByte 123 p ≡ true → lacksByte 123 q ≡ true
-still-lacks {s} {t} whole et f = end-lacks t et
-still-lacks {s} {t} (under x r) et f =
-    lacks-join 123 (stem t) (47 ∷ x ∷ r) (stem-lacks t (end-lacks t et)) (lacks-after 123 (stem s) (47 ∷ x ∷ r) f)
-still-lacks {s} {t} (dotted r h k) et f = lacks-join 123 t (46 ∷ r) (end-lacks t et) (lacks-after 123 s (46 ∷ r) f)
-
-pub still-free : {s t p q : Text} → Rel s t p q → isEnd t ≡ true → hasVariantSelection p ≡ false → hasVariantSelection q ≡ false
-still-free {s} {t} {p} {q} r et f = lacks-free q (still-lacks r et (free-lacks p f))
+-- If p has no selection of its own, q has none.
+pub still-free : {s t p q : Text} → Rel s t p q → isEnd s ≡ true → isEnd t ≡ true → hasVariantSelection p ≡ false → hasVariantSelection q ≡ false
+still-free {s} {t} whole es et f = end-no-selection t et
+still-free {s} {t} (under x r) es et f =
+    selection-moves (stem s) (stem t) (47 ∷ x ∷ r) (stem-lacks 91 s (end-unbracketed s es)) (stem-lacks 91 t (end-unbracketed t et))
+    (stem-lacks 123 t (end-lacks t et)) f
+still-free {s} {t} (dotted r h k) es et f = selection-moves s t (46 ∷ r) (end-unbracketed s es) (end-unbracketed t et) (end-lacks t et) f

@@ -8,11 +8,14 @@ use borrow.Author.Tests.{eqb-true}
 use Rattle.text.specs.Text.{Text, isNil, lacksByte}
 use Rattle.text.proofs.BoolLaws.{and-l, and-r, and-no, and-yes, or-right, or-false}
 use Rattle.text.proofs.TextLaws.{lacks-first, lacks-rest}
-use Rattle.path_grammar.specs.Legal.{ScanState, Slash, Name, Dead, isIdentifierStart, isIdentifierCont, step, run, accept, isRoot, legal, isEnd}
+use Rattle.path_grammar.specs.Own.{ownPart, targetPart, hasProperty}
+use Rattle.path_grammar.specs.Legal.{ScanState, Slash, Name, Dead, isIdentifierStart, isIdentifierCont, step, run, accept, isRoot, legalOwn, legal, isEnd}
 use Rattle.path_grammar.proofs.RunLaws.{run-app, run-dead}
-use Rattle.path_grammar.proofs.LegalLaws.{end-legal, end-lacks, end-close, root-is, end-undotted}
+use Rattle.path_grammar.proofs.LegalLaws.{legal-own-part, legal-as, end-legal, end-own-legal, end-unbracketed, end-lacks, end-close, root-is, end-undotted}
+use Rattle.path_grammar.proofs.OwnLaws.{own-lacks, own-after, target-after, lacks-own-after, own-of, target-of, property-scan}
 use Rattle.path_prefix.specs.Prefix.{canFollow}
 use Rattle.path_join.specs.Join.{join, joinIllegal, JoinLegal}
+use Rattle.path_join.proofs.TailLaws.{own-cons, join-lacks, join-own, no-bracket}
 use Rattle.path_join.proofs.JoinLaws.{stem, stem-root, stem-not, join-none, join-root, join-slash, join-other}
 
 -- Without `{` and `.` the automaton reaches only three states.
@@ -49,45 +52,45 @@ in-name a b x e h =
     let s : Text = a ∷ b ∷ x in
     accepts-name (reads-plain slash (b ∷ x) (lacks-rest 123 a (b ∷ x) (end-lacks s e)) (lacks-rest 46 a (b ∷ x) (end-undotted s e))) h
 
-pub after-end : (s y : Text) → isEnd s ≡ true → isNil s ≡ false → isRoot s ≡ false → legal (s ++ y) ≡ accept (run Name y)
-unfolding legal
+pub after-end : (s y : Text) → isEnd s ≡ true → isNil s ≡ false → isRoot s ≡ false → legalOwn (s ++ y) ≡ accept (run Name y)
+unfolding legalOwn
 after-end [] y e n h = absurd (true≢false n)
-after-end (a ∷ []) y e n h = absurd (true≢false (sym (end-legal (a ∷ []) e) ∙ h))
+after-end (a ∷ []) y e n h = absurd (true≢false (sym (end-own-legal (a ∷ []) e) ∙ h))
 after-end (a ∷ b ∷ x) y e n h =
     let c : Bool = accept (run Slash (b ∷ x)) in
-    let l : (eqb a 47 && c) ≡ true = end-legal (a ∷ b ∷ x) e in
+    let l : (eqb a 47 && c) ≡ true = end-own-legal (a ∷ b ∷ x) e in
     rw (and-l (eqb a 47) c l, run-app Slash (b ∷ x) y, in-name a b x e (and-r (eqb a 47) c l))
 
 -- A text that may follow a slash may follow an end and a slash.
-under-stem : (t y : Text) → isEnd t ≡ true → accept (run Slash y) ≡ true → legal (stem t ++ 47 ∷ y) ≡ true
-unfolding legal run step isIdentifierCont
+under-stem : (t y : Text) → isEnd t ≡ true → accept (run Slash y) ≡ true → legalOwn (stem t ++ 47 ∷ y) ≡ true
+unfolding legalOwn run step isIdentifierCont
 under-stem [] y et e = rw (stem-not [] (47 ∷ y) refl) (or-right (isNil y) (accept (run Slash y)) e)
 under-stem (c ∷ t) y et e = go (isRoot (c ∷ t)) refl
   where
-    go : (b : Bool) → isRoot (c ∷ t) ≡ b → legal (stem (c ∷ t) ++ 47 ∷ y) ≡ true
+    go : (b : Bool) → isRoot (c ∷ t) ≡ b → legalOwn (stem (c ∷ t) ++ 47 ∷ y) ≡ true
     go true h = rw (root-is (c ∷ t) h, stem-root) (or-right (isNil y) (accept (run Slash y)) e)
     go false h = rw (stem-not (c ∷ t) (47 ∷ y) h) (after-end (c ∷ t) (47 ∷ y) et refl h ∙ e)
 
--- The part of a legal text after its first slash is accepted.
-slash-legal : (a : ℕ) (r : Text) → legal (47 ∷ a ∷ r) ≡ true → accept (run Slash (a ∷ r)) ≡ true
-unfolding legal
+-- The part of a legal text without brackets after its first slash is accepted.
+slash-legal : (a : ℕ) (r : Text) → legalOwn (47 ∷ a ∷ r) ≡ true → accept (run Slash (a ∷ r)) ≡ true
+unfolding legalOwn
 slash-legal a r e = e
 
 -- `.` and `{` may not follow `/`.
-dies : (a : ℕ) (r : Text) → step Slash a ≡ Dead → legal (47 ∷ a ∷ r) ≡ false
-unfolding legal run accept
+dies : (a : ℕ) (r : Text) → step Slash a ≡ Dead → legalOwn (47 ∷ a ∷ r) ≡ false
+unfolding legalOwn run accept
 dies a r h = ap (λ (s : ScanState). accept (run s r)) h ∙ rw (run-dead r)
 
-suffix-dies : (a : ℕ) (r : Text) → (eqb a 46 || eqb a 123) ≡ true → legal (47 ∷ a ∷ r) ≡ false
+suffix-dies : (a : ℕ) (r : Text) → (eqb a 46 || eqb a 123) ≡ true → legalOwn (47 ∷ a ∷ r) ≡ false
 unfolding step isIdentifierStart
 suffix-dies a r h = go (eqb a 46) (eqb a 123) refl refl h
   where
-    go : (b c : Bool) → eqb a 46 ≡ b → eqb a 123 ≡ c → (b || c) ≡ true → legal (47 ∷ a ∷ r) ≡ false
+    go : (b c : Bool) → eqb a 46 ≡ b → eqb a 123 ≡ c → (b || c) ≡ true → legalOwn (47 ∷ a ∷ r) ≡ false
     go true c e f h = rw (eqb-true a 46 e) (dies 46 r refl)
     go false true e f h = rw (eqb-true a 123 f) (dies 123 r refl)
     go false false e f h = absurd (false≢true h)
 
-no-suffix : (a : ℕ) (r : Text) → legal (47 ∷ a ∷ r) ≡ true → (eqb a 46 || eqb a 123) ≡ false
+no-suffix : (a : ℕ) (r : Text) → legalOwn (47 ∷ a ∷ r) ≡ true → (eqb a 46 || eqb a 123) ≡ false
 no-suffix a r l = go (eqb a 46 || eqb a 123) refl
   where
     go : (b : Bool) → (eqb a 46 || eqb a 123) ≡ b → b ≡ false
@@ -96,33 +99,73 @@ no-suffix a r l = go (eqb a 46 || eqb a 123) refl
 
 -- A remainder that begins with `.` or `{` may follow only a prim path.
 suffix-legal : (t : Text) (a : ℕ) (r : Text) → isEnd t ≡ true → eqb a 47 ≡ false → (eqb a 46 || eqb a 123) ≡ true → accept (run Name (a ∷ r)) ≡ true
-    → legal (t ++ a ∷ r) ≡ not (isNil t || isRoot t)
-unfolding legal
+    → legalOwn (t ++ a ∷ r) ≡ not (isNil t || isRoot t)
+unfolding legalOwn
 suffix-legal [] a r et k g e = rw k
 suffix-legal (c ∷ t) a r et k g e = go (isRoot (c ∷ t)) refl
   where
-    go : (b : Bool) → isRoot (c ∷ t) ≡ b → legal ((c ∷ t) ++ a ∷ r) ≡ not b
-    go true i = ap (λ (x : Text). legal (x ++ a ∷ r)) (root-is (c ∷ t) i) ∙ suffix-dies a r g
+    go : (b : Bool) → isRoot (c ∷ t) ≡ b → legalOwn ((c ∷ t) ++ a ∷ r) ≡ not b
+    go true i = ap (λ (x : Text). legalOwn (x ++ a ∷ r)) (root-is (c ∷ t) i) ∙ suffix-dies a r g
     go false i = after-end (c ∷ t) (a ∷ r) et refl i ∙ e
 
--- A joined text is illegal only if the new prefix is `/` or empty and the remainder begins with `.` or `{`.
-pub join-legal : JoinLegal
+-- Without brackets, a joined text is illegal only if the new prefix is `/` or empty and the remainder begins with `.` or `{`.
+own-join-legal : (s t r : Text) → legalOwn (s ++ r) ≡ true → isEnd s ≡ true → isNil s ≡ false → isEnd t ≡ true → canFollow s r ≡ true
+    → legalOwn (join s t r) ≡ not (joinIllegal t r)
 unfolding joinIllegal canFollow run step isIdentifierStart isIdentifierCont
-join-legal s t [] l es ns et j = rw (join-none s t, and-no (isNil t || isRoot t)) (end-legal t et)
-join-legal s t (a ∷ r) l es ns et j = root (isRoot s) refl
+own-join-legal s t [] l es ns et j = rw (join-none s t, and-no (isNil t || isRoot t)) (end-own-legal t et)
+own-join-legal s t (a ∷ r) l es ns et j = root (isRoot s) refl
   where
-    other : isRoot s ≡ false → eqb a 47 ≡ false → accept (run Name (a ∷ r)) ≡ true → legal (join s t (a ∷ r)) ≡ not (joinIllegal t (a ∷ r))
+    other : isRoot s ≡ false → eqb a 47 ≡ false → accept (run Name (a ∷ r)) ≡ true → legalOwn (join s t (a ∷ r)) ≡ not (joinIllegal t (a ∷ r))
     other h k e =
         let g : (eqb a 46 || eqb a 123) ≡ true = sym (or-false (eqb a 46 || eqb a 123)) ∙ rw (h, k, end-close s es) at j in
         rw (join-other s t a r h (end-close s es) k, g, and-yes (isNil t || isRoot t)) (suffix-legal t a r et k g e)
 
-    slashed : (b : Bool) → isRoot s ≡ false → accept (run Name (a ∷ r)) ≡ true → eqb a 47 ≡ b → legal (join s t (a ∷ r)) ≡ not (joinIllegal t (a ∷ r))
+    slashed : (b : Bool) → isRoot s ≡ false → accept (run Name (a ∷ r)) ≡ true → eqb a 47 ≡ b → legalOwn (join s t (a ∷ r)) ≡ not (joinIllegal t (a ∷ r))
     slashed true h e k =
         rw (eqb-true a 47 k, join-slash s t r h (end-close t et), and-no (isNil t || isRoot t)) (under-stem t r et (rw (eqb-true a 47 k) at e))
     slashed false h e k = other h k e
 
-    root : (b : Bool) → isRoot s ≡ b → legal (join s t (a ∷ r)) ≡ not (joinIllegal t (a ∷ r))
+    root : (b : Bool) → isRoot s ≡ b → legalOwn (join s t (a ∷ r)) ≡ not (joinIllegal t (a ∷ r))
     root true h =
-        let i : legal (47 ∷ a ∷ r) ≡ true = rw (root-is s h) at l in
+        let i : legalOwn (47 ∷ a ∷ r) ≡ true = rw (root-is s h) at l in
         rw (root-is s h, join-root t a r, no-suffix a r i, and-no (isNil t || isRoot t)) (under-stem t (a ∷ r) et (slash-legal a r i))
     root false h = slashed (eqb a 47) h (sym (after-end s (a ∷ r) es ns h) ∙ l) refl
+
+-- With brackets: the own part of the joined text is the join of the own parts, and the target part is left as it is.
+joined-legal : (s t : Text) (a : ℕ) (r : Text) → legal (s ++ a ∷ r) ≡ true → isEnd s ≡ true → isNil s ≡ false → isEnd t ≡ true → canFollow s (a ∷ r) ≡ true
+    → legal (join s t (a ∷ r)) ≡ not (joinIllegal t (a ∷ r))
+unfolding canFollow joinIllegal
+joined-legal s t a r l es ns et j =
+    rw (join-own s t a r b)
+    (legal-as (s ++ a ∷ r) (made ++ targetPart (a ∷ r)) l property targets
+    ∙ ap legalOwn (own-of made (a ∷ r) made-unbracketed)
+    ∙ own-join-legal s t (a ∷ ownPart r) (rw (own-after s (a ∷ r) us, own-cons a r b) at (legal-own-part (s ++ a ∷ r) l)) es ns et j)
+  where
+    us : lacksByte 91 s ≡ true
+    us = end-unbracketed s es
+
+    b : eqb a 91 ≡ false
+    b = no-bracket s a r es l
+
+    made : Text
+    made = join s t (a ∷ ownPart r)
+
+    made-lacks : (c : ℕ) → eqb 47 c ≡ false → lacksByte c t ≡ true → lacksByte c made ≡ lacksByte c (ownPart (a ∷ r))
+    made-lacks c h k = join-lacks c h s t (a ∷ ownPart r) k ∙ ap (lacksByte c) (sym (own-cons a r b))
+
+    made-unbracketed : lacksByte 91 made ≡ true
+    made-unbracketed = made-lacks 91 refl (end-unbracketed t et) ∙ own-lacks (a ∷ r)
+
+    targets : targetPart (made ++ targetPart (a ∷ r)) ≡ targetPart (s ++ a ∷ r)
+    targets = target-of made (a ∷ r) made-unbracketed ∙ sym (target-after s (a ∷ r) us)
+
+    property : hasProperty (made ++ targetPart (a ∷ r)) ≡ hasProperty (s ++ a ∷ r)
+    property =
+        property-scan (made ++ targetPart (a ∷ r))
+        ∙ ap not (ap (lacksByte 46) (own-of made (a ∷ r) made-unbracketed) ∙ made-lacks 46 refl (end-undotted t et) ∙ sym (lacks-own-after s (a ∷ r) us 46 (end-undotted s es)))
+        ∙ sym (property-scan (s ++ a ∷ r))
+
+pub join-legal : JoinLegal
+unfolding joinIllegal
+join-legal s t [] l es ns et j = rw (join-none s t, and-no (isNil t || isRoot t)) (end-legal t et)
+join-legal s t (a ∷ r) l es ns et j = joined-legal s t a r l es ns et j

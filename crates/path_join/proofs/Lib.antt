@@ -3,6 +3,7 @@ pub mod SeparatorLaws
 mod LayoutLaws
 pub mod JoinBranches
 pub mod ReplaceLaws
+pub mod TailLaws
 pub mod JoinLaws
 pub mod JoinLegal
 pub mod JoinParts

@@ -1,26 +1,21 @@
 -- The theorem that the number of elements in a path's text is the number of elements in the path.
-use mathlib.Core.Path.{_≡_, refl, sym, ap, _∙_}
-use mathlib.Core.Bool.{Bool, true, false, cond, _&&_, true≢false, false≢true}
+use mathlib.Core.Path.{_≡_, refl, ap, _∙_}
+use mathlib.Core.Bool.{Bool, true, false, cond, _&&_, false≢true}
 use mathlib.Core.List.{List, [], _∷_, _++_, append-assoc}
 use mathlib.Core.Option.{Option, none, some}
 use Prim.Native.Nat.{ℕ, suc, _+_}
 use native.Mathlib.Omega.{arith}
 use lib.Dec.{eqb}
-use borrow.Author.Tests.{eqb-true}
-use Rattle.text.specs.Text.{Text}
+use Rattle.text.specs.Text.{Text, takeUntil}
 use Rattle.text.proofs.BoolLaws.{and-l, and-r, and-no, or-false}
+use Rattle.path_grammar.specs.Own.{ownPart}
 use Rattle.path_grammar.specs.Legal.{isIdentifierCont, startsName}
 use Rattle.path_grammar.specs.Grammar as g
-use Rattle.path_grammar.specs.Grammar.{allCont, nameText, wordText, selectionText, selectionsText, primSeparator, primsText, moreText, propertyText, render}
-use Rattle.path_prefix.specs.Elements.{countElements, selectionCount, primCount, pathCount, CountsAgree}
+use Rattle.path_grammar.specs.Grammar.{allCont, nameText, wordText, selectionText, selectionsText, primSeparator, primsText, moreText, propertyText, ownText, absoluteText, render}
+use Rattle.path_prefix.specs.Elements.{countElements, selectionCount, primCount, absoluteCount, pathCount, CountsAgree}
 use Rattle.path_grammar.proofs.LegalLaws.{start-cont}
-
-is-not : (a b : ℕ) → isIdentifierCont a ≡ true → isIdentifierCont b ≡ false → eqb a b ≡ false
-is-not a b h k = go (eqb a b) refl
-  where
-    go : (t : Bool) → eqb a b ≡ t → t ≡ false
-    go true e = absurd (true≢false (sym h ∙ rw (eqb-true a b e) k))
-    go false e = refl
+use Rattle.path_grammar.proofs.RenderLacks.{not-name}
+use Rattle.path_grammar.proofs.Render.{own-prims, own-target}
 
 -- The text of prims begins with a name; the text of a property does not.
 prims-start : (p : g.Prim) (r : List g.Prim) (y : Text) → startsName (primsText p r ++ y) ≡ true
@@ -46,7 +41,7 @@ module _ (f : Bool) where
 
   byte : (a : ℕ) (r : Text) → isIdentifierCont a ≡ true → countElements f (a ∷ r) ≡ countElements f r
   unfolding isIdentifierCont
-  byte a r h = other a r (is-not a 47 h refl) (is-not a 123 h refl) (is-not a 125 h refl)
+  byte a r h = other a r (not-name a 47 refl h) (not-name a 123 refl h) (not-name a 125 refl h)
 
   bytes : (t y : Text) → allCont t ≡ true → countElements f (t ++ y) ≡ countElements f y
   unfolding allCont
@@ -132,9 +127,18 @@ module _ (f : Bool) where
       )
       (omega arith)
 
--- The count of a path's text is the count of the path.
+-- The count of a path's own part is the count of the path.
+own-counted : (f : Bool) (p : g.Prim) (r : List g.Prim) (x : Option g.Property) → countElements f (ownText p r x) ≡ primCount f p r
+unfolding ownText
+own-counted f p r x = slash-adds f (primsText p r ++ propertyText x) (prims-start p r (propertyText x)) ∙ prims f p r x
+
+absolute-counted : (f : Bool) {d : ℕ} (q : g.Absolute d) → countElements f (ownPart (absoluteText q)) ≡ absoluteCount f q
+unfolding absoluteText absoluteCount countElements ownPart takeUntil
+absolute-counted f g.root = refl
+absolute-counted f (g.prims p r x) = ap (countElements f) (own-prims p r x) ∙ own-counted f p r x
+absolute-counted f (g.target p r x q) = ap (countElements f) (own-target p r x (absoluteText q)) ∙ own-counted f p r (some x)
+
 pub counted : CountsAgree
-unfolding render pathCount countElements
+unfolding render pathCount countElements ownPart takeUntil
 counted f g.empty = refl
-counted f g.root = refl
-counted f (g.prims p r x) = slash-adds f (primsText p r ++ propertyText x) (prims-start p r (propertyText x)) ∙ prims f p r x
+counted f (g.absolute q) = absolute-counted f q

@@ -7,10 +7,11 @@ use Prim.Native.Nat.{ℕ, _≤_}
 use lib.Dec.{eqb}
 use lib.ListN.{length, drop}
 use lib.Seq.{drop-append-seam}
-use Rattle.text.specs.Text.{Text, isNil, isSome, stripPrefix, startsWith}
-use Rattle.text.proofs.BoolLaws.{and-l, or-false}
+use Rattle.text.specs.Text.{Text, isSome, stripPrefix, startsWith}
+use Rattle.text.proofs.BoolLaws.{or-false}
 use Rattle.text.proofs.TextLaws.{after-up, after-down, starts-long}
-use Rattle.path_grammar.specs.Legal.{Slash, run, accept, legal}
+use Rattle.path_grammar.specs.Legal.{legal}
+use Rattle.path_grammar.proofs.LegalLaws.{absolute-first}
 use Rattle.path_prefix.specs.Prefix.{canFollow, canFollowSome, hasPrefix}
 
 -- The text s ++ r has the prefix s exactly if r may follow s.
@@ -41,9 +42,8 @@ prefix-empty a r = or-false (eqb a 47 || eqb a 46 || eqb a 123)
 
 -- So the empty text is a prefix of every legal text.
 pub legal-prefix-empty : (p : Text) → legal p ≡ true → hasPrefix p [] ≡ true
-unfolding legal
 legal-prefix-empty [] l = prefix-self []
-legal-prefix-empty (a ∷ r) l = rw (prefix-empty a r, and-l (eqb a 47) (isNil r || accept (run Slash r)) l)
+legal-prefix-empty (a ∷ r) l = rw (prefix-empty a r, absolute-first a r l)
 
 -- A text begins with each of its prefixes.
 pub prefix-starts : (p s : Text) → hasPrefix p s ≡ true → startsWith s p ≡ true

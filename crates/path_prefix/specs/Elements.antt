@@ -9,6 +9,7 @@ use lib.Dec.{eqb}
 use Rattle.text.specs.Text.{Text, isNil}
 use Rattle.text.specs.Bytes.{closeBrace, openBrace, slash}
 use Rattle.path_grammar.specs.Legal.{isIdentifierCont, startsName}
+use Rattle.path_grammar.specs.Own.{ownPart}
 use Rattle.path_grammar.specs.Grammar as g
 use Rattle.path_grammar.specs.Grammar.{render}
 
@@ -23,11 +24,12 @@ unfolding isIdentifierCont
 countElements selections [] = 0
 countElements selections (a ∷ r) = cond (startsElement selections a r) 1 0 + countElements selections r
 
--- The number of names and selections (Rust: element_count).
+-- The number of names and selections (Rust: element_count) in a text without brackets, such as an end or the own part of a path. Requirements:
+-- "Names and selections inside brackets don't count as the path's own".
 abbrev pub elementCount : Text → ℕ
 elementCount s = countElements true s
 
--- The number of names (Rust: prim_element_count).
+-- The number of names (Rust: prim_element_count) in such a text.
 abbrev pub primElementCount : Text → ℕ
 primElementCount s = countElements false s
 
@@ -43,13 +45,19 @@ unfolding selectionCount
 primCount selections p [] = suc (selectionCount selections (p .selections))
 primCount selections p (q ∷ r) = suc (selectionCount selections (p .selections)) + primCount selections q r
 
+-- The number of elements in an absolute path: those of the path in brackets are not its own.
+unfoldable pub absoluteCount : Bool → {d : ℕ} → g.Absolute d → ℕ
+unfolding primCount
+absoluteCount selections g.root = 0
+absoluteCount selections (g.prims p r x) = primCount selections p r
+absoluteCount selections (g.target p r x q) = primCount selections p r
+
 -- The number of elements in a path.
 unfoldable pub pathCount : Bool → g.Path → ℕ
-unfolding primCount
+unfolding absoluteCount
 pathCount selections g.empty = 0
-pathCount selections g.root = 0
-pathCount selections (g.prims p r x) = primCount selections p r
+pathCount selections (g.absolute q) = absoluteCount selections q
 
--- Theorem (proofs/CountTheorem.antt): the number of elements in a path's text is the number of elements in the path.
+-- Theorem (proofs/CountTheorem.antt): the number of elements in the own part of a path's text is the number of elements in the path.
 abbrev pub CountsAgree : Type 0
-CountsAgree = (selections : Bool) (p : g.Path) → countElements selections (render p) ≡ pathCount selections p
+CountsAgree = (selections : Bool) (p : g.Path) → countElements selections (ownPart (render p)) ≡ pathCount selections p
