@@ -80,7 +80,7 @@ fn members(trace: &Trace) -> Vec<(&'static str, String)> {
         Outcome::Stopped { leg, refusal } => stopped("out", Some(*leg), *refusal),
         Outcome::Elsewhere(Err(refusal)) => stopped("home", None, *refusal),
     });
-    members.extend(trace.target.as_ref().map(target));
+    members.extend(trace.target.as_deref().map(target));
     members
 }
 
@@ -161,7 +161,7 @@ mod tests {
         let signal = Signal { line: 3, text: "/A.r[/T]".to_string() };
         let address = Path::new("/A.r[/T]");
         let moved = Moved::Out { path: Path::new("/T").unwrap(), address: address.clone() };
-        let target = Some(Target { path: Path::new("/T").unwrap(), moved });
+        let target = Some(Box::new(Target { path: Path::new("/T").unwrap(), moved }));
         let outcome = Outcome::Home(address.unwrap());
         let text =
             object(members(&Trace { signal: &signal, steps: Vec::new(), unaltered: None, target, outcome }));

@@ -111,7 +111,7 @@ impl<W: Write> Report for TextReport<W> {
             writeln!(self.out, "  leg {:<2}  {}", i + 1, Highlighted { text: shown(step), tail })?;
         }
         self.outcome(trace)?;
-        trace.target.as_ref().map_or(Ok(()), |target| self.target(target))
+        trace.target.as_deref().map_or(Ok(()), |target| self.target(target))
     }
 
     fn end(&mut self, summary: &Summary) -> Result<()> {
@@ -202,7 +202,7 @@ mod tests {
     fn target_lines(target: &str, moved: Moved) -> String {
         let signal = Signal { line: 3, text: "/A.r[/T]".to_string() };
         let outcome = Outcome::Home(Path::new("/A.r[/T]").unwrap());
-        let target = Some(Target { path: Path::new(target).unwrap(), moved });
+        let target = Some(Box::new(Target { path: Path::new(target).unwrap(), moved }));
         let trace = Trace { signal: &signal, steps: Vec::new(), unaltered: None, target, outcome };
         let text = reported(true, &trace);
         text.strip_prefix("\nline 3: /A.r[/T]\n  home    /A.r[/T]\n").expect("the lines before").to_string()

@@ -13,8 +13,9 @@ pub struct Trace<'a> {
     /// The range of the signal's text that all legs carried over unaltered: the end of the signal and of each step. `None` if
     /// it was not asked for, or if the signal did not come out over all legs.
     pub unaltered: Option<Range<usize>>,
-    /// The target in the signal's brackets. `None` if it has no brackets, or if it did not come out over all legs.
-    pub target: Option<Target>,
+    /// The target in the signal's brackets. `None` if it has no brackets, or if it did not come out over all legs. It is boxed
+    /// because few signals have one, and larger traces make a long input slower.
+    pub target: Option<Box<Target>>,
     pub outcome: Outcome,
 }
 
@@ -62,7 +63,7 @@ struct PartialTrace {
     start: Path,
     steps: Vec<Path>,
     unaltered: Option<Range<usize>>,
-    target: Option<Target>,
+    target: Option<Box<Target>>,
     /// `None` while the path is on its way.
     outcome: Option<Outcome>,
 }
@@ -123,7 +124,7 @@ impl LegRoutes {
         self.map_out(targets.iter_mut());
         for (address, target) in addresses.into_iter().zip(targets) {
             let moved = moved(&target, address.current());
-            address.target = Some(Target { path: target.start, moved });
+            address.target = Some(Box::new(Target { path: target.start, moved }));
         }
     }
 
@@ -249,7 +250,7 @@ mod tests {
     fn targets(text: &str) -> Vec<Option<Target>> {
         let scenario = Scenario::read(text.as_bytes()).unwrap();
         let traces = LegRoutes::new(&scenario.legs).trace_all(&scenario.signals, false);
-        traces.into_iter().map(|trace| trace.target).collect()
+        traces.into_iter().map(|trace| trace.target.map(|target| *target)).collect()
     }
 
     fn out(target: &str, moved: &str, address: Result<Path>) -> Option<Target> {
