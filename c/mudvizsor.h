@@ -20,6 +20,11 @@
    A PATH that is written needs a buffer of at least 255 bytes, however short the path is; else the call is refused
    with 5.
 
+   BRACKETS. A property may be followed by an absolute path in brackets, its target, which ends the text: /L/S.next[/L/T].
+   The target may have brackets in turn; a text has at most four opening brackets. The text before the first one is the
+   path's own part. Names and selections in brackets are not counted, stripped or mapped: calls that map a path leave the
+   brackets as they are. A path with brackets is no end of a pair (3).
+
    A LIST of pairs is passed as
        store    the bytes of the ends (the sources and targets), in any order; they may overlap or have gaps
        places   four numbers for each pair: start and length of its source in the store, start and length of its target
@@ -152,17 +157,18 @@ size_t mudvizsor_path_new(const char *path, size_t path_length);
    Refusals: 1, 2. */
 size_t mudvizsor_path_is_end(const char *path, size_t path_length);
 
-/* The value is 1 if the path contains a variant selection, else 0. Refusals: 1, 2. */
+/* The value is 1 if the path contains a variant selection outside brackets, else 0. Refusals: 1, 2. */
 size_t mudvizsor_path_has_variant_selection(const char *path, size_t path_length);
 
-/* The value is the number of names and selections in the path. A property is not counted. Refusals: 1, 2. */
+/* The value is the number of names and selections in the path. A property is not counted, nor is anything in brackets.
+   Refusals: 1, 2. */
 size_t mudvizsor_path_element_count(const char *path, size_t path_length);
 
-/* The value is the number of names in the path. A property is not counted. Refusals: 1, 2. */
+/* The value is the number of names in the path. A property is not counted, nor is anything in brackets. Refusals: 1, 2. */
 size_t mudvizsor_path_prim_element_count(const char *path, size_t path_length);
 
 /* The value is 1 if `prefix` is the path itself or one of its ancestors, else 0. The empty path is a prefix of every
-   path. Refusals: 1, 2. */
+   path. The property before brackets is the parent of the path, but no prefix of it. Refusals: 1, 2. */
 size_t mudvizsor_path_has_prefix(const char *path, size_t path_length, const char *prefix, size_t prefix_length);
 
 /* Tells whether the path has the prefix, and also where the rest of the path begins, which follows the prefix. The value is
@@ -177,20 +183,22 @@ size_t mudvizsor_path_replace_prefix(
     const char *path, size_t path_length, const char *old_prefix, size_t old_prefix_length, const char *new_prefix,
     size_t new_prefix_length, char *out, size_t out_length);
 
-/* Writes the path without its property or, if it has none, without its last element. The value is the length written.
-   `out` needs 255 bytes. Refusals: 1, 2, 5, 6 for `/` and the empty path, which have no parent. */
+/* Writes the path without its brackets or, if it has none, without its property or, if it has none either, without its last
+   element. The value is the length written. `out` needs 255 bytes. Refusals: 1, 2, 5, 6 for `/` and the empty path, which
+   have no parent. */
 size_t mudvizsor_path_parent(const char *path, size_t path_length, char *out, size_t out_length);
 
-/* Writes the path without its property or, if it has none and ends in a selection, without that one selection. The value
-   is the length written. `out` needs 255 bytes. Refusals: 1, 2, 5. */
+/* Writes the path without its property and brackets or, if it has no property and ends in a selection, without that one
+   selection. The value is the length written. `out` needs 255 bytes. Refusals: 1, 2, 5. */
 size_t mudvizsor_path_prim_path(const char *path, size_t path_length, char *out, size_t out_length);
 
 /* Writes the part of the path before the dot of its property. The value n is the length written; the name of the property
-   starts at byte n + 1 of `path`. `out` needs 255 bytes. Refusals: 1, 2, 5, 6 if the path has no property. */
+   starts at byte n + 1 of `path`. `out` needs 255 bytes. Refusals: 1, 2, 5, 6 if the path has no property, or has
+   brackets. */
 size_t mudvizsor_path_split_property(const char *path, size_t path_length, char *out, size_t out_length);
 
-/* Writes the path without its variant selections. The value is the length written. `out` needs 255 bytes.
-   Refusals: 1, 2, 5. */
+/* Writes the path without its variant selections; those in brackets are kept. The value is the length written. `out` needs
+   255 bytes. Refusals: 1, 2, 5. */
 size_t mudvizsor_path_strip_variant_selections(const char *path, size_t path_length, char *out, size_t out_length);
 
 /* Writes the length of the path and then of each of its ancestors, nearest first. Each ancestor is the initial part of
@@ -198,13 +206,22 @@ size_t mudvizsor_path_strip_variant_selections(const char *path, size_t path_len
    Refusals: 1, 2, 5. */
 size_t mudvizsor_path_ancestors(const char *path, size_t path_length, size_t *lengths, size_t lengths_length);
 
+/* Writes the path in the brackets of `path`, without these brackets. The value is the length written. `out` needs 255 bytes.
+   Refusals: 1, 2, 5, 6 if the path has no brackets. */
+size_t mudvizsor_path_embedded_target(const char *path, size_t path_length, char *out, size_t out_length);
+
+/* Writes `path` with the path in its brackets replaced by `target`. The value is the length written. `out` needs 255 bytes.
+   Refusals: 1, 2, 5, 6 if the path has no brackets, 7, 8, which is so for an empty target and one with four brackets. */
+size_t mudvizsor_path_replace_embedded_target(
+    const char *path, size_t path_length, const char *target, size_t target_length, char *out, size_t out_length);
+
 /* ---- Mapping a path ---- */
 
 /* Maps the path from sources to targets. Of the pairs whose source is a prefix of the path, the one whose source has the
    most elements is used, the last one on a tie; an empty source never matches. The result is the path with that source
-   replaced by the target, or the path itself if no pair matches and the map has the mark. The value is the length
-   written. `out` needs 255 bytes. Refusals: 1 to 5, 6 if the target is empty or if no pair matches and there is no mark,
-   7, 8. */
+   replaced by the target, or the path itself if no pair matches and the map has the mark. A path in brackets is not mapped,
+   here and in all calls below. The value is the length written. `out` needs 255 bytes. Refusals: 1 to 5, 6 if the target
+   is empty or if no pair matches and there is no mark, 7, 8. */
 size_t mudvizsor_map_source_to_target(
     const char *store, size_t store_length, const size_t *places, size_t places_length, size_t count, bool mark,
     const char *path, size_t path_length, char *out, size_t out_length);
@@ -215,10 +232,10 @@ size_t mudvizsor_map_target_to_source(
     const char *store, size_t store_length, const size_t *places, size_t places_length, size_t count, bool mark,
     const char *path, size_t path_length, char *out, size_t out_length);
 
-/* Removes the variant selections from the path and maps it from sources to targets, but refuses a result that would not
-   map back through the same pair: the refusal is 6 if mudvizsor_map_target_to_source would use another pair for the
-   result, or any pair if none was used. The value is the length written. `out` needs 255 bytes. Refusals: 1 to 5, 6 also
-   as in mudvizsor_map_source_to_target, 7, 8. */
+/* Removes the variant selections from the path, except those in brackets, and maps it from sources to targets, but refuses
+   a result that would not map back through the same pair: the refusal is 6 if mudvizsor_map_target_to_source would use
+   another pair for the result, or any pair if none was used. The value is the length written. `out` needs 255 bytes.
+   Refusals: 1 to 5, 6 also as in mudvizsor_map_source_to_target, 7, 8. */
 size_t mudvizsor_translate_to_target(
     const char *store, size_t store_length, const size_t *places, size_t places_length, size_t count, bool mark,
     const char *path, size_t path_length, char *out, size_t out_length);
@@ -247,8 +264,8 @@ size_t mudvizsor_map_target_to_source_carried(
     const char *path, size_t path_length, char *out, size_t out_length);
 
 /* Does what mudvizsor_translate_to_target does, and tells also where the rest is. The value is as in
-   mudvizsor_map_source_to_target_carried, but if the path has a variant selection, start and length of the rest are 0.
-   Refusals: as in mudvizsor_translate_to_target. */
+   mudvizsor_map_source_to_target_carried, but if the path has a variant selection outside brackets, start and length of the
+   rest are 0. Refusals: as in mudvizsor_translate_to_target. */
 size_t mudvizsor_translate_to_target_carried(
     const char *store, size_t store_length, const size_t *places, size_t places_length, size_t count, bool mark,
     const char *path, size_t path_length, char *out, size_t out_length);
@@ -424,7 +441,8 @@ size_t mudvizsor_route_out(
     size_t legs_length, size_t count, const char *path, size_t path_length, char *out, size_t out_length);
 
 /* Maps the path home over the legs, the last one first: each leg does mudvizsor_map_target_to_source with the result of the
-   leg after it. It maps the result of mudvizsor_route_out back to the path that was mapped out, if that has no selections.
+   leg after it. It maps the result of mudvizsor_route_out back to the path that was mapped out, if that has no selections
+   outside brackets.
    Refusals: as in mudvizsor_route_out. */
 size_t mudvizsor_route_home(
     const char *store, size_t store_length, const size_t *places, size_t places_length, const size_t *legs,
@@ -441,7 +459,8 @@ size_t mudvizsor_route_all(
 /* Does what mudvizsor_route_out does, and tells also where the rest is: here the part of the path that all legs carry over
    unaltered, which is the shortest of the rests of the legs. `path`, the result of each leg and the resulting path end with
    it. With no legs it is the whole path. The value is as in mudvizsor_map_source_to_target_carried, but if there is a leg and
-   the path has a variant selection, start and length of the rest are 0. Refusals: as in mudvizsor_route_out. */
+   the path has a variant selection outside brackets, start and length of the rest are 0. Refusals: as in
+   mudvizsor_route_out. */
 size_t mudvizsor_route_out_carried(
     const char *store, size_t store_length, const size_t *places, size_t places_length, const size_t *legs,
     size_t legs_length, size_t count, const char *path, size_t path_length, char *out, size_t out_length);

@@ -4,8 +4,8 @@
    byte too many is a fault; or they are allocated with malloc, so that valgrind checks them. After each call the program
    checks that the reply is well formed, that a refused call has changed nothing, that an accepted one has changed only its
    result, that its input and the bytes around the lent slices are unchanged, that a written path is legal, that a rest is the
-   end of the given path and of the written one, and that the same call with other buffers and other old contents has the same
-   result.
+   end of the given path and of the written one, that stripping and mapping leave brackets as they are, and that the same call
+   with other buffers and other old contents has the same result.
 
        robust [--calls N | --seconds N] [--seed N] [--table] */
 #define _GNU_SOURCE
@@ -145,9 +145,8 @@ static size_t append_name(char *text, size_t at) {
     return append(text, at, names[below(percent(80) ? 3 : 6)]);
 }
 
-/* A path of this many names, with selections and a property if `rich` is true. */
-static size_t legal_text(char *text, size_t names, bool rich) {
-    size_t at = 0;
+/* Appends a path of this many names, with selections and a property if `rich` is true. */
+static size_t append_path(char *text, size_t at, size_t names, bool rich) {
     bool slash = true;
     for (size_t i = 0; i < names; i++) {
         if (slash) text[at++] = '/';
@@ -160,6 +159,22 @@ static size_t legal_text(char *text, size_t names, bool rich) {
     return at;
 }
 
+/* A path of this many names, with selections and a property if `rich` is true. */
+static size_t legal_text(char *text, size_t names, bool rich) { return append_path(text, 0, names, rich); }
+
+/* A path with brackets, sometimes with more than the four that are legal or with nothing in the innermost ones. */
+static size_t bracketed_text(char *text) {
+    size_t at = 0, depth = percent(60) ? 1 : 1 + below(5);
+    for (size_t i = 0; i < depth; i++) {
+        at = append_path(text, at, 1 + below(3), false);
+        if (percent(20)) at = append(text, at, "{v=p}");
+        at = append(text, at, percent(70) ? ".b[" : ".c:d[");
+    }
+    at = append_path(text, at, percent(95) ? 1 + below(3) : 0, true);
+    for (size_t i = 0; i < depth; i++) text[at++] = ']';
+    return at;
+}
+
 /* A path of one long name, near the limit of 255 bytes. */
 static size_t long_text(char *text) {
     size_t length = 245 + below(15);
@@ -169,7 +184,7 @@ static size_t long_text(char *text) {
 }
 
 static size_t noise(char *text) {
-    const char letters[] = "/A/B{v=p}.:_1";
+    const char letters[] = "/A/B{v=p}.:_1[/]";
     size_t length = percent(90) ? below(12) : below(MAX_TEXT);
     bool any = percent(30);
     for (size_t i = 0; i < length; i++) text[i] = any ? (char)random_bits() : letters[below(sizeof letters - 1)];
@@ -180,7 +195,7 @@ static size_t some_text(char *text) {
     size_t kind = below(100);
     if (kind < 6) return noise(text);
     if (kind < 10) return long_text(text);
-    size_t length = legal_text(text, below(5), true);
+    size_t length = percent(30) ? bracketed_text(text) : legal_text(text, below(5), true);
     if (kind < 16 && length > 0) text[below(length)] = (char)random_bits();
     return length;
 }
@@ -288,6 +303,9 @@ static void make_many(void) {
 /* The kind of result of an entry. */
 enum kind {
     A_TEST, A_COUNT, A_PATH, LENGTHS, STATUSES, A_MAP, A_CHAIN, MANY_REPLIES,
+    STRIPPED,   /* the path without selections */
+    EMBEDDED,   /* the path in brackets */
+    REPLACED,   /* the path with another one in its brackets */
     REST_START, /* whether there is a prefix, and where the rest begins */
     CARRIED,    /* a path and the rest */
     TRANSLATED  /* the same of a call that removes selections */
@@ -307,8 +325,10 @@ enum kind {
     E(path_parent, A_PATH, BIT(PATH) | BIT(OUT), BYTES(PATH), OUT_BUFFER)                                                     \
     E(path_prim_path, A_PATH, BIT(PATH) | BIT(OUT), BYTES(PATH), OUT_BUFFER)                                                  \
     E(path_split_property, A_PATH, BIT(PATH) | BIT(OUT), BYTES(PATH), OUT_BUFFER)                                             \
-    E(path_strip_variant_selections, A_PATH, BIT(PATH) | BIT(OUT), BYTES(PATH), OUT_BUFFER)                                   \
+    E(path_strip_variant_selections, STRIPPED, BIT(PATH) | BIT(OUT), BYTES(PATH), OUT_BUFFER)                                 \
     E(path_ancestors, LENGTHS, BIT(PATH) | BIT(SLOTS), BYTES(PATH), SLOTS_BUFFER)                                             \
+    E(path_embedded_target, EMBEDDED, BIT(PATH) | BIT(OUT), BYTES(PATH), OUT_BUFFER)                                          \
+    E(path_replace_embedded_target, REPLACED, BIT(PATH) | BIT(SECOND) | BIT(OUT), BYTES(PATH), BYTES(SECOND), OUT_BUFFER)     \
     E(map_source_to_target, A_PATH, A_LIST | BIT(PATH) | BIT(OUT), PAIRS, mark, BYTES(PATH), OUT_BUFFER)                      \
     E(map_target_to_source, A_PATH, A_LIST | BIT(PATH) | BIT(OUT), PAIRS, mark, BYTES(PATH), OUT_BUFFER)                      \
     E(translate_to_target, A_PATH, A_LIST | BIT(PATH) | BIT(OUT), PAIRS, mark, BYTES(PATH), OUT_BUFFER)                       \
@@ -385,10 +405,54 @@ static void check_rest(unsigned uses, size_t bytes, size_t numbers) {
     if (uses & BIT(SLOTS)) check(unchanged(SLOTS, numbers * sizeof(size_t), contents[SLOTS].length), "a number changed");
 }
 
+/* The length of the part of a text before its brackets. */
+static size_t own_length(const unsigned char *text, size_t length) {
+    const unsigned char *bracket = length == 0 ? NULL : memchr(text, '[', length);
+    return bracket == NULL ? length : (size_t)(bracket - text);
+}
+
+/* Returns whether the given path and the written one have the same brackets, or none. */
+static bool same_brackets(size_t length) {
+    size_t own = own_length(lent[PATH].at, contents[PATH].length), brackets = contents[PATH].length - own;
+    size_t made = own_length(lent[OUT].at, length);
+    if (length - made != brackets) return false;
+    return brackets == 0 || memcmp(lent[PATH].at + own, lent[OUT].at + made, brackets) == 0;
+}
+
+/* Checks a written path. A call that takes a list and a path maps that path, and so leaves its brackets. */
 static void check_path(unsigned uses, size_t length) {
+    bool maps = (uses & BIT(STORE)) && (uses & BIT(PATH));
     check(length <= 255 && contents[OUT].length >= 255, "a path in a buffer that is too small");
     check(legal_at(0, length), "an illegal path");
+    if (maps) check(same_brackets(length), "brackets that mapping changed");
     check_rest(uses, length, 0);
+}
+
+static void check_stripped(unsigned uses, size_t length) {
+    check_path(uses, length);
+    check(mudvizsor_path_has_variant_selection((const char *)lent[OUT].at, length) == 0, "a selection is left");
+    check(same_brackets(length), "brackets that stripping changed");
+}
+
+/* Checks that the written path is what the given one has between its first bracket and the last byte. */
+static void check_embedded(unsigned uses, size_t length) {
+    size_t given = contents[PATH].length, own = own_length(lent[PATH].at, given);
+    bool inside = own + length + 2 == given && memcmp(lent[PATH].at + own + 1, lent[OUT].at, length) == 0;
+    check_path(uses, length);
+    check(inside, "another path than the one in brackets");
+}
+
+/* Checks the three parts of the written path: the given one up to its first bracket, the target, a bracket. */
+static void check_replaced(unsigned uses, size_t length) {
+    size_t own = own_length(lent[PATH].at, contents[PATH].length), target = contents[SECOND].length;
+    check_path(uses, length);
+    if (own == contents[PATH].length || target == 0 || length != own + target + 2) {
+        check(false, "the length of a path with another target");
+        return;
+    }
+    check(memcmp(lent[PATH].at, lent[OUT].at, own + 1) == 0, "another path before the brackets");
+    check(memcmp(lent[SECOND].at, lent[OUT].at + own + 1, target) == 0, "another target in the brackets");
+    check(lent[OUT].at[length - 1] == ']', "no bracket at the end");
 }
 
 /* Checks the index of the rest: the length of the prefix, but 0 if the prefix is `/` and the path is longer. */
@@ -468,6 +532,9 @@ static void check_answer(const struct entry *entry, size_t reply) {
         check_path(entry->uses, mudvizsor_chain_length(reply));
         break;
     case MANY_REPLIES: check(value == 0, "a value"), check_many(entry->uses); break;
+    case STRIPPED: check_stripped(entry->uses, value); break;
+    case EMBEDDED: check_embedded(entry->uses, value); break;
+    case REPLACED: check_replaced(entry->uses, value); break;
     case REST_START: check_prefix_rest(reply); break;
     case CARRIED: check_carried(entry->uses, reply, false); break;
     case TRANSLATED: check_carried(entry->uses, reply, true); break;

@@ -176,6 +176,9 @@ static const char *path_of(size_t n) {
 
 /* ---- Paths ---- */
 
+/* A path with as many brackets as are legal. */
+#define FOUR_DEEP "/A.r[/B.s[/C.t[/D.u[/E]]]]"
+
 typedef size_t path_test(const char *, size_t);
 
 static const struct {
@@ -189,16 +192,33 @@ static const struct {
     {ENTRY(path_new), "", 0, 0},
     {ENTRY(path_new), "A", 2, 0},
     {ENTRY(path_new), "/A/", 2, 0},
+    {ENTRY(path_new), "/A{v=p}B.r[/T{w=q}C]", 0, 0},
+    {ENTRY(path_new), "/A.r:s[/]", 0, 0},
+    {ENTRY(path_new), FOUR_DEEP, 0, 0},
+    {ENTRY(path_new), "/Z.z[" FOUR_DEEP "]", 2, 0},
+    {ENTRY(path_new), "/A.r[]", 2, 0},
+    {ENTRY(path_new), "/A.r[T]", 2, 0},
+    {ENTRY(path_new), "/A[/C]", 2, 0},
+    {ENTRY(path_new), "/A{v=p}[/C]", 2, 0},
+    {ENTRY(path_new), "/A.r[/T].x", 2, 0},
+    {ENTRY(path_new), "/A.r[/T][/U]", 2, 0},
+    {ENTRY(path_new), "/A.r[/T", 2, 0},
+    {ENTRY(path_new), "/A.r[/T]]", 2, 0},
     {ENTRY(path_is_end), "/A/B", 0, 1},
     {ENTRY(path_is_end), "/A.b", 0, 0},
+    {ENTRY(path_is_end), "/A.r[/T]", 0, 0},
     {ENTRY(path_is_end), "/A{v=}", 2, 0},
     {ENTRY(path_has_variant_selection), "/A{v=p}", 0, 1},
     {ENTRY(path_has_variant_selection), "/A", 0, 0},
+    {ENTRY(path_has_variant_selection), "/A{v=p}.r[/T]", 0, 1},
+    {ENTRY(path_has_variant_selection), "/A.r[/T{w=q}]", 0, 0},
     {ENTRY(path_has_variant_selection), "/A{", 2, 0},
     {ENTRY(path_element_count), "/A{v=p}B.c", 0, 3},
     {ENTRY(path_element_count), "/", 0, 0},
+    {ENTRY(path_element_count), "/A{v=p}B.r[/T{w=q}C]", 0, 3},
     {ENTRY(path_element_count), "/.c", 2, 0},
     {ENTRY(path_prim_element_count), "/A{v=p}B.c", 0, 2},
+    {ENTRY(path_prim_element_count), "/A{v=p}B.r[/T{w=q}C]", 0, 2},
     {ENTRY(path_prim_element_count), "//", 2, 0},
 };
 
@@ -218,6 +238,8 @@ static void test_has_prefix(void) {
     check_reply(entry, "/A/B, /A", mudvizsor_path_has_prefix(TEXT("/A/B"), TEXT("/A")), 0, 1);
     check_reply(entry, "/AB, /A", mudvizsor_path_has_prefix(TEXT("/AB"), TEXT("/A")), 0, 0);
     check_reply(entry, "/A, NULL", mudvizsor_path_has_prefix(TEXT("/A"), NULL, 0), 0, 1);
+    check_reply(entry, "/A.r[/T], /A", mudvizsor_path_has_prefix(TEXT("/A.r[/T]"), TEXT("/A")), 0, 1);
+    check_reply(entry, "/A.r[/T], /A.r", mudvizsor_path_has_prefix(TEXT("/A.r[/T]"), TEXT("/A.r")), 0, 0);
     check_reply(entry, "/A, A", mudvizsor_path_has_prefix(TEXT("/A"), TEXT("A")), 2, 0);
     check_reply(entry, "A, 256 bytes", mudvizsor_path_has_prefix(TEXT("A"), TEXT(path_of(256))), 1, 0);
 }
@@ -238,6 +260,10 @@ static const struct {
     {"/AB", "/A", 0, false, 0},
     {"/A", "/A/B", 0, false, 0},
     {"", "/", 0, false, 0},
+    {"/A.r[/T]", "/A", 0, true, 2},
+    {"/A.r[/T]", "/A.r[/T]", 0, true, 8},
+    {"/A.r[/T]", "/", 0, true, 0},
+    {"/A.r[/T]", "/A.r", 0, false, 0},
     {"/A", "A", 2, false, 0},
     {"A", "/A", 2, false, 0},
 };
@@ -268,6 +294,10 @@ static const struct {
     {"/AB", "/A", "/C", 255, 6, ""},
     {"/A.b", "/A", "/", 255, 8, ""},
     {"/B", "/", "/C{v=p}", 255, 8, ""},
+    {"/A.r[/A]", "/A", "/X", 255, 0, "/X.r[/A]"},
+    {"/A.r[/A]", "/A.r[/A]", "/X", 255, 0, "/X"},
+    {"/A.r[/T]", "/A.r", "/X.s", 255, 6, ""},
+    {"/A.r[/T]", "/A", "/", 255, 8, ""},
     {"/A/B", "/A", "/C", 254, 5, ""},
     {"/A/B", "/A", "C", 0, 2, ""},
 };
@@ -298,13 +328,23 @@ static const struct {
     {ENTRY(path_parent), "/A{v=p}B", 0, "/A{v=p}"},
     {ENTRY(path_parent), "/A", 0, "/"},
     {ENTRY(path_parent), "/", 6, ""},
+    {ENTRY(path_parent), "/A.r[/T]", 0, "/A.r"},
     {ENTRY(path_prim_path), "/A{v=p}.b", 0, "/A{v=p}"},
     {ENTRY(path_prim_path), "/A{v=p}{w=q}", 0, "/A{v=p}"},
+    {ENTRY(path_prim_path), "/A.r[/T]", 0, "/A"},
     {ENTRY(path_prim_path), "/A..b", 2, ""},
     {ENTRY(path_split_property), "/A/B.c:d", 0, "/A/B"},
     {ENTRY(path_split_property), "/A/B", 6, ""},
+    {ENTRY(path_split_property), "/A/B.r[/T]", 6, ""},
     {ENTRY(path_strip_variant_selections), "/A{v=p}{w=q}B.c", 0, "/A/B.c"},
+    {ENTRY(path_strip_variant_selections), "/A{v=p}B.r[/T{w=q}C]", 0, "/A/B.r[/T{w=q}C]"},
     {ENTRY(path_strip_variant_selections), "/A{v=p", 2, ""},
+    {ENTRY(path_embedded_target), "/A.r[/B.s[/C]]", 0, "/B.s[/C]"},
+    {ENTRY(path_embedded_target), "/A{v=p}B.r[/T{w=q}C]", 0, "/T{w=q}C"},
+    {ENTRY(path_embedded_target), "/A.r[/]", 0, "/"},
+    {ENTRY(path_embedded_target), "/A.r", 6, ""},
+    {ENTRY(path_embedded_target), "", 6, ""},
+    {ENTRY(path_embedded_target), "/A.r[/T", 2, ""},
 };
 
 static void test_parts(void) {
@@ -315,6 +355,47 @@ static void test_parts(void) {
         buffers = lend(254, 0);
         reply = parts[i].call(TEXT("/A.b"), OUT(buffers));
         check_path(parts[i].entry, "254 lent bytes", reply, buffers, MUDVIZSOR_NO_ROOM, "");
+        buffers = lend(0, 0);
+        reply = parts[i].call(TEXT(path_of(256)), OUT(buffers));
+        check_path(parts[i].entry, "256 bytes", reply, buffers, MUDVIZSOR_TOO_LONG, "");
+    }
+}
+
+static const struct {
+    const char *path, *target;
+    size_t out_length;
+    int number;
+    const char *result;
+} new_targets[] = {
+    {"/A.r[/B.s[/C]]", "/U", 255, 0, "/A.r[/U]"},
+    {"/A{v=p}.r[/T]", "/B{w=q}.s[/C]", 300, 0, "/A{v=p}.r[/B{w=q}.s[/C]]"},
+    {"/A.r[/T]", "/", 255, 0, "/A.r[/]"},
+    {"/A.r[/T]", "/B.s[/C.t[/D.u[/E]]]", 255, 0, FOUR_DEEP},
+    {"/A.r[/T]", FOUR_DEEP, 255, 8, ""},
+    {"/A.r[/T]", "", 255, 8, ""},
+    {"/A.r", "/U", 255, 6, ""},
+    {"/A", "", 255, 6, ""},
+    {"/A.r", "/U", 254, 5, ""},
+    {"/A.r[/T]", "U", 254, 2, ""},
+    {"/A.r[/T", "/U", 254, 2, ""},
+};
+
+static void test_replace_embedded_target(void) {
+    const char *entry = "mudvizsor_path_replace_embedded_target";
+    for (size_t i = 0; i < LENGTH(new_targets); i++) {
+        struct buffers *buffers = lend(new_targets[i].out_length, 0);
+        size_t reply = mudvizsor_path_replace_embedded_target(TEXT(new_targets[i].path), TEXT(new_targets[i].target),
+                                                              OUT(buffers));
+        check_path(entry, new_targets[i].path, reply, buffers, new_targets[i].number, new_targets[i].result);
+    }
+    const struct { size_t length; int number; } long_targets[] = {{249, 0}, {250, 7}, {255, 7}, {256, 1}};
+    for (size_t i = 0; i < LENGTH(long_targets); i++) {
+        const char *target = path_of(long_targets[i].length);
+        struct buffers *buffers = lend(255, 0);
+        char result[300] = "/A.r[";
+        strcat(strcat(result, target), "]");
+        size_t reply = mudvizsor_path_replace_embedded_target(TEXT("/A.r[/T]"), TEXT(target), OUT(buffers));
+        check_path(entry, "a long target", reply, buffers, long_targets[i].number, result);
     }
 }
 
@@ -330,6 +411,12 @@ static void test_ancestors(void) {
     reply = mudvizsor_path_ancestors(TEXT(path), buffers->slots.lent, buffers->slots_length);
     check_reply(entry, path, reply, MUDVIZSOR_NO_ROOM, 0);
     check(numbers_are(buffers, NULL, 0), entry, path, "lengths are unchanged");
+    const char *address = "/L/S.next[/L/T]";
+    const size_t address_lengths[] = {15, 9, 4, 2, 1};
+    buffers = lend(0, 5);
+    reply = mudvizsor_path_ancestors(TEXT(address), buffers->slots.lent, buffers->slots_length);
+    check_reply(entry, address, reply, 0, 5);
+    check(numbers_are(buffers, address_lengths, 5), entry, address, "lengths");
 }
 
 /* ---- Mapping a path ---- */
@@ -360,6 +447,12 @@ static const struct {
     {ENTRY_AND_CARRIED(map_source_to_target), "/A>", false, "/A/B", 6, "", 0, 0},
     {ENTRY_AND_CARRIED(map_source_to_target), "/A>/", false, "/A.b", 8, "", 0, 0},
     {ENTRY_AND_CARRIED(map_source_to_target), "/A{v=p}>/X", false, "/A", 3, "", 0, 0},
+    {ENTRY_AND_CARRIED(map_source_to_target), "/A>/X", false, "/A{v=p}.r[/A]", 0, "/X{v=p}.r[/A]", 2, 11},
+    {ENTRY_AND_CARRIED(map_source_to_target), "/A>/X", true, "/B.r[/A]", 0, "/B.r[/A]", 0, 8},
+    {ENTRY_AND_CARRIED(map_source_to_target), "/A>/X", false, "/B.r[/A]", 6, "", 0, 0},
+    {ENTRY_AND_CARRIED(map_source_to_target), "/A>/", false, "/A.r[/T]", 8, "", 0, 0},
+    {ENTRY_AND_CARRIED(map_source_to_target), "/A.r[/T]>/X", false, "/A", 3, "", 0, 0},
+    {ENTRY_AND_CARRIED(map_source_to_target), "/A>/X", false, "/A[/T]", 2, "", 0, 0},
     {ENTRY_AND_CARRIED(map_target_to_source), "/A>/X", false, "/X/y", 0, "/A/y", 2, 2},
     {ENTRY_AND_CARRIED(map_target_to_source), ">/X", false, "/X/y", 0, "/y", 2, 2},
     {ENTRY_AND_CARRIED(map_target_to_source), "/A>/X/Y", false, "/X/Y", 0, "/A", 4, 0},
@@ -367,6 +460,7 @@ static const struct {
     {ENTRY_AND_CARRIED(map_target_to_source), "/A>", true, "/B.c", 0, "/B.c", 0, 4},
     {ENTRY_AND_CARRIED(map_target_to_source), "/A>/X", false, "/A", 6, "", 0, 0},
     {ENTRY_AND_CARRIED(map_target_to_source), ">/X", false, "/X.p", 8, "", 0, 0},
+    {ENTRY_AND_CARRIED(map_target_to_source), "/A>/X", false, "/X.r[/X]", 0, "/A.r[/X]", 2, 6},
     {ENTRY_AND_CARRIED(translate_to_target), "/A>/X", false, "/A{v=p}B.c", 0, "/X/B.c", 0, 0},
     {ENTRY_AND_CARRIED(translate_to_target), "/A>/X", true, "/B{v=p}", 0, "/B", 0, 0},
     {ENTRY_AND_CARRIED(translate_to_target), "/A>/X", false, "/A/B.c", 0, "/X/B.c", 2, 4},
@@ -378,6 +472,9 @@ static const struct {
     {ENTRY_AND_CARRIED(translate_to_target), ">/", true, "/A", 6, "", 0, 0},
     {ENTRY_AND_CARRIED(translate_to_target), "/A>/ /B>/", false, "/A.b", 6, "", 0, 0},
     {ENTRY_AND_CARRIED(translate_to_target), "/A>/X", false, "A", 2, "", 0, 0},
+    {ENTRY_AND_CARRIED(translate_to_target), "/A>/X", false, "/A{v=p}B.r[/A{w=q}]", 0, "/X/B.r[/A{w=q}]", 0, 0},
+    {ENTRY_AND_CARRIED(translate_to_target), "/A>/X", false, "/A/B.r[/A{w=q}]", 0, "/X/B.r[/A{w=q}]", 2, 13},
+    {ENTRY_AND_CARRIED(translate_to_target), "/A>/X", true, "/X.r[/A]", 6, "", 0, 0},
 };
 
 static void test_mappings(void) {
@@ -576,6 +673,7 @@ static const struct {
     {ENTRY(map_from_pair), "/A", "/X/Y", 6, 4, {0, "/A>/X/Y", false, 0, 1}},
     {ENTRY(map_from_pair), "/A", "/X/Y", 5, 4, REFUSED(5)},
     {ENTRY(map_from_pair), "/A{v=p}", "/X", 99, 99, REFUSED(3)},
+    {ENTRY(map_from_pair), "/A", "/X.r[/T]", 99, 99, REFUSED(3)},
     {ENTRY(map_from_pair_identity), "/A", "/A", 4, 4, {0, "", true, 0, 1}},
     {ENTRY(map_from_pair_identity), "/A", "", 2, 4, {0, "/A>", true, 0, 1}},
     {ENTRY(map_from_pair_identity), "/A", "/A", 4, 3, REFUSED(5)},
@@ -743,6 +841,7 @@ static const struct {
     size_t steps;
 } chains[] = {
     {false, "not read", "/R/a/b/d/b/d", 255, 0, "/R/a/b/d", 2},
+    {false, "not read", "/R/a/b/d.r[/R/a/b]", 255, 0, "/R/a.r[/R/a/b]", 2},
     {true, "/R/a/b", "/R/a/b/d/b/d", 255, 0, "/R/a/b/d/b/d", 0},
     {true, "no path", "/R/a/b/d/b/d", 255, 2, "", 0},
     {false, "", "/R/a/b/d/b/d", 254, 5, "", 0},
@@ -766,7 +865,8 @@ static void test_chains(void) {
 static void test_shifts(void) {
     const char *entry = "mudvizsor_shift_through_nearest_ancestor";
     const struct { const char *pairs, *endpoint, *result; int number; } shifts[] = {
-        {"/A>/X", "/A/B", "/X/B", 0}, {"/A>/X", "/A", "/A", 0}, {"/A>/", "/A.b", "", 8}, {"/A>/X", "/A.", "", 2}};
+        {"/A>/X", "/A/B", "/X/B", 0}, {"/A>/X", "/A", "/A", 0}, {"/A>/", "/A.b", "", 8}, {"/A>/X", "/A.", "", 2},
+        {"/A>/X", "/A.r[/A]", "/X.r[/A]", 0}};
     for (size_t i = 0; i < LENGTH(shifts); i++) {
         struct list *list = list_of(shifts[i].pairs);
         struct buffers *buffers = lend(255, 0);
@@ -799,6 +899,8 @@ static const struct {
     {ENTRY_AND_CARRIED(route_out), 2, "/A{v=p}c/x", 0, "/B/d/x", 0, 0},
     {ENTRY_AND_CARRIED(route_out), 2, "/A/c/x", 0, "/B/d/x", 4, 2},
     {ENTRY_AND_CARRIED(route_out), 2, "/A/e.x", 0, "/B/e.x", 2, 4},
+    {ENTRY_AND_CARRIED(route_out), 2, "/A/c.r[/A{w=q}c]", 0, "/B/d.r[/A{w=q}c]", 4, 12},
+    {ENTRY_AND_CARRIED(route_out), 2, "/A{v=p}c.r[/A{w=q}c]", 0, "/B/d.r[/A{w=q}c]", 0, 0},
     {ENTRY_AND_CARRIED(route_out), 2, "/A/c", 0, "/B/d", 4, 0},
     {ENTRY_AND_CARRIED(route_out), 1, "/A/c/x", 0, "/B/c/x", 2, 4},
     {ENTRY_AND_CARRIED(route_out), 1, "/A", 0, "/B", 2, 0},
@@ -809,6 +911,7 @@ static const struct {
     {ENTRY_AND_CARRIED(route_out), SIZE_MAX, "/A", 4, "", 0, 0},
     {ENTRY_AND_CARRIED(route_home), 2, "/B/d/x", 0, "/A/c/x", 4, 2},
     {ENTRY_AND_CARRIED(route_home), 2, "/B/c", 0, "/A/c", 2, 2},
+    {ENTRY_AND_CARRIED(route_home), 2, "/B/d.r[/A{w=q}c]", 0, "/A/c.r[/A{w=q}c]", 4, 12},
     {ENTRY_AND_CARRIED(route_home), 2, "/B{v=p}c", 0, "/A{v=p}c", 2, 6},
     {ENTRY_AND_CARRIED(route_home), 2, "/B", 0, "/A", 2, 0},
     {ENTRY_AND_CARRIED(route_home), 0, "/B/c", 0, "/B/c", 0, 4},
@@ -883,10 +986,12 @@ static void test_route_all(void) {
 
 /* ---- One line of frames ---- */
 
-/* The example of docs/REQUIREMENTS.md, a bad frame, and an open list that a refused call does not change. */
+/* The example of docs/REQUIREMENTS.md, /A.r[/A] out and home, a bad frame, and an open list that a refused call does not
+   change. */
 static const struct { const char *line, *answer; } exchanges[] = {
     {"0100022F4100022F42", "8100\n"}, {"03", "8300\n"}, {"052F412F43", "85002F422F43\n"},
     {"062F422F43", "86002F412F43\n"}, {"052F51", "8506\n"}, {"07", "870000000001\n"},
+    {"052F412E725B2F415D", "85002F422E725B2F415D\n"}, {"062F422E725B2F415D", "86002F412E725B2F415D\n"},
     {"", "FF09\n"}, {"0100022F4100022f4", "FF09\n"}, {"0100022F6100022F62", "8100\n"}, {"02", "820001\n"},
 };
 
@@ -904,7 +1009,7 @@ static size_t frames_line(const char *line, size_t kept_length, struct buffers *
 
 static void test_frames(void) {
     const char *entry = "mudvizsor_frames_line";
-    const size_t kept_after[] = {1, 4, 1, 4, 1, 77};
+    const size_t kept_after[] = {1, 4, 1, 4, 2, 77};
     memset(&frames, 0x5a, sizeof frames);
     memset(frames.kept, 0, sizeof frames.kept);
     frames.kept[5] = 77;
@@ -1100,12 +1205,12 @@ static void test_times_of_maps(void) {
 
 int main(void) {
     void (*const tests[])(void) = {
-        test_path_tests, test_has_prefix, test_rest_start, test_replace_prefix, test_parts, test_ancestors, test_mappings,
-        test_carried_mappings, test_damaged_lists, test_map_all, test_new, test_built_map_is_lent, test_pair_builds,
-        test_map_builds, test_path_builds, test_rebases, test_two_builds, test_is_noop, test_analyses, test_chains,
-        test_shifts, test_route_cases, test_carried_route_cases, test_many_legs, test_route_all, test_frames,
-        test_altered_frames, test_time_tests, test_resulting_times, test_bits, test_info, test_plain_maps,
-        test_times_of_maps,
+        test_path_tests, test_has_prefix, test_rest_start, test_replace_prefix, test_parts, test_replace_embedded_target,
+        test_ancestors, test_mappings, test_carried_mappings, test_damaged_lists, test_map_all, test_new,
+        test_built_map_is_lent, test_pair_builds, test_map_builds, test_path_builds, test_rebases, test_two_builds,
+        test_is_noop, test_analyses, test_chains, test_shifts, test_route_cases, test_carried_route_cases, test_many_legs,
+        test_route_all, test_frames, test_altered_frames, test_time_tests, test_resulting_times, test_bits, test_info,
+        test_plain_maps, test_times_of_maps,
     };
     for (size_t i = 0; i < LENGTH(tests); i++) tests[i]();
     for (size_t i = 0; i < entry_count; i++)

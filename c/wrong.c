@@ -1,6 +1,8 @@
-/* Faulty entries that robust.c must detect. They are linked in place of four entries of the library (with --wrap of ld); each
+/* Faulty entries that robust.c must detect. They are linked in place of eight entries of the library (with --wrap of ld); each
    calls the real entry and makes one fault, selected by WRONG. */
 #include "mudvizsor.h"
+
+#include <string.h>
 
 size_t __real_mudvizsor_path_parent(const char *path, size_t path_length, char *out, size_t out_length);
 size_t __wrap_mudvizsor_path_parent(const char *path, size_t path_length, char *out, size_t out_length);
@@ -17,6 +19,21 @@ size_t __real_mudvizsor_translate_to_target_carried(
     const char *store, size_t store_length, const size_t *places, size_t places_length, size_t count, bool mark,
     const char *path, size_t path_length, char *out, size_t out_length);
 size_t __wrap_mudvizsor_translate_to_target_carried(
+    const char *store, size_t store_length, const size_t *places, size_t places_length, size_t count, bool mark,
+    const char *path, size_t path_length, char *out, size_t out_length);
+
+size_t __real_mudvizsor_path_strip_variant_selections(const char *path, size_t path_length, char *out, size_t out_length);
+size_t __wrap_mudvizsor_path_strip_variant_selections(const char *path, size_t path_length, char *out, size_t out_length);
+size_t __real_mudvizsor_path_embedded_target(const char *path, size_t path_length, char *out, size_t out_length);
+size_t __wrap_mudvizsor_path_embedded_target(const char *path, size_t path_length, char *out, size_t out_length);
+size_t __real_mudvizsor_path_replace_embedded_target(
+    const char *path, size_t path_length, const char *target, size_t target_length, char *out, size_t out_length);
+size_t __wrap_mudvizsor_path_replace_embedded_target(
+    const char *path, size_t path_length, const char *target, size_t target_length, char *out, size_t out_length);
+size_t __real_mudvizsor_map_source_to_target(
+    const char *store, size_t store_length, const size_t *places, size_t places_length, size_t count, bool mark,
+    const char *path, size_t path_length, char *out, size_t out_length);
+size_t __wrap_mudvizsor_map_source_to_target(
     const char *store, size_t store_length, const size_t *places, size_t places_length, size_t count, bool mark,
     const char *path, size_t path_length, char *out, size_t out_length);
 
@@ -67,4 +84,53 @@ size_t __wrap_mudvizsor_translate_to_target_carried(
     if (WRONG == 13 && start > 0) return reply - 65536 + 16777216;                /* the rest has a byte of the source */
     if (WRONG == 14 && stripped) return reply + 65536 * path_length;              /* an empty rest at the end, not at 0 */
     return reply;
+}
+
+/* Replaces the target in the path that was written with this reply, if both calls were answered and the result is legal. */
+static size_t with_target(size_t reply, const char *target, size_t target_reply, char *out, size_t out_length) {
+    char path[MUDVIZSOR_PATH_BYTES];
+    if (mudvizsor_number(reply) != MUDVIZSOR_ANSWER || mudvizsor_number(target_reply) != MUDVIZSOR_ANSWER) return reply;
+    memcpy(path, out, mudvizsor_value(reply));
+    size_t altered = __real_mudvizsor_path_replace_embedded_target(path, mudvizsor_value(reply), target,
+                                                                   mudvizsor_value(target_reply), out, out_length);
+    return mudvizsor_number(altered) == MUDVIZSOR_ANSWER ? altered : reply;
+}
+
+size_t __wrap_mudvizsor_path_strip_variant_selections(const char *path, size_t path_length, char *out, size_t out_length) {
+    char target[MUDVIZSOR_PATH_BYTES], stripped[MUDVIZSOR_PATH_BYTES];
+    size_t reply = __real_mudvizsor_path_strip_variant_selections(path, path_length, out, out_length);
+    size_t inner = __real_mudvizsor_path_embedded_target(path, path_length, target, sizeof target);
+    if (WRONG != 15 || mudvizsor_number(inner) != MUDVIZSOR_ANSWER) return reply;
+    inner = __real_mudvizsor_path_strip_variant_selections(target, mudvizsor_value(inner), stripped, sizeof stripped);
+    return with_target(reply, stripped, inner, out, out_length);                  /* strips in brackets, too */
+}
+
+size_t __wrap_mudvizsor_path_embedded_target(const char *path, size_t path_length, char *out, size_t out_length) {
+    char target[MUDVIZSOR_PATH_BYTES];
+    size_t reply = __real_mudvizsor_path_embedded_target(path, path_length, out, out_length);
+    if (WRONG != 16 || mudvizsor_number(reply) != MUDVIZSOR_ANSWER) return reply;
+    memcpy(target, out, mudvizsor_value(reply));
+    size_t inner = __real_mudvizsor_path_embedded_target(target, mudvizsor_value(reply), out, out_length);
+    return mudvizsor_number(inner) == MUDVIZSOR_ANSWER ? inner : reply;           /* the path in the last brackets */
+}
+
+size_t __wrap_mudvizsor_path_replace_embedded_target(
+    const char *path, size_t path_length, const char *target, size_t target_length, char *out, size_t out_length) {
+    size_t reply = __real_mudvizsor_path_replace_embedded_target(path, path_length, target, target_length, out, out_length);
+    if (WRONG != 17 || mudvizsor_number(reply) != MUDVIZSOR_ANSWER) return reply;
+    memcpy(out, path, path_length);
+    return 256 * path_length;                                                     /* leaves the path as it is */
+}
+
+size_t __wrap_mudvizsor_map_source_to_target(
+    const char *store, size_t store_length, const size_t *places, size_t places_length, size_t count, bool mark,
+    const char *path, size_t path_length, char *out, size_t out_length) {
+    char target[MUDVIZSOR_PATH_BYTES], mapped[MUDVIZSOR_PATH_BYTES];
+    size_t reply = __real_mudvizsor_map_source_to_target(
+        store, store_length, places, places_length, count, mark, path, path_length, out, out_length);
+    size_t inner = __real_mudvizsor_path_embedded_target(path, path_length, target, sizeof target);
+    if (WRONG != 18 || mudvizsor_number(inner) != MUDVIZSOR_ANSWER) return reply;
+    inner = __real_mudvizsor_map_source_to_target(
+        store, store_length, places, places_length, count, mark, target, mudvizsor_value(inner), mapped, sizeof mapped);
+    return with_target(reply, mapped, inner, out, out_length);                    /* maps the path in brackets, too */
 }

@@ -8,13 +8,13 @@ use std::ops::Range;
 /// A path made by mapping another one, and the rest: the end of the given path that was carried over unaltered.
 ///
 /// The rest follows the prefix of the given path that was replaced, and is the end of the path made too. A separating slash
-/// belongs to it. It is
+/// belongs to it, and so do brackets. It is
 ///
 /// - what follows the source (on the way back the target) of the pair that matched, but the whole path if that is `/` and the
 ///   path is longer;
 /// - empty, at the end of the given path, if the pair matched the whole path;
 /// - the whole path if no pair matched, so that the mark mapped the path to itself;
-/// - empty, with the range `0..0`, if variant selections were removed, by
+/// - empty, with the range `0..0`, if variant selections were removed (those in brackets never are), by
 ///   [`translate_to_target_carried`](crate::MapFunction::translate_to_target_carried) or by the first leg of
 ///   [`Route::out_carried`](crate::Route::out_carried);
 /// - over several legs of a route the shortest of their rests, and over no legs the whole path.

@@ -31,8 +31,8 @@ const IMPLIED_PAIR_BYTES: [usize; 3] =
 /// Each source and target is an end: a prim path, `/` or empty. A path is mapped by the pair with the longest match: of the
 /// sources that are a prefix of the path, the one with the most elements, the last one on a tie. That source is replaced by
 /// the target. An empty target blocks the path, so that it has no result; an empty source never matches. With the mark, a
-/// path that no pair matches is mapped to itself. The calls that build a map from texts take them as `&str`, `String` or
-/// [`Path`].
+/// path that no pair matches is mapped to itself. A path in brackets is not mapped: it stays as it is. The calls that build a
+/// map from texts take them as `&str`, `String` or [`Path`].
 ///
 /// ```
 /// use mudvizsor::{MapFunction, Path, Refusal};
@@ -41,6 +41,9 @@ const IMPLIED_PAIR_BYTES: [usize; 3] =
 /// assert_eq!(map.map_source_to_target(&Path::new("/Mast/Head.lit")?)?.as_str(), "/Line7/Signal_1/Head.lit");
 /// assert_eq!(map.map_source_to_target(&Path::new("/Mast/Spare")?), Err(Refusal::NoPath));
 /// assert_eq!(map.map_source_to_target(&Path::new("/Bench")?), Err(Refusal::NoPath));
+///
+/// let address = map.map_source_to_target(&Path::new("/Mast.next[/Mast/Head]")?)?;
+/// assert_eq!(address.as_str(), "/Line7/Signal_1.next[/Mast/Head]");
 /// # Ok::<(), Refusal>(())
 /// ```
 #[derive(Debug, Clone, PartialEq)]
@@ -268,8 +271,8 @@ impl MapFunction {
         self.map_path(Direction::Home, path)
     }
 
-    /// Removes the variant selections from the path and maps it from sources to targets, if the result maps back through the
-    /// same pair.
+    /// Removes the variant selections from the path, except those in brackets, and maps it from sources to targets, if the
+    /// result maps back through the same pair.
     ///
     /// # Errors
     ///
@@ -331,7 +334,7 @@ impl MapFunction {
     }
 
     /// Maps the path as [`translate_to_target`](Self::translate_to_target) does, and also returns the range of it that was
-    /// carried over unaltered. That range is `0..0` if the path has a variant selection.
+    /// carried over unaltered. That range is `0..0` if the path has a variant selection outside brackets.
     ///
     /// # Errors
     ///

@@ -19,12 +19,18 @@ const MAX_ANCESTORS: usize = 128;
 /// it. A prim path has names only. `docs/REQUIREMENTS.md` (Path texts) defines the grammar. Paths are ordered by their
 /// texts.
 ///
+/// After a property an absolute path in brackets may follow, the target of a relationship: `/Line7/Quay.next[/Line7/Depot]`.
+/// It ends the text, and may have brackets itself; a text has at most four opening brackets. What comes before the first one
+/// is the path's own part. Only that part is counted, stripped, and moved by maps and routes.
+///
 /// ```
 /// use mudvizsor::{Path, Refusal};
 ///
 /// let path: Path = "/Line7{season=winter}Quay.state".parse()?;
 /// assert_eq!(path.to_string(), "/Line7{season=winter}Quay.state");
 /// assert_eq!(Path::try_from("/Line7/"), Err(Refusal::NotLegal));
+/// assert!(Path::new("/Line7/Quay.next[/Line7/Depot]").is_ok());
+/// assert_eq!(Path::new("/Line7/Quay[/Line7/Depot]"), Err(Refusal::NotLegal));
 /// # Ok::<(), Refusal>(())
 /// ```
 #[derive(Clone, Default, PartialEq, Eq, PartialOrd, Ord, Hash)]
@@ -117,29 +123,31 @@ impl Path {
         accepted(paths::is_end(self.as_bytes())) != 0
     }
 
-    /// Returns whether it contains a variant selection.
+    /// Returns whether it contains a variant selection before its brackets, if it has any.
     ///
     /// ```
     /// # use mudvizsor::Path;
     /// assert!(Path::new("/Line7{season=winter}Quay")?.has_variant_selection());
+    /// assert!(!Path::new("/Line7.next[/Line8{season=winter}]")?.has_variant_selection());
     /// # Ok::<(), mudvizsor::Refusal>(())
     /// ```
     pub fn has_variant_selection(&self) -> bool {
         accepted(paths::has_variant_selection(self.as_bytes())) != 0
     }
 
-    /// Returns the number of names and selections. A property is not counted.
+    /// Returns the number of names and selections. A property is not counted, nor is anything in brackets.
     ///
     /// ```
     /// # use mudvizsor::Path;
     /// assert_eq!(Path::new("/Line7{season=winter}Quay.state")?.element_count(), 3);
+    /// assert_eq!(Path::new("/Line7.next[/Line8/Quay]")?.element_count(), 1);
     /// # Ok::<(), mudvizsor::Refusal>(())
     /// ```
     pub fn element_count(&self) -> usize {
         accepted(paths::element_count(self.as_bytes()))
     }
 
-    /// Returns the number of names. Selections and a property are not counted.
+    /// Returns the number of names. Selections and a property are not counted, nor is anything in brackets.
     ///
     /// ```
     /// # use mudvizsor::Path;
@@ -150,13 +158,16 @@ impl Path {
         accepted(paths::prim_element_count(self.as_bytes()))
     }
 
-    /// Returns whether `prefix` is the path itself or one of its ancestors. The empty path is a prefix of every path.
+    /// Returns whether `prefix` is the path itself or one of its ancestors. The empty path is a prefix of every path. The
+    /// property before brackets is the parent of the path, but no prefix of it.
     ///
     /// ```
     /// # use mudvizsor::Path;
     /// let line = Path::new("/Line7")?;
     /// assert!(Path::new("/Line7/Quay")?.has_prefix(&line));
     /// assert!(!Path::new("/Line71")?.has_prefix(&line));
+    /// let address = Path::new("/Line7.next[/Line8]")?;
+    /// assert!(address.has_prefix(&line) && !address.has_prefix(&address.parent()?));
     /// # Ok::<(), mudvizsor::Refusal>(())
     /// ```
     pub fn has_prefix(&self, prefix: &Path) -> bool {
@@ -202,7 +213,8 @@ impl Path {
         read_path(|out| paths::replace_prefix(self.as_bytes(), old.as_bytes(), new.as_bytes(), out))
     }
 
-    /// Returns the path without its property or, if it has none, without its last element.
+    /// Returns the path without its brackets or, if it has none, without its property or, if it has none either, without its
+    /// last element.
     ///
     /// # Errors
     ///
@@ -210,6 +222,7 @@ impl Path {
     ///
     /// ```
     /// # use mudvizsor::{Path, Refusal};
+    /// assert_eq!(Path::new("/Line7.next[/Line8]")?.parent()?.as_str(), "/Line7.next");
     /// assert_eq!(Path::new("/Line7.state")?.parent()?.as_str(), "/Line7");
     /// assert_eq!(Path::new("/Line7{season=winter}Quay")?.parent()?.as_str(), "/Line7{season=winter}");
     /// assert_eq!(Path::root().parent(), Err(Refusal::NoPath));
@@ -219,11 +232,13 @@ impl Path {
         read_path(|out| paths::parent(self.as_bytes(), out))
     }
 
-    /// Returns the path without its property or, if it has none and ends in a selection, without that selection.
+    /// Returns the path without its property and brackets or, if it has no property and ends in a selection, without that
+    /// selection.
     ///
     /// ```
     /// # use mudvizsor::Path;
     /// assert_eq!(Path::new("/Line7/Quay.state")?.prim_path().as_str(), "/Line7/Quay");
+    /// assert_eq!(Path::new("/Line7/Quay.next[/Line8]")?.prim_path().as_str(), "/Line7/Quay");
     /// assert_eq!(Path::new("/Line7{season=winter}")?.prim_path().as_str(), "/Line7");
     /// # Ok::<(), mudvizsor::Refusal>(())
     /// ```
@@ -237,7 +252,7 @@ impl Path {
     ///
     /// # Errors
     ///
-    /// [`Refusal::NoPath`] (6) if the path has no property.
+    /// [`Refusal::NoPath`] (6) if the path has no property, or has brackets after it.
     ///
     /// ```
     /// # use mudvizsor::{Path, Refusal};
@@ -245,6 +260,7 @@ impl Path {
     /// let (prim, name) = lamp.split_property()?;
     /// assert_eq!((prim.as_str(), name), ("/Mast/Lamp_2", "aspect:state"));
     /// assert_eq!(prim.split_property(), Err(Refusal::NoPath));
+    /// assert_eq!(Path::new("/Mast.next[/Switch]")?.split_property(), Err(Refusal::NoPath));
     /// # Ok::<(), Refusal>(())
     /// ```
     pub fn split_property(&self) -> Result<(Path, &str)> {
@@ -253,12 +269,14 @@ impl Path {
         Ok((prim, name))
     }
 
-    /// Returns the path without its variant selections.
+    /// Returns the path without its variant selections. Those in brackets are kept.
     ///
     /// ```
     /// # use mudvizsor::Path;
     /// let path = Path::new("/Line7{season=winter}{snow=deep}Quay.state")?;
     /// assert_eq!(path.strip_variant_selections().as_str(), "/Line7/Quay.state");
+    /// let address = Path::new("/Line7{season=winter}Quay.next[/Line8{snow=deep}]")?;
+    /// assert_eq!(address.strip_variant_selections().as_str(), "/Line7/Quay.next[/Line8{snow=deep}]");
     /// # Ok::<(), mudvizsor::Refusal>(())
     /// ```
     pub fn strip_variant_selections(&self) -> Path {
@@ -282,6 +300,44 @@ impl Path {
         let count = accepted(paths::ancestors(self.as_bytes(), &mut lengths));
         lengths.truncate(count);
         Ancestors { path: self, lengths: lengths.into_iter() }
+    }
+
+    /// Returns the path in the brackets, without the brackets.
+    ///
+    /// # Errors
+    ///
+    /// [`Refusal::NoPath`] (6) if the path has no brackets.
+    ///
+    /// ```
+    /// # use mudvizsor::{Path, Refusal};
+    /// let target = Path::new("/Mast.next[/Switch.guard[/Mast/Head]]")?.embedded_target()?;
+    /// assert_eq!(target.as_str(), "/Switch.guard[/Mast/Head]");
+    /// assert_eq!(target.embedded_target()?.as_str(), "/Mast/Head");
+    /// assert_eq!(Path::new("/Mast.next")?.embedded_target(), Err(Refusal::NoPath));
+    /// # Ok::<(), Refusal>(())
+    /// ```
+    pub fn embedded_target(&self) -> Result<Path> {
+        read_path(|out| paths::embedded_target(self.as_bytes(), out))
+    }
+
+    /// Returns the path with the path in its brackets replaced by `target`.
+    ///
+    /// # Errors
+    ///
+    /// [`Refusal::NoPath`] (6) if the path has no brackets, [`Refusal::MadeTooLong`] (7) or [`Refusal::MadeNotLegal`] (8) if
+    /// the result is too long or not legal. It is not legal if `target` is empty or has four brackets itself.
+    ///
+    /// ```
+    /// # use mudvizsor::{Path, Refusal};
+    /// let address = Path::new("/Mast.next[/Switch.guard[/Mast/Head]]")?;
+    /// let moved = address.replace_embedded_target(&Path::new("/Line7/Points_A")?)?;
+    /// assert_eq!(moved.as_str(), "/Mast.next[/Line7/Points_A]");
+    /// assert_eq!(address.replace_embedded_target(&Path::empty()), Err(Refusal::MadeNotLegal));
+    /// assert_eq!(Path::new("/Mast")?.replace_embedded_target(&moved), Err(Refusal::NoPath));
+    /// # Ok::<(), Refusal>(())
+    /// ```
+    pub fn replace_embedded_target(&self, target: &Path) -> Result<Path> {
+        read_path(|out| paths::replace_embedded_target(self.as_bytes(), target.as_bytes(), out))
     }
 }
 

@@ -159,7 +159,7 @@ impl Relocates {
     ///
     /// Each step uses, of the pairs that have a nonempty target and alter the path, the one whose source is the longest in
     /// bytes, the last one on a tie, and replaces that source by the target. There are at most as many steps as pairs. All
-    /// pairs take part, whatever their status.
+    /// pairs take part, whatever their status. A path in brackets is left as it is.
     ///
     /// # Errors
     ///
@@ -193,7 +193,7 @@ impl Relocates {
     /// Applies the relocate of the nearest ancestor of the endpoint, once; returns the endpoint unchanged if there is none.
     ///
     /// The nearest ancestor is, of the sources that are a prefix of the endpoint but not the endpoint itself and have a
-    /// nonempty target, the longest one in bytes, the last one on a tie.
+    /// nonempty target, the longest one in bytes, the last one on a tie. A path in brackets is left as it is.
     ///
     /// # Errors
     ///

@@ -68,7 +68,8 @@ impl From<Relocates> for Leg {
 /// [`out`](Self::out) maps a path over the legs in order with [`MapFunction::translate_to_target`], and stops at the first
 /// leg that has no result. [`home`](Self::home) maps it over the legs in reverse with
 /// [`MapFunction::map_target_to_source`]. It is proved for the library that a path without selections that comes out is
-/// mapped home to itself, over the whole route.
+/// mapped home to itself, over the whole route. A path in brackets stays as it is, out and home, and its selections do not
+/// count.
 ///
 /// ```
 /// use mudvizsor::{MapFunction, Path, Relocates, Route};
@@ -79,6 +80,14 @@ impl From<Relocates> for Leg {
 /// let there = route.out(&Path::new("/Mast/Head.lit")?)?;
 /// assert_eq!(there.as_str(), "/Line7/Quay/Signal_12/Head.lit");
 /// assert_eq!(route.home(&there)?.as_str(), "/Mast/Head.lit");
+///
+/// // The target in brackets is mapped by a call of its own.
+/// let address = Path::new("/Mast.next[/Mast/Head]")?;
+/// let there = route.out(&address)?;
+/// assert_eq!(there.as_str(), "/Line7/Quay/Signal_12.next[/Mast/Head]");
+/// assert_eq!(route.home(&there)?, address);
+/// let moved = there.replace_embedded_target(&route.out(&address.embedded_target()?)?)?;
+/// assert_eq!(moved.as_str(), "/Line7/Quay/Signal_12.next[/Line7/Quay/Signal_12/Head]");
 /// # Ok::<(), mudvizsor::Refusal>(())
 /// ```
 #[derive(Debug, Clone)]
@@ -140,7 +149,8 @@ impl Route {
         &self.legs
     }
 
-    /// Maps the path out over the legs. Its selections are removed by the first leg; with no legs it is returned unchanged.
+    /// Maps the path out over the legs. Its selections, except those in brackets, are removed by the first leg; with no legs
+    /// it is returned unchanged.
     ///
     /// # Errors
     ///

@@ -3,7 +3,7 @@
 use crate::json::{array, object, string};
 use crate::report::{Report, Summary};
 use crate::scenario::Section;
-use crate::trace::{Outcome, Trace};
+use crate::trace::{Moved, Outcome, Target, Trace};
 use mudvizsor::{Leg, Path, Refusal};
 use std::io::{Result, Write};
 use std::ops::Range;
@@ -80,6 +80,7 @@ fn members(trace: &Trace) -> Vec<(&'static str, String)> {
         Outcome::Stopped { leg, refusal } => stopped("out", Some(*leg), *refusal),
         Outcome::Elsewhere(Err(refusal)) => stopped("home", None, *refusal),
     });
+    members.extend(trace.target.as_deref().map(target));
     members
 }
 
@@ -93,7 +94,24 @@ fn home(path: &Path) -> (&'static str, String) {
     ("home", string(path.as_str()))
 }
 
-/// Where a trace stopped (at the `signal` itself, on the way `out` or on the way `home`), at which leg, and why.
+/// The path in the signal's brackets, the path that it is mapped to itself, and the address with that one in its brackets.
+fn target(target: &Target) -> (&'static str, String) {
+    let mut members = vec![("path", string(target.path.as_str()))];
+    match &target.moved {
+        Moved::Stopped { leg, refusal } => members.extend(stopped("out", Some(*leg), *refusal)),
+        Moved::Out { path, address } => {
+            members.push(("moved", string(path.as_str())));
+            members.extend(match address {
+                Ok(address) => vec![("address", string(address.as_str()))],
+                Err(refusal) => stopped("address", None, *refusal),
+            });
+        }
+    }
+    ("target", object(members))
+}
+
+/// Where a trace stopped (at the `signal` itself, on the way `out` or on the way `home`, or at the `address` with the moved
+/// target), at which leg, and why.
 fn stopped(place: &str, leg: Option<usize>, refusal: Refusal) -> Vec<(&'static str, String)> {
     let mut members = vec![("at", string(place))];
     members.extend(leg.map(|leg| ("leg", leg.to_string())));
@@ -109,7 +127,47 @@ mod tests {
 
     fn written(unaltered: Option<Range<usize>>, outcome: Outcome) -> String {
         let signal = Signal { line: 3, text: "/A\"".to_string() };
-        object(members(&Trace { signal: &signal, steps: vec![Path::root()], unaltered, outcome }))
+        object(members(&Trace {
+            signal: &signal,
+            steps: vec![Path::root()],
+            unaltered,
+            target: None,
+            outcome,
+        }))
+    }
+
+    #[test]
+    fn targets() {
+        let path = |text: &str| Path::new(text).unwrap();
+        let stopped = Moved::Stopped { leg: 2, refusal: Refusal::NoPath };
+        let out = |address| Moved::Out { path: path("/X"), address };
+        let cases = [
+            (stopped, "\"stopped\": {\"at\": \"out\", \"leg\": 2, \"number\": 6, \"meaning\": \"no path\"}"),
+            (out(Path::new("/B.r[/X]")), "\"moved\": \"/X\", \"address\": \"/B.r[/X]\""),
+            (
+                out(Err(Refusal::MadeTooLong)),
+                "\"moved\": \"/X\", \"stopped\": {\"at\": \"address\", \"number\": 7, \
+                 \"meaning\": \"the path made is longer than 255 bytes\"}",
+            ),
+        ];
+        for (moved, expected) in cases {
+            let (name, value) = target(&Target { path: path("/T"), moved });
+            assert_eq!((name, value), ("target", format!("{{\"path\": \"/T\", {expected}}}")));
+        }
+    }
+
+    #[test]
+    fn the_target_comes_last() {
+        let signal = Signal { line: 3, text: "/A.r[/T]".to_string() };
+        let address = Path::new("/A.r[/T]");
+        let moved = Moved::Out { path: Path::new("/T").unwrap(), address: address.clone() };
+        let target = Some(Box::new(Target { path: Path::new("/T").unwrap(), moved }));
+        let outcome = Outcome::Home(address.unwrap());
+        let text =
+            object(members(&Trace { signal: &signal, steps: Vec::new(), unaltered: None, target, outcome }));
+        let end = "\"home\": \"/A.r[/T]\", \
+                   \"target\": {\"path\": \"/T\", \"moved\": \"/T\", \"address\": \"/A.r[/T]\"}}";
+        assert!(text.ends_with(end), "{text}");
     }
 
     #[test]

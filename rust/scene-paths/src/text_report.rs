@@ -2,7 +2,7 @@
 
 use crate::report::{Report, Summary};
 use crate::scenario::Section;
-use crate::trace::{Outcome, Trace, meaning};
+use crate::trace::{Moved, Outcome, Target, Trace, meaning};
 use mudvizsor::{Leg, Path, Refusal, Relocates, Status};
 use std::fmt;
 use std::io::{Result, Write};
@@ -45,6 +45,44 @@ impl<W: Write> TextReport<W> {
         }
         Ok(())
     }
+
+    /// Writes how a trace ended.
+    fn outcome(&mut self, trace: &Trace) -> Result<()> {
+        match &trace.outcome {
+            Outcome::Home(path) if path.as_str() == trace.signal.text => {
+                let text = Highlighted { text: shown(path), tail: self.tail(trace) };
+                writeln!(self.out, "  home    {text}")
+            }
+            Outcome::Home(path) => writeln!(self.out, "  home    {}, its selections left out", shown(path)),
+            Outcome::BadPath(refusal) => writeln!(self.out, "  no signal: {}", why(*refusal)),
+            Outcome::Stopped { leg, refusal } => {
+                writeln!(self.out, "  leg {leg:<2}  stopped: {}", why(*refusal))
+            }
+            Outcome::Elsewhere(Ok(path)) => writeln!(self.out, "  home    astray at {}", shown(path)),
+            Outcome::Elsewhere(Err(refusal)) => writeln!(self.out, "  home    astray: {}", why(*refusal)),
+        }
+    }
+
+    /// Writes that the target in brackets was not moved, and what becomes of it if it is mapped itself.
+    fn target(&mut self, target: &Target) -> Result<()> {
+        let path = &target.path;
+        writeln!(self.out, "  target  not moved by mapping: the brackets still name {path}")?;
+        match &target.moved {
+            Moved::Stopped { leg, refusal } => {
+                writeln!(self.out, "          {path} itself would stop at leg {leg}: {}", why(*refusal))
+            }
+            Moved::Out { path: moved, address } => {
+                let remarks = remarks(path, moved);
+                writeln!(self.out, "          {path} itself would come out as {moved}{remarks}")?;
+                match address {
+                    Ok(address) => writeln!(self.out, "          address with the moved target: {address}"),
+                    Err(refusal) => {
+                        writeln!(self.out, "          no address with the moved target: {}", why(*refusal))
+                    }
+                }
+            }
+        }
+    }
 }
 
 impl<W: Write> Report for TextReport<W> {
@@ -72,18 +110,8 @@ impl<W: Write> Report for TextReport<W> {
         for (i, step) in trace.steps.iter().enumerate() {
             writeln!(self.out, "  leg {:<2}  {}", i + 1, Highlighted { text: shown(step), tail })?;
         }
-        match &trace.outcome {
-            Outcome::Home(path) if path.as_str() == trace.signal.text => {
-                writeln!(self.out, "  home    {}", Highlighted { text: shown(path), tail })
-            }
-            Outcome::Home(path) => writeln!(self.out, "  home    {}, its selections left out", shown(path)),
-            Outcome::BadPath(refusal) => writeln!(self.out, "  no signal: {}", why(*refusal)),
-            Outcome::Stopped { leg, refusal } => {
-                writeln!(self.out, "  leg {leg:<2}  stopped: {}", why(*refusal))
-            }
-            Outcome::Elsewhere(Ok(path)) => writeln!(self.out, "  home    astray at {}", shown(path)),
-            Outcome::Elsewhere(Err(refusal)) => writeln!(self.out, "  home    astray: {}", why(*refusal)),
-        }
+        self.outcome(trace)?;
+        trace.target.as_deref().map_or(Ok(()), |target| self.target(target))
     }
 
     fn end(&mut self, summary: &Summary) -> Result<()> {
@@ -131,6 +159,14 @@ fn why(refusal: Refusal) -> String {
     format!("{}, {}", refusal.number(), meaning(refusal))
 }
 
+/// What a target lost on its way out, and what of it was not moved.
+fn remarks(target: &Path, moved: &Path) -> String {
+    let stripped = target.has_variant_selection() && !moved.has_variant_selection();
+    let selections = if stripped { ", its selections left out" } else { "" };
+    let brackets = if target.embedded_target().is_ok() { ", its own brackets not moved" } else { "" };
+    format!("{selections}{brackets}")
+}
+
 /// A path as it is written in a scenario: the empty one is `-`.
 fn shown(path: &Path) -> &str {
     shown_text(path.as_str())
@@ -159,7 +195,44 @@ mod tests {
 
     fn written(outcome: Outcome, text: &str) -> String {
         let signal = Signal { line: 3, text: text.to_string() };
-        reported(true, &Trace { signal: &signal, steps: Vec::new(), unaltered: None, outcome })
+        reported(true, &Trace { signal: &signal, steps: Vec::new(), unaltered: None, target: None, outcome })
+    }
+
+    /// The lines about a target.
+    fn target_lines(target: &str, moved: Moved) -> String {
+        let signal = Signal { line: 3, text: "/A.r[/T]".to_string() };
+        let outcome = Outcome::Home(Path::new("/A.r[/T]").unwrap());
+        let target = Some(Box::new(Target { path: Path::new(target).unwrap(), moved }));
+        let trace = Trace { signal: &signal, steps: Vec::new(), unaltered: None, target, outcome };
+        let text = reported(true, &trace);
+        text.strip_prefix("\nline 3: /A.r[/T]\n  home    /A.r[/T]\n").expect("the lines before").to_string()
+    }
+
+    #[test]
+    fn targets_that_come_out() {
+        let out = |path: &str, address| Moved::Out { path: Path::new(path).unwrap(), address };
+        assert_eq!(
+            target_lines("/T", out("/X", Path::new("/B.r[/X]"))),
+            "  target  not moved by mapping: the brackets still name /T\n\
+            \x20         /T itself would come out as /X\n\
+            \x20         address with the moved target: /B.r[/X]\n"
+        );
+        let lines = target_lines("/T{v=p}.s[/U]", out("/X.s[/U]", Err(Refusal::MadeTooLong)));
+        assert!(
+            lines.ends_with(
+                "itself would come out as /X.s[/U], its selections left out, its own brackets not moved\n\
+                \x20         no address with the moved target: 7, the path made is longer than 255 bytes\n"
+            ),
+            "{lines}"
+        );
+        assert!(target_lines("/T{v=p}", out("/T{v=p}", Path::new("/A.r[/T{v=p}]"))).contains("as /T{v=p}\n"));
+    }
+
+    #[test]
+    fn targets_that_stop() {
+        let lines = target_lines("/T", Moved::Stopped { leg: 2, refusal: Refusal::NoPath });
+        assert_eq!(lines.lines().count(), 2, "{lines}");
+        assert!(lines.contains("\n          /T itself would stop at leg 2: 6, no path: no pair"), "{lines}");
     }
 
     #[test]
@@ -188,6 +261,7 @@ mod tests {
             signal: &signal,
             steps: vec![path("/X/b.c"), path("/b.c")],
             unaltered: Some(2..6),
+            target: None,
             outcome: home,
         };
         let plain = "\nline 3: /A/b.c\n  leg 1   /X/b.c\n  leg 2   /b.c\n  home    /A/b.c\n";

@@ -13,7 +13,27 @@ pub struct Trace<'a> {
     /// The range of the signal's text that all legs carried over unaltered: the end of the signal and of each step. `None` if
     /// it was not asked for, or if the signal did not come out over all legs.
     pub unaltered: Option<Range<usize>>,
+    /// The target in the signal's brackets. `None` if it has no brackets, or if it did not come out over all legs. It is boxed
+    /// because few signals have one, and larger traces make a long input slower.
+    pub target: Option<Box<Target>>,
     pub outcome: Outcome,
+}
+
+/// A target in brackets. Mapping leaves it as it is, so after the last leg it still names a path of the first layer.
+#[derive(Debug, PartialEq)]
+pub struct Target {
+    /// The path in the brackets.
+    pub path: Path,
+    pub moved: Moved,
+}
+
+/// What becomes of a target in brackets if it is mapped out over the legs itself. Its own brackets are left as they are.
+#[derive(Debug, PartialEq)]
+pub enum Moved {
+    /// It came out as `path`. The address is the signal after the last leg with that path in its brackets.
+    Out { path: Path, address: Result<Path> },
+    /// A leg, counted from 1, had no result for it.
+    Stopped { leg: usize, refusal: Refusal },
 }
 
 /// How a trace ends.
@@ -43,10 +63,16 @@ struct PartialTrace {
     start: Path,
     steps: Vec<Path>,
     unaltered: Option<Range<usize>>,
+    target: Option<Box<Target>>,
+    /// `None` while the path is on its way.
     outcome: Option<Outcome>,
 }
 
 impl PartialTrace {
+    fn new(start: Path) -> Self {
+        PartialTrace { start, steps: Vec::new(), unaltered: None, target: None, outcome: None }
+    }
+
     /// The path after the last leg.
     fn current(&self) -> &Path {
         self.steps.last().unwrap_or(&self.start)
@@ -67,19 +93,39 @@ impl LegRoutes {
     /// carried over unaltered takes one more call for each signal, and is determined only if `with_unaltered` is true.
     pub fn trace_all<'a>(&self, signals: &'a [Signal], with_unaltered: bool) -> Vec<Trace<'a>> {
         let starts = signals.iter().map(|signal| Path::new(&signal.text));
-        let mut partials: Vec<Result<PartialTrace>> = starts
-            .map(|start| {
-                Ok(PartialTrace { start: start?, steps: Vec::new(), unaltered: None, outcome: None })
-            })
-            .collect();
-        for (i, leg) in self.legs.iter().enumerate() {
-            map_over_leg(leg, i + 1, partials.iter_mut().flatten());
-        }
+        let mut partials: Vec<Result<PartialTrace>> =
+            starts.map(|start| start.map(PartialTrace::new)).collect();
+        self.map_out(partials.iter_mut().flatten());
+        self.move_targets(partials.iter_mut().flatten());
         if with_unaltered {
             self.find_unaltered(partials.iter_mut().flatten());
         }
         self.map_home(partials.iter_mut().flatten());
         signals.iter().zip(partials).map(|(signal, partial)| trace(signal, partial)).collect()
+    }
+
+    /// Maps the paths out over all legs, each as far as it comes.
+    fn map_out<'a>(&self, partials: impl Iterator<Item = &'a mut PartialTrace>) {
+        let mut partials: Vec<_> = partials.collect();
+        for (i, leg) in self.legs.iter().enumerate() {
+            map_over_leg(leg, i + 1, &mut partials);
+        }
+    }
+
+    /// Maps the targets in brackets out over the legs, for all signals that came out over the last leg.
+    fn move_targets<'a>(&self, partials: impl Iterator<Item = &'a mut PartialTrace>) {
+        let came_out = partials.filter(|partial| partial.outcome.is_none());
+        let (addresses, mut targets): (Vec<_>, Vec<_>) = came_out
+            .filter_map(|partial| {
+                let target = partial.start.embedded_target().ok()?;
+                Some((partial, PartialTrace::new(target)))
+            })
+            .unzip();
+        self.map_out(targets.iter_mut());
+        for (address, target) in addresses.into_iter().zip(targets) {
+            let moved = moved(&target, address.current());
+            address.target = Some(Box::new(Target { path: target.start, moved }));
+        }
     }
 
     /// Determines what was carried over unaltered, for all signals that came out over the last leg.
@@ -116,9 +162,9 @@ fn map_of(leg: &Leg) -> Leg {
     Leg::Map(active.with_root_identity())
 }
 
-/// Maps all signals that have not stopped over one leg.
-fn map_over_leg<'a>(route: &Route, leg: usize, partials: impl Iterator<Item = &'a mut PartialTrace>) {
-    let mut active: Vec<_> = partials.filter(|partial| partial.outcome.is_none()).collect();
+/// Maps all paths that have not stopped over one leg.
+fn map_over_leg(route: &Route, leg: usize, partials: &mut [&mut PartialTrace]) {
+    let mut active: Vec<_> = partials.iter_mut().filter(|partial| partial.outcome.is_none()).collect();
     let steps = route.out_all(active.iter().map(|partial| partial.current()));
     for (partial, step) in active.iter_mut().zip(steps) {
         match step {
@@ -128,14 +174,26 @@ fn map_over_leg<'a>(route: &Route, leg: usize, partials: impl Iterator<Item = &'
     }
 }
 
+/// What became of a target that was mapped out; `there` is its signal after the last leg.
+fn moved(target: &PartialTrace, there: &Path) -> Moved {
+    match target.outcome {
+        Some(Outcome::Stopped { leg, refusal }) => Moved::Stopped { leg, refusal },
+        _ => {
+            let path = target.current().clone();
+            Moved::Out { address: there.replace_embedded_target(&path), path }
+        }
+    }
+}
+
 fn trace(signal: &Signal, partial: Result<PartialTrace>) -> Trace<'_> {
     match partial {
-        Ok(PartialTrace { steps, unaltered, outcome, .. }) => {
+        Ok(PartialTrace { steps, unaltered, target, outcome, .. }) => {
             let outcome = outcome.expect("every trace has an outcome");
-            Trace { signal, steps, unaltered, outcome }
+            Trace { signal, steps, unaltered, target, outcome }
         }
         Err(refusal) => {
-            Trace { signal, steps: Vec::new(), unaltered: None, outcome: Outcome::BadPath(refusal) }
+            let outcome = Outcome::BadPath(refusal);
+            Trace { signal, steps: Vec::new(), unaltered: None, target: None, outcome }
         }
     }
 }
@@ -186,6 +244,60 @@ mod tests {
         assert_eq!(outcomes[4], (vec![], Outcome::BadPath(Refusal::NotLegal)));
         assert_eq!(outcomes[5], (vec![], stopped(1, Refusal::MadeTooLong)));
         assert_eq!(outcomes[6], (vec![], stopped(1, Refusal::MadeNotLegal)));
+    }
+
+    /// The target of each signal, and what becomes of it.
+    fn targets(text: &str) -> Vec<Option<Target>> {
+        let scenario = Scenario::read(text.as_bytes()).unwrap();
+        let traces = LegRoutes::new(&scenario.legs).trace_all(&scenario.signals, false);
+        traces.into_iter().map(|trace| trace.target.map(|target| *target)).collect()
+    }
+
+    fn out(target: &str, moved: &str, address: Result<Path>) -> Option<Target> {
+        Some(Target { path: path(target), moved: Moved::Out { path: path(moved), address } })
+    }
+
+    #[test]
+    fn targets_in_brackets_are_mapped_themselves() {
+        let targets = targets(
+            "map\n/A -> /B\n/S -> /T\nrelocates\n/B/c -> /B/d\n/B/e -> -\nsignals\n\
+             /S.r[/A/c]\n/S.r[/A{v=p}f.x[/A/c]]\n/S.r[/S.r]\n",
+        );
+        assert_eq!(targets[0], out("/A/c", "/B/d", Path::new("/T.r[/B/d]")));
+        assert_eq!(targets[1], out("/A{v=p}f.x[/A/c]", "/B/f.x[/A/c]", Path::new("/T.r[/B/f.x[/A/c]]")));
+        assert_eq!(targets[2], out("/S.r", "/T.r", Path::new("/T.r[/T.r]")));
+    }
+
+    #[test]
+    fn targets_that_do_not_come_out() {
+        let text = "map\n/A -> /B\n/S -> /T\nrelocates\n/B/e -> -\nsignals\n/S.r[/Q]\n/S.r[/A/e]\n/S.r[/]\n";
+        for (target, (name, leg)) in targets(text).into_iter().zip([("/Q", 1), ("/A/e", 2), ("/", 1)]) {
+            let moved = Moved::Stopped { leg, refusal: Refusal::NoPath };
+            assert_eq!(target, Some(Target { path: path(name), moved }));
+        }
+        let long = "n".repeat(130);
+        let target = &targets(&format!("map\n/A -> /{long}\nsignals\n/A.r[/A]\n"))[0];
+        assert_eq!(*target, out("/A", &format!("/{long}"), Err(Refusal::MadeTooLong)));
+    }
+
+    #[test]
+    fn signals_without_a_target() {
+        for signal in ["/A", "/A.r", "/A{v=p}", "-", "/Q.r[/A]", "/A[/A]"] {
+            assert_eq!(targets(&format!("map\n/A -> /B\nsignals\n{signal}\n")), [None], "{signal}");
+        }
+    }
+
+    #[test]
+    fn without_legs_a_target_is_unchanged() {
+        let address = Path::new("/A.r[/B{v=p}]");
+        assert_eq!(targets("signals\n/A.r[/B{v=p}]"), [out("/B{v=p}", "/B{v=p}", address)]);
+    }
+
+    #[test]
+    fn addresses_come_home() {
+        let outcomes = outcomes("map\n/A -> /B\nsignals\n/A.r[/A]\n/A{v=p}.r[/A{v=p}]\n");
+        assert_eq!(outcomes[0], (vec!["/B.r[/A]".into()], Outcome::Home(path("/A.r[/A]"))));
+        assert_eq!(outcomes[1], (vec!["/B.r[/A{v=p}]".into()], Outcome::Home(path("/A.r[/A{v=p}]"))));
     }
 
     #[test]

@@ -82,6 +82,49 @@ fn bad_arguments() {
     );
 }
 
+/// The report on an address says that its target was not moved, and where the target goes; other signals have no such lines.
+#[test]
+fn targets_in_brackets() {
+    let ran =
+        run(&[], format!("{LEGS}signals\n/A/e.r[/A{{v=p}}c] # not moved\n/A.r[/Q]\n/A/e.r\n").as_bytes());
+    let (first, second) = (
+        "line 6: /A/e.r[/A{v=p}c]\n  leg 1   /B/e.r[/A{v=p}c]\n  leg 2   /B/e.r[/A{v=p}c]\n  home    /A/e.r[/A{v=p}c]\n\
+        \x20 target  not moved by mapping: the brackets still name /A{v=p}c\n\
+        \x20         /A{v=p}c itself would come out as /B/d, its selections left out\n\
+        \x20         address with the moved target: /B/e.r[/B/d]\n\n",
+        "line 7: /A.r[/Q]\n  leg 1   /B.r[/Q]\n  leg 2   /B.r[/Q]\n  home    /A.r[/Q]\n\
+        \x20 target  not moved by mapping: the brackets still name /Q\n\
+        \x20         /Q itself would stop at leg 1: 6, no path: ",
+    );
+    assert!(ran.out.contains(&format!("{first}{second}")), "{}", ran.out);
+    assert!(ran.out.ends_with("  home    /A/e.r\n\n3 signals: 3 came home, 0 did not\n"), "{}", ran.out);
+    assert_eq!((ran.status, ran.errors.as_str()), (0, ""));
+}
+
+#[test]
+fn targets_in_json() {
+    let text = format!("{LEGS}signals\n/A/c.r[/A/c]\n/A.r[/Q]\n/Q.r[/A]\n/A\n");
+    let json = run(&["--json"], text.as_bytes()).out;
+    for (line, target) in [
+        (6, Some("{\"path\": \"/A/c\", \"moved\": \"/B/d\", \"address\": \"/B/d.r[/B/d]\"}")),
+        (
+            7,
+            Some(
+                "{\"path\": \"/Q\", \"stopped\": {\"at\": \"out\", \"leg\": 1, \"number\": 6, \"meaning\": \"no path\"}}",
+            ),
+        ),
+        (8, None),
+        (9, None),
+    ] {
+        let signal = json.lines().find(|text| text.contains(&format!("{{\"line\": {line}, \"signal\"")));
+        let signal = signal.expect("a line for each signal").trim_end_matches(',');
+        match target {
+            Some(target) => assert!(signal.ends_with(&format!(", \"target\": {target}}}")), "{signal}"),
+            None => assert!(!signal.contains("\"target\""), "{signal}"),
+        }
+    }
+}
+
 /// The signals of a scenario for the tests of colours: one whose end is unaltered, one that is replaced as a whole, one with a
 /// selection, and one that stops.
 const COLORED: &str = "signals\n/A/c.x\n/A/c\n/A{v=p}c.x\n/A/d.x\n";
@@ -142,6 +185,8 @@ fn help_is_true() {
         ran.status == 0 && ran.out.contains("leg 2   /Line7/Quay/Signal_12/Head/Lamp_2.aspect:state\n"),
         "{ran:?}"
     );
+    let address = "moved target: /Line7/Quay/Signal_12/Head.next[/Line7/Quay/Signal_12/Arm]\n";
+    assert!(ran.out.contains(address), "{ran:?}");
     for refusal in
         mudvizsor::Refusal::ALL.into_iter().filter(|refusal| ![3, 4, 5, 9].contains(&refusal.number()))
     {

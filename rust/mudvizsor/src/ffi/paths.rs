@@ -12,17 +12,17 @@ pub fn is_end(text: &[u8]) -> Reply {
     entry!(mudvizsor_path_is_end: text text,)
 }
 
-/// The value is 1 if the path contains a variant selection, else 0.
+/// The value is 1 if the path contains a variant selection outside brackets, else 0.
 pub fn has_variant_selection(text: &[u8]) -> Reply {
     entry!(mudvizsor_path_has_variant_selection: text text,)
 }
 
-/// The value is the number of names and selections in the path.
+/// The value is the number of names and selections in the path, without those in brackets.
 pub fn element_count(text: &[u8]) -> Reply {
     entry!(mudvizsor_path_element_count: text text,)
 }
 
-/// The value is the number of names in the path.
+/// The value is the number of names in the path, without those in brackets.
 pub fn prim_element_count(text: &[u8]) -> Reply {
     entry!(mudvizsor_path_prim_element_count: text text,)
 }
@@ -43,24 +43,25 @@ pub fn replace_prefix(path: &[u8], old: &[u8], new: &[u8], out: &mut [u8]) -> Re
     entry!(mudvizsor_path_replace_prefix: text path, text old, text new, out out,)
 }
 
-/// Writes the path without its property or, if it has none, without its last element. The value is the length written.
+/// Writes the path without its brackets or, if it has none, its property or, if it has none either, its last element. The
+/// value is the length written.
 pub fn parent(path: &[u8], out: &mut [u8]) -> Reply {
     entry!(mudvizsor_path_parent: text path, out out,)
 }
 
-/// Writes the path without its property or, if it has none and ends in a selection, without that selection. The value is
-/// the length written.
+/// Writes the path without its property and brackets or, if it has no property and ends in a selection, without that
+/// selection. The value is the length written.
 pub fn prim_path(path: &[u8], out: &mut [u8]) -> Reply {
     entry!(mudvizsor_path_prim_path: text path, out out,)
 }
 
 /// Writes the part of the path before the dot of its property. The value is the length written; the name of the property
-/// follows the dot.
+/// follows the dot. A path with brackets is refused.
 pub fn split_property(path: &[u8], out: &mut [u8]) -> Reply {
     entry!(mudvizsor_path_split_property: text path, out out,)
 }
 
-/// Writes the path without its variant selections. The value is the length written.
+/// Writes the path without its variant selections, except those in brackets. The value is the length written.
 pub fn strip_variant_selections(path: &[u8], out: &mut [u8]) -> Reply {
     entry!(mudvizsor_path_strip_variant_selections: text path, out out,)
 }

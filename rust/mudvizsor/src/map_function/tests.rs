@@ -141,6 +141,30 @@ fn many_paths_map_like_single_ones() {
     }
 }
 
+/// The path in brackets is not mapped, and keeps its selections.
+#[test]
+fn brackets_are_left() {
+    let some = map(&[("/A", "/X"), ("/", "/")]);
+    let address = path("/A{v=p}b.r[/A{w=q}.s[/A]]");
+    assert_eq!(some.map_source_to_target(&address), Path::new("/X{v=p}b.r[/A{w=q}.s[/A]]"));
+    assert_eq!(some.translate_to_target(&address), Path::new("/X/b.r[/A{w=q}.s[/A]]"));
+    assert_eq!(some.map_target_to_source(&path("/X.r[/X]")), Path::new("/A.r[/X]"));
+    assert_eq!(some.translate_to_target(&path("/Q.r[/A]")), Path::new("/Q.r[/A]"));
+    assert_eq!(map(&[("/A", "/")]).map_source_to_target(&path("/A.r[/T]")), Err(Refusal::MadeNotLegal));
+    for (source, target) in [("/A.r[/T]", "/X"), ("/A", "/X.r[/T]")] {
+        assert_eq!(MapFunction::from_pair(source, target), Err(Refusal::NotAnEnd));
+    }
+}
+
+/// Brackets belong to the rest. Only a selection before them empties it.
+#[test]
+fn rests_with_brackets() {
+    let marked = MapFunction::from_pair_identity("/A", "/X").unwrap();
+    assert_eq!(marked.translate_to_target_carried(&path("/A.r[/A{w=q}]")), carried("/X.r[/A{w=q}]", 2..13));
+    assert_eq!(marked.translate_to_target_carried(&path("/A{v=p}.r[/A]")), carried("/X.r[/A]", 0..0));
+    assert_eq!(marked.map_target_to_source_carried(&path("/X.r[/X]")), carried("/A.r[/X]", 2..8));
+}
+
 /// A result of a call that tells what was carried over.
 fn carried(text: &str, rest: std::ops::Range<usize>) -> Result<Carried> {
     Ok(Carried { path: path(text), rest })

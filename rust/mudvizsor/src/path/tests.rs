@@ -7,6 +7,9 @@ fn path(text: &str) -> Path {
     Path::new(text).unwrap()
 }
 
+/// A path with as many brackets as are legal.
+const FOUR_DEEP: &str = "/A.r[/B.s[/C.t[/D.u[/E]]]]";
+
 /// A path of one name with this many bytes.
 fn named(length: usize) -> String {
     format!("/{}", "n".repeat(length - 1))
@@ -19,6 +22,34 @@ fn legal_and_illegal_texts() {
     }
     for text in ["A", "/A/", "//", "/1", "/A.", "/A.b:", "/A{v=}", "/A{v=p}/B", "/.b", "/A b", "/Ä", "/A[x]"]
     {
+        assert_eq!(Path::new(text), Err(Refusal::NotLegal), "{text}");
+    }
+}
+
+/// Brackets follow a property and end the text; the path in them is absolute, and there are at most four.
+#[test]
+fn legal_and_illegal_brackets() {
+    for text in ["/A.r[/T]", "/A.r:s[/]", "/A{v=p}B.r[/T{w=q}C]", "/A.r[/B.s]", FOUR_DEEP] {
+        assert_eq!(Path::new(text).unwrap().as_str(), text);
+    }
+    let five_deep = format!("/Z.z[{FOUR_DEEP}]");
+    for text in [
+        "/A.r[]",
+        "/A[/C]",
+        "/A{v=p}[/C]",
+        "/[/C]",
+        "[/C]",
+        "/A.[/C]",
+        "/A.r[T]",
+        "/A.r[/T].x",
+        "/A.r[/T]/B",
+        "/A.r[/T][/U]",
+        "/A.r[/T",
+        "/A.r[/T]]",
+        "/A.r[/T/]",
+        "/A.r[/T[/U]]",
+        &five_deep,
+    ] {
         assert_eq!(Path::new(text), Err(Refusal::NotLegal), "{text}");
     }
 }
@@ -57,6 +88,69 @@ fn parts() {
     assert_eq!(path("/A{v=p}.b").prim_path().as_str(), "/A{v=p}");
     assert_eq!(path("/A{v=p}{w=q}").prim_path().as_str(), "/A{v=p}");
     assert_eq!(path("/A.b:c").split_property(), Ok((path("/A"), "b:c")));
+}
+
+/// Only the part before the brackets is counted and stripped.
+#[test]
+fn parts_with_brackets() {
+    let address = path("/A{v=p}B.r[/T{w=q}C]");
+    assert_eq!((address.element_count(), address.prim_element_count()), (3, 2));
+    assert_eq!(address.parent(), Path::new("/A{v=p}B.r"));
+    assert_eq!(address.prim_path(), path("/A{v=p}B"));
+    assert_eq!(address.split_property(), Err(Refusal::NoPath));
+    assert_eq!(address.strip_variant_selections(), path("/A/B.r[/T{w=q}C]"));
+    for (text, selection) in [("/A{v=p}B.r[/T]", true), ("/A.r[/T{w=q}]", false)] {
+        assert_eq!((path(text).is_end(), path(text).has_variant_selection()), (false, selection), "{text}");
+    }
+    let lengths: Vec<_> = path("/L/S.next[/L/T]").ancestors().map(|each| each.as_str().len()).collect();
+    assert_eq!(lengths, [15, 9, 4, 2, 1]);
+}
+
+#[test]
+fn targets_in_brackets() {
+    for (text, target) in
+        [("/A.r[/B.s[/C]]", "/B.s[/C]"), ("/A{v=p}B.r[/T{w=q}C]", "/T{w=q}C"), ("/A.r[/]", "/")]
+    {
+        assert_eq!(path(text).embedded_target(), Path::new(target), "{text}");
+        assert_eq!(path(text).replace_embedded_target(&path(target)), Path::new(text));
+    }
+    let depth = std::iter::successors(Some(path(FOUR_DEEP)), |path| path.embedded_target().ok());
+    assert_eq!(depth.last(), Some(path("/E")));
+    for text in ["", "/", "/A", "/A.r", "/A{v=p}"] {
+        assert_eq!(path(text).embedded_target(), Err(Refusal::NoPath), "{text}");
+        assert_eq!(path(text).replace_embedded_target(&path("/T")), Err(Refusal::NoPath), "{text}");
+    }
+}
+
+#[test]
+fn replacing_targets_in_brackets() {
+    let replaced = |text: &str, target: &str| path(text).replace_embedded_target(&path(target));
+    assert_eq!(replaced("/A.r[/B.s[/C]]", "/U"), Path::new("/A.r[/U]"));
+    assert_eq!(replaced("/A.r[/T]", "/B.s[/C.t[/D.u[/E]]]"), Path::new("/A.r[/B.s[/C.t[/D.u[/E]]]]"));
+    for target in ["", FOUR_DEEP] {
+        assert_eq!(replaced("/A.r[/T]", target), Err(Refusal::MadeNotLegal), "{target}");
+    }
+    let longest = MAX_PATH_LEN - "/A.r[]".len();
+    assert_eq!(replaced("/A.r[/T]", &named(longest)).unwrap().as_str().len(), MAX_PATH_LEN);
+    assert_eq!(replaced("/A.r[/T]", &named(longest + 1)), Err(Refusal::MadeTooLong));
+}
+
+/// The property before brackets is no prefix, so it cannot be replaced.
+#[test]
+fn prefixes_with_brackets() {
+    for (prefix, rest) in
+        [("/A.r[/T]", Some(8)), ("/A", Some(2)), ("/", Some(0)), ("", Some(0)), ("/A.r", None)]
+    {
+        assert_eq!(path("/A.r[/T]").rest_start(&path(prefix)), rest, "{prefix}");
+        assert_eq!(path("/A.r[/T]").has_prefix(&path(prefix)), rest.is_some(), "{prefix}");
+    }
+    let replaced = |old: &str, new: &str| path("/A.r[/T]").replace_prefix(&path(old), &path(new));
+    assert_eq!(replaced("/A", "/X"), Path::new("/X.r[/T]"));
+    assert_eq!(replaced("/A.r", "/X.s"), Err(Refusal::NoPath));
+    assert_eq!(replaced("/A", "/"), Err(Refusal::MadeNotLegal));
+    let longest = MAX_PATH_LEN - ".r[/T]".len();
+    assert_eq!(replaced("/A", &named(longest)).unwrap().as_str().len(), MAX_PATH_LEN);
+    assert_eq!(replaced("/A", &named(longest + 1)), Err(Refusal::MadeTooLong));
 }
 
 #[test]

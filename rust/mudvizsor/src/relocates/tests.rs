@@ -40,6 +40,16 @@ fn chains() {
 }
 
 #[test]
+fn brackets_are_left() {
+    let moved = relocates(&[("/R/a/b", "/R/c"), ("/R/c/d", "/R/a")]);
+    let end = Chain { path: path("/R/a.r[/R/a/b]"), steps: 2 };
+    assert_eq!(moved.chain(&path("/R/a/b/d.r[/R/a/b]")), Ok(end));
+    assert_eq!(moved.shift(&path("/R/a/b.r[/R/a/b]")), Path::new("/R/c.r[/R/a/b]"));
+    assert_eq!(moved.shift(&path("/Q.r[/R/a/b]")), Path::new("/Q.r[/R/a/b]"));
+    assert_eq!(Relocates::new([("/R/a", "/R/b.r[/R]")]), Err(Refusal::NotAnEnd));
+}
+
+#[test]
 fn refused_steps() {
     let to_root = relocates(&[("/A/b", "/")]);
     assert_eq!(to_root.chain(&path("/A/b.c")), Err(Refusal::MadeNotLegal));

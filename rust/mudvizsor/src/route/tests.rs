@@ -51,11 +51,31 @@ fn out_and_home() {
     }
 }
 
+/// An address comes home as it set out; the path in its brackets is left as it is on the way.
+#[test]
+fn addresses_come_home() {
+    let route = tram_line();
+    for (text, there) in [
+        ("/Mast/Head.next[/Switch]", "/Town/Trams/Line7/Quay/Signal_12/Head.next[/Switch]"),
+        ("/Switch.guard[/Mast/Spare{v=p}]", "/Town/Trams/Line7/Harbour/Points_A.guard[/Mast/Spare{v=p}]"),
+        ("/Switch.a[/Mast.b[/Q.c[/R.d[/]]]]", "/Town/Trams/Line7/Harbour/Points_A.a[/Mast.b[/Q.c[/R.d[/]]]]"),
+    ] {
+        assert_eq!(route.out(&path(text)), Path::new(there));
+        assert_eq!(route.home(&path(there)), Path::new(text));
+        assert_eq!(route.out_all([&path(text)]), [Path::new(there)]);
+    }
+    assert_eq!(route.out(&path("/Mast/Spare.next[/Switch]")), Err(Refusal::NoPath));
+    let stripped = route.out(&path("/Mast{v=p}.next[/Mast{v=p}]"));
+    assert_eq!(stripped, Path::new("/Town/Trams/Line7/Quay/Signal_12.next[/Mast{v=p}]"));
+}
+
 /// The last step has the result of the whole route, and the way home visits the same paths in reverse.
 #[test]
 fn steps_are_the_route() {
     let route = tram_line();
-    for text in ["/Mast", "/Mast/Head.lit", "/Mast/Spare", "/Switch", "/Barrier", "/", ""] {
+    for text in
+        ["/Mast", "/Mast/Head.lit", "/Mast.next[/Switch]", "/Mast/Spare", "/Switch", "/Barrier", "/", ""]
+    {
         let start = path(text);
         let out: Vec<_> = route.steps_out(&start).collect();
         assert_eq!(*out.last().unwrap(), route.out(&start), "{text}");
@@ -94,6 +114,7 @@ fn rests_over_several_legs() {
         ("/Mast", 5..5),
         ("/Mast{season=winter}Head", 0..0),
         ("/Switch.position", 7..16),
+        ("/Switch.guard[/Mast{v=p}]", 7..25),
     ] {
         let there = route.out_carried(&path(text)).unwrap();
         assert_eq!((&there.path, &there.rest), (&route.out(&path(text)).unwrap(), &rest), "{text}");

@@ -16,7 +16,7 @@ fn problem(text: &str) -> (usize, String) {
 
 #[test]
 fn a_scenario_is_read() {
-    let text = "\u{feff}# line 7\r\n\r\nmap  the  layer # placed\r\n /A -> /B\n/A/c -> - # gone\nrelocates\nsignals\n /A{v=p}\n-\n";
+    let text = "\u{feff}# line 7\r\n\r\nmap  the  layer # placed\r\n /A -> /B\n/A/c -> - # gone\nrelocates\nsignals\n /A{v=p}\n-\n/A.r[/B.s[/C]] # an address\n";
     let scenario = Scenario::read(text.as_bytes()).unwrap();
     let [map, relocates] = &scenario.legs[..] else { panic!("two legs") };
     assert_eq!(
@@ -26,7 +26,7 @@ fn a_scenario_is_read() {
     assert_eq!((relocates.line, relocates.kind(), relocates.title.as_str()), (6, "relocates", ""));
     assert_eq!(map.leg, MapFunction::new([("/A", "/B"), ("/A/c", "")]).unwrap().into());
     let signals: Vec<_> = scenario.signals.iter().map(|signal| (signal.line, signal.text.as_str())).collect();
-    assert_eq!(signals, [(8, "/A{v=p}"), (9, "")]);
+    assert_eq!(signals, [(8, "/A{v=p}"), (9, ""), (10, "/A.r[/B.s[/C]]")]);
 }
 
 #[test]
@@ -57,6 +57,8 @@ fn ends_that_are_refused() {
         ("Mast", "not a legal path (2)"),
         ("/A.b", "or empty (3)"),
         ("/A{v=p}", "or empty (3)"),
+        ("/A.r[/T]", "or empty (3)"),
+        ("/A[/T]", "not a legal path (2)"),
         (&long, "bytes (1)"),
     ];
     for (text, expected) in ends {
