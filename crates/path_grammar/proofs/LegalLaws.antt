@@ -2,7 +2,8 @@
 use mathlib.Core.Path.{_≡_, refl, sym, ap, _∙_}
 use mathlib.Core.Bool.{Bool, true, false, not, cond, _&&_, _||_, true≢false, false≢true}
 use mathlib.Core.List.{[], _∷_, _++_, append-nil}
-use Prim.Native.Nat.{ℕ, zero, suc, _≤_}
+use Prim.Native.Nat.{ℕ, zero, suc, _+_, _≤_}
+use native.Mathlib.Omega.{arith}
 use lib.Dec.{eqb}
 use borrow.Author.Tests.{eqb-true, leb-true, le-leb}
 use Rattle.text.specs.Text.{Text, isNil, endsWithByte, lacksByte, takeUntil, dropLast}
@@ -13,7 +14,7 @@ use Rattle.path_grammar.specs.Legal.{ScanState, Slash, Name, Opened, Set
 use Rattle.path_grammar.specs.Own.{ownPart, targetPart, hasVariantSelection, hasProperty}
 use Rattle.path_grammar.proofs.RunLaws.{dead-refuses}
 use Rattle.path_grammar.proofs.OwnLaws.{own-parts, own-all, target-none, target-nil, no-property, selection-scan, property-scan, own-lacks-too, lacks-free}
-use lib.ListN.{length}
+use lib.ListN.{length, length-append}
 
 -- A legal text without brackets, other than `/`, does not end in a slash.
 slash-ends : (s : ScanState) → accept (step s 47) ≡ false
@@ -208,26 +209,59 @@ pub no-root-dot : (r : Text) → legal (47 ∷ 46 ∷ r) ≡ true → ⊥
 unfolding legalOwn ownPart takeUntil run step isIdentifierStart
 no-root-dot r e = dead-refuses (ownPart r) (legal-own-part (47 ∷ 46 ∷ r) e)
 
+-- The target part of a legal path is a bracket, an absolute path and a closing bracket.
+module _ (p : Text) (e : legal p ≡ true) (a : ℕ) (r : Text) (h : targetPart p ≡ a ∷ r) where
+  closes : closesTarget (legalWithin 3) r ≡ true
+  unfolding legalTarget
+  closes = and-r (hasProperty p) (closesTarget (legalWithin 3) r) (rw h at (legal-target-part p e))
+
+  last-closes : endsWithByte 93 r ≡ true
+  unfolding closesTarget
+  last-closes = and-l (endsWithByte 93 r) (isAbsolute (dropLast r) && legalWithin 3 (dropLast r)) closes
+
+  inner-absolute : isAbsolute (dropLast r) ≡ true
+  unfolding closesTarget
+  inner-absolute =
+      and-l (isAbsolute (dropLast r)) (legalWithin 3 (dropLast r)) (and-r (endsWithByte 93 r) (isAbsolute (dropLast r) && legalWithin 3 (dropLast r)) closes)
+
+  -- So the path ends in that bracket, and the target part has at least three bytes.
+  pub target-closed : endsWithByte 93 p ≡ true
+  unfolding endsWithByte
+  target-closed =
+      let k : ownPart p ++ a ∷ r ≡ p = rw h at (own-parts p) in
+      rw (← k) (last-after 93 (ownPart p) a r ∙ go r last-closes)
+    where
+      go : (r : Text) → endsWithByte 93 r ≡ true → endsWithByte 93 (a ∷ r) ≡ true
+      go [] l = absurd (false≢true l)
+      go (c ∷ r) l = l
+
+  pub target-long : 2 ≤ length r
+  target-long =
+      let k : length (dropLast r) + 1 ≡ length r = sym (length-append (dropLast r) (93 ∷ [])) ∙ ap length (last-split 93 r last-closes) in
+      omega (arith, go (dropLast r) inner-absolute)
+    where
+      go : (t : Text) → isAbsolute t ≡ true → 1 ≤ length t
+      go [] l = absurd (false≢true l)
+      go (c ∷ t) l = omega arith
+
+-- A legal path that does not end in a closing bracket has no target part.
+pub unclosed-own : (p : Text) → legal p ≡ true → endsWithByte 93 p ≡ false → targetPart p ≡ []
+unclosed-own p e n = go (targetPart p) refl
+  where
+    go : (t : Text) → targetPart p ≡ t → t ≡ []
+    go [] h = refl
+    go (a ∷ r) h = absurd (true≢false (sym (target-closed p e a r h) ∙ n))
+
+-- Without a target part, the path is its own part.
+pub own-is : (p : Text) → targetPart p ≡ [] → ownPart p ≡ p
+own-is p h = sym (append-nil (ownPart p)) ∙ rw h at (own-parts p)
+
 pub legal-last : (p : Text) → legal p ≡ true → isRoot p ≡ false → endsWithByte 47 p ≡ false
-unfolding legalTarget closesTarget endsWithByte
 legal-last p e n = go (targetPart p) refl
   where
-    closed : (r : Text) → endsWithByte 93 r ≡ true → endsWithByte 47 r ≡ false
-    closed r h = rw (← last-split 93 r h) (last-snoc 47 (dropLast r) 93)
-
-    ends : (a : ℕ) (r : Text) → legalTarget (legalWithin 3) (hasProperty p) (a ∷ r) ≡ true → endsWithByte 93 r ≡ true
-    ends a r h =
-        and-l (endsWithByte 93 r) (isAbsolute (dropLast r) && legalWithin 3 (dropLast r)) (and-r (hasProperty p) (closesTarget (legalWithin 3) r) h)
-
-    after : (a : ℕ) (r : Text) → endsWithByte 93 r ≡ true → endsWithByte 47 (a ∷ r) ≡ false
-    after a [] h = absurd (false≢true h)
-    after a (c ∷ r) h = closed (c ∷ r) h
-
     go : (t : Text) → targetPart p ≡ t → endsWithByte 47 p ≡ false
-    go [] h = let k : ownPart p ≡ p = sym (append-nil (ownPart p)) ∙ rw h at (own-parts p) in own-last p (rw k at (legal-own-part p e)) n
-    go (a ∷ r) h =
-        let k : ownPart p ++ a ∷ r ≡ p = rw h at (own-parts p) in
-        rw (← k) (last-after 47 (ownPart p) a r ∙ after a r (ends a r (rw h at (legal-target-part p e))))
+    go [] h = own-last p (rw (own-is p h) at (legal-own-part p e)) n
+    go (a ∷ r) h = rw (← last-split 93 p (target-closed p e a r h)) (last-snoc 47 (dropLast p) 93)
 
 -- Lemmas about the ends of pairs. An end has no property, so it has no brackets, and the whole text decides.
 pub end-own : (s : Text) → isEnd s ≡ (legalOwn s && (lacksByte 123 s && lacksByte 46 s))

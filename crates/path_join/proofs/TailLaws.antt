@@ -13,7 +13,7 @@ use Rattle.text.proofs.TextLaws.{after-up, lacks-append, lacks-first, lacks-res
 use Rattle.path_grammar.specs.Own.{ownPart, targetPart, hasProperty}
 use Rattle.path_grammar.specs.Legal.{isRoot, legal, isEnd}
 use Rattle.path_grammar.proofs.OwnLaws.{own-parts, target-nil, target-head, target-after, own-after, no-property}
-use Rattle.path_grammar.proofs.LegalLaws.{target-property, end-unbracketed, end-undotted}
+use Rattle.path_grammar.proofs.LegalLaws.{own-is, target-property, end-unbracketed, end-undotted}
 use Rattle.path_prefix.specs.Prefix.{isBoundary, canFollow, canFollowSome, hasPrefix}
 use Rattle.path_join.specs.Join.{separatorLen, separator, body, join, joinSome, replacePrefix}
 use Rattle.path_join.specs.Tail.{withTarget, ReplaceLeavesTarget, PrefixOfOwnPart}
@@ -135,10 +135,7 @@ module _ (p s : Text) (z : Text) (l : legal p ≡ true) (es : isEnd s ≡ true) 
       go (some []) h = absurd (shorter h)
       go (some (a ∷ r)) h = kept (isBoundary s a) a r
 
--- Without a target part the own part is the path.
-own-is : (p : Text) → targetPart p ≡ [] → ownPart p ≡ p
-own-is p e = sym (append-nil (ownPart p)) ∙ rw e at (own-parts p)
-
+-- Without a target part nothing follows.
 pub with-none : (p : Text) → targetPart p ≡ [] → (o : Option Text) → withTarget p o ≡ o
 unfolding withTarget
 with-none p e none = refl

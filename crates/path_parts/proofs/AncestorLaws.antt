@@ -1,18 +1,22 @@
 -- The ancestors of legal paths: they are legal, they end at `/` or the empty path, and there are at most 128 of them.
-use mathlib.Core.Path.{_≡_, refl, _∙_}
-use mathlib.Core.Bool.{Bool, true, false, cond, false≢true}
-use mathlib.Core.List.{List, [], _∷_}
+use mathlib.Core.Path.{_≡_, refl, sym, ap, _∙_}
+use mathlib.Core.Bool.{Bool, true, false, cond, true≢false, false≢true}
+use mathlib.Core.List.{List, [], _∷_, _++_}
 use mathlib.Core.Option.{Option, none, some}
 use Prim.Native.Nat.{ℕ, zero, suc, _+_, _-_, _*_, _≤_, _<_}
 use native.Mathlib.Omega.{arith}
 use lib.Dec.{eqb}
-use lib.ListN.{length, getD, take, length-take, length-map}
-use Rattle.text.specs.Text.{Text}
-use Rattle.path_grammar.specs.Legal.{ScanState, Slash, Name, Opened, Set, Equals, Sel, Closed, Dot, Prop, Dead, isIdentifierStart, isIdentifierCont, startsName, step, run, accept, legal}
-use Rattle.path_parts.specs.Parent.{startsPart, lastPartStart, parentLen, hasParent, parent, ancestorsFrom, ancestorsWithin, ancestors, ancestorLens}
+use lib.ListN.{length, getD, take, length-take, length-map, length-append}
+use Rattle.text.specs.Text.{Text, isNil}
+use Rattle.path_grammar.specs.Legal.{ScanState, Slash, Name, Opened, Set, Equals, Sel, Closed, Dot, Prop, Dead, isIdentifierStart, isIdentifierCont, startsName, step, run, accept, legalOwn, legal}
+use Rattle.path_grammar.specs.Own.{ownPart, targetPart}
+use Rattle.path_grammar.proofs.OwnLaws.{own-parts}
+use Rattle.path_grammar.proofs.LegalLaws.{absolute-first, legal-own-part, own-legal, own-is, own-no-close-bracket, target-closed, target-long}
+use Rattle.text.proofs.BoolLaws.{and-no, or-right}
+use Rattle.path_parts.specs.Parent.{startsPart, lastPartStart, ownParentLen, parentLen, hasParent, parent, ancestorsFrom, ancestorsWithin, ancestors, ancestorLens}
 use Rattle.path_parts.proofs.ReadLaws.{Shape, empty, root, below, shape, closes}
 use Rattle.path_parts.proofs.LastLaws.{Last, here, after, beyond, last, begins-byte, after-byte, after-name, may-end, last-legal, before, slash-len, before-lt}
-use Rattle.path_parts.proofs.ParentLaws.{parent-take, parent-less}
+use Rattle.path_parts.proofs.ParentLaws.{parent-take, parent-less, parent-closed, parent-unclosed}
 
 -- One step.
 pub ancestors-none : (k : ℕ) (p : Text) → hasParent p ≡ false → ancestorsWithin k p ≡ p ∷ []
@@ -66,12 +70,9 @@ furthest-on x (suc k) q = go (ancestorsFrom (λ (t : Text). ancestorsWithin k t)
         rw (m, n)
 
 pub legal-long : (p : Text) → legal p ≡ true → hasParent p ≡ true → 1 < length p
-legal-long p e h = go (shape p e) h
-  where
-    go : {q : Text} → Shape q → hasParent q ≡ true → 1 < length q
-    go empty h = absurd (false≢true h)
-    go root h = absurd (false≢true h)
-    go (below r f) h = omega (arith, before-lt r f)
+legal-long [] e h = absurd (false≢true h)
+legal-long (a ∷ []) e h = absurd (true≢false (sym h ∙ rw (absolute-first a [] e)))
+legal-long (a ∷ b ∷ r) e h = omega arith
 
 in-end : (k : ℕ) (p : Text) → legal p ≡ true → length p - 1 ≤ k → hasParent (furthest (ancestorsWithin k p)) ≡ false
 in-end zero p e l = go (hasParent p) refl
@@ -185,17 +186,27 @@ falls s (after a r b) e =
     rw c (omega (arith, closed-run r (after-name a r b)))
 falls s (beyond a l) e = omega (arith, falls (step s a) l e)
 
+below-legal : (r : Text) → accept (run Slash r) ≡ true → legalOwn (47 ∷ r) ≡ true
+unfolding legalOwn
+below-legal r e = or-right (isNil r) (accept (run Slash r)) e
+
 slash-parent : (r : Text) → accept (run Slash r) ≡ true → hasParent (47 ∷ r) ≡ true
 unfolding run accept
 slash-parent [] e = absurd (false≢true e)
 slash-parent (b ∷ r) e = refl
 
+-- Without brackets.
 in-most : (k : ℕ) (r : Text) → accept (run Slash r) ≡ true → 2 * length (ancestorsWithin k (47 ∷ r)) + weight (run Slash r) ≤ length r + 4
 in-most zero r e = rw (ancestors-least (47 ∷ r)) (omega (arith, weight-run Slash r))
 in-most (suc k) r e = go (lastPartStart r) refl (λ x. in-most k x)
   where
+    own : legalOwn (47 ∷ r) ≡ true
+    own = below-legal r e
+
     onwards : (o : Option ℕ) → lastPartStart r ≡ o → ancestorsWithin (suc k) (47 ∷ r) ≡ (47 ∷ r) ∷ ancestorsWithin k (47 ∷ take (before o) r)
-    onwards o h = ancestors-some k (47 ∷ r) (slash-parent r e) ∙ rw (slash-len r e, h)
+    onwards o h =
+        let n : parentLen (47 ∷ r) ≡ ownParentLen (47 ∷ r) = parent-unclosed (47 ∷ r) (own-legal (47 ∷ r) own) (own-no-close-bracket (47 ∷ r) own) .0 in
+        ancestors-some k (47 ∷ r) (slash-parent r e) ∙ rw (n, slash-len r e, h)
 
     go : (o : Option ℕ) → lastPartStart r ≡ o
         → ((x : Text) → accept (run Slash x) ≡ true → 2 * length (ancestorsWithin k (47 ∷ x)) + weight (run Slash x) ≤ length x + 4)
@@ -205,15 +216,33 @@ in-most (suc k) r e = go (lastPartStart r) refl (λ x. in-most k x)
         let l = last r j h in
         rw (onwards (some j) h) (omega (arith, ih (take j r) (last-legal Slash l e), falls Slash l e, length-take j r))
 
+own-most : (k : ℕ) (p : Text) → legalOwn p ≡ true → 2 * length (ancestorsWithin k p) ≤ length p + 2
+own-most k p e = go (shape p e)
+  where
+    go : {q : Text} → Shape q → 2 * length (ancestorsWithin k q) ≤ length q + 2
+    go empty = rw (ancestors-none k [] refl) (omega arith)
+    go root = rw (ancestors-none k (47 ∷ []) refl) (omega arith)
+    go (below r f) = omega (arith, in-most k r f, accept-weight (run Slash r) f)
+
+-- A target part is one more ancestor, and three bytes more.
+target-most : (k : ℕ) (p : Text) → legal p ≡ true → (a : ℕ) (r : Text) → targetPart p ≡ a ∷ r → 2 * length (ancestorsWithin k p) ≤ length p + 2
+target-most zero p e a r h = rw (ancestors-least p) (omega arith)
+target-most (suc k) p e a r h =
+    let w : ownPart p ++ a ∷ r ≡ p = rw h at (own-parts p) in
+    let l : 2 ≤ length r = target-long p e a r h in
+    rw (ancestors-some k p (long p (omega (arith, length-append (ownPart p) (a ∷ r), ap length w))), parent-closed p e (target-closed p e a r h))
+    (omega (arith, own-most k (ownPart p) (legal-own-part p e), length-append (ownPart p) (a ∷ r), ap length w))
+  where
+    long : (q : Text) → 3 ≤ length q → hasParent q ≡ true
+    long [] n = absurd (omega arith)
+    long (b ∷ []) n = absurd (omega arith)
+    long (b ∷ c ∷ q) n = rw (and-no (eqb b 47))
+
 -- A legal path has at most 128 ancestors, including itself.
 pub ancestors-most : (p : Text) → legal p ≡ true → length p ≤ 255 → length (ancestors p) ≤ 128
 unfolding ancestors
-ancestors-most p e l = go (shape p e) l
+ancestors-most p e l = go (targetPart p) refl
   where
-    alone : (k : ℕ) (q : Text) → hasParent q ≡ false → length (ancestorsWithin k q) ≤ 128
-    alone k q h = rw (ancestors-none k q h) (omega arith)
-
-    go : {q : Text} → Shape q → length q ≤ 255 → length (ancestorsWithin (length q - 1) q) ≤ 128
-    go empty l = alone (0 - 1) [] refl
-    go root l = alone (1 - 1) (47 ∷ []) refl
-    go (below r f) l = omega (arith, in-most (suc (length r) - 1) r f, accept-weight (run Slash r) f)
+    go : (t : Text) → targetPart p ≡ t → length (ancestorsWithin (length p - 1) p) ≤ 128
+    go [] h = omega (arith, own-most (length p - 1) p (rw (own-is p h) at (legal-own-part p e)))
+    go (a ∷ r) h = omega (arith, target-most (length p - 1) p e a r h)

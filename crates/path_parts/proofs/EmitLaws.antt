@@ -3,21 +3,23 @@ use mathlib.Core.Path.{_≡_, refl, sym, ap, _∙_}
 use mathlib.Core.Logic.{_≢_}
 use mathlib.Core.Bool.{Bool, true, false, not}
 use mathlib.Core.List.{[], _∷_, _++_, append-assoc, append-nil}
-use Prim.Native.Nat.{ℕ, _+_, _≤_, _<_}
+use Prim.Native.Nat.{ℕ, _+_, _-_, _≤_, _<_}
 use native.Mathlib.Nat.{add-zero}
 use native.Mathlib.Numerals.{add-one}
 use native.Mathlib.Omega.{arith}
 use lib.Dec.{eqb}
-use lib.ListN.{length, getD, set, drop, length-append, drop-of-length-le}
+use lib.ListN.{length, getD, set, take, drop, length-append, length-drop, drop-of-length-le}
 use lib.Seq.{set-split, drop-cons}
 use borrow.Author.Tests.{le-leb, lt-leb, ne-eqb}
-use Rattle.text.specs.Text.{Text, written, writtenAt}
+use Rattle.text.specs.Text.{Text, written, writtenAt, writtenIfFits}
 use Rattle.text.specs.declared.Fit.the-variants.{Written, Over}
 use Rattle.text.proofs.BoolLaws.{told}
+use Rattle.path_grammar.specs.Own.{ownPart, targetPart}
+use Rattle.path_grammar.proofs.OwnLaws.{own-length, target-slice}
 use Rattle.path_parts.specs.Parent.{startsNameAfter}
 use Rattle.path_parts.specs.Strip.{strippedByte, insideAfter, stripFrom, strip, stripFit, stripBuffer}
-use Rattle.path_parts.proofs.StripLaws.{piece-short}
-use Rattle.text.proofs.WriteLaws.{over-written, over-none}
+use Rattle.path_parts.proofs.StripLaws.{piece-short, from-shorter}
+use Rattle.text.proofs.WriteLaws.{over-written, over-none, placed-next, rest-whole}
 
 -- Lemmas for `inside_changes`.
 pub inside-inside : (m : Bool) (a : ℕ) → m ≡ true → not (eqb a 125) ≡ insideAfter m a
@@ -75,15 +77,14 @@ module _ (m : Bool) (a : ℕ) (r out : Text) (j : ℕ) where
 
 pub ruleset emits = (inside-inside, inside-outside, slash-long, slash-over, inside-long, inside-over, open-long, open-over, itself-long, itself-over)
 
--- The loop invariant of `strip_into`: what has been written, and what remains to be written.
+-- The loop invariant of `strip_own`: what has been written, and what remains to be written.
 pub record Sofar (p out₀ out : Text) (m : Bool) (i j : ℕ) : Type 0 where
   pub text : Text
   pub long : length text ≡ j
   pub wrote : out ≡ written text out₀
-  pub rest : text ++ stripFrom m (drop i p) ≡ strip p
+  pub rest : text ++ stripFrom m (drop i p) ≡ stripFrom false p
 
 pub sofar-begin : (p out : Text) → Sofar p out out false 0 0
-unfolding strip
 sofar-begin p out = record { text = []; long = refl; wrote = refl; rest = refl }
 
 strip-next : (m : Bool) (p : Text) (i : ℕ) → i < length p
@@ -111,18 +112,19 @@ pub place-on : (m : Bool) (a : ℕ) (r : Text) (i j j′ : ℕ) → j ≤ i → 
 place-on m a r i j j′ h e = omega (arith, piece-short m a r)
 
 module _ (p d out : Text) (m : Bool) (i j : ℕ) (S : Sofar p d out m i j) (h : length p ≤ i) where
-  all-written : S .text ≡ strip p
+  all-written : S .text ≡ stripFrom false p
   unfolding stripFrom
   all-written = sym (append-nil (S .text)) ∙ ap (λ (t : Text). S .text ++ stripFrom m t) (sym (drop-of-length-le p h)) ∙ S .rest
 
-  pub sofar-fit : length p ≤ length d → Written j ≡ stripFit p d
-  unfolding stripFit
-  sofar-fit l = rw (le-leb (length p) (length d) l, ← all-written, S .long)
+  pub sofar-long : j ≡ length (stripFrom false p)
+  sofar-long = sym (S .long) ∙ ap length all-written
 
-  pub sofar-end : length p ≤ length d → out ≡ stripBuffer p d
-  unfolding stripBuffer
-  sofar-end l = rw (le-leb (length p) (length d) l, ← all-written) (S .wrote)
+  pub sofar-end : out ≡ written (stripFrom false p) d
+  sofar-end = S .wrote ∙ ap (λ (t : Text). written t d) all-written
 
+pub ruleset strips = (sofar-begin, sofar-on, place-on, sofar-long, sofar-end)
+
+-- Lemmas for `strip_into`.
 module _ (p d : Text) (h : length d < length p) where
   pub strip-over : Over ≡ stripFit p d
   unfolding stripFit
@@ -132,4 +134,40 @@ module _ (p d : Text) (h : length d < length p) where
   unfolding stripBuffer
   strip-kept = rw (lt-leb (length p) (length d) h)
 
-pub ruleset strips = (sofar-begin, sofar-on, place-on, sofar-fit, sofar-end, strip-over, strip-kept)
+module _ (p o d : Text) (w : o ≡ ownPart p) (l : length p ≤ length d) where
+  pub own-fits : length o ≤ length d
+  own-fits = rw w (omega (arith, own-length p))
+
+  pub own-at : length o ≤ length p
+  own-at = rw w (own-length p)
+
+  tail-is : drop (length o) p ≡ targetPart p
+  tail-is = rw w (target-slice p)
+
+  tail-long : length p - length o ≡ length (targetPart p)
+  tail-long = sym (length-drop (length o) p) ∙ ap length tail-is
+
+  own-long : length p ≡ length o + length (targetPart p)
+  own-long = omega (arith, tail-long, own-at)
+
+  module _ (j : ℕ) (k : j ≡ length (stripFrom false o)) where
+    pub strip-less : j ≤ length o
+    strip-less = rw k (from-shorter false o)
+
+    pub strip-left : length o - j ≤ length p
+    strip-left = omega (arith, own-at)
+
+    pub strip-fits : Written (length p - (length o - j)) ≡ stripFit p d
+    unfolding stripFit strip
+    strip-fits =
+        let e : length p - (length o - j) ≡ length (stripFrom false o ++ targetPart p) = rw (length-append (stripFrom false o) (targetPart p)) (omega (arith, own-long, strip-less)) in
+        rw (le-leb (length p) (length d) l, ← w) (ap Written e)
+
+    pub strip-done : (mem out : Text) → mem ≡ written (stripFrom false o) d → out ≡ writtenIfFits j (take (length p - length o) (drop (length o) p)) mem
+        → out ≡ stripBuffer p d
+    unfolding stripBuffer strip
+    strip-done mem out m e =
+        rw (le-leb (length p) (length d) l, ← w)
+        (e ∙ rw (m, k, rest-whole p (length o), tail-is) (placed-next (stripFrom false o) (targetPart p) d (omega (arith, own-long, from-shorter false o))))
+
+pub ruleset strip-ends = (strip-over, strip-kept, own-fits, own-at, strip-less, strip-left, strip-fits, strip-done)

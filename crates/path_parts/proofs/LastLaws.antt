@@ -11,7 +11,7 @@ use borrow.Author.Tests.{eqb-true}
 use Rattle.text.specs.Text.{Text, lacksByte}
 use Rattle.text.proofs.BoolLaws.{and-l, and-r}
 use Rattle.path_grammar.specs.Legal.{ScanState, Slash, Name, Opened, Set, Equals, Sel, Closed, Dot, Prop, Dead, isIdentifierStart, isIdentifierCont, startsName, step, run, accept}
-use Rattle.path_parts.specs.Parent.{startsPart, startsNameAfter, partOffset, lastPartStart, parentEnd, parentLen}
+use Rattle.path_parts.specs.Parent.{startsPart, startsNameAfter, partOffset, lastPartStart, parentEnd, ownParentLen}
 use Rattle.path_parts.proofs.ReadLaws.{choose, dies, closes}
 use Rattle.path_grammar.proofs.LegalLaws.{start-cont}
 
@@ -113,13 +113,13 @@ slash-part (b ∷ r) e = go (lastPartStart (b ∷ r)) refl
     go none h = rw h
     go (some k) h = rw h
 
--- So the parent is the slash and the text before that part.
+-- So the parent of a path without brackets is the slash and the text before that part.
 abbrev pub before : Option ℕ → ℕ
 before none = 0
 before (some k) = k
 
-pub slash-len : (r : Text) → accept (run Slash r) ≡ true → parentLen (47 ∷ r) ≡ suc (before (lastPartStart r))
-unfolding parentLen
+pub slash-len : (r : Text) → accept (run Slash r) ≡ true → ownParentLen (47 ∷ r) ≡ suc (before (lastPartStart r))
+unfolding ownParentLen
 slash-len r e = ap parentEnd (slash-part r e) ∙ go (lastPartStart r)
   where
     go : (o : Option ℕ) → parentEnd (some (afterSlash o)) ≡ suc (before o)

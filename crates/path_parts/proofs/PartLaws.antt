@@ -13,9 +13,11 @@ use lib.ListN.{length, getD, drop, drop-of-length-le}
 use lib.Seq.{drop-cons, drop-length, drop-nil}
 use borrow.Author.Tests.{ne-eqb, ltb-true, ltb-false}
 use Rattle.text.specs.Text.{Text, isNil, endsWithByte, lacksByte}
-use Rattle.text.proofs.BoolLaws.{told, known-false, known-true, or-false}
+use Rattle.text.proofs.BoolLaws.{told, known-false, known-true, or-false, and-no, and-yes}
+use Rattle.path_grammar.specs.Own.{ownPart, hasProperty}
 use Rattle.path_grammar.specs.Legal.{isIdentifierCont, startsName}
-use Rattle.path_parts.specs.Parent.{startsPart, startsNameAfter, partOffset, lastPartStart, parentLen, primLen}
+use Rattle.path_grammar.proofs.OwnLaws.{target-nil, property-scan, own-all}
+use Rattle.path_parts.specs.Parent.{startsPart, startsNameAfter, partOffset, lastPartStart, ownParentLen, parentLen, isProperty, primLen}
 use Rattle.path_parts.proofs.LastLaws.{no-part}
 
 -- Lemmas for `starts_name`.
@@ -56,7 +58,7 @@ after-other r a d = rw (ne-eqb a 125 d)
 
 pub ruleset places = (name-none, name-some, at-slash, at-brace, at-other, after-close, after-other)
 
--- Lemmas for `parent_len`. The loop invariant: no part begins after index i.
+-- Lemmas for `own_parent_len`. The loop invariant: no part begins after index i.
 pub last-after : (p : Text) (i k : ℕ) → lastPartStart (drop i p) ≡ some k → lastPartStart p ≡ some (k + i)
 unfolding lastPartStart
 last-after [] i k e = absurd (no-part (rw (drop-nil i) at e))
@@ -77,17 +79,17 @@ module _ (p : Text) (i : ℕ) (l : 0 < i) (h : i ≤ length p) (e : lastPartStar
         let k : 0 + (i - 1) ≡ i - 1 = omega arith in
         rw k at (last-after p (i - 1) 0 (last-here ∙ rw (told f t)))
 
-    pub parent-first : b ≡ true → i - 1 ≡ 0 → 1 ≡ parentLen p
-    unfolding parentLen
+    pub parent-first : b ≡ true → i - 1 ≡ 0 → 1 ≡ ownParentLen p
+    unfolding ownParentLen
     parent-first t z = rw (last-at t, z)
 
-    pub parent-at : b ≡ true → i - 1 ≢ 0 → i - 1 ≡ parentLen p
-    unfolding parentLen
+    pub parent-at : b ≡ true → i - 1 ≢ 0 → i - 1 ≡ ownParentLen p
+    unfolding ownParentLen
     parent-at t n = let k : suc (i - 2) ≡ i - 1 = omega arith in rw (last-at t, ← k)
 
     module _ (c : Bool) (g : c ≡ startsNameAfter (getD p (i - 1) 0) (drop (i - 1 + 1) p)) where
-      pub parent-after : b ≡ false → c ≡ true → i - 1 + 1 ≡ parentLen p
-      unfolding parentLen partOffset
+      pub parent-after : b ≡ false → c ≡ true → i - 1 + 1 ≡ ownParentLen p
+      unfolding ownParentLen partOffset
       parent-after t u =
           let k : 1 + (i - 1) ≡ suc (i - 1) = omega arith in
           rw (rw k at (last-after p (i - 1) 1 (last-here ∙ rw (told f t, told g u))), add-one)
@@ -100,24 +102,50 @@ pub parent-begin : (p : Text) → lastPartStart (drop (length p) p) ≡ none
 unfolding lastPartStart
 parent-begin p = rw (drop-length p)
 
-pub parent-end : (p : Text) (i : ℕ) → i ≤ 0 → lastPartStart (drop i p) ≡ none → 0 ≡ parentLen p
-unfolding parentLen
+pub parent-end : (p : Text) (i : ℕ) → i ≤ 0 → lastPartStart (drop i p) ≡ none → 0 ≡ ownParentLen p
+unfolding ownParentLen
 parent-end p i h e = let k : i ≡ 0 = omega arith in rw (rw k at e)
 
 pub ruleset parents = (parent-first, parent-at, parent-after, parent-on, parent-begin, parent-end)
 
+-- Lemmas for `parent_len`.
+module _ (p : Text) (b : Bool) (f : b ≡ endsWithByte 93 p) where
+  pub parent-of-target : (o : Text) → o ≡ ownPart p → b ≡ true → length o ≡ parentLen p
+  unfolding parentLen
+  parent-of-target o e t = rw (told f t, e)
+
+  pub parent-of-own : (n : ℕ) → b ≡ false → n ≡ ownParentLen p → n ≡ parentLen p
+  unfolding parentLen
+  parent-of-own n t e = rw (told f t) e
+
+pub ruleset parent-cases = (parent-of-target, parent-of-own)
+
+-- Lemmas for `is_property`.
+module _ (p : Text) (b : Bool) (f : b ≡ lacksByte 91 p) where
+  pub property-none : not b ≡ true → false ≡ isProperty p
+  unfolding isProperty
+  property-none t = rw (target-nil p, known-false f t) (sym (and-no (hasProperty p)))
+
+  pub property-some : (c : Bool) → not b ≡ false → c ≡ lacksByte 46 p → not c ≡ isProperty p
+  unfolding isProperty
+  property-some c t g =
+      let h : lacksByte 91 p ≡ true = known-true f t in
+      rw (target-nil p, h, property-scan p, own-all p h, ← g) (sym (and-yes (not c)))
+
+pub ruleset properties = (property-none, property-some)
+
 -- Lemmas for `prim_len`.
-module _ (p : Text) (b c : Bool) (f : b ≡ lacksByte 46 p) where
-  pub prim-property : (n : ℕ) → not b ≡ true → n ≡ parentLen p → n ≡ primLen p
-  unfolding primLen
-  prim-property n t e = rw (known-false f t) e
+module _ (p o : Text) (w : o ≡ ownPart p) (b c : Bool) (f : b ≡ lacksByte 46 o) where
+  pub prim-property : (n : ℕ) → not b ≡ true → n ≡ ownParentLen o → n ≡ primLen p
+  unfolding primLen hasProperty
+  prim-property n t e = rw (← w, known-false f t) e
 
-  pub prim-selection : (n : ℕ) → not b ≡ false → c ≡ endsWithByte 125 p → c ≡ true → n ≡ parentLen p → n ≡ primLen p
-  unfolding primLen
-  prim-selection n t g u e = rw (known-true f t, told g u) e
+  pub prim-selection : (n : ℕ) → not b ≡ false → c ≡ endsWithByte 125 o → c ≡ true → n ≡ ownParentLen o → n ≡ primLen p
+  unfolding primLen hasProperty
+  prim-selection n t g u e = rw (← w, known-true f t, told g u) e
 
-  pub prim-other : not b ≡ false → c ≡ endsWithByte 125 p → c ≡ false → length p ≡ primLen p
-  unfolding primLen
-  prim-other t g u = rw (known-true f t, told g u)
+  pub prim-other : not b ≡ false → c ≡ endsWithByte 125 o → c ≡ false → length o ≡ primLen p
+  unfolding primLen hasProperty
+  prim-other t g u = rw (← w, known-true f t, told g u)
 
 pub ruleset prims = (prim-property, prim-selection, prim-other)

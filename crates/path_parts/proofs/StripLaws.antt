@@ -1,8 +1,8 @@
 -- Lemmas about stripping selections: the result is no longer than the text, is legal if the text is, and has no selection; a text without
 -- selections is unchanged. If the buffer has capacity for the text, it holds the stripped one.
 use mathlib.Core.Path.{_≡_, refl, sym, ap, _∙_}
-use mathlib.Core.Bool.{Bool, true, false, cond, false≢true}
-use mathlib.Core.List.{[], _∷_}
+use mathlib.Core.Bool.{Bool, true, false, not, cond, false≢true}
+use mathlib.Core.List.{[], _∷_, _++_}
 use Prim.Native.Nat.{ℕ, _≤_}
 use native.Mathlib.Omega.{arith}
 use lib.Dec.{eqb}
@@ -11,17 +11,18 @@ use borrow.Author.Tests.{eqb-true, le-leb}
 use Rattle.text.specs.Text.{Text, isNil, lacksByte, written}
 use Rattle.text.specs.declared.Fit.{Fit}
 use Rattle.text.specs.declared.Fit.the-variants.{Written, Over}
-use Rattle.text.proofs.BoolLaws.{or-right}
-use Rattle.text.proofs.TextLaws.{lacks-first, lacks-rest, lacks-join}
+use Rattle.text.proofs.BoolLaws.{and-yes, or-right}
+use Rattle.text.proofs.TextLaws.{lacks-append, lacks-first, lacks-rest, lacks-join}
 use Rattle.text.proofs.WriteLaws.{read-back}
-use Rattle.path_grammar.specs.Legal.{ScanState, Slash, Name, Opened, Set, Equals, Sel, Closed, Dot, Prop, Dead, isIdentifierStart, isIdentifierCont, startsName, step, run, accept, legal}
-use Rattle.path_grammar.specs.Own.{hasVariantSelection}
-use Rattle.path_grammar.proofs.OwnLaws.{free-lacks, lacks-free}
+use Rattle.path_grammar.specs.Legal.{ScanState, Slash, Name, Opened, Set, Equals, Sel, Closed, Dot, Prop, Dead, isIdentifierStart, isIdentifierCont, startsName, step, run, accept, legalOwn, legal}
+use Rattle.path_grammar.specs.Own.{ownPart, targetPart, hasVariantSelection}
+use Rattle.path_grammar.proofs.OwnLaws.{own-parts, own-lacks, own-of, target-of, no-selection, property-scan}
 use Rattle.path_grammar.proofs.RunLaws.{run-app}
 use Rattle.path_parts.specs.Parent.{startsNameAfter}
 use Rattle.path_parts.specs.Strip.{strippedByte, insideAfter, stripFrom, strip, stripFit, stripBuffer}
-use Rattle.path_parts.proofs.ReadLaws.{Shape, empty, root, below, shape, choose, dies, not-name}
-use Rattle.path_grammar.proofs.LegalLaws.{start-cont}
+use Rattle.path_parts.proofs.ReadLaws.{Shape, empty, root, below, shape, choose, dies}
+use Rattle.path_grammar.proofs.LegalLaws.{legal-own-part, legal-as, start-cont}
+use Rattle.path_grammar.proofs.RenderLacks.{not-name}
 
 -- Each byte yields at most one byte.
 either-short : (t : Bool) (x y : Text) → length x ≤ 1 → length y ≤ 1 → length (cond t x y) ≤ 1
@@ -33,7 +34,7 @@ unfolding strippedByte
 piece-short true a r = either-short (startsNameAfter a r) (47 ∷ []) [] (omega arith) (omega arith)
 piece-short false a r = either-short (eqb a 123) [] (a ∷ []) (omega arith) (omega arith)
 
-from-shorter : (m : Bool) (p : Text) → length (stripFrom m p) ≤ length p
+pub from-shorter : (m : Bool) (p : Text) → length (stripFrom m p) ≤ length p
 unfolding stripFrom
 from-shorter m [] = omega arith
 from-shorter m (a ∷ r) =
@@ -41,9 +42,15 @@ from-shorter m (a ∷ r) =
 
 pub strip-shorter : (p : Text) → length (strip p) ≤ length p
 unfolding strip
-strip-shorter p = from-shorter false p
+strip-shorter p =
+    omega (
+      arith,
+      length-append (stripFrom false (ownPart p)) (targetPart p),
+      from-shorter false (ownPart p),
+      sym (length-append (ownPart p) (targetPart p)) ∙ ap length (own-parts p),
+    )
 
--- No byte yields a `{`.
+-- No byte yields a `{`, nor another byte than itself or a slash.
 piece-lacks : (m : Bool) (a : ℕ) (r : Text) → lacksByte 123 (strippedByte m a r) ≡ true
 unfolding strippedByte lacksByte
 piece-lacks true a r = go (startsNameAfter a r)
@@ -57,24 +64,57 @@ piece-lacks false a r = go (eqb a 123) refl
     go true h = refl
     go false h = rw h
 
+piece-unbracketed : (m : Bool) (a : ℕ) (r : Text) → eqb a 91 ≡ false → lacksByte 91 (strippedByte m a r) ≡ true
+unfolding strippedByte lacksByte
+piece-unbracketed true a r h = go (startsNameAfter a r)
+  where
+    go : (t : Bool) → lacksByte 91 (cond t (47 ∷ []) []) ≡ true
+    go true = refl
+    go false = refl
+piece-unbracketed false a r h = go (eqb a 123)
+  where
+    go : (t : Bool) → lacksByte 91 (cond t [] (a ∷ [])) ≡ true
+    go true = refl
+    go false = rw h
+
 from-lacks : (m : Bool) (p : Text) → lacksByte 123 (stripFrom m p) ≡ true
 unfolding stripFrom lacksByte
 from-lacks m [] = refl
 from-lacks m (a ∷ r) = lacks-join 123 (strippedByte m a r) (stripFrom (insideAfter m a) r) (piece-lacks m a r) (from-lacks (insideAfter m a) r)
 
--- So a stripped path has no selection.
-pub strip-free : (p : Text) → hasVariantSelection (strip p) ≡ false
-unfolding strip
-strip-free p = lacks-free (strip p) (from-lacks false p)
+from-unbracketed : (m : Bool) (p : Text) → lacksByte 91 p ≡ true → lacksByte 91 (stripFrom m p) ≡ true
+unfolding stripFrom lacksByte
+from-unbracketed m [] h = refl
+from-unbracketed m (a ∷ r) h =
+    lacks-join 91 (strippedByte m a r) (stripFrom (insideAfter m a) r) (piece-unbracketed m a r (lacks-first 91 a r h))
+    (from-unbracketed (insideAfter m a) r (lacks-rest 91 a r h))
 
--- A text without `{` is unchanged, and so is a path without selections.
-lacks-same : (p : Text) → lacksByte 123 p ≡ true → strip p ≡ p
-unfolding strip
+-- The two parts of the stripped path.
+module _ (p : Text) where
+  strip-unbracketed : lacksByte 91 (stripFrom false (ownPart p)) ≡ true
+  strip-unbracketed = from-unbracketed false (ownPart p) (own-lacks p)
+
+  pub strip-own : ownPart (strip p) ≡ stripFrom false (ownPart p)
+  unfolding strip
+  strip-own = own-of (stripFrom false (ownPart p)) p strip-unbracketed
+
+  pub strip-target : targetPart (strip p) ≡ targetPart p
+  unfolding strip
+  strip-target = target-of (stripFrom false (ownPart p)) p strip-unbracketed
+
+  -- So a stripped path has no selection of its own.
+  pub strip-free : hasVariantSelection (strip p) ≡ false
+  strip-free = no-selection (strip p) .1 (rw strip-own (from-lacks false (ownPart p)))
+
+-- A text without `{` is unchanged, and so is a path without selections of its own.
+lacks-same : (p : Text) → lacksByte 123 p ≡ true → stripFrom false p ≡ p
+unfolding stripFrom strippedByte
 lacks-same [] f = refl
 lacks-same (a ∷ r) f = rw (lacks-first 123 a r f) (ap (λ (t : Text). a ∷ t) (lacks-same r (lacks-rest 123 a r f)))
 
 pub strip-same : (p : Text) → hasVariantSelection p ≡ false → strip p ≡ p
-strip-same p f = lacks-same p (free-lacks p f)
+unfolding strip
+strip-same p f = ap (λ (t : Text). t ++ targetPart p) (lacks-same (ownPart p) (no-selection p .0 f)) ∙ own-parts p
 
 -- The stripped text is read in parallel with the text. Inside a selection, its automaton stays in the name before the selection.
 abbrev within : ScanState → Bool
@@ -184,14 +224,67 @@ strip-run s (a ∷ r) e =
     let t = along a r s e in
     rw (t .0, run-app (beside s (a ∷ r)) (strippedByte (within s) a r) (stripFrom (within (step s a)) r), t .1) (strip-run (step s a) r e)
 
-pub strip-legal : (p : Text) → legal p ≡ true → legal (strip p) ≡ true
-unfolding legal strip
-strip-legal p e = go (shape p e)
+-- Stripping removes no dot: no selection of a legal path has one.
+dot-dies : (s : ScanState) → within s ≡ true → step s 46 ≡ Dead
+unfolding step isIdentifierStart isIdentifierCont
+dot-dies Slash h = absurd (false≢true h)
+dot-dies Name h = absurd (false≢true h)
+dot-dies Opened h = refl
+dot-dies Set h = refl
+dot-dies Equals h = refl
+dot-dies Sel h = refl
+dot-dies Closed h = absurd (false≢true h)
+dot-dies Dot h = absurd (false≢true h)
+dot-dies Prop h = absurd (false≢true h)
+dot-dies Dead h = absurd (false≢true h)
+
+piece-dot : (s : ScanState) (a : ℕ) (r : Text) → accept (run (step s a) r) ≡ true → lacksByte 46 (strippedByte (within s) a r) ≡ not (eqb a 46)
+unfolding strippedByte lacksByte
+piece-dot s a r e = go (within s) refl
   where
-    go : {q : Text} → Shape q → legal (strip q) ≡ true
-    go empty = refl
-    go root = refl
-    go (below r f) = or-right (isNil (stripFrom false r)) (accept (run Slash (stripFrom false r))) (strip-run Slash r f)
+    slashes : (t : Bool) → lacksByte 46 (cond t (47 ∷ []) []) ≡ true
+    slashes true = refl
+    slashes false = refl
+
+    inside : within s ≡ true → (d : Bool) → eqb a 46 ≡ d → true ≡ not d
+    inside w true h = dies r (rw (eqb-true a 46 h, dot-dies s w) at e)
+    inside w false h = refl
+
+    outside : (t : Bool) → eqb a 123 ≡ t → lacksByte 46 (cond t [] (a ∷ [])) ≡ not (eqb a 46)
+    outside true h = rw (eqb-true a 123 h)
+    outside false h = and-yes (not (eqb a 46))
+
+    go : (b : Bool) → within s ≡ b → lacksByte 46 (strippedByte b a r) ≡ not (eqb a 46)
+    go true w = slashes (startsNameAfter a r) ∙ inside w (eqb a 46) refl
+    go false w = outside (eqb a 123) refl
+
+strip-dots : (s : ScanState) (r : Text) → accept (run s r) ≡ true → lacksByte 46 (stripFrom (within s) r) ≡ lacksByte 46 r
+unfolding run stripFrom lacksByte
+strip-dots s [] e = refl
+strip-dots s (a ∷ r) e =
+    rw (
+      along a r s e .0,
+      lacks-append 46 (strippedByte (within s) a r) (stripFrom (within (step s a)) r),
+      piece-dot s a r e,
+      strip-dots (step s a) r e,
+    )
+
+own-strip-legal : (p : Text) → legalOwn p ≡ true → (legalOwn (stripFrom false p) ≡ true) × (lacksByte 46 (stripFrom false p) ≡ lacksByte 46 p)
+unfolding legalOwn stripFrom lacksByte
+own-strip-legal p e = go (shape p e)
+  where
+    go : {q : Text} → Shape q → (legalOwn (stripFrom false q) ≡ true) × (lacksByte 46 (stripFrom false q) ≡ lacksByte 46 q)
+    go empty = (refl, refl)
+    go root = (refl, refl)
+    go (below r f) = (or-right (isNil (stripFrom false r)) (accept (run Slash (stripFrom false r))) (strip-run Slash r f), strip-dots Slash r f)
+
+pub strip-legal : (p : Text) → legal p ≡ true → legal (strip p) ≡ true
+strip-legal p e =
+    let w = own-strip-legal (ownPart p) (legal-own-part p e) in
+    legal-as p (strip p) e
+    (property-scan (strip p) ∙ ap (λ (t : Text). not (lacksByte 46 t)) (strip-own p) ∙ ap not (w .1) ∙ sym (property-scan p))
+    (strip-target p)
+    ∙ ap legalOwn (strip-own p) ∙ w .0
 
 -- Stripping into a buffer with capacity for the whole text.
 module _ (p out : Text) (f : Fit) (room : length p ≤ length out) (h : f ≡ stripFit p out) where

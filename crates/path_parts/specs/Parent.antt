@@ -1,4 +1,4 @@
--- Meaning: Parents, prim paths, properties and ancestors. All of them are prefixes of the path's own text. OpenUSD: SdfPath::GetParentPath,
+-- Meaning: Parents, prim paths, properties and ancestors. All of them are prefixes of the path's text. OpenUSD: SdfPath::GetParentPath,
 -- GetPrimPath, GetAncestorsRange.
 use Prim.Native.Nat.{ℕ, zero, suc, _-_}
 use mathlib.Core.Bool.{Bool, not, cond, _&&_, _||_}
@@ -7,8 +7,8 @@ use mathlib.Core.Option.{Option, none, some}
 use lib.Dec.{eqb}
 use lib.ListN.{length, take}
 use Rattle.text.specs.Text.{Text, isNil, endsWithByte}
-use Rattle.text.specs.Bytes.{closeBrace, dot, openBrace, slash}
-use Rattle.path_grammar.specs.Own.{hasProperty}
+use Rattle.text.specs.Bytes.{closeBrace, closeBracket, dot, openBrace, slash}
+use Rattle.path_grammar.specs.Own.{ownPart, targetPart, hasProperty}
 use Rattle.path_grammar.specs.Legal.{isRoot, isIdentifierCont, startsName}
 
 -- A part (an element or the property) begins at the byte a followed by r.
@@ -43,10 +43,15 @@ parentEnd none = 0
 parentEnd (some zero) = 1
 parentEnd (some (suc k)) = suc k
 
--- The length of the parent.
-unfoldable pub parentLen : Text → ℕ
+-- The length of the parent of a path without brackets.
+unfoldable pub ownParentLen : Text → ℕ
 unfolding lastPartStart
-parentLen p = parentEnd (lastPartStart p)
+ownParentLen p = parentEnd (lastPartStart p)
+
+-- The length of the parent. The parent of a path that ends in a closing bracket is its own part, which ends in the property before the brackets.
+unfoldable pub parentLen : Text → ℕ
+unfolding endsWithByte ownPart ownParentLen
+parentLen p = cond (endsWithByte closeBracket p) (length (ownPart p)) (ownParentLen p)
 
 -- Every path except the empty one and `/` has a parent.
 abbrev pub hasParent : Text → Bool
@@ -58,15 +63,15 @@ unfoldable pub parent : Text → Option Text
 unfolding parentLen
 parent p = cond (hasParent p) (some (take (parentLen p) p)) none
 
--- The path is a property path (Rust: is_property): it ends in its property. A path with a target path in brackets after its property would
--- have a property and not be one.
-abbrev pub isProperty : Text → Bool
-isProperty p = hasProperty p
+-- The path is a property path (Rust: is_property): it ends in its property. A path with a target in brackets has a property and is none.
+unfoldable pub isProperty : Text → Bool
+unfolding hasProperty targetPart
+isProperty p = hasProperty p && isNil (targetPart p)
 
--- The length of the prim path: without the property, or without the last selection if the path ends in one; otherwise the whole path.
+-- The length of the prim path: the own part without the property, or without the last selection if it ends in one; otherwise the whole own part.
 unfoldable pub primLen : Text → ℕ
-unfolding parentLen hasProperty endsWithByte
-primLen p = cond (hasProperty p || endsWithByte closeBrace p) (parentLen p) (length p)
+unfolding ownParentLen hasProperty ownPart endsWithByte
+primLen p = cond (hasProperty p || endsWithByte closeBrace (ownPart p)) (ownParentLen (ownPart p)) (length (ownPart p))
 
 -- The prim path (Rust: prim_path).
 unfoldable pub primPath : Text → Text
@@ -76,7 +81,7 @@ primPath p = take (primLen p) p
 -- The prim path of a property path. Requirements: "`split_property` writes the prim path, the name being the text after its dot; without a
 -- property it gives no path."
 unfoldable pub splitProperty : Text → Option Text
-unfolding primPath hasProperty
+unfolding primPath isProperty
 splitProperty p = cond (isProperty p) (some (primPath p)) none
 
 -- The list that `go` yields for a path, or the empty list if there is no path.

@@ -8,6 +8,7 @@ use Rattle.text.specs.Text.{Text, written}
 use Rattle.text.specs.declared.Fit.{Fit}
 use Rattle.text.specs.declared.Fit.the-variants.{Written, Over}
 use Rattle.text.specs.Bytes.{closeBrace, openBrace, slash}
+use Rattle.path_grammar.specs.Own.{ownPart, targetPart}
 use Rattle.path_parts.specs.Parent.{startsNameAfter}
 
 -- The output for the byte a followed by r. Inside a selection it is nothing, or a slash for a `}` that a name follows; outside it is the
@@ -28,10 +29,11 @@ unfolding strippedByte
 stripFrom inside [] = []
 stripFrom inside (a ∷ r) = strippedByte inside a r ++ stripFrom (insideAfter inside a) r
 
--- The path without its variant selections (Rust: strip_variant_selections).
+-- The path without its variant selections (Rust: strip_variant_selections). Those of the path in its brackets are left: requirements, "Names and
+-- selections inside brackets don't count as the path's own .. and stripping .. leaves them".
 unfoldable pub strip : Text → Text
-unfolding stripFrom
-strip p = stripFrom false p
+unfolding stripFrom ownPart targetPart
+strip p = stripFrom false (ownPart p) ++ targetPart p
 
 -- The result of writing the stripped path. The buffer must have capacity for the original path, since stripping makes no text longer.
 unfoldable pub stripFit : Text → Text → Fit

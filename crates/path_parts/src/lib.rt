@@ -2,12 +2,13 @@
 // prim_path, ancestors and strip_variant_selections of the Rust sdf/path.rs. Every public function is
 // defined for any bytes and has no precondition.
 ghost use mathlib.Core.Path.{_≡_};
-ghost use Prim.Native.Nat.{_+_, _<_};
+ghost use mathlib.Core.Bool.{false};
+ghost use Prim.Native.Nat.{_+_, _<_, _≤_};
 ghost use lib.ListN.{length, getD, drop};
-ghost use Rattle.text.specs.Text.{writtenAt, fitOf, writtenIfFits};
+ghost use Rattle.text.specs.Text.{written, writtenAt, fitOf, writtenIfFits};
 ghost use Rattle.path_grammar.specs.Legal.{startsName};
-ghost use Rattle.path_parts.specs.Parent.{startsPart, startsNameAfter, parentLen, hasParent, primLen, ancestors, ancestorLens};
-ghost use Rattle.path_parts.specs.Strip.{strippedByte, insideAfter, stripFit, stripBuffer};
+ghost use Rattle.path_parts.specs.Parent.{startsPart, startsNameAfter, ownParentLen, parentLen, hasParent, isProperty, primLen, ancestors, ancestorLens};
+ghost use Rattle.path_parts.specs.Strip.{strippedByte, insideAfter, stripFrom, stripFit, stripBuffer};
 
 // Returns whether there is a byte at index `i` and it may occur in a name.
 fn starts_name(path: &[u8], i: usize) -> bool
@@ -44,9 +45,9 @@ fn starts_name_after(path: &[u8], i: usize) -> bool
     false
 }
 
-// The length of the path's parent. Scans backwards to the beginning of the last part.
-pub fn parent_len(path: &[u8]) -> usize
-    ensures { λ r. ⌜ r ≡ parentLen (now (path .entry)) ⌝ }
+// The length of the parent of a path without brackets. Scans backwards to the beginning of the last part.
+fn own_parent_len(path: &[u8]) -> usize
+    ensures { λ r. ⌜ r ≡ ownParentLen (now (path .entry)) ⌝ }
 {
     let mut i = path.len();
     while 0 < i {
@@ -64,17 +65,38 @@ pub fn parent_len(path: &[u8]) -> usize
     0
 }
 
-// The length of the path without its property, or without the last selection if it ends in one.
+// The length of the path's parent.
+pub fn parent_len(path: &[u8]) -> usize
+    ensures { λ r. ⌜ r ≡ parentLen (now (path .entry)) ⌝ }
+{
+    if text::last_is(path, b']') {
+        return path_own::own_part(path).len();
+    }
+    own_parent_len(path)
+}
+
+// Returns whether the path ends in its property.
+pub fn is_property(path: &[u8]) -> bool
+    ensures { λ r. ⌜ r ≡ isProperty (now (path .entry)) ⌝ }
+{
+    if !text::lacks_byte(path, b'[') {
+        return false;
+    }
+    !text::lacks_byte(path, b'.')
+}
+
+// The length of the path's own part without its property, or without the last selection if it ends in one.
 pub fn prim_len(path: &[u8]) -> usize
     ensures { λ r. ⌜ r ≡ primLen (now (path .entry)) ⌝ }
 {
-    if !text::lacks_byte(path, b'.') {
-        return parent_len(path);
+    let own = path_own::own_part(path);
+    if !text::lacks_byte(own, b'.') {
+        return own_parent_len(own);
     }
-    if text::last_is(path, b'}') {
-        return parent_len(path);
+    if text::last_is(own, b'}') {
+        return own_parent_len(own);
     }
-    path.len()
+    own.len()
 }
 
 // Returns whether the path is neither empty nor `/`.
@@ -156,8 +178,25 @@ fn emit(path: &[u8], i: usize, inside: bool, out: &mut [u8], j: usize) -> usize
     j + 1
 }
 
+// Writes the text, which has no brackets, without its selections, and returns the length written.
+fn strip_own(own: &[u8], out: &mut [u8]) -> usize
+    requires { ⌜ length (now own) ≤ length (now out) ⌝ }
+    ensures { λ r. ⌜ r ≡ length (stripFrom false (now (own .entry))) ⌝ }
+    ensures { λ r. ⌜ now (out .exit) ≡ written (stripFrom false (now (own .entry))) (now (out .entry)) ⌝ }
+{
+    let mut inside = false;
+    let mut i = 0;
+    let mut j = 0;
+    while i < own.len() {
+        j = emit(own, i, inside, out, j);
+        inside = inside_changes(inside, own[i]);
+        i += 1;
+    }
+    j
+}
+
 // Writes the path without its selections if the buffer has capacity for the original path; otherwise
-// writes nothing.
+// writes nothing. The text from the first `[` on is copied.
 pub fn strip_into(path: &[u8], out: &mut [u8]) -> text::Fit
     ensures { λ r. ⌜ r ≡ stripFit (now (path .entry)) (now (out .entry)) ⌝ }
     ensures { λ r. ⌜ now (out .exit) ≡ stripBuffer (now (path .entry)) (now (out .entry)) ⌝ }
@@ -165,13 +204,9 @@ pub fn strip_into(path: &[u8], out: &mut [u8]) -> text::Fit
     if out.len() < path.len() {
         return text::Fit::Over;
     }
-    let mut inside = false;
-    let mut i = 0;
-    let mut j = 0;
-    while i < path.len() {
-        j = emit(path, i, inside, out, j);
-        inside = inside_changes(inside, path[i]);
-        i += 1;
-    }
-    text::Fit::Written(j)
+    let own = path_own::own_part(path);
+    let n = own.len();
+    let j = strip_own(own, out);
+    text::write_at(&path[n..], j, out);
+    text::Fit::Written(path.len() - (n - j))
 }

@@ -1,62 +1,53 @@
--- The loop. The first i bytes are read, and their stripped form is in the first j bytes of the buffer.
-use Rattle.path_parts.proofs.EmitLaws.{Sofar, strips}
 use borrow.Author.Needs.{needs}
-use mathlib.Core.Path.{_≡_}
-use Prim.Native.Nat.{_-_, _≤_}
-use lib.ListN.{length}
+use Rattle.path_parts.proofs.EmitLaws.{strip-ends}
 use Rattle.path_parts.proofs.strip_into.Statement.{statement}
 use Rattle.path_parts.proofs.strip_into.Tie as tie
 
--- Invariant: before byte i, j bytes are written, and the output for the remainder of the path is still to be written.
-abbrev Inv-loop : tie.InvT-loop
-Inv-loop path out₀ inside₀ i₀ j₀ out inside i j = (i ≤ length path) × (j ≤ i) × (length out ≡ length out₀) × Sofar path out₀ out inside i j
+returns : tie.Need-returns
+returns c = search (needs, strip-ends)
 
-abbrev μ-loop : tie.MeasureT-loop
-μ-loop path out₀ inside₀ i₀ j₀ out inside i j = length path - i
+own-part-requires : tie.Need-own-part-requires
+own-part-requires c κs = search needs
 
-returns : tie.Need-returns Inv-loop μ-loop
-returns c = search (needs, strips)
+strip-own-requires : tie.Need-strip-own-requires
+strip-own-requires c κs = search (needs, strip-ends)
 
-loop-holds : tie.Need-loop-holds Inv-loop μ-loop
-loop-holds c = search (needs, strips)
+sub-write-at : tie.Need-sub-write-at
+sub-write-at c = search (needs, strip-ends)
 
-emit-requires : tie.Need-emit-requires Inv-loop μ-loop
-emit-requires c κs = search (needs, strips)
+part-write-at-start : tie.Need-part-write-at-start
+part-write-at-start c = search (needs, strip-ends)
 
-shared-slice-read-inside-changes : tie.Need-shared-slice-read-inside-changes Inv-loop μ-loop
-shared-slice-read-inside-changes c = search (needs, strips)
+part-write-at-end : tie.Need-part-write-at-end
+part-write-at-end c = search needs
 
-inside-changes-requires : tie.Need-inside-changes-requires Inv-loop μ-loop
-inside-changes-requires c κs = search (needs, strips)
+write-at-requires : tie.Need-write-at-requires
+write-at-requires c κs = search needs
 
-add-i : tie.Need-add-i Inv-loop μ-loop
-add-i c = search (needs, strips)
+sub-t6 : tie.Need-sub-t6
+sub-t6 c = search (needs, strip-ends)
 
-loop-less : tie.Need-loop-less Inv-loop μ-loop
-loop-less c = search (needs, strips)
+sub-t17 : tie.Need-sub-t17
+sub-t17 c = search (needs, strip-ends)
 
-loop-again : tie.Need-loop-again Inv-loop μ-loop
-loop-again c = search (needs, strips)
+same-length : tie.Need-same-length
+same-length c = search needs
 
-same-length : tie.Need-same-length Inv-loop μ-loop
-same-length c = search (needs, strips)
-
-returns-2 : tie.Need-returns-2 Inv-loop μ-loop
-returns-2 c = search (needs, strips)
+returns-2 : tie.Need-returns-2
+returns-2 c = search (needs, strip-ends)
 
 pub strip-into-spec : {M : Type 1} → statement M
 strip-into-spec =
     tie.close
     (tie.spec
-    Inv-loop
-    μ-loop
     returns
-    loop-holds
-    emit-requires
-    shared-slice-read-inside-changes
-    inside-changes-requires
-    add-i
-    loop-less
-    loop-again
+    own-part-requires
+    strip-own-requires
+    sub-write-at
+    part-write-at-start
+    part-write-at-end
+    write-at-requires
+    sub-t6
+    sub-t17
     same-length
     returns-2)
