@@ -124,7 +124,7 @@ pub parent-shorter : (p q : Text) → legal p ≡ true → parent p ≡ some q �
 parent-shorter p q e f = rw (parent-is p q f .1) (parent-less p e (parent-is p q f .0))
 
 -- Lemmas about prim paths.
-prim-of-own : (p : Text) → primPath p ≡ take (primLen p) (ownPart p)
+pub prim-of-own : (p : Text) → primPath p ≡ take (primLen p) (ownPart p)
 unfolding primPath
 prim-of-own p = sym (take-take (primLen p) (length (ownPart p)) p (prim-in-own p)) ∙ ap (take (primLen p)) (own-slice p)
 

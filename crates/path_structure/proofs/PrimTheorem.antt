@@ -1,48 +1,32 @@
 -- The prim path of a path's text: whether it has a property or ends in a selection can be read from its bytes.
 use mathlib.Core.Path.{_≡_, refl, sym, ap, _∙_}
-use mathlib.Core.Bool.{Bool, true, false, not, cond, _||_, true≢false}
+use mathlib.Core.Bool.{Bool, true, false, cond, _&&_, true≢false}
 use mathlib.Core.List.{List, [], _∷_, _++_, append-assoc, append-nil}
 use mathlib.Core.Option.{none, some}
 use Prim.Native.Nat.{ℕ}
 use lib.ListN.{length, take}
 use lib.Seq.{take-length}
-use Rattle.text.specs.Text.{Text, isNil, endsWithByte, lacksByte}
-use Rattle.text.proofs.BoolLaws.{and-l, and-r}
-use Rattle.text.proofs.TextLaws.{last-after, lacks-after, lacks-join}
+use Rattle.text.specs.Text.{Text, isNil, endsWithByte, lacksByte, takeUntil}
+use Rattle.text.proofs.BoolLaws.{and-l, and-r, and-no}
+use Rattle.text.proofs.TextLaws.{last-after}
 use Rattle.path_grammar.specs.Own.{ownPart, hasProperty}
-use Rattle.path_grammar.specs.Legal.{isIdentifierStart, isIdentifierCont, startsName}
+use Rattle.path_grammar.specs.Legal.{isIdentifierCont, startsName}
 use Rattle.path_grammar.specs.Grammar as g
-use Rattle.path_grammar.specs.Grammar.{allCont, nameText, wordText, selectionText, selectionsText, primText, primSeparator, primsText, moreText, propertyText, render}
-use Rattle.path_grammar.proofs.OwnLaws.{property-scan}
+use Rattle.path_grammar.specs.Grammar.{allCont, nameText, wordText, selectionText, selectionsText, primText, primSeparator, primsText, propertyText, ownText, bracketText, absoluteText, render}
+use Rattle.path_grammar.proofs.OwnLaws.{own-all, own-lacks}
 use Rattle.path_grammar.proofs.LegalLaws.{start-cont}
-use Rattle.path_parts.specs.Parent.{lastPartStart, parentLen, primLen, primPath, splitProperty}
-use Rattle.path_parts.proofs.ReadLaws.{not-name}
-use Rattle.path_structure.specs.Structure.{dropLastPart, pathOfPrims, anySelection, endsInSelection, primPathOf, splitPropertyOf, renderOption}
+use Rattle.path_grammar.proofs.RenderLacks.{not-name, prims-dotless, close-no-name}
+use Rattle.path_grammar.proofs.Render.{own-dotted, own-prims, target-prims, own-target, target-target}
+use Rattle.path_parts.specs.Parent.{ownParentLen, isProperty, primLen, primPath, splitProperty}
+use Rattle.path_parts.proofs.ParentLaws.{prim-of-own}
+use Rattle.path_structure.specs.Structure.{dropLastPart, pathOfPrims, anySelection, endsInSelection, absolutePrimPath, primPathOf, absoluteSplit, splitPropertyOf, renderOption}
 use Rattle.path_structure.proofs.PartLaws.{prims-named, prims-part}
-use Rattle.path_structure.proofs.ParentTheorem.{before-slash, prims-before, property-before, no-property-text, prims-name}
+use Rattle.path_structure.proofs.ParentTheorem.{before-slash, prims-before, property-before, no-property-text, prims-name, textOption, option-texts}
 
 -- So a path has a property exactly if its text has a dot.
-undotted : (p : g.Prim) (r : List g.Prim) → hasProperty (47 ∷ primsText p r) ≡ false
-unfolding lacksByte
-undotted p r = property-scan (47 ∷ primsText p r) ∙ ap not (prims-dotless p r)
-
-dotted : (p : g.Prim) (r : List g.Prim) → hasProperty (47 ∷ primsText p r) ≡ false
-unfolding lacksByte
-undotted p r = property-scan (47 ∷ primsText p r) ∙ ap not (prims-dotless p r)
-
-dot-found : (x t : Text) → lacksByte 46 (x ++ (46 ∷ t)) ≡ false
-unfolding lacksByte
-dot-found x t = go (lacksByte 46 (x ++ (46 ∷ t))) refl
-  where
-    go : (v : Bool) → lacksByte 46 (x ++ (46 ∷ t)) ≡ v → v ≡ false
-    go true e = absurd (true≢false (sym (lacks-after 46 x (46 ∷ t) e)))
-    go false e = refl
-
-dotted : (p : g.Prim) (r : List g.Prim) (x : g.Property) → hasProperty (render (g.prims p r (some x))) ≡ true
-unfolding render propertyText
-dotted p r x =
-    property-scan (47 ∷ (primsText p r ++ propertyText (some x)))
-    ∙ ap not (dot-found (47 ∷ primsText p r) (nameText (x .first) ++ moreText (x .more)))
+undotted : (p : g.Prim) (r : List g.Prim) → lacksByte 46 (ownText p r none) ≡ true
+unfolding ownText propertyText lacksByte
+undotted p r = ap (lacksByte 46) (append-nil (primsText p r)) ∙ prims-dotless p r
 
 -- A text ends in `}` exactly if its last prim has a selection.
 ends-after : (b : ℕ) (x t : Text) → isNil t ≡ false → endsWithByte b (x ++ t) ≡ endsWithByte b t
@@ -93,61 +77,90 @@ prims-end p (q ∷ r) =
 slash-ends : (p : g.Prim) (r : List g.Prim) → endsWithByte 125 (47 ∷ primsText p r) ≡ endsInSelection p r
 slash-ends p r = ends-after 125 (47 ∷ []) (primsText p r) (named-some (primsText p r) (prims-name p r)) ∙ prims-end p r
 
--- The three cases.
-property-prim : (p : g.Prim) (r : List g.Prim) (x : g.Property) → primPath (render (g.prims p r (some x))) ≡ render (g.prims p r none)
-unfolding primPath primLen render
+-- The prim path of a text without brackets, by whether it has a dot.
+own-prim-dotted : (w : Text) → ownPart w ≡ w → lacksByte 46 w ≡ false → primPath w ≡ take (ownParentLen w) w
+unfolding primPath primLen hasProperty
+own-prim-dotted w o h = rw (o, h)
+
+own-prim-undotted : (w : Text) → ownPart w ≡ w → lacksByte 46 w ≡ true → primPath w ≡ take (cond (endsWithByte 125 w) (ownParentLen w) (length w)) w
+unfolding primPath primLen hasProperty
+own-prim-undotted w o h = rw (o, h)
+
+-- The cases.
+property-prim : (p : g.Prim) (r : List g.Prim) (x : g.Property) → primPath (ownText p r (some x)) ≡ ownText p r none
+unfolding ownText
 property-prim p r x =
-    let t : Text = primsText p r ++ propertyText (some x) in
-    ap (λ (b : Bool). take (cond (b || endsWithByte 125 (47 ∷ t)) (parentLen (47 ∷ t)) (length (47 ∷ t))) (47 ∷ t)) (dotted p r x)
-    ∙ before-slash t (prims-named p r (propertyText (some x))) ∙ property-before p r x
+    own-prim-dotted (ownText p r (some x)) (own-prims p r (some x)) (own-dotted p r x)
+    ∙ before-slash (primsText p r ++ propertyText (some x)) (prims-named p r (propertyText (some x))) ∙ property-before p r x
 
-prims-prim : (p : g.Prim) (r : List g.Prim) → primPath (47 ∷ primsText p r) ≡ render (cond (endsInSelection p r) (pathOfPrims (dropLastPart p r)) (g.prims p r none))
-unfolding primPath primLen
-prims-prim p r =
-    let t : Text = 47 ∷ primsText p r in
-    ap (λ (b : Bool). take (cond (b || endsWithByte 125 t) (parentLen t) (length t)) t) (undotted p r)
-    ∙ ap (λ (b : Bool). take (cond b (parentLen t) (length t)) t) (slash-ends p r) ∙ go (endsInSelection p r)
+prims-prim : (d : ℕ) (p : g.Prim) (r : List g.Prim)
+    → primPath (ownText p r none) ≡ absoluteText (cond (endsInSelection p r) (pathOfPrims {d = d} (dropLastPart p r)) (g.prims p r none))
+unfolding absoluteText
+prims-prim d p r =
+    own-prim-undotted (ownText p r none) (own-prims p r none) (undotted p r)
+    ∙ ap (λ (t : Text). take (cond (endsWithByte 125 t) (ownParentLen t) (length t)) t) (no-property-text p r)
+    ∙ ap (λ (b : Bool). take (cond b (ownParentLen t) (length t)) t) (slash-ends p r) ∙ go (endsInSelection p r)
   where
-    go : (b : Bool) → take (cond b (parentLen (47 ∷ primsText p r)) (length (47 ∷ primsText p r))) (47 ∷ primsText p r) ≡ render (cond b (pathOfPrims (dropLastPart p r)) (g.prims p r none))
-    go true = before-slash (primsText p r) (prims-name p r) ∙ prims-before (primsText p r) (dropLastPart p r) (prims-part p r)
-    go false = take-length (47 ∷ primsText p r) ∙ sym (no-property-text p r)
+    t : Text
+    t = 47 ∷ primsText p r
 
-empty-prim : primPath (render g.empty) ≡ render g.empty
-unfolding render primPath primLen hasProperty ownPart lacksByte endsWithByte parentLen lastPartStart
-empty-prim = refl
+    go : (b : Bool) → take (cond b (ownParentLen t) (length t)) t ≡ absoluteText (cond b (pathOfPrims {d = d} (dropLastPart p r)) (g.prims p r none))
+    go true = before-slash (primsText p r) (prims-name p r) ∙ prims-before d (primsText p r) (dropLastPart p r) (prims-part p r)
+    go false = take-length t ∙ sym (no-property-text p r)
 
-root-prim : primPath (render g.root) ≡ render g.root
-unfolding render primPath primLen hasProperty ownPart lacksByte endsWithByte parentLen lastPartStart
-root-prim = refl
+-- The prim path of a path with a target is that of its own part.
+prim-own : (w : Text) → primPath w ≡ primPath (ownPart w)
+unfolding primPath primLen hasProperty
+prim-own w =
+    let o : ownPart (ownPart w) ≡ ownPart w = own-all (ownPart w) (own-lacks w) in
+    prim-of-own w ∙ ap (λ (n : ℕ). take n (ownPart w)) (sym (same-len (ownPart w) w o))
+  where
+    same-len : (v w : Text) → ownPart v ≡ ownPart w → primLen v ≡ primLen w
+    same-len v w o = rw o
+
+absolute-prim-paths : {d : ℕ} (q : g.Absolute d) → primPath (absoluteText q) ≡ absoluteText (absolutePrimPath q)
+unfolding absolutePrimPath absoluteText primPath primLen hasProperty ownPart takeUntil lacksByte endsWithByte
+absolute-prim-paths g.root = refl
+absolute-prim-paths (g.prims {d} p r none) = prims-prim d p r
+absolute-prim-paths (g.prims p r (some x)) = property-prim p r x
+absolute-prim-paths (g.target p r x q) = prim-own (ownText p r (some x) ++ bracketText (absoluteText q)) ∙ ap primPath (own-target p r x (absoluteText q)) ∙ property-prim p r x
 
 pub prim-paths : (p : g.Path) → primPath (render p) ≡ render (primPathOf p)
-unfolding primPathOf
-prim-paths g.empty = empty-prim
-prim-paths g.root = root-prim
-prim-paths (g.prims p r none) = ap primPath (no-property-text p r) ∙ prims-prim p r
-prim-paths (g.prims p r (some x)) = property-prim p r x
+unfolding primPathOf render primPath primLen hasProperty ownPart takeUntil lacksByte endsWithByte
+prim-paths g.empty = refl
+prim-paths (g.absolute q) = absolute-prim-paths q
 
 -- The property.
-empty-split : splitProperty (render g.empty) ≡ none
-unfolding render splitProperty hasProperty ownPart lacksByte
-empty-split = refl
-
-root-split : splitProperty (render g.root) ≡ none
-unfolding render splitProperty hasProperty ownPart lacksByte
-root-split = refl
-
-prims-split : (p : g.Prim) (r : List g.Prim) → splitProperty (47 ∷ primsText p r) ≡ none
+split-none : (w : Text) → isProperty w ≡ false → splitProperty w ≡ none
 unfolding splitProperty
-prims-split p r = ap (λ (b : Bool). cond b (some (primPath (47 ∷ primsText p r))) none) (undotted p r)
+split-none w h = rw h
 
-property-split : (p : g.Prim) (r : List g.Prim) (x : g.Property) → splitProperty (render (g.prims p r (some x))) ≡ some (render (g.prims p r none))
+property-is : (p : g.Prim) (r : List g.Prim) (x : g.Property) → isProperty (ownText p r (some x)) ≡ true
+unfolding isProperty hasProperty
+property-is p r x = rw (own-prims p r (some x), own-dotted p r x, target-prims p r (some x))
+
+target-is-none : (p : g.Prim) (r : List g.Prim) (x : g.Property) (t : Text) → isProperty (ownText p r (some x) ++ bracketText t) ≡ false
+unfolding isProperty bracketText
+target-is-none p r x t =
+    let w : Text = ownText p r (some x) ++ bracketText t in
+    ap (λ (y : Text). hasProperty w && isNil y) (target-target p r x t) ∙ and-no (hasProperty w)
+
+split-some : (w : Text) → isProperty w ≡ true → splitProperty w ≡ some (primPath w)
 unfolding splitProperty
-property-split p r x =
-    ap (λ (b : Bool). cond b (some (primPath (render (g.prims p r (some x))))) none) (dotted p r x) ∙ ap some (property-prim p r x)
+split-some w h = rw h
+
+prims-is-none : (p : g.Prim) (r : List g.Prim) → isProperty (ownText p r none) ≡ false
+unfolding isProperty hasProperty
+prims-is-none p r = rw (own-prims p r none, undotted p r)
+
+absolute-splits : {d : ℕ} (q : g.Absolute d) → splitProperty (absoluteText q) ≡ textOption (absoluteSplit q)
+unfolding absoluteSplit textOption absoluteText splitProperty isProperty hasProperty ownPart takeUntil lacksByte
+absolute-splits g.root = refl
+absolute-splits (g.prims p r none) = split-none (ownText p r none) (prims-is-none p r)
+absolute-splits (g.prims p r (some x)) = split-some (ownText p r (some x)) (property-is p r x) ∙ ap some (property-prim p r x)
+absolute-splits (g.target p r x q) = split-none (ownText p r (some x) ++ bracketText (absoluteText q)) (target-is-none p r x (absoluteText q))
 
 pub properties : (p : g.Path) → splitProperty (render p) ≡ renderOption (splitPropertyOf p)
-unfolding splitPropertyOf renderOption
-properties g.empty = empty-split
-properties g.root = root-split
-properties (g.prims p r none) = ap splitProperty (no-property-text p r) ∙ prims-split p r
-properties (g.prims p r (some x)) = property-split p r x
+unfolding splitPropertyOf renderOption render splitProperty isProperty hasProperty ownPart takeUntil lacksByte
+properties g.empty = refl
+properties (g.absolute q) = absolute-splits q ∙ option-texts (absoluteSplit q)

@@ -3,16 +3,19 @@ use mathlib.Core.Path.{_≡_, refl, sym, ap, _∙_}
 use mathlib.Core.Bool.{Bool, true, false, cond}
 use mathlib.Core.List.{List, [], _∷_, _++_, map, append-assoc, append-nil}
 use mathlib.Core.Option.{Option, none, some}
-use Rattle.text.specs.Text.{Text, lacksByte}
+use Prim.Native.Nat.{ℕ}
+use Rattle.text.specs.Text.{Text, lacksByte, takeUntil, dropUntil}
 use Rattle.text.proofs.TextLaws.{lacks-first, lacks-rest, lacks-join}
+use Rattle.path_grammar.specs.Own.{ownPart, targetPart}
 use Rattle.path_grammar.specs.Legal.{isIdentifierStart, isIdentifierCont, startsName}
 use Rattle.path_grammar.specs.Grammar as g
-use Rattle.path_grammar.specs.Grammar.{nameText, wordText, selectionText, selectionsText, primText, primSeparator, primsText, moreText, propertyText, render}
+use Rattle.path_grammar.specs.Grammar.{nameText, wordText, selectionText, selectionsText, primText, primSeparator, primsText, moreText, propertyText, ownText, bracketText, absoluteText, render}
+use Rattle.path_grammar.proofs.RenderLacks.{name-lacks, word-lacks, close-no-name}
+use Rattle.path_grammar.proofs.Render.{own-prims, target-prims, own-target, target-target}
 use Rattle.path_parts.specs.Parent.{startsNameAfter}
 use Rattle.path_parts.specs.Strip.{strippedByte, stripFrom, strip}
-use Rattle.path_structure.specs.Structure.{stripPrim, stripOf}
+use Rattle.path_structure.specs.Structure.{stripPrim, absoluteStrip, stripOf}
 use Rattle.path_structure.proofs.PartLaws.{prims-named}
-use Rattle.path_structure.proofs.PrimTheorem.{name-lacks, word-lacks, close-no-name}
 
 -- Outside selections a text without `{` is kept.
 outside : (t k : Text) → lacksByte 123 t ≡ true → stripFrom false (t ++ k) ≡ t ++ stripFrom false k
@@ -133,11 +136,26 @@ unfolding stripFrom
 property-kept x =
     ap (stripFrom false) (sym (append-nil (propertyText x))) ∙ outside (propertyText x) [] (property-lacks x) ∙ append-nil (propertyText x)
 
-pub strips : (p : g.Path) → strip (render p) ≡ render (stripOf p)
-unfolding strip stripFrom strippedByte render stripOf
-strips g.empty = refl
-strips g.root = refl
-strips (g.prims p r x) =
+own-stripped : (p : g.Prim) (r : List g.Prim) (x : Option g.Property) → stripFrom false (ownText p r x) ≡ ownText (stripPrim p) (map stripPrim r) x
+unfolding stripFrom strippedByte ownText
+own-stripped p r x =
     ap (λ (t : Text). 47 ∷ t)
     (prims-stripped p r (propertyText x) (property-no-gap x)
     ∙ ap (λ (t : Text). primsText (stripPrim p) (map stripPrim r) ++ t) (property-kept x))
+
+absolute-strips : {d : ℕ} (q : g.Absolute d) → strip (absoluteText q) ≡ absoluteText (absoluteStrip q)
+unfolding strip stripFrom strippedByte absoluteStrip absoluteText ownPart targetPart takeUntil dropUntil
+absolute-strips g.root = refl
+absolute-strips (g.prims p r x) =
+    ap (λ (t : Text). stripFrom false t ++ targetPart (ownText p r x)) (own-prims p r x)
+    ∙ ap (λ (t : Text). stripFrom false (ownText p r x) ++ t) (target-prims p r x) ∙ append-nil (stripFrom false (ownText p r x)) ∙ own-stripped p r x
+absolute-strips (g.target p r x q) =
+    let t : Text = absoluteText q in
+    let w : Text = ownText p r (some x) ++ bracketText t in
+    ap (λ (y : Text). stripFrom false y ++ targetPart w) (own-target p r x t)
+    ∙ ap (λ (y : Text). stripFrom false (ownText p r (some x)) ++ y) (target-target p r x t) ∙ ap (λ (y : Text). y ++ bracketText t) (own-stripped p r (some x))
+
+pub strips : (p : g.Path) → strip (render p) ≡ render (stripOf p)
+unfolding strip stripFrom render stripOf ownPart targetPart takeUntil dropUntil
+strips g.empty = refl
+strips (g.absolute q) = absolute-strips q

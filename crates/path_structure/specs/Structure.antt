@@ -1,5 +1,6 @@
 -- Meaning: Parents, prim paths, properties, ancestors and the removal of selections, on the data types of the grammar (crates/path_grammar/specs).
 -- crates/path_parts defines them on texts, byte by byte; `StructureTheorems` states that the two agree on every path.
+use Prim.Native.Nat.{ℕ}
 use mathlib.Core.Path.{_≡_}
 use mathlib.Core.Bool.{Bool, true, false, cond}
 use mathlib.Core.List.{List, [], _∷_, _++_, map}
@@ -7,7 +8,7 @@ use mathlib.Core.Option.{Option, none, some}
 use Rattle.text.specs.Text.{Text}
 use Rattle.text.specs.Bytes.{dot}
 use Rattle.path_grammar.specs.Grammar as g
-use Rattle.path_grammar.specs.Grammar.{nameText, moreText, render}
+use Rattle.path_grammar.specs.Grammar.{nameText, moreText, ownText, render}
 use Rattle.path_parts.specs.Parent.{parent, primPath, splitProperty, ancestors}
 use Rattle.path_parts.specs.Strip.{strip}
 
@@ -30,18 +31,29 @@ dropLastPart p [] = dropPrimPart (p .name) (p .selections)
 dropLastPart p (q ∷ r) = p ∷ dropLastPart q r
 
 -- The path of these prims, without a property: `/` if there are none.
-unfoldable pub pathOfPrims : List g.Prim → g.Path
+unfoldable pub pathOfPrims : {d : ℕ} → List g.Prim → g.Absolute d
 pathOfPrims [] = g.root
 pathOfPrims (p ∷ r) = g.prims p r none
 
--- The parent: the path without its last part, which is its property, or else its last selection or name. Requirements: "The parent of `/A.b`
--- is `/A`, of `/A{v=p}B` is `/A{v=p}`, of `/A` is `/`. `/` and the empty path have none."
-unfoldable pub parentOf : g.Path → Option g.Path
+-- The absolute path as a path, if there is one.
+unfoldable pub absoluteOption : Option (g.Absolute 4) → Option g.Path
+absoluteOption none = none
+absoluteOption (some q) = some (g.absolute q)
+
+-- The parent of an absolute path: the path without its last part, which is the target in brackets, or its property, or else its last selection or
+-- name. Requirements: "The parent of `/A.b` is `/A`, of `/A{v=p}B` is `/A{v=p}`, of `/A` is `/`. `/` and the empty path have none."
+unfoldable pub absoluteParent : {d : ℕ} → g.Absolute d → Option (g.Absolute d)
 unfolding dropLastPart pathOfPrims
+absoluteParent g.root = none
+absoluteParent (g.prims p r none) = some (pathOfPrims (dropLastPart p r))
+absoluteParent (g.prims p r (some x)) = some (g.prims p r none)
+absoluteParent (g.target p r x q) = some (g.prims p r (some x))
+
+-- The parent.
+unfoldable pub parentOf : g.Path → Option g.Path
+unfolding absoluteParent absoluteOption
 parentOf g.empty = none
-parentOf g.root = none
-parentOf (g.prims p r none) = some (pathOfPrims (dropLastPart p r))
-parentOf (g.prims p r (some x)) = some (g.prims p r none)
+parentOf (g.absolute q) = absoluteOption (absoluteParent q)
 
 -- There is a selection.
 unfoldable pub anySelection : List g.Selection → Bool
@@ -54,20 +66,33 @@ unfolding anySelection
 endsInSelection p [] = anySelection (p .selections)
 endsInSelection p (q ∷ r) = endsInSelection q r
 
--- The prim path (Rust: prim_path): the path without its property, or without its last selection if it ends in one.
-unfoldable pub primPathOf : g.Path → g.Path
+-- The prim path of an absolute path (Rust: prim_path): the path without its target and its property, or without its last selection if it ends
+-- in one.
+unfoldable pub absolutePrimPath : {d : ℕ} → g.Absolute d → g.Absolute d
 unfolding endsInSelection pathOfPrims dropLastPart
-primPathOf g.empty = g.empty
-primPathOf g.root = g.root
-primPathOf (g.prims p r none) = cond (endsInSelection p r) (pathOfPrims (dropLastPart p r)) (g.prims p r none)
-primPathOf (g.prims p r (some x)) = g.prims p r none
+absolutePrimPath g.root = g.root
+absolutePrimPath (g.prims p r none) = cond (endsInSelection p r) (pathOfPrims (dropLastPart p r)) (g.prims p r none)
+absolutePrimPath (g.prims p r (some x)) = g.prims p r none
+absolutePrimPath (g.target p r x q) = g.prims p r none
 
--- The prim path of a property path; no path without a property.
+-- The prim path.
+unfoldable pub primPathOf : g.Path → g.Path
+unfolding absolutePrimPath
+primPathOf g.empty = g.empty
+primPathOf (g.absolute q) = g.absolute (absolutePrimPath q)
+
+-- The prim path of an absolute path that ends in its property; no path without a property, or with a target after it.
+unfoldable pub absoluteSplit : {d : ℕ} → g.Absolute d → Option (g.Absolute d)
+absoluteSplit g.root = none
+absoluteSplit (g.prims p r none) = none
+absoluteSplit (g.prims p r (some x)) = some (g.prims p r none)
+absoluteSplit (g.target p r x q) = none
+
+-- The prim path of a property path.
 unfoldable pub splitPropertyOf : g.Path → Option g.Path
+unfolding absoluteSplit absoluteOption
 splitPropertyOf g.empty = none
-splitPropertyOf g.root = none
-splitPropertyOf (g.prims p r none) = none
-splitPropertyOf (g.prims p r (some x)) = some (g.prims p r none)
+splitPropertyOf (g.absolute q) = absoluteOption (absoluteSplit q)
 
 -- The name of a property: its names, joined by `:`.
 unfoldable pub propertyName : g.Property → Text
@@ -78,12 +103,18 @@ propertyName x = nameText (x .first) ++ moreText (x .more)
 unfoldable pub stripPrim : g.Prim → g.Prim
 stripPrim p = record { name = p .name; selections = [] }
 
--- The path without its selections (Rust: strip_variant_selections).
-unfoldable pub stripOf : g.Path → g.Path
+-- An absolute path without its selections (Rust: strip_variant_selections); those of the target are left.
+unfoldable pub absoluteStrip : {d : ℕ} → g.Absolute d → g.Absolute d
 unfolding stripPrim
+absoluteStrip g.root = g.root
+absoluteStrip (g.prims p r x) = g.prims (stripPrim p) (map stripPrim r) x
+absoluteStrip (g.target p r x q) = g.target (stripPrim p) (map stripPrim r) x q
+
+-- The path without its selections.
+unfoldable pub stripOf : g.Path → g.Path
+unfolding absoluteStrip
 stripOf g.empty = g.empty
-stripOf g.root = g.root
-stripOf (g.prims p r x) = g.prims (stripPrim p) (map stripPrim r) x
+stripOf (g.absolute q) = g.absolute (absoluteStrip q)
 
 -- The text of a path, if there is one.
 unfoldable pub renderOption : Option g.Path → Option Text
@@ -106,7 +137,7 @@ pub record StructureTheorems : Type 0 where
   -- So is the prim path of a property.
   pub properties : (p : g.Path) → splitProperty (render p) ≡ renderOption (splitPropertyOf p)
   -- The text of a property path is its prim path, a dot and the property's name.
-  pub property-names : (p : g.Prim) (r : List g.Prim) (x : g.Property) → render (g.prims p r (some x)) ≡ render (g.prims p r none) ++ (dot ∷ propertyName x)
+  pub property-names : (p : g.Prim) (r : List g.Prim) (x : g.Property) → ownText p r (some x) ≡ ownText p r none ++ (dot ∷ propertyName x)
   -- Stripping a path's text gives the text of the path without its selections.
   pub strips : (p : g.Path) → strip (render p) ≡ render (stripOf p)
   -- The ancestors are the path itself and then the ancestors of its parent.
