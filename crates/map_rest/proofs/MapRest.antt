@@ -13,8 +13,8 @@ use Rattle.text.specs.Text.{Text, isNil, endsWithByte}
 use Rattle.text.proofs.TextLaws.{no-text}
 use Rattle.text.proofs.BoolLaws.{and-l, and-yes, or-false, not-true}
 use Rattle.path_grammar.specs.Own.{hasVariantSelection}
-use Rattle.path_grammar.specs.Legal.{Slash, run, accept, isRoot, legal, isEnd}
-use Rattle.path_grammar.proofs.LegalLaws.{end-close, root-is}
+use Rattle.path_grammar.specs.Legal.{isRoot, legal, isEnd}
+use Rattle.path_grammar.proofs.LegalLaws.{absolute-first, end-close, root-is}
 use Rattle.path_prefix.specs.Prefix.{canFollow, hasPrefix}
 use Rattle.path_prefix.proofs.PrefixLaws.{prefix-rest}
 use Rattle.path_join.specs.Join.{join, replacePrefix, startsSuffix, joinIllegal}
@@ -85,11 +85,6 @@ module _ (s t r : Text) (ns : isNil s ≡ false) (es : isEnd s ≡ true) (et : i
       go true k = rw (root-is s k) (below-root t r)
       go false k = rw (rest-plain (s ++ r) s k, drop-append-seam s r) (after-end s t r es et k f j)
 
--- A legal path that is not empty begins with a slash.
-legal-slash : (a : ℕ) (r : Text) → legal (a ∷ r) ≡ true → eqb a 47 ≡ true
-unfolding legal
-legal-slash a r l = and-l (eqb a 47) (isNil r || accept (run Slash r)) l
-
 -- What follows an end in a legal path is joined to it as after the empty prefix.
 followed-join : (t r : Text) → isEnd t ≡ true → legal (followedBy t r) ≡ true → followedBy t r ≡ join [] t r
 unfolding endsWithByte
@@ -99,7 +94,7 @@ followed-join t (a ∷ r) et lq = go (eqb a 47) (isRoot t) refl refl
     go : (b c : Bool) → eqb a 47 ≡ b → isRoot t ≡ c → followedBy t (a ∷ r) ≡ join [] t (a ∷ r)
     go true c e k = rw (eqb-true a 47 e) (followed-stem t r ∙ sym (join-slash [] t r refl (end-close t et)))
     go false false e k = followed-plain t (a ∷ r) k ∙ sym (join-other [] t a r refl refl e)
-    go false true e k = absurd (true≢false (sym (legal-slash a r (rw (followed-root t a r k) at lq)) ∙ e))
+    go false true e k = absurd (true≢false (sym (absolute-first a r (rw (followed-root t a r k) at lq)) ∙ e))
 
 -- The path p is mapped to q by the pair of s and t.
 module _ (s t p q : Text) (ns : isNil s ≡ false) (es : isEnd s ≡ true) (et : isEnd t ≡ true) (lp : legal p ≡ true) (lq : legal q ≡ true) (e : replacePrefix p s t ≡ some q) where

@@ -80,7 +80,7 @@ module _ (m : Map) (p q : Text) (em : allEnds (m .pairs) ≡ true) (lp : legal p
   leg-back (some i) none f e s = absurd (false≢true s)
   leg-back (some i) (some j) f e s =
       let r = out-rel i f e in
-      rw (← (eqb-true i j s), by-target m (mapSource m) (mapTarget m) p q i e) ((back (swap r) (et i) (es i)) .1, still-free r (et i) fp)
+      rw (← (eqb-true i j s), by-target m (mapSource m) (mapTarget m) p q i e) ((back (swap r) (et i) (es i)) .1, still-free r (es i) (et i) fp)
 
   -- The pair that maps q home relates p and q too.
   home-rel : (j : ℕ) → hasVariantSelection q ≡ false → IsLongest (matches q) (mapTarget m) (mapSize m) j → mapBy m (mapTarget m) (mapSource m) q (some j) ≡ some p
@@ -104,7 +104,7 @@ module _ (m : Map) (p q : Text) (em : allEnds (m .pairs) ≡ true) (lp : legal p
     leg-same (some i) none f g e h = absurd (g i (f .in-range) (out-matches i f e))
     leg-same (some i) (some j) f g e h =
         let r = out-rel i f e in
-        let fq = still-free r (et i) fp in
+        let fq = still-free r (es i) (et i) fp in
         let sp = home-matches j fq g h in
         let sq = out-matches i f e in
         let w = weigh true r (es i) (et i) in

@@ -1,6 +1,6 @@
 -- Lemmas for the branches of `copy_out`, `map_into`, `translate_into` and `translate_stripped`.
 use mathlib.Core.Path.{_≡_, refl, sym, ap, _∙_}
-use mathlib.Core.Bool.{Bool, true, false, cond, _&&_}
+use mathlib.Core.Bool.{Bool, true, false, not, cond, _&&_}
 use mathlib.Core.Option.{Option, none, some}
 use Prim.Native.Nat.{ℕ, _≤_}
 use native.Mathlib.Omega.{arith}
@@ -8,13 +8,13 @@ use lib.ListN.{length, take, drop, length-append}
 use lib.Seq.{length-take-le}
 use lib.Dec.{leb}
 use borrow.Author.Tests.{leb-true}
-use Rattle.text.specs.Text.{Text, isNil, lacksByte, writtenIfFits}
+use Rattle.text.specs.Text.{Text, isNil, writtenIfFits}
 use Rattle.text.specs.declared.Fit.{Fit}
 use Rattle.text.specs.declared.Fit.the-variants.{Written as WrittenFit}
-use Rattle.text.proofs.BoolLaws.{told}
+use Rattle.text.proofs.BoolLaws.{known-false, known-true}
 use Rattle.text.proofs.WriteLaws.{placed-first, read-back}
 use Rattle.path_grammar.specs.Legal.{atMost255}
-use Rattle.path_grammar.proofs.OwnLaws.{lacks-free, selection-scan}
+use Rattle.path_grammar.specs.Own.{hasVariantSelection}
 use Rattle.path_join.specs.Join.{join, joinIllegal}
 use Rattle.path_parts.specs.Strip.{strip, stripFit, stripBuffer}
 use Rattle.path_parts.proofs.StripLaws.{strip-same, strip-back}
@@ -120,18 +120,18 @@ module _ (o : Outcome) (r : Reply) (buf made : Text) (h : r ≡ outcomeReply o) 
   made-out a out out′ l s w = (w .0 ∙ h, w .1 ∙ rw (h, m) (goes out o l s))
 
 -- Lemmas for `translate_stripped`.
-pub translate-plain : (m : Map) (p : Text) (b : Bool) → b ≡ lacksByte 123 p → b ≡ true → translateFast m (strip p) ≡ translateFast m p
-translate-plain m p b h k = ap (translateFast m) (strip-same p (lacks-free p (told h k)))
+pub translate-plain : (m : Map) (p : Text) (b : Bool) → b ≡ hasVariantSelection p → not b ≡ true → translateFast m (strip p) ≡ translateFast m p
+translate-plain m p b h k = ap (translateFast m) (strip-same p (known-false h k))
 
 -- A path without selections has the rest of plain mapping; one with selections has none.
-module _ (m : Map) (p : Text) (b : Bool) (h : b ≡ lacksByte 123 p) where
-  pub translated-rest-plain : b ≡ true → translatedRest m p ≡ sourceRest m p
+module _ (m : Map) (p : Text) (b : Bool) (h : b ≡ hasVariantSelection p) where
+  pub translated-rest-plain : not b ≡ true → translatedRest m p ≡ sourceRest m p
   unfolding translatedRest
-  translated-rest-plain k = rw (lacks-free p (told h k))
+  translated-rest-plain k = rw (known-false h k)
 
-  pub translated-rest-stripped : b ≡ false → translatedRest m p ≡ Nothing
+  pub translated-rest-stripped : not b ≡ false → translatedRest m p ≡ Nothing
   unfolding translatedRest
-  translated-rest-stripped k = rw (selection-scan p, told h k)
+  translated-rest-stripped k = rw (known-true h k)
 
 pub translate-back : (p buf : Text) (f : Fit) → length p ≤ length buf → f ≡ stripFit p buf → (k : ℕ) → f ≡ WrittenFit k → (mem : Text) → mem ≡ stripBuffer p buf → (o : Map)
     → translateFast o (strip p) ≡ translateFast o (take k mem)

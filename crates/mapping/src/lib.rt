@@ -96,7 +96,7 @@ fn translate_stripped(
         ReturnsCarried (translateFast m (strip (now (path .entry)))) (translatedRest m (now (path .entry))) r
         (now (out .entry)) (now (out .exit))) ⌝ }
 {
-    if text::lacks_byte(path, b'{') {
+    if !path_own::has_variant_selection(path) {
         return translate_into(store, places, n, mark, path, out);
     }
     let mut plain = [0u8; 255];

@@ -1,10 +1,9 @@
--- Each call as the code validates it, always with three texts, the missing ones empty; a selection as the code finds it, by its `{`.
-use mathlib.Core.Path.{_≡_, refl, ap}
-use mathlib.Core.Bool.{Bool, not}
+-- Each call as the code validates it, always with three texts, the missing ones empty.
+use mathlib.Core.Path.{_≡_, refl}
 use mathlib.Core.List.{[], _∷_}
-use Rattle.text.specs.Text.{Text, lacksByte}
+use Rattle.text.specs.Text.{Text}
+use Rattle.path_grammar.specs.Own.{ownPart, hasVariantSelection}
 use Rattle.path_grammar.specs.Legal.{isEnd}
-use Rattle.path_grammar.proofs.OwnLaws.{selection-scan}
 use Rattle.path_prefix.specs.Prefix.{hasPrefix}
 use Rattle.path_prefix.specs.Elements.{elementCount, primElementCount}
 use Rattle.path.specs.declared.Test.the-variants.{Holds, Refused as RefusedTest}
@@ -19,15 +18,15 @@ module _ (p : Text) where
   unfolding isEndCall
   is-end-unfolded = refl
 
-  pub selection-unfolded : hasVariantSelectionCall p ≡ refusedOr (validateTexts (p ∷ [] ∷ [] ∷ [])) RefusedTest (Holds (not (lacksByte 123 p)))
+  pub selection-unfolded : hasVariantSelectionCall p ≡ refusedOr (validateTexts (p ∷ [] ∷ [] ∷ [])) RefusedTest (Holds (hasVariantSelection p))
   unfolding hasVariantSelectionCall
-  selection-unfolded = ap (λ (b : Bool). refusedOr (validateTexts (p ∷ [] ∷ [] ∷ [])) RefusedTest (Holds b)) (selection-scan p)
+  selection-unfolded = refl
 
-  pub elements-unfolded : elementCountCall p ≡ refusedOr (validateTexts (p ∷ [] ∷ [] ∷ [])) RefusedCount (Counted (record { 0 = elementCount p }))
+  pub elements-unfolded : elementCountCall p ≡ refusedOr (validateTexts (p ∷ [] ∷ [] ∷ [])) RefusedCount (Counted (record { 0 = elementCount (ownPart p) }))
   unfolding elementCountCall
   elements-unfolded = refl
 
-  pub names-unfolded : primElementCountCall p ≡ refusedOr (validateTexts (p ∷ [] ∷ [] ∷ [])) RefusedCount (Counted (record { 0 = primElementCount p }))
+  pub names-unfolded : primElementCountCall p ≡ refusedOr (validateTexts (p ∷ [] ∷ [] ∷ [])) RefusedCount (Counted (record { 0 = primElementCount (ownPart p) }))
   unfolding primElementCountCall
   names-unfolded = refl
 

@@ -3,7 +3,7 @@ use Prim.Native.Nat.{ℕ}
 use mathlib.Core.Bool.{Bool}
 use mathlib.Core.List.{List, [], _∷_}
 use Rattle.text.specs.Text.{Text}
-use Rattle.path_grammar.specs.Own.{hasVariantSelection}
+use Rattle.path_grammar.specs.Own.{ownPart, hasVariantSelection}
 use Rattle.path_grammar.specs.Legal.{isEnd}
 use Rattle.path_prefix.specs.Prefix.{hasPrefix}
 use Rattle.path_prefix.specs.Elements.{elementCount, primElementCount}
@@ -52,12 +52,12 @@ unfoldable pub countCall : Text → ℕ → Count
 unfolding validateTexts
 countCall p n = refusedOr (validateTexts (p ∷ [])) RefusedCount (Counted (record { 0 = n }))
 
--- The call `element_count`.
+-- The call `element_count`. Requirements: "Names and selections inside brackets don't count as the path's own".
 unfoldable pub elementCountCall : Text → Count
-unfolding countCall
-elementCountCall p = countCall p (elementCount p)
+unfolding countCall ownPart
+elementCountCall p = countCall p (elementCount (ownPart p))
 
 -- The call `prim_element_count`.
 unfoldable pub primElementCountCall : Text → Count
-unfolding countCall
-primElementCountCall p = countCall p (primElementCount p)
+unfolding countCall ownPart
+primElementCountCall p = countCall p (primElementCount (ownPart p))

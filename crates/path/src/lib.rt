@@ -40,7 +40,7 @@ pub fn is_end(path: &[u8]) -> Test
     Test::Holds(path_grammar::is_end(path))
 }
 
-// Returns whether the path has a variant selection.
+// Returns whether the path has a variant selection of its own, outside its brackets.
 pub fn has_variant_selection(path: &[u8]) -> Test
     ensures { λ r. ⌜ r ≡ hasVariantSelectionCall (now (path .entry)) ⌝ }
 {
@@ -48,7 +48,7 @@ pub fn has_variant_selection(path: &[u8]) -> Test
     if let refusal::Validation::Refused(x) = q {
         return Test::Refused(x);
     }
-    Test::Holds(!text::lacks_byte(path, b'{'))
+    Test::Holds(path_own::has_variant_selection(path))
 }
 
 // Returns whether the path has the prefix.
@@ -73,7 +73,7 @@ pub fn rest_start(path: &[u8], prefix: &[u8]) -> RestTest
     RestTest::Tested(path_rest::rest_start(path, prefix))
 }
 
-// Returns the number of names and selections in the path.
+// Returns the number of names and selections in the path, outside its brackets.
 pub fn element_count(path: &[u8]) -> Count
     ensures { λ r. ⌜ r ≡ elementCountCall (now (path .entry)) ⌝ }
 {
@@ -81,10 +81,10 @@ pub fn element_count(path: &[u8]) -> Count
     if let refusal::Validation::Refused(x) = q {
         return Count::Refused(x);
     }
-    Count::Counted(path_prefix::element_count(path))
+    Count::Counted(path_prefix::element_count(path_own::own_part(path)))
 }
 
-// Returns the number of names in the path.
+// Returns the number of names in the path, outside its brackets.
 pub fn prim_element_count(path: &[u8]) -> Count
     ensures { λ r. ⌜ r ≡ primElementCountCall (now (path .entry)) ⌝ }
 {
@@ -92,5 +92,5 @@ pub fn prim_element_count(path: &[u8]) -> Count
     if let refusal::Validation::Refused(x) = q {
         return Count::Refused(x);
     }
-    Count::Counted(path_prefix::prim_element_count(path))
+    Count::Counted(path_prefix::prim_element_count(path_own::own_part(path)))
 }

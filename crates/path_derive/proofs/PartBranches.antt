@@ -1,7 +1,7 @@
 -- Lemmas for the branches of `parent`, `prim_path`, `split_property`, `strip_variant_selections` and `ancestors`.
 use mathlib.Core.Path.{_≡_, refl, sym, ap, _∙_}
 use mathlib.Core.Logic.{_≢_}
-use mathlib.Core.Bool.{Bool, true, false, cond}
+use mathlib.Core.Bool.{Bool, true, false, not, cond}
 use mathlib.Core.List.{[], _∷_}
 use mathlib.Core.Option.{none, some}
 use Prim.Native.Nat.{ℕ, _≤_}
@@ -11,13 +11,13 @@ use lib.Dec.{leb}
 use lib.ListN.{length, take}
 use lib.Seq.{length-take-le}
 use borrow.Author.Tests.{le-leb, lt-leb, leb-true}
-use Rattle.text.specs.Text.{Text, lacksByte, written, writtenIfFits, fitOf}
+use Rattle.text.specs.Text.{Text, written, writtenIfFits, fitOf}
 use Rattle.text.specs.declared.Fit.{Fit}
 use Rattle.text.specs.declared.Fit.the-variants.{Written as WrittenFit, Over}
-use Rattle.text.proofs.BoolLaws.{and-l, told}
+use Rattle.text.proofs.BoolLaws.{and-l, told, known-false, known-true}
 use Rattle.text.proofs.WriteLaws.{placed-first, fit-length, fit-room, fit-over}
 use Rattle.path_grammar.specs.Legal.{legal, isRoot}
-use Rattle.path_parts.specs.Parent.{parentLen, parent, primLen, primPath, splitProperty}
+use Rattle.path_parts.specs.Parent.{parentLen, parent, isProperty, primLen, primPath, splitProperty}
 use Rattle.path_parts.specs.Strip.{strip, stripFit, stripBuffer}
 use Rattle.path_parts.proofs.ParentLaws.{prim-len-le, prim-legal}
 use Rattle.path_parts.proofs.StripLaws.{strip-shorter, strip-legal, strip-length, strip-memory}
@@ -84,13 +84,13 @@ unfolding primPath
 prim-written p n a s l out out′ r e = cut-written p n (primLen p) a (prim-len-le p) s (prim-legal p l) out out′ r e
 
 -- Lemmas for `split_property`.
-pub split-none : (p : Text) (b : Bool) → b ≡ lacksByte 46 p → b ≡ true → splitProperty p ≡ none
+pub split-none : (p : Text) (b : Bool) → b ≡ isProperty p → not b ≡ true → splitProperty p ≡ none
 unfolding splitProperty
-split-none p b h k = rw (told h k)
+split-none p b h k = rw (known-false h k)
 
-pub split-some : (p : Text) (b : Bool) → b ≡ lacksByte 46 p → b ≡ false → splitProperty p ≡ some (primPath p)
+pub split-some : (p : Text) (b : Bool) → b ≡ isProperty p → not b ≡ false → splitProperty p ≡ some (primPath p)
 unfolding splitProperty
-split-some p b h k = rw (told h k)
+split-some p b h k = rw (known-true h k)
 
 -- Lemmas for `strip_variant_selections`. The buffer has capacity, since the path has at most 255 bytes.
 pub strip-written : (p out : Text) (f : Fit) → length p ≤ 255 → 255 ≤ length out → f ≡ stripFit p out → (n : ℕ) (out′ : Text) → f ≡ WrittenFit n → legal p ≡ true

@@ -48,7 +48,7 @@ pub fn replace_prefix(path: &[u8], old: &[u8], new: &[u8], out: &mut [u8]) -> re
     write_joined(old, new, &path[k..], out)
 }
 
-// Writes the path without its last element or its property.
+// Writes the path without its last part: the target in its brackets, its property or its last element.
 pub fn parent(path: &[u8], out: &mut [u8]) -> refusal::Reply
     ensures { λ r. ⌜ ReturnsPath (parentCall (now (path .entry)) (length (now (out .entry)))) r (now (out .entry))
         (now (out .exit)) ⌝ }
@@ -71,7 +71,7 @@ pub fn parent(path: &[u8], out: &mut [u8]) -> refusal::Reply
     refusal::Reply::Written(n)
 }
 
-// Writes the path without its property, or without the last selection if it ends in one.
+// Writes the own part of the path without its property, or without the last selection if it ends in one.
 pub fn prim_path(path: &[u8], out: &mut [u8]) -> refusal::Reply
     ensures { λ r. ⌜ ReturnsPath (primPathCall (now (path .entry)) (length (now (out .entry)))) r (now (out .entry))
         (now (out .exit)) ⌝ }
@@ -89,7 +89,7 @@ pub fn prim_path(path: &[u8], out: &mut [u8]) -> refusal::Reply
 }
 
 // Writes the prim path of a property path; the property's name is the text after the dot that follows
-// it.
+// it. A path with a target in brackets is no property path.
 pub fn split_property(path: &[u8], out: &mut [u8]) -> refusal::Reply
     ensures { λ r. ⌜ ReturnsPath (splitPropertyCall (now (path .entry)) (length (now (out .entry)))) r
         (now (out .entry)) (now (out .exit)) ⌝ }
@@ -101,7 +101,7 @@ pub fn split_property(path: &[u8], out: &mut [u8]) -> refusal::Reply
     if out.len() < 255 {
         return refusal::Reply::Refused(refusal::Refusal::NoRoom);
     }
-    if text::lacks_byte(path, b'.') {
+    if !path_parts::is_property(path) {
         return refusal::Reply::Refused(refusal::Refusal::NoPath);
     }
     let n = path_parts::prim_len(path);
@@ -109,7 +109,7 @@ pub fn split_property(path: &[u8], out: &mut [u8]) -> refusal::Reply
     refusal::Reply::Written(n)
 }
 
-// Writes the path without its variant selections.
+// Writes the path without its variant selections; those in its brackets are left.
 pub fn strip_variant_selections(path: &[u8], out: &mut [u8]) -> refusal::Reply
     ensures { λ r. ⌜ ReturnsPath (stripCall (now (path .entry)) (length (now (out .entry)))) r (now (out .entry))
         (now (out .exit)) ⌝ }

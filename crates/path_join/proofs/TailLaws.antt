@@ -5,16 +5,19 @@ use mathlib.Core.List.{[], _∷_, _++_, append-nil, append-assoc}
 use mathlib.Core.Option.{Option, none, some}
 use Prim.Native.Nat.{ℕ, zero, suc}
 use lib.Dec.{eqb}
-use lib.ListN.{take}
+use lib.ListN.{length, take, drop}
 use lib.Seq.{take-nil}
 use borrow.Author.Tests.{eqb-true}
 use Rattle.text.specs.Text.{Text, isNil, stripPrefix, lacksByte, takeUntil, dropUntil}
+use Rattle.text.proofs.BoolLaws.{not-true}
 use Rattle.text.proofs.TextLaws.{after-up, lacks-append, lacks-first, lacks-rest}
 use Rattle.path_grammar.specs.Own.{ownPart, targetPart, hasProperty}
 use Rattle.path_grammar.specs.Legal.{isRoot, legal, isEnd}
-use Rattle.path_grammar.proofs.OwnLaws.{own-parts, target-nil, target-head, target-after, own-after, no-property}
+use Rattle.path_grammar.proofs.OwnLaws.{own-parts, target-head, target-after, own-after, no-property, property-scan}
 use Rattle.path_grammar.proofs.LegalLaws.{own-is, target-property, end-unbracketed, end-undotted}
 use Rattle.path_prefix.specs.Prefix.{isBoundary, canFollow, canFollowSome, hasPrefix}
+use Rattle.path_prefix.proofs.PrefixLaws.{prefix-rest}
+use Rattle.path_join.proofs.ReplaceLaws.{replace-prefix, replaced-prefix}
 use Rattle.path_join.specs.Join.{separatorLen, separator, body, join, joinSome, replacePrefix}
 use Rattle.path_join.specs.Tail.{withTarget, ReplaceLeavesTarget, PrefixOfOwnPart}
 
@@ -84,7 +87,7 @@ no-bracket s a r es l = go (eqb a 91) refl
     go false h = refl
 
 -- The option with a text appended to its value.
-appended : Text → Option Text → Option Text
+unfoldable pub appended : Text → Option Text → Option Text
 appended y none = none
 appended y (some r) = some (r ++ y)
 
@@ -100,40 +103,58 @@ strip-before (a ∷ s) (b ∷ o) z h = go (eqb a b) (strip-before s o z (lacks-r
     go true ih = ih
     go false ih = refl
 
--- A legal path with a target part, and an end: the end is shorter than the own part, which has a property.
-module _ (p s : Text) (z : Text) (l : legal p ≡ true) (es : isEnd s ≡ true) (e : targetPart p ≡ 91 ∷ z) where
-  whole : p ≡ ownPart p ++ 91 ∷ z
-  whole = sym (own-parts p) ∙ ap (λ (x : Text). ownPart p ++ x) e
+-- A byte other than the slash that neither prefix has is in the text made exactly if it was in the old one.
+pub replaced-lacks : (b : ℕ) → eqb 47 b ≡ false → (o s t q : Text) → lacksByte b s ≡ true → lacksByte b t ≡ true → replacePrefix o s t ≡ some q
+    → lacksByte b q ≡ lacksByte b o
+replaced-lacks b n o s t q hs ht e =
+    let h : hasPrefix o s ≡ true = replaced-prefix o s t q e in
+    let r : Text = drop (length s) o in
+    let made : join s t r ≡ q = let x : some (join s t r) ≡ some q = sym (replace-prefix o s t h) ∙ e in cc in
+    ap (lacksByte b) (sym made) ∙ join-lacks b n s t r ht ∙ sym (ap (lacksByte b) (prefix-rest o s h .0) ∙ rw (lacks-append b s r, hs))
 
-  stripped : stripPrefix s p ≡ appended (91 ∷ z) (stripPrefix s (ownPart p))
-  stripped = ap (stripPrefix s) whole ∙ strip-before s (ownPart p) z (end-unbracketed s es)
+-- A text o with a dot, a bracket after it, and an end s. The end has no dot, so it is not the text o: what follows it in o is not empty, and the
+-- bracket has no influence on whether it may follow, or on the separator.
+module _ (o z s : Text) (dotted : lacksByte 46 o ≡ false) (es : isEnd s ≡ true) where
+  stripped : stripPrefix s (o ++ 91 ∷ z) ≡ appended (91 ∷ z) (stripPrefix s o)
+  stripped = strip-before s o z (end-unbracketed s es)
 
-  shorter : stripPrefix s (ownPart p) ≡ some [] → ⊥
-  shorter h =
-      let o : ownPart p ≡ s = after-up s (ownPart p) [] h ∙ append-nil s in
-      true≢false (sym (target-property p l (rw e)) ∙ no-property p .1 (rw o (end-undotted s es)))
+  shorter : stripPrefix s o ≡ some [] → ⊥
+  shorter h = true≢false (sym (rw (after-up s o [] h ∙ append-nil s) (end-undotted s es)) ∙ dotted)
 
-  prefix-with : hasPrefix p s ≡ hasPrefix (ownPart p) s
+  pub prefix-before : hasPrefix (o ++ 91 ∷ z) s ≡ hasPrefix o s
   unfolding hasPrefix canFollow appended
-  prefix-with = rw stripped (go (stripPrefix s (ownPart p)) refl)
+  prefix-before = rw stripped (go (stripPrefix s o) refl)
     where
-      go : (o : Option Text) → stripPrefix s (ownPart p) ≡ o → canFollowSome s (appended (91 ∷ z) o) ≡ canFollowSome s o
+      go : (x : Option Text) → stripPrefix s o ≡ x → canFollowSome s (appended (91 ∷ z) x) ≡ canFollowSome s x
       go none h = refl
       go (some []) h = absurd (shorter h)
       go (some (a ∷ r)) h = refl
 
-  replace-with : (t : Text) → replacePrefix p s t ≡ withTarget p (replacePrefix (ownPart p) s t)
-  unfolding replacePrefix canFollow appended withTarget
-  replace-with t = rw stripped (go (stripPrefix s (ownPart p)) refl)
+  pub replace-before : (t : Text) → replacePrefix (o ++ 91 ∷ z) s t ≡ appended (91 ∷ z) (replacePrefix o s t)
+  unfolding replacePrefix canFollow appended
+  replace-before t = rw stripped (go (stripPrefix s o) refl)
     where
-      kept : (b : Bool) (a : ℕ) (r : Text) → cond b (some (join s t (a ∷ (r ++ 91 ∷ z)))) none ≡ withTarget p (cond b (some (join s t (a ∷ r))) none)
-      kept true a r = ap some (join-tail s t a r (91 ∷ z) ∙ ap (λ (x : Text). join s t (a ∷ r) ++ x) (sym e))
+      kept : (b : Bool) (a : ℕ) (r : Text) → cond b (some (join s t (a ∷ (r ++ 91 ∷ z)))) none ≡ appended (91 ∷ z) (cond b (some (join s t (a ∷ r))) none)
+      kept true a r = ap some (join-tail s t a r (91 ∷ z))
       kept false a r = refl
 
-      go : (o : Option Text) → stripPrefix s (ownPart p) ≡ o → joinSome s t (appended (91 ∷ z) o) ≡ withTarget p (joinSome s t o)
+      go : (x : Option Text) → stripPrefix s o ≡ x → joinSome s t (appended (91 ∷ z) x) ≡ appended (91 ∷ z) (joinSome s t x)
       go none h = refl
       go (some []) h = absurd (shorter h)
       go (some (a ∷ r)) h = kept (isBoundary s a) a r
+
+-- A legal path with a target part is such a text.
+module _ (p : Text) (l : legal p ≡ true) (a : ℕ) (z : Text) (e : targetPart p ≡ a ∷ z) where
+  pub own-has-dot : lacksByte 46 (ownPart p) ≡ false
+  own-has-dot = not-true (lacksByte 46 (ownPart p)) (sym (property-scan p) ∙ target-property p l (rw e))
+
+  pub path-whole : p ≡ ownPart p ++ 91 ∷ z
+  path-whole = sym (own-parts p) ∙ ap (λ (x : Text). ownPart p ++ x) (e ∙ ap (λ (x : ℕ). x ∷ z) (target-head p a z e))
+
+  pub appended-target : (o : Option Text) → appended (91 ∷ z) o ≡ withTarget p o
+  unfolding appended withTarget
+  appended-target none = refl
+  appended-target (some q) = ap (λ (x : Text). some (q ++ x)) (ap (λ (x : ℕ). x ∷ z) (sym (target-head p a z e)) ∙ sym e)
 
 -- Without a target part nothing follows.
 pub with-none : (p : Text) → targetPart p ≡ [] → (o : Option Text) → withTarget p o ≡ o
@@ -146,11 +167,13 @@ prefix-of-own-part p s l es = go (targetPart p) refl
   where
     go : (t : Text) → targetPart p ≡ t → hasPrefix p s ≡ hasPrefix (ownPart p) s
     go [] e = rw (own-is p e)
-    go (a ∷ z) e = prefix-with p s z l es (e ∙ ap (λ (x : ℕ). x ∷ z) (target-head p a z e))
+    go (a ∷ z) e = ap (λ (x : Text). hasPrefix x s) (path-whole p l a z e) ∙ prefix-before (ownPart p) z s (own-has-dot p l a z e) es
 
 pub replace-leaves-target : ReplaceLeavesTarget
 replace-leaves-target p s t l es = go (targetPart p) refl
   where
     go : (x : Text) → targetPart p ≡ x → replacePrefix p s t ≡ withTarget p (replacePrefix (ownPart p) s t)
     go [] e = rw (own-is p e) (sym (with-none p e (replacePrefix p s t)))
-    go (a ∷ z) e = replace-with p s z l es (e ∙ ap (λ (x : ℕ). x ∷ z) (target-head p a z e)) t
+    go (a ∷ z) e =
+        ap (λ (x : Text). replacePrefix x s t) (path-whole p l a z e) ∙ replace-before (ownPart p) z s (own-has-dot p l a z e) es t
+        ∙ appended-target p l a z e (replacePrefix (ownPart p) s t)

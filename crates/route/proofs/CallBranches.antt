@@ -8,7 +8,7 @@ use native.Mathlib.Omega.{arith}
 use lib.ListN.{length, take}
 use lib.Seq.{length-take-le}
 use borrow.Author.Tests.{le-leb}
-use Rattle.text.specs.Text.{Text, lacksByte, writtenIfFits}
+use Rattle.text.specs.Text.{Text, writtenIfFits}
 use Rattle.text.specs.declared.Fit.{Fit}
 use Rattle.text.specs.declared.Fit.the-variants.{Written as WrittenFit}
 use Rattle.text.proofs.BoolLaws.{not-true, not-false}
@@ -16,7 +16,6 @@ use Rattle.text.proofs.WriteLaws.{placed-first, read-back}
 use Rattle.path_grammar.specs.Legal.{atMost255}
 use Rattle.path_parts.specs.Strip.{strip, stripFit, stripBuffer}
 use Rattle.path_grammar.specs.Own.{hasVariantSelection}
-use Rattle.path_grammar.proofs.OwnLaws.{selection-scan}
 use Rattle.path_parts.proofs.StripLaws.{strip-same, strip-back, strip-inside}
 use Rattle.refusal.specs.declared.Refusal.{Refusal}
 use Rattle.refusal.specs.declared.Refusal.the-variants.{NoRoom}
@@ -72,13 +71,13 @@ module _ (home : Bool) (n : ℕ) (p : Text) where
   unfolding isStripped
   strips-none h k = rw (h, k)
 
-  pub strips-first : home ≡ false → n ≢ 0 → (b : Bool) → b ≡ lacksByte 123 p → not b ≡ isStripped home n p
+  pub strips-first : home ≡ false → n ≢ 0 → (b : Bool) → b ≡ hasVariantSelection p → b ≡ isStripped home n p
   unfolding isStripped
   strips-first h k b e = rw h (go n k)
     where
-      go : (n : ℕ) → n ≢ 0 → not b ≡ isStripped false n p
+      go : (n : ℕ) → n ≢ 0 → b ≡ isStripped false n p
       go zero k = absurd (k refl)
-      go (suc n) k = ap not e ∙ sym (selection-scan p)
+      go (suc n) k = e
 
 pub ruleset stripping = (strips-home, strips-none, strips-first)
 

@@ -179,7 +179,7 @@ fn enters_stripped(home: bool, n: usize, path: &[u8]) -> bool
     if n == 0 {
         return false;
     }
-    !text::lacks_byte(path, b'{')
+    path_own::has_variant_selection(path)
 }
 
 // Writes the path as the first leg receives it, without its selections if `stripped` is set, to the scratch

@@ -5,8 +5,8 @@ use borrow.Author.Needs.{needs}
 use Rattle.mapping.proofs.translate_stripped.Statement.{statement}
 use Rattle.mapping.proofs.translate_stripped.Tie as tie
 
-lacks-byte-requires : tie.Need-lacks-byte-requires
-lacks-byte-requires c κs = search needs
+has-variant-selection-requires : tie.Need-has-variant-selection-requires
+has-variant-selection-requires c κs = search needs
 
 translate-into-requires : tie.Need-translate-into-requires
 translate-into-requires c κs = search needs
@@ -18,9 +18,9 @@ returns : tie.Need-returns
 returns c =
     let at-translate-into = c .before .before in
     let at-if1 = at-translate-into .before .before in
-    let at-lacks-byte = at-if1 .before in
-    let lacks = at-lacks-byte .lacks-byte .ensures in
-    same-carried _ _ _ _ (translate-plain _ _ _ lacks (at-if1 .if1 .taken)) (translated-rest-plain _ _ _ lacks (at-if1 .if1 .taken)) _ _ _
+    let at-has-variant-selection = at-if1 .before in
+    let tested = at-has-variant-selection .has-variant-selection .ensures in
+    same-carried _ _ _ _ (translate-plain _ _ _ tested (at-if1 .if1 .taken)) (translated-rest-plain _ _ _ tested (at-if1 .if1 .taken)) _ _ _
     (at-translate-into .translate-into .ensures)
 
 slice-aggregate-strip-into : tie.Need-slice-aggregate-strip-into
@@ -74,19 +74,19 @@ returns-3 c =
     let at-fit = at-translate-into2 .before .before .before .before in
     let at-strip-into = at-fit .before .before .before in
     let at-if1 = at-strip-into .before .before in
-    let at-lacks-byte = at-if1 .before in
-    let at-start = at-lacks-byte .before .before .before .before .before in
+    let at-has-variant-selection = at-if1 .before in
+    let at-start = at-has-variant-selection .before .before .before .before .before in
     answering-carried _ _ _ _
     (translate-back _ _ _ (at-start .pre .0) (at-strip-into .strip-into .ensures .0) _ (at-fit .fit .given .1) _
     (at-strip-into .strip-into .ensures .1) _)
-    (translated-rest-stripped _ _ _ (at-lacks-byte .lacks-byte .ensures) (at-if1 .if1 .left))
+    (translated-rest-stripped _ _ _ (at-has-variant-selection .has-variant-selection .ensures) (at-if1 .if1 .left))
     _ _ _ _ (c .with-rest .ensures) (without-rest _ _ _ _ _ _ (at-reply-of .reply-of .ensures) (at-translate-into2 .translate-into2 .ensures))
 
 pub translate-stripped-spec : {M : Type 1} → statement M
 translate-stripped-spec =
     tie.close
     (tie.spec
-    lacks-byte-requires
+    has-variant-selection-requires
     translate-into-requires
     same-length
     returns

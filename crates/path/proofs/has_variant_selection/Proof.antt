@@ -1,5 +1,4 @@
 use mathlib.Core.Path.{sym, ap, _∙_}
-use mathlib.Core.Bool.{Bool, not}
 use Rattle.path.specs.declared.Test.the-variants.{Holds, Refused as RefusedTest}
 use Rattle.path.proofs.UnfoldedCalls.{selection-unfolded}
 use Rattle.refusal.proofs.CallBranches.{unless-refused, unless-passed}
@@ -25,11 +24,11 @@ returns c = unless-refused RefusedTest _ _ _ _ (c .before .before .before .valid
 enum-told : tie.Need-enum-told
 enum-told c = search needs
 
-lacks-byte-requires : tie.Need-lacks-byte-requires
-lacks-byte-requires c κs = search needs
+has-variant-selection-requires : tie.Need-has-variant-selection-requires
+has-variant-selection-requires c κs = search needs
 
 returns-2 : tie.Need-returns-2
-returns-2 c = unless-passed RefusedTest _ _ _ _ (c .before .before .before .validate-texts .ensures) (c .before .enum-told .given .1) (ap (λ (b : Bool). Holds (not b)) (c .lacks-byte .ensures)) ∙ sym (selection-unfolded _)
+returns-2 c = unless-passed RefusedTest _ _ _ _ (c .before .before .before .validate-texts .ensures) (c .before .enum-told .given .1) (ap Holds (c .has-variant-selection .ensures)) ∙ sym (selection-unfolded _)
 
 pub has-variant-selection-spec : {M : Type 1} → statement M
 has-variant-selection-spec =
@@ -41,5 +40,5 @@ has-variant-selection-spec =
     enum-known-q
     returns
     enum-told
-    lacks-byte-requires
+    has-variant-selection-requires
     returns-2)

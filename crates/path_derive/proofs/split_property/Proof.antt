@@ -29,19 +29,19 @@ enum-told c = search needs
 returns-2 : tie.Need-returns-2
 returns-2 c = refusing _ _ (split-unfolded _ _ ∙ answered-short _ _ _ _ (c .before .before .before .validate-texts .ensures) (c .before .enum-told .given .1) (c .if1 .taken)) _
 
-lacks-byte-requires : tie.Need-lacks-byte-requires
-lacks-byte-requires c κs = search needs
+is-property-requires : tie.Need-is-property-requires
+is-property-requires c κs = search needs
 
 returns-3 : tie.Need-returns-3
 unfolding checkedOption
 returns-3 c =
-    let at-lacks-byte = c .before in
-    let at-if1 = at-lacks-byte .before in
+    let at-is-property = c .before in
+    let at-if1 = at-is-property .before in
     let at-enum-told = at-if1 .before in
     let at-validate-texts = at-enum-told .before .before in
     refusing _ _
     (split-unfolded _ _ ∙ answered-passed _ _ _ _ (at-validate-texts .validate-texts .ensures) (at-enum-told .enum-told .given .1)
-    (at-if1 .if1 .left) ∙ ap checkedOption (split-none _ _ (at-lacks-byte .lacks-byte .ensures) (c .if2 .taken)))
+    (at-if1 .if1 .left) ∙ ap checkedOption (split-none _ _ (at-is-property .is-property .ensures) (c .if2 .taken)))
     _
 
 prim-len-requires : tie.Need-prim-len-requires
@@ -62,13 +62,13 @@ returns-4 c =
     let at-write-at = c .before .before in
     let at-prim-len = at-write-at .before .before .before in
     let at-if2 = at-prim-len .before in
-    let at-lacks-byte = at-if2 .before in
-    let at-if1 = at-lacks-byte .before in
+    let at-is-property = at-if2 .before in
+    let at-if1 = at-is-property .before in
     let at-enum-told = at-if1 .before in
     let at-validate-texts = at-enum-told .before .before in
     answering _ _
     (split-unfolded _ _ ∙ answered-passed _ _ _ _ (at-validate-texts .validate-texts .ensures) (at-enum-told .enum-told .given .1)
-    (at-if1 .if1 .left) ∙ ap checkedOption (split-some _ _ (at-lacks-byte .lacks-byte .ensures) (at-if2 .if2 .left)))
+    (at-if1 .if1 .left) ∙ ap checkedOption (split-some _ _ (at-is-property .is-property .ensures) (at-if2 .if2 .left)))
     _ _ _
     (prim-written _ _ (at-prim-len .prim-len .ensures)
     (passed-short _ _ (at-validate-texts .validate-texts .ensures) (at-enum-told .enum-told .given .1))
@@ -86,7 +86,7 @@ split-property-spec =
     returns
     enum-told
     returns-2
-    lacks-byte-requires
+    is-property-requires
     returns-3
     prim-len-requires
     slice-aggregate-write-at

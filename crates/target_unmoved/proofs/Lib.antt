@@ -1,0 +1,4 @@
+-- The lemmas of this crate.
+mod MapUnmoved
+mod ChainUnmoved
+pub mod Theorem
