@@ -81,7 +81,8 @@ pub fn element_count(path: &[u8]) -> Count
     if let refusal::Validation::Refused(x) = q {
         return Count::Refused(x);
     }
-    Count::Counted(path_prefix::element_count(path_own::own_part(path)))
+    let own = path_own::own_part(path);
+    Count::Counted(path_prefix::element_count(own))
 }
 
 // Returns the number of names in the path, outside its brackets.
@@ -92,5 +93,6 @@ pub fn prim_element_count(path: &[u8]) -> Count
     if let refusal::Validation::Refused(x) = q {
         return Count::Refused(x);
     }
-    Count::Counted(path_prefix::prim_element_count(path_own::own_part(path)))
+    let own = path_own::own_part(path);
+    Count::Counted(path_prefix::prim_element_count(own))
 }

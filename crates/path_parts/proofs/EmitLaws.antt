@@ -9,13 +9,13 @@ use native.Mathlib.Numerals.{add-one}
 use native.Mathlib.Omega.{arith}
 use lib.Dec.{eqb}
 use lib.ListN.{length, getD, set, take, drop, length-append, length-drop, drop-of-length-le}
-use lib.Seq.{set-split, drop-cons}
+use lib.Seq.{set-split, drop-cons, length-take-le}
 use borrow.Author.Tests.{le-leb, lt-leb, ne-eqb}
 use Rattle.text.specs.Text.{Text, written, writtenAt, writtenIfFits}
 use Rattle.text.specs.declared.Fit.the-variants.{Written, Over}
 use Rattle.text.proofs.BoolLaws.{told}
 use Rattle.path_grammar.specs.Own.{ownPart, targetPart}
-use Rattle.path_grammar.proofs.OwnLaws.{own-length, target-slice}
+use Rattle.path_grammar.proofs.OwnLaws.{own-length, own-slice, target-slice}
 use Rattle.path_parts.specs.Parent.{startsNameAfter}
 use Rattle.path_parts.specs.Strip.{strippedByte, insideAfter, stripFrom, strip, stripFit, stripBuffer}
 use Rattle.path_parts.proofs.StripLaws.{piece-short, from-shorter}
@@ -135,39 +135,44 @@ module _ (p d : Text) (h : length d < length p) where
   strip-kept = rw (lt-leb (length p) (length d) h)
 
 module _ (p o d : Text) (w : o ≡ ownPart p) (l : length p ≤ length d) where
-  pub own-fits : length o ≤ length d
-  own-fits = rw w (omega (arith, own-length p))
-
   pub own-at : length o ≤ length p
   own-at = rw w (own-length p)
+
+  pub own-count : length o ≡ length (take (length o) p)
+  own-count = sym (length-take-le (length o) p own-at)
+
+  pub own-fits : length (take (length o) p) ≤ length d
+  own-fits = omega (arith, own-count, own-at)
+
+  cut-is : take (length o) p ≡ ownPart p
+  cut-is = rw w (own-slice p)
 
   tail-is : drop (length o) p ≡ targetPart p
   tail-is = rw w (target-slice p)
 
-  tail-long : length p - length o ≡ length (targetPart p)
-  tail-long = sym (length-drop (length o) p) ∙ ap length tail-is
-
   own-long : length p ≡ length o + length (targetPart p)
-  own-long = omega (arith, tail-long, own-at)
+  own-long = let k : length p - length o ≡ length (targetPart p) = sym (length-drop (length o) p) ∙ ap length tail-is in omega (arith, own-at)
 
-  module _ (j : ℕ) (k : j ≡ length (stripFrom false o)) where
+  module _ (j : ℕ) (k : j ≡ length (stripFrom false (take (length o) p))) where
     pub strip-less : j ≤ length o
-    strip-less = rw k (from-shorter false o)
+    strip-less = rw k (omega (arith, from-shorter false (take (length o) p), own-count))
 
     pub strip-left : length o - j ≤ length p
     strip-left = omega (arith, own-at)
 
+    strip-long : length p - (length o - j) ≡ length (stripFrom false (take (length o) p) ++ targetPart p)
+    strip-long = rw (length-append (stripFrom false (take (length o) p)) (targetPart p)) (omega (arith, own-long, strip-less))
+
     pub strip-fits : Written (length p - (length o - j)) ≡ stripFit p d
     unfolding stripFit strip
-    strip-fits =
-        let e : length p - (length o - j) ≡ length (stripFrom false o ++ targetPart p) = rw (length-append (stripFrom false o) (targetPart p)) (omega (arith, own-long, strip-less)) in
-        rw (le-leb (length p) (length d) l, ← w) (ap Written e)
+    strip-fits = rw (le-leb (length p) (length d) l, ← cut-is) (ap Written strip-long)
 
-    pub strip-done : (mem out : Text) → mem ≡ written (stripFrom false o) d → out ≡ writtenIfFits j (take (length p - length o) (drop (length o) p)) mem
+    pub strip-done : (mem out : Text) → mem ≡ written (stripFrom false (take (length o) p)) d → out ≡ writtenIfFits j (take (length p - length o) (drop (length o) p)) mem
         → out ≡ stripBuffer p d
     unfolding stripBuffer strip
     strip-done mem out m e =
-        rw (le-leb (length p) (length d) l, ← w)
-        (e ∙ rw (m, k, rest-whole p (length o), tail-is) (placed-next (stripFrom false o) (targetPart p) d (omega (arith, own-long, from-shorter false o))))
+        rw (le-leb (length p) (length d) l, ← cut-is)
+        (e ∙ rw (m, k, rest-whole p (length o), tail-is)
+        (placed-next (stripFrom false (take (length o) p)) (targetPart p) d (omega (arith, own-long, own-count, from-shorter false (take (length o) p)))))
 
-pub ruleset strip-ends = (strip-over, strip-kept, own-fits, own-at, strip-less, strip-left, strip-fits, strip-done)
+pub ruleset strip-ends = (strip-over, strip-kept, own-at, own-count, own-fits, strip-less, strip-left, strip-fits, strip-done)

@@ -204,9 +204,8 @@ pub fn strip_into(path: &[u8], out: &mut [u8]) -> text::Fit
     if out.len() < path.len() {
         return text::Fit::Over;
     }
-    let own = path_own::own_part(path);
-    let n = own.len();
-    let j = strip_own(own, out);
+    let n = path_own::own_part(path).len();
+    let j = strip_own(&path[..n], out);
     text::write_at(&path[n..], j, out);
     text::Fit::Written(path.len() - (n - j))
 }

@@ -9,6 +9,9 @@ returns c = search (needs, strip-ends)
 own-part-requires : tie.Need-own-part-requires
 own-part-requires c κs = search needs
 
+slice-aggregate-strip-own : tie.Need-slice-aggregate-strip-own
+slice-aggregate-strip-own c = search (needs, strip-ends)
+
 strip-own-requires : tie.Need-strip-own-requires
 strip-own-requires c κs = search (needs, strip-ends)
 
@@ -24,11 +27,11 @@ part-write-at-end c = search needs
 write-at-requires : tie.Need-write-at-requires
 write-at-requires c κs = search needs
 
-sub-t6 : tie.Need-sub-t6
-sub-t6 c = search (needs, strip-ends)
+sub-t5 : tie.Need-sub-t5
+sub-t5 c = search (needs, strip-ends)
 
-sub-t17 : tie.Need-sub-t17
-sub-t17 c = search (needs, strip-ends)
+sub-t19 : tie.Need-sub-t19
+sub-t19 c = search (needs, strip-ends)
 
 same-length : tie.Need-same-length
 same-length c = search needs
@@ -42,12 +45,13 @@ strip-into-spec =
     (tie.spec
     returns
     own-part-requires
+    slice-aggregate-strip-own
     strip-own-requires
     sub-write-at
     part-write-at-start
     part-write-at-end
     write-at-requires
-    sub-t6
-    sub-t17
+    sub-t5
+    sub-t19
     same-length
     returns-2)
