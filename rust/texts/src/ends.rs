@@ -68,11 +68,13 @@ pub fn path_under(random: &mut Random, from: &[u8], to: &[u8]) -> Vec<u8> {
     if random.one_in(4) { with_selections(random, &path) } else { path }
 }
 
-/// `path` with some of its slashes replaced by a selection, within the length limit.
+/// `path` with some of its slashes replaced by a selection, within the length limit. A slash with which a path begins, also one
+/// in brackets, is kept.
 fn with_selections(random: &mut Random, path: &[u8]) -> Vec<u8> {
     let mut selected = path.to_vec();
     for at in (1..path.len()).rev() {
-        if path[at] == b'/' && selected.len() + 4 <= MAX_PATH_LEN && random.one_in(2) {
+        let follows_a_name = path[at] == b'/' && path[at - 1] != b'[';
+        if follows_a_name && selected.len() + 4 <= MAX_PATH_LEN && random.one_in(2) {
             selected.splice(at..=at, *b"{v=p}");
         }
     }
