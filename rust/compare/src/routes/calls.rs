@@ -4,9 +4,10 @@ use crate::calls::accept;
 use crate::comparison::Comparison;
 use crate::many::Many;
 use crate::maps::calls::{WithText, both};
+use crate::own_part::{Bracketed, with_tail};
 use crate::routes::lent_route::Route;
 use crate::tally::Call;
-use crate::text::{Answer, Text};
+use crate::text::{Answer, NO_PATH, Text};
 use mudvizsor::ffi::Reply;
 use mudvizsor::ffi::maps::Paths;
 use mudvizsor::ffi::routes::{self, route_all, route_home, route_out};
@@ -36,14 +37,23 @@ impl RouteCall {
         self.map_over(maps, path)
     }
 
-    /// "Leg after leg, the first given the starting path, each later one what the leg before gave; a leg that
-    /// answers 6, 7 or 8 ends the way." Home goes "in reverse".
     fn map_over(&self, maps: &[MapFunction], path: &Path) -> Answer<Path> {
-        if self.home {
-            maps.iter().rev().try_fold(path.clone(), |path, map| accept(map.map_target_to_source(&path)))
-        } else {
-            maps.iter().try_fold(path.clone(), |path, map| accept(map.translate_to_target(&path)))
-        }
+        self.map_with_tail(maps, path, "")
+    }
+
+    /// "Leg after leg, the first given the starting path, each later one what the leg before gave; a leg that
+    /// answers 6, 7 or 8 ends the way." Home goes "in reverse". The path is this one followed by `tail`, which is left as it is.
+    fn map_with_tail(&self, maps: &[MapFunction], path: &Path, tail: &str) -> Answer<Path> {
+        let leg = |path: Path, map: &MapFunction| {
+            let made =
+                if self.home { map.map_target_to_source(&path) } else { map.translate_to_target(&path) };
+            with_tail(made.clone(), tail)?;
+            made.ok_or(NO_PATH)
+        };
+        let start = path.clone();
+        let made =
+            if self.home { maps.iter().rev().try_fold(start, leg) } else { maps.iter().try_fold(start, leg) };
+        with_tail(Some(made?), tail)
     }
 }
 
@@ -85,7 +95,12 @@ impl Comparison {
     fn one_direction(&mut self, call: &RouteCall, route: &Route, text: &Text, capacities: &[usize]) {
         let expected = call.expected(route, text);
         let entry = |out: &mut [u8]| (call.entry)(route.for_library(), &text.bytes, out);
-        self.path(call.name, &WithText { given: route, text }, capacities, &expected, entry);
+        let given = &WithText { given: route, text };
+        self.path(call.name, given, capacities, &expected, entry);
+        if let (Ok(maps), Some(Bracketed { own, tail, .. })) = (route.maps(), Bracketed::new(text)) {
+            let agrees = call.map_with_tail(maps, &own, tail) == expected;
+            self.tally.fact("the way is that of the own part, then the tail", given, agrees);
+        }
     }
 
     /// Checks the round-trip requirement (demand 3): a path without selections that comes out comes home. It is checked for the
