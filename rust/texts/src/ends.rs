@@ -113,6 +113,21 @@ mod tests {
     }
 
     #[test]
+    fn some_paths_have_brackets_and_selections_in_them_or_before_them() {
+        let (random, mut bracketed, mut inside, mut outside) = (&mut Random::new(1), 0, 0, 0);
+        for _ in 0..10_000 {
+            let path = path_under(random, b"/A/B", b"/C");
+            let Some(at) = path.iter().position(|byte| *byte == b'[') else {
+                continue;
+            };
+            bracketed += 1;
+            inside += usize::from(path[at..].contains(&b'{'));
+            outside += usize::from(path[..at].contains(&b'{'));
+        }
+        assert!(bracketed > 1_000 && inside > 500 && outside > 500, "{bracketed} {inside} {outside}");
+    }
+
+    #[test]
     fn above_removes_one_name() {
         for (end, expected) in [("", ""), ("/", "/"), ("/A", "/"), ("/A/B", "/A")] {
             assert_eq!(above(end.as_bytes()), expected.as_bytes());
