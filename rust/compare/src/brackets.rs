@@ -18,8 +18,8 @@ const DEEP: [&[u8]; 2] = [b"/A.r[/B.s[/C.t[/D.u[/E]]]]", b"/A{v=p}.r[/B{w=q}C.s[
 
 pub fn run(comparison: &mut Comparison) {
     phase(comparison, "cases of the requirements on brackets", table::run);
-    phase(comparison, "every text of at most 8 bytes with brackets", |comparison| {
-        all_texts(b"/A.[]", 8, &mut |bytes| one_text(comparison, bytes));
+    phase(comparison, "every text of at most 7 bytes with brackets", |comparison| {
+        all_texts(b"/A.[]", 7, &mut |bytes| one_text(comparison, bytes));
     });
     phase(comparison, "texts near legal ones with brackets", |comparison| {
         texts_near_legal(b"/A.[]", 17, &mut |bytes| one_text(comparison, bytes));

@@ -25,8 +25,8 @@ const PATH_CALLS: [PathCall; 4] =
 /// The sizes of the buffers lent for a path, in bytes.
 const CAPACITIES: [usize; 5] = [0, MAX_PATH_LEN - 1, MAX_PATH_LEN, MAX_PATH_LEN + 1, 300];
 
-/// The sizes for the calls on the path in brackets, of which there are more than of others.
-const FEWER_CAPACITIES: [usize; 3] = [MAX_PATH_LEN - 1, MAX_PATH_LEN, 300];
+/// The sizes for the calls on the path in brackets: one byte too few, and just enough. Most texts have no brackets.
+const FEWER_CAPACITIES: [usize; 2] = [MAX_PATH_LEN - 1, MAX_PATH_LEN];
 
 /// The maximum size of a buffer lent for a path.
 const LONGEST: usize = CAPACITIES[CAPACITIES.len() - 1];

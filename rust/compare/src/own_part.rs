@@ -2,7 +2,7 @@
 //! consists of its own part, which is the text before the first bracket, and its tail, which is empty or the bracketed path
 //! with its brackets.
 
-use crate::calls::{accept, is_end};
+use crate::calls::is_end;
 use crate::comparison::Comparison;
 use crate::tally::Given;
 use crate::text::{Answer, MADE_NOT_LEGAL, MADE_TOO_LONG, NO_PATH, Text, Texts, parsed};
@@ -38,17 +38,9 @@ impl<'a> Bracketed<'a> {
 }
 
 /// What becomes of a path if its own part becomes `own`: "Mapping treats the bracketed part as plain tail and leaves it."
-/// Questions 6, 7 and 8 are put to the whole.
+/// Questions 6, 7 and 8 are put to both together. The tail is not empty.
 pub fn with_tail(own: Option<Path>, tail: &str) -> Answer<Path> {
-    let own = own.ok_or(NO_PATH)?;
-    if tail.is_empty() {
-        return accept(Some(own));
-    }
-    accept_text(&format!("{own}{tail}"))
-}
-
-/// The path of a text that was made (questions 7 and 8). The text is not empty.
-fn accept_text(made: &str) -> Answer<Path> {
+    let made = format!("{}{tail}", own.ok_or(NO_PATH)?);
     if made.len() > MAX_PATH_LEN {
         return Err(MADE_TOO_LONG);
     }

@@ -10,7 +10,7 @@ pub const ENDS: [&str; 10] = ["", "/", "/A", "/B", "/AB", "/A/A", "/A/B", "/B/A"
 
 pub const FEW_ENDS: [&str; 5] = ["", "/", "/A", "/A/B", "/B"];
 
-const PATHS: [&str; 48] = [
+const PATHS: [&str; 47] = [
     "",
     "/",
     "/A",
@@ -58,7 +58,6 @@ const PATHS: [&str; 48] = [
     "/A.a[/B]",
     "/A/B.a[/A{v=p}B]",
     "/B{v=p}A.a[/A/B.a[/]]",
-    "/A/B/C/A.a[/A/B]",
 ];
 
 pub fn lists_of_at_most_two(visit: Visit) {

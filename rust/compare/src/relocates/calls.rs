@@ -27,23 +27,40 @@ pub fn statuses(list: &List) -> Answer<Vec<u8>> {
 pub fn chain(list: &List, skipped: Option<&Text>, text: &Text) -> Answer<Chained> {
     let skipped = skipped.map(Text::answer).transpose();
     let (map, (skipped, path)) = both(list.map(), both(skipped, text.answer()))?;
-    chained(map.path_pairs(), skipped, path, "")
+    chained(map.path_pairs(), skipped, path)
 }
 
-/// The chain as the requirements define it, of a path that is this one followed by `tail`, which is left as it is. Questions 7
-/// and 8 are checked after each replacement.
-fn chained(pairs: &[(Path, Path)], skipped: Option<&Path>, path: &Path, tail: &str) -> Answer<Chained> {
+/// The chain as the requirements define it, with questions 7 and 8 checked after each replacement.
+fn chained(pairs: &[(Path, Path)], skipped: Option<&Path>, path: &Path) -> Answer<Chained> {
     let mut current = path.clone();
     let mut steps = 0;
     while steps < pairs.len() {
         let Some(next) = next(pairs, skipped, &current) else {
             break;
         };
-        with_tail(Some(next.clone()), tail)?;
-        current = next;
+        current = accept(Some(next))?;
         steps += 1;
     }
-    Ok((with_tail(Some(current), tail)?, steps))
+    Ok((current, steps))
+}
+
+/// The same for a path of this own part and this tail: only the own part is chained, and the questions are put to both
+/// together.
+fn chained_with_tail(
+    pairs: &[(Path, Path)],
+    skipped: Option<&Path>,
+    own: &Path,
+    tail: &str,
+) -> Answer<Chained> {
+    let (mut own, mut steps) = (own.clone(), 0);
+    while steps < pairs.len()
+        && let Some(next) = next(pairs, skipped, &own)
+    {
+        with_tail(Some(next.clone()), tail)?;
+        own = next;
+        steps += 1;
+    }
+    Ok((with_tail(Some(own), tail)?, steps))
 }
 
 /// "Each takes the source longest in bytes, the last on a tie, among non-empty targets that alter the path."
@@ -152,7 +169,7 @@ impl Comparison {
         else {
             return;
         };
-        let of_own = chained(map.path_pairs(), skipped, &bracketed.own, bracketed.tail);
+        let of_own = chained_with_tail(map.path_pairs(), skipped, &bracketed.own, bracketed.tail);
         self.tally.fact("the chain is that of the own part, then the tail", given, of_own == *expected);
     }
 }

@@ -37,23 +37,30 @@ impl RouteCall {
         self.map_over(maps, path)
     }
 
+    /// "Leg after leg, the first given the starting path, each later one what the leg before gave; a leg that
+    /// answers 6, 7 or 8 ends the way." Home goes "in reverse".
     fn map_over(&self, maps: &[MapFunction], path: &Path) -> Answer<Path> {
-        self.map_with_tail(maps, path, "")
+        if self.home {
+            maps.iter().rev().try_fold(path.clone(), |path, map| accept(map.map_target_to_source(&path)))
+        } else {
+            maps.iter().try_fold(path.clone(), |path, map| accept(map.translate_to_target(&path)))
+        }
     }
 
-    /// "Leg after leg, the first given the starting path, each later one what the leg before gave; a leg that
-    /// answers 6, 7 or 8 ends the way." Home goes "in reverse". The path is this one followed by `tail`, which is left as it is.
-    fn map_with_tail(&self, maps: &[MapFunction], path: &Path, tail: &str) -> Answer<Path> {
-        let leg = |path: Path, map: &MapFunction| {
-            let made =
-                if self.home { map.map_target_to_source(&path) } else { map.translate_to_target(&path) };
+    /// The same for a path of this own part and this tail: only the own part is mapped, and the questions are put to both
+    /// together.
+    fn map_with_tail(&self, maps: &[MapFunction], own: &Path, tail: &str) -> Answer<Path> {
+        let mut own = own.clone();
+        for at in 0..maps.len() {
+            let made = if self.home {
+                maps[maps.len() - 1 - at].map_target_to_source(&own)
+            } else {
+                maps[at].translate_to_target(&own)
+            };
             with_tail(made.clone(), tail)?;
-            made.ok_or(NO_PATH)
-        };
-        let start = path.clone();
-        let made =
-            if self.home { maps.iter().rev().try_fold(start, leg) } else { maps.iter().try_fold(start, leg) };
-        with_tail(Some(made?), tail)
+            own = made.ok_or(NO_PATH)?;
+        }
+        with_tail(Some(own), tail)
     }
 }
 
