@@ -1,4 +1,6 @@
-//! Times `new` and `replace_prefix` on path texts.
+//! Times `new` and `replace_prefix` on path texts, and on texts with brackets also the calls on the path in them.
+
+mod brackets;
 
 use crate::clock::{Times, best_times};
 use crate::inputs::{self, COUNT, Names, Replacement, parsed};
@@ -18,6 +20,9 @@ pub fn print() {
     for length in [40, 100, 200] {
         time_replace_prefix(length);
     }
+    for length in [80, 200] {
+        brackets::time(length);
+    }
 }
 
 fn time_new(names: Names, length: usize) {
@@ -34,7 +39,7 @@ fn time_new(names: Names, length: usize) {
         }
     };
     let times = best_times(COUNT, original, library);
-    print_row("`new`", names, paths.iter().map(String::len), times);
+    print_row("`new`", names.title(), paths.iter().map(String::len), times);
 }
 
 fn time_replace_prefix(length: usize) {
@@ -52,14 +57,23 @@ fn time_replace_prefix(length: usize) {
         }
     };
     let times = best_times(COUNT, original, library);
-    print_row("`replace_prefix`", Names::Mixed, replacements.iter().map(|each| each.path.len()), times);
+    print_row(
+        "`replace_prefix`",
+        Names::Mixed.title(),
+        replacements.iter().map(|each| each.path.len()),
+        times,
+    );
 }
 
 /// From text to text: three paths are parsed, the prefix is replaced, and the bytes of the result are copied.
 fn original_replace(each: &Replacement, out: &mut [u8]) -> usize {
     let [path, old, new] = [&each.path, &each.old, &each.new].map(|text| parsed(text));
-    let result = path.replace_prefix(&old, &new).expect("a path with this prefix");
-    let text = result.as_str().as_bytes();
+    copied(&path.replace_prefix(&old, &new).expect("a path with this prefix"), out)
+}
+
+/// Copies the bytes of a path and returns their number.
+fn copied(path: &Path, out: &mut [u8]) -> usize {
+    let text = path.as_str().as_bytes();
     out[..text.len()].copy_from_slice(text);
     text.len()
 }
@@ -73,11 +87,11 @@ fn sides_agree(each: &Replacement) -> bool {
     original_replace(each, &mut expected) == library_replace(each, &mut found) && expected == found
 }
 
-fn print_row(call: &str, names: Names, lengths: impl Iterator<Item = usize>, times: Times) {
+fn print_row(call: &str, texts: &str, lengths: impl Iterator<Item = usize>, times: Times) {
     let mean = lengths.sum::<usize>() as f64 / COUNT as f64;
     row(&[
         call,
-        names.title(),
+        texts,
         &format!("{mean:.0}"),
         &nanoseconds(times.reference),
         &nanoseconds(times.measured),

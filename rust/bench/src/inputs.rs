@@ -48,6 +48,12 @@ pub struct Replacement {
     pub new: String,
 }
 
+/// A path with brackets, and a target to replace the one in them.
+pub struct TargetReplacement {
+    pub path: String,
+    pub target: String,
+}
+
 /// A map as a list of pairs, and paths that it maps.
 pub struct MapInput {
     pub pairs: Vec<[String; 2]>,
@@ -70,6 +76,33 @@ pub fn paths(names: Names, length: usize, count: usize) -> Vec<String> {
 pub fn replacements(length: usize, count: usize) -> Vec<Replacement> {
     let random = &mut Random::new(length as u64);
     (0..count).map(|_| replacement(random, length)).collect()
+}
+
+/// Paths of about `length` bytes, of which about half are in brackets.
+pub fn bracketed_paths(length: usize, count: usize) -> Vec<String> {
+    let random = &mut Random::new(length as u64);
+    (0..count).map(|_| bracketed_path(random, length)).collect()
+}
+
+/// Such paths with a prefix of about a quarter of their bytes and a new prefix of that length.
+pub fn bracketed_replacements(length: usize, count: usize) -> Vec<Replacement> {
+    let random = &mut Random::new(length as u64);
+    let replacement = |_| {
+        let [old, new] = [(); 2].map(|()| prim_path(random, Names::Mixed, length / 4));
+        let rest = bracketed_path(random, length - old.len());
+        Replacement { path: format!("{old}{rest}"), old, new }
+    };
+    (0..count).map(replacement).collect()
+}
+
+/// Such paths, with a target of the length of the one in brackets.
+pub fn target_replacements(length: usize, count: usize) -> Vec<TargetReplacement> {
+    let random = &mut Random::new(length as u64);
+    let replacement = |_| {
+        let path = bracketed_path(random, length);
+        TargetReplacement { path, target: self::path(random, Names::Mixed, length / 2) }
+    };
+    (0..count).map(replacement).collect()
 }
 
 /// A map, and paths of about `length` bytes, of which about a third is the source of a pair.
@@ -154,6 +187,13 @@ fn path(random: &mut Random, names: Names, length: usize) -> String {
         text += &format!(".{}", name(random, names));
     }
     text
+}
+
+/// A path of names with a property and, in brackets, a path of about half of the bytes.
+fn bracketed_path(random: &mut Random, length: usize) -> String {
+    let own = prim_path(random, Names::Mixed, (length / 2).saturating_sub(10));
+    let property = name(random, Names::Mixed);
+    format!("{own}.{property}[{}]", path(random, Names::Mixed, length / 2))
 }
 
 fn prim_path(random: &mut Random, names: Names, length: usize) -> String {

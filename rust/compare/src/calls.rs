@@ -71,6 +71,9 @@ pub const STRIP_VARIANT_SELECTIONS: PathCall = PathCall {
     original: |path| Some(path.strip_variant_selections()),
 };
 
+pub const EMBEDDED_TARGET: PathCall =
+    PathCall { name: "embedded_target", entry: paths::embedded_target, original: Path::embedded_target };
+
 /// "A prim path, `/` or empty", and "a prim path has names only".
 pub fn is_end(path: &Path) -> bool {
     let names_only = path.is_prim() && !path.has_variant_selection();
@@ -84,6 +87,11 @@ pub fn has_prefix(text: &Text, prefix: &Text) -> Answer<bool> {
 pub fn replace_prefix(text: &Text, old: &Text, new: &Text) -> Answer<Path> {
     let [path, old, new] = paths([text, old, new])?;
     accept(path.replace_prefix(old, new))
+}
+
+pub fn replace_embedded_target(text: &Text, target: &Text) -> Answer<Path> {
+    let [path, target] = paths([text, target])?;
+    accept(path.replace_embedded_target(target))
 }
 
 /// The lengths of the path and of its ancestors.

@@ -85,7 +85,7 @@ fn every_pair_of_texts(comparison: &mut Comparison) {
     all_texts(b"/A{}=.", 4, &mut |bytes| short.push(Text::new(bytes)));
     let legal =
         |alphabet, longest| legal_texts(alphabet, longest).iter().map(|bytes| Text::new(bytes)).collect();
-    for texts in [short, legal(b"/A1{}=.:", 9), legal(b"/A{}=.", 12)] {
+    for texts in [short, legal(b"/A1{}=.:", 9), legal(b"/A{}=.", 12), legal(b"/A.[]", 11)] {
         for text in &texts {
             for prefix in &texts {
                 comparison.prefix_carried(text, prefix);

@@ -25,6 +25,9 @@ const PATH_CALLS: [PathCall; 4] =
 /// The sizes of the buffers lent for a path, in bytes.
 const CAPACITIES: [usize; 5] = [0, MAX_PATH_LEN - 1, MAX_PATH_LEN, MAX_PATH_LEN + 1, 300];
 
+/// The sizes for the calls on the path in brackets: one byte too few, and just enough. Most texts have no brackets.
+const FEWER_CAPACITIES: [usize; 2] = [MAX_PATH_LEN - 1, MAX_PATH_LEN];
+
 /// The maximum size of a buffer lent for a path.
 const LONGEST: usize = CAPACITIES[CAPACITIES.len() - 1];
 
@@ -65,11 +68,16 @@ impl Comparison {
             self.number(call.name, &Texts(&[text]), call.expected(text), found);
         }
         for call in &PATH_CALLS {
-            let expected = call.expected(text);
-            let entry = |out: &mut [u8]| (call.entry)(&text.bytes, out);
-            self.path(call.name, &Texts(&[text]), &CAPACITIES, &expected, entry);
+            self.one_path(call, text, &CAPACITIES);
         }
+        self.one_path(&calls::EMBEDDED_TARGET, text, &FEWER_CAPACITIES);
         self.ancestors(text);
+    }
+
+    fn one_path(&mut self, call: &PathCall, text: &Text, capacities: &[usize]) {
+        let expected = call.expected(text);
+        let entry = |out: &mut [u8]| (call.entry)(&text.bytes, out);
+        self.path(call.name, &Texts(&[text]), capacities, &expected, entry);
     }
 
     pub fn has_prefix(&mut self, text: &Text, prefix: &Text) {
@@ -82,6 +90,13 @@ impl Comparison {
         let expected = calls::replace_prefix(text, old, new);
         let entry = |out: &mut [u8]| paths::replace_prefix(&text.bytes, &old.bytes, &new.bytes, out);
         self.path("replace_prefix", &Texts(&[text, old, new]), &CAPACITIES, &expected, entry);
+    }
+
+    pub fn replace_embedded_target(&mut self, text: &Text, target: &Text) {
+        let expected = calls::replace_embedded_target(text, target);
+        let entry = |out: &mut [u8]| paths::replace_embedded_target(&text.bytes, &target.bytes, out);
+        self.path("replace_embedded_target", &Texts(&[text, target]), &FEWER_CAPACITIES, &expected, entry);
+        self.target_fact(text, target);
     }
 
     fn number(&mut self, name: &'static str, given: &dyn Given, expected: Answer<usize>, found: Reply) {

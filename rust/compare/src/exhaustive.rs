@@ -1,5 +1,6 @@
 //! Compares the calls for paths on all texts of small sets, and on all pairs and triples of smaller sets.
 
+use crate::brackets;
 use crate::comparison::Comparison;
 use crate::joins;
 use crate::phase::phase;
@@ -28,16 +29,17 @@ pub fn run(comparison: &mut Comparison) {
         triples(comparison, &legal(b"/AB1{}=.:", 5));
         triples(comparison, &legal(b"/A{}=.", 9));
     });
+    brackets::run(comparison);
 }
 
-fn one_text(comparison: &mut Comparison, bytes: &[u8]) {
+pub fn one_text(comparison: &mut Comparison, bytes: &[u8]) {
     let text = Text::new(bytes);
     comparison.one_text(&text);
     comparison.facts(&text);
 }
 
 /// Tries every byte in place of each byte of `text`, before each byte, and after the last one.
-fn every_byte_everywhere(comparison: &mut Comparison, text: &[u8]) {
+pub fn every_byte_everywhere(comparison: &mut Comparison, text: &[u8]) {
     for byte in 0..=u8::MAX {
         for at in 0..text.len() {
             one_text(comparison, &with_byte_changed(text, at, byte));
@@ -47,11 +49,11 @@ fn every_byte_everywhere(comparison: &mut Comparison, text: &[u8]) {
     }
 }
 
-fn legal(alphabet: &[u8], longest: usize) -> Vec<Text> {
+pub fn legal(alphabet: &[u8], longest: usize) -> Vec<Text> {
     legal_texts(alphabet, longest).iter().map(|bytes| Text::new(bytes)).collect()
 }
 
-fn pairs(comparison: &mut Comparison, texts: &[Text]) {
+pub fn pairs(comparison: &mut Comparison, texts: &[Text]) {
     for text in texts {
         for prefix in texts {
             comparison.has_prefix(text, prefix);
@@ -60,7 +62,7 @@ fn pairs(comparison: &mut Comparison, texts: &[Text]) {
     }
 }
 
-fn triples(comparison: &mut Comparison, texts: &[Text]) {
+pub fn triples(comparison: &mut Comparison, texts: &[Text]) {
     for text in texts {
         for old in texts {
             for new in texts {

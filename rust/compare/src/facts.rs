@@ -10,6 +10,7 @@ const MAX_ANCESTORS: usize = 128;
 impl Comparison {
     /// Checks the properties of one legal path.
     pub fn facts(&mut self, text: &Text) {
+        self.bracket_facts(text);
         let Some(path) = text.path() else {
             return;
         };

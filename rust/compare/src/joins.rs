@@ -5,22 +5,24 @@ use crate::comparison::Comparison;
 use crate::text::Text;
 use texts::MAX_PATH_LEN;
 
-/// Prefixes by their end: the empty path, `/`, a name, a selection, a property.
-const PREFIXES: [&[&str]; 5] = [
+/// Prefixes by their end: the empty path, `/`, a name, a selection, a property, a bracket.
+const PREFIXES: [&[&str]; 6] = [
     &[""],
     &["/"],
     &["/A", "/A/B", "/_a1", "/A{v=p}B"],
     &["/A{v=p}", "/A{v=p}{w=q}", "/A/B{v=p}"],
     &["/A.b", "/A{v=p}.b:c"],
+    &["/A.b[/T]", "/A{v=p}.b[/T{w=q}]"],
 ];
 
-/// Remainders by what they begin with: nothing, a slash and a name, a name, a property, a selection.
-const REMAINDERS: [&[&str]; 5] = [
+/// Remainders by what they begin with: nothing, a slash and a name, a name, a property, a selection, a bracket.
+const REMAINDERS: [&[&str]; 6] = [
     &[""],
-    &["/C", "/C/D.e", "/_1"],
-    &["C", "_C/D", "c.e", "C{w=q}"],
-    &[".d", ".d:e"],
-    &["{w=q}C", "{w=q}.d", "{w=q}"],
+    &["/C", "/C/D.e", "/_1", "/C.d[/T{w=q}]"],
+    &["C", "_C/D", "c.e", "C{w=q}", "c.e[/A.b[/T]]"],
+    &[".d", ".d:e", ".d[/]"],
+    &["{w=q}C", "{w=q}.d", "{w=q}", "{w=q}.d[/A{v=p}]"],
+    &["[/T]"],
 ];
 
 pub fn run(comparison: &mut Comparison) {
@@ -42,10 +44,12 @@ fn join(comparison: &mut Comparison, old: &str, new: &str, rest: String) {
     comparison.replace_prefix(&path, &old, &new);
 }
 
-/// The remainder with its last name lengthened to `length` bytes in all; itself if it ends in no name.
+/// The remainder with its last name, which may be in brackets, lengthened to `length` bytes in all; itself if it ends in no
+/// name. The path `/` in brackets gets a name.
 fn lengthened(rest: &str, length: usize) -> String {
-    let more = if rest.is_empty() || rest.ends_with('}') { 0 } else { length.saturating_sub(rest.len()) };
-    format!("{rest}{}", "x".repeat(more))
+    let (names, brackets) = rest.split_at(rest.trim_end_matches(']').len());
+    let more = if names.is_empty() || names.ends_with('}') { 0 } else { length.saturating_sub(rest.len()) };
+    format!("{names}{}{brackets}", "x".repeat(more))
 }
 
 #[cfg(test)]
@@ -54,12 +58,13 @@ mod tests {
     use texts::legal::is_legal;
 
     /// Which remainders may follow which prefixes, in the order of the tables above.
-    const FOLLOWS: [[bool; 5]; 5] = [
-        [true, true, false, false, false],
-        [true, false, true, false, false],
-        [true, true, false, true, true],
-        [true, false, true, true, true],
-        [true, false, false, false, false],
+    const FOLLOWS: [[bool; 6]; 6] = [
+        [true, true, false, false, false, false],
+        [true, false, true, false, false, false],
+        [true, true, false, true, true, false],
+        [true, false, true, true, true, false],
+        [true, false, false, false, false, true],
+        [true, false, false, false, false, false],
     ];
 
     #[test]
@@ -79,5 +84,7 @@ mod tests {
         assert_eq!(lengthened("/C", 250).len(), 250);
         assert_eq!(lengthened("", 250), "");
         assert_eq!(lengthened("{w=q}", 250), "{w=q}");
+        assert_eq!(lengthened(".d[/]", 7), ".d[/xx]");
+        assert_eq!(lengthened(".d[/A{v=p}]", 250), ".d[/A{v=p}]");
     }
 }

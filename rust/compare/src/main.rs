@@ -1,6 +1,7 @@
 //! `compare`: compares the library and the program `frames` with the original Rust code, call by call, line by line and
 //! byte by byte. `compare --help` describes the options.
 
+mod brackets;
 mod calls;
 mod carried;
 mod cases;
@@ -14,6 +15,7 @@ mod makes;
 mod many;
 mod maps;
 mod options;
+mod own_part;
 mod parts;
 mod phase;
 mod record;

@@ -24,5 +24,6 @@ fn wrong_answers_are_counted_and_shown() {
     // Each of these runs differs in its first answer: two scripts, the long input, the inputs at each of 279 cuts, and the
     // lines one by one.
     assert!(last.starts_with("compare: ") && last.ends_with(" comparisons, 283 differences"), "{last}");
-    assert!(report.contains("\n    answer 1: expected 8100\\n, found 01"), "{report}");
+    // The first line of one of these scripts, which is all that remains of it.
+    assert!(report.contains("\n    02\n    answer 1: expected 8200\\n, found 02\\n"), "{report}");
 }

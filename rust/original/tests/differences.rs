@@ -40,6 +40,54 @@ fn texts_beyond_the_grammar() {
     }
 }
 
+/// Of paths in brackets `Path::new` accepts more than the grammar: something after the bracket, a relative path, and more than
+/// four brackets, up to a limit of its own.
+#[test]
+fn brackets_beyond_the_grammar() {
+    for legal_there in ["/A.r[/T].x", "/A.r[/T][/U]", "/A.r[T]", "/A.r[/B.s[/C.t[/D.u[/E.v[/F]]]]]"] {
+        assert!(Path::new(legal_there).is_ok(), "{legal_there}");
+    }
+    let nested = |depth| format!("{}/{}", "/A.r[".repeat(depth), "]".repeat(depth));
+    assert!(Path::new(&nested(64)).is_ok());
+    assert!(Path::new(&nested(65)).is_err());
+    for illegal_there_too in ["/A.r[]", "/A[/C]", "/A{v=p}[/C]", "/A.r[/T", "/A.r[/T]]"] {
+        assert!(Path::new(illegal_there_too).is_err(), "{illegal_there_too}");
+    }
+}
+
+/// The name and the prim of a path with brackets are not split, although it has a property.
+#[test]
+fn a_path_with_brackets_is_not_split() {
+    assert_eq!(path("/A.r[/T]").split_property(), None);
+    assert_eq!(path("/A.r[/T]").prim_path().as_str(), "/A");
+    assert!(path("/A.r").split_property().is_some());
+}
+
+/// A bracket is no boundary: the parent of a path with brackets is not a prefix of it.
+#[test]
+fn the_parent_of_a_path_with_brackets_is_no_prefix() {
+    let target = path("/A.r[/T]");
+    assert_eq!(text(target.parent()), some("/A.r"));
+    assert!(!target.has_prefix(&path("/A.r")));
+    assert_eq!(text(target.replace_prefix(&path("/A.r"), &path("/X.s"))), None);
+}
+
+/// Selections in brackets are not the path's own; the comment on `components` says of stripping that it removes them too.
+#[test]
+fn stripping_leaves_selections_in_brackets() {
+    assert_eq!(path("/A{v=p}.r[/T{w=q}]").strip_variant_selections().as_str(), "/A.r[/T{w=q}]");
+    assert!(!path("/A.r[/T{w=q}]").has_variant_selection());
+}
+
+/// The target that is put in brackets is not checked.
+#[test]
+fn replaced_targets_are_not_checked() {
+    let replaced = |target: &str| text(path("/A.r[/T]").replace_embedded_target(&path(target)));
+    assert_eq!(replaced(""), some("/A.r[]"));
+    let four = "/B.s[/C.t[/D.u[/E.v[/F]]]]";
+    assert_eq!(replaced(four), some(&format!("/A.r[{four}]")));
+}
+
 #[test]
 fn illegal_results_are_returned() {
     assert_eq!(text(path("/A.b").replace_prefix(&path("/A"), &path("/"))), some("/.b"));

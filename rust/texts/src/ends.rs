@@ -68,11 +68,13 @@ pub fn path_under(random: &mut Random, from: &[u8], to: &[u8]) -> Vec<u8> {
     if random.one_in(4) { with_selections(random, &path) } else { path }
 }
 
-/// `path` with some of its slashes replaced by a selection, within the length limit.
+/// `path` with some of its slashes replaced by a selection, within the length limit. A slash with which a path begins, also one
+/// in brackets, is kept.
 fn with_selections(random: &mut Random, path: &[u8]) -> Vec<u8> {
     let mut selected = path.to_vec();
     for at in (1..path.len()).rev() {
-        if path[at] == b'/' && selected.len() + 4 <= MAX_PATH_LEN && random.one_in(2) {
+        let follows_a_name = path[at] == b'/' && path[at - 1] != b'[';
+        if follows_a_name && selected.len() + 4 <= MAX_PATH_LEN && random.one_in(2) {
             selected.splice(at..=at, *b"{v=p}");
         }
     }
@@ -108,6 +110,21 @@ mod tests {
                 assert!(is_legal(&path) && path.len() <= MAX_PATH_LEN, "{}", path.escape_ascii());
             }
         }
+    }
+
+    #[test]
+    fn some_paths_have_brackets_and_selections_in_them_or_before_them() {
+        let (random, mut bracketed, mut inside, mut outside) = (&mut Random::new(1), 0, 0, 0);
+        for _ in 0..10_000 {
+            let path = path_under(random, b"/A/B", b"/C");
+            let Some(at) = path.iter().position(|byte| *byte == b'[') else {
+                continue;
+            };
+            bracketed += 1;
+            inside += usize::from(path[at..].contains(&b'{'));
+            outside += usize::from(path[..at].contains(&b'{'));
+        }
+        assert!(bracketed > 1_000 && inside > 500 && outside > 500, "{bracketed} {inside} {outside}");
     }
 
     #[test]

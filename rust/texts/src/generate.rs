@@ -2,6 +2,7 @@
 
 use crate::MAX_PATH_LEN;
 use crate::damage::{damaged, with_byte_inserted};
+use crate::legal::MAX_BRACKETS;
 use crate::random::Random;
 
 const LETTERS: &[u8] = b"abcdefghijklmnopqrstuvwxyzABCDEFGHIJKLMNOPQRSTUVWXYZ_";
@@ -9,6 +10,9 @@ const NAME_BYTES: &[u8] = b"abcdefghijklmnopqrstuvwxyzABCDEFGHIJKLMNOPQRSTUVWXYZ
 
 /// The shortest selection is `{a=b}`.
 const SHORTEST_SELECTION: usize = 5;
+
+/// The shortest property with a target is `.a[/]`.
+const SHORTEST_BRACKETED: usize = 5;
 
 /// A random length for a path: short, or near the limit, or any.
 pub fn length(random: &mut Random) -> usize {
@@ -25,16 +29,30 @@ struct Style {
     /// How many of four positions that may have a selection have one.
     selections: usize,
     properties: bool,
+    /// How many brackets the text may have.
+    brackets: usize,
 }
 
 impl Style {
     fn any(random: &mut Random) -> Self {
         let names = Style::names_only(random);
-        Style { selections: *random.pick(&[0, 1, 3]), properties: true, ..names }
+        let brackets = if random.one_in(2) { 0 } else { random.within(1..=MAX_BRACKETS) };
+        Style { selections: *random.pick(&[0, 1, 3]), properties: true, brackets, ..names }
     }
 
     fn names_only(random: &mut Random) -> Self {
-        Style { longest_name: *random.pick(&[1, 3, 8, 40]), selections: 0, properties: false }
+        let longest_name = *random.pick(&[1, 3, 8, 40]);
+        Style { longest_name, selections: 0, properties: false, brackets: 0 }
+    }
+
+    /// A property is the last part of a path, so it must be rare where much is left, unless a target may follow it.
+    fn has_property(&self, random: &mut Random, left: usize) -> bool {
+        let one_in = match left {
+            _ if self.brackets > 0 && left >= SHORTEST_BRACKETED => 3,
+            ..20 => 3,
+            _ => 40,
+        };
+        self.properties && left >= 2 && random.one_in(one_in)
     }
 }
 
@@ -75,8 +93,8 @@ fn append_part(random: &mut Random, text: &mut Vec<u8>, style: &Style, length: u
         append_name(random, text, longest_name.min(left));
     } else if left >= SHORTEST_SELECTION && random.below(4) < style.selections {
         append_selection(random, text, longest_name, left);
-    } else if style.properties && left >= 2 && random.one_in(if left < 20 { 3 } else { 40 }) {
-        append_property(random, text, longest_name, length);
+    } else if style.has_property(random, left) {
+        append_tail(random, text, style, length);
     } else if text.ends_with(b"}") {
         append_name(random, text, longest_name.min(left));
     } else if left >= 2 {
@@ -110,7 +128,25 @@ fn append_selection(random: &mut Random, text: &mut Vec<u8>, longest_name: usize
     text.push(b'}');
 }
 
-/// Appends a property, which is the last part of a path, so it fills the text up to `length`.
+/// Appends a property and, if there may be one and there are enough bytes, mostly a target in brackets. This is the last part
+/// of a path, so it fills the text up to `length`.
+fn append_tail(random: &mut Random, text: &mut Vec<u8>, style: &Style, length: usize) {
+    let left = length - text.len();
+    if style.brackets == 0 || left < SHORTEST_BRACKETED || random.one_in(8) {
+        return append_property(random, text, style.longest_name, length);
+    }
+    // A long target may have brackets itself.
+    let longest = left - (SHORTEST_BRACKETED - 1);
+    let shortest = if random.one_in(3) { 1 } else { longest.saturating_sub(8).max(1) };
+    let target = random.within(shortest..=longest);
+    append_property(random, text, style.longest_name, length - target - 2);
+    let inside = Style { brackets: style.brackets - 1, ..*style };
+    text.push(b'[');
+    text.extend(continued_in(random, b"", &inside, target));
+    text.push(b']');
+}
+
+/// Appends a property that fills the text up to `length`.
 fn append_property(random: &mut Random, text: &mut Vec<u8>, longest_name: usize, length: usize) {
     text.push(b'.');
     append_name(random, text, longest_name.min(length - text.len()));
@@ -124,19 +160,26 @@ fn append_property(random: &mut Random, text: &mut Vec<u8>, longest_name: usize,
     }
 }
 
-/// The prefixes of `text` that end before a separator or after a selection.
+/// The part of `text` before its first bracket; all of it if there is none.
+pub fn own_part(text: &[u8]) -> &[u8] {
+    text.split(|byte| *byte == b'[').next().unwrap_or_default()
+}
+
+/// The prefixes of `text` that end before a separator or after a selection outside brackets, and `text` itself.
 pub fn prefixes(text: &[u8]) -> Vec<&[u8]> {
-    (0..=text.len()).filter(|at| is_boundary(text, *at)).map(|at| &text[..at]).collect()
+    let mut places: Vec<usize> = (0..own_part(text).len()).filter(|at| is_boundary(text, *at)).collect();
+    places.push(text.len());
+    places.into_iter().map(|at| &text[..at]).collect()
 }
 
 fn is_boundary(text: &[u8], at: usize) -> bool {
-    at == 0 || at == text.len() || matches!(text[at], b'/' | b'.' | b'{') || text[at - 1] == b'}'
+    at == 0 || matches!(text[at], b'/' | b'.' | b'{') || text[at - 1] == b'}'
 }
 
 /// A candidate for a prefix of `text`: a prefix, or nearly one, or something else.
 pub fn prefix_for(random: &mut Random, text: &[u8]) -> Vec<u8> {
     let prefix = random.pick(&prefixes(text)).to_vec();
-    match random.below(10) {
+    match random.below(11) {
         0 => Vec::new(),
         1 => b"/".to_vec(),
         2 => text.to_vec(),
@@ -147,6 +190,7 @@ pub fn prefix_for(random: &mut Random, text: &[u8]) -> Vec<u8> {
             let length = length(random);
             legal_text(random, length)
         }
+        7 => own_part(text).to_vec(),
         _ => prefix,
     }
 }
@@ -170,10 +214,26 @@ fn joining_length(random: &mut Random, text: &[u8], old: &[u8]) -> usize {
     random.within(MAX_PATH_LEN - 2..=MAX_PATH_LEN + 3).saturating_sub(rest)
 }
 
+/// A target to replace the one in the brackets of `text`. Often the length of the result is near the limit.
+pub fn target_for(random: &mut Random, text: &[u8]) -> Vec<u8> {
+    let length = match random.below(8) {
+        0 => return Vec::new(),
+        1 => return b"/".to_vec(),
+        2 => length(random),
+        3 | 4 => random.below(25),
+        _ => random
+            .within(MAX_PATH_LEN - 2..=MAX_PATH_LEN + 3)
+            .saturating_sub(own_part(text).len() + b"[]".len()),
+    };
+    let target = legal_text(random, length);
+    if random.one_in(30) { damaged(random, &target) } else { target }
+}
+
 #[cfg(test)]
 mod tests {
-    use super::{continued, end_text, legal_text, length, prefixes};
-    use crate::legal::is_legal;
+    use super::{continued, end_text, legal_text, length, own_part, prefixes, target_for};
+    use crate::MAX_PATH_LEN;
+    use crate::legal::{MAX_BRACKETS, is_legal, opening_brackets};
     use crate::random::Random;
 
     #[test]
@@ -188,12 +248,35 @@ mod tests {
     }
 
     #[test]
+    fn generated_texts_have_any_number_of_brackets_up_to_the_limit() {
+        let (random, mut short, mut long) = (&mut Random::new(1), [0; 5], [0; 5]);
+        for _ in 0..20_000 {
+            let text = legal_text(random, 60);
+            short[opening_brackets(&text)] += 1;
+            let text = legal_text(random, MAX_PATH_LEN);
+            long[opening_brackets(&text)] += 1;
+        }
+        assert_eq!(short.len(), MAX_BRACKETS + 1);
+        assert!(short.iter().chain(&long).all(|texts| *texts > 100), "{short:?} {long:?}");
+    }
+
+    #[test]
+    fn results_of_replaced_targets_are_often_near_the_limit() {
+        let (random, text, mut near) = (&mut Random::new(1), b"/A.r[/T]", 0);
+        for _ in 0..1_000 {
+            let length = own_part(text).len() + 2 + target_for(random, text).len();
+            near += usize::from(length.abs_diff(MAX_PATH_LEN) <= 3);
+        }
+        assert!(near > 300, "{near}");
+    }
+
+    #[test]
     fn generated_ends_have_names_only_and_extend_to_legal_texts() {
         let random = &mut Random::new(1);
         for _ in 0..20_000 {
             let length = length(random);
             let end = end_text(random, length);
-            assert!(is_legal(&end) && !end.iter().any(|byte| b"{.".contains(byte)));
+            assert!(is_legal(&end) && !end.iter().any(|byte| b"{.[".contains(byte)));
             assert_eq!(end.len(), length);
             let longer = continued(random, &end, length + 9);
             assert!(is_legal(&longer) && longer.starts_with(&end), "{}", longer.escape_ascii());
@@ -205,5 +288,7 @@ mod tests {
     fn prefixes_end_at_separators() {
         let expected: [&[u8]; 5] = [b"", b"/A", b"/A{v=p}", b"/A{v=p}B", b"/A{v=p}B.c"];
         assert_eq!(prefixes(b"/A{v=p}B.c"), expected);
+        let bracketed: [&[u8]; 3] = [b"", b"/A", b"/A.r[/B/C]"];
+        assert_eq!(prefixes(b"/A.r[/B/C]"), bracketed);
     }
 }

@@ -3,12 +3,24 @@
 //! Each function parses a part at the start of the remaining text and returns the text after it, or `None` if that part is
 //! not there. The length limit is not checked here.
 
+/// "A bracketed path may hold another, four deep, so a text has at most four opening brackets."
+pub const MAX_BRACKETS: usize = 4;
+
 /// Returns whether `text` is a legal path.
-///
-/// "It is empty, or `/`, or `/` and a name followed by elements, then perhaps a property."
 pub fn is_legal(text: &[u8]) -> bool {
+    opening_brackets(text) <= MAX_BRACKETS && (text.is_empty() || is_absolute(text))
+}
+
+/// The number of opening brackets in a text.
+pub fn opening_brackets(text: &[u8]) -> usize {
+    text.iter().filter(|byte| **byte == b'[').count()
+}
+
+/// "It is empty, or `/`, or `/` and a name followed by elements, then perhaps a property." The empty path is not absolute. How
+/// many brackets there are is not checked here.
+fn is_absolute(text: &[u8]) -> bool {
     match text {
-        b"" | b"/" => true,
+        b"/" => true,
         [b'/', rest @ ..] => name(rest).and_then(after_name).is_some_and(|rest| rest.is_empty()),
         _ => false,
     }
@@ -37,7 +49,16 @@ fn after_selection(rest: &[u8]) -> Option<&[u8]> {
 /// "A property is `.` and names joined by single `:`."
 fn property_or_end(rest: &[u8]) -> Option<&[u8]> {
     match rest {
-        [b'.', rest @ ..] => joined_names(rest),
+        [b'.', rest @ ..] => brackets_or_end(joined_names(rest)?),
+        _ => Some(rest),
+    }
+}
+
+/// "A property may be followed by a legal absolute path in brackets, which ends the text."
+fn brackets_or_end(rest: &[u8]) -> Option<&[u8]> {
+    match rest {
+        [b'[', inside @ .., b']'] if is_absolute(inside) => Some(&[]),
+        [b'[', ..] => None,
         _ => Some(rest),
     }
 }
@@ -144,7 +165,71 @@ mod tests {
             "/A.b::c",
             "/A.b:1",
             "/A:b",
-            "/A.r[/B]",
+        ] {
+            assert!(!is_legal(text.as_bytes()), "{text}");
+        }
+    }
+
+    #[test]
+    fn targets_in_brackets() {
+        for text in [
+            "/L/S.next[/L/T]",
+            "/A.r[/]",
+            "/A.r:s[/T]",
+            "/A.r[/T.x:y]",
+            "/A{v=p}.r[/T]",
+            "/A{v=p}B.r[/T{w=q}C]",
+            "/A.r[/B.s[/C]]",
+            "/A.r[/B.s[/C.t[/D.u[/E]]]]",
+            "/A.r[/B.s[/C.t[/D.u[/]]]]",
+        ] {
+            assert!(is_legal(text.as_bytes()), "{text}");
+        }
+    }
+
+    #[test]
+    fn misplaced_brackets() {
+        for text in [
+            "[/C]",
+            "/[/C]",
+            "/A[/C]",
+            "/A/[/C]",
+            "/A{v=p}[/C]",
+            "/A.[/C]",
+            "/A.r:[/C]",
+            "/A.r[/T].x",
+            "/A.r[/T]x",
+            "/A.r[/T]/x",
+            "/A.r[/T]{v=p}",
+            "/A.r[/T][/U]",
+            "/A.r[/T][",
+            "/A{v[/T]=p}",
+        ] {
+            assert!(!is_legal(text.as_bytes()), "{text}");
+        }
+    }
+
+    #[test]
+    fn malformed_brackets() {
+        for text in [
+            "/A.r[",
+            "/A.r]",
+            "/A.r[]",
+            "/A.r[/T",
+            "/A.r/T]",
+            "/A.r[/T]]",
+            "/A.r[[/T]]",
+            "/A.r[T]",
+            "/A.r[../T]",
+            "/A.r[.s]",
+            "/A.r[/T/]",
+            "/A.r[/B[/C]]",
+            "/A.r[/B.s[C]]",
+            "/A.r[/B.s[/C]",
+            "/A.r[/B.s[/C]].t",
+            "/A.r[/B.s[/C].t]",
+            "/A.r[/\0]",
+            "/A.r[/B.s[/C.t[/D.u[/E.v[/F]]]]]",
         ] {
             assert!(!is_legal(text.as_bytes()), "{text}");
         }

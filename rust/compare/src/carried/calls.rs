@@ -65,7 +65,10 @@ impl Carried<'_> {
     }
 
     fn kinds(&self, reading: &Reading) -> Vec<Kind> {
-        if self.is_map { Kind::of_mapped(&self.legs[0], reading) } else { Kind::of_routed(reading) }
+        let mut kinds =
+            if self.is_map { Kind::of_mapped(&self.legs[0], reading) } else { Kind::of_routed(reading) };
+        kinds.extend(Kind::of_brackets(&reading.steps[0], reading.is_stripped));
+        kinds
     }
 
     /// The pair that a map uses.
@@ -110,6 +113,9 @@ impl Comparison {
             return self.tally.compare(call(REST_START.call), has_prefix.map(usize::from), found, None);
         };
         self.kinds.count(REST_START.call, Kind::of_prefix(path, start));
+        if let Some(kind) = Kind::of_brackets(path, false) {
+            self.kinds.count(REST_START.call, kind);
+        }
         let expected = 1 + 256 * rest_start(path, start);
         self.tally.compare(call(REST_START.call), Ok(expected), found, None);
         let rest = path.get(found.value() / 256..);

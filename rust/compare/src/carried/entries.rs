@@ -25,20 +25,31 @@ const OF_PREFIXES: &[Kind] = &[
     Kind::AtProperty,
     Kind::AtSelection,
     Kind::AfterSelection,
+    Kind::Bracketed,
 ];
 
-const OF_MAPS: &[Kind] =
-    &[Kind::MarkOnly, Kind::Exact, Kind::UnderRoot, Kind::IntoRoot, Kind::AtSlash, Kind::AtProperty];
+const OF_MAPS: &[Kind] = &[
+    Kind::MarkOnly,
+    Kind::Exact,
+    Kind::UnderRoot,
+    Kind::IntoRoot,
+    Kind::AtSlash,
+    Kind::AtProperty,
+    Kind::Bracketed,
+];
 
-const OF_ROUTES: &[Kind] = &[Kind::NoLegs, Kind::Whole, Kind::CutAtFirst, Kind::CutLater, Kind::NothingLeft];
+const OF_ROUTES: &[Kind] =
+    &[Kind::NoLegs, Kind::Whole, Kind::CutAtFirst, Kind::CutLater, Kind::NothingLeft, Kind::Bracketed];
+
+const STRIPPED: &[Kind] = &[Kind::Stripped, Kind::StrippedBracketed];
 
 /// The kinds of cases that must occur. The keys of a map have no selections, and only mapping home joins an empty end.
 pub const EXPECTED: [Expected; 6] = [
     Expected { call: REST_START.call, kinds: &[OF_PREFIXES], refusals: 2 },
     Expected { call: OUT.call, kinds: &[OF_MAPS, &[Kind::AtSelection]], refusals: 8 },
     Expected { call: HOME.call, kinds: &[OF_MAPS, &[Kind::AtSelection, Kind::IntoEmpty]], refusals: 8 },
-    Expected { call: TRANSLATED.call, kinds: &[OF_MAPS, &[Kind::Stripped]], refusals: 8 },
-    Expected { call: ROUTE_OUT.call, kinds: &[OF_ROUTES, &[Kind::Stripped]], refusals: 8 },
+    Expected { call: TRANSLATED.call, kinds: &[OF_MAPS, STRIPPED], refusals: 8 },
+    Expected { call: ROUTE_OUT.call, kinds: &[OF_ROUTES, STRIPPED], refusals: 8 },
     Expected { call: ROUTE_HOME.call, kinds: &[OF_ROUTES], refusals: 8 },
 ];
 

@@ -27,6 +27,9 @@ pub enum Kind {
     IntoEmpty,
     /// Selections were stripped.
     Stripped,
+    /// The path has brackets, with and without selections that were stripped outside them.
+    Bracketed,
+    StrippedBracketed,
     NoLegs,
     /// One or more legs leave the whole text.
     Whole,
@@ -51,6 +54,12 @@ impl Kind {
             (_, Some(b'{')) => Kind::AtSelection,
             _ => Kind::AfterSelection,
         }
+    }
+
+    /// The kind of a text with brackets.
+    pub fn of_brackets(text: &str, is_stripped: bool) -> Option<Kind> {
+        let kind = if is_stripped { Kind::StrippedBracketed } else { Kind::Bracketed };
+        text.contains('[').then_some(kind)
     }
 
     /// The kinds of a path that a map takes to another one.
@@ -168,6 +177,8 @@ impl Display for Kind {
             Kind::IntoRoot => "to `/`",
             Kind::IntoEmpty => "to the empty path",
             Kind::Stripped => "stripped",
+            Kind::Bracketed => "with brackets",
+            Kind::StrippedBracketed => "stripped, with brackets",
             Kind::NoLegs => "no legs",
             Kind::Whole => "whole text",
             Kind::CutAtFirst => "cut at the first leg",

@@ -1,8 +1,10 @@
 //! A second reading of what the requirements say about the rest, the part of a path that is carried over unaltered. It follows
 //! their sentences, which are quoted here, and works on plain texts. It shares no code with the library; from the original
-//! it takes the pairs of a map and the path without its selections.
+//! it takes the pairs of a map and a path's own part without its selections.
 
 use crate::facts::is_prefix;
+use crate::own_part::split;
+use crate::text::parsed;
 use original::pcp::MapFunction;
 use original::sdf::Path;
 
@@ -110,11 +112,13 @@ pub struct Reading {
 /// Follows a path over the legs, in the order in which it passes them; `None` if a leg gives no path.
 ///
 /// "`translate_to_target` gives the rest only where there is no selection to strip, and an empty part otherwise." Each leg of a
-/// route out translates, so `strips` is true for both; a route without legs strips nothing.
+/// route out translates, so `strips` is true for both; a route without legs strips nothing. "Names and selections inside
+/// brackets don't count as the path's own", so there is nothing to strip in brackets.
 pub fn read(given: &Path, legs: &[Leg], strips: bool) -> Option<Reading> {
-    let is_stripped = strips && !legs.is_empty() && given.has_variant_selection();
+    let (own, tail) = split(given.as_str());
+    let is_stripped = strips && !legs.is_empty() && own.contains('{');
     let mut step = if is_stripped {
-        let text = given.strip_variant_selections().as_str().to_string();
+        let text = format!("{}{tail}", parsed(own.as_bytes())?.strip_variant_selections());
         Step { origins: vec![None; text.len()], text }
     } else {
         Step { text: given.as_str().to_string(), origins: (0..given.as_str().len()).map(Some).collect() }

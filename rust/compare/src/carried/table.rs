@@ -28,6 +28,10 @@ pub const PREFIX_ROWS: &[PrefixRow] = &[
     ("/A/B", "", Some(0)),
     ("/", "", Some(0)),
     ("", "", Some(0)),
+    ("/A.r[/B]", "/A", Some(2)),
+    ("/A.r[/B]", "/A.r[/B]", Some(8)),
+    ("/A.r[/B]", "/", Some(0)),
+    ("/A.r[/B]", "/A.r", None),
     ("/AB", "/A", None),
     ("/A", "/A/B", None),
     ("", "/", None),
@@ -72,6 +76,13 @@ pub const MAP_ROWS: &[MapRow] = &[
     (&[], true, "/Q{v=p}", MAP_TRANSLATED, Ok(("/Q", 0, 0))),
     (&[], true, "/Q", MAP_TRANSLATED, Ok(("/Q", 0, 2))),
     (A_TO_X, true, "/X/y", MAP_TRANSLATED, Err(NO_PATH)),
+    // The brackets belong to the rest, and a selection in them is none to strip.
+    (A_TO_X, false, "/A.r[/A]", MAP_OUT, Ok(("/X.r[/A]", 2, 6))),
+    (A_TO_X, false, "/X.r[/A{v=p}]", MAP_HOME, Ok(("/A.r[/A{v=p}]", 2, 11))),
+    (A_TO_X, false, "/A.r[/A{v=p}]", MAP_TRANSLATED, Ok(("/X.r[/A{v=p}]", 2, 11))),
+    (A_TO_X, false, "/A{v=p}.r[/A{v=p}]", MAP_TRANSLATED, Ok(("/X.r[/A{v=p}]", 0, 0))),
+    (&[], true, "/Q.r[/A]", MAP_TRANSLATED, Ok(("/Q.r[/A]", 0, 8))),
+    (&[["/A", "/"]], false, "/A.r[/A]", MAP_OUT, Err(MADE_NOT_LEGAL)),
 ];
 
 /// The legs with their kinds, the path, the call, and its answer.
@@ -105,6 +116,10 @@ pub const ROUTE_ROWS: &[RouteRow] = &[
     (MOVED, "/R/a/c", OUT_OVER, Ok(("/R/b/c", 4, 2))),
     (MOVED, "/Q/r", OUT_OVER, Ok(("/Q/r", 0, 4))),
     (MOVED, "/R/b", HOME_OVER, Ok(("/R/a", 4, 0))),
+    (A_THEN_XB, "/A/B/C.r[/A/B]", OUT_OVER, Ok(("/Y/C.r[/A/B]", 4, 10))),
+    (A_THEN_XB, "/A/B.r[/A{v=p}]", OUT_OVER, Ok(("/Y.r[/A{v=p}]", 4, 11))),
+    (A_THEN_XB, "/A{v=p}B.r[/A{v=p}]", OUT_OVER, Ok(("/Y.r[/A{v=p}]", 0, 0))),
+    (A_THEN_XB, "/Y.r[/A/B]", HOME_OVER, Ok(("/A/B.r[/A/B]", 2, 8))),
 ];
 
 pub fn run(comparison: &mut Comparison) {

@@ -27,6 +27,7 @@ pub fn script(random: &mut Random) -> Script {
 mod tests {
     use super::script;
     use crate::frames::answers::Answers;
+    use frames_original::hex;
     use texts::random::Random;
 
     #[test]
@@ -48,6 +49,30 @@ mod tests {
         let expected = "8100 8101 8102 8103 8104 8200 8300 8304 8305 8400 8404 8405 8500 8501 8502 8506 8507 8508 \
                         8600 8601 8602 8606 8607 8608 8700 FF09";
         assert_eq!(found.join(" "), expected);
+    }
+
+    /// How many lines of scripts are a frame of this kind with a bracket in its bytes, and have this answer.
+    fn with_brackets(kind: &[u8], answer: &[u8]) -> usize {
+        let (random, mut count) = (&mut Random::new(1), 0);
+        for _ in 0..500 {
+            let script = script(random);
+            let answers = frames_original::answers(&script.input());
+            let pairs = script.lines.iter().zip(answers.split(|byte| *byte == b'\n'));
+            let is_one = |line: &[u8], found: &[u8]| {
+                let bytes = hex::read(line).unwrap_or_default();
+                bytes.starts_with(kind) && bytes.contains(&b'[') && found.starts_with(answer)
+            };
+            count += pairs.filter(|(line, found)| is_one(line, found)).count();
+        }
+        count
+    }
+
+    #[test]
+    fn paths_with_brackets_come_out_and_home_and_are_no_ends() {
+        for (kind, answer) in [([5], b"8500"), ([6], b"8600"), ([1], b"8103"), ([1], b"8102")] {
+            let count = with_brackets(&kind, answer);
+            assert!(count > 10, "{} {count}", answer.escape_ascii());
+        }
     }
 
     #[test]

@@ -46,7 +46,7 @@ pub fn three_pairs(comparison: &mut Comparison) {
 pub fn moved(comparison: &mut Comparison) {
     let ends = ENDS.iter().map(|end| Text::new(end.as_bytes()));
     let long = [b"/A/", [b'B'; MAX_PATH_LEN].as_slice()].concat();
-    let others = [b"/A{v=p}B".as_slice(), b"/A/B.a", b"/A/", &long].map(Text::new);
+    let others = [b"/A{v=p}B".as_slice(), b"/A/B.a", b"/A/B.a[/A]", b"/A/", &long].map(Text::new);
     let texts: Vec<Text> = ends.chain(others).collect();
     for map in maps(&lists(&ENDS)) {
         for one in &texts {

@@ -82,7 +82,11 @@ impl Comparison {
         for call in &CALLS {
             let expected = call.expected(list, text);
             let entry = |out: &mut [u8]| apply(call.direction, list.for_library(), &text.bytes, out);
-            self.path(call.name, &WithText { given: list, text }, &CAPACITIES, &expected, entry);
+            let given = &WithText { given: list, text };
+            self.path(call.name, given, &CAPACITIES, &expected, entry);
+            if let Ok(map) = list.map() {
+                self.tail_fact(given, text, &expected, |own| (call.original)(map, own));
+            }
         }
     }
 

@@ -24,10 +24,24 @@ pub const FLAWS: [Flaw; 9] = [
 ];
 
 /// Illegal texts.
-const ILLEGAL: [&[u8]; 9] = [b"A", b".", b"//", b"/A/", b"/A//B", b"/1", b"/A b", b"/\xC3\xA9", b"/A.b[/C]"];
+const ILLEGAL: [&[u8]; 12] = [
+    b"A",
+    b".",
+    b"//",
+    b"/A/",
+    b"/A//B",
+    b"/1",
+    b"/A b",
+    b"/\xC3\xA9",
+    b"/A[/C]",
+    b"/A.b[C]",
+    b"/A.b[/C",
+    b"/A.b[/C].d",
+];
 
 /// Legal texts that are not ends.
-const NOT_ENDS: [&[u8]; 5] = [b"/A.b", b"/A/B.c:d", b"/A{v=p}", b"/A{v=p}B", b"/A{v=p}.b"];
+const NOT_ENDS: [&[u8]; 7] =
+    [b"/A.b", b"/A/B.c:d", b"/A{v=p}", b"/A{v=p}B", b"/A{v=p}.b", b"/A.b[/C]", b"/A.b[/C{v=p}.d[/]]"];
 
 /// Visits so many lists and paths with each set of flaws.
 pub fn every_set(random: &mut Random, rounds: usize, visit: &mut impl FnMut(List, Text)) {

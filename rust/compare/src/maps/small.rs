@@ -10,7 +10,7 @@ pub const ENDS: [&str; 10] = ["", "/", "/A", "/B", "/AB", "/A/A", "/A/B", "/B/A"
 
 pub const FEW_ENDS: [&str; 5] = ["", "/", "/A", "/A/B", "/B"];
 
-const PATHS: [&str; 44] = [
+const PATHS: [&str; 47] = [
     "",
     "/",
     "/A",
@@ -55,6 +55,9 @@ const PATHS: [&str; 44] = [
     "/C{v=p}A",
     "/AB{v=p}A",
     "/A/B/C{v=p}A.a",
+    "/A.a[/B]",
+    "/A/B.a[/A{v=p}B]",
+    "/B{v=p}A.a[/A/B.a[/]]",
 ];
 
 pub fn lists_of_at_most_two(visit: Visit) {

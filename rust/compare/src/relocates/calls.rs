@@ -5,6 +5,7 @@ use crate::comparison::Comparison;
 use crate::lent::Lent;
 use crate::maps::calls::{WithText, both};
 use crate::maps::list::List;
+use crate::own_part::{Bracketed, with_tail};
 use crate::tally::{Call, Given};
 use crate::text::{Answer, BUFFER_TOO_SMALL, Text};
 use mudvizsor::ffi::relocates as entries;
@@ -41,6 +42,25 @@ fn chained(pairs: &[(Path, Path)], skipped: Option<&Path>, path: &Path) -> Answe
         steps += 1;
     }
     Ok((current, steps))
+}
+
+/// The same for a path of this own part and this tail: only the own part is chained, and the questions are put to both
+/// together.
+fn chained_with_tail(
+    pairs: &[(Path, Path)],
+    skipped: Option<&Path>,
+    own: &Path,
+    tail: &str,
+) -> Answer<Chained> {
+    let (mut own, mut steps) = (own.clone(), 0);
+    while steps < pairs.len()
+        && let Some(next) = next(pairs, skipped, &own)
+    {
+        with_tail(Some(next.clone()), tail)?;
+        own = next;
+        steps += 1;
+    }
+    Ok((with_tail(Some(own), tail)?, steps))
 }
 
 /// "Each takes the source longest in bytes, the last on a tie, among non-empty targets that alter the path."
@@ -107,6 +127,10 @@ impl Comparison {
         self.path("shift_through_nearest_ancestor", given, &CAPACITIES, &expected, |out| {
             entries::shift_through_nearest_ancestor(list.for_library(), &text.bytes, out)
         });
+        if let Ok(map) = list.map() {
+            let shift = |own: &Path| Some(relocates::shifted(own, map.path_pairs()));
+            self.tail_fact(given, text, &expected, shift);
+        }
     }
 
     pub fn chain(&mut self, list: &List, skipped: Option<&Text>, text: &Text) {
@@ -116,6 +140,7 @@ impl Comparison {
             let agrees = *end == original_end(list, skipped, text);
             self.tally.fact("the chain ends where the original's does", given, agrees);
         }
+        self.chain_of_own_part(given, &full);
         // Without a skipped source the text must be ignored, so an illegal one is passed.
         let lent = skipped.map_or(&b"no path"[..], |text| &text.bytes);
         for capacity in CAPACITIES {
@@ -133,6 +158,19 @@ impl Comparison {
             let value = expected.map(|(end, steps)| 256 * steps + end.as_str().len());
             self.tally.compare(call, value, found, wrong);
         }
+    }
+}
+
+impl Comparison {
+    /// Checks that the chain of a path with brackets is the chain of its own part, with the tail after each step.
+    fn chain_of_own_part(&mut self, given: &Chaining, expected: &Answer<Chained>) {
+        let skipped = given.skipped.map(Text::answer).transpose();
+        let (Ok(map), Ok(skipped), Some(bracketed)) = (given.list.map(), skipped, Bracketed::new(given.text))
+        else {
+            return;
+        };
+        let of_own = chained_with_tail(map.path_pairs(), skipped, &bracketed.own, bracketed.tail);
+        self.tally.fact("the chain is that of the own part, then the tail", given, of_own == *expected);
     }
 }
 

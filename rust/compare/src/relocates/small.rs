@@ -8,7 +8,20 @@ use crate::text::Text;
 /// Ends whose lists have every status: a source with two names can be Active.
 const STATUS_ENDS: [&str; 7] = ["", "/", "/A", "/A/A", "/A/B", "/B/A", "/A/B/C"];
 
-const PATHS: [&str; 10] = ["", "/", "/A", "/B/A", "/A/B", "/A/B/C", "/A.a", "/A/B.a", "/A{v=p}B", "/AB{v=p}"];
+const PATHS: [&str; 12] = [
+    "",
+    "/",
+    "/A",
+    "/B/A",
+    "/A/B",
+    "/A/B/C",
+    "/A.a",
+    "/A/B.a",
+    "/A{v=p}B",
+    "/AB{v=p}",
+    "/A.a[/B]",
+    "/A/B.a[/A{v=p}B]",
+];
 
 const SKIPPED: [&str; 4] = ["", "/", "/A", "/A/B"];
 

@@ -4,9 +4,10 @@ use crate::calls::accept;
 use crate::comparison::Comparison;
 use crate::many::Many;
 use crate::maps::calls::{WithText, both};
+use crate::own_part::{Bracketed, with_tail};
 use crate::routes::lent_route::Route;
 use crate::tally::Call;
-use crate::text::{Answer, Text};
+use crate::text::{Answer, NO_PATH, Text};
 use mudvizsor::ffi::Reply;
 use mudvizsor::ffi::maps::Paths;
 use mudvizsor::ffi::routes::{self, route_all, route_home, route_out};
@@ -44,6 +45,22 @@ impl RouteCall {
         } else {
             maps.iter().try_fold(path.clone(), |path, map| accept(map.translate_to_target(&path)))
         }
+    }
+
+    /// The same for a path of this own part and this tail: only the own part is mapped, and the questions are put to both
+    /// together.
+    fn map_with_tail(&self, maps: &[MapFunction], own: &Path, tail: &str) -> Answer<Path> {
+        let mut own = own.clone();
+        for at in 0..maps.len() {
+            let made = if self.home {
+                maps[maps.len() - 1 - at].map_target_to_source(&own)
+            } else {
+                maps[at].translate_to_target(&own)
+            };
+            with_tail(made.clone(), tail)?;
+            own = made.ok_or(NO_PATH)?;
+        }
+        with_tail(Some(own), tail)
     }
 }
 
@@ -85,7 +102,12 @@ impl Comparison {
     fn one_direction(&mut self, call: &RouteCall, route: &Route, text: &Text, capacities: &[usize]) {
         let expected = call.expected(route, text);
         let entry = |out: &mut [u8]| (call.entry)(route.for_library(), &text.bytes, out);
-        self.path(call.name, &WithText { given: route, text }, capacities, &expected, entry);
+        let given = &WithText { given: route, text };
+        self.path(call.name, given, capacities, &expected, entry);
+        if let (Ok(maps), Some(Bracketed { own, tail, .. })) = (route.maps(), Bracketed::new(text)) {
+            let agrees = call.map_with_tail(maps, &own, tail) == expected;
+            self.tally.fact("the way is that of the own part, then the tail", given, agrees);
+        }
     }
 
     /// Checks the round-trip requirement (demand 3): a path without selections that comes out comes home. It is checked for the

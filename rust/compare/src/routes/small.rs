@@ -69,9 +69,12 @@ fn lists(ends: &[&'static str], most: usize) -> Vec<List> {
     lists
 }
 
-/// Every path of at most this many elements, each `A`, `B` or a selection, with and without a property.
+/// Some paths with brackets.
+const BRACKETED: [&str; 2] = ["/A/B.a[/A]", "/A{v=p}A.a[/A{v=p}A]"];
+
+/// Every path of at most this many elements, each `A`, `B` or a selection, with and without a property; and some with brackets.
 fn paths(elements: usize) -> Vec<Text> {
-    let mut paths = vec![String::new(), String::from("/")];
+    let mut paths: Vec<String> = ["", "/"].into_iter().chain(BRACKETED).map(String::from).collect();
     let mut longest = vec![String::new()];
     for _ in 0..elements {
         longest = longest.iter().flat_map(|path| longer(path)).collect();

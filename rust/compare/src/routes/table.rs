@@ -2,7 +2,7 @@
 
 use crate::comparison::Comparison;
 use crate::maps::calls::WithText;
-use crate::maps::list::TOO_MANY_PAIRS;
+use crate::maps::list::{NOT_AN_END, TOO_MANY_PAIRS};
 use crate::routes::calls::{CAPACITIES, HOME, OUT, RouteCall};
 use crate::routes::lent_route::Route;
 use crate::text::{Answer, MADE_NOT_LEGAL, MADE_TOO_LONG, NO_PATH, TOO_LONG, Text};
@@ -52,6 +52,15 @@ const ROWS: &[Row] = &[
     Row { legs: &[CROSSED], path: "/R/a/b/x", call: OUT, answer: Ok("/R/c/x") },
     Row { legs: &[CROSSED, A_TO_B], path: "/R/a/b/x", call: OUT, answer: Err(NO_PATH) },
     Row { legs: &[A_TO_B], path: "/A{v=p}C", call: OUT, answer: Ok("/B/C") },
+    // "A scenario author relies on such an address coming home from a route like any other."
+    Row { legs: &[A_TO_B], path: "/A/S.next[/A/T]", call: OUT, answer: Ok("/B/S.next[/A/T]") },
+    Row { legs: &[A_TO_B], path: "/B/S.next[/A/T]", call: HOME, answer: Ok("/A/S.next[/A/T]") },
+    Row { legs: TWO_MAPS, path: "/A/B/C.r[/A{v=p}B]", call: OUT, answer: Ok("/W/C.r[/A{v=p}B]") },
+    Row { legs: TWO_MAPS, path: "/W/C.r[/A{v=p}B]", call: HOME, answer: Ok("/A/B/C.r[/A{v=p}B]") },
+    Row { legs: &[CROSSED], path: "/R/a/b.r[/R/c]", call: OUT, answer: Ok("/R/c.r[/R/c]") },
+    Row { legs: &[CROSSED], path: "/R/c.r[/R/c]", call: HOME, answer: Ok("/R/a/b.r[/R/c]") },
+    Row { legs: &[A_TO_B], path: "/A{v=p}C.r[/A{v=p}C]", call: OUT, answer: Ok("/B/C.r[/A{v=p}C]") },
+    Row { legs: &[(MAP, &[["/A", "/B.r[/T]"]])], path: "/A", call: OUT, answer: Err(NOT_AN_END) },
     Row { legs: &[(MAP, &[["/A", "/B"]; 64])], path: "/A", call: OUT, answer: Ok("/B") },
     Row { legs: &[(MAP, &[["/A", "/B"]; 65])], path: "/A", call: OUT, answer: Err(TOO_MANY_PAIRS) },
     Row { legs: &[(RELOCATES, &[["/R/a", ""]; 64])], path: "/A", call: OUT, answer: Ok("/A") },

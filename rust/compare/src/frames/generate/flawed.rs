@@ -10,6 +10,10 @@ use texts::random::Random;
 /// The maximum number of bytes of both ends of a pair that fit in a line.
 const MAX_PAIR_BYTES: usize = 2_048 - 5;
 
+/// Legal texts that are not ends.
+const NOT_ENDS: [&[u8]; 7] =
+    [b"/A.b", b"/A{v=p}", b"/A{v=p}B", b"/A/B.c:d", b"/A{v=p}.b", b"/A.b[/C]", b"/A.b[/C{v=p}.d[/]]"];
+
 /// Adds a frame with a pair or a path that is mostly refused.
 pub fn frame(writer: &mut Writer) {
     let text = text(writer.random);
@@ -47,7 +51,7 @@ fn text(random: &mut Random) -> Vec<u8> {
             legal_text(random, length)
         }
         2 => (0..random.below(20)).map(|_| random.below(256) as u8).collect(),
-        3 => random.pick(&[&b"/A.b"[..], b"/A{v=p}", b"/A{v=p}B", b"/A/B.c:d", b"/A{v=p}.b"]).to_vec(),
+        3 => random.pick(&NOT_ENDS).to_vec(),
         _ => {
             let length = length(random);
             let legal = legal_text(random, length);

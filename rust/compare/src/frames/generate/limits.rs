@@ -121,7 +121,8 @@ fn resulting_paths(writer: &mut Writer) {
         for more in 0..=10 {
             let path = [end, &b"/bcdefghijk"[..more]].concat();
             let property = [end, &b".b"[..]].concat();
-            for path in [path, property] {
+            let bracketed = [&property, &b"[/T]"[..]].concat();
+            for path in [path, property, bracketed] {
                 writer.out(&path);
                 writer.home(&path);
             }
