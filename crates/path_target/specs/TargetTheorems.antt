@@ -1,0 +1,31 @@
+-- Meaning: Theorems about the target of a path, for the grammar as data (crates/path_grammar/specs/Grammar.antt).
+use mathlib.Core.Path.{_≡_}
+use mathlib.Core.Bool.{true}
+use mathlib.Core.List.{List, _++_}
+use mathlib.Core.Option.{Option, none, some}
+use Prim.Native.Nat.{ℕ}
+use Rattle.text.specs.Text.{Text}
+use Rattle.path_grammar.specs.Legal.{legal}
+use Rattle.path_grammar.specs.Grammar as g
+use Rattle.path_grammar.specs.Grammar.{ownText, bracketText, absoluteText}
+use Rattle.path_target.specs.Target.{embeddedTarget, replaceEmbeddedTarget}
+
+-- Theorems (proofs/Theorem.antt). p is the first prim of a path, r are the others, and x is its property.
+pub record TargetTheorems : Type 0 where
+  -- The target of a path with a target is the text of the path in its brackets, which may have brackets of its own.
+  pub embedded : {d : ℕ} (p : g.Prim) (r : List g.Prim) (x : g.Property) (q : g.Absolute d)
+      → embeddedTarget (absoluteText (g.target p r x q)) ≡ some (absoluteText q)
+  -- No other path has a target.
+  pub noneInRoot : (d : ℕ) → embeddedTarget (absoluteText (g.root {d = d})) ≡ none
+  pub noneInPrims : (d : ℕ) (p : g.Prim) (r : List g.Prim) (x : Option g.Property) → embeddedTarget (absoluteText (g.prims {d = d} p r x)) ≡ none
+  -- Another target takes the place of the path in the brackets; the own part of the path stays.
+  pub replaced : {d : ℕ} (p : g.Prim) (r : List g.Prim) (x : g.Property) (q : g.Absolute d) (t : Text)
+      → replaceEmbeddedTarget (absoluteText (g.target p r x q)) t ≡ some (ownText p r (some x) ++ bracketText t)
+  -- No other path has a target that could be replaced.
+  pub keptRoot : (d : ℕ) (t : Text) → replaceEmbeddedTarget (absoluteText (g.root {d = d})) t ≡ none
+  pub keptPrims : (d : ℕ) (p : g.Prim) (r : List g.Prim) (x : Option g.Property) (t : Text)
+      → replaceEmbeddedTarget (absoluteText (g.prims {d = d} p r x)) t ≡ none
+  -- The two are inverse: if the target is replaced by itself, the path is as before. This holds for any bytes.
+  pub inverse : (p t : Text) → embeddedTarget p ≡ some t → replaceEmbeddedTarget p t ≡ some p
+  -- The target of a legal path is legal.
+  pub lawful : (p t : Text) → legal p ≡ true → embeddedTarget p ≡ some t → legal t ≡ true
