@@ -162,22 +162,22 @@ module _ (o : Option Text) (buf : Text) (f : Replaced) (h : f ≡ replacedReply 
       rw (w .0 .is, lt-leb (length (w .0 .text)) 255 (omega (arith, w .1))) (refl, refl)
 
   module _ (l : length buf ≡ 255) (n : ℕ) (e : f ≡ WrittenReplaced n) (mem : Text) (m : mem ≡ replacedBuffer o buf) where
-    w : (m : Made o) × ((n ≡ length (m .text)) × (length (m .text) ≤ length buf))
-    w = written-is o buf n (sym h ∙ e)
+    known : (m : Made o) × ((n ≡ length (m .text)) × (length (m .text) ≤ length buf))
+    known = written-is o buf n (sym h ∙ e)
 
     -- The text read back from the scratch buffer is the path.
-    back : take n mem ≡ w .0 .text
-    back = ap (take n) m ∙ ap (λ (k : ℕ). take k (replacedBuffer o buf)) (w .1 .0) ∙ read-some o buf (w .0) (w .1 .1)
+    back : take n mem ≡ known .0 .text
+    back = ap (take n) m ∙ ap (λ (k : ℕ). take k (replacedBuffer o buf)) (known .1 .0) ∙ read-some o buf (known .0) (known .1 .1)
 
     pub made-size : n ≡ length (take n mem)
-    made-size = w .1 .0 ∙ ap length (sym back)
+    made-size = known .1 .0 ∙ ap length (sym back)
 
     pub made-inside : n ≤ length mem
     made-inside = omega (arith, made-size, length-take n mem)
 
     pub made-short : length (take n mem) ≤ 255
-    made-short = omega (arith, made-size, w .1 .0, w .1 .1)
+    made-short = omega (arith, made-size, known .1 .0, known .1 .1)
 
     pub made-checked : (r : Reply) (out out′ : Text) → ReturnsPath (checked (take n mem)) r out out′ → ReturnsPath (checkedOption o) r out out′
     unfolding checkedOption
-    made-checked r out out′ v = rw (w .0 .is) (rw back at v)
+    made-checked r out out′ v = rw (known .0 .is) (rw back at v)

@@ -159,8 +159,8 @@ module _ (p : Text) (b : Brackets) (h : b ≡ targetBrackets p) where
             (refl, (sym i, sym j))
         go false k = absurd (let z : Nothing ≡ Between o c = rw k at (sym h ∙ e) in let y : _≡_ {A = ℕ} 0 1 = cc in omega arith)
 
-    w : HasBrackets p
-    w = brackets-of p (found .0)
+    known : HasBrackets p
+    known = brackets-of p (found .0)
 
     at-open : o ≡ length (ownPart p)
     at-open = found .1 .0
@@ -169,10 +169,10 @@ module _ (p : Text) (b : Brackets) (h : b ≡ targetBrackets p) where
     at-close = found .1 .1
 
     pub between-start : o + 1 ≤ c
-    between-start = omega (arith, at-open, at-close, w .closes)
+    between-start = omega (arith, at-open, at-close, known .closes)
 
     pub between-end : c ≤ length p
-    between-end = omega (arith, at-close, w .inside, parts-length p)
+    between-end = omega (arith, at-close, known .inside, parts-length p)
 
     pub open-fits : o + 1 ≤ length p
     open-fits = omega (arith, between-start, between-end)
@@ -180,24 +180,24 @@ module _ (p : Text) (b : Brackets) (h : b ≡ targetBrackets p) where
     pub kept-sum : o + 1 + (length p - c) ≤ length p
     kept-sum = omega (arith, between-start, between-end)
 
-    parts : ownPart p ++ 91 ∷ w .rest ≡ p
-    parts = rw (w .starts) at (own-parts p)
+    parts : ownPart p ++ 91 ∷ known .rest ≡ p
+    parts = rw (known .starts) at (own-parts p)
 
     -- The text between the brackets.
     pub text-between : take (c - (o + 1)) (drop (o + 1) p) ≡ orEmpty (embeddedTarget p)
     text-between =
-        let n : ℕ = closeLen 1 (w .rest) in
-        let i : c - (o + 1) ≡ n = omega (arith, at-open, at-close, w .closes) in
-        let j : drop (o + 1) p ≡ w .rest =
-        ap (λ (m : ℕ). drop (m + 1) p) at-open ∙ ap (drop (length (ownPart p) + 1)) (sym parts) ∙ drop-append-add (ownPart p) (91 ∷ w .rest) 1 in
-        rw (embedded-some p (found .0), i, j, w .closes, w .starts)
+        let n : ℕ = closeLen 1 (known .rest) in
+        let i : c - (o + 1) ≡ n = omega (arith, at-open, at-close, known .closes) in
+        let j : drop (o + 1) p ≡ known .rest =
+        ap (λ (m : ℕ). drop (m + 1) p) at-open ∙ ap (drop (length (ownPart p) + 1)) (sym parts) ∙ drop-append-add (ownPart p) (91 ∷ known .rest) 1 in
+        rw (embedded-some p (found .0), i, j, known .closes, known .starts)
 
     -- The three texts that a replacement writes.
     pub head-size : o + 1 ≡ length (take (o + 1) p)
     head-size = sym (length-take-le (o + 1) p open-fits)
 
     head-is : take (o + 1) p ≡ ownPart p ++ 91 ∷ []
-    head-is = rw at-open (ap (take (length (ownPart p) + 1)) (sym parts) ∙ take-append-add (ownPart p) (91 ∷ w .rest) 1)
+    head-is = rw at-open (ap (take (length (ownPart p) + 1)) (sym parts) ∙ take-append-add (ownPart p) (91 ∷ known .rest) 1)
 
     tail-is : drop c p ≡ drop (closedAt p) (targetPart p)
     tail-is = rw at-close (ap (drop (length (ownPart p) + closedAt p)) (sym (own-parts p)) ∙ drop-append-add (ownPart p) (targetPart p) (closedAt p))

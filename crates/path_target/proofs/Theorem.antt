@@ -18,7 +18,7 @@ use Rattle.path_grammar.specs.Grammar.{Rendered, ownText, bracketText, absolute
 use Rattle.path_grammar.proofs.Render.{legal-render, target-prims, own-target, target-target}
 use Rattle.path_grammar.proofs.Theorem.{legal-is-rendered}
 use Rattle.path_target.specs.Target.{closeLen, closedAt, hasTarget, embeddedTarget, replaceEmbeddedTarget}
-use Rattle.path_target.specs.TargetTheorems.{TargetTheorems}
+use Rattle.path_target.specs.TargetTheorems.{TargetTheorems, TargetExamples}
 use Rattle.path_target.proofs.TargetLaws.{closed-last, embedded-some, embedded-none, replaced-some, replaced-none, replaced-by-itself}
 
 -- A path without brackets has no target.
@@ -118,8 +118,26 @@ target-theorems =
       noneInRoot = λ d. embedded-none (47 ∷ []) root-none;
       noneInPrims = λ d p r x. embedded-none (ownText p r x) (prims-none p r x);
       replaced = λ p r x q t. whole-replaced p r x q t;
+      retargeted = λ p r x q t. whole-replaced p r x q (absoluteText t);
       keptRoot = λ d t. replaced-none (47 ∷ []) t root-none;
       keptPrims = λ d p r x t. replaced-none (ownText p r x) t (prims-none p r x);
       inverse = replaced-by-itself;
       lawful = λ p t l e. target-legal p l t e;
+    }
+
+pub target-examples : TargetExamples
+unfolding embeddedTarget replaceEmbeddedTarget
+target-examples =
+    record {
+      relationship = refl;
+      property = refl;
+      nested = refl;
+      attribute = refl;
+      second = refl;
+      without = refl;
+      unclosed = refl;
+      other = refl;
+      otherOfNested = refl;
+      otherOfAttribute = refl;
+      noOther = refl;
     }

@@ -23,10 +23,12 @@ add-result c =
     search (needs, open-fits _ _ (c .before .before .before .target-brackets .ensures) _ _ (c .before .brackets .given .1))
 
 sub-result : tie.Need-sub-result
-sub-result c = search (needs, between-start)
+sub-result c =
+    search (needs, between-start _ _ (c .before .before .before .target-brackets .ensures) _ _ (c .before .brackets .given .1))
 
 part-result-start : tie.Need-part-result-start
-part-result-start c = search (needs, between-start)
+part-result-start c =
+    search (needs, between-start _ _ (c .before .before .before .target-brackets .ensures) _ _ (c .before .brackets .given .1))
 
 part-result-end : tie.Need-part-result-end
 part-result-end c = search (needs, between-end)
