@@ -7,4 +7,6 @@ pub mod WrongTimes
 pub mod WrongMaps
 pub mod WrongRelocates
 pub mod WrongRests
+pub mod WrongTargets
+pub mod TargetTable
 pub mod WrongFrames

@@ -11,15 +11,10 @@ use Rattle.text.specs.declared.Fit.the-variants.{Written as WrittenFit, Over}
 use Rattle.text.proofs.BoolLaws.{known-false, known-true}
 use Rattle.text.proofs.WriteLaws.{placed-first, fit-room, fit-over, fit-is, fit-back}
 use Rattle.path_grammar.specs.Legal.{legal, atMost255}
+use Rattle.refusal.proofs.PassedLaws.{made-legal}
 use Rattle.refusal.specs.declared.Refusal.the-variants.{MadeTooLong, MadeIllegal}
 use Rattle.refusal.specs.declared.Reply.the-variants.{Written, Refused}
 use Rattle.refusal.specs.Outcome.{outcomeReply, outcomeBuffer, checked}
-
--- A path that was built and is legal.
-pub made-legal : (q : Text) → length q ≤ 255 → legal q ≡ true → (out : Text) → 255 ≤ length out
-    → (Written (length q) ≡ outcomeReply (checked q)) × (writtenIfFits 0 q out ≡ outcomeBuffer (checked q) out)
-unfolding outcomeReply outcomeBuffer checked atMost255
-made-legal q h l out r = rw (le-leb (length q) 255 h, l) (refl, placed-first q out (omega arith))
 
 module _ (j buf : Text) (f : Fit) (h : f ≡ fitOf j buf) (l : length buf ≡ 255) where
   pub made-over : f ≡ Over → (out : Text) → (Refused MadeTooLong ≡ outcomeReply (checked j)) × (out ≡ outcomeBuffer (checked j) out)

@@ -10,43 +10,21 @@ use native.Mathlib.Omega.{arith}
 use lib.Dec.{leb}
 use lib.ListN.{length, take}
 use lib.Seq.{length-take-le}
-use borrow.Author.Tests.{le-leb, lt-leb, leb-true}
+use borrow.Author.Tests.{le-leb, lt-leb}
 use Rattle.text.specs.Text.{Text, written, writtenIfFits, fitOf}
 use Rattle.text.specs.declared.Fit.{Fit}
 use Rattle.text.specs.declared.Fit.the-variants.{Written as WrittenFit, Over}
-use Rattle.text.proofs.BoolLaws.{and-l, told, known-false, known-true}
+use Rattle.text.proofs.BoolLaws.{told, known-false, known-true}
 use Rattle.text.proofs.WriteLaws.{placed-first, fit-length, fit-room, fit-over}
 use Rattle.path_grammar.specs.Legal.{legal, isRoot}
 use Rattle.path_parts.specs.Parent.{parentLen, parent, isProperty, primLen, primPath, splitProperty}
 use Rattle.path_parts.specs.Strip.{strip, stripFit, stripBuffer}
 use Rattle.path_parts.proofs.ParentLaws.{prim-len-le, prim-legal}
 use Rattle.path_parts.proofs.StripLaws.{strip-shorter, strip-legal, strip-length, strip-memory}
-use Rattle.refusal.specs.declared.Refusal.the-variants.{TooLong, Illegal, NoRoom}
-use Rattle.refusal.specs.declared.Validation.{Validation}
-use Rattle.refusal.specs.declared.Validation.the-variants.{Passed, Refused as RefusedValidation}
+use Rattle.refusal.specs.declared.Refusal.the-variants.{NoRoom}
 use Rattle.refusal.specs.declared.Reply.the-variants.{Written, Refused}
-use Rattle.refusal.specs.Refusal.{validateTexts, allTextsShort, allTextsLegal}
 use Rattle.refusal.specs.Outcome.{outcomeReply, outcomeBuffer, checked}
-use Rattle.path_derive.proofs.DeriveBranches.{made-legal}
-
--- A text that passed validation is legal and has at most 255 bytes.
-refused-not-passed : {x : Validation} → x ≡ Passed → (a b : Bool) → cond a (cond b Passed (RefusedValidation Illegal)) (RefusedValidation TooLong) ≡ x → (a ≡ true) × (b ≡ true)
-refused-not-passed {x} e true true h = (refl, refl)
-refused-not-passed {x} e true false h = absurd (let z : _≡_ {A = ℕ} 0 1 = cc in omega arith)
-refused-not-passed {x} e false b h = absurd (let z : _≡_ {A = ℕ} 0 1 = cc in omega arith)
-
-module _ (p : Text) (q : Validation) (h : q ≡ validateTexts (p ∷ [] ∷ [] ∷ [])) (k : q ≡ Passed) where
-  passed : (allTextsShort (p ∷ []) ≡ true) × (allTextsLegal (p ∷ []) ≡ true)
-  unfolding validateTexts
-  passed = refused-not-passed k (allTextsShort (p ∷ [])) (allTextsLegal (p ∷ [])) (sym h)
-
-  pub passed-short : length p ≤ 255
-  unfolding allTextsShort
-  passed-short = leb-true (length p) 255 (and-l (leb (length p) 255) true (passed .0))
-
-  pub passed-legal : legal p ≡ true
-  unfolding allTextsLegal
-  passed-legal = and-l (legal p) true (passed .1)
+use Rattle.refusal.proofs.PassedLaws.{made-legal}
 
 -- A legal prefix of the path is written unchanged.
 pub cut-written : (p : Text) (n m : ℕ) → n ≡ m → m ≤ length p → length p ≤ 255 → legal (take m p) ≡ true → (out out′ : Text) → 255 ≤ length out

@@ -10,18 +10,19 @@ use lib.Dec.{leb}
 use lib.ListN.{length, take, drop, length-take, length-drop}
 use borrow.Author.Tests.{le-leb, lt-leb, leb-true, leb-false}
 use Rattle.text.specs.Text.{Text, writtenIfFits}
-use Rattle.text.proofs.BoolLaws.{and-l, known-false, known-true}
+use Rattle.text.proofs.BoolLaws.{known-false, known-true}
 use Rattle.text.proofs.TextLaws.{no-text}
 use Rattle.text.proofs.WriteLaws.{placed-first, read-back}
 use Rattle.path_grammar.specs.Legal.{legal, atMost255}
 use Rattle.path_grammar.specs.Own.{targetPart}
-use Rattle.refusal.specs.declared.Refusal.the-variants.{TooLong, Illegal, NoPath, MadeTooLong, MadeIllegal}
+use Rattle.refusal.specs.declared.Refusal.the-variants.{NoPath, MadeTooLong, MadeIllegal}
 use Rattle.refusal.specs.declared.Validation.{Validation}
-use Rattle.refusal.specs.declared.Validation.the-variants.{Passed, Refused as RefusedValidation}
+use Rattle.refusal.specs.declared.Validation.the-variants.{Passed}
 use Rattle.refusal.specs.declared.Reply.{Reply}
 use Rattle.refusal.specs.declared.Reply.the-variants.{Written, Refused}
-use Rattle.refusal.specs.Refusal.{validateTexts, allTextsShort, allTextsLegal}
+use Rattle.refusal.specs.Refusal.{validateTexts}
 use Rattle.refusal.specs.Outcome.{outcomeReply, outcomeBuffer, afterChecks, checked, checkedOption, ReturnsPath}
+use Rattle.refusal.proofs.PassedLaws.{passed-short, passed-legal, made-legal}
 use Rattle.path_target.specs.declared.Replaced.{Replaced}
 use Rattle.path_target.specs.declared.Replaced.the-variants.{Written as WrittenReplaced, Over, NoTarget}
 use Rattle.path_target.specs.Target.{closedAt, hasTarget, embeddedTarget, orEmpty, replaceEmbeddedTarget, replacedReply, replacedBuffer}
@@ -39,25 +40,6 @@ module _ (p : Text) (room : ℕ) where
   unfolding replaceEmbeddedTargetCall
   replace-unfolded t = refl
 
--- A text that passed validation is legal and has at most 255 bytes.
-both-passed : {x : Validation} → x ≡ Passed → (a b : Bool) → cond a (cond b Passed (RefusedValidation Illegal)) (RefusedValidation TooLong) ≡ x → (a ≡ true) × (b ≡ true)
-both-passed {x} e true true h = (refl, refl)
-both-passed {x} e true false h = absurd (let z : _≡_ {A = ℕ} 0 1 = cc in omega arith)
-both-passed {x} e false b h = absurd (let z : _≡_ {A = ℕ} 0 1 = cc in omega arith)
-
-module _ (p : Text) (q : Validation) (h : q ≡ validateTexts (p ∷ [] ∷ [] ∷ [])) (k : q ≡ Passed) where
-  passed : (allTextsShort (p ∷ []) ≡ true) × (allTextsLegal (p ∷ []) ≡ true)
-  unfolding validateTexts
-  passed = both-passed k (allTextsShort (p ∷ [])) (allTextsLegal (p ∷ [])) (sym h)
-
-  passed-short : length p ≤ 255
-  unfolding allTextsShort
-  passed-short = leb-true (length p) 255 (and-l (leb (length p) 255) true (passed .0))
-
-  passed-legal : legal p ≡ true
-  unfolding allTextsLegal
-  passed-legal = and-l (legal p) true (passed .1)
-
 -- A target is no longer than its path.
 embedded-short : (p t : Text) → embeddedTarget p ≡ some t → length t ≤ length p
 embedded-short p t e = go (hasTarget p) refl
@@ -69,12 +51,6 @@ embedded-short p t e = go (hasTarget p) refl
         let k : some (drop 1 u) ≡ some t = sym (embedded-some p h) ∙ e in
         let i : drop 1 u ≡ t = cc in
         rw (← i) (omega (arith, length-drop 1 u, length-take (closedAt p) (targetPart p), parts-length p))
-
--- A path that was built and is legal.
-made-legal : (q : Text) → length q ≤ 255 → legal q ≡ true → (out : Text) → 255 ≤ length out
-    → ReturnsPath (checked q) (Written (length q)) out (writtenIfFits 0 q out)
-unfolding outcomeReply outcomeBuffer checked atMost255
-made-legal q h l out r = rw (le-leb (length q) 255 h, l) (refl, placed-first q out (omega arith))
 
 -- Lemmas for `embedded_target`. The target of a legal path is legal and not empty, so an empty text says that there is none.
 module _ (p : Text) (q : Validation) (h : q ≡ validateTexts (p ∷ [] ∷ [] ∷ [])) (k : q ≡ Passed) (t : Text) (e : t ≡ orEmpty (embeddedTarget p)) where

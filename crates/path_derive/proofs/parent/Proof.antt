@@ -3,7 +3,8 @@ use Rattle.path_parts.proofs.ParentLaws.{parent-len-le, parent-take}
 use Rattle.refusal.specs.Outcome.{checkedOption}
 use Rattle.path_derive.proofs.UnfoldedCalls.{parent-unfolded}
 use Rattle.refusal.proofs.CallBranches.{answered-refused, answered-short, answered-passed, refusing, answering}
-use Rattle.path_derive.proofs.PartBranches.{passed-short, passed-legal, cut-written, cut-length, parent-empty, parent-root, parent-cut}
+use Rattle.path_derive.proofs.PartBranches.{cut-written, cut-length, parent-empty, parent-root, parent-cut}
+use Rattle.refusal.proofs.PassedLaws.{passed-short, passed-legal}
 use borrow.Author.Needs.{needs}
 use Rattle.path_derive.proofs.parent.Statement.{statement}
 use Rattle.path_derive.proofs.parent.Tie as tie

@@ -2,7 +2,8 @@ use mathlib.Core.Path.{_∙_}
 use Rattle.path_parts.proofs.ParentLaws.{prim-len-le}
 use Rattle.path_derive.proofs.UnfoldedCalls.{prim-unfolded}
 use Rattle.refusal.proofs.CallBranches.{answered-refused, answered-short, answered-passed, refusing, answering}
-use Rattle.path_derive.proofs.PartBranches.{passed-short, passed-legal, prim-written, cut-length}
+use Rattle.path_derive.proofs.PartBranches.{prim-written, cut-length}
+use Rattle.refusal.proofs.PassedLaws.{passed-short, passed-legal}
 use borrow.Author.Needs.{needs}
 use Rattle.path_derive.proofs.prim_path.Statement.{statement}
 use Rattle.path_derive.proofs.prim_path.Tie as tie

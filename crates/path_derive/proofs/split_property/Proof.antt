@@ -3,7 +3,8 @@ use Rattle.path_parts.proofs.ParentLaws.{prim-len-le}
 use Rattle.refusal.specs.Outcome.{checkedOption}
 use Rattle.path_derive.proofs.UnfoldedCalls.{split-unfolded}
 use Rattle.refusal.proofs.CallBranches.{answered-refused, answered-short, answered-passed, refusing, answering}
-use Rattle.path_derive.proofs.PartBranches.{passed-short, passed-legal, prim-written, cut-length, split-none, split-some}
+use Rattle.path_derive.proofs.PartBranches.{prim-written, cut-length, split-none, split-some}
+use Rattle.refusal.proofs.PassedLaws.{passed-short, passed-legal}
 use borrow.Author.Needs.{needs}
 use Rattle.path_derive.proofs.split_property.Statement.{statement}
 use Rattle.path_derive.proofs.split_property.Tie as tie

@@ -3,7 +3,8 @@ use native.Mathlib.Omega.{arith}
 use Rattle.path_parts.proofs.StripLaws.{strip-never}
 use Rattle.path_derive.proofs.UnfoldedCalls.{strip-unfolded}
 use Rattle.refusal.proofs.CallBranches.{answered-refused, answered-short, answered-passed, refusing, answering}
-use Rattle.path_derive.proofs.PartBranches.{passed-short, passed-legal, strip-written}
+use Rattle.path_derive.proofs.PartBranches.{strip-written}
+use Rattle.refusal.proofs.PassedLaws.{passed-short, passed-legal}
 use borrow.Author.Needs.{needs}
 use Rattle.path_derive.proofs.strip_variant_selections.Statement.{statement}
 use Rattle.path_derive.proofs.strip_variant_selections.Tie as tie
