@@ -7,6 +7,7 @@ ghost use Rattle.path_parts.specs.Parent.{ancestorLens};
 ghost use Rattle.refusal.specs.Outcome.{writtenIfAccepted};
 ghost use Rattle.path.specs.Calls.{pathNewCall, isEndCall, hasVariantSelectionCall, elementCountCall, primElementCountCall, hasPrefixCall, restStartCall};
 ghost use Rattle.path_derive.specs.Calls.{replacePrefixCall, parentCall, primPathCall, splitPropertyCall, stripCall, ancestorsReply};
+ghost use Rattle.path_target.specs.Calls.{embeddedTargetCall, replaceEmbeddedTargetCall};
 ghost use Rattle.mapping.specs.Calls.{mapSourceToTargetCall, mapTargetToSourceCall, translateToTargetCall};
 ghost use Rattle.batch.specs.Batch.{mappedAt, validateMapAll, ReturnsBatchCode};
 ghost use Rattle.ffi_rest.specs.RestCode.{restTestCode};
@@ -92,7 +93,7 @@ pub extern "C" fn mudvizsor_path_replace_prefix(
     ffi_values::reply_code(path_derive::replace_prefix(path, old, new, out))
 }
 
-// Writes the parent to out: the path without its last element or its property.
+// Writes the parent to out: the path without the target in its brackets, its property or its last element.
 #[no_mangle]
 pub extern "C" fn mudvizsor_path_parent(path: &[u8], out: &mut [u8]) -> usize
     ensures { λ r. ⌜ ReturnsPathCode (parentCall (now (path .entry)) (length (now (out .entry)))) r (now (out .entry))
@@ -137,6 +138,28 @@ pub extern "C" fn mudvizsor_path_ancestors(path: &[u8], lengths: &mut [usize]) -
         (now (lengths .entry)) ⌝ }
 {
     ffi_values::reply_code(path_derive::ancestors(path, lengths))
+}
+
+// Writes the path in the path's brackets to out.
+#[no_mangle]
+pub extern "C" fn mudvizsor_path_embedded_target(path: &[u8], out: &mut [u8]) -> usize
+    ensures { λ r. ⌜ ReturnsPathCode (embeddedTargetCall (now (path .entry)) (length (now (out .entry)))) r
+        (now (out .entry)) (now (out .exit)) ⌝ }
+{
+    ffi_values::reply_code(path_target::embedded_target(path, out))
+}
+
+// Writes the path with the path in its brackets replaced by the target to out.
+#[no_mangle]
+pub extern "C" fn mudvizsor_path_replace_embedded_target(
+    path: &[u8],
+    target: &[u8],
+    out: &mut [u8],
+) -> usize
+    ensures { λ r. ⌜ ReturnsPathCode (replaceEmbeddedTargetCall (now (path .entry)) (now (target .entry))
+        (length (now (out .entry)))) r (now (out .entry)) (now (out .exit)) ⌝ }
+{
+    ffi_values::reply_code(path_target::replace_embedded_target(path, target, out))
 }
 
 // Maps the path from source to target and writes the result to out.

@@ -103,7 +103,7 @@ with-target d s a e deeper = go (targetPart s) refl (and-r (legalOwn (ownPart s)
         let c : Closed d s r = closed-by d s r k in
         let w : RenderedProperty (ownPart s) = property-written (ownPart s) own (not-true (lacksByte 46 (ownPart s)) (sym (property-scan s) ∙ c .property)) in
         let whole : ownPart s ++ (91 ∷ (dropLast r ++ (93 ∷ []))) ≡ s =
-          rw (last-split 93 r (c .closed)) (ap (λ (x : ℕ). ownPart s ++ (x ∷ r)) (sym (target-head s b r h)) ∙ rw h at (own-parts s)) in
+        rw (last-split 93 r (c .closed)) (ap (λ (x : ℕ). ownPart s ++ (x ∷ r)) (sym (target-head s b r h)) ∙ rw h at (own-parts s)) in
         rw whole at (target-written d (ownPart s) (dropLast r) w (deeper (dropLast r) (c .absolute) (c .inner)))
 
 within-written : (d : ℕ) (s : Text) → isAbsolute s ≡ true → legalWithin d s ≡ true → RenderedAbsolute d s
