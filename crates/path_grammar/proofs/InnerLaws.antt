@@ -13,10 +13,10 @@ use Rattle.text.proofs.BoolLaws.{and-no, and-yes, not-true, not-false}
 use Rattle.text.proofs.TextLaws.{last-after, nil-length, nil-not}
 use Rattle.text.proofs.UntilLaws.{take-until-length, take-until-slice, drop-until-slice, drop-last-slice}
 use Rattle.path_grammar.specs.Own.{ownPart, targetPart, hasProperty}
-use Rattle.path_grammar.specs.Legal.{legalOwn, isAbsolute, closesTarget, legalTarget, legalWithin}
+use Rattle.path_grammar.specs.Legal.{legalOwn, isAbsolute, closesTarget, legalTarget, legalWithin, legal}
 use Rattle.path_grammar.specs.InnerText.{innerText, WithinByInner}
 use Rattle.path_grammar.proofs.OwnLaws.{own-parts, target-none, target-nil, own-all, target-head}
-use Rattle.path_grammar.proofs.LegalLaws.{own-unbracketed, own-no-close-bracket, within-absolute}
+use Rattle.path_grammar.proofs.LegalLaws.{own-legal, own-unbracketed, own-no-close-bracket, within-absolute}
 
 -- The last byte of a path with a target part is that of the target part.
 last-target : (p : Text) (a : ℕ) (r : Text) → targetPart p ≡ a ∷ r → endsWithByte 93 p ≡ endsWithByte 93 (a ∷ r)
@@ -185,3 +185,7 @@ module _ (p i : Text) (d : ℕ) (h : i ≡ innerText p) where
       go : (d : ℕ) → d ≢ 0 → b ≡ legalWithin (d - 1) i → b ≡ legalWithin d p
       go zero z e = absurd (z refl)
       go (suc d) z e = let k : suc d - 1 ≡ d = omega arith in rw k at e ∙ rw h (sym (within-by-inner .deeper d p (rw (← h) (nil-not i n))))
+
+-- Lemma for `is_legal`.
+pub legal-by-scan : (p : Text) (b : Bool) → b ≡ legalOwn p → b ≡ true → true ≡ legal p
+legal-by-scan p b h k = sym (own-legal p (sym h ∙ k))

@@ -110,10 +110,14 @@ fn is_legal_within(p: &[u8], depth: usize) -> bool
     is_legal_within(inner, depth - 1)
 }
 
-// Returns whether the text is a legal path, regardless of its length.
+// Returns whether the text is a legal path, regardless of its length. Most paths have no brackets, and the scan
+// alone accepts them.
 pub fn is_legal(p: &[u8]) -> bool
     ensures { λ r. ⌜ r ≡ legal (now (p .entry)) ⌝ }
 {
+    if is_legal_own(p) {
+        return true;
+    }
     is_legal_within(p, 4)
 }
 
