@@ -13,27 +13,14 @@ use Rattle.text.specs.Text.{Text, isNil, lacksByte}
 use Rattle.text.proofs.BoolLaws.{and-no, and-yes, upTo}
 use Rattle.path_grammar.specs.Legal.{ScanState, Slash, Name, Opened, Set, Equals, Sel, Closed, Dot, Prop, Dead, step, run, accept, legalOwn, isEnd}
 use Rattle.path_grammar.specs.PackedScan.{packedSteps, endByte, EndsByScan}
-use Rattle.path_grammar.proofs.RunLaws.{run-dead}
+use Rattle.path_grammar.proofs.RunLaws.{run-dead, unread-dead, null-unread}
 use Rattle.path_grammar.proofs.LegalLaws.{end-own}
 use Rattle.path_grammar.proofs.ScanLaws.{upper-1, lower-1, more-1, upper-2, lower-2, more-2, digits-1, digits-2, listed, Reads, first, on, none, other, root, whole}
 
 -- No path contains the byte 0.
-null-dead : (s : ScanState) → step s 0 ≡ Dead
-unfolding step
-null-dead Slash = refl
-null-dead Name = refl
-null-dead Opened = refl
-null-dead Set = refl
-null-dead Equals = refl
-null-dead Sel = refl
-null-dead Closed = refl
-null-dead Dot = refl
-null-dead Prop = refl
-null-dead Dead = refl
-
 null-refused : (s : ScanState) (r : Text) → accept (run (step s 0) r) ≡ false
 unfolding accept
-null-refused s r = rw (null-dead s, run-dead r)
+null-refused s r = rw (unread-dead null-unread s, run-dead r)
 
 run-plain : (s : ScanState) (r : Text) → (accept (run s r) && (lacksByte 123 r && lacksByte 46 r)) ≡ accept (run s (map endByte r))
 unfolding run lacksByte

@@ -8,11 +8,11 @@ use lib.Dec.{eqb}
 use borrow.Author.Tests.{eqb-true, leb-true, le-leb}
 use Rattle.text.specs.Text.{Text, isNil, endsWithByte, lacksByte, takeUntil, dropLast}
 use Rattle.text.proofs.BoolLaws.{and-l, and-r, and-no, and-yes, not-true}
-use Rattle.text.proofs.TextLaws.{last-snoc, last-after}
+use Rattle.text.proofs.TextLaws.{last-snoc, last-after, lacks-last}
 use Rattle.text.proofs.UntilLaws.{last-split}
 use Rattle.path_grammar.specs.Legal.{ScanState, Slash, Name, Opened, Set, Equals, Sel, Closed, Dot, Prop, Dead, isIdentifierStart, isIdentifierCont, step, run, accept, isRoot, legalOwn, isAbsolute, closesTarget, legalTarget, legalWithin, legal, isEnd, atMost255}
 use Rattle.path_grammar.specs.Own.{ownPart, targetPart, hasVariantSelection, hasProperty}
-use Rattle.path_grammar.proofs.RunLaws.{dead-refuses}
+use Rattle.path_grammar.proofs.RunLaws.{dead-refuses, Unread, run-lacks, open-unread, close-unread}
 use Rattle.path_grammar.proofs.OwnLaws.{own-parts, own-all, target-none, target-nil, no-property, selection-scan, property-scan, own-lacks-too, lacks-free}
 use lib.ListN.{length, length-append}
 
@@ -30,52 +30,15 @@ slash-ends Dot = refl
 slash-ends Prop = refl
 slash-ends Dead = refl
 
--- The automaton accepts no bracket.
-bracket-dead : (s : ScanState) → step s 91 ≡ Dead
-unfolding step isIdentifierStart isIdentifierCont
-bracket-dead Slash = refl
-bracket-dead Name = refl
-bracket-dead Opened = refl
-bracket-dead Set = refl
-bracket-dead Equals = refl
-bracket-dead Sel = refl
-bracket-dead Closed = refl
-bracket-dead Dot = refl
-bracket-dead Prop = refl
-bracket-dead Dead = refl
-
-run-unbracketed : (s : ScanState) (r : Text) → accept (run s r) ≡ true → lacksByte 91 r ≡ true
-unfolding run lacksByte
-run-unbracketed s [] e = refl
-run-unbracketed s (a ∷ r) e = go (eqb a 91) refl (run-unbracketed (step s a) r e)
-  where
-    go : (t : Bool) → eqb a 91 ≡ t → lacksByte 91 r ≡ true → (not (eqb a 91) && lacksByte 91 r) ≡ true
-    go true h f = absurd (dead-refuses r (rw (eqb-true a 91 h, bracket-dead s) at e))
-    go false h f = rw h f
-
-close-bracket-ends : (s : ScanState) → accept (step s 93) ≡ false
-unfolding accept step isIdentifierStart isIdentifierCont
-close-bracket-ends Slash = refl
-close-bracket-ends Name = refl
-close-bracket-ends Opened = refl
-close-bracket-ends Set = refl
-close-bracket-ends Equals = refl
-close-bracket-ends Sel = refl
-close-bracket-ends Closed = refl
-close-bracket-ends Dot = refl
-close-bracket-ends Prop = refl
-close-bracket-ends Dead = refl
-
--- If no state accepts after byte b, no accepted text ends in it.
-run-last : (b : ℕ) → ((s : ScanState) → accept (step s b) ≡ false) → (s : ScanState) (r : Text) → accept (run s r) ≡ true → endsWithByte b r ≡ false
+run-last : (s : ScanState) (r : Text) → accept (run s r) ≡ true → endsWithByte 47 r ≡ false
 unfolding run endsWithByte
-run-last b refused s [] e = refl
-run-last b refused s (a ∷ []) e = go (eqb a b) refl
+run-last s [] e = refl
+run-last s (a ∷ []) e = go (eqb a 47) refl
   where
-    go : (t : Bool) → eqb a b ≡ t → eqb a b ≡ false
-    go true h = absurd (true≢false (sym e ∙ rw (eqb-true a b h) (refused s)))
+    go : (t : Bool) → eqb a 47 ≡ t → eqb a 47 ≡ false
+    go true h = absurd (true≢false (sym e ∙ rw (eqb-true a 47 h) (slash-ends s)))
     go false h = h
-run-last b refused s (a ∷ c ∷ r) e = run-last b refused (step s a) (c ∷ r) e
+run-last s (a ∷ b ∷ r) e = run-last (step s a) (b ∷ r) e
 
 -- From a state outside a selection, a text without `{` contains no `}`.
 abbrev outside : ScanState → Bool
@@ -133,25 +96,28 @@ run-close s (a ∷ b ∷ r) o f e =
     (and-r (not (eqb a 123)) (lacksByte 123 (b ∷ r)) f) e
 
 -- What a legal text without brackets cannot contain.
-pub own-unbracketed : (p : Text) → legalOwn p ≡ true → lacksByte 91 p ≡ true
+own-lacks-byte : {b : ℕ} → Unread b → eqb 47 b ≡ false → (p : Text) → legalOwn p ≡ true → lacksByte b p ≡ true
 unfolding legalOwn lacksByte
-own-unbracketed [] e = refl
-own-unbracketed (a ∷ []) e = rw (eqb-true a 47 (and-l (eqb a 47) true e))
-own-unbracketed (a ∷ b ∷ r) e =
+own-lacks-byte u n [] e = refl
+own-lacks-byte u n (a ∷ []) e = rw (eqb-true a 47 (and-l (eqb a 47) true e), n)
+own-lacks-byte u n (a ∷ b ∷ r) e =
     let c : Bool = accept (run Slash (b ∷ r)) in
-    rw (eqb-true a 47 (and-l (eqb a 47) c e)) (run-unbracketed Slash (b ∷ r) (and-r (eqb a 47) c e))
+    rw (eqb-true a 47 (and-l (eqb a 47) c e), n) (run-lacks u Slash (b ∷ r) (and-r (eqb a 47) c e))
+
+pub own-unbracketed : (p : Text) → legalOwn p ≡ true → lacksByte 91 p ≡ true
+own-unbracketed p e = own-lacks-byte open-unread refl p e
+
+pub own-unclosed : (p : Text) → legalOwn p ≡ true → lacksByte 93 p ≡ true
+own-unclosed p e = own-lacks-byte close-unread refl p e
+
+pub own-no-close-bracket : (p : Text) → legalOwn p ≡ true → endsWithByte 93 p ≡ false
+own-no-close-bracket p e = lacks-last 93 p (own-unclosed p e)
 
 pub own-last : (p : Text) → legalOwn p ≡ true → isRoot p ≡ false → endsWithByte 47 p ≡ false
 unfolding legalOwn endsWithByte
 own-last [] e n = refl
 own-last (a ∷ []) e n = absurd (true≢false (sym e ∙ n))
-own-last (a ∷ b ∷ r) e n = run-last 47 slash-ends Slash (b ∷ r) (and-r (eqb a 47) (accept (run Slash (b ∷ r))) e)
-
-pub own-no-close-bracket : (p : Text) → legalOwn p ≡ true → endsWithByte 93 p ≡ false
-unfolding legalOwn endsWithByte
-own-no-close-bracket [] e = refl
-own-no-close-bracket (a ∷ []) e = rw (eqb-true a 47 (and-l (eqb a 47) true e))
-own-no-close-bracket (a ∷ b ∷ r) e = run-last 93 close-bracket-ends Slash (b ∷ r) (and-r (eqb a 47) (accept (run Slash (b ∷ r))) e)
+own-last (a ∷ b ∷ r) e n = run-last Slash (b ∷ r) (and-r (eqb a 47) (accept (run Slash (b ∷ r))) e)
 
 -- Legality by parts: that of the own part, and that of the target part.
 module _ (p : Text) where

@@ -19,7 +19,7 @@ use Rattle.path_prefix.specs.Prefix.{isBoundary, canFollow, canFollowSome, hasP
 use Rattle.path_prefix.proofs.PrefixLaws.{prefix-rest}
 use Rattle.path_join.proofs.ReplaceLaws.{replace-prefix, replaced-prefix}
 use Rattle.path_join.specs.Join.{separatorLen, separator, body, join, joinSome, replacePrefix}
-use Rattle.path_join.specs.Tail.{withTarget, ReplaceLeavesTarget, PrefixOfOwnPart}
+use Rattle.path_join.specs.Tail.{followedByTarget, ReplaceLeavesTarget, PrefixOfOwnPart}
 
 -- A byte other than the slash is in the join if it is in the new prefix or in the remainder.
 slash-lacks : (b : ℕ) → eqb 47 b ≡ false → (k : ℕ) → lacksByte b (take k (47 ∷ [])) ≡ true
@@ -151,14 +151,14 @@ module _ (p : Text) (l : legal p ≡ true) (a : ℕ) (z : Text) (e : targetPart 
   pub path-whole : p ≡ ownPart p ++ 91 ∷ z
   path-whole = sym (own-parts p) ∙ ap (λ (x : Text). ownPart p ++ x) (e ∙ ap (λ (x : ℕ). x ∷ z) (target-head p a z e))
 
-  pub appended-target : (o : Option Text) → appended (91 ∷ z) o ≡ withTarget p o
-  unfolding appended withTarget
+  pub appended-target : (o : Option Text) → appended (91 ∷ z) o ≡ followedByTarget p o
+  unfolding appended followedByTarget
   appended-target none = refl
   appended-target (some q) = ap (λ (x : Text). some (q ++ x)) (ap (λ (x : ℕ). x ∷ z) (sym (target-head p a z e)) ∙ sym e)
 
 -- Without a target part nothing follows.
-pub with-none : (p : Text) → targetPart p ≡ [] → (o : Option Text) → withTarget p o ≡ o
-unfolding withTarget
+pub with-none : (p : Text) → targetPart p ≡ [] → (o : Option Text) → followedByTarget p o ≡ o
+unfolding followedByTarget
 with-none p e none = refl
 with-none p e (some q) = rw e (ap some (append-nil q))
 
@@ -172,7 +172,7 @@ prefix-of-own-part p s l es = go (targetPart p) refl
 pub replace-leaves-target : ReplaceLeavesTarget
 replace-leaves-target p s t l es = go (targetPart p) refl
   where
-    go : (x : Text) → targetPart p ≡ x → replacePrefix p s t ≡ withTarget p (replacePrefix (ownPart p) s t)
+    go : (x : Text) → targetPart p ≡ x → replacePrefix p s t ≡ followedByTarget p (replacePrefix (ownPart p) s t)
     go [] e = rw (own-is p e) (sym (with-none p e (replacePrefix p s t)))
     go (a ∷ z) e =
         ap (λ (x : Text). replacePrefix x s t) (path-whole p l a z e) ∙ replace-before (ownPart p) z s (own-has-dot p l a z e) es t

@@ -10,9 +10,9 @@ use Rattle.path_prefix.specs.Prefix.{hasPrefix}
 use Rattle.path_join.specs.Join.{replacePrefix}
 
 -- The answer for the own part of the path p, then the target part of p; no path if there is no answer.
-unfoldable pub withTarget : Text → Option Text → Option Text
-withTarget p none = none
-withTarget p (some q) = some (q ++ targetPart p)
+unfoldable pub followedByTarget : Text → Option Text → Option Text
+followedByTarget p none = none
+followedByTarget p (some q) = some (q ++ targetPart p)
 
 -- Theorem (proofs/TailLaws.antt): a legal path has the prefixes, among ends, that its own part has.
 abbrev pub PrefixOfOwnPart : Type 0
@@ -21,4 +21,4 @@ PrefixOfOwnPart = (p s : Text) → legal p ≡ true → isEnd s ≡ true → has
 -- Theorem (proofs/TailLaws.antt): replacing such a prefix replaces that of the own part, and leaves the target part.
 abbrev pub ReplaceLeavesTarget : Type 0
 ReplaceLeavesTarget =
-    (p s t : Text) → legal p ≡ true → isEnd s ≡ true → replacePrefix p s t ≡ withTarget p (replacePrefix (ownPart p) s t)
+    (p s t : Text) → legal p ≡ true → isEnd s ≡ true → replacePrefix p s t ≡ followedByTarget p (replacePrefix (ownPart p) s t)

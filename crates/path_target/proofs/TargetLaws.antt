@@ -1,21 +1,19 @@
 -- Laws of the brackets of a path: first for any bytes, then for the grammar as data.
 use mathlib.Core.Path.{_≡_, refl, sym, ap, _∙_}
-use mathlib.Core.Bool.{Bool, true, false, not, _&&_}
+use mathlib.Core.Bool.{Bool, true, false}
 use mathlib.Core.List.{List, [], _∷_, _++_, append-assoc}
 use mathlib.Core.Option.{none, some}
 use Prim.Native.Nat.{ℕ, suc, _+_, _-_, _<_}
 use native.Mathlib.Omega.{arith}
 use lib.Dec.{eqb, eqb·suc-zero}
 use lib.ListN.{length, take, drop, length-append, take-append-drop}
-use borrow.Author.Tests.{eqb-true, ltb-true}
+use borrow.Author.Tests.{ltb-true}
 use Rattle.text.specs.Text.{Text, lacksByte}
-use Rattle.text.proofs.BoolLaws.{and-l, and-r}
 use Rattle.text.proofs.TextLaws.{no-text, lacks-first, lacks-rest}
 use Rattle.path_grammar.specs.Own.{ownPart, targetPart}
-use Rattle.path_grammar.specs.Legal.{ScanState, Slash, Name, Opened, Set, Equals, Sel, Closed, Dot, Prop, Dead, isIdentifierStart, isIdentifierCont, step, run, accept, legalOwn}
+use Rattle.path_grammar.proofs.LegalLaws.{own-unclosed}
 use Rattle.path_grammar.specs.Grammar as g
 use Rattle.path_grammar.specs.Grammar.{ownText, bracketText, absoluteText}
-use Rattle.path_grammar.proofs.RunLaws.{dead-refuses}
 use Rattle.path_grammar.proofs.OwnLaws.{own-parts, target-head}
 use Rattle.path_grammar.proofs.Render.{own-render, target-target, own-unbracketed-text}
 use Rattle.path_target.specs.Target.{bracketDepth, closeLen, closedAt, hasTarget, embeddedTarget, replaceEmbeddedTarget}
@@ -73,37 +71,6 @@ replaced-by-itself p t e = go (hasTarget p) refl
         let whole : ownPart p ++ 91 ∷ w .rest ≡ p = rw (w .starts) at (own-parts p) in
         let parts : take n (w .rest) ++ drop n (w .rest) ≡ w .rest = take-append-drop n (w .rest) in
         replaced-some p t h ∙ rw (w .closes, w .starts, ← i, parts, whole)
-
--- The automaton accepts no closing bracket.
-close-dead : (s : ScanState) → step s 93 ≡ Dead
-unfolding step isIdentifierStart isIdentifierCont
-close-dead Slash = refl
-close-dead Name = refl
-close-dead Opened = refl
-close-dead Set = refl
-close-dead Equals = refl
-close-dead Sel = refl
-close-dead Closed = refl
-close-dead Dot = refl
-close-dead Prop = refl
-close-dead Dead = refl
-
-run-unclosed : (s : ScanState) (r : Text) → accept (run s r) ≡ true → lacksByte 93 r ≡ true
-unfolding run lacksByte
-run-unclosed s [] e = refl
-run-unclosed s (a ∷ r) e = go (eqb a 93) refl (run-unclosed (step s a) r e)
-  where
-    go : (t : Bool) → eqb a 93 ≡ t → lacksByte 93 r ≡ true → (not (eqb a 93) && lacksByte 93 r) ≡ true
-    go true h f = absurd (dead-refuses r (rw (eqb-true a 93 h, close-dead s) at e))
-    go false h f = rw h f
-
-pub own-unclosed : (p : Text) → legalOwn p ≡ true → lacksByte 93 p ≡ true
-unfolding legalOwn lacksByte
-own-unclosed [] e = refl
-own-unclosed (a ∷ []) e = rw (eqb-true a 47 (and-l (eqb a 47) true e))
-own-unclosed (a ∷ b ∷ r) e =
-    let c : Bool = accept (run Slash (b ∷ r)) in
-    rw (eqb-true a 47 (and-l (eqb a 47) c e)) (run-unclosed Slash (b ∷ r) (and-r (eqb a 47) c e))
 
 -- Reading a bracket, and reading another byte, if k + 1 brackets are open.
 close-open : (k : ℕ) (s : Text) → closeLen k (91 ∷ s) ≡ suc (closeLen (suc k) s)

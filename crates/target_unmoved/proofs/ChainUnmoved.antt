@@ -17,7 +17,7 @@ use Rattle.path_grammar.specs.Legal.{legalOwn, legal, isEnd, atMost255}
 use Rattle.path_grammar.proofs.OwnLaws.{own-parts, own-lacks, target-head, own-of, target-of, property-scan}
 use Rattle.path_grammar.proofs.LegalLaws.{own-is, legal-as, legal-without, end-unbracketed, end-undotted, fits-short, short-fits}
 use Rattle.path_join.specs.Join.{replacePrefix}
-use Rattle.path_join.specs.Tail.{withTarget}
+use Rattle.path_join.specs.Tail.{followedByTarget}
 use Rattle.path_join.proofs.TailLaws.{appended, replace-before, own-has-dot, path-whole, appended-target, with-none, replaced-lacks}
 use Rattle.refusal.specs.declared.Refusal.the-variants.{MadeTooLong, MadeIllegal}
 use Rattle.refusal.specs.Outcome.{Outcome, path, refused, checked}
@@ -112,11 +112,11 @@ module _ (l : List Pair) (ends : allEnds l ≡ true) where
       longest-both l (91 ∷ z) (replacement true skip (o ++ 91 ∷ z)) (replacement true skip o)
       (λ i. replacement-before o z d (pairAt l i) (ends-source l ends i) true skip skip refl)
 
-  pub next-leaves : (skip : Option Text) (p : Text) → legal p ≡ true → nextReplacement skip l p ≡ withTarget p (nextReplacement skip l (ownPart p))
+  pub next-leaves : (skip : Option Text) (p : Text) → legal p ≡ true → nextReplacement skip l p ≡ followedByTarget p (nextReplacement skip l (ownPart p))
   next-leaves skip p k = go (targetPart p) refl
     where
-      go : (t : Text) → targetPart p ≡ t → nextReplacement skip l p ≡ withTarget p (nextReplacement skip l (ownPart p))
-      go [] e = sym (with-none p e (nextReplacement skip l p)) ∙ ap (λ (x : Text). withTarget p (nextReplacement skip l x)) (sym (own-is p e))
+      go : (t : Text) → targetPart p ≡ t → nextReplacement skip l p ≡ followedByTarget p (nextReplacement skip l (ownPart p))
+      go [] e = sym (with-none p e (nextReplacement skip l p)) ∙ ap (λ (x : Text). followedByTarget p (nextReplacement skip l x)) (sym (own-is p e))
       go (c ∷ z) e =
           ap (nextReplacement skip l) (path-whole p k c z e) ∙ next-before skip (ownPart p) z (own-has-dot p k c z e)
           ∙ appended-target p k c z e (nextReplacement skip l (ownPart p))
@@ -235,13 +235,13 @@ module _ (l : List Pair) (ends : allEnds l ≡ true) (skip : Option Text) where
         short false h = inr refl
 
   chain-agrees : (n : ℕ) (p : Text) → legal p ≡ true → (k : ℕ) → Agree p (chainFrom skip l n p k) (chainFrom skip l n (ownPart p) k)
-  unfolding chainFrom chainStep Agree chainedWithTarget withTarget made-path
+  unfolding chainFrom chainStep Agree chainedWithTarget followedByTarget made-path
   chain-agrees zero p e k = inl (ap (λ (x : Text). chained x k) (sym (own-parts p)))
   chain-agrees (suc n) p e k = rw (next-leaves l ends skip p e) (go (nextReplacement skip l (ownPart p)) refl (λ r f. chain-agrees n r f (suc k)))
     where
       go : (o : Option Text) → nextReplacement skip l (ownPart p) ≡ o
           → ((r : Text) → legal r ≡ true → Agree r (chainFrom skip l n r (suc k)) (chainFrom skip l n (ownPart r) (suc k)))
-          → Agree p (chainStep (chainFrom skip l n) p k (withTarget p o)) (chainStep (chainFrom skip l n) (ownPart p) k o)
+          → Agree p (chainStep (chainFrom skip l n) p k (followedByTarget p o)) (chainStep (chainFrom skip l n) (ownPart p) k o)
       go none h later = inl (ap (λ (x : Text). chained x k) (sym (own-parts p)))
       go (some q) h later = step-agrees p e q h n k later
 

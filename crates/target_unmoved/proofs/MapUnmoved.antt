@@ -13,7 +13,7 @@ use Rattle.path_grammar.proofs.LegalLaws.{own-is, end-undotted}
 use Rattle.path_prefix.specs.Prefix.{hasPrefix}
 use Rattle.path_prefix.specs.Elements.{elementCount}
 use Rattle.path_join.specs.Join.{replacePrefix}
-use Rattle.path_join.specs.Tail.{withTarget}
+use Rattle.path_join.specs.Tail.{followedByTarget}
 use Rattle.path_join.proofs.TailLaws.{appended, prefix-before, replace-before, own-has-dot, path-whole, appended-target, with-none, replaced-lacks}
 use Rattle.path_parts.specs.Strip.{stripFrom, strip}
 use Rattle.path_parts.proofs.StripLaws.{strip-own, strip-target, strip-legal}
@@ -68,10 +68,10 @@ module _ (m : Map) (em : allEnds (m .pairs) ≡ true) where
 
   -- Plain mapping, in either direction.
   leaves : (a b : ℕ → Text) → ((i : ℕ) → isEnd (a i) ≡ true) → (n : ℕ) (p : Text) → legal p ≡ true
-      → mapBy m a b p (longestMatch p a n) ≡ withTarget p (mapBy m a b (ownPart p) (longestMatch (ownPart p) a n))
+      → mapBy m a b p (longestMatch p a n) ≡ followedByTarget p (mapBy m a b (ownPart p) (longestMatch (ownPart p) a n))
   leaves a b ends n p l = go (targetPart p) refl
     where
-      go : (t : Text) → targetPart p ≡ t → mapBy m a b p (longestMatch p a n) ≡ withTarget p (mapBy m a b (ownPart p) (longestMatch (ownPart p) a n))
+      go : (t : Text) → targetPart p ≡ t → mapBy m a b p (longestMatch p a n) ≡ followedByTarget p (mapBy m a b (ownPart p) (longestMatch (ownPart p) a n))
       go [] e = rw (own-is p e) (sym (with-none p e (mapBy m a b p (longestMatch p a n))))
       go (c ∷ z) e =
           let o : Text = ownPart p in
@@ -80,11 +80,11 @@ module _ (m : Map) (em : allEnds (m .pairs) ≡ true) where
           ∙ ap (mapBy m a b (o ++ 91 ∷ z)) (match-before o z d a ends n) ∙ map-before o z d m a b ends (longestMatch o a n)
           ∙ appended-target p l c z e (mapBy m a b o (longestMatch o a n))
 
-  pub out-leaves : (p : Text) → legal p ≡ true → mapSourceToTarget m p ≡ withTarget p (mapSourceToTarget m (ownPart p))
+  pub out-leaves : (p : Text) → legal p ≡ true → mapSourceToTarget m p ≡ followedByTarget p (mapSourceToTarget m (ownPart p))
   unfolding mapSourceToTarget matchSource
   out-leaves = leaves (mapSource m) (mapTarget m) sources (mapSize m)
 
-  pub home-leaves : (p : Text) → legal p ≡ true → mapTargetToSource m p ≡ withTarget p (mapTargetToSource m (ownPart p))
+  pub home-leaves : (p : Text) → legal p ≡ true → mapTargetToSource m p ≡ followedByTarget p (mapTargetToSource m (ownPart p))
   unfolding mapTargetToSource matchTarget
   home-leaves = leaves (mapTarget m) (mapSource m) targets (mapSize m)
 
@@ -120,12 +120,12 @@ strip-of-own p =
     ap (λ (x : Text). stripFrom false x ++ targetPart (ownPart p)) (own-all (ownPart p) (own-lacks p))
     ∙ ap (λ (x : Text). stripFrom false (ownPart p) ++ x) (target-none (ownPart p) (own-lacks p)) ∙ append-nil (stripFrom false (ownPart p)) ∙ sym (strip-own p)
 
-pub translation-leaves : (m : Map) → allEnds (m .pairs) ≡ true → (p : Text) → legal p ≡ true → translateToTarget m p ≡ withTarget p (translateToTarget m (ownPart p))
+pub translation-leaves : (m : Map) → allEnds (m .pairs) ≡ true → (p : Text) → legal p ≡ true → translateToTarget m p ≡ followedByTarget p (translateToTarget m (ownPart p))
 unfolding translateToTarget carry
 translation-leaves m em p l = go (targetPart p) refl
   where
-    go : (t : Text) → targetPart p ≡ t → carry m em (strip p) ≡ withTarget p (carry m em (strip (ownPart p)))
-    go [] e = sym (with-none p e (carry m em (strip p))) ∙ ap (λ (x : Text). withTarget p (carry m em (strip x))) (sym (own-is p e))
+    go : (t : Text) → targetPart p ≡ t → carry m em (strip p) ≡ followedByTarget p (carry m em (strip (ownPart p)))
+    go [] e = sym (with-none p e (carry m em (strip p))) ∙ ap (λ (x : Text). followedByTarget p (carry m em (strip x))) (sym (own-is p e))
     go (c ∷ z) e =
         let s : Text = strip p in
         let k : legal s ≡ true = strip-legal p l in

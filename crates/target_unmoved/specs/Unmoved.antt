@@ -9,7 +9,7 @@ use mathlib.Core.Option.{Option}
 use Rattle.text.specs.Text.{Text}
 use Rattle.path_grammar.specs.Own.{ownPart, targetPart}
 use Rattle.path_grammar.specs.Legal.{legal}
-use Rattle.path_join.specs.Tail.{withTarget}
+use Rattle.path_join.specs.Tail.{followedByTarget}
 use Rattle.refusal.specs.declared.Refusal.the-variants.{MadeTooLong}
 use Rattle.pair_list.specs.Pair.{Pair, allEnds}
 use Rattle.map_spec.specs.Map.{Map, mapSourceToTarget, mapTargetToSource, translateToTarget}
@@ -17,7 +17,7 @@ use Rattle.relocate_chain.specs.Chain.{Chained, chained, stopped, nextReplaceme
 
 -- The answer of f for a legal path is the answer for its own part, then its target part.
 abbrev pub LeavesTarget : (Text → Option Text) → Type 0
-LeavesTarget f = (p : Text) → legal p ≡ true → f p ≡ withTarget p (f (ownPart p))
+LeavesTarget f = (p : Text) → legal p ≡ true → f p ≡ followedByTarget p (f (ownPart p))
 
 -- The chain's last path followed by the target part of p.
 unfoldable pub chainedWithTarget : Text → Chained → Chained

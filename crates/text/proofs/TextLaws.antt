@@ -200,6 +200,12 @@ unfolding lacksByte
 lacks-after b [] r e = e
 lacks-after b (a ∷ s) r e = lacks-after b s r (and-r (not (eqb a b)) (lacksByte b (s ++ r)) e)
 
+pub lacks-last : (b : ℕ) (r : Text) → lacksByte b r ≡ true → endsWithByte b r ≡ false
+unfolding endsWithByte
+lacks-last b [] e = refl
+lacks-last b (a ∷ []) e = lacks-first b a [] e
+lacks-last b (a ∷ c ∷ r) e = lacks-last b (c ∷ r) (lacks-rest b a (c ∷ r) e)
+
 pub lacks-append : (b : ℕ) (s r : Text) → lacksByte b (s ++ r) ≡ (lacksByte b s && lacksByte b r)
 unfolding lacksByte
 lacks-append b [] r = refl
