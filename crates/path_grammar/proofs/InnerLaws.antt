@@ -186,6 +186,17 @@ module _ (p i : Text) (d : ℕ) (h : i ≡ innerText p) where
       go zero z e = absurd (z refl)
       go (suc d) z e = let k : suc d - 1 ≡ d = omega arith in rw k at e ∙ rw h (sym (within-by-inner .deeper d p (rw (← h) (nil-not i n))))
 
--- Lemma for `is_legal`.
-pub legal-by-scan : (p : Text) (b : Bool) → b ≡ legalOwn p → b ≡ true → true ≡ legal p
-legal-by-scan p b h k = sym (own-legal p (sym h ∙ k))
+-- Lemmas for `is_legal`.
+pub legal-empty : (p : Text) → length p ≡ 0 → true ≡ legal p
+unfolding legalOwn
+legal-empty [] h = sym (own-legal [] refl)
+legal-empty (a ∷ p) h = absurd (omega arith)
+
+pub legal-deep : (p : Text) (b : Bool) → b ≡ legalWithin 4 p → b ≡ legal p
+unfolding legal
+legal-deep p b e = e
+
+pub legal-scanned : (p : Text) (l b : Bool) → l ≡ endsWithByte 93 p → l ≡ false → b ≡ legalOwn p → b ≡ legal p
+legal-scanned p l b h k e =
+    let i : isNil (innerText p) ≡ true = ap isNil (sym (inner-open p l h (ap not k))) in
+    legal-deep p b (e ∙ sym (within-by-inner .without 4 p i))

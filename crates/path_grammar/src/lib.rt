@@ -110,15 +110,18 @@ fn is_legal_within(p: &[u8], depth: usize) -> bool
     is_legal_within(inner, depth - 1)
 }
 
-// Returns whether the text is a legal path, regardless of its length. Most paths have no brackets, and the scan
-// alone accepts them.
+// Returns whether the text is a legal path, regardless of its length. A call with fewer texts passes empty
+// ones, so these are answered first; a text that does not end in `]` is scanned once.
 pub fn is_legal(p: &[u8]) -> bool
     ensures { λ r. ⌜ r ≡ legal (now (p .entry)) ⌝ }
 {
-    if is_legal_own(p) {
+    if p.len() == 0 {
         return true;
     }
-    is_legal_within(p, 4)
+    if text::last_is(p, b']') {
+        return is_legal_within(p, 4);
+    }
+    is_legal_own(p)
 }
 
 // Like `row`, but treats `.` and `{` as bytes that no path contains.
