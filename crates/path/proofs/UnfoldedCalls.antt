@@ -14,19 +14,19 @@ use Rattle.refusal.specs.Refusal.{validateTexts, refusedOr}
 use Rattle.path.specs.Calls.{isEndCall, hasVariantSelectionCall, elementCountCall, primElementCountCall, hasPrefixCall, restStartCall}
 
 module _ (p : Text) where
-  pub is-end-unfolded : isEndCall p ≡ refusedOr (validateTexts (p ∷ [] ∷ [] ∷ [])) RefusedTest (Holds (isEnd p))
+  pub is-end-unfolded : isEndCall p ≡ refusedOr (validateTexts (p ∷ [])) RefusedTest (Holds (isEnd p))
   unfolding isEndCall
   is-end-unfolded = refl
 
-  pub selection-unfolded : hasVariantSelectionCall p ≡ refusedOr (validateTexts (p ∷ [] ∷ [] ∷ [])) RefusedTest (Holds (hasVariantSelection p))
+  pub selection-unfolded : hasVariantSelectionCall p ≡ refusedOr (validateTexts (p ∷ [])) RefusedTest (Holds (hasVariantSelection p))
   unfolding hasVariantSelectionCall
   selection-unfolded = refl
 
-  pub elements-unfolded : elementCountCall p ≡ refusedOr (validateTexts (p ∷ [] ∷ [] ∷ [])) RefusedCount (Counted (record { 0 = elementCount (ownPart p) }))
+  pub elements-unfolded : elementCountCall p ≡ refusedOr (validateTexts (p ∷ [])) RefusedCount (Counted (record { 0 = elementCount (ownPart p) }))
   unfolding elementCountCall
   elements-unfolded = refl
 
-  pub names-unfolded : primElementCountCall p ≡ refusedOr (validateTexts (p ∷ [] ∷ [] ∷ [])) RefusedCount (Counted (record { 0 = primElementCount (ownPart p) }))
+  pub names-unfolded : primElementCountCall p ≡ refusedOr (validateTexts (p ∷ [])) RefusedCount (Counted (record { 0 = primElementCount (ownPart p) }))
   unfolding primElementCountCall
   names-unfolded = refl
 

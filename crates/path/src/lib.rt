@@ -26,14 +26,14 @@ pub enum RestTest {
 pub fn new(path: &[u8]) -> refusal::Validation
     ensures { λ r. ⌜ r ≡ pathNewCall (now (path .entry)) ⌝ }
 {
-    refusal::validate_texts(path, b"", b"")
+    refusal::validate_text(path)
 }
 
 // Returns whether the path is a prim path, `/` or empty.
 pub fn is_end(path: &[u8]) -> Test
     ensures { λ r. ⌜ r ≡ isEndCall (now (path .entry)) ⌝ }
 {
-    let q = refusal::validate_texts(path, b"", b"");
+    let q = refusal::validate_text(path);
     if let refusal::Validation::Refused(x) = q {
         return Test::Refused(x);
     }
@@ -44,7 +44,7 @@ pub fn is_end(path: &[u8]) -> Test
 pub fn has_variant_selection(path: &[u8]) -> Test
     ensures { λ r. ⌜ r ≡ hasVariantSelectionCall (now (path .entry)) ⌝ }
 {
-    let q = refusal::validate_texts(path, b"", b"");
+    let q = refusal::validate_text(path);
     if let refusal::Validation::Refused(x) = q {
         return Test::Refused(x);
     }
@@ -77,7 +77,7 @@ pub fn rest_start(path: &[u8], prefix: &[u8]) -> RestTest
 pub fn element_count(path: &[u8]) -> Count
     ensures { λ r. ⌜ r ≡ elementCountCall (now (path .entry)) ⌝ }
 {
-    let q = refusal::validate_texts(path, b"", b"");
+    let q = refusal::validate_text(path);
     if let refusal::Validation::Refused(x) = q {
         return Count::Refused(x);
     }
@@ -89,7 +89,7 @@ pub fn element_count(path: &[u8]) -> Count
 pub fn prim_element_count(path: &[u8]) -> Count
     ensures { λ r. ⌜ r ≡ primElementCountCall (now (path .entry)) ⌝ }
 {
-    let q = refusal::validate_texts(path, b"", b"");
+    let q = refusal::validate_text(path);
     if let refusal::Validation::Refused(x) = q {
         return Count::Refused(x);
     }

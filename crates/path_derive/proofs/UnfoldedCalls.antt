@@ -20,23 +20,23 @@ module _ (p : Text) (room : ℕ) where
   unfolding replacePrefixCall
   replace-unfolded s t = refl
 
-  pub parent-unfolded : parentCall p room ≡ afterChecks (validateTexts (p ∷ [] ∷ [] ∷ [])) room (checkedOption (parent p))
+  pub parent-unfolded : parentCall p room ≡ afterChecks (validateTexts (p ∷ [])) room (checkedOption (parent p))
   unfolding parentCall
   parent-unfolded = refl
 
-  pub prim-unfolded : primPathCall p room ≡ afterChecks (validateTexts (p ∷ [] ∷ [] ∷ [])) room (checked (primPath p))
+  pub prim-unfolded : primPathCall p room ≡ afterChecks (validateTexts (p ∷ [])) room (checked (primPath p))
   unfolding primPathCall
   prim-unfolded = refl
 
-  pub split-unfolded : splitPropertyCall p room ≡ afterChecks (validateTexts (p ∷ [] ∷ [] ∷ [])) room (checkedOption (splitProperty p))
+  pub split-unfolded : splitPropertyCall p room ≡ afterChecks (validateTexts (p ∷ [])) room (checkedOption (splitProperty p))
   unfolding splitPropertyCall
   split-unfolded = refl
 
-  pub strip-unfolded : stripCall p room ≡ afterChecks (validateTexts (p ∷ [] ∷ [] ∷ [])) room (checked (strip p))
+  pub strip-unfolded : stripCall p room ≡ afterChecks (validateTexts (p ∷ [])) room (checked (strip p))
   unfolding stripCall
   strip-unfolded = refl
 
   pub ancestors-unfolded : ancestorsReply p room
-      ≡ refusedOr (validateTexts (p ∷ [] ∷ [] ∷ [])) Refused (cond (leb (length (ancestorLens p)) room) (Written (length (ancestorLens p))) (Refused NoRoom))
+      ≡ refusedOr (validateTexts (p ∷ [])) Refused (cond (leb (length (ancestorLens p)) room) (Written (length (ancestorLens p))) (Refused NoRoom))
   unfolding ancestorsReply
   ancestors-unfolded = refl

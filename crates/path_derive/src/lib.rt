@@ -53,7 +53,7 @@ pub fn parent(path: &[u8], out: &mut [u8]) -> refusal::Reply
     ensures { λ r. ⌜ ReturnsPath (parentCall (now (path .entry)) (length (now (out .entry)))) r (now (out .entry))
         (now (out .exit)) ⌝ }
 {
-    let q = refusal::validate_texts(path, b"", b"");
+    let q = refusal::validate_text(path);
     if let refusal::Validation::Refused(x) = q {
         return refusal::Reply::Refused(x);
     }
@@ -76,7 +76,7 @@ pub fn prim_path(path: &[u8], out: &mut [u8]) -> refusal::Reply
     ensures { λ r. ⌜ ReturnsPath (primPathCall (now (path .entry)) (length (now (out .entry)))) r (now (out .entry))
         (now (out .exit)) ⌝ }
 {
-    let q = refusal::validate_texts(path, b"", b"");
+    let q = refusal::validate_text(path);
     if let refusal::Validation::Refused(x) = q {
         return refusal::Reply::Refused(x);
     }
@@ -94,7 +94,7 @@ pub fn split_property(path: &[u8], out: &mut [u8]) -> refusal::Reply
     ensures { λ r. ⌜ ReturnsPath (splitPropertyCall (now (path .entry)) (length (now (out .entry)))) r
         (now (out .entry)) (now (out .exit)) ⌝ }
 {
-    let q = refusal::validate_texts(path, b"", b"");
+    let q = refusal::validate_text(path);
     if let refusal::Validation::Refused(x) = q {
         return refusal::Reply::Refused(x);
     }
@@ -114,7 +114,7 @@ pub fn strip_variant_selections(path: &[u8], out: &mut [u8]) -> refusal::Reply
     ensures { λ r. ⌜ ReturnsPath (stripCall (now (path .entry)) (length (now (out .entry)))) r (now (out .entry))
         (now (out .exit)) ⌝ }
 {
-    let q = refusal::validate_texts(path, b"", b"");
+    let q = refusal::validate_text(path);
     if let refusal::Validation::Refused(x) = q {
         return refusal::Reply::Refused(x);
     }
@@ -133,7 +133,7 @@ pub fn ancestors(path: &[u8], lengths: &mut [usize]) -> refusal::Reply
     ensures { λ r. ⌜ now (lengths .exit) ≡ writtenIfAccepted r (ancestorLens (now (path .entry)))
         (now (lengths .entry)) ⌝ }
 {
-    let q = refusal::validate_texts(path, b"", b"");
+    let q = refusal::validate_text(path);
     if let refusal::Validation::Refused(x) = q {
         return refusal::Reply::Refused(x);
     }

@@ -32,7 +32,7 @@ use Rattle.path_target.proofs.Theorem.{target-legal, target-not-empty}
 
 -- Each call as the code validates it: always with three texts, the missing ones empty.
 module _ (p : Text) (room : ℕ) where
-  pub embedded-unfolded : embeddedTargetCall p room ≡ afterChecks (validateTexts (p ∷ [] ∷ [] ∷ [])) room (checkedOption (embeddedTarget p))
+  pub embedded-unfolded : embeddedTargetCall p room ≡ afterChecks (validateTexts (p ∷ [])) room (checkedOption (embeddedTarget p))
   unfolding embeddedTargetCall
   embedded-unfolded = refl
 
@@ -53,7 +53,7 @@ embedded-short p t e = go (hasTarget p) refl
         rw (← i) (omega (arith, length-drop 1 u, length-take (closedAt p) (targetPart p), parts-length p))
 
 -- Lemmas for `embedded_target`. The target of a legal path is legal and not empty, so an empty text says that there is none.
-module _ (p : Text) (q : Validation) (h : q ≡ validateTexts (p ∷ [] ∷ [] ∷ [])) (k : q ≡ Passed) (t : Text) (e : t ≡ orEmpty (embeddedTarget p)) where
+module _ (p : Text) (q : Validation) (h : q ≡ validateTexts (p ∷ [])) (k : q ≡ Passed) (t : Text) (e : t ≡ orEmpty (embeddedTarget p)) where
   pub embedded-absent : length t ≡ 0 → embeddedTarget p ≡ none
   embedded-absent z = go (embeddedTarget p) refl
     where

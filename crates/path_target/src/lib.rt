@@ -111,7 +111,7 @@ pub fn embedded_target(path: &[u8], out: &mut [u8]) -> refusal::Reply
     ensures { λ r. ⌜ ReturnsPath (embeddedTargetCall (now (path .entry)) (length (now (out .entry)))) r
         (now (out .entry)) (now (out .exit)) ⌝ }
 {
-    let q = refusal::validate_texts(path, b"", b"");
+    let q = refusal::validate_text(path);
     if let refusal::Validation::Refused(x) = q {
         return refusal::Reply::Refused(x);
     }

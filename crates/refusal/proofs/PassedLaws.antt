@@ -24,7 +24,7 @@ both-passed {x} e true true h = (refl, refl)
 both-passed {x} e true false h = absurd (let z : _≡_ {A = ℕ} 0 1 = cc in omega arith)
 both-passed {x} e false b h = absurd (let z : _≡_ {A = ℕ} 0 1 = cc in omega arith)
 
-module _ (p : Text) (q : Validation) (h : q ≡ validateTexts (p ∷ [] ∷ [] ∷ [])) (k : q ≡ Passed) where
+module _ (p : Text) (q : Validation) (h : q ≡ validateTexts (p ∷ [])) (k : q ≡ Passed) where
   passed : (allTextsShort (p ∷ []) ≡ true) × (allTextsLegal (p ∷ []) ≡ true)
   unfolding validateTexts
   passed = both-passed k (allTextsShort (p ∷ [])) (allTextsLegal (p ∷ [])) (sym h)

@@ -51,4 +51,19 @@ module _ (ts : List Text) (x y : Bool) where
   unfolding validateTexts
   validate-passed h k l m = rw (known-true h k, known-true l m)
 
-pub ruleset asks = (fit-first, fit-second, fit-third, legal-first, legal-second, legal-third, validate-long, validate-illegal, validate-passed)
+-- One text.
+module _ (p : Text) where
+  pub text-long : 255 < length p → Refused TooLong ≡ validateTexts (p ∷ [])
+  unfolding validateTexts allTextsShort atMost255
+  text-long h = rw (lt-leb (length p) 255 h)
+
+  module _ (l : length p ≤ 255) (x : Bool) (h : x ≡ legal p) where
+    pub text-illegal : not x ≡ true → Refused Illegal ≡ validateTexts (p ∷ [])
+    unfolding validateTexts allTextsShort allTextsLegal atMost255
+    text-illegal k = rw (le-leb (length p) 255 l, known-false h k)
+
+    pub text-passed : not x ≡ false → Passed ≡ validateTexts (p ∷ [])
+    unfolding validateTexts allTextsShort allTextsLegal atMost255
+    text-passed k = rw (le-leb (length p) 255 l, known-true h k)
+
+pub ruleset asks = (text-long, text-illegal, text-passed, fit-first, fit-second, fit-third, legal-first, legal-second, legal-third, validate-long, validate-illegal, validate-passed)

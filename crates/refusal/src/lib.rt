@@ -71,6 +71,19 @@ pub fn rank_of(x: Refusal) -> usize
     }
 }
 
+// Validates one text (questions 1 and 2).
+pub fn validate_text(text: &[u8]) -> Validation
+    ensures { λ r. ⌜ r ≡ validateTexts (now (text .entry) ∷ []) ⌝ }
+{
+    if 255 < text.len() {
+        return Validation::Refused(Refusal::TooLong);
+    }
+    if !path_grammar::is_legal(text) {
+        return Validation::Refused(Refusal::Illegal);
+    }
+    Validation::Passed
+}
+
 // Question 1: returns whether each of the three texts has at most 255 bytes.
 fn all_texts_short(a: &[u8], b: &[u8], c: &[u8]) -> bool
     ensures { λ r. ⌜ r ≡ allTextsShort (now (a .entry) ∷ now (b .entry) ∷ now (c .entry) ∷ []) ⌝ }
@@ -97,7 +110,7 @@ fn all_texts_legal(a: &[u8], b: &[u8], c: &[u8]) -> bool
     path_grammar::is_legal(c)
 }
 
-// Validates three texts (questions 1 and 2). A call with fewer texts passes empty ones, which are valid.
+// Validates three texts (questions 1 and 2). A call with two texts passes an empty one too, which is valid.
 pub fn validate_texts(a: &[u8], b: &[u8], c: &[u8]) -> Validation
     ensures { λ r. ⌜ r ≡ validateTexts (now (a .entry) ∷ now (b .entry) ∷ now (c .entry) ∷ []) ⌝ }
 {

@@ -6,20 +6,14 @@ use borrow.Author.Needs.{needs}
 use Rattle.path.proofs.has_variant_selection.Statement.{statement}
 use Rattle.path.proofs.has_variant_selection.Tie as tie
 
-slice-aggregate-validate-texts : tie.Need-slice-aggregate-validate-texts
-slice-aggregate-validate-texts c = search needs
-
-slice-aggregate-validate-texts-2 : tie.Need-slice-aggregate-validate-texts-2
-slice-aggregate-validate-texts-2 c = search needs
-
-validate-texts-requires : tie.Need-validate-texts-requires
-validate-texts-requires c κs = search needs
+validate-text-requires : tie.Need-validate-text-requires
+validate-text-requires c κs = search needs
 
 enum-known-q : tie.Need-enum-known-q
 enum-known-q c = search needs
 
 returns : tie.Need-returns
-returns c = unless-refused RefusedTest _ _ _ _ (c .before .before .before .validate-texts .ensures) (c .before .q .given .1) ∙ sym (selection-unfolded _)
+returns c = unless-refused RefusedTest _ _ _ _ (c .before .before .before .validate-text .ensures) (c .before .q .given .1) ∙ sym (selection-unfolded _)
 
 enum-told : tie.Need-enum-told
 enum-told c = search needs
@@ -28,15 +22,13 @@ has-variant-selection-requires : tie.Need-has-variant-selection-requires
 has-variant-selection-requires c κs = search needs
 
 returns-2 : tie.Need-returns-2
-returns-2 c = unless-passed RefusedTest _ _ _ _ (c .before .before .before .validate-texts .ensures) (c .before .enum-told .given .1) (ap Holds (c .has-variant-selection .ensures)) ∙ sym (selection-unfolded _)
+returns-2 c = unless-passed RefusedTest _ _ _ _ (c .before .before .before .validate-text .ensures) (c .before .enum-told .given .1) (ap Holds (c .has-variant-selection .ensures)) ∙ sym (selection-unfolded _)
 
 pub has-variant-selection-spec : {M : Type 1} → statement M
 has-variant-selection-spec =
     tie.close
     (tie.spec
-    slice-aggregate-validate-texts
-    slice-aggregate-validate-texts-2
-    validate-texts-requires
+    validate-text-requires
     enum-known-q
     returns
     enum-told

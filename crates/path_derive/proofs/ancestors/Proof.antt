@@ -7,20 +7,14 @@ use borrow.Author.Needs.{needs}
 use Rattle.path_derive.proofs.ancestors.Statement.{statement}
 use Rattle.path_derive.proofs.ancestors.Tie as tie
 
-slice-aggregate-validate-texts : tie.Need-slice-aggregate-validate-texts
-slice-aggregate-validate-texts c = search needs
-
-slice-aggregate-validate-texts-2 : tie.Need-slice-aggregate-validate-texts-2
-slice-aggregate-validate-texts-2 c = search needs
-
-validate-texts-requires : tie.Need-validate-texts-requires
-validate-texts-requires c κs = search needs
+validate-text-requires : tie.Need-validate-text-requires
+validate-text-requires c κs = search needs
 
 enum-known-q : tie.Need-enum-known-q
 enum-known-q c = search needs
 
 returns : tie.Need-returns
-returns c = (unless-refused Refused _ _ _ _ (c .before .before .before .validate-texts .ensures) (c .before .q .given .1) ∙ sym (ancestors-unfolded _ _), refl)
+returns c = (unless-refused Refused _ _ _ _ (c .before .before .before .validate-text .ensures) (c .before .q .given .1) ∙ sym (ancestors-unfolded _ _), refl)
 
 enum-told : tie.Need-enum-told
 enum-told c = search needs
@@ -42,8 +36,8 @@ returns-2 c =
     let at-n = c .before in
     let at-write-ancestors = at-n .before .before .before .before in
     let at-enum-told = at-write-ancestors .before .before in
-    let at-validate-texts = at-enum-told .before .before in (
-      unless-passed Refused _ _ _ _ (at-validate-texts .validate-texts .ensures) (at-enum-told .enum-told .given .1) (listed-written _ _ _ (at-write-ancestors .write-ancestors .ensures .0) _ (at-n .n .given .1)) ∙ sym (ancestors-unfolded _ _),
+    let at-validate-text = at-enum-told .before .before in (
+      unless-passed Refused _ _ _ _ (at-validate-text .validate-text .ensures) (at-enum-told .enum-told .given .1) (listed-written _ _ _ (at-write-ancestors .write-ancestors .ensures .0) _ (at-n .n .given .1)) ∙ sym (ancestors-unfolded _ _),
       listed-memory _ _ _ (at-write-ancestors .write-ancestors .ensures .0) _ _ (at-n .n .given .1) (at-write-ancestors .write-ancestors .ensures .1),
     )
 
@@ -54,8 +48,8 @@ returns-3 : tie.Need-returns-3
 returns-3 c =
     let at-write-ancestors = c .before .before .before .before in
     let at-enum-told = at-write-ancestors .before .before in
-    let at-validate-texts = at-enum-told .before .before in (
-      unless-passed Refused _ _ _ _ (at-validate-texts .validate-texts .ensures) (at-enum-told .enum-told .given .1) (listed-over _ _ _ (at-write-ancestors .write-ancestors .ensures .0) (c .enum-told2 .given .1)) ∙ sym (ancestors-unfolded _ _),
+    let at-validate-text = at-enum-told .before .before in (
+      unless-passed Refused _ _ _ _ (at-validate-text .validate-text .ensures) (at-enum-told .enum-told .given .1) (listed-over _ _ _ (at-write-ancestors .write-ancestors .ensures .0) (c .enum-told2 .given .1)) ∙ sym (ancestors-unfolded _ _),
       listed-kept _ _ _ (at-write-ancestors .write-ancestors .ensures .0) _ (c .enum-told2 .given .1) (at-write-ancestors .write-ancestors .ensures .1),
     )
 
@@ -63,9 +57,7 @@ pub ancestors-spec : {M : Type 1} → statement M
 ancestors-spec =
     tie.close
     (tie.spec
-    slice-aggregate-validate-texts
-    slice-aggregate-validate-texts-2
-    validate-texts-requires
+    validate-text-requires
     enum-known-q
     returns
     enum-told

@@ -9,32 +9,26 @@ use borrow.Author.Needs.{needs}
 use Rattle.path_derive.proofs.parent.Statement.{statement}
 use Rattle.path_derive.proofs.parent.Tie as tie
 
-slice-aggregate-validate-texts : tie.Need-slice-aggregate-validate-texts
-slice-aggregate-validate-texts c = search needs
-
-slice-aggregate-validate-texts-2 : tie.Need-slice-aggregate-validate-texts-2
-slice-aggregate-validate-texts-2 c = search needs
-
-validate-texts-requires : tie.Need-validate-texts-requires
-validate-texts-requires c κs = search needs
+validate-text-requires : tie.Need-validate-text-requires
+validate-text-requires c κs = search needs
 
 enum-known-q : tie.Need-enum-known-q
 enum-known-q c = search needs
 
 returns : tie.Need-returns
-returns c = refusing _ _ (parent-unfolded _ _ ∙ answered-refused _ _ _ _ (c .before .before .before .validate-texts .ensures) _ (c .before .q .given .1)) _
+returns c = refusing _ _ (parent-unfolded _ _ ∙ answered-refused _ _ _ _ (c .before .before .before .validate-text .ensures) _ (c .before .q .given .1)) _
 
 enum-told : tie.Need-enum-told
 enum-told c = search needs
 
 returns-2 : tie.Need-returns-2
-returns-2 c = refusing _ _ (parent-unfolded _ _ ∙ answered-short _ _ _ _ (c .before .before .before .validate-texts .ensures) (c .before .enum-told .given .1) (c .if1 .taken)) _
+returns-2 c = refusing _ _ (parent-unfolded _ _ ∙ answered-short _ _ _ _ (c .before .before .before .validate-text .ensures) (c .before .enum-told .given .1) (c .if1 .taken)) _
 
 returns-3 : tie.Need-returns-3
 unfolding checkedOption
 returns-3 c =
     refusing _ _
-    (parent-unfolded _ _ ∙ answered-passed _ _ _ _ (c .before .before .before .before .validate-texts .ensures) (c .before .before .enum-told .given .1) (c .before .if1 .left) ∙ ap checkedOption (parent-empty _ (c .if2 .taken))) _
+    (parent-unfolded _ _ ∙ answered-passed _ _ _ _ (c .before .before .before .before .validate-text .ensures) (c .before .before .enum-told .given .1) (c .before .if1 .left) ∙ ap checkedOption (parent-empty _ (c .if2 .taken))) _
 
 is-root-requires : tie.Need-is-root-requires
 is-root-requires c κs = search needs
@@ -46,9 +40,9 @@ returns-4 c =
     let at-if2 = at-is-root .before in
     let at-if1 = at-if2 .before in
     let at-enum-told = at-if1 .before in
-    let at-validate-texts = at-enum-told .before .before in
+    let at-validate-text = at-enum-told .before .before in
     refusing _ _
-    (parent-unfolded _ _ ∙ answered-passed _ _ _ _ (at-validate-texts .validate-texts .ensures) (at-enum-told .enum-told .given .1)
+    (parent-unfolded _ _ ∙ answered-passed _ _ _ _ (at-validate-text .validate-text .ensures) (at-enum-told .enum-told .given .1)
     (at-if1 .if1 .left) ∙ ap checkedOption (parent-root _ _ (at-if2 .if2 .left) (at-is-root .is-root .ensures) (c .if3 .taken)))
     _
 
@@ -74,23 +68,21 @@ returns-5 c =
     let at-if2 = at-is-root .before in
     let at-if1 = at-if2 .before in
     let at-enum-told = at-if1 .before in
-    let at-validate-texts = at-enum-told .before .before in
+    let at-validate-text = at-enum-told .before .before in
     answering _ _
-    (parent-unfolded _ _ ∙ answered-passed _ _ _ _ (at-validate-texts .validate-texts .ensures) (at-enum-told .enum-told .given .1)
+    (parent-unfolded _ _ ∙ answered-passed _ _ _ _ (at-validate-text .validate-text .ensures) (at-enum-told .enum-told .given .1)
     (at-if1 .if1 .left) ∙ ap checkedOption (parent-cut _ _ (at-if2 .if2 .left) (at-is-root .is-root .ensures) (at-if3 .if3 .left)))
     _ _ _
     (cut-written _ _ _ (at-parent-len .parent-len .ensures) (parent-len-le _)
-    (passed-short _ _ (at-validate-texts .validate-texts .ensures) (at-enum-told .enum-told .given .1))
-    (parent-take _ (passed-legal _ _ (at-validate-texts .validate-texts .ensures) (at-enum-told .enum-told .given .1))) _ _ (at-if1 .if1 .left)
+    (passed-short _ _ (at-validate-text .validate-text .ensures) (at-enum-told .enum-told .given .1))
+    (parent-take _ (passed-legal _ _ (at-validate-text .validate-text .ensures) (at-enum-told .enum-told .given .1))) _ _ (at-if1 .if1 .left)
     (at-write-at .write-at .ensures))
 
 pub parent-spec : {M : Type 1} → statement M
 parent-spec =
     tie.close
     (tie.spec
-    slice-aggregate-validate-texts
-    slice-aggregate-validate-texts-2
-    validate-texts-requires
+    validate-text-requires
     enum-known-q
     returns
     enum-told

@@ -8,26 +8,20 @@ use borrow.Author.Needs.{needs}
 use Rattle.path_derive.proofs.prim_path.Statement.{statement}
 use Rattle.path_derive.proofs.prim_path.Tie as tie
 
-slice-aggregate-validate-texts : tie.Need-slice-aggregate-validate-texts
-slice-aggregate-validate-texts c = search needs
-
-slice-aggregate-validate-texts-2 : tie.Need-slice-aggregate-validate-texts-2
-slice-aggregate-validate-texts-2 c = search needs
-
-validate-texts-requires : tie.Need-validate-texts-requires
-validate-texts-requires c κs = search needs
+validate-text-requires : tie.Need-validate-text-requires
+validate-text-requires c κs = search needs
 
 enum-known-q : tie.Need-enum-known-q
 enum-known-q c = search needs
 
 returns : tie.Need-returns
-returns c = refusing _ _ (prim-unfolded _ _ ∙ answered-refused _ _ _ _ (c .before .before .before .validate-texts .ensures) _ (c .before .q .given .1)) _
+returns c = refusing _ _ (prim-unfolded _ _ ∙ answered-refused _ _ _ _ (c .before .before .before .validate-text .ensures) _ (c .before .q .given .1)) _
 
 enum-told : tie.Need-enum-told
 enum-told c = search needs
 
 returns-2 : tie.Need-returns-2
-returns-2 c = refusing _ _ (prim-unfolded _ _ ∙ answered-short _ _ _ _ (c .before .before .before .validate-texts .ensures) (c .before .enum-told .given .1) (c .if1 .taken)) _
+returns-2 c = refusing _ _ (prim-unfolded _ _ ∙ answered-short _ _ _ _ (c .before .before .before .validate-text .ensures) (c .before .enum-told .given .1) (c .if1 .taken)) _
 
 prim-len-requires : tie.Need-prim-len-requires
 prim-len-requires c κs = search needs
@@ -47,22 +41,20 @@ returns-3 c =
     let at-prim-len = at-write-at .before .before .before in
     let at-if1 = at-prim-len .before in
     let at-enum-told = at-if1 .before in
-    let at-validate-texts = at-enum-told .before .before in
+    let at-validate-text = at-enum-told .before .before in
     answering _ _
-    (prim-unfolded _ _ ∙ answered-passed _ _ _ _ (at-validate-texts .validate-texts .ensures) (at-enum-told .enum-told .given .1) (at-if1 .if1 .left))
+    (prim-unfolded _ _ ∙ answered-passed _ _ _ _ (at-validate-text .validate-text .ensures) (at-enum-told .enum-told .given .1) (at-if1 .if1 .left))
     _ _ _
     (prim-written _ _ (at-prim-len .prim-len .ensures)
-    (passed-short _ _ (at-validate-texts .validate-texts .ensures) (at-enum-told .enum-told .given .1))
-    (passed-legal _ _ (at-validate-texts .validate-texts .ensures) (at-enum-told .enum-told .given .1)) _ _ (at-if1 .if1 .left)
+    (passed-short _ _ (at-validate-text .validate-text .ensures) (at-enum-told .enum-told .given .1))
+    (passed-legal _ _ (at-validate-text .validate-text .ensures) (at-enum-told .enum-told .given .1)) _ _ (at-if1 .if1 .left)
     (at-write-at .write-at .ensures))
 
 pub prim-path-spec : {M : Type 1} → statement M
 prim-path-spec =
     tie.close
     (tie.spec
-    slice-aggregate-validate-texts
-    slice-aggregate-validate-texts-2
-    validate-texts-requires
+    validate-text-requires
     enum-known-q
     returns
     enum-told

@@ -9,26 +9,20 @@ use borrow.Author.Needs.{needs}
 use Rattle.path_derive.proofs.split_property.Statement.{statement}
 use Rattle.path_derive.proofs.split_property.Tie as tie
 
-slice-aggregate-validate-texts : tie.Need-slice-aggregate-validate-texts
-slice-aggregate-validate-texts c = search needs
-
-slice-aggregate-validate-texts-2 : tie.Need-slice-aggregate-validate-texts-2
-slice-aggregate-validate-texts-2 c = search needs
-
-validate-texts-requires : tie.Need-validate-texts-requires
-validate-texts-requires c κs = search needs
+validate-text-requires : tie.Need-validate-text-requires
+validate-text-requires c κs = search needs
 
 enum-known-q : tie.Need-enum-known-q
 enum-known-q c = search needs
 
 returns : tie.Need-returns
-returns c = refusing _ _ (split-unfolded _ _ ∙ answered-refused _ _ _ _ (c .before .before .before .validate-texts .ensures) _ (c .before .q .given .1)) _
+returns c = refusing _ _ (split-unfolded _ _ ∙ answered-refused _ _ _ _ (c .before .before .before .validate-text .ensures) _ (c .before .q .given .1)) _
 
 enum-told : tie.Need-enum-told
 enum-told c = search needs
 
 returns-2 : tie.Need-returns-2
-returns-2 c = refusing _ _ (split-unfolded _ _ ∙ answered-short _ _ _ _ (c .before .before .before .validate-texts .ensures) (c .before .enum-told .given .1) (c .if1 .taken)) _
+returns-2 c = refusing _ _ (split-unfolded _ _ ∙ answered-short _ _ _ _ (c .before .before .before .validate-text .ensures) (c .before .enum-told .given .1) (c .if1 .taken)) _
 
 is-property-requires : tie.Need-is-property-requires
 is-property-requires c κs = search needs
@@ -39,9 +33,9 @@ returns-3 c =
     let at-is-property = c .before in
     let at-if1 = at-is-property .before in
     let at-enum-told = at-if1 .before in
-    let at-validate-texts = at-enum-told .before .before in
+    let at-validate-text = at-enum-told .before .before in
     refusing _ _
-    (split-unfolded _ _ ∙ answered-passed _ _ _ _ (at-validate-texts .validate-texts .ensures) (at-enum-told .enum-told .given .1)
+    (split-unfolded _ _ ∙ answered-passed _ _ _ _ (at-validate-text .validate-text .ensures) (at-enum-told .enum-told .given .1)
     (at-if1 .if1 .left) ∙ ap checkedOption (split-none _ _ (at-is-property .is-property .ensures) (c .if2 .taken)))
     _
 
@@ -66,23 +60,21 @@ returns-4 c =
     let at-is-property = at-if2 .before in
     let at-if1 = at-is-property .before in
     let at-enum-told = at-if1 .before in
-    let at-validate-texts = at-enum-told .before .before in
+    let at-validate-text = at-enum-told .before .before in
     answering _ _
-    (split-unfolded _ _ ∙ answered-passed _ _ _ _ (at-validate-texts .validate-texts .ensures) (at-enum-told .enum-told .given .1)
+    (split-unfolded _ _ ∙ answered-passed _ _ _ _ (at-validate-text .validate-text .ensures) (at-enum-told .enum-told .given .1)
     (at-if1 .if1 .left) ∙ ap checkedOption (split-some _ _ (at-is-property .is-property .ensures) (at-if2 .if2 .left)))
     _ _ _
     (prim-written _ _ (at-prim-len .prim-len .ensures)
-    (passed-short _ _ (at-validate-texts .validate-texts .ensures) (at-enum-told .enum-told .given .1))
-    (passed-legal _ _ (at-validate-texts .validate-texts .ensures) (at-enum-told .enum-told .given .1)) _ _ (at-if1 .if1 .left)
+    (passed-short _ _ (at-validate-text .validate-text .ensures) (at-enum-told .enum-told .given .1))
+    (passed-legal _ _ (at-validate-text .validate-text .ensures) (at-enum-told .enum-told .given .1)) _ _ (at-if1 .if1 .left)
     (at-write-at .write-at .ensures))
 
 pub split-property-spec : {M : Type 1} → statement M
 split-property-spec =
     tie.close
     (tie.spec
-    slice-aggregate-validate-texts
-    slice-aggregate-validate-texts-2
-    validate-texts-requires
+    validate-text-requires
     enum-known-q
     returns
     enum-told

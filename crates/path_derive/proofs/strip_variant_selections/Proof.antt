@@ -9,26 +9,20 @@ use borrow.Author.Needs.{needs}
 use Rattle.path_derive.proofs.strip_variant_selections.Statement.{statement}
 use Rattle.path_derive.proofs.strip_variant_selections.Tie as tie
 
-slice-aggregate-validate-texts : tie.Need-slice-aggregate-validate-texts
-slice-aggregate-validate-texts c = search needs
-
-slice-aggregate-validate-texts-2 : tie.Need-slice-aggregate-validate-texts-2
-slice-aggregate-validate-texts-2 c = search needs
-
-validate-texts-requires : tie.Need-validate-texts-requires
-validate-texts-requires c κs = search needs
+validate-text-requires : tie.Need-validate-text-requires
+validate-text-requires c κs = search needs
 
 enum-known-q : tie.Need-enum-known-q
 enum-known-q c = search needs
 
 returns : tie.Need-returns
-returns c = refusing _ _ (strip-unfolded _ _ ∙ answered-refused _ _ _ _ (c .before .before .before .validate-texts .ensures) _ (c .before .q .given .1)) _
+returns c = refusing _ _ (strip-unfolded _ _ ∙ answered-refused _ _ _ _ (c .before .before .before .validate-text .ensures) _ (c .before .q .given .1)) _
 
 enum-told : tie.Need-enum-told
 enum-told c = search needs
 
 returns-2 : tie.Need-returns-2
-returns-2 c = refusing _ _ (strip-unfolded _ _ ∙ answered-short _ _ _ _ (c .before .before .before .validate-texts .ensures) (c .before .enum-told .given .1) (c .if1 .taken)) _
+returns-2 c = refusing _ _ (strip-unfolded _ _ ∙ answered-short _ _ _ _ (c .before .before .before .validate-text .ensures) (c .before .enum-told .given .1) (c .if1 .taken)) _
 
 strip-into-requires : tie.Need-strip-into-requires
 strip-into-requires c κs = search needs
@@ -48,14 +42,14 @@ returns-3 c =
     let at-strip-into = at-n .before .before .before .before in
     let at-if1 = at-strip-into .before .before in
     let at-enum-told = at-if1 .before in
-    let at-validate-texts = at-enum-told .before .before in
+    let at-validate-text = at-enum-told .before .before in
     answering _ _
-    (strip-unfolded _ _ ∙ answered-passed _ _ _ _ (at-validate-texts .validate-texts .ensures) (at-enum-told .enum-told .given .1)
+    (strip-unfolded _ _ ∙ answered-passed _ _ _ _ (at-validate-text .validate-text .ensures) (at-enum-told .enum-told .given .1)
     (at-if1 .if1 .left))
     _ _ _
-    (strip-written _ _ _ (passed-short _ _ (at-validate-texts .validate-texts .ensures) (at-enum-told .enum-told .given .1)) (at-if1 .if1 .left)
+    (strip-written _ _ _ (passed-short _ _ (at-validate-text .validate-text .ensures) (at-enum-told .enum-told .given .1)) (at-if1 .if1 .left)
     (at-strip-into .strip-into .ensures .0) _ _ (at-n .n .given .1)
-    (passed-legal _ _ (at-validate-texts .validate-texts .ensures) (at-enum-told .enum-told .given .1)) (at-strip-into .strip-into .ensures .1))
+    (passed-legal _ _ (at-validate-text .validate-text .ensures) (at-enum-told .enum-told .given .1)) (at-strip-into .strip-into .ensures .1))
 
 same-length-2 : tie.Need-same-length-2
 same-length-2 c = search needs
@@ -65,19 +59,17 @@ returns-4 c =
     let at-strip-into = c .before .before .before .before in
     let at-if1 = at-strip-into .before .before in
     let at-enum-told = at-if1 .before in
-    let at-validate-texts = at-enum-told .before .before in
+    let at-validate-text = at-enum-told .before .before in
     absurd
     (strip-never _ _ _
-    (omega (arith, passed-short _ _ (at-validate-texts .validate-texts .ensures) (at-enum-told .enum-told .given .1), at-if1 .if1 .left))
+    (omega (arith, passed-short _ _ (at-validate-text .validate-text .ensures) (at-enum-told .enum-told .given .1), at-if1 .if1 .left))
     (at-strip-into .strip-into .ensures .0) (c .enum-told2 .given .1))
 
 pub strip-variant-selections-spec : {M : Type 1} → statement M
 strip-variant-selections-spec =
     tie.close
     (tie.spec
-    slice-aggregate-validate-texts
-    slice-aggregate-validate-texts-2
-    validate-texts-requires
+    validate-text-requires
     enum-known-q
     returns
     enum-told

@@ -6,22 +6,16 @@ use borrow.Author.Needs.{needs}
 use Rattle.path_target.proofs.embedded_target.Statement.{statement}
 use Rattle.path_target.proofs.embedded_target.Tie as tie
 
-slice-aggregate-validate-texts : tie.Need-slice-aggregate-validate-texts
-slice-aggregate-validate-texts c = search needs
-
-slice-aggregate-validate-texts-2 : tie.Need-slice-aggregate-validate-texts-2
-slice-aggregate-validate-texts-2 c = search needs
-
-validate-texts-requires : tie.Need-validate-texts-requires
-validate-texts-requires c κs = search needs
+validate-text-requires : tie.Need-validate-text-requires
+validate-text-requires c κs = search needs
 
 enum-known-q : tie.Need-enum-known-q
 enum-known-q c = search needs
 
 returns : tie.Need-returns
 returns c =
-    let at-validate-texts = c .before .before .before in
-    refusing _ _ (embedded-unfolded _ _ ∙ answered-refused _ _ _ _ (at-validate-texts .validate-texts .ensures) _ (c .before .q .given .1)) _
+    let at-validate-text = c .before .before .before in
+    refusing _ _ (embedded-unfolded _ _ ∙ answered-refused _ _ _ _ (at-validate-text .validate-text .ensures) _ (c .before .q .given .1)) _
 
 enum-told : tie.Need-enum-told
 enum-told c = search needs
@@ -29,9 +23,9 @@ enum-told c = search needs
 returns-2 : tie.Need-returns-2
 returns-2 c =
     let at-enum-told = c .before in
-    let at-validate-texts = at-enum-told .before .before in
+    let at-validate-text = at-enum-told .before .before in
     refusing _ _
-    (embedded-unfolded _ _ ∙ answered-short _ _ _ _ (at-validate-texts .validate-texts .ensures) (at-enum-told .enum-told .given .1) (c .if1 .taken))
+    (embedded-unfolded _ _ ∙ answered-short _ _ _ _ (at-validate-text .validate-text .ensures) (at-enum-told .enum-told .given .1) (c .if1 .taken))
     _
 
 target-text-requires : tie.Need-target-text-requires
@@ -43,8 +37,8 @@ returns-3 c =
     let at-target-text = c .before in
     let at-if1 = at-target-text .before in
     let at-enum-told = at-if1 .before in
-    let at-validate-texts = at-enum-told .before .before in
-    let valid = at-validate-texts .validate-texts .ensures in
+    let at-validate-text = at-enum-told .before .before in
+    let valid = at-validate-text .validate-text .ensures in
     let passes = at-enum-told .enum-told .given .1 in
     refusing _ _
     (embedded-unfolded _ _ ∙ answered-passed _ _ _ _ valid passes (at-if1 .if1 .left)
@@ -64,8 +58,8 @@ returns-4 c =
     let at-target-text = at-if2 .before in
     let at-if1 = at-target-text .before in
     let at-enum-told = at-if1 .before in
-    let at-validate-texts = at-enum-told .before .before in
-    let valid = at-validate-texts .validate-texts .ensures in
+    let at-validate-text = at-enum-told .before .before in
+    let valid = at-validate-text .validate-text .ensures in
     let passes = at-enum-told .enum-told .given .1 in
     answering _ _ (embedded-unfolded _ _ ∙ answered-passed _ _ _ _ valid passes (at-if1 .if1 .left)) _ _ _
     (embedded-written _ _ valid passes _ (at-target-text .target-text .ensures) _ _ (at-if2 .if2 .left) (at-if1 .if1 .left)
@@ -75,9 +69,7 @@ pub embedded-target-spec : {M : Type 1} → statement M
 embedded-target-spec =
     tie.close
     (tie.spec
-    slice-aggregate-validate-texts
-    slice-aggregate-validate-texts-2
-    validate-texts-requires
+    validate-text-requires
     enum-known-q
     returns
     enum-told
