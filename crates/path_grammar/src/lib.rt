@@ -110,8 +110,8 @@ fn is_legal_within(p: &[u8], depth: usize) -> bool
     is_legal_within(inner, depth - 1)
 }
 
-// Returns whether the text is a legal path, regardless of its length. A call with fewer texts passes empty
-// ones, so these are answered first; a text that does not end in `]` is scanned once.
+// Returns whether the text is a legal path, regardless of its length. A text that does not end in `]` has no
+// brackets and is scanned once.
 pub fn is_legal(p: &[u8]) -> bool
     ensures { λ r. ⌜ r ≡ legal (now (p .entry)) ⌝ }
 {

@@ -30,7 +30,7 @@ use Rattle.path_target.specs.Calls.{embeddedTargetCall, replaceEmbeddedT
 use Rattle.path_target.proofs.TargetLaws.{parts-length, embedded-some, embedded-none}
 use Rattle.path_target.proofs.Theorem.{target-legal, target-not-empty}
 
--- Each call as the code validates it: always with three texts, the missing ones empty.
+-- Each call as the code validates it: one text, or three, of which one may be empty.
 module _ (p : Text) (room : ℕ) where
   pub embedded-unfolded : embeddedTargetCall p room ≡ afterChecks (validateTexts (p ∷ [])) room (checkedOption (embeddedTarget p))
   unfolding embeddedTargetCall
