@@ -1,7 +1,7 @@
 -- Lemmas for the branches of the functions of this crate.
 use mathlib.Core.Path.{_≡_, sym, ap, _∙_}
 use mathlib.Core.Bool.{Bool, true, false, not}
-use Prim.Native.Nat.{ℕ, _≤_}
+use Prim.Native.Nat.{ℕ}
 use lib.ListN.{length, take}
 use lib.Seq.{length-take-le}
 use Rattle.text.specs.Text.{Text, lacksByte, takeUntil}
@@ -9,17 +9,13 @@ use Rattle.text.proofs.UntilLaws.{take-until-length, take-until-slice}
 use Rattle.path_grammar.specs.Own.{ownPart, hasVariantSelection}
 use Rattle.path_grammar.proofs.OwnLaws.{selection-scan, lacks-free}
 
--- Lemmas for `own_part`.
-module _ (p : Text) (n : ℕ) (h : n ≡ length (takeUntil 91 p)) where
-  pub own-inside : n ≤ length p
-  own-inside = rw h (take-until-length 91 p)
+-- Lemmas for `own_part`. The index of a byte lies in the text, whatever the byte is.
+pub own-count : (b : ℕ) (p : Text) (n : ℕ) → n ≡ length (takeUntil b p) → n ≡ length (take n p)
+own-count b p n h = sym (length-take-le n p (rw h (take-until-length b p)))
 
-  pub own-count : n ≡ length (take n p)
-  own-count = sym (length-take-le n p own-inside)
-
-  pub own-taken : take n p ≡ ownPart p
-  unfolding ownPart
-  own-taken = rw h (take-until-slice 91 p)
+pub own-taken : (p : Text) (n : ℕ) → n ≡ length (takeUntil 91 p) → take n p ≡ ownPart p
+unfolding ownPart
+own-taken p n h = rw h (take-until-slice 91 p)
 
 -- Lemmas for `has_variant_selection`.
 module _ (p : Text) (b : Bool) where
