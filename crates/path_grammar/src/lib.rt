@@ -111,8 +111,7 @@ fn is_legal_within(p: &[u8], depth: usize) -> bool
 }
 
 // Returns whether the text is a legal path, regardless of its length. A text that does not end in `]` has no
-// brackets and is scanned here, as `is_legal_own` does it: a call of that function for every text would be
-// slower by a tenth where texts are short.
+// brackets and is scanned once.
 pub fn is_legal(p: &[u8]) -> bool
     ensures { λ r. ⌜ r ≡ legal (now (p .entry)) ⌝ }
 {
@@ -122,19 +121,7 @@ pub fn is_legal(p: &[u8]) -> bool
     if text::last_is(p, b']') {
         return is_legal_within(p, 4);
     }
-    if p[0] == b'/' {
-        if p.len() == 1 {
-            return true;
-        }
-        let mut code = 18;
-        let mut i = 1;
-        while i < p.len() {
-            code = next(code, p[i]);
-            i += 1;
-        }
-        return code % 64 < 18;
-    }
-    false
+    is_legal_own(p)
 }
 
 // Like `row`, but treats `.` and `{` as bytes that no path contains.
