@@ -20,6 +20,7 @@ use Rattle.path.specs.declared.Test.{Test}
 use Rattle.path.specs.declared.Test.the-variants.{Holds, Refused as RefusedTest}
 use Rattle.path.specs.declared.Count.{Count}
 use Rattle.path.specs.declared.Count.the-variants.{Counted, Refused as RefusedCount}
+use Rattle.relocate_chain.specs.Chain.{Chained, chained, stopped}
 
 -- Values to which a function gives different numbers are not equal.
 pub apart : {A : Type 0} (f : A → ℕ) {x y : A} → eqb (f x) (f y) ≡ false → x ≢ y
@@ -56,6 +57,11 @@ unfoldable pub outcomeNumber : Outcome → ℕ
 unfolding textNumber
 outcomeNumber (path q) = 16 * textNumber q
 outcomeNumber (refused x) = refusalNumber x
+
+unfoldable pub chainNumber : Chained → ℕ
+unfolding textNumber
+chainNumber (chained q k) = 16 + k + 256 * textNumber q
+chainNumber (stopped x) = refusalNumber x
 
 -- The bits of both numbers of a time offset, 64 each.
 unfoldable pub timeNumber : LayerOffset → ℕ

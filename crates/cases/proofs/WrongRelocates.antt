@@ -1,25 +1,16 @@
 -- Every wrong answer of a call on relocate lists and routes differs from the right one, by computing both.
 use mathlib.Core.Path.{refl}
-use Prim.Native.Nat.{ℕ, _+_, _*_}
-use Rattle.refusal.specs.Refusal.{refusalNumber}
 use Rattle.path_prefix.specs.Elements.{countElements}
 use Rattle.route_spec.specs.Leg.{outward, homeward}
 use Rattle.pair_list.specs.Places.{pairsIn}
 use Rattle.relocates.specs.Status.{statusList}
 use Rattle.relocates.specs.Calls.{analyzeReply}
-use Rattle.relocate_chain.specs.Chain.{Chained, chained, stopped}
 use Rattle.relocate_chain.specs.Calls.{chainCall, chainBuffer, shiftCall}
 use Rattle.route.specs.Calls.{routeCall}
 use Rattle.batch.specs.Batch.{mappedAt, routedAt, validateMapAll, validateRouteAll}
 use Rattle.cases.specs.Lent.{storeOf, placesOf, lentPairs}
 use Rattle.cases.specs.WrongRelocates.{WrongRelocates}
-use Rattle.cases.proofs.Tell.{apart, textNumber, validationNumber, replyNumber, outcomeNumber}
-
--- A number for the outcome of a chain.
-unfoldable chainNumber : Chained → ℕ
-unfolding textNumber
-chainNumber (chained q k) = 16 + k + 256 * textNumber q
-chainNumber (stopped x) = refusalNumber x
+use Rattle.cases.proofs.Tell.{apart, textNumber, validationNumber, replyNumber, outcomeNumber, chainNumber}
 
 pub wrong-relocates : WrongRelocates
 unfolding countElements outward homeward storeOf placesOf lentPairs pairsIn statusList analyzeReply chainCall chainBuffer shiftCall routeCall mappedAt routedAt validateMapAll validateRouteAll textNumber validationNumber replyNumber outcomeNumber chainNumber

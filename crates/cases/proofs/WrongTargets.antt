@@ -6,13 +6,15 @@ use Rattle.path.specs.Calls.{pathNewCall, isEndCall, hasVariantSelectionCall, h
 use Rattle.path_derive.specs.Calls.{replacePrefixCall, parentCall, primPathCall, splitPropertyCall, stripCall, ancestorsReply}
 use Rattle.path_target.specs.Calls.{embeddedTargetCall, replaceEmbeddedTargetCall}
 use Rattle.map_spec.specs.Leg.{translateChecked, mapBackChecked}
-use Rattle.relocate_chain.specs.Calls.{shiftCall}
+use Rattle.relocate_chain.specs.Calls.{chainCall, shiftCall}
+use Rattle.route_spec.specs.Leg.{outward, homeward}
+use Rattle.route.specs.Calls.{routeCall}
 use Rattle.cases.specs.Lent.{storeOf, placesOf, lentPairs}
 use Rattle.cases.specs.WrongTargets.{WrongTargets}
-use Rattle.cases.proofs.Tell.{apart, validationNumber, testNumber, countNumber, replyNumber, outcomeNumber}
+use Rattle.cases.proofs.Tell.{apart, validationNumber, testNumber, countNumber, replyNumber, outcomeNumber, chainNumber}
 
 pub wrong-targets : WrongTargets
-unfolding countElements pairsIn storeOf placesOf lentPairs pathNewCall isEndCall hasVariantSelectionCall hasPrefixCall elementCountCall primElementCountCall replacePrefixCall parentCall primPathCall splitPropertyCall stripCall ancestorsReply embeddedTargetCall replaceEmbeddedTargetCall translateChecked mapBackChecked shiftCall validationNumber testNumber countNumber replyNumber outcomeNumber
+unfolding countElements pairsIn storeOf placesOf lentPairs pathNewCall isEndCall hasVariantSelectionCall hasPrefixCall elementCountCall primElementCountCall replacePrefixCall parentCall primPathCall splitPropertyCall stripCall ancestorsReply embeddedTargetCall replaceEmbeddedTargetCall translateChecked mapBackChecked chainCall shiftCall outward homeward routeCall validationNumber testNumber countNumber replyNumber outcomeNumber chainNumber
 wrong-targets = record {
   target-refused = apart validationNumber refl;
   root-refused = apart validationNumber refl;
@@ -43,7 +45,11 @@ wrong-targets = record {
   target-translated = apart outcomeNumber refl;
   target-translated-stripped = apart outcomeNumber refl;
   target-mapped-back = apart outcomeNumber refl;
+  target-chained = apart chainNumber refl;
   target-shifted = apart outcomeNumber refl;
+  target-routed = apart outcomeNumber refl;
+  target-routed-stripped = apart outcomeNumber refl;
+  target-routed-home = apart outcomeNumber refl;
   embedded-first-close = apart outcomeNumber refl;
   embedded-with-brackets = apart outcomeNumber refl;
   embedded-innermost = apart outcomeNumber refl;

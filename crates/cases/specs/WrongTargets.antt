@@ -1,8 +1,9 @@
 -- Meaning: Wrong answers of the calls for paths with a target in brackets. Each field names an input and an answer that the definition of the call
 -- excludes; the comment says which mistake would give that answer.
 use mathlib.Core.Logic.{_≢_}
-use mathlib.Core.Bool.{true}
+use mathlib.Core.Bool.{true, false}
 use mathlib.Core.List.{[], _++_}
+use mathlib.Core.Option.{none}
 use lib.ListN.{replicate}
 use Rattle.text.specs.Text.{bytes}
 use Rattle.text.specs.Bytes.{upperA}
@@ -16,9 +17,12 @@ use Rattle.path.specs.Calls.{pathNewCall, isEndCall, hasVariantSelectionCall, h
 use Rattle.path_derive.specs.Calls.{replacePrefixCall, parentCall, primPathCall, splitPropertyCall, stripCall, ancestorsReply}
 use Rattle.path_target.specs.Calls.{embeddedTargetCall, replaceEmbeddedTargetCall}
 use Rattle.map_spec.specs.Leg.{translateChecked, mapBackChecked}
-use Rattle.relocate_chain.specs.Calls.{shiftCall}
+use Rattle.relocate_chain.specs.Chain.{chained}
+use Rattle.relocate_chain.specs.Calls.{chainCall, shiftCall}
+use Rattle.route.specs.Calls.{routeCall}
 use Rattle.cases.specs.Lent.{unmarkedMap, lentPairs}
 use Rattle.cases.specs.WrongMaps.{aToBList}
+use Rattle.cases.specs.WrongRelocates.{twoLegs}
 
 pub record WrongTargets : Type 0 where
   -- `new`: no path in brackets is legal; a fifth bracket; a bracket after a selection or a name; nothing, or a relative path, in the brackets;
@@ -57,11 +61,15 @@ pub record WrongTargets : Type 0 where
   -- `replace_prefix`: the target moved too; the target lost.
   pub target-replaced : replacePrefixCall (bytes "/A.r[/A]") (bytes "/A") (bytes "/B") 255 ≢ path (bytes "/B.r[/B]")
   pub target-lost : replacePrefixCall (bytes "/A.r[/A]") (bytes "/A") (bytes "/B") 255 ≢ path (bytes "/B.r")
-  -- Translation, plainly back, chaining and shifting: the target moved too; translation that strips inside brackets.
+  -- Translation, plainly back, chaining, shifting and routes: the target moved too; translation and a route that strip inside brackets.
   pub target-translated : translateChecked (unmarkedMap aToBList) (bytes "/A.r[/A]") ≢ path (bytes "/B.r[/B]")
   pub target-translated-stripped : translateChecked (unmarkedMap aToBList) (bytes "/A.r[/A{v=p}]") ≢ path (bytes "/B.r[/A]")
   pub target-mapped-back : mapBackChecked (unmarkedMap aToBList) (bytes "/B.r[/B]") ≢ path (bytes "/A.r[/A]")
+  pub target-chained : chainCall (lentPairs aToBList) none (bytes "/A.r[/A]") 255 ≢ chained (bytes "/B.r[/B]") 1
   pub target-shifted : shiftCall (lentPairs aToBList) (bytes "/A/c.r[/A/c]") 255 ≢ path (bytes "/B/c.r[/B/c]")
+  pub target-routed : routeCall false twoLegs (bytes "/A.r[/A]") 255 ≢ path (bytes "/C.r[/C]")
+  pub target-routed-stripped : routeCall false twoLegs (bytes "/A.r[/A{v=p}]") 255 ≢ path (bytes "/C.r[/A]")
+  pub target-routed-home : routeCall true twoLegs (bytes "/C.r[/C]") 255 ≢ path (bytes "/A.r[/A]")
   -- `embedded_target`: the first closing bracket taken; with the brackets; the innermost target; 6 for a path with a target.
   pub embedded-first-close : embeddedTargetCall (bytes "/A.r[/B.s[/C]]") 255 ≢ path (bytes "/B.s[/C")
   pub embedded-with-brackets : embeddedTargetCall (bytes "/A.r[/T]") 255 ≢ path (bytes "[/T]")

@@ -169,11 +169,14 @@ prefix-of-own-part p s l es = go (targetPart p) refl
     go [] e = rw (own-is p e)
     go (a ∷ z) e = ap (λ (x : Text). hasPrefix x s) (path-whole p l a z e) ∙ prefix-before (ownPart p) z s (own-has-dot p l a z e) es
 
-pub replace-leaves-target : ReplaceLeavesTarget
-replace-leaves-target p s t l es = go (targetPart p) refl
+-- What makes the same of a text with a dot, with and without a bracket after it, leaves the target part of every legal path.
+pub leaves-target : (f : Text → Option Text) → ((o z : Text) → lacksByte 46 o ≡ false → f (o ++ 91 ∷ z) ≡ appended (91 ∷ z) (f o))
+    → (p : Text) → legal p ≡ true → f p ≡ followedByTarget p (f (ownPart p))
+leaves-target f before p l = go (targetPart p) refl
   where
-    go : (x : Text) → targetPart p ≡ x → replacePrefix p s t ≡ followedByTarget p (replacePrefix (ownPart p) s t)
-    go [] e = rw (own-is p e) (sym (with-none p e (replacePrefix p s t)))
-    go (a ∷ z) e =
-        ap (λ (x : Text). replacePrefix x s t) (path-whole p l a z e) ∙ replace-before (ownPart p) z s (own-has-dot p l a z e) es t
-        ∙ appended-target p l a z e (replacePrefix (ownPart p) s t)
+    go : (x : Text) → targetPart p ≡ x → f p ≡ followedByTarget p (f (ownPart p))
+    go [] e = rw (own-is p e) (sym (with-none p e (f p)))
+    go (a ∷ z) e = ap f (path-whole p l a z e) ∙ before (ownPart p) z (own-has-dot p l a z e) ∙ appended-target p l a z e (f (ownPart p))
+
+pub replace-leaves-target : ReplaceLeavesTarget
+replace-leaves-target p s t l es = leaves-target (λ (x : Text). replacePrefix x s t) (λ o z d. replace-before o z s d es t) p l

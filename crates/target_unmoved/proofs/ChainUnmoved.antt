@@ -1,31 +1,31 @@
 -- Chaining and shifting leave the target part: every replacement makes the same of the path and of its own part.
 use mathlib.Core.Path.{_≡_, refl, sym, ap, _∙_}
 use mathlib.Core.Bool.{Bool, true, false, not, cond, _&&_, true≢false}
-use mathlib.Core.List.{List, [], _∷_, _++_, append-nil}
+use mathlib.Core.List.{List, [], _∷_, _++_}
 use mathlib.Core.Logic.{_⊎_, inl, inr}
 use mathlib.Core.Option.{Option, none, some, Option·getD}
 use Prim.Native.Nat.{ℕ, zero, suc, _+_, _≤_}
 use native.Mathlib.Omega.{arith}
-use lib.Dec.{eqb}
 use lib.ListN.{length, take, length-append}
 use lib.Seq.{take-append-seam}
 use Rattle.text.specs.Text.{Text, isNil, isSome, equal, lacksByte}
-use Rattle.text.proofs.BoolLaws.{and-no, eqb-self}
+use Rattle.text.proofs.BoolLaws.{and-no}
 use Rattle.text.proofs.TextLaws.{no-text, equal-is, equal-self, lacks-append}
 use Rattle.path_grammar.specs.Own.{ownPart, targetPart}
-use Rattle.path_grammar.specs.Legal.{legalOwn, legal, isEnd, atMost255}
-use Rattle.path_grammar.proofs.OwnLaws.{own-parts, own-lacks, target-head, own-of, target-of, property-scan}
-use Rattle.path_grammar.proofs.LegalLaws.{own-is, legal-as, legal-without, end-unbracketed, end-undotted, fits-short, short-fits}
+use Rattle.path_grammar.specs.Legal.{legal, isEnd, atMost255}
+use Rattle.path_grammar.proofs.OwnLaws.{own-parts, own-lacks}
+use Rattle.path_grammar.proofs.LegalLaws.{end-unbracketed, end-undotted}
 use Rattle.path_join.specs.Join.{replacePrefix}
 use Rattle.path_join.specs.Tail.{followedByTarget}
-use Rattle.path_join.proofs.TailLaws.{appended, replace-before, own-has-dot, path-whole, appended-target, with-none, replaced-lacks}
+use Rattle.path_join.proofs.TailLaws.{appended, replace-before, replaced-lacks, leaves-target}
 use Rattle.refusal.specs.declared.Refusal.the-variants.{MadeTooLong, MadeIllegal}
 use Rattle.refusal.specs.Outcome.{Outcome, path, refused, checked}
 use Rattle.pair_list.specs.Pair.{Pair, pairAt, sourceAt, targetAt, allEnds}
 use Rattle.pair_list.proofs.BestLaws.{best-agree}
 use Rattle.map_spec.proofs.EndLaws.{ends-source, ends-target}
 use Rattle.relocate_chain.specs.Chain.{longestSource, replacementAt, longestReplacement, isSkipped, ifAltered, replacement, nextReplacement, Chained, chained, stopped, continueChain, chainStep, chainFrom, chain, shiftThroughNearestAncestor}
-use Rattle.target_unmoved.specs.Unmoved.{chainedWithTarget}
+use Rattle.target_unmoved.specs.Unmoved.{LeavesTarget, LeavesTargetChecked, chainedWithTarget}
+use Rattle.target_unmoved.proofs.MadeLaws.{KeepsByte, NotInEnds, bracket-not, dot-not, leaves-checked, made-own, made-target, made-legal, made-shorter}
 
 -- Two texts with the same text appended are equal exactly if they are.
 cancel-tail : (q o t : Text) → q ++ t ≡ o ++ t → q ≡ o
@@ -112,60 +112,89 @@ module _ (l : List Pair) (ends : allEnds l ≡ true) where
       longest-both l (91 ∷ z) (replacement true skip (o ++ 91 ∷ z)) (replacement true skip o)
       (λ i. replacement-before o z d (pairAt l i) (ends-source l ends i) true skip skip refl)
 
-  pub next-leaves : (skip : Option Text) (p : Text) → legal p ≡ true → nextReplacement skip l p ≡ followedByTarget p (nextReplacement skip l (ownPart p))
-  next-leaves skip p k = go (targetPart p) refl
+  pub next-leaves : (skip : Option Text) → LeavesTarget (nextReplacement skip l)
+  next-leaves skip = leaves-target (nextReplacement skip l) (next-before skip)
+
+  -- What shifting finds, before it falls back to the path itself.
+  found : Text → Option Text
+  found x = longestReplacement (replacement false (some x) x) l
+
+  found-before : (o z : Text) → lacksByte 46 o ≡ false → found (o ++ 91 ∷ z) ≡ appended (91 ∷ z) (found o)
+  unfolding found
+  found-before o z d =
+      longest-both l (91 ∷ z) (replacement false (some (o ++ 91 ∷ z)) (o ++ 91 ∷ z)) (replacement false (some o) o)
+      (λ i. replacement-before o z d (pairAt l i) (ends-source l ends i) false (some (o ++ 91 ∷ z)) (some o) (never-skipped o z d (pairAt l i) (ends-source l ends i)))
+
+  shifted : Text → Option Text
+  shifted p = some (shiftThroughNearestAncestor l p)
+
+  shifted-before : (o z : Text) → lacksByte 46 o ≡ false → shifted (o ++ 91 ∷ z) ≡ appended (91 ∷ z) (shifted o)
+  unfolding shifted shiftThroughNearestAncestor found appended
+  shifted-before o z d = ap (λ (x : Option Text). some (Option·getD x (o ++ 91 ∷ z))) (found-before o z d) ∙ go (found o)
     where
-      go : (t : Text) → targetPart p ≡ t → nextReplacement skip l p ≡ followedByTarget p (nextReplacement skip l (ownPart p))
-      go [] e = sym (with-none p e (nextReplacement skip l p)) ∙ ap (λ (x : Text). followedByTarget p (nextReplacement skip l x)) (sym (own-is p e))
-      go (c ∷ z) e =
-          ap (nextReplacement skip l) (path-whole p k c z e) ∙ next-before skip (ownPart p) z (own-has-dot p k c z e)
-          ∙ appended-target p k c z e (nextReplacement skip l (ownPart p))
+      go : (x : Option Text) → some (Option·getD (appended (91 ∷ z) x) (o ++ 91 ∷ z)) ≡ some (Option·getD x o ++ 91 ∷ z)
+      go none = refl
+      go (some q) = refl
+
+  shifted-leaves : LeavesTarget shifted
+  shifted-leaves = leaves-target shifted shifted-before
 
   pub shift-leaves : (p : Text) → legal p ≡ true → shiftThroughNearestAncestor l p ≡ shiftThroughNearestAncestor l (ownPart p) ++ targetPart p
-  unfolding shiftThroughNearestAncestor appended
-  shift-leaves p k = go (targetPart p) refl
-    where
-      found : Text → Option Text
-      found x = longestReplacement (replacement false (some x) x) l
+  unfolding shifted followedByTarget
+  shift-leaves p k = let e : shifted p ≡ followedByTarget p (shifted (ownPart p)) = shifted-leaves p k in cc
 
-      after : (o t : Text) (x : Option Text) → Option·getD (appended t x) (o ++ t) ≡ Option·getD x o ++ t
-      after o t none = refl
-      after o t (some q) = refl
-
-      go : (t : Text) → targetPart p ≡ t → Option·getD (found p) p ≡ Option·getD (found (ownPart p)) (ownPart p) ++ targetPart p
-      go [] e = rw (e, own-is p e) (sym (append-nil (Option·getD (found p) p)))
-      go (c ∷ z) e =
-          let o : Text = ownPart p in
-          let d : lacksByte 46 o ≡ false = own-has-dot p k c z e in
-          let both : found (o ++ 91 ∷ z) ≡ appended (91 ∷ z) (found o)
-          = longest-both l (91 ∷ z) (replacement false (some (o ++ 91 ∷ z)) (o ++ 91 ∷ z)) (replacement false (some o) o)
-          (λ i. replacement-before o z d (pairAt l i) (ends-source l ends i) false (some (o ++ 91 ∷ z)) (some o) (never-skipped o z d (pairAt l i) (ends-source l ends i))) in
-          ap (λ (x : Text). Option·getD (found x) x) (path-whole p k c z e) ∙ ap (λ (x : Option Text). Option·getD x (o ++ 91 ∷ z)) both ∙ after o (91 ∷ z) (found o)
-          ∙ ap (λ (x : Text). Option·getD (found o) o ++ x) (sym (e ∙ ap (λ (n : ℕ). n ∷ z) (target-head p c z e)))
-
--- A byte other than the slash that no end has is in the path made exactly if it was in the path before.
-module _ (l : List Pair) (b : ℕ) (n : eqb 47 b ≡ false) (sources : (i : ℕ) → lacksByte b (sourceAt l i) ≡ true) (targets : (i : ℕ) → lacksByte b (targetAt l i) ≡ true) where
-  made-lacks : (skip : Option Text) (o q : Text) (i : ℕ) → replacement true skip o (pairAt l i) ≡ some q → lacksByte b q ≡ lacksByte b o
+-- A byte that no end has is in the path made exactly if it was in the path before.
+module _ (l : List Pair) (ends : allEnds l ≡ true) (b : ℕ) (n : NotInEnds b) where
+  pair-keeps : (alters : Bool) (skip : Option Text) (o q : Text) (i : ℕ) → replacement alters skip o (pairAt l i) ≡ some q → lacksByte b q ≡ lacksByte b o
   unfolding replacement ifAltered
-  made-lacks skip o q i e = go (isNil (targetAt l i)) (isSkipped skip (sourceAt l i)) (replacePrefix o (sourceAt l i) (targetAt l i)) refl e
+  pair-keeps alters skip o q i e = go (isNil (targetAt l i)) (isSkipped skip (sourceAt l i)) alters (replacePrefix o (sourceAt l i) (targetAt l i)) refl e
     where
-      kept : (c : Bool) (r : Text) → replacePrefix o (sourceAt l i) (targetAt l i) ≡ some r → cond c none (some r) ≡ some q → lacksByte b q ≡ lacksByte b o
-      kept true r k e = absurd (no-text e)
-      kept false r k e = let w : r ≡ q = cc in rw (← w) (replaced-lacks b n o (sourceAt l i) (targetAt l i) r (sources i) (targets i) k)
+      made : (r : Text) → replacePrefix o (sourceAt l i) (targetAt l i) ≡ some r → some r ≡ some q → lacksByte b q ≡ lacksByte b o
+      made r k e =
+          let w : r ≡ q = cc in
+          rw (← w)
+          (replaced-lacks b (n .no-slash) o (sourceAt l i) (targetAt l i) r (n .no-end (sourceAt l i) (ends-source l ends i)) (n .no-end (targetAt l i) (ends-target l ends i)) k)
 
-      go : (c d : Bool) (r : Option Text) → replacePrefix o (sourceAt l i) (targetAt l i) ≡ r → cond c none (cond d none (ifAltered o r)) ≡ some q → lacksByte b q ≡ lacksByte b o
-      go true d r k e = absurd (no-text e)
-      go false true r k e = absurd (no-text e)
-      go false false none k e = absurd (no-text e)
-      go false false (some r) k e = kept (equal r o) r k e
+      altered : (c : Bool) (r : Text) → replacePrefix o (sourceAt l i) (targetAt l i) ≡ some r → cond c none (some r) ≡ some q → lacksByte b q ≡ lacksByte b o
+      altered true r k e = absurd (no-text e)
+      altered false r k e = made r k e
 
-  next-lacks : (skip : Option Text) (o q : Text) → nextReplacement skip l o ≡ some q → lacksByte b q ≡ lacksByte b o
-  unfolding nextReplacement longestReplacement
-  next-lacks skip o q e = go (longestSource (replacement true skip o) l (length l)) e
+      go : (c d a : Bool) (r : Option Text) → replacePrefix o (sourceAt l i) (targetAt l i) ≡ r → cond c none (cond d none (cond a (ifAltered o r) r)) ≡ some q
+          → lacksByte b q ≡ lacksByte b o
+      go true d a r k e = absurd (no-text e)
+      go false true a r k e = absurd (no-text e)
+      go false false true none k e = absurd (no-text e)
+      go false false true (some r) k e = altered (equal r o) r k e
+      go false false false none k e = absurd (no-text e)
+      go false false false (some r) k e = made r k e
+
+  longest-keeps : (alters : Bool) (skip : Option Text) (o q : Text) → longestReplacement (replacement alters skip o) l ≡ some q → lacksByte b q ≡ lacksByte b o
+  unfolding longestReplacement
+  longest-keeps alters skip o q e = go (longestSource (replacement alters skip o) l (length l)) e
     where
-      go : (i : Option ℕ) → replacementAt (replacement true skip o) l i ≡ some q → lacksByte b q ≡ lacksByte b o
+      go : (i : Option ℕ) → replacementAt (replacement alters skip o) l i ≡ some q → lacksByte b q ≡ lacksByte b o
       go none e = absurd (no-text e)
-      go (some i) e = made-lacks skip o q i e
+      go (some i) e = pair-keeps alters skip o q i e
+
+  next-keeps : (skip : Option Text) → KeepsByte b (nextReplacement skip l)
+  unfolding nextReplacement
+  next-keeps skip o q e = longest-keeps true skip o q e
+
+  shifted-keeps : KeepsByte b (shifted l ends)
+  unfolding shifted shiftThroughNearestAncestor
+  shifted-keeps o q e = go (longestReplacement (replacement false (some o) o) l) refl e
+    where
+      go : (x : Option Text) → longestReplacement (replacement false (some o) o) l ≡ x → some (Option·getD x o) ≡ some q → lacksByte b q ≡ lacksByte b o
+      go none h e = let w : o ≡ q = cc in ap (lacksByte b) (sym w)
+      go (some r) h e = let w : r ≡ q = cc in rw (← w) (longest-keeps false (some o) o r h)
+
+module _ (l : List Pair) (ends : allEnds l ≡ true) where
+  pub next-checks : (skip : Option Text) → LeavesTargetChecked (nextReplacement skip l)
+  next-checks skip = leaves-checked (nextReplacement skip l) (next-leaves l ends skip) (λ b n. next-keeps l ends b n skip)
+
+  pub shift-checks : LeavesTargetChecked (λ (p : Text). some (shiftThroughNearestAncestor l p))
+  unfolding shifted
+  shift-checks = leaves-checked (shifted l ends) (shifted-leaves l ends) (shifted-keeps l ends)
 
 -- Two chains agree up to the target part, unless the first was stopped by a path that is too long.
 Agree : Text → Chained → Chained → Type 0
@@ -182,60 +211,41 @@ agree-same p r t x y y′ e (inl h) = inl (h ∙ go y ∙ ap (chainedWithTarget 
 agree-same p r t x y y′ e (inr h) = inr h
 
 module _ (l : List Pair) (ends : allEnds l ≡ true) (skip : Option Text) where
-  -- The path made from the own part of p, and the same followed by the target part of p.
+  -- The path made from the own part of p, and the same followed by the target part of p: one more step.
   module _ (p : Text) (e : legal p ≡ true) (q : Text) (made : nextReplacement skip l (ownPart p) ≡ some q) where
-    made-path : Text
-    made-path = q ++ targetPart p
-
     unbracketed : lacksByte 91 q ≡ true
-    unbracketed =
-        next-lacks l 91 refl (λ i. end-unbracketed (sourceAt l i) (ends-source l ends i)) (λ i. end-unbracketed (targetAt l i) (ends-target l ends i)) skip (ownPart p) q made
-        ∙ own-lacks p
+    unbracketed = next-keeps l ends 91 bracket-not skip (ownPart p) q made ∙ own-lacks p
 
-    made-own : ownPart made-path ≡ q
-    unfolding made-path
-    made-own = own-of q p unbracketed
+    dots : lacksByte 46 q ≡ lacksByte 46 (ownPart p)
+    dots = next-keeps l ends 46 dot-not skip (ownPart p) q made
 
-    made-target : targetPart made-path ≡ targetPart p
-    unfolding made-path
-    made-target = target-of q p unbracketed
-
-    -- Both are legal, or neither is.
-    made-legal : legal made-path ≡ legal q
-    made-legal =
-        legal-as p made-path e
-        (property-scan made-path ∙ ap (λ (x : Text). not (lacksByte 46 x)) made-own
-        ∙ ap not (next-lacks l 46 refl (λ i. end-undotted (sourceAt l i) (ends-source l ends i)) (λ i. end-undotted (targetAt l i) (ends-target l ends i)) skip (ownPart p) q made)
-        ∙ sym (property-scan p))
-        made-target
-        ∙ ap legalOwn made-own ∙ sym (legal-without q unbracketed)
-
-    made-shorter : atMost255 made-path ≡ true → atMost255 q ≡ true
-    unfolding made-path
-    made-shorter h = short-fits q (omega (arith, fits-short (q ++ targetPart p) h, length-append q (targetPart p)))
-
-    -- One more step.
     step-agrees : (n k : ℕ) → ((r : Text) → legal r ≡ true → Agree r (chainFrom skip l n r (suc k)) (chainFrom skip l n (ownPart r) (suc k)))
-        → Agree p (chainStep (chainFrom skip l n) p k (some made-path)) (chainStep (chainFrom skip l n) (ownPart p) k (some q))
+        → Agree p (chainStep (chainFrom skip l n) p k (some (q ++ targetPart p))) (chainStep (chainFrom skip l n) (ownPart p) k (some q))
     unfolding Agree chainStep checked chainedWithTarget
-    step-agrees n k later = short (atMost255 made-path) refl
+    step-agrees n k later = short (atMost255 whole) refl
       where
-        legal-both : (b : Bool) → legal made-path ≡ b → atMost255 q ≡ true
-            → Agree p (continueChain (chainFrom skip l n) k (cond b (path made-path) (refused MadeIllegal))) (continueChain (chainFrom skip l n) k (checked q))
-        legal-both true h s =
-            rw (s, ← made-legal, h)
-            (agree-same p made-path made-target (chainFrom skip l n made-path (suc k)) (chainFrom skip l n (ownPart made-path) (suc k)) (chainFrom skip l n q (suc k))
-            (ap (λ (o : Text). chainFrom skip l n o (suc k)) made-own) (later made-path h))
-        legal-both false h s = rw (s, ← made-legal, h) (inl refl)
+        whole : Text
+        whole = q ++ targetPart p
 
-        short : (b : Bool) → atMost255 made-path ≡ b
-            → Agree p (continueChain (chainFrom skip l n) k (cond b (cond (legal made-path) (path made-path) (refused MadeIllegal)) (refused MadeTooLong)))
+        both : legal whole ≡ legal q
+        both = made-legal p e q unbracketed dots
+
+        legal-both : (b : Bool) → legal whole ≡ b → atMost255 q ≡ true
+            → Agree p (continueChain (chainFrom skip l n) k (cond b (path whole) (refused MadeIllegal))) (continueChain (chainFrom skip l n) k (checked q))
+        legal-both true h s =
+            rw (s, ← both, h)
+            (agree-same p whole (made-target p e q unbracketed dots) (chainFrom skip l n whole (suc k)) (chainFrom skip l n (ownPart whole) (suc k)) (chainFrom skip l n q (suc k))
+            (ap (λ (o : Text). chainFrom skip l n o (suc k)) (made-own p e q unbracketed dots)) (later whole h))
+        legal-both false h s = rw (s, ← both, h) (inl refl)
+
+        short : (b : Bool) → atMost255 whole ≡ b
+            → Agree p (continueChain (chainFrom skip l n) k (cond b (cond (legal whole) (path whole) (refused MadeIllegal)) (refused MadeTooLong)))
             (continueChain (chainFrom skip l n) k (checked q))
-        short true h = legal-both (legal made-path) refl (made-shorter h)
+        short true h = legal-both (legal whole) refl (made-shorter p e q unbracketed dots h)
         short false h = inr refl
 
   chain-agrees : (n : ℕ) (p : Text) → legal p ≡ true → (k : ℕ) → Agree p (chainFrom skip l n p k) (chainFrom skip l n (ownPart p) k)
-  unfolding chainFrom chainStep Agree chainedWithTarget followedByTarget made-path
+  unfolding chainFrom chainStep Agree chainedWithTarget followedByTarget
   chain-agrees zero p e k = inl (ap (λ (x : Text). chained x k) (sym (own-parts p)))
   chain-agrees (suc n) p e k = rw (next-leaves l ends skip p e) (go (nextReplacement skip l (ownPart p)) refl (λ r f. chain-agrees n r f (suc k)))
     where

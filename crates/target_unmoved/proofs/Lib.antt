@@ -1,4 +1,5 @@
 -- The lemmas of this crate.
+mod MadeLaws
 mod MapUnmoved
 mod ChainUnmoved
 pub mod Theorem

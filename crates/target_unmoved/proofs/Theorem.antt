@@ -1,7 +1,7 @@
 -- The theorems of specs/Unmoved.antt.
 use Rattle.target_unmoved.specs.Unmoved.{TargetUnmoved}
-use Rattle.target_unmoved.proofs.MapUnmoved.{out-leaves, home-leaves, translation-leaves}
-use Rattle.target_unmoved.proofs.ChainUnmoved.{next-leaves, shift-leaves, chain-leaves}
+use Rattle.target_unmoved.proofs.MapUnmoved.{out-leaves, home-leaves, translation-leaves, out-checks, home-checks, translation-checks}
+use Rattle.target_unmoved.proofs.ChainUnmoved.{next-leaves, shift-leaves, chain-leaves, next-checks, shift-checks}
 
 pub target-unmoved : TargetUnmoved
 target-unmoved = record {
@@ -11,4 +11,9 @@ target-unmoved = record {
   shifting = shift-leaves;
   replacing = λ skip l ends. next-leaves l ends skip;
   chaining = λ skip l ends. chain-leaves l ends skip;
+  out-checked = out-checks;
+  home-checked = home-checks;
+  translation-checked = translation-checks;
+  shifting-checked = shift-checks;
+  replacing-checked = λ skip l ends. next-checks l ends skip;
 }

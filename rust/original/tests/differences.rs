@@ -72,6 +72,17 @@ fn the_parent_of_a_path_with_brackets_is_no_prefix() {
     assert_eq!(text(target.replace_prefix(&path("/A.r"), &path("/X.s"))), None);
 }
 
+/// Replacing a prefix leaves the target, which is no element of the path; without a target there is none to be had, and of two it is
+/// the first.
+#[test]
+fn targets_are_left_and_not_counted() {
+    let replaced = path("/A.r[/A]").replace_prefix(&path("/A"), &path("/B"));
+    assert_eq!(text(replaced), some("/B.r[/A]"));
+    assert_eq!(path("/A.r[/T]").element_count(), 1);
+    assert_eq!(text(path("/A").embedded_target()), None);
+    assert_eq!(text(path("/A.r[/T].x[/U]").embedded_target()), some("/T"));
+}
+
 /// Selections in brackets are not the path's own; the comment on `components` says of stripping that it removes them too.
 #[test]
 fn stripping_leaves_selections_in_brackets() {
