@@ -30,10 +30,10 @@ module _ (p : Text) where
   unfolding primElementCountCall
   names-unfolded = refl
 
-  pub prefix-unfolded : (s : Text) → hasPrefixCall p s ≡ refusedOr (validateTexts (p ∷ s ∷ [] ∷ [])) RefusedTest (Holds (hasPrefix p s))
+  pub prefix-unfolded : (s : Text) → hasPrefixCall p s ≡ refusedOr (validateTexts (p ∷ s ∷ [])) RefusedTest (Holds (hasPrefix p s))
   unfolding hasPrefixCall
   prefix-unfolded s = refl
 
-  pub rest-unfolded : (s : Text) → restStartCall p s ≡ refusedOr (validateTexts (p ∷ s ∷ [] ∷ [])) RefusedRestTest (Tested (restStart p s))
+  pub rest-unfolded : (s : Text) → restStartCall p s ≡ refusedOr (validateTexts (p ∷ s ∷ [])) RefusedRestTest (Tested (restStart p s))
   unfolding restStartCall
   rest-unfolded s = refl

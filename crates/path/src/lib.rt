@@ -55,7 +55,7 @@ pub fn has_variant_selection(path: &[u8]) -> Test
 pub fn has_prefix(path: &[u8], prefix: &[u8]) -> Test
     ensures { λ r. ⌜ r ≡ hasPrefixCall (now (path .entry)) (now (prefix .entry)) ⌝ }
 {
-    let q = refusal::validate_texts(path, prefix, b"");
+    let q = refusal::validate_two_texts(path, prefix);
     if let refusal::Validation::Refused(x) = q {
         return Test::Refused(x);
     }
@@ -66,7 +66,7 @@ pub fn has_prefix(path: &[u8], prefix: &[u8]) -> Test
 pub fn rest_start(path: &[u8], prefix: &[u8]) -> RestTest
     ensures { λ r. ⌜ r ≡ restStartCall (now (path .entry)) (now (prefix .entry)) ⌝ }
 {
-    let q = refusal::validate_texts(path, prefix, b"");
+    let q = refusal::validate_two_texts(path, prefix);
     if let refusal::Validation::Refused(x) = q {
         return RestTest::Refused(x);
     }

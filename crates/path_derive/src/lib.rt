@@ -34,7 +34,7 @@ pub fn replace_prefix(path: &[u8], old: &[u8], new: &[u8], out: &mut [u8]) -> re
         (length (now (out .entry)))) r (now (out .entry)) (now (out .exit)) ⌝ }
     ensures { λ r. ⌜ WrittenInParts (now (path .entry)) (now (old .entry)) (now (new .entry)) r (now (out .exit)) ⌝ }
 {
-    let q = refusal::validate_texts(path, old, new);
+    let q = refusal::validate_three_texts(path, old, new);
     if let refusal::Validation::Refused(x) = q {
         return refusal::Reply::Refused(x);
     }

@@ -36,7 +36,7 @@ module _ (p : Text) (room : ℕ) where
   unfolding embeddedTargetCall
   embedded-unfolded = refl
 
-  pub replace-unfolded : (t : Text) → replaceEmbeddedTargetCall p t room ≡ afterChecks (validateTexts (p ∷ t ∷ [] ∷ [])) room (checkedOption (replaceEmbeddedTarget p t))
+  pub replace-unfolded : (t : Text) → replaceEmbeddedTargetCall p t room ≡ afterChecks (validateTexts (p ∷ t ∷ [])) room (checkedOption (replaceEmbeddedTarget p t))
   unfolding replaceEmbeddedTargetCall
   replace-unfolded t = refl
 

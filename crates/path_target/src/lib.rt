@@ -159,7 +159,7 @@ pub fn replace_embedded_target(path: &[u8], target: &[u8], out: &mut [u8]) -> re
     ensures { λ r. ⌜ ReturnsPath (replaceEmbeddedTargetCall (now (path .entry)) (now (target .entry))
         (length (now (out .entry)))) r (now (out .entry)) (now (out .exit)) ⌝ }
 {
-    let q = refusal::validate_texts(path, target, b"");
+    let q = refusal::validate_two_texts(path, target);
     if let refusal::Validation::Refused(x) = q {
         return refusal::Reply::Refused(x);
     }

@@ -1,4 +1,4 @@
--- Lemmas for the branches of `all_texts_short`, `all_texts_legal` and `validate_texts`.
+-- Lemmas for the branches of the functions that validate texts.
 use mathlib.Core.Path.{_≡_}
 use mathlib.Core.Bool.{Bool, true, false, not}
 use mathlib.Core.List.{List, [], _∷_}
@@ -51,19 +51,39 @@ module _ (ts : List Text) (x y : Bool) where
   unfolding validateTexts
   validate-passed h k l m = rw (known-true h k, known-true l m)
 
+-- The first of several texts is too long.
+pub text-long : (p : Text) (ts : List Text) → 255 < length p → Refused TooLong ≡ validateTexts (p ∷ ts)
+unfolding validateTexts allTextsShort atMost255
+text-long p ts h = rw (lt-leb (length p) 255 h)
+
 -- One text.
-module _ (p : Text) where
-  pub text-long : 255 < length p → Refused TooLong ≡ validateTexts (p ∷ [])
+module _ (p : Text) (l : length p ≤ 255) (x : Bool) (h : x ≡ legal p) where
+  pub text-illegal : not x ≡ true → Refused Illegal ≡ validateTexts (p ∷ [])
+  unfolding validateTexts allTextsShort allTextsLegal atMost255
+  text-illegal k = rw (le-leb (length p) 255 l, known-false h k)
+
+  pub text-passed : not x ≡ false → Passed ≡ validateTexts (p ∷ [])
+  unfolding validateTexts allTextsShort allTextsLegal atMost255
+  text-passed k = rw (le-leb (length p) 255 l, known-true h k)
+
+-- Two texts.
+module _ (p q : Text) (l : length p ≤ 255) where
+  pub second-text-long : 255 < length q → Refused TooLong ≡ validateTexts (p ∷ q ∷ [])
   unfolding validateTexts allTextsShort atMost255
-  text-long h = rw (lt-leb (length p) 255 h)
+  second-text-long h = rw (le-leb (length p) 255 l, lt-leb (length q) 255 h)
 
-  module _ (l : length p ≤ 255) (x : Bool) (h : x ≡ legal p) where
-    pub text-illegal : not x ≡ true → Refused Illegal ≡ validateTexts (p ∷ [])
+  module _ (k : length q ≤ 255) (x : Bool) (h : x ≡ legal p) where
+    pub first-text-illegal : not x ≡ true → Refused Illegal ≡ validateTexts (p ∷ q ∷ [])
     unfolding validateTexts allTextsShort allTextsLegal atMost255
-    text-illegal k = rw (le-leb (length p) 255 l, known-false h k)
+    first-text-illegal n = rw (le-leb (length p) 255 l, le-leb (length q) 255 k, known-false h n)
 
-    pub text-passed : not x ≡ false → Passed ≡ validateTexts (p ∷ [])
-    unfolding validateTexts allTextsShort allTextsLegal atMost255
-    text-passed k = rw (le-leb (length p) 255 l, known-true h k)
+    module _ (n : not x ≡ false) (y : Bool) (g : y ≡ legal q) where
+      pub second-text-illegal : not y ≡ true → Refused Illegal ≡ validateTexts (p ∷ q ∷ [])
+      unfolding validateTexts allTextsShort allTextsLegal atMost255
+      second-text-illegal m = rw (le-leb (length p) 255 l, le-leb (length q) 255 k, known-true h n, known-false g m)
 
-pub ruleset asks = (text-long, text-illegal, text-passed, fit-first, fit-second, fit-third, legal-first, legal-second, legal-third, validate-long, validate-illegal, validate-passed)
+      pub two-texts-passed : not y ≡ false → Passed ≡ validateTexts (p ∷ q ∷ [])
+      unfolding validateTexts allTextsShort allTextsLegal atMost255
+      two-texts-passed m = rw (le-leb (length p) 255 l, le-leb (length q) 255 k, known-true h n, known-true g m)
+
+pub ruleset asks = (text-long, text-illegal, text-passed, second-text-long, first-text-illegal, second-text-illegal, two-texts-passed, fit-first, fit-second, fit-third, legal-first, legal-second, legal-third, validate-long, validate-illegal, validate-passed)

@@ -84,6 +84,25 @@ pub fn validate_text(text: &[u8]) -> Validation
     Validation::Passed
 }
 
+// Validates two texts (questions 1 and 2).
+pub fn validate_two_texts(first: &[u8], second: &[u8]) -> Validation
+    ensures { λ r. ⌜ r ≡ validateTexts (now (first .entry) ∷ now (second .entry) ∷ []) ⌝ }
+{
+    if 255 < first.len() {
+        return Validation::Refused(Refusal::TooLong);
+    }
+    if 255 < second.len() {
+        return Validation::Refused(Refusal::TooLong);
+    }
+    if !path_grammar::is_legal(first) {
+        return Validation::Refused(Refusal::Illegal);
+    }
+    if !path_grammar::is_legal(second) {
+        return Validation::Refused(Refusal::Illegal);
+    }
+    Validation::Passed
+}
+
 // Question 1: returns whether each of the three texts has at most 255 bytes.
 fn all_texts_short(a: &[u8], b: &[u8], c: &[u8]) -> bool
     ensures { λ r. ⌜ r ≡ allTextsShort (now (a .entry) ∷ now (b .entry) ∷ now (c .entry) ∷ []) ⌝ }
@@ -110,8 +129,8 @@ fn all_texts_legal(a: &[u8], b: &[u8], c: &[u8]) -> bool
     path_grammar::is_legal(c)
 }
 
-// Validates three texts (questions 1 and 2). A call with two texts passes an empty one too, which is valid.
-pub fn validate_texts(a: &[u8], b: &[u8], c: &[u8]) -> Validation
+// Validates three texts (questions 1 and 2).
+pub fn validate_three_texts(a: &[u8], b: &[u8], c: &[u8]) -> Validation
     ensures { λ r. ⌜ r ≡ validateTexts (now (a .entry) ∷ now (b .entry) ∷ now (c .entry) ∷ []) ⌝ }
 {
     if !all_texts_short(a, b, c) {

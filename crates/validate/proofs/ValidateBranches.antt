@@ -42,6 +42,11 @@ module _ (store : Text) (places : List ℕ) (count : ℕ) (p q : Text) where
   list-short h k n e r f = rw (le-leb (length p) 255 h, le-leb (length q) 255 k, ← e) f
 
 -- Lemmas for questions 2 and 3.
+pub list-scanned : (passes : Text → Bool) (store : Text) (places : List ℕ) (count n : ℕ) → n ≡ presentPlaces (lentList [] places count) → (r : Bool)
+    → r ≡ placesAll passes store places n → r ≡ listAll passes (lentList store places count)
+unfolding listAll presentPlaces
+list-scanned passes store places count n g r i = rw (← g) i
+
 module _ (passes : Text → Bool) (store : Text) (places : List ℕ) (count : ℕ) (p q : Text) (a : Bool) (e : a ≡ passes p) where
   pub first-fails : not a ≡ true → false ≡ (every passes (p ∷ q ∷ []) && listAll passes (lentList store places count))
   unfolding every
@@ -52,10 +57,14 @@ module _ (passes : Text → Bool) (store : Text) (places : List ℕ) (count : �
     unfolding every
     second-fails k = rw (known-true e h, known-false f k)
 
+    pub list-decides : not b ≡ false → (r : Bool) → r ≡ listAll passes (lentList store places count)
+        → r ≡ (every passes (p ∷ q ∷ []) && listAll passes (lentList store places count))
+    unfolding every
+    list-decides k r i = rw (known-true e h, known-true f k) i
+
     pub list-passes : not b ≡ false → (n : ℕ) → n ≡ presentPlaces (lentList [] places count) → (r : Bool) → r ≡ placesAll passes store places n
         → r ≡ (every passes (p ∷ q ∷ []) && listAll passes (lentList store places count))
-    unfolding every listAll presentPlaces
-    list-passes k n g r i = rw (known-true e h, known-true f k, ← g) i
+    list-passes k n g r i = list-decides k r (list-scanned passes store places count n g r i)
 
 -- If a list has only ends, its texts are legal.
 ends-legal : (store : Text) (places : List ℕ) (n : ℕ) → placesAll isEnd store places n ≡ true → placesAll legal store places n ≡ true
@@ -73,10 +82,13 @@ legal-if-ends l e f a h = go a h
     go true h = ends-legal (l .store) (l .places) (presentPlaces l) (and-r (every isEnd (e ∷ f ∷ [])) (listAll isEnd l) (sym h))
     go false h = refl
 
-pub list-legal : (l : LentList) (p q : Text) (a : Bool) → a ≡ legal p → not a ≡ false → (b : Bool) → b ≡ legal q → not b ≡ false → (ends : Bool)
-    → (not ends || listAll legal l) ≡ true → ends ≡ true → true ≡ (every legal (p ∷ q ∷ []) && listAll legal l)
-unfolding every
-list-legal l p q a e h b f k ends o t = rw (known-true e h, known-true f k) (sym (rw t at o))
+pub list-legal : (l : LentList) (ends : Bool) → (not ends || listAll legal l) ≡ true → ends ≡ true → true ≡ listAll legal l
+list-legal l ends o t = sym (rw t at o)
+
+-- A list beside empty texts.
+pub list-alone : (l : LentList) (r : Bool) → r ≡ listAll legal l → r ≡ (every legal ([] ∷ [] ∷ []) && listAll legal l)
+unfolding every legal
+list-alone l r h = h
 
 -- Lemmas for question 4.
 module _ (places : List ℕ) (count : ℕ) where

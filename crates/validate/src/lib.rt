@@ -33,8 +33,19 @@ fn are_short(store: &[u8], places: &[usize], count: usize, p: &[u8], q: &[u8]) -
     pair_list::all_short(store, places, present_places(places, count))
 }
 
-// Question 2 for a list and two texts: returns whether each text is legal. If the list is known to
-// contain only ends, which are legal, it is not scanned again.
+// Question 2 for a list: returns whether each text is legal. If the list is known to contain only ends, which
+// are legal, it is not scanned again.
+fn list_is_legal(ends: bool, store: &[u8], places: &[usize], count: usize) -> bool
+    requires { ⌜ (not ends || listAll legal (lentList (now store) (now places) count)) ≡ true ⌝ }
+    ensures { λ r. ⌜ r ≡ listAll legal (lentList (now (store .entry)) (now (places .entry)) count) ⌝ }
+{
+    if ends {
+        return true;
+    }
+    pair_list::all_legal(store, places, present_places(places, count))
+}
+
+// Question 2 for a list and two texts: returns whether each text is legal.
 fn are_legal(ends: bool, store: &[u8], places: &[usize], count: usize, p: &[u8], q: &[u8]) -> bool
     requires { ⌜ (not ends || listAll legal (lentList (now store) (now places) count)) ≡ true ⌝ }
     ensures { λ r. ⌜ r ≡ (every legal (now (p .entry) ∷ now (q .entry) ∷ []) && listAll legal
@@ -46,10 +57,7 @@ fn are_legal(ends: bool, store: &[u8], places: &[usize], count: usize, p: &[u8],
     if !path_grammar::is_legal(q) {
         return false;
     }
-    if ends {
-        return true;
-    }
-    pair_list::all_legal(store, places, present_places(places, count))
+    list_is_legal(ends, store, places, count)
 }
 
 // Question 3 for a list and two texts: returns whether each is a prim path, `/` or empty.
@@ -201,8 +209,8 @@ pub fn validate_lists(
     let one = are_ends(store, places, count, e, e);
     let other = are_ends(store2, places2, count2, e, e);
     let legal = both(
-        are_legal(one, store, places, count, e, e),
-        are_legal(other, store2, places2, count2, e, e),
+        list_is_legal(one, store, places, count),
+        list_is_legal(other, store2, places2, count2),
     );
     let ends = both(one, other);
     first_failed(

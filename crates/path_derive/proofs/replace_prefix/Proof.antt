@@ -12,16 +12,16 @@ use borrow.Author.Needs.{needs}
 use Rattle.path_derive.proofs.replace_prefix.Statement.{statement}
 use Rattle.path_derive.proofs.replace_prefix.Tie as tie
 
-validate-texts-requires : tie.Need-validate-texts-requires
-validate-texts-requires c κs = search needs
+validate-three-texts-requires : tie.Need-validate-three-texts-requires
+validate-three-texts-requires c κs = search needs
 
 enum-known-q : tie.Need-enum-known-q
 enum-known-q c = search needs
 
 returns : tie.Need-returns
 returns c =
-    let at-validate-texts = c .before .before .before in
-    (refusing _ _ (replace-unfolded _ _ _ _ ∙ answered-refused _ _ _ _ (at-validate-texts .validate-texts .ensures) _ (c .before .q .given .1)) _, tt)
+    let at-validate-three-texts = c .before .before .before in
+    (refusing _ _ (replace-unfolded _ _ _ _ ∙ answered-refused _ _ _ _ (at-validate-three-texts .validate-three-texts .ensures) _ (c .before .q .given .1)) _, tt)
 
 enum-told : tie.Need-enum-told
 enum-told c = search needs
@@ -29,8 +29,8 @@ enum-told c = search needs
 returns-2 : tie.Need-returns-2
 returns-2 c =
     let at-enum-told = c .before in
-    let at-validate-texts = at-enum-told .before .before in
-    (refusing _ _ (replace-unfolded _ _ _ _ ∙ answered-short _ _ _ _ (at-validate-texts .validate-texts .ensures) (at-enum-told .enum-told .given .1) (c .if1 .taken)) _, tt)
+    let at-validate-three-texts = at-enum-told .before .before in
+    (refusing _ _ (replace-unfolded _ _ _ _ ∙ answered-short _ _ _ _ (at-validate-three-texts .validate-three-texts .ensures) (at-enum-told .enum-told .given .1) (c .if1 .taken)) _, tt)
 
 has-prefix-requires : tie.Need-has-prefix-requires
 has-prefix-requires c κs = search needs
@@ -41,9 +41,9 @@ returns-3 c =
     let at-has-prefix = c .before in
     let at-if1 = at-has-prefix .before in
     let at-enum-told = at-if1 .before in
-    let at-validate-texts = at-enum-told .before .before in (
+    let at-validate-three-texts = at-enum-told .before .before in (
       refusing _ _
-          (replace-unfolded _ _ _ _ ∙ answered-passed _ _ _ _ (at-validate-texts .validate-texts .ensures) (at-enum-told .enum-told .given .1)
+          (replace-unfolded _ _ _ _ ∙ answered-passed _ _ _ _ (at-validate-three-texts .validate-three-texts .ensures) (at-enum-told .enum-told .given .1)
           (at-if1 .if1 .left) ∙ ap checkedOption (replace-other _ _ _ (known-false (at-has-prefix .has-prefix .ensures) (c .if2 .taken))))
           _,
       tt,
@@ -72,11 +72,11 @@ returns-4 c =
     let at-has-prefix = at-if2 .before in
     let at-if1 = at-has-prefix .before in
     let at-enum-told = at-if1 .before in
-    let at-validate-texts = at-enum-told .before .before in
-    let at-start = at-validate-texts .before .before .before .before .before in
+    let at-validate-three-texts = at-enum-told .before .before in
+    let at-start = at-validate-three-texts .before .before .before .before .before in
     let joined = rw (rest-whole (at-start .args .path .now) (length (at-start .args .old .now))) at (at-write-joined .write-joined .ensures) in (
       answering _ _
-          (replace-unfolded _ _ _ _ ∙ answered-passed _ _ _ _ (at-validate-texts .validate-texts .ensures) (at-enum-told .enum-told .given .1)
+          (replace-unfolded _ _ _ _ ∙ answered-passed _ _ _ _ (at-validate-three-texts .validate-three-texts .ensures) (at-enum-told .enum-told .given .1)
           (at-if1 .if1 .left) ∙ ap checkedOption (replace-prefix _ _ _ (known-true (at-has-prefix .has-prefix .ensures) (at-if2 .if2 .left))))
           _ _ _ joined,
       written-in-parts _ _ _ _ _ _ joined,
@@ -86,7 +86,7 @@ pub replace-prefix-spec : {M : Type 1} → statement M
 replace-prefix-spec =
     tie.close
     (tie.spec
-    validate-texts-requires
+    validate-three-texts-requires
     enum-known-q
     returns
     enum-told

@@ -5,19 +5,16 @@ use borrow.Author.Needs.{needs}
 use Rattle.path_target.proofs.replace_embedded_target.Statement.{statement}
 use Rattle.path_target.proofs.replace_embedded_target.Tie as tie
 
-slice-aggregate-validate-texts : tie.Need-slice-aggregate-validate-texts
-slice-aggregate-validate-texts c = search needs
-
-validate-texts-requires : tie.Need-validate-texts-requires
-validate-texts-requires c κs = search needs
+validate-two-texts-requires : tie.Need-validate-two-texts-requires
+validate-two-texts-requires c κs = search needs
 
 enum-known-q : tie.Need-enum-known-q
 enum-known-q c = search needs
 
 returns : tie.Need-returns
 returns c =
-    let at-validate-texts = c .before .before .before in
-    refusing _ _ (replace-unfolded _ _ _ ∙ answered-refused _ _ _ _ (at-validate-texts .validate-texts .ensures) _ (c .before .q .given .1)) _
+    let at-validate-two-texts = c .before .before .before in
+    refusing _ _ (replace-unfolded _ _ _ ∙ answered-refused _ _ _ _ (at-validate-two-texts .validate-two-texts .ensures) _ (c .before .q .given .1)) _
 
 enum-told : tie.Need-enum-told
 enum-told c = search needs
@@ -25,9 +22,9 @@ enum-told c = search needs
 returns-2 : tie.Need-returns-2
 returns-2 c =
     let at-enum-told = c .before in
-    let at-validate-texts = at-enum-told .before .before in
+    let at-validate-two-texts = at-enum-told .before .before in
     refusing _ _
-    (replace-unfolded _ _ _ ∙ answered-short _ _ _ _ (at-validate-texts .validate-texts .ensures) (at-enum-told .enum-told .given .1) (c .if1 .taken))
+    (replace-unfolded _ _ _ ∙ answered-short _ _ _ _ (at-validate-two-texts .validate-two-texts .ensures) (at-enum-told .enum-told .given .1) (c .if1 .taken))
     _
 
 write-replaced-requires : tie.Need-write-replaced-requires
@@ -41,9 +38,9 @@ returns-3 c =
     let at-write-replaced = c .before .before in
     let at-if1 = at-write-replaced .before .before in
     let at-enum-told = at-if1 .before in
-    let at-validate-texts = at-enum-told .before .before in
+    let at-validate-two-texts = at-enum-told .before .before in
     answering _ _
-    (replace-unfolded _ _ _ ∙ answered-passed _ _ _ _ (at-validate-texts .validate-texts .ensures) (at-enum-told .enum-told .given .1)
+    (replace-unfolded _ _ _ ∙ answered-passed _ _ _ _ (at-validate-two-texts .validate-two-texts .ensures) (at-enum-told .enum-told .given .1)
     (at-if1 .if1 .left))
     _ _ _ (at-write-replaced .write-replaced .ensures)
 
@@ -51,8 +48,7 @@ pub replace-embedded-target-spec : {M : Type 1} → statement M
 replace-embedded-target-spec =
     tie.close
     (tie.spec
-    slice-aggregate-validate-texts
-    validate-texts-requires
+    validate-two-texts-requires
     enum-known-q
     returns
     enum-told

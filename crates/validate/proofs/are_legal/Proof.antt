@@ -1,5 +1,5 @@
 use Rattle.path_grammar.specs.Legal.{legal}
-use Rattle.validate.proofs.ValidateBranches.{first-fails, second-fails, list-legal, list-passes}
+use Rattle.validate.proofs.ValidateBranches.{first-fails, second-fails, list-decides}
 use borrow.Author.Needs.{needs}
 use Rattle.validate.proofs.are_legal.Statement.{statement}
 use Rattle.validate.proofs.are_legal.Tie as tie
@@ -16,31 +16,17 @@ is-legal-requires-2 c κs = search needs
 returns-2 : tie.Need-returns-2
 returns-2 c = second-fails legal _ _ _ _ _ _ (c .before .before .before .is-legal .ensures) (c .before .before .if1 .left) _ (c .before .is-legal2 .ensures) (c .if2 .taken)
 
+list-is-legal-requires : tie.Need-list-is-legal-requires
+list-is-legal-requires c κs = search needs
+
 returns-3 : tie.Need-returns-3
 returns-3 c =
     let at-if2 = c .before in
     let at-is-legal2 = at-if2 .before in
     let at-if1 = at-is-legal2 .before in
     let at-is-legal = at-if1 .before in
-    let at-start = at-is-legal .before .before .before .before .before in
-    list-legal _ _ _ _ (at-is-legal .is-legal .ensures) (at-if1 .if1 .left) _ (at-is-legal2 .is-legal2 .ensures) (at-if2 .if2 .left) _ (at-start .pre)
-    (c .if3 .taken)
-
-present-places-requires : tie.Need-present-places-requires
-present-places-requires c κs = search needs
-
-all-legal-requires : tie.Need-all-legal-requires
-all-legal-requires c κs = search needs
-
-returns-4 : tie.Need-returns-4
-returns-4 c =
-    let at-present-places = c .before in
-    let at-if2 = at-present-places .before .before in
-    let at-is-legal2 = at-if2 .before in
-    let at-if1 = at-is-legal2 .before in
-    let at-is-legal = at-if1 .before in
-    list-passes legal _ _ _ _ _ _ (at-is-legal .is-legal .ensures) (at-if1 .if1 .left) _ (at-is-legal2 .is-legal2 .ensures) (at-if2 .if2 .left) _
-    (at-present-places .present-places .ensures) _ (c .all-legal .ensures)
+    list-decides legal _ _ _ _ _ _ (at-is-legal .is-legal .ensures) (at-if1 .if1 .left) _ (at-is-legal2 .is-legal2 .ensures) (at-if2 .if2 .left) _
+    (c .list-is-legal .ensures)
 
 pub are-legal-spec : {M : Type 1} → statement M
 are-legal-spec =
@@ -50,7 +36,5 @@ are-legal-spec =
     returns
     is-legal-requires-2
     returns-2
-    returns-3
-    present-places-requires
-    all-legal-requires
-    returns-4)
+    list-is-legal-requires
+    returns-3)
