@@ -14,7 +14,8 @@ use Rattle.cases.specs.WrongTargets.{WrongTargets}
 use Rattle.cases.proofs.Tell.{apart, validationNumber, testNumber, countNumber, replyNumber, outcomeNumber, chainNumber}
 
 pub wrong-targets : WrongTargets
-unfolding countElements pairsIn storeOf placesOf lentPairs pathNewCall isEndCall hasVariantSelectionCall hasPrefixCall elementCountCall primElementCountCall replacePrefixCall parentCall primPathCall splitPropertyCall stripCall ancestorsReply embeddedTargetCall replaceEmbeddedTargetCall translateChecked mapBackChecked chainCall shiftCall outward homeward routeCall validationNumber testNumber countNumber replyNumber outcomeNumber chainNumber
+unfolding countElements pairsIn storeOf placesOf lentPairs pathNewCall isEndCall hasVariantSelectionCall hasPrefixCall elementCountCall primElementCountCall replacePrefixCall parentCall primPathCall splitPropertyCall stripCall ancestorsReply
+    embeddedTargetCall replaceEmbeddedTargetCall translateChecked mapBackChecked chainCall shiftCall outward homeward routeCall validationNumber testNumber countNumber replyNumber outcomeNumber chainNumber
 wrong-targets = record {
   target-refused = apart validationNumber refl;
   root-refused = apart validationNumber refl;
