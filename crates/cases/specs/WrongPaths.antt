@@ -10,7 +10,7 @@ use Rattle.refusal.specs.declared.Refusal.the-variants.{Illegal, NoRoom, NoPath
 use Rattle.refusal.specs.declared.Validation.the-variants.{Passed, Refused}
 use Rattle.refusal.specs.declared.Reply.the-variants.{Written}
 use Rattle.refusal.specs.Outcome.{path, refused, outcomeBuffer}
-use Rattle.path.specs.declared.Test.the-variants.{Holds}
+use Rattle.path.specs.declared.Test.the-variants.{Holds, Refused as RefusedTest}
 use Rattle.path.specs.declared.Count.the-variants.{Counted}
 use Rattle.path.specs.Calls.{pathNewCall, isEndCall, hasVariantSelectionCall, hasPrefixCall, elementCountCall, primElementCountCall}
 use Rattle.path_derive.specs.Calls.{replacePrefixCall, parentCall, primPathCall, splitPropertyCall, stripCall, ancestorsReply}
@@ -31,10 +31,13 @@ pub record WrongPaths : Type 0 where
   -- `has_variant_selection`: a property counts; a selection does not.
   pub property-is-selection : hasVariantSelectionCall (bytes "/A.b") ≢ Holds true
   pub selection-not-seen : hasVariantSelectionCall (bytes "/A{v=p}") ≢ Holds false
-  -- `has_prefix`: bytes without a boundary; the arguments swapped; no path has a prefix.
+  -- `has_prefix`: bytes without a boundary; the arguments swapped; no path has a prefix; the prefix not scanned; question 2 put to the path before
+  -- question 1 to the prefix.
   pub prefix-without-boundary : hasPrefixCall (bytes "/AB") (bytes "/A") ≢ Holds true
   pub prefix-swapped : hasPrefixCall (bytes "/A") (bytes "/A/B") ≢ Holds true
   pub prefix-never : hasPrefixCall (bytes "/A/B") (bytes "/A") ≢ Holds false
+  pub prefix-unscanned : hasPrefixCall (bytes "/A") (bytes "A") ≢ Holds false
+  pub prefix-legal-first : hasPrefixCall (bytes "A") (replicate 256 65) ≢ RefusedTest Illegal
   -- `element_count` without the selections, `prim_element_count` with them.
   pub elements-are-names : elementCountCall (bytes "/A{v=p}") ≢ Counted (record { 0 = 1 })
   pub names-are-elements : primElementCountCall (bytes "/A{v=p}") ≢ Counted (record { 0 = 2 })
