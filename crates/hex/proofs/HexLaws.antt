@@ -4,27 +4,10 @@ use mathlib.Core.Bool.{Bool, true, false, cond}
 use mathlib.Core.Option.{none, some}
 use Prim.Native.Nat.{ℕ, _-_, _≤_, _<_}
 use native.Mathlib.Omega.{arith}
-use lib.Dec.{leb}
-use borrow.Author.Tests.{le-leb, lt-leb, leb-true}
-use Rattle.text.proofs.BoolLaws.{and-l, and-r, and-no}
-use Rattle.hex.specs.Hex.{inRange, hexValue}
+use Rattle.text.specs.Range.{inRange}
+use Rattle.text.proofs.RangeLaws.{within-yes, within-below, within-above, within-high}
+use Rattle.hex.specs.Hex.{hexValue}
 use Rattle.hex.specs.Calls.{valueOrZero}
-
--- Lemmas about the range test.
-within-yes : (low high b : ℕ) → low ≤ b → b ≤ high → inRange low high b ≡ true
-within-yes low high b h k = rw (le-leb low b h, le-leb b high k)
-
-within-below : (low high b : ℕ) → b < low → inRange low high b ≡ false
-within-below low high b h = rw (lt-leb low b h)
-
-within-above : (low high b : ℕ) → high < b → inRange low high b ≡ false
-within-above low high b h = rw (lt-leb b high h) (and-no (leb low b))
-
-pub within-low : (low high b : ℕ) → inRange low high b ≡ true → low ≤ b
-within-low low high b e = leb-true low b (and-l (leb low b) (leb b high) e)
-
-pub within-high : (low high b : ℕ) → inRange low high b ≡ true → b ≤ high
-within-high low high b e = leb-true b high (and-r (leb low b) (leb b high) e)
 
 -- Lemmas for `is_digit` and `hex_value`.
 module _ (b : ℕ) where

@@ -7,9 +7,11 @@ use Prim.Native.Nat.{ℕ, _+_, _-_, _*_, _/_, _%_, _≤_, _<_}
 use native.Mathlib.Omega.{arith}
 use lib.Dec.{ltb}
 use borrow.Author.Tests.{ltb-true, ltb-false}
+use Rattle.text.specs.Range.{inRange}
+use Rattle.text.proofs.RangeLaws.{within-low, within-high}
 use Rattle.text.proofs.BoolLaws.{and-l, and-r}
-use Rattle.hex.specs.Hex.{inRange, hexValue, decodeHex, hexDigit, encodeHex, areBytes, toUpper, HexRoundTrip, CaseInsensitive}
-use Rattle.hex.proofs.HexLaws.{a-decimal, a-capital, a-small, within-low, within-high}
+use Rattle.hex.specs.Hex.{hexValue, decodeHex, hexDigit, encodeHex, areBytes, toUpper, HexRoundTrip, CaseInsensitive}
+use Rattle.hex.proofs.HexLaws.{a-decimal, a-capital, a-small}
 
 -- An upper-case digit has the value it was written for.
 capital-value : (v : ℕ) → v < 16 → hexValue (hexDigit v) ≡ some v

@@ -4,13 +4,10 @@ use mathlib.Core.Path.{_≡_}
 use mathlib.Core.Bool.{Bool, true, cond, _&&_}
 use mathlib.Core.List.{[], _∷_, map}
 use mathlib.Core.Option.{Option, none, some}
-use lib.Dec.{leb, ltb}
+use lib.Dec.{ltb}
 use Rattle.text.specs.Text.{Text}
+use Rattle.text.specs.Range.{inRange}
 use Rattle.text.specs.Bytes.{digit0, digit9, lowerA, lowerF, upperA, upperF}
-
--- The byte b lies between low and high, both included.
-abbrev pub inRange : ℕ → ℕ → ℕ → Bool
-inRange low high b = leb low b && leb b high
 
 -- The value of a digit; none for any other byte. Requirements: "hexadecimal digits (either case)".
 unfoldable pub hexValue : ℕ → Option ℕ
