@@ -10,7 +10,7 @@ use lib.ListN.{length, drop, length-append, length-drop}
 use borrow.Author.Tests.{le-leb, eqb-true}
 use Rattle.text.specs.Text.{Text, isNil, endsWithByte}
 use Rattle.text.proofs.BoolLaws.{and-l, and-r, and-no, not-true}
-use Rattle.path_grammar.specs.Legal.{isIdentifierStart, isIdentifierCont, isRoot, legal, atMost255, isEnd}
+use Rattle.path_grammar.specs.Legal.{isNameStartByte, isNameByte, isRoot, legal, atMost255, isEnd}
 use Rattle.path_prefix.specs.Prefix.{hasPrefix}
 use Rattle.path_join.specs.Join.{isChild, separatorLen, join, replacePrefix, startsSuffix, joinIllegal}
 use Rattle.path_prefix.proofs.PrefixLaws.{prefix-rest}
@@ -30,7 +30,7 @@ use Rattle.path_grammar.proofs.LegalLaws.{short-fits}
 
 -- A remainder that begins with `.` or `{` is not a child prim.
 suffix-child : (s : Text) (a : ℕ) → (eqb a 46 || eqb a 123) ≡ true → isChild s a ≡ false
-unfolding isChild isIdentifierCont isIdentifierStart
+unfolding isChild isNameByte isNameStartByte
 suffix-child s a h = go (eqb a 46) refl (eqb a 123) refl h
   where
     go : (b : Bool) → eqb a 46 ≡ b → (c : Bool) → eqb a 123 ≡ c → (b || c) ≡ true → isChild s a ≡ false

@@ -1,4 +1,4 @@
--- Lemmas for the tests of `is_identifier_start`, `is_identifier_cont` and `is_root`.
+-- Lemmas for the tests of `is_name_start_byte`, `is_name_byte` and `is_root`.
 use mathlib.Core.Path.{_≡_, refl, sym}
 use mathlib.Core.Logic.{_≢_}
 use mathlib.Core.Bool.{Bool, false, _&&_, _||_}
@@ -9,15 +9,15 @@ use lib.Dec.{eqb, leb}
 use lib.ListN.{length, getD}
 use Rattle.text.specs.Text.{Text}
 use Rattle.text.proofs.BoolLaws.{and-no, and-yes}
-use Rattle.path_grammar.specs.Legal.{isIdentifierStart, isIdentifierCont, isRoot}
+use Rattle.path_grammar.specs.Legal.{isNameStartByte, isNameByte, isRoot}
 
 module _ (a : ℕ) (b c : Bool) where
-  pub start-tests : b ≡ (leb 65 a && leb a 90) → c ≡ (leb 97 a && leb a 122) → (b || c || eqb a 95) ≡ isIdentifierStart a
-  unfolding isIdentifierStart
+  pub start-tests : b ≡ (leb 65 a && leb a 90) → c ≡ (leb 97 a && leb a 122) → (b || c || eqb a 95 || leb 128 a) ≡ isNameStartByte a
+  unfolding isNameStartByte
   start-tests h k = rw (h, k)
 
-  pub cont-tests : b ≡ isIdentifierStart a → c ≡ (leb 48 a && leb a 57) → (b || c) ≡ isIdentifierCont a
-  unfolding isIdentifierCont
+  pub cont-tests : b ≡ isNameStartByte a → c ≡ (leb 48 a && leb a 57) → (b || c) ≡ isNameByte a
+  unfolding isNameByte
   cont-tests h k = rw (h, k)
 
 pub root-one : (s : Text) → length s ≡ 1 → eqb (getD s 0 0) 47 ≡ isRoot s

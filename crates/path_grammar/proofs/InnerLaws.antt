@@ -16,7 +16,7 @@ use Rattle.path_grammar.specs.Own.{ownPart, targetPart, hasProperty}
 use Rattle.path_grammar.specs.Legal.{legalOwn, isAbsolute, closesTarget, legalTarget, legalWithin, legal}
 use Rattle.path_grammar.specs.InnerText.{innerText, WithinByInner}
 use Rattle.path_grammar.proofs.OwnLaws.{own-parts, target-none, target-nil, own-all, target-head}
-use Rattle.path_grammar.proofs.LegalLaws.{own-legal, own-unbracketed, own-no-close-bracket, within-absolute}
+use Rattle.path_grammar.proofs.LegalLaws.{empty-legal, own-unbracketed, own-no-close-bracket, within-absolute}
 
 -- The last byte of a path with a target part is that of the target part.
 last-target : (p : Text) (a : ℕ) (r : Text) → targetPart p ≡ a ∷ r → endsWithByte 93 p ≡ endsWithByte 93 (a ∷ r)
@@ -188,8 +188,7 @@ module _ (p i : Text) (d : ℕ) (h : i ≡ innerText p) where
 
 -- Lemmas for `is_legal`.
 pub legal-empty : (p : Text) → length p ≡ 0 → true ≡ legal p
-unfolding legalOwn
-legal-empty [] h = sym (own-legal [] refl)
+legal-empty [] h = sym empty-legal
 legal-empty (a ∷ p) h = absurd (omega arith)
 
 pub legal-deep : (p : Text) (b : Bool) → b ≡ legalWithin 4 p → b ≡ legal p

@@ -4,17 +4,34 @@ use mathlib.Core.Bool.{Bool, true, false, not, cond, _&&_, _||_, true≢false, f
 use mathlib.Core.List.{[], _∷_, _++_, append-nil}
 use Prim.Native.Nat.{ℕ, zero, suc, _+_, _≤_}
 use native.Mathlib.Omega.{arith}
-use lib.Dec.{eqb}
+use lib.Dec.{eqb, leb}
 use borrow.Author.Tests.{eqb-true, leb-true, le-leb}
 use Rattle.text.specs.Text.{Text, isNil, endsWithByte, lacksByte, takeUntil, dropLast}
 use Rattle.text.proofs.BoolLaws.{and-l, and-r, and-no, and-yes, not-true}
 use Rattle.text.proofs.TextLaws.{last-snoc, last-after, lacks-last}
 use Rattle.text.proofs.UntilLaws.{last-split}
-use Rattle.path_grammar.specs.Legal.{ScanState, Slash, Name, Opened, Set, Equals, Sel, Closed, Dot, Prop, Dead, isIdentifierStart, isIdentifierCont, step, run, accept, isRoot, legalOwn, isAbsolute, closesTarget, legalTarget, legalWithin, legal, isEnd, atMost255}
+use Rattle.path_grammar.specs.Legal.{ScanState, Slash, Name, Opened, Set, Equals, Sel, Closed, Dot, Prop, Dead, isAsciiStart, isAsciiDigit, isNameStartByte, isNameByte, isVariantByte, step, run, accept, isRoot, scanAccepts, legalOwn, isAbsolute, closesTarget, legalTarget, legalWithin, legal, isEnd, atMost255, LegalIsAllowed}
 use Rattle.path_grammar.specs.Own.{ownPart, targetPart, hasVariantSelection, hasProperty}
 use Rattle.path_grammar.proofs.RunLaws.{dead-refuses, Unread, run-lacks, open-unread, close-unread}
-use Rattle.path_grammar.proofs.OwnLaws.{own-parts, own-all, target-none, target-nil, no-property, selection-scan, property-scan, own-lacks-too, lacks-free}
+use Rattle.path_grammar.proofs.OwnLaws.{own-parts, own-all, target-none, target-head, target-nil, no-property, selection-scan, property-scan, own-lacks-too, lacks-free}
+use Rattle.characters.specs.NameCharacter.{charactersAllowed}
+use Rattle.characters.proofs.AllowedLaws.{allowed-none, allowed-ascii, allowed-join}
 use lib.ListN.{length, length-append}
+
+-- A text is legal without brackets exactly if the automaton accepts it and its characters are allowed.
+module _ (p : Text) where
+  pub own-scan : legalOwn p ≡ true → scanAccepts p ≡ true
+  unfolding legalOwn
+  own-scan e = and-l (scanAccepts p) (charactersAllowed p) e
+
+  pub own-allowed : legalOwn p ≡ true → charactersAllowed p ≡ true
+  unfolding legalOwn
+  own-allowed e = and-r (scanAccepts p) (charactersAllowed p) e
+
+  -- If its characters are allowed, the automaton decides.
+  pub own-by-scan : charactersAllowed p ≡ true → legalOwn p ≡ scanAccepts p
+  unfolding legalOwn
+  own-by-scan h = rw h (and-yes (scanAccepts p))
 
 -- A legal text without brackets, other than `/`, does not end in a slash.
 slash-ends : (s : ScanState) → accept (step s 47) ≡ false
@@ -59,15 +76,15 @@ either false x y h k = k
 
 stays : (s : ScanState) (a : ℕ) → outside s ≡ true → eqb a 123 ≡ false → outside (step s a) ≡ true
 unfolding step
-stays Slash a o h = either (isIdentifierStart a) Name Dead refl refl
-stays Name a o h = rw h (either (isIdentifierCont a) Name _ refl (either (eqb a 47) Slash _ refl (either (eqb a 46) Dot Dead refl refl)))
+stays Slash a o h = either (isNameStartByte a) Name Dead refl refl
+stays Name a o h = rw h (either (isNameByte a) Name _ refl (either (eqb a 47) Slash _ refl (either (eqb a 46) Dot Dead refl refl)))
 stays Opened a o h = absurd (false≢true o)
 stays Set a o h = absurd (false≢true o)
 stays Equals a o h = absurd (false≢true o)
 stays Sel a o h = absurd (false≢true o)
 stays Closed a o h = absurd (false≢true o)
-stays Dot a o h = either (isIdentifierStart a) Prop Dead refl refl
-stays Prop a o h = either (isIdentifierCont a) Prop _ refl (either (eqb a 58) Dot Dead refl refl)
+stays Dot a o h = either (isNameStartByte a) Prop Dead refl refl
+stays Prop a o h = either (isNameByte a) Prop _ refl (either (eqb a 58) Dot Dead refl refl)
 stays Dead a o h = refl
 
 close-dead : (s : ScanState) → outside s ≡ true → accept (step s 125) ≡ false
@@ -96,28 +113,34 @@ run-close s (a ∷ b ∷ r) o f e =
     (and-r (not (eqb a 123)) (lacksByte 123 (b ∷ r)) f) e
 
 -- What a legal text without brackets cannot contain.
-own-lacks-byte : {b : ℕ} → Unread b → eqb 47 b ≡ false → (p : Text) → legalOwn p ≡ true → lacksByte b p ≡ true
-unfolding legalOwn lacksByte
-own-lacks-byte u n [] e = refl
-own-lacks-byte u n (a ∷ []) e = rw (eqb-true a 47 (and-l (eqb a 47) true e), n)
-own-lacks-byte u n (a ∷ b ∷ r) e =
+pub scan-lacks-byte : {b : ℕ} → Unread b → eqb 47 b ≡ false → (p : Text) → scanAccepts p ≡ true → lacksByte b p ≡ true
+unfolding scanAccepts lacksByte
+scan-lacks-byte u n [] e = refl
+scan-lacks-byte u n (a ∷ []) e = rw (eqb-true a 47 (and-l (eqb a 47) true e), n)
+scan-lacks-byte u n (a ∷ b ∷ r) e =
     let c : Bool = accept (run Slash (b ∷ r)) in
     rw (eqb-true a 47 (and-l (eqb a 47) c e), n) (run-lacks u Slash (b ∷ r) (and-r (eqb a 47) c e))
 
 pub own-unbracketed : (p : Text) → legalOwn p ≡ true → lacksByte 91 p ≡ true
-own-unbracketed p e = own-lacks-byte open-unread refl p e
+own-unbracketed p e = scan-lacks-byte open-unread refl p (own-scan p e)
 
 pub own-unclosed : (p : Text) → legalOwn p ≡ true → lacksByte 93 p ≡ true
-own-unclosed p e = own-lacks-byte close-unread refl p e
+own-unclosed p e = scan-lacks-byte close-unread refl p (own-scan p e)
+
+pub scan-no-close-bracket : (p : Text) → scanAccepts p ≡ true → endsWithByte 93 p ≡ false
+scan-no-close-bracket p e = lacks-last 93 p (scan-lacks-byte close-unread refl p e)
 
 pub own-no-close-bracket : (p : Text) → legalOwn p ≡ true → endsWithByte 93 p ≡ false
-own-no-close-bracket p e = lacks-last 93 p (own-unclosed p e)
+own-no-close-bracket p e = scan-no-close-bracket p (own-scan p e)
+
+scan-last : (p : Text) → scanAccepts p ≡ true → isRoot p ≡ false → endsWithByte 47 p ≡ false
+unfolding scanAccepts endsWithByte
+scan-last [] e n = refl
+scan-last (a ∷ []) e n = absurd (true≢false (sym e ∙ n))
+scan-last (a ∷ b ∷ r) e n = run-last Slash (b ∷ r) (and-r (eqb a 47) (accept (run Slash (b ∷ r))) e)
 
 pub own-last : (p : Text) → legalOwn p ≡ true → isRoot p ≡ false → endsWithByte 47 p ≡ false
-unfolding legalOwn endsWithByte
-own-last [] e n = refl
-own-last (a ∷ []) e n = absurd (true≢false (sym e ∙ n))
-own-last (a ∷ b ∷ r) e n = run-last Slash (b ∷ r) (and-r (eqb a 47) (accept (run Slash (b ∷ r))) e)
+own-last p e n = scan-last p (own-scan p e) n
 
 -- Legality by parts: that of the own part, and that of the target part.
 module _ (p : Text) where
@@ -131,7 +154,7 @@ module _ (p : Text) where
   pub legal-target-part : legal p ≡ true → legalTarget (legalWithin 3) (hasProperty p) (targetPart p) ≡ true
   legal-target-part e = and-r (legalOwn (ownPart p)) (legalTarget (legalWithin 3) (hasProperty p) (targetPart p)) (sym legal-parts ∙ e)
 
-  -- A text without brackets is legal exactly if the automaton accepts it.
+  -- A text without brackets is legal exactly if it is so by itself.
   pub legal-without : lacksByte 91 p ≡ true → legal p ≡ legalOwn p
   unfolding legalTarget
   legal-without h = legal-parts ∙ rw (own-all p h, target-none p h) (and-yes (legalOwn p))
@@ -148,10 +171,18 @@ module _ (p : Text) where
       go [] n h = absurd (true≢false n)
       go (a ∷ r) n h = and-l (hasProperty p) (closesTarget (legalWithin 3) r) h
 
+-- The empty path is legal.
+pub empty-own : legalOwn [] ≡ true
+unfolding scanAccepts
+empty-own = own-by-scan [] allowed-none
+
+pub empty-legal : legal [] ≡ true
+empty-legal = own-legal [] empty-own
+
 -- A legal path that is not empty is absolute.
 pub own-absolute : (a : ℕ) (r : Text) → legalOwn (a ∷ r) ≡ true → eqb a 47 ≡ true
-unfolding legalOwn
-own-absolute a r e = and-l (eqb a 47) (isNil r || accept (run Slash r)) e
+unfolding scanAccepts
+own-absolute a r e = and-l (eqb a 47) (isNil r || accept (run Slash r)) (own-scan (a ∷ r) e)
 
 pub within-absolute : (d : ℕ) (t : Text) → isNil t ≡ false → legalWithin d t ≡ true → isAbsolute t ≡ true
 unfolding legalWithin ownPart takeUntil
@@ -172,8 +203,8 @@ pub legal-as : (p q : Text) → legal p ≡ true → hasProperty q ≡ hasProper
 legal-as p q e h t = legal-parts q ∙ rw (h, t, legal-target-part p e) (and-yes (legalOwn (ownPart q)))
 
 pub no-root-dot : (r : Text) → legal (47 ∷ 46 ∷ r) ≡ true → ⊥
-unfolding legalOwn ownPart takeUntil run step isIdentifierStart
-no-root-dot r e = dead-refuses (ownPart r) (legal-own-part (47 ∷ 46 ∷ r) e)
+unfolding scanAccepts ownPart takeUntil run step isNameStartByte
+no-root-dot r e = dead-refuses (ownPart r) (own-scan (ownPart (47 ∷ 46 ∷ r)) (legal-own-part (47 ∷ 46 ∷ r) e))
 
 -- The target part of a legal path is a bracket, an absolute path and a closing bracket.
 module _ (p : Text) (e : legal p ≡ true) (a : ℕ) (r : Text) (h : targetPart p ≡ a ∷ r) where
@@ -209,6 +240,36 @@ module _ (p : Text) (e : legal p ≡ true) (a : ℕ) (r : Text) (h : targetPart 
       go : (t : Text) → isAbsolute t ≡ true → 1 ≤ length t
       go [] l = absurd (false≢true l)
       go (c ∷ t) l = omega arith
+
+bracket-allowed : (test : Text → Bool) (property : Bool) (a : ℕ) (r : Text) → a ≡ 91 → legalTarget test property (a ∷ r) ≡ true
+    → (test (dropLast r) ≡ true → charactersAllowed (dropLast r) ≡ true) → charactersAllowed (a ∷ r) ≡ true
+unfolding legalTarget closesTarget
+bracket-allowed test property a r h f ih =
+    let c : (endsWithByte 93 r && (isAbsolute (dropLast r) && test (dropLast r))) ≡ true = and-r property _ f in
+    let l : endsWithByte 93 r ≡ true = and-l (endsWithByte 93 r) _ c in
+    let t : test (dropLast r) ≡ true = and-r (isAbsolute (dropLast r)) (test (dropLast r)) (and-r (endsWithByte 93 r) _ c) in
+    rw (h, ← last-split 93 r l) (allowed-ascii 91 refl (dropLast r ++ 93 ∷ []) ∙ allowed-join (dropLast r) (93 ∷ []) (ih t) (allowed-ascii 93 refl [] ∙ allowed-none))
+
+-- The characters of a legal text are allowed: those of its own part, and those of the path in brackets.
+within-allowed : (d : ℕ) (p : Text) → legalWithin d p ≡ true → charactersAllowed p ≡ true
+unfolding legalWithin
+within-allowed zero p e = own-allowed p e
+within-allowed (suc d) p e =
+    rw (← own-parts p)
+    (allowed-join (ownPart p) (targetPart p) (own-allowed (ownPart p) (and-l (legalOwn (ownPart p)) tested e))
+    (target (targetPart p) refl (and-r (legalOwn (ownPart p)) tested e) (λ t. within-allowed d t)))
+  where
+    tested : Bool
+    tested = legalTarget (λ (t : Text). legalWithin d t) (hasProperty p) (targetPart p)
+
+    target : (t : Text) → targetPart p ≡ t → legalTarget (λ (t : Text). legalWithin d t) (hasProperty p) t ≡ true
+        → ((t : Text) → legalWithin d t ≡ true → charactersAllowed t ≡ true) → charactersAllowed t ≡ true
+    target [] h f ih = allowed-none
+    target (a ∷ r) h f ih = bracket-allowed (legalWithin d) (hasProperty p) a r (target-head p a r h) f (ih (dropLast r))
+
+pub legal-is-allowed : LegalIsAllowed
+unfolding legal
+legal-is-allowed p e = within-allowed 4 p e
 
 -- A legal path that does not end in a closing bracket has no target part.
 pub unclosed-own : (p : Text) → legal p ≡ true → endsWithByte 93 p ≡ false → targetPart p ≡ []
@@ -292,15 +353,15 @@ end-no-selection s e = lacks-free s (end-lacks s e)
 pub end-no-property : (s : Text) → isEnd s ≡ true → hasProperty s ≡ false
 end-no-property s e = no-property s .1 (own-lacks-too s 46 (end-undotted s e))
 
-free-close : (s : Text) → legalOwn s ≡ true → lacksByte 123 s ≡ true → endsWithByte 125 s ≡ false
-unfolding legalOwn endsWithByte lacksByte
+free-close : (s : Text) → scanAccepts s ≡ true → lacksByte 123 s ≡ true → endsWithByte 125 s ≡ false
+unfolding scanAccepts endsWithByte lacksByte
 free-close [] e f = refl
 free-close (a ∷ []) e f = rw (eqb-true a 47 (and-l (eqb a 47) true e))
 free-close (a ∷ b ∷ r) e f =
     run-close Slash (b ∷ r) refl (and-r (not (eqb a 123)) (lacksByte 123 (b ∷ r)) f) (and-r (eqb a 47) (accept (run Slash (b ∷ r))) e)
 
 pub end-close : (s : Text) → isEnd s ≡ true → endsWithByte 125 s ≡ false
-end-close s e = free-close s (end-own-legal s e) (end-lacks s e)
+end-close s e = free-close s (own-scan s (end-own-legal s e)) (end-lacks s e)
 
 -- Texts of at most 255 bytes.
 pub fits-short : (p : Text) → atMost255 p ≡ true → length p ≤ 255
@@ -311,10 +372,19 @@ pub short-fits : (p : Text) → length p ≤ 255 → atMost255 p ≡ true
 unfolding atMost255
 short-fits p h = le-leb (length p) 255 h
 
--- A byte that may begin a name may also follow in one.
-pub start-cont : (a : ℕ) → isIdentifierStart a ≡ true → isIdentifierCont a ≡ true
-unfolding isIdentifierCont
+-- A byte that may begin a name, or be part of a variant, may be part of a name.
+pub start-cont : (a : ℕ) → isNameStartByte a ≡ true → isNameByte a ≡ true
+unfolding isNameByte
 start-cont a h = rw h
+
+pub variant-cont : (a : ℕ) → isVariantByte a ≡ true → isNameByte a ≡ true
+unfolding isNameByte isNameStartByte isVariantByte
+variant-cont a h = go (isAsciiStart a) (isAsciiDigit a) (leb 0x80 a) h
+  where
+    go : (s d o : Bool) → (s || d) ≡ true → (s || o || d) ≡ true
+    go true d o e = refl
+    go false d true e = refl
+    go false d false e = e
 
 -- Lemmas about `/`, and about concatenated texts.
 pub root-is : (s : Text) → isRoot s ≡ true → s ≡ 47 ∷ []

@@ -2,11 +2,12 @@
 pub mod RunLaws
 pub mod OwnLaws
 pub mod LegalLaws
+pub mod NameLaws
 pub mod RenderLacks
 pub mod Render
 mod Parse
 pub mod Theorem
 mod ScanLaws
 mod ByteLaws
-mod EndLaws
+mod FirstScanLaws
 mod InnerLaws

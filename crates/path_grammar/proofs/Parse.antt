@@ -1,21 +1,33 @@
--- A text that the automaton accepts from a state is the text of what may remain of a path there: one half of the theorem.
-use mathlib.Core.Path.{_≡_, refl, ap, _∙_}
-use mathlib.Core.Bool.{Bool, true, false, cond, false≢true}
+-- A text that the automaton accepts from a state is the text of what may remain of a path there: one half of the theorem. The text is given by its
+-- characters, which are allowed.
+use mathlib.Core.Path.{_≡_, refl, sym, ap, _∙_}
+use mathlib.Core.Bool.{Bool, true, false, cond, _&&_, _||_, false≢true}
 use mathlib.Core.List.{List, [], _∷_, _++_, append-assoc}
 use mathlib.Core.Option.{Option, none, some}
 use Prim.Native.Nat.{ℕ}
-use lib.Dec.{eqb}
-use borrow.Author.Tests.{eqb-true}
+use native.Mathlib.Omega.{arith}
+use lib.Dec.{eqb, leb}
+use borrow.Author.Tests.{eqb-true, leb-true}
 use Rattle.text.specs.Text.{Text}
-use Rattle.path_grammar.specs.Legal.{ScanState, Slash, Name, Opened, Set, Equals, Sel, Closed, Dot, Prop, Dead, isIdentifierStart, isIdentifierCont, step, run, accept}
+use Rattle.text.proofs.BoolLaws.{and-l, and-r, or-right}
+use Rattle.path_grammar.specs.Legal.{ScanState, Slash, Name, Opened, Set, Equals, Sel, Closed, Dot, Prop, Dead, isAsciiStart, isAsciiDigit, isNameStartByte, isNameByte, isVariantByte, step, run, accept}
 use Rattle.path_grammar.specs.Grammar as g
-use Rattle.path_grammar.specs.Grammar.{allCont, nameText, wordText, selectionText, selectionsText, primText, primSeparator, primsText, moreText, propertyText}
+use Rattle.path_grammar.specs.Grammar.{isIdentifierStart, isIdentifierCont, allCont, areVariantBytes, nameText, wordText, selectionText, selectionsText, primText, primSeparator, primsText, moreText, propertyText}
 use Rattle.path_grammar.proofs.RunLaws.{dead-refuses}
+use Rattle.path_grammar.proofs.NameLaws.{run-characters, variant-ascii}
+use Rattle.characters.specs.Utf8.{encode, encodeAll}
+use Rattle.characters.specs.NameCharacter.{isAllowed, isNameCharacter, areAllowed, charactersAllowed}
+use Rattle.characters.proofs.EncodeLaws.{encode-1}
+use Rattle.characters.proofs.Theorem.{AllowedCharacters, allowed-characters}
 
--- The remaining bytes of a name.
+-- The remaining characters of a name, and the remaining bytes of a variant.
 record Tail : Type 0 where
+  characters : List ℕ
+  are : allCont characters ≡ true
+
+record WordTail : Type 0 where
   bytes : Text
-  are : allCont bytes ≡ true
+  are : areVariantBytes bytes ≡ true
 
 -- What follows a name.
 pub record After : Type 0 where
@@ -43,7 +55,7 @@ Left Name = Tail × After
 Left Opened = g.Name × g.Word × After
 Left Set = Tail × g.Word × After
 Left Equals = g.Word × After
-Left Sel = Tail × After
+Left Sel = WordTail × After
 Left Closed = After
 Left Dot = g.Name × List g.Name
 Left Prop = Tail × List g.Name
@@ -53,20 +65,20 @@ Left Dead = ⊥
 text : (s : ScanState) → Left s → Text
 unfolding afterName afterSelection
 text Slash l = nameText (l .0) ++ afterName (l .1)
-text Name l = l .0 .bytes ++ afterName (l .1)
+text Name l = encodeAll (l .0 .characters) ++ afterName (l .1)
 text Opened l = nameText (l .0) ++ (61 ∷ (wordText (l .1) ++ (125 ∷ afterSelection (l .2))))
-text Set l = l .0 .bytes ++ (61 ∷ (wordText (l .1) ++ (125 ∷ afterSelection (l .2))))
+text Set l = encodeAll (l .0 .characters) ++ (61 ∷ (wordText (l .1) ++ (125 ∷ afterSelection (l .2))))
 text Equals l = wordText (l .0) ++ (125 ∷ afterSelection (l .1))
 text Sel l = l .0 .bytes ++ (125 ∷ afterSelection (l .1))
 text Closed l = afterSelection l
 text Dot l = nameText (l .0) ++ moreText (l .1)
-text Prop l = l .0 .bytes ++ moreText (l .1)
+text Prop l = encodeAll (l .0 .characters) ++ moreText (l .1)
 text Dead l = absurd l
 
--- The text r is the text of something that may remain in the state s.
-record Found (s : ScanState) (r : Text) : Type 0 where
+-- The characters r are the text of something that may remain in the state s.
+record Found (s : ScanState) (r : List ℕ) : Type 0 where
   what : Left s
-  same : text s what ≡ r
+  same : text s what ≡ encodeAll r
 
 -- Prims and a selection before a text.
 prims-text : (n : g.Name) (x : After) → primsText (record { name = n; selections = x .selections }) (x .rest) ++ propertyText (x .property) ≡ nameText n ++ afterName x
@@ -84,22 +96,48 @@ unfolding selectionText
 selection-text s y = simp append-assoc
 
 -- If the automaton accepts r from the state t, then r is the text of something that may remain there.
-abbrev Later : Text → ScanState → Type 0
+abbrev Later : List ℕ → ScanState → Type 0
 Later r t = accept (run t r) ≡ true → Found t r
 
 no-more : Tail
 unfolding allCont
-no-more = record { bytes = []; are = refl }
+no-more = record { characters = []; are = refl }
 
 one-more : (a : ℕ) → isIdentifierCont a ≡ true → Tail → Tail
 unfolding allCont
-one-more a h t = record { bytes = a ∷ t .bytes; are = rw h (t .are) }
+one-more a h t = record { characters = a ∷ t .characters; are = rw h (t .are) }
 
 head-of : (a : ℕ) → isIdentifierStart a ≡ true → Tail → g.Name
-head-of a h t = record { first = a; more = t .bytes; first-is = h; more-are = t .are }
+head-of a h t = record { first = a; more = t .characters; first-is = h; more-are = t .are }
 
-word-of : (a : ℕ) → isIdentifierCont a ≡ true → Tail → g.Word
+no-bytes : WordTail
+unfolding areVariantBytes
+no-bytes = record { bytes = []; are = refl }
+
+one-byte : (a : ℕ) → isVariantByte a ≡ true → WordTail → WordTail
+unfolding areVariantBytes
+one-byte a h t = record { bytes = a ∷ t .bytes; are = rw h (t .are) }
+
+word-of : (a : ℕ) → isVariantByte a ≡ true → WordTail → g.Word
 word-of a h t = record { first = a; more = t .bytes; first-is = h; more-are = t .are }
+
+-- An allowed character that the automaton reads as part of a name may be part of one.
+number-start : (c : ℕ) → isAllowed c ≡ true → isNameStartByte c ≡ true → isIdentifierStart c ≡ true
+unfolding isNameStartByte isIdentifierStart
+number-start c ok h = go (isAsciiStart c) (leb c 0x7F) refl ok h
+  where
+    go : (a b : Bool) → leb c 0x7F ≡ b → (b || isNameCharacter c) ≡ true → (a || leb 0x80 c) ≡ true → (a || isNameCharacter c) ≡ true
+    go true b e f k = refl
+    go false true e f k = absurd (omega (arith, leb-true c 0x7F e, leb-true 0x80 c k))
+    go false false e f k = f
+
+number-cont : (c : ℕ) → isAllowed c ≡ true → isNameByte c ≡ true → isIdentifierCont c ≡ true
+unfolding isNameByte isIdentifierCont
+number-cont c ok h = go (isNameStartByte c) refl h
+  where
+    go : (b : Bool) → isNameStartByte c ≡ b → (b || isAsciiDigit c) ≡ true → (isIdentifierStart c || isAsciiDigit c) ≡ true
+    go true e k = rw (number-start c ok e)
+    go false e k = or-right (isIdentifierStart c) (isAsciiDigit c) k
 
 nothing : After
 nothing = record { selections = []; rest = []; property = none }
@@ -145,114 +183,119 @@ property-selection : (n : g.Name) (r : List g.Name) → afterSelection (with-pro
 unfolding with-property afterSelection follow selectionsText propertyText
 property-selection n r = refl
 
--- One more byte in front.
-put : (a : ℕ) {x r : Text} → x ≡ r → a ∷ x ≡ a ∷ r
-put a e = ap (λ (y : Text). a ∷ y) e
+-- One more character in front: one of a name, or one of ASCII, which is a byte.
+put : (a : ℕ) (t : List ℕ) (y : Text) (r : List ℕ) → encodeAll t ++ y ≡ encodeAll r → encodeAll (a ∷ t) ++ y ≡ encodeAll (a ∷ r)
+unfolding encodeAll
+put a t y r e = append-assoc (encode a) (encodeAll t) y ∙ ap (λ (z : Text). encode a ++ z) e
 
-put-at : (a b : ℕ) {x r : Text} → eqb a b ≡ true → x ≡ r → b ∷ x ≡ a ∷ r
-put-at a b h e = let q : a ≡ b = eqb-true a b h in cc
+put-byte : (a : ℕ) (x : Text) (r : List ℕ) → leb a 0x7F ≡ true → x ≡ encodeAll r → a ∷ x ≡ encodeAll (a ∷ r)
+unfolding encodeAll
+put-byte a x r h e = rw (encode-1 a (leb-true a 0x7F h)) (ap (λ (z : Text). a ∷ z) e)
 
--- One byte, from each state.
-module _ (a : ℕ) (r : Text) where
-  on-slash : (b : Bool) → isIdentifierStart a ≡ b → Later r Name → accept (run (cond b Name Dead) r) ≡ true → Found Slash (a ∷ r)
+put-at : (a b : ℕ) (x : Text) (r : List ℕ) → eqb a b ≡ true → leb b 0x7F ≡ true → x ≡ encodeAll r → b ∷ x ≡ encodeAll (a ∷ r)
+put-at a b x r h k e = rw (eqb-true a b h) (put-byte b x r k e)
+
+-- One character, from each state.
+module _ (a : ℕ) (ok : isAllowed a ≡ true) (r : List ℕ) where
+  on-slash : (b : Bool) → isNameStartByte a ≡ b → Later r Name → accept (run (cond b Name Dead) r) ≡ true → Found Slash (a ∷ r)
   unfolding text head-of nameText
-  on-slash true h f e = let w : Found Name r = f e in record { what = (head-of a h (w .what .0), w .what .1); same = put a (w .same) }
+  on-slash true h f e = let w : Found Name r = f e in record { what = (head-of a (number-start a ok h) (w .what .0), w .what .1); same = put a (w .what .0 .characters) _ r (w .same) }
   on-slash false h f e = absurd (dead-refuses r e)
 
-  on-name : (b c d k : Bool) → isIdentifierCont a ≡ b → eqb a 47 ≡ c → eqb a 123 ≡ d → eqb a 46 ≡ k → Later r Name → Later r Slash → Later r Opened → Later r Dot
+  on-name : (b c d k : Bool) → isNameByte a ≡ b → eqb a 47 ≡ c → eqb a 123 ≡ d → eqb a 46 ≡ k → Later r Name → Later r Slash → Later r Opened → Later r Dot
       → accept (run (cond b Name (cond c Slash (cond d Opened (cond k Dot Dead)))) r) ≡ true → Found Name (a ∷ r)
-  unfolding text no-more one-more
+  unfolding text no-more one-more encodeAll
   on-name true c d k h i j l name slash opened dot e =
-      let w : Found Name r = name e in record { what = (one-more a h (w .what .0), w .what .1); same = put a (w .same) }
+      let w : Found Name r = name e in record { what = (one-more a (number-cont a ok h) (w .what .0), w .what .1); same = put a (w .what .0 .characters) _ r (w .same) }
   on-name false true d k h i j l name slash opened dot e =
       let w : Found Slash r = slash e in
-      record { what = (no-more, with-prim (w .what .0) (w .what .1)); same = prim-name (w .what .0) (w .what .1) ∙ put-at a 47 i (w .same) }
+      record { what = (no-more, with-prim (w .what .0) (w .what .1)); same = prim-name (w .what .0) (w .what .1) ∙ put-at a 47 _ r i refl (w .same) }
   on-name false false true k h i j l name slash opened dot e =
       let w : Found Opened r = opened e in
       record {
         what = (no-more, with-selection (w .what .0) (w .what .1) (w .what .2));
-        same = more-name (w .what .0) (w .what .1) (w .what .2) ∙ put-at a 123 j (w .same);
+        same = more-name (w .what .0) (w .what .1) (w .what .2) ∙ put-at a 123 _ r j refl (w .same);
       }
   on-name false false false true h i j l name slash opened dot e =
       let w : Found Dot r = dot e in
-      record { what = (no-more, with-property (w .what .0) (w .what .1)); same = property-name (w .what .0) (w .what .1) ∙ put-at a 46 l (w .same) }
+      record { what = (no-more, with-property (w .what .0) (w .what .1)); same = property-name (w .what .0) (w .what .1) ∙ put-at a 46 _ r l refl (w .same) }
   on-name false false false false h i j l name slash opened dot e = absurd (dead-refuses r e)
 
-  on-opened : (b : Bool) → isIdentifierStart a ≡ b → Later r Set → accept (run (cond b Set Dead) r) ≡ true → Found Opened (a ∷ r)
+  on-opened : (b : Bool) → isNameStartByte a ≡ b → Later r Set → accept (run (cond b Set Dead) r) ≡ true → Found Opened (a ∷ r)
   unfolding text head-of nameText
-  on-opened true h f e = let w : Found Set r = f e in record { what = (head-of a h (w .what .0), w .what .1, w .what .2); same = put a (w .same) }
+  on-opened true h f e = let w : Found Set r = f e in record { what = (head-of a (number-start a ok h) (w .what .0), w .what .1, w .what .2); same = put a (w .what .0 .characters) _ r (w .same) }
   on-opened false h f e = absurd (dead-refuses r e)
 
-  on-set : (b c : Bool) → isIdentifierCont a ≡ b → eqb a 61 ≡ c → Later r Set → Later r Equals → accept (run (cond b Set (cond c Equals Dead)) r) ≡ true → Found Set (a ∷ r)
-  unfolding text no-more one-more
-  on-set true c h i f k e = let w : Found Set r = f e in record { what = (one-more a h (w .what .0), w .what .1, w .what .2); same = put a (w .same) }
-  on-set false true h i f k e = let w : Found Equals r = k e in record { what = (no-more, w .what .0, w .what .1); same = put-at a 61 i (w .same) }
+  on-set : (b c : Bool) → isNameByte a ≡ b → eqb a 61 ≡ c → Later r Set → Later r Equals → accept (run (cond b Set (cond c Equals Dead)) r) ≡ true → Found Set (a ∷ r)
+  unfolding text no-more one-more encodeAll
+  on-set true c h i f k e = let w : Found Set r = f e in record { what = (one-more a (number-cont a ok h) (w .what .0), w .what .1, w .what .2); same = put a (w .what .0 .characters) _ r (w .same) }
+  on-set false true h i f k e = let w : Found Equals r = k e in record { what = (no-more, w .what .0, w .what .1); same = put-at a 61 _ r i refl (w .same) }
   on-set false false h i f k e = absurd (dead-refuses r e)
 
-  on-equals : (b : Bool) → isIdentifierCont a ≡ b → Later r Sel → accept (run (cond b Sel Dead) r) ≡ true → Found Equals (a ∷ r)
+  on-equals : (b : Bool) → isVariantByte a ≡ b → Later r Sel → accept (run (cond b Sel Dead) r) ≡ true → Found Equals (a ∷ r)
   unfolding text word-of wordText
-  on-equals true h f e = let w : Found Sel r = f e in record { what = (word-of a h (w .what .0), w .what .1); same = put a (w .same) }
+  on-equals true h f e = let w : Found Sel r = f e in record { what = (word-of a h (w .what .0), w .what .1); same = put-byte a _ r (variant-ascii a h) (w .same) }
   on-equals false h f e = absurd (dead-refuses r e)
 
-  on-sel : (b c : Bool) → isIdentifierCont a ≡ b → eqb a 125 ≡ c → Later r Sel → Later r Closed → accept (run (cond b Sel (cond c Closed Dead)) r) ≡ true → Found Sel (a ∷ r)
-  unfolding text no-more one-more
-  on-sel true c h i f k e = let w : Found Sel r = f e in record { what = (one-more a h (w .what .0), w .what .1); same = put a (w .same) }
-  on-sel false true h i f k e = let w : Found Closed r = k e in record { what = (no-more, w .what); same = put-at a 125 i (w .same) }
+  on-sel : (b c : Bool) → isVariantByte a ≡ b → eqb a 125 ≡ c → Later r Sel → Later r Closed → accept (run (cond b Sel (cond c Closed Dead)) r) ≡ true → Found Sel (a ∷ r)
+  unfolding text no-bytes one-byte
+  on-sel true c h i f k e = let w : Found Sel r = f e in record { what = (one-byte a h (w .what .0), w .what .1); same = put-byte a _ r (variant-ascii a h) (w .same) }
+  on-sel false true h i f k e = let w : Found Closed r = k e in record { what = (no-bytes, w .what); same = put-at a 125 _ r i refl (w .same) }
   on-sel false false h i f k e = absurd (dead-refuses r e)
 
-  on-closed : (b c d : Bool) → isIdentifierStart a ≡ b → eqb a 123 ≡ c → eqb a 46 ≡ d → Later r Name → Later r Opened → Later r Dot
+  on-closed : (b c d : Bool) → isNameStartByte a ≡ b → eqb a 123 ≡ c → eqb a 46 ≡ d → Later r Name → Later r Opened → Later r Dot
       → accept (run (cond b Name (cond c Opened (cond d Dot Dead))) r) ≡ true → Found Closed (a ∷ r)
   unfolding text head-of nameText
   on-closed true c d h i j name opened dot e =
       let w : Found Name r = name e in
-      record { what = with-prim (head-of a h (w .what .0)) (w .what .1); same = prim-selection (head-of a h (w .what .0)) (w .what .1) ∙ put a (w .same) }
+      record { what = with-prim (head-of a (number-start a ok h) (w .what .0)) (w .what .1); same = prim-selection (head-of a (number-start a ok h) (w .what .0)) (w .what .1) ∙ put a (w .what .0 .characters) _ r (w .same) }
   on-closed false true d h i j name opened dot e =
       let w : Found Opened r = opened e in
       record {
         what = with-selection (w .what .0) (w .what .1) (w .what .2);
-        same = more-selection (w .what .0) (w .what .1) (w .what .2) ∙ put-at a 123 i (w .same);
+        same = more-selection (w .what .0) (w .what .1) (w .what .2) ∙ put-at a 123 _ r i refl (w .same);
       }
   on-closed false false true h i j name opened dot e =
       let w : Found Dot r = dot e in
-      record { what = with-property (w .what .0) (w .what .1); same = property-selection (w .what .0) (w .what .1) ∙ put-at a 46 j (w .same) }
+      record { what = with-property (w .what .0) (w .what .1); same = property-selection (w .what .0) (w .what .1) ∙ put-at a 46 _ r j refl (w .same) }
   on-closed false false false h i j name opened dot e = absurd (dead-refuses r e)
 
-  on-dot : (b : Bool) → isIdentifierStart a ≡ b → Later r Prop → accept (run (cond b Prop Dead) r) ≡ true → Found Dot (a ∷ r)
+  on-dot : (b : Bool) → isNameStartByte a ≡ b → Later r Prop → accept (run (cond b Prop Dead) r) ≡ true → Found Dot (a ∷ r)
   unfolding text head-of nameText
-  on-dot true h f e = let w : Found Prop r = f e in record { what = (head-of a h (w .what .0), w .what .1); same = put a (w .same) }
+  on-dot true h f e = let w : Found Prop r = f e in record { what = (head-of a (number-start a ok h) (w .what .0), w .what .1); same = put a (w .what .0 .characters) _ r (w .same) }
   on-dot false h f e = absurd (dead-refuses r e)
 
-  on-prop : (b c : Bool) → isIdentifierCont a ≡ b → eqb a 58 ≡ c → Later r Prop → Later r Dot → accept (run (cond b Prop (cond c Dot Dead)) r) ≡ true → Found Prop (a ∷ r)
-  unfolding text no-more one-more moreText
-  on-prop true c h i f k e = let w : Found Prop r = f e in record { what = (one-more a h (w .what .0), w .what .1); same = put a (w .same) }
-  on-prop false true h i f k e = let w : Found Dot r = k e in record { what = (no-more, w .what .0 ∷ w .what .1); same = put-at a 58 i (w .same) }
+  on-prop : (b c : Bool) → isNameByte a ≡ b → eqb a 58 ≡ c → Later r Prop → Later r Dot → accept (run (cond b Prop (cond c Dot Dead)) r) ≡ true → Found Prop (a ∷ r)
+  unfolding text no-more one-more encodeAll moreText
+  on-prop true c h i f k e = let w : Found Prop r = f e in record { what = (one-more a (number-cont a ok h) (w .what .0), w .what .1); same = put a (w .what .0 .characters) _ r (w .same) }
+  on-prop false true h i f k e = let w : Found Dot r = k e in record { what = (no-more, w .what .0 ∷ w .what .1); same = put-at a 58 _ r i refl (w .same) }
   on-prop false false h i f k e = absurd (dead-refuses r e)
 
-parse : (s : ScanState) (r : Text) → accept (run s r) ≡ true → Found s r
-unfolding run step accept text afterName afterSelection follow no-more nothing selectionsText propertyText moreText
-parse Slash [] e = absurd (false≢true e)
-parse Name [] e = record { what = (no-more, nothing); same = refl }
-parse Opened [] e = absurd (false≢true e)
-parse Set [] e = absurd (false≢true e)
-parse Equals [] e = absurd (false≢true e)
-parse Sel [] e = absurd (false≢true e)
-parse Closed [] e = record { what = nothing; same = refl }
-parse Dot [] e = absurd (false≢true e)
-parse Prop [] e = record { what = (no-more, []); same = refl }
-parse Dead [] e = absurd (false≢true e)
-parse Slash (a ∷ r) e = on-slash a r (isIdentifierStart a) refl (λ h. parse Name r h) e
-parse Name (a ∷ r) e =
-    on-name a r (isIdentifierCont a) (eqb a 47) (eqb a 123) (eqb a 46) refl refl refl refl (λ h. parse Name r h) (λ h. parse Slash r h) (λ h. parse Opened r h)
-    (λ h. parse Dot r h) e
-parse Opened (a ∷ r) e = on-opened a r (isIdentifierStart a) refl (λ h. parse Set r h) e
-parse Set (a ∷ r) e = on-set a r (isIdentifierCont a) (eqb a 61) refl refl (λ h. parse Set r h) (λ h. parse Equals r h) e
-parse Equals (a ∷ r) e = on-equals a r (isIdentifierCont a) refl (λ h. parse Sel r h) e
-parse Sel (a ∷ r) e = on-sel a r (isIdentifierCont a) (eqb a 125) refl refl (λ h. parse Sel r h) (λ h. parse Closed r h) e
-parse Closed (a ∷ r) e =
-    on-closed a r (isIdentifierStart a) (eqb a 123) (eqb a 46) refl refl refl (λ h. parse Name r h) (λ h. parse Opened r h) (λ h. parse Dot r h) e
-parse Dot (a ∷ r) e = on-dot a r (isIdentifierStart a) refl (λ h. parse Prop r h) e
-parse Prop (a ∷ r) e = on-prop a r (isIdentifierCont a) (eqb a 58) refl refl (λ h. parse Prop r h) (λ h. parse Dot r h) e
-parse Dead (a ∷ r) e = absurd (dead-refuses r e)
+parse : (s : ScanState) (r : List ℕ) → areAllowed r ≡ true → accept (run s r) ≡ true → Found s r
+unfolding run step accept areAllowed encodeAll text afterName afterSelection follow no-more no-bytes nothing selectionsText propertyText moreText
+parse Slash [] ok e = absurd (false≢true e)
+parse Name [] ok e = record { what = (no-more, nothing); same = refl }
+parse Opened [] ok e = absurd (false≢true e)
+parse Set [] ok e = absurd (false≢true e)
+parse Equals [] ok e = absurd (false≢true e)
+parse Sel [] ok e = absurd (false≢true e)
+parse Closed [] ok e = record { what = nothing; same = refl }
+parse Dot [] ok e = absurd (false≢true e)
+parse Prop [] ok e = record { what = (no-more, []); same = refl }
+parse Dead [] ok e = absurd (false≢true e)
+parse Slash (a ∷ r) ok e = on-slash a (and-l (isAllowed a) (areAllowed r) ok) r (isNameStartByte a) refl (λ h. parse Name r (and-r (isAllowed a) (areAllowed r) ok) h) e
+parse Name (a ∷ r) ok e =
+    on-name a (and-l (isAllowed a) (areAllowed r) ok) r (isNameByte a) (eqb a 47) (eqb a 123) (eqb a 46) refl refl refl refl (λ h. parse Name r (and-r (isAllowed a) (areAllowed r) ok) h) (λ h. parse Slash r (and-r (isAllowed a) (areAllowed r) ok) h) (λ h. parse Opened r (and-r (isAllowed a) (areAllowed r) ok) h)
+    (λ h. parse Dot r (and-r (isAllowed a) (areAllowed r) ok) h) e
+parse Opened (a ∷ r) ok e = on-opened a (and-l (isAllowed a) (areAllowed r) ok) r (isNameStartByte a) refl (λ h. parse Set r (and-r (isAllowed a) (areAllowed r) ok) h) e
+parse Set (a ∷ r) ok e = on-set a (and-l (isAllowed a) (areAllowed r) ok) r (isNameByte a) (eqb a 61) refl refl (λ h. parse Set r (and-r (isAllowed a) (areAllowed r) ok) h) (λ h. parse Equals r (and-r (isAllowed a) (areAllowed r) ok) h) e
+parse Equals (a ∷ r) ok e = on-equals a (and-l (isAllowed a) (areAllowed r) ok) r (isVariantByte a) refl (λ h. parse Sel r (and-r (isAllowed a) (areAllowed r) ok) h) e
+parse Sel (a ∷ r) ok e = on-sel a (and-l (isAllowed a) (areAllowed r) ok) r (isVariantByte a) (eqb a 125) refl refl (λ h. parse Sel r (and-r (isAllowed a) (areAllowed r) ok) h) (λ h. parse Closed r (and-r (isAllowed a) (areAllowed r) ok) h) e
+parse Closed (a ∷ r) ok e =
+    on-closed a (and-l (isAllowed a) (areAllowed r) ok) r (isNameStartByte a) (eqb a 123) (eqb a 46) refl refl refl (λ h. parse Name r (and-r (isAllowed a) (areAllowed r) ok) h) (λ h. parse Opened r (and-r (isAllowed a) (areAllowed r) ok) h) (λ h. parse Dot r (and-r (isAllowed a) (areAllowed r) ok) h) e
+parse Dot (a ∷ r) ok e = on-dot a (and-l (isAllowed a) (areAllowed r) ok) r (isNameStartByte a) refl (λ h. parse Prop r (and-r (isAllowed a) (areAllowed r) ok) h) e
+parse Prop (a ∷ r) ok e = on-prop a (and-l (isAllowed a) (areAllowed r) ok) r (isNameByte a) (eqb a 58) refl refl (λ h. parse Prop r (and-r (isAllowed a) (areAllowed r) ok) h) (λ h. parse Dot r (and-r (isAllowed a) (areAllowed r) ok) h) e
+parse Dead (a ∷ r) ok e = absurd (dead-refuses r e)
 
 -- The text r is that of prims and perhaps a property, which follow the first slash.
 pub record RenderedPrims (r : Text) : Type 0 where
@@ -262,13 +305,15 @@ pub record RenderedPrims (r : Text) : Type 0 where
   pub same : primsText prim more ++ propertyText property ≡ r
 
 -- The texts that are accepted after the first slash.
-pub body : (r : Text) → accept (run Slash r) ≡ true → RenderedPrims r
+pub body : (r : Text) → accept (run Slash r) ≡ true → charactersAllowed r ≡ true → RenderedPrims r
 unfolding text
-body r e =
-    let w : Found Slash r = parse Slash r e in
+body r e h =
+    let c = allowed-characters r h in
+    let read : run Slash (c .characters) ≡ run Slash r = sym (run-characters Slash (c .characters)) ∙ ap (run Slash) (c .encoded .same) in
+    let w : Found Slash (c .characters) = parse Slash (c .characters) (c .allowed) (ap accept read ∙ e) in
     record {
       prim = record { name = w .what .0; selections = w .what .1 .selections };
       more = w .what .1 .rest;
       property = w .what .1 .property;
-      same = prims-text (w .what .0) (w .what .1) ∙ w .same;
+      same = prims-text (w .what .0) (w .what .1) ∙ w .same ∙ c .encoded .same;
     }

@@ -1,30 +1,35 @@
 -- The rendering of a path is legal: the other half of the theorem.
 use mathlib.Core.Path.{_≡_, refl, ap, _∙_}
 use mathlib.Core.Bool.{true, false}
-use mathlib.Core.List.{List, [], _∷_, _++_, append-nil}
+use mathlib.Core.List.{List, [], _∷_, _++_, append-nil, append-assoc}
 use mathlib.Core.Option.{Option, none, some}
 use Prim.Native.Nat.{ℕ, zero, suc}
+use lib.Dec.{leb}
 use Rattle.text.specs.Text.{Text, isNil, lacksByte, takeUntil, dropUntil}
-use Rattle.path_grammar.specs.Legal.{ScanState, Slash, Name, Opened, Set, Equals, Sel, Closed, Dot, Prop, isIdentifierStart, isIdentifierCont, step, run, accept, legalOwn, isAbsolute, closesTarget, legalTarget, legalWithin, legal}
+use Rattle.path_grammar.specs.Legal.{ScanState, Slash, Name, Opened, Set, Equals, Sel, Closed, Dot, Prop, isNameStartByte, isNameByte, isVariantByte, startsName, step, run, accept, scanAccepts, legalOwn, isAbsolute, closesTarget, legalTarget, legalWithin, legal}
+use Rattle.characters.specs.NameCharacter.{charactersAllowed}
+use Rattle.characters.proofs.AllowedLaws.{allowed-none, allowed-ascii, allowed-join}
 use Rattle.path_grammar.specs.Own.{ownPart, targetPart, hasProperty}
 use Rattle.text.proofs.BoolLaws.{and-l, and-r, or-right}
 use Rattle.text.proofs.TextLaws.{last-snoc}
 use Rattle.text.proofs.UntilLaws.{drop-last-snoc}
 use Rattle.path_grammar.proofs.RunLaws.{run-app}
 use Rattle.path_grammar.proofs.OwnLaws.{own-all, target-none, own-after, target-after}
-use Rattle.path_grammar.proofs.LegalLaws.{own-unbracketed}
+use Rattle.path_grammar.proofs.LegalLaws.{own-by-scan, own-unbracketed, empty-legal}
+use Rattle.path_grammar.proofs.NameLaws.{run-characters, start-number, cont-number, name-starts, name-allowed, word-allowed}
 use Rattle.path_grammar.proofs.RenderLacks.{dot-found}
 use Rattle.path_grammar.specs.Grammar as g
-use Rattle.path_grammar.specs.Grammar.{allCont, nameText, wordText, selectionText, selectionsText, primText, primSeparator, primsText, moreText, propertyText, ownText, bracketText, absoluteText, render}
+use Rattle.path_grammar.specs.Grammar.{isIdentifierCont, allCont, areVariantBytes, nameText, wordText, selectionText, selectionsText, primText, primSeparator, primsText, moreText, propertyText, ownText, bracketText, absoluteText, render}
 
--- A state that letters, digits and `_` do not leave.
+-- A state that the characters of a name do not leave.
 abbrev keeps : ScanState → Type 0
-keeps s = (a : ℕ) → isIdentifierCont a ≡ true → step s a ≡ s
+keeps s = (a : ℕ) → isNameByte a ≡ true → step s a ≡ s
 
-stays : (s : ScanState) → keeps s → (t : Text) → allCont t ≡ true → run s t ≡ s
+stays : (s : ScanState) → keeps s → (cs : List ℕ) → allCont cs ≡ true → run s cs ≡ s
 unfolding run allCont
 stays s k [] e = refl
-stays s k (a ∷ t) e = rw (k a (and-l (isIdentifierCont a) (allCont t) e)) (stays s k t (and-r (isIdentifierCont a) (allCont t) e))
+stays s k (c ∷ r) e =
+    rw (k c (cont-number c (and-l (isIdentifierCont c) (allCont r) e))) (stays s k r (and-r (isIdentifierCont c) (allCont r) e))
 
 name-keeps : keeps Name
 unfolding step
@@ -34,18 +39,17 @@ set-keeps : keeps Set
 unfolding step
 set-keeps a h = rw h
 
-sel-keeps : keeps Sel
-unfolding step
-sel-keeps a h = rw h
-
 prop-keeps : keeps Prop
 unfolding step
 prop-keeps a h = rw h
 
 -- A name leads from state s to state t.
-reads-name : (s t : ScanState) → ((a : ℕ) → isIdentifierStart a ≡ true → step s a ≡ t) → keeps t → (n : g.Name) → run s (nameText n) ≡ t
+reads-name : (s t : ScanState) → ((a : ℕ) → isNameStartByte a ≡ true → step s a ≡ t) → keeps t → (n : g.Name) → run s (nameText n) ≡ t
 unfolding run nameText
-reads-name s t f k n = ap (λ (u : ScanState). run u (n .more)) (f (n .first) (n .first-is)) ∙ stays t k (n .more) (n .more-are)
+reads-name s t f k n =
+    run-characters s (n .first ∷ n .more)
+    ∙ ap (λ (u : ScanState). run u (n .more)) (f (n .first) (start-number (n .first) (n .first-is)))
+    ∙ stays t k (n .more) (n .more-are)
 
 from-slash : (n : g.Name) → run Slash (nameText n) ≡ Name
 unfolding step
@@ -63,18 +67,23 @@ from-dot : (n : g.Name) → run Dot (nameText n) ≡ Prop
 unfolding step
 from-dot n = reads-name Dot Prop (λ a h. rw h) prop-keeps n
 
-equals-word : (a : ℕ) → isIdentifierCont a ≡ true → step Equals a ≡ Sel
+-- The bytes of a variant.
+equals-word : (a : ℕ) → isVariantByte a ≡ true → step Equals a ≡ Sel
 unfolding step
 equals-word a h = rw h
 
+sel-keeps : (t : Text) → areVariantBytes t ≡ true → run Sel t ≡ Sel
+unfolding run step areVariantBytes
+sel-keeps [] e = refl
+sel-keeps (a ∷ t) e = rw (and-l (isVariantByte a) (areVariantBytes t) e) (sel-keeps t (and-r (isVariantByte a) (areVariantBytes t) e))
+
 from-equals : (w : g.Word) → run Equals (wordText w) ≡ Sel
 unfolding run wordText
-from-equals w =
-    ap (λ (u : ScanState). run u (w .more)) (equals-word (w .first) (w .first-is)) ∙ stays Sel sel-keeps (w .more) (w .more-are)
+from-equals w = ap (λ (u : ScanState). run u (w .more)) (equals-word (w .first) (w .first-is)) ∙ sel-keeps (w .more) (w .more-are)
 
 -- A selection, after a name or after another selection.
 inside : (s : g.Selection) → run Opened (nameText (s .variantSet) ++ (61 ∷ (wordText (s .variant) ++ (125 ∷ [])))) ≡ Closed
-unfolding run step isIdentifierStart isIdentifierCont
+unfolding run step isNameStartByte isNameByte isVariantByte
 inside s =
     rw (
       run-app Opened (nameText (s .variantSet)) (61 ∷ (wordText (s .variant) ++ (125 ∷ []))),
@@ -84,11 +93,11 @@ inside s =
     )
 
 selection-name : (s : g.Selection) → run Name (selectionText s) ≡ Closed
-unfolding run step selectionText isIdentifierStart isIdentifierCont
+unfolding run step selectionText isNameStartByte isNameByte
 selection-name s = inside s
 
 selection-closed : (s : g.Selection) → run Closed (selectionText s) ≡ Closed
-unfolding run step selectionText isIdentifierStart isIdentifierCont
+unfolding run step selectionText isNameStartByte isNameByte
 selection-closed s = inside s
 
 more-closed : (r : List g.Selection) → run Closed (selectionsText r) ≡ Closed
@@ -113,7 +122,7 @@ reads-prim s f p = rw (run-app s (nameText (p .name)) (selectionsText (p .select
 
 -- After the separator a name may be read.
 reads-joint : (r : List g.Selection) (n : g.Name) → run (run (after r) (primSeparator r)) (nameText n) ≡ Name
-unfolding primSeparator run step isIdentifierStart isIdentifierCont
+unfolding primSeparator run step isNameStartByte isNameByte
 reads-joint [] n = from-slash n
 reads-joint (s ∷ r) n = from-closed n
 
@@ -134,7 +143,7 @@ reads-prims s f p (q ∷ r) =
     (reads-prims (run (after (p .selections)) (primSeparator (p .selections))) (reads-joint (p .selections)) q r)
 
 reads-more : (r : List g.Name) → run Prop (moreText r) ≡ Prop
-unfolding run moreText step isIdentifierStart isIdentifierCont
+unfolding run moreText step isNameStartByte isNameByte
 reads-more [] = refl
 reads-more (n ∷ r) = rw (run-app Dot (nameText n) (moreText r), from-dot n) (reads-more r)
 
@@ -142,18 +151,83 @@ reads-property : (x : g.Property) → run Dot (nameText (x .first) ++ moreText (
 reads-property x = rw (run-app Dot (nameText (x .first)) (moreText (x .more)), from-dot (x .first)) (reads-more (x .more))
 
 accepts : (r : List g.Selection) (x : Option g.Property) → accept (run (after r) (propertyText x)) ≡ true
-unfolding accept run step propertyText isIdentifierStart isIdentifierCont
+unfolding accept run step propertyText isNameStartByte isNameByte
 accepts [] none = refl
 accepts (s ∷ r) none = refl
 accepts [] (some x) = rw (reads-property x)
 accepts (s ∷ r) (some x) = rw (reads-property x)
 
+-- The text of prims begins with a name.
+pub prims-named : (p : g.Prim) (r : List g.Prim) (y : Text) → startsName (primsText p r ++ y) ≡ true
+unfolding primsText primText
+prims-named p [] y = rw (append-assoc (nameText (p .name)) (selectionsText (p .selections)) y) (name-starts (p .name) (selectionsText (p .selections) ++ y))
+prims-named p (q ∷ r) y =
+    rw (
+      append-assoc (nameText (p .name) ++ selectionsText (p .selections)) (primSeparator (p .selections) ++ primsText q r) y,
+      append-assoc (nameText (p .name)) (selectionsText (p .selections)) ((primSeparator (p .selections) ++ primsText q r) ++ y),
+    )
+    (name-starts (p .name) (selectionsText (p .selections) ++ ((primSeparator (p .selections) ++ primsText q r) ++ y)))
+
+-- The characters of a path are allowed.
+cons-allowed : (a : ℕ) (r : Text) → leb a 0x7F ≡ true → charactersAllowed r ≡ true → charactersAllowed (a ∷ r) ≡ true
+cons-allowed a r h e = allowed-ascii a h r ∙ e
+
+selection-allowed : (s : g.Selection) → charactersAllowed (selectionText s) ≡ true
+unfolding selectionText
+selection-allowed s =
+    cons-allowed 123 _ refl
+    (allowed-join (nameText (s .variantSet)) _ (name-allowed (s .variantSet))
+    (cons-allowed 61 _ refl (allowed-join (wordText (s .variant)) _ (word-allowed (s .variant)) (cons-allowed 125 [] refl allowed-none))))
+
+selections-allowed : (r : List g.Selection) → charactersAllowed (selectionsText r) ≡ true
+unfolding selectionsText
+selections-allowed [] = allowed-none
+selections-allowed (s ∷ r) = allowed-join (selectionText s) (selectionsText r) (selection-allowed s) (selections-allowed r)
+
+prim-allowed : (p : g.Prim) → charactersAllowed (primText p) ≡ true
+unfolding primText
+prim-allowed p = allowed-join (nameText (p .name)) (selectionsText (p .selections)) (name-allowed (p .name)) (selections-allowed (p .selections))
+
+separator-allowed : (r : List g.Selection) → charactersAllowed (primSeparator r) ≡ true
+unfolding primSeparator
+separator-allowed [] = cons-allowed 47 [] refl allowed-none
+separator-allowed (s ∷ r) = allowed-none
+
+prims-allowed : (p : g.Prim) (r : List g.Prim) → charactersAllowed (primsText p r) ≡ true
+unfolding primsText
+prims-allowed p [] = prim-allowed p
+prims-allowed p (q ∷ r) =
+    allowed-join (primText p) (primSeparator (p .selections) ++ primsText q r) (prim-allowed p)
+    (allowed-join (primSeparator (p .selections)) (primsText q r) (separator-allowed (p .selections)) (prims-allowed q r))
+
+more-allowed : (r : List g.Name) → charactersAllowed (moreText r) ≡ true
+unfolding moreText
+more-allowed [] = allowed-none
+more-allowed (n ∷ r) = cons-allowed 58 _ refl (allowed-join (nameText n) (moreText r) (name-allowed n) (more-allowed r))
+
+property-allowed : (x : Option g.Property) → charactersAllowed (propertyText x) ≡ true
+unfolding propertyText
+property-allowed none = allowed-none
+property-allowed (some x) = cons-allowed 46 _ refl (allowed-join (nameText (x .first)) (moreText (x .more)) (name-allowed (x .first)) (more-allowed (x .more)))
+
+own-text-allowed : (p : g.Prim) (r : List g.Prim) (x : Option g.Property) → charactersAllowed (ownText p r x) ≡ true
+unfolding ownText
+own-text-allowed p r x = cons-allowed 47 _ refl (allowed-join (primsText p r) (propertyText x) (prims-allowed p r) (property-allowed x))
+
 -- The text of an own part.
-pub own-render : (p : g.Prim) (r : List g.Prim) (x : Option g.Property) → legalOwn (ownText p r x) ≡ true
-unfolding legalOwn ownText
-own-render p r x =
+own-accepted : (p : g.Prim) (r : List g.Prim) (x : Option g.Property) → scanAccepts (ownText p r x) ≡ true
+unfolding scanAccepts ownText
+own-accepted p r x =
     or-right (isNil (primsText p r ++ propertyText x)) (accept (run Slash (primsText p r ++ propertyText x)))
     (rw (run-app Slash (primsText p r) (propertyText x), reads-prims Slash from-slash p r) (accepts (last p r) x))
+
+pub own-render : (p : g.Prim) (r : List g.Prim) (x : Option g.Property) → legalOwn (ownText p r x) ≡ true
+own-render p r x = own-by-scan (ownText p r x) (own-text-allowed p r x) ∙ own-accepted p r x
+
+-- The text `/`.
+root-own : legalOwn (47 ∷ []) ≡ true
+unfolding scanAccepts
+root-own = own-by-scan (47 ∷ []) (cons-allowed 47 [] refl allowed-none)
 
 -- The text of an own part and a target part is legal if the own part is, has a property, and the target is an absolute path that is legal one
 -- level deeper.
@@ -191,15 +265,15 @@ unfolding ownText propertyText
 own-dotted p r x = dot-found (47 ∷ primsText p r) (nameText (x .first) ++ moreText (x .more))
 
 within-render : {d : ℕ} (q : g.Absolute d) → legalWithin d (absoluteText q) ≡ true
-unfolding absoluteText legalOwn
-within-render (g.root {d}) = within-own d (47 ∷ []) refl
+unfolding absoluteText
+within-render (g.root {d}) = within-own d (47 ∷ []) root-own
 within-render (g.prims {d} p r x) = within-own d (ownText p r x) (own-render p r x)
 within-render (g.target {d} p r x q) =
     bracket-legal d (ownText p r (some x)) (absoluteText q) (own-render p r (some x)) (own-dotted p r x) (absolute-render q) (within-render q)
 
 pub legal-render : (p : g.Path) → legal (render p) ≡ true
-unfolding legal legalWithin render
-legal-render g.empty = refl
+unfolding legal render
+legal-render g.empty = empty-legal
 legal-render (g.absolute q) = within-render q
 
 -- The two parts of a path's text.

@@ -8,12 +8,12 @@ use borrow.Author.Tests.{eqb-true}
 use Rattle.text.specs.Text.{Text, lacksByte}
 use Rattle.text.proofs.BoolLaws.{and-l, and-r, and-no}
 use Rattle.text.proofs.TextLaws.{lacks-append, lacks-join}
-use Rattle.path_grammar.specs.Legal.{isIdentifierStart, isIdentifierCont}
+use Rattle.path_grammar.specs.Legal.{isNameStartByte, isNameByte}
 use Rattle.path_grammar.specs.Grammar as g
-use Rattle.path_grammar.specs.Grammar.{allCont, nameText, wordText, selectionText, selectionsText, primText, primSeparator, primsText}
-use Rattle.path_grammar.proofs.LegalLaws.{start-cont}
+use Rattle.path_grammar.specs.Grammar.{nameText, wordText, selectionText, selectionsText, primText, primSeparator, primsText}
+use Rattle.path_grammar.proofs.NameLaws.{areNameBytes, name-bytes, word-bytes}
 
-pub not-name : (a k : ℕ) → isIdentifierCont k ≡ false → isIdentifierCont a ≡ true → eqb a k ≡ false
+pub not-name : (a k : ℕ) → isNameByte k ≡ false → isNameByte a ≡ true → eqb a k ≡ false
 not-name a k n h = go (eqb a k) refl
   where
     go : (t : Bool) → eqb a k ≡ t → t ≡ false
@@ -21,28 +21,26 @@ not-name a k n h = go (eqb a k) refl
     go false e = refl
 
 -- A name and a variant lack every byte that no name contains.
-module _ (b : ℕ) (no : isIdentifierCont b ≡ false) where
-  cont-lacks : (t : Text) → allCont t ≡ true → lacksByte b t ≡ true
-  unfolding allCont lacksByte
-  cont-lacks [] e = refl
-  cont-lacks (a ∷ t) e =
-      rw (not-name a b no (and-l (isIdentifierCont a) (allCont t) e)) (cont-lacks t (and-r (isIdentifierCont a) (allCont t) e))
+module _ (b : ℕ) (no : isNameByte b ≡ false) where
+  bytes-lack : (t : Text) → areNameBytes t ≡ true → lacksByte b t ≡ true
+  unfolding areNameBytes lacksByte
+  bytes-lack [] e = refl
+  bytes-lack (a ∷ t) e =
+      rw (not-name a b no (and-l (isNameByte a) (areNameBytes t) e)) (bytes-lack t (and-r (isNameByte a) (areNameBytes t) e))
 
   pub name-lacks : (n : g.Name) → lacksByte b (nameText n) ≡ true
-  unfolding nameText lacksByte
-  name-lacks n = rw (not-name (n .first) b no (start-cont (n .first) (n .first-is))) (cont-lacks (n .more) (n .more-are))
+  name-lacks n = bytes-lack (nameText n) (name-bytes n)
 
   pub word-lacks : (w : g.Word) → lacksByte b (wordText w) ≡ true
-  unfolding wordText lacksByte
-  word-lacks w = rw (not-name (w .first) b no (w .first-is)) (cont-lacks (w .more) (w .more-are))
+  word-lacks w = bytes-lack (wordText w) (word-bytes w)
 
 -- Bytes that no name contains.
-pub dot-no-name : isIdentifierCont 46 ≡ false
-unfolding isIdentifierCont isIdentifierStart
+pub dot-no-name : isNameByte 46 ≡ false
+unfolding isNameByte isNameStartByte
 dot-no-name = refl
 
-pub close-no-name : isIdentifierCont 125 ≡ false
-unfolding isIdentifierCont isIdentifierStart
+pub close-no-name : isNameByte 125 ≡ false
+unfolding isNameByte isNameStartByte
 close-no-name = refl
 
 -- Prims lack the dot.

@@ -6,7 +6,7 @@ use Prim.Native.Nat.{ℕ}
 use lib.Dec.{eqb}
 use borrow.Author.Tests.{eqb-true}
 use Rattle.text.specs.Text.{Text, lacksByte}
-use Rattle.path_grammar.specs.Legal.{ScanState, Slash, Name, Opened, Set, Equals, Sel, Closed, Dot, Prop, Dead, isIdentifierStart, isIdentifierCont, step, run, accept}
+use Rattle.path_grammar.specs.Legal.{ScanState, Slash, Name, Opened, Set, Equals, Sel, Closed, Dot, Prop, Dead, isNameStartByte, isNameByte, isVariantByte, step, run, accept}
 
 pub run-app : (s : ScanState) (x y : Text) → run s (x ++ y) ≡ run (run s x) y
 unfolding run
@@ -25,8 +25,9 @@ dead-refuses r e = false≢true (rw (run-dead r) at e)
 
 -- A byte that the automaton reads in no state.
 pub record Unread (b : ℕ) : Type 0 where
-  pub start : isIdentifierStart b ≡ false
-  pub cont : isIdentifierCont b ≡ false
+  pub start : isNameStartByte b ≡ false
+  pub cont : isNameByte b ≡ false
+  pub variant : isVariantByte b ≡ false
   pub slash : eqb b 47 ≡ false
   pub openBrace : eqb b 123 ≡ false
   pub closeBrace : eqb b 125 ≡ false
@@ -40,8 +41,8 @@ unread-dead u Slash = rw (u .start)
 unread-dead u Name = rw (u .cont, u .slash, u .openBrace, u .dot)
 unread-dead u Opened = rw (u .start)
 unread-dead u Set = rw (u .cont, u .equals)
-unread-dead u Equals = rw (u .cont)
-unread-dead u Sel = rw (u .cont, u .closeBrace)
+unread-dead u Equals = rw (u .variant)
+unread-dead u Sel = rw (u .variant, u .closeBrace)
 unread-dead u Closed = rw (u .start, u .openBrace, u .dot)
 unread-dead u Dot = rw (u .start)
 unread-dead u Prop = rw (u .cont, u .colon)
@@ -59,13 +60,13 @@ run-lacks {b} u s (a ∷ r) e = go (eqb a b) refl (run-lacks u (step s a) r e)
 
 -- The brackets, and the byte 0, are such bytes.
 pub open-unread : Unread 91
-unfolding isIdentifierStart isIdentifierCont
-open-unread = record { start = refl; cont = refl; slash = refl; openBrace = refl; closeBrace = refl; dot = refl; equals = refl; colon = refl }
+unfolding isNameStartByte isNameByte isVariantByte
+open-unread = record { start = refl; cont = refl; variant = refl; slash = refl; openBrace = refl; closeBrace = refl; dot = refl; equals = refl; colon = refl }
 
 pub close-unread : Unread 93
-unfolding isIdentifierStart isIdentifierCont
-close-unread = record { start = refl; cont = refl; slash = refl; openBrace = refl; closeBrace = refl; dot = refl; equals = refl; colon = refl }
+unfolding isNameStartByte isNameByte isVariantByte
+close-unread = record { start = refl; cont = refl; variant = refl; slash = refl; openBrace = refl; closeBrace = refl; dot = refl; equals = refl; colon = refl }
 
 pub null-unread : Unread 0
-unfolding isIdentifierStart isIdentifierCont
-null-unread = record { start = refl; cont = refl; slash = refl; openBrace = refl; closeBrace = refl; dot = refl; equals = refl; colon = refl }
+unfolding isNameStartByte isNameByte isVariantByte
+null-unread = record { start = refl; cont = refl; variant = refl; slash = refl; openBrace = refl; closeBrace = refl; dot = refl; equals = refl; colon = refl }

@@ -1,20 +1,20 @@
 -- Lemmas about the packed transition table, and about the scan that uses it.
 use mathlib.Core.Path.{_≡_, refl, sym, ap, _∙_}
-use mathlib.Core.Bool.{Bool, true, false, _&&_, _||_, false≢true}
+use mathlib.Core.Bool.{Bool, true, false}
 use mathlib.Core.List.{List, [], _∷_}
-use mathlib.Core.Logic.{_≢_, inl, inr}
+use mathlib.Core.Logic.{_≢_}
 use Prim.Native.Nat.{ℕ, _+_, _/_, _%_, _^_, _<_, _≤_}
 use native.Mathlib.Numerals.{add-one}
 use native.Mathlib.Omega.{arith}
 use lib.Dec.{eqb, ltb}
 use borrow.Author.Tests.{eqb-true, ne-eqb}
-use types.Run.{OneOf}
 use lib.ListN.{length, getD, drop, drop-of-length-le}
 use lib.Seq.{drop-cons}
 use Rattle.text.specs.Text.{Text}
-use Rattle.text.proofs.BoolLaws.{and-l, and-r, or-false, upTo, at-each}
-use Rattle.path_grammar.specs.Legal.{ScanState, Name, Closed, Prop, Slash, Opened, Set, Equals, Sel, Dot, Dead, step, accept, run, legalOwn}
-use Rattle.path_grammar.specs.PackedScan.{stateCode, packedSteps}
+use Rattle.text.proofs.BoolLaws.{upTo, at-each}
+use Rattle.text.proofs.TableLaws.{listed}
+use Rattle.path_grammar.specs.Legal.{ScanState, Name, Closed, Prop, Slash, Opened, Set, Equals, Sel, Dot, Dead, step, accept, run, scanAccepts}
+use Rattle.path_grammar.specs.PackedScan.{stateCode, packedSteps, asciiByte}
 
 -- The packed number of byte a holds the next state of state s at the bit offset of s.
 unfoldable pub holds : ScanState → ℕ → Bool
@@ -64,59 +64,59 @@ digits-1 = 48 ∷ 50 ∷ 52 ∷ 54 ∷ 56 ∷ []
 unfoldable pub digits-2 : List ℕ
 digits-2 = 49 ∷ 51 ∷ 53 ∷ 55 ∷ 57 ∷ []
 
--- The function f has the same result x at each value of an arm.
-abbrev pub same : (ℕ → ℕ) → ℕ → List ℕ → Bool
-same f x [] = true
-same f x (k ∷ ks) = eqb x (f k) && same f x ks
+-- The arms of the wide table that the first table lacks: the bytes of characters outside ASCII.
+unfoldable pub high-1 : List ℕ
+high-1 = 128 ∷ 130 ∷ 132 ∷ 134 ∷ 136 ∷ 138 ∷ 140 ∷ 142 ∷ 144 ∷ 146 ∷ 148 ∷ []
 
-pub arm : (f : ℕ → ℕ) (x : ℕ) (ks : List ℕ) (a : ℕ) → OneOf ks a → same f x ks ≡ true → x ≡ f a
-arm f x [] a w t = absurd w
-arm f x (k ∷ []) a w t = rw w (eqb-true x (f k) (and-l (eqb x (f k)) true t))
-arm f x (k ∷ l ∷ ks) a (inl e) t = rw e (eqb-true x (f k) (and-l (eqb x (f k)) (same f x (l ∷ ks)) t))
-arm f x (k ∷ l ∷ ks) a (inr w) t = arm f x (l ∷ ks) a w (and-r (eqb x (f k)) (same f x (l ∷ ks)) t)
+unfoldable pub high-2 : List ℕ
+high-2 = 150 ∷ 152 ∷ 154 ∷ 156 ∷ 158 ∷ 160 ∷ 162 ∷ 164 ∷ 166 ∷ 168 ∷ 170 ∷ []
 
--- What the default arm of a match assumes: the number is none of the values of each arm, the last arm first.
-abbrev pub Rest : List (List ℕ) → ℕ → Type 0
-Rest [] a = Unit {0}
-Rest (ks ∷ arms) a = Rest arms a × (OneOf ks a → ⊥)
+unfoldable pub high-3 : List ℕ
+high-3 = 172 ∷ 174 ∷ 176 ∷ 178 ∷ 180 ∷ 182 ∷ 184 ∷ 186 ∷ 188 ∷ 190 ∷ 192 ∷ []
 
-abbrev one-of : List ℕ → ℕ → Bool
-one-of [] a = false
-one-of (k ∷ ks) a = eqb a k || one-of ks a
+unfoldable pub high-4 : List ℕ
+high-4 = 194 ∷ 196 ∷ 198 ∷ 200 ∷ 202 ∷ 204 ∷ 206 ∷ 208 ∷ 210 ∷ 212 ∷ 214 ∷ []
 
-one : (ks : List ℕ) (a : ℕ) → one-of ks a ≡ true → OneOf ks a
-one [] a e = absurd (false≢true e)
-one (k ∷ []) a e = eqb-true a k (sym (or-false (eqb a k)) ∙ e)
-one (k ∷ l ∷ ks) a e = go (eqb a k) refl (one (l ∷ ks) a)
-  where
-    go : (b : Bool) → eqb a k ≡ b → (one-of (l ∷ ks) a ≡ true → OneOf (l ∷ ks) a) → OneOf (k ∷ l ∷ ks) a
-    go true h f = inl (eqb-true a k h)
-    go false h f = inr (f (rw h at e))
+unfoldable pub high-5 : List ℕ
+high-5 = 216 ∷ 218 ∷ 220 ∷ 222 ∷ 224 ∷ 226 ∷ 228 ∷ 230 ∷ 232 ∷ 234 ∷ 236 ∷ []
 
-abbrev in-arms : List (List ℕ) → ℕ → Bool
-in-arms [] a = false
-in-arms (ks ∷ arms) a = one-of ks a || in-arms arms a
+unfoldable pub high-6 : List ℕ
+high-6 = 238 ∷ 240 ∷ 242 ∷ 244 ∷ 246 ∷ 248 ∷ 250 ∷ 252 ∷ 254 ∷ []
 
-none-of : (arms : List (List ℕ)) (a : ℕ) → Rest arms a → in-arms arms a ≡ false
-none-of [] a w = refl
-none-of (ks ∷ arms) a w = rw (not-one (one-of ks a) refl) (none-of arms a (w .0))
-  where
-    not-one : (b : Bool) → one-of ks a ≡ b → one-of ks a ≡ false
-    not-one true h = absurd (w .1 (one ks a h))
-    not-one false h = h
+unfoldable pub high-7 : List ℕ
+high-7 = 129 ∷ 131 ∷ 133 ∷ 135 ∷ 137 ∷ 139 ∷ 141 ∷ 143 ∷ 145 ∷ 147 ∷ 149 ∷ []
 
--- The byte a is a value of some arm, or f returns for it the number of a byte that no path contains.
-abbrev pub listed : (ℕ → ℕ) → List (List ℕ) → ℕ → Bool
-listed f arms a = in-arms arms a || eqb (f a) 988218432520154550
+unfoldable pub high-8 : List ℕ
+high-8 = 151 ∷ 153 ∷ 155 ∷ 157 ∷ 159 ∷ 161 ∷ 163 ∷ 165 ∷ 167 ∷ 169 ∷ 171 ∷ []
 
-pub others : (f : ℕ → ℕ) (arms : List (List ℕ)) (a : ℕ) → upTo (listed f arms) 256 ≡ true → a < 256 → Rest arms a → 988218432520154550 ≡ f a
-others f arms a t h w = sym (eqb-true (f a) 988218432520154550 (rw (none-of arms a w) at (at-each (listed f arms) 256 a t h)))
+unfoldable pub high-9 : List ℕ
+high-9 = 173 ∷ 175 ∷ 177 ∷ 179 ∷ 181 ∷ 183 ∷ 185 ∷ 187 ∷ 189 ∷ 191 ∷ 193 ∷ []
+
+unfoldable pub high-10 : List ℕ
+high-10 = 195 ∷ 197 ∷ 199 ∷ 201 ∷ 203 ∷ 205 ∷ 207 ∷ 209 ∷ 211 ∷ 213 ∷ 215 ∷ []
+
+unfoldable pub high-11 : List ℕ
+high-11 = 217 ∷ 219 ∷ 221 ∷ 223 ∷ 225 ∷ 227 ∷ 229 ∷ 231 ∷ 233 ∷ 235 ∷ 237 ∷ []
+
+unfoldable pub high-12 : List ℕ
+high-12 = 239 ∷ 241 ∷ 243 ∷ 245 ∷ 247 ∷ 249 ∷ 251 ∷ 253 ∷ 255 ∷ []
 
 unfoldable pub arms : List (List ℕ)
 arms =
     (125 ∷ []) ∷ (123 ∷ []) ∷ (61 ∷ []) ∷ (58 ∷ []) ∷ (47 ∷ []) ∷ (46 ∷ []) ∷ digits-2 ∷ digits-1 ∷ more-2 ∷ lower-2 ∷ upper-2 ∷ more-1 ∷ lower-1 ∷ upper-1 ∷ []
 
-pub all-listed : upTo (listed packedSteps arms) 256 ≡ true
+unfoldable pub wide-arms : List (List ℕ)
+wide-arms = high-12 ∷ high-11 ∷ high-10 ∷ high-9 ∷ high-8 ∷ high-7 ∷ high-6 ∷ high-5 ∷ high-4 ∷ high-3 ∷ high-2 ∷ high-1 ∷ arms
+
+pub all-wide-listed : upTo (listed packedSteps 988218432520154550 wide-arms) 256 ≡ true
+unfolding wide-arms arms upper-1 lower-1 more-1 upper-2 lower-2 more-2 digits-1 digits-2 high-1 high-2 high-3 high-4 high-5 high-6 high-7 high-8 high-9 high-10 high-11 high-12 packedSteps
+all-wide-listed = refl
+
+-- The first scan.
+abbrev pub ascii-pack : ℕ → ℕ
+ascii-pack a = packedSteps (asciiByte a)
+
+pub all-listed : upTo (listed ascii-pack 988218432520154550 arms) 256 ≡ true
 unfolding arms upper-1 lower-1 more-1 upper-2 lower-2 more-2 digits-1 digits-2 packedSteps
 all-listed = refl
 
@@ -154,24 +154,24 @@ on p k i m h w l e =
       rest = rw (add-one i) (rw (drop-cons p i 0 h) at (w .rest));
     }
 
-pub none : (p : Text) → length p ≡ 0 → true ≡ legalOwn p
-unfolding legalOwn
+pub none : (p : Text) → length p ≡ 0 → true ≡ scanAccepts p
+unfolding scanAccepts
 none [] h = refl
 none (a ∷ p) h = absurd (omega arith)
 
-pub other : (p : Text) → length p ≢ 0 → getD p 0 0 ≢ 47 → false ≡ legalOwn p
-unfolding legalOwn
+pub other : (p : Text) → length p ≢ 0 → getD p 0 0 ≢ 47 → false ≡ scanAccepts p
+unfolding scanAccepts
 other [] n h = absurd (n refl)
 other (a ∷ p) n h = rw (ne-eqb a 47 h)
 
-pub root : (p : Text) → getD p 0 0 ≡ 47 → length p ≡ 1 → true ≡ legalOwn p
-unfolding legalOwn
+pub root : (p : Text) → getD p 0 0 ≡ 47 → length p ≡ 1 → true ≡ scanAccepts p
+unfolding scanAccepts
 root [] h l = absurd (omega arith)
 root (a ∷ []) h l = rw h
 root (a ∷ c ∷ p) h l = absurd (omega arith)
 
-pub whole : (p : Text) (k i : ℕ) → getD p 0 0 ≡ 47 → length p ≢ 0 → length p ≢ 1 → Reads p k i → length p ≤ i → ltb (k % 64) 18 ≡ legalOwn p
-unfolding legalOwn run
+pub whole : (p : Text) (k i : ℕ) → getD p 0 0 ≡ 47 → length p ≢ 0 → length p ≢ 1 → Reads p k i → length p ≤ i → ltb (k % 64) 18 ≡ scanAccepts p
+unfolding scanAccepts run
 whole [] k i h n m w l = absurd (n refl)
 whole (x ∷ []) k i h n m w l = absurd (m refl)
 whole (x ∷ y ∷ p) k i h n m w l =

@@ -10,11 +10,12 @@ use Rattle.text.specs.Text.{Text, isNil, endsWithByte, lacksByte, dropLast}
 use Rattle.text.proofs.BoolLaws.{and-l, and-r, not-true}
 use Rattle.text.proofs.UntilLaws.{last-split}
 use Rattle.path_grammar.specs.Own.{ownPart, targetPart, hasProperty}
-use Rattle.path_grammar.specs.Legal.{Slash, run, accept, legalOwn, isAbsolute, closesTarget, legalTarget, legalWithin, legal}
+use Rattle.path_grammar.specs.Legal.{Slash, run, accept, scanAccepts, legalOwn, isAbsolute, closesTarget, legalTarget, legalWithin, legal}
 use Rattle.path_grammar.specs.Grammar as g
 use Rattle.path_grammar.specs.Grammar.{Rendered, LegalIsRendered, primsText, propertyText, ownText, bracketText, absoluteText, render}
 use Rattle.path_grammar.proofs.OwnLaws.{own-parts, own-all, property-scan, target-head}
-use Rattle.path_grammar.proofs.LegalLaws.{absolute-first}
+use Rattle.path_grammar.proofs.LegalLaws.{own-scan, own-allowed, own-absolute, absolute-first}
+use Rattle.characters.proofs.AllowedLaws.{allowed-ascii}
 use Rattle.path_grammar.proofs.RenderLacks.{prims-dotless}
 use Rattle.path_grammar.proofs.Render.{legal-render}
 use Rattle.path_grammar.proofs.Parse.{RenderedPrims, body}
@@ -24,14 +25,23 @@ record RenderedAbsolute (d : ℕ) (s : Text) : Type 0 where
   path : g.Absolute d
   same : absoluteText path ≡ s
 
+-- What follows the first slash of a legal own part.
+after-slash : (c b : ℕ) (r : Text) → legalOwn (c ∷ b ∷ r) ≡ true → RenderedPrims (b ∷ r)
+unfolding scanAccepts
+after-slash c b r e =
+    let l : scanAccepts (c ∷ b ∷ r) ≡ true = own-scan (c ∷ b ∷ r) e in
+    let q : c ≡ 47 = eqb-true c 47 (and-l (eqb c 47) (accept (run Slash (b ∷ r))) l) in
+    body (b ∷ r) (and-r (eqb c 47) (accept (run Slash (b ∷ r))) l)
+    (sym (allowed-ascii 47 refl (b ∷ r)) ∙ rw q at (own-allowed (c ∷ b ∷ r) e))
+
 -- A legal own part.
 own-written : (d : ℕ) (s : Text) → isAbsolute s ≡ true → legalOwn s ≡ true → RenderedAbsolute d s
-unfolding legalOwn absoluteText ownText
+unfolding scanAccepts absoluteText ownText
 own-written d [] a e = absurd (false≢true a)
 own-written d (c ∷ []) a e = let q : c ≡ 47 = eqb-true c 47 a in record { path = g.root; same = cc }
 own-written d (c ∷ b ∷ r) a e =
     let q : c ≡ 47 = eqb-true c 47 a in
-    let w : RenderedPrims (b ∷ r) = body (b ∷ r) (and-r (eqb c 47) (accept (run Slash (b ∷ r))) e) in
+    let w : RenderedPrims (b ∷ r) = after-slash c b r e in
     record { path = g.prims (w .prim) (w .more) (w .property); same = ap (λ (x : Text). 47 ∷ x) (w .same) ∙ ap (λ (x : ℕ). x ∷ b ∷ r) (sym q) }
 
 -- A legal own part with a property.
@@ -42,16 +52,16 @@ record RenderedProperty (o : Text) : Type 0 where
   same : ownText prim more (some property) ≡ o
 
 property-written : (o : Text) → legalOwn o ≡ true → lacksByte 46 o ≡ false → RenderedProperty o
-unfolding legalOwn lacksByte ownText
+unfolding lacksByte ownText
 property-written [] e n = absurd (true≢false n)
-property-written (c ∷ []) e n = absurd (true≢false (rw (eqb-true c 47 (and-l (eqb c 47) true e)) at n))
+property-written (c ∷ []) e n = absurd (true≢false (rw (eqb-true c 47 (own-absolute c [] e)) at n))
 property-written (c ∷ b ∷ r) e n = go (w .property) (w .same)
   where
     q : c ≡ 47
-    q = eqb-true c 47 (and-l (eqb c 47) (accept (run Slash (b ∷ r))) e)
+    q = eqb-true c 47 (own-absolute c (b ∷ r) e)
 
     w : RenderedPrims (b ∷ r)
-    w = body (b ∷ r) (and-r (eqb c 47) (accept (run Slash (b ∷ r))) e)
+    w = after-slash c b r e
 
     go : (x : Option g.Property) → primsText (w .prim) (w .more) ++ propertyText x ≡ b ∷ r → RenderedProperty (c ∷ b ∷ r)
     go none k =

@@ -1,28 +1,43 @@
 -- Meaning: The grammar of path texts, as data types and their rendering to text. Every value of these types is a path, and a text is legal exactly
 -- if it is the rendering of some path (`LegalIsRendered`, proved in proofs/Theorem.antt).
 use mathlib.Core.Path.{_≡_}
-use mathlib.Core.Bool.{Bool, true, _&&_}
+use mathlib.Core.Bool.{Bool, true, _&&_, _||_}
 use mathlib.Core.List.{List, [], _∷_, _++_}
 use mathlib.Core.Option.{Option, none, some}
 use mathlib.Core.Logic.{_↔_}
 use Prim.Native.Nat.{ℕ, suc}
 use Rattle.text.specs.Text.{Text}
 use Rattle.text.specs.Bytes.{closeBrace, closeBracket, colon, dot, equalsSign, openBrace, openBracket, slash}
-use Rattle.path_grammar.specs.Legal.{isIdentifierStart, isIdentifierCont, isVariantByte, legal}
+use Rattle.characters.specs.Utf8.{encodeAll}
+use Rattle.characters.specs.NameCharacter.{isNameCharacter}
+use Rattle.path_grammar.specs.Legal.{isAsciiStart, isAsciiDigit, isVariantByte, legal}
 
--- Every byte is a letter, a digit or `_`.
-unfoldable pub allCont : Text → Bool
+-- The character may begin a name (Rust: is_identifier_start). Requirements: "A name is a letter or `_`, then letters, digits, `_`"; "A
+-- character from U+0080 up may begin or continue a name unless it is a control .. or white space".
+unfoldable pub isIdentifierStart : ℕ → Bool
+unfolding isNameCharacter
+isIdentifierStart c = isAsciiStart c || isNameCharacter c
+
+-- The character may follow the first one of a name (Rust: is_identifier_cont).
+unfoldable pub isIdentifierCont : ℕ → Bool
+unfolding isIdentifierStart
+isIdentifierCont c = isIdentifierStart c || isAsciiDigit c
+
+-- Every character may follow the first one of a name.
+unfoldable pub allCont : List ℕ → Bool
+unfolding isIdentifierCont
 allCont [] = true
-allCont (a ∷ r) = isIdentifierCont a && allCont r
+allCont (c ∷ r) = isIdentifierCont c && allCont r
 
 -- Every byte may be part of a variant.
-abbrev pub areVariantBytes : Text → Bool
-areVariantBytes t = allCont t
+unfoldable pub areVariantBytes : Text → Bool
+areVariantBytes [] = true
+areVariantBytes (a ∷ r) = isVariantByte a && areVariantBytes r
 
--- A name. Requirements: "A name is a letter or `_`, then letters, digits, `_`."
+-- A name, as its characters.
 pub record Name : Type 0 where
   pub first : ℕ
-  pub more : Text
+  pub more : List ℕ
   pub first-is : isIdentifierStart first ≡ true
   pub more-are : allCont more ≡ true
 
@@ -61,10 +76,11 @@ pub data Path : Type 0 where
   empty : Path
   absolute : Absolute 4 → Path
 
--- The text of a name. In this and the following renderings the bytes are: . is 46, / is 47, : is 58, = is 61, [ is 91, ] is 93,
--- { is 123, } is 125.
+-- The text of a name: its characters in UTF-8. In this and the following renderings the bytes are: . is 46, / is 47, : is 58, = is 61, [ is 91,
+-- ] is 93, { is 123, } is 125.
 unfoldable pub nameText : Name → Text
-nameText n = n .first ∷ n .more
+unfolding encodeAll
+nameText n = encodeAll (n .first ∷ n .more)
 
 -- The text of a variant.
 unfoldable pub wordText : Word → Text

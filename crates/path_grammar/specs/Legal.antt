@@ -1,33 +1,45 @@
--- Meaning: Legal path texts: an automaton reads a path's own part byte by byte, and the path in its brackets is asked the same. Grammar.antt
--- defines the same texts by data types; proofs/Theorem.antt proves that the two agree. The bytes: . is 46, / is 47, : is 58, = is 61, [ is 91,
+-- Meaning: Legal path texts: an automaton reads a path's own part byte by byte, its characters outside ASCII are decoded and tested, and the path
+-- in its brackets is asked the same. Grammar.antt defines the same texts by data types; proofs/Theorem.antt proves that the two agree. The bytes: . is 46, / is 47, : is 58, = is 61, [ is 91,
 -- ] is 93, _ is 95, { is 123, } is 125.
 use Prim.Native.Nat.{ℕ, zero, suc}
+use mathlib.Core.Path.{_≡_}
 use mathlib.Core.Bool.{Bool, true, false, not, cond, _&&_, _||_}
 use mathlib.Core.List.{[], _∷_}
 use lib.Dec.{eqb, leb}
 use lib.ListN.{length}
 use Rattle.text.specs.Text.{Text, isNil, endsWithByte, dropLast}
+use Rattle.text.specs.Range.{inRange}
 use Rattle.text.specs.Bytes.{closeBrace, closeBracket, colon, digit0, digit9, dot, equalsSign, lowerA, lowerZ, openBrace, slash, underscore, upperA, upperZ}
+use Rattle.characters.specs.NameCharacter.{charactersAllowed}
 use Rattle.path_grammar.specs.Own.{ownPart, targetPart, hasVariantSelection, hasProperty}
 
--- The byte may begin a name (Rust: is_identifier_start). Requirements: "A name is a letter or `_`, then letters, digits, `_`."
-unfoldable pub isIdentifierStart : ℕ → Bool
-isIdentifierStart a = leb upperA a && leb a upperZ || leb lowerA a && leb a lowerZ || eqb a underscore
+-- The byte is an ASCII letter or `_`. Requirements: "A name is a letter or `_`, then letters, digits, `_`."
+abbrev pub isAsciiStart : ℕ → Bool
+isAsciiStart a = inRange upperA upperZ a || inRange lowerA lowerZ a || eqb a underscore
 
--- The byte may follow the first byte of a name (Rust: is_identifier_cont).
-unfoldable pub isIdentifierCont : ℕ → Bool
-unfolding isIdentifierStart
-isIdentifierCont a = isIdentifierStart a || leb digit0 a && leb a digit9
+-- The byte is an ASCII digit.
+abbrev pub isAsciiDigit : ℕ → Bool
+isAsciiDigit a = inRange digit0 digit9 a
 
--- The byte may be part of a variant. Requirements: "`sel` is one or more letters, digits, `_`." A predicate of its own, since the bytes of
--- a variant and those of a name are two sentences of the requirements, which happen to agree.
-abbrev pub isVariantByte : ℕ → Bool
-isVariantByte a = isIdentifierCont a
+-- The byte may begin a name: an ASCII letter, `_`, or a byte of a character outside ASCII. Requirements: "Names may hold characters outside
+-- ASCII, in UTF-8." Which of these characters a name may have is tested separately, by `charactersAllowed`.
+unfoldable pub isNameStartByte : ℕ → Bool
+isNameStartByte a = isAsciiStart a || leb 0x80 a
 
--- The text begins with a letter, a digit or `_`.
+-- The byte may be part of a name.
+unfoldable pub isNameByte : ℕ → Bool
+unfolding isNameStartByte
+isNameByte a = isNameStartByte a || isAsciiDigit a
+
+-- The byte may be part of a variant. Requirements: "`sel` is one or more letters, digits, `_`." These are ASCII letters and digits: what may be
+-- part of a name was widened, and a variant is not a name.
+unfoldable pub isVariantByte : ℕ → Bool
+isVariantByte a = isAsciiStart a || isAsciiDigit a
+
+-- The text begins with a byte of a name.
 abbrev pub startsName : Text → Bool
 startsName [] = false
-startsName (a ∷ r) = isIdentifierCont a
+startsName (a ∷ r) = isNameByte a
 
 -- The state of the automaton: what was read last.
 pub data ScanState : Type 0 where
@@ -54,16 +66,16 @@ pub data ScanState : Type 0 where
 
 -- The next state after the byte a.
 unfoldable pub step : ScanState → ℕ → ScanState
-unfolding isIdentifierStart isIdentifierCont
-step Slash a = cond (isIdentifierStart a) Name Dead
-step Name a = cond (isIdentifierCont a) Name (cond (eqb a slash) Slash (cond (eqb a openBrace) Opened (cond (eqb a dot) Dot Dead)))
-step Opened a = cond (isIdentifierStart a) Set Dead
-step Set a = cond (isIdentifierCont a) Set (cond (eqb a equalsSign) Equals Dead)
+unfolding isNameStartByte isNameByte isVariantByte
+step Slash a = cond (isNameStartByte a) Name Dead
+step Name a = cond (isNameByte a) Name (cond (eqb a slash) Slash (cond (eqb a openBrace) Opened (cond (eqb a dot) Dot Dead)))
+step Opened a = cond (isNameStartByte a) Set Dead
+step Set a = cond (isNameByte a) Set (cond (eqb a equalsSign) Equals Dead)
 step Equals a = cond (isVariantByte a) Sel Dead
 step Sel a = cond (isVariantByte a) Sel (cond (eqb a closeBrace) Closed Dead)
-step Closed a = cond (isIdentifierStart a) Name (cond (eqb a openBrace) Opened (cond (eqb a dot) Dot Dead))
-step Dot a = cond (isIdentifierStart a) Prop Dead
-step Prop a = cond (isIdentifierCont a) Prop (cond (eqb a colon) Dot Dead)
+step Closed a = cond (isNameStartByte a) Name (cond (eqb a openBrace) Opened (cond (eqb a dot) Dot Dead))
+step Dot a = cond (isNameStartByte a) Prop Dead
+step Prop a = cond (isNameByte a) Prop (cond (eqb a colon) Dot Dead)
 step Dead a = Dead
 
 -- The state after all bytes of a text.
@@ -90,12 +102,18 @@ abbrev pub isRoot : Text → Bool
 isRoot [] = false
 isRoot (a ∷ r) = eqb a slash && isNil r
 
--- The text is a legal path without brackets. Requirements: "It is empty, or `/`, or `/` and a name followed by elements, then perhaps a
--- property."
-unfoldable pub legalOwn : Text → Bool
+-- The automaton accepts the text: it has the form of a path without brackets. Requirements: "It is empty, or `/`, or `/` and a name followed
+-- by elements, then perhaps a property."
+unfoldable pub scanAccepts : Text → Bool
 unfolding run accept
-legalOwn [] = true
-legalOwn (a ∷ r) = eqb a slash && (isNil r || accept (run Slash r))
+scanAccepts [] = true
+scanAccepts (a ∷ r) = eqb a slash && (isNil r || accept (run Slash r))
+
+-- The text is a legal path without brackets. Requirements: "A character from U+0080 up may begin or continue a name unless it is a control ..
+-- or white space .. Malformed UTF-8 gets 2."
+unfoldable pub legalOwn : Text → Bool
+unfolding scanAccepts charactersAllowed
+legalOwn p = scanAccepts p && charactersAllowed p
 
 -- The path is absolute: it begins with a slash.
 abbrev pub isAbsolute : Text → Bool
@@ -126,7 +144,7 @@ unfoldable pub legal : Text → Bool
 unfolding legalWithin
 legal p = legalWithin 4 p
 
--- The text has at most 255 bytes. Requirements: "A legal path is at most 255 ASCII bytes."
+-- The text has at most 255 bytes. Requirements: "The 255 limit counts bytes."
 unfoldable pub atMost255 : Text → Bool
 atMost255 p = leb (length p) 255
 
@@ -135,3 +153,8 @@ atMost255 p = leb (length p) 255
 unfoldable pub isEnd : Text → Bool
 unfolding legal hasVariantSelection hasProperty
 isEnd s = legal s && (not (hasVariantSelection s) && not (hasProperty s))
+
+-- Theorem (proofs/LegalLaws.antt): a legal text, with its brackets, is well-formed UTF-8, and each of its characters outside ASCII is one that a name
+-- may have.
+abbrev pub LegalIsAllowed : Type 0
+LegalIsAllowed = (p : Text) → legal p ≡ true → charactersAllowed p ≡ true

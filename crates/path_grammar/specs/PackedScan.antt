@@ -2,12 +2,13 @@
 -- the number of a byte and shifts it right by the current state.
 use Prim.Native.Nat.{ℕ, _+_, _*_, _^_}
 use mathlib.Core.Path.{_≡_}
-use mathlib.Core.Bool.{cond, _||_}
+use mathlib.Core.Bool.{true, false, cond, _||_}
 use mathlib.Core.List.{map}
-use lib.Dec.{eqb}
+use lib.Dec.{eqb, leb}
 use Rattle.text.specs.Text.{Text}
 use Rattle.text.specs.Bytes.{dot, openBrace}
-use Rattle.path_grammar.specs.Legal.{ScanState, Name, Closed, Prop, Slash, Opened, Set, Equals, Sel, Dot, Dead, step, legalOwn, isEnd}
+use Rattle.characters.specs.NameCharacter.{isAscii}
+use Rattle.path_grammar.specs.Legal.{ScanState, Name, Closed, Prop, Slash, Opened, Set, Equals, Sel, Dot, Dead, step, scanAccepts, legalOwn, isEnd}
 
 -- The bit offset of a state in the packed number: six times its index. The accepting states are those below 18.
 unfoldable pub stateCode : ScanState → ℕ
@@ -42,10 +43,19 @@ packedSteps a =
     + packedStep Dot a
     + packedStep Dead a
 
--- The byte as the scan for ends reads it: `.` and `{`, which no end contains, are replaced by a byte that no path contains.
-abbrev pub endByte : ℕ → ℕ
-endByte a = cond (eqb a dot || eqb a openBrace) 0 a
+-- The byte as the first scan reads it: a byte of a character outside ASCII is replaced by a byte that no path contains. Most texts have none, and
+-- are accepted by this scan alone.
+abbrev pub asciiByte : ℕ → ℕ
+asciiByte a = cond (leb a 0x7F) a 0
 
--- Theorem (proofs/EndLaws.antt): a text is an end exactly if it is legal, without brackets, after this replacement.
-abbrev pub EndsByScan : Type 0
-EndsByScan = (s : Text) → isEnd s ≡ legalOwn (map endByte s)
+-- The byte as the first scan for ends reads it: so are `.` and `{`, which no end contains.
+abbrev pub endByte : ℕ → ℕ
+endByte a = cond (eqb a dot || eqb a openBrace) 0 (asciiByte a)
+
+-- Theorem (proofs/FirstScanLaws.antt): a text that the first scan accepts is legal, and one that the first scan for ends accepts is an end. A text
+-- of ASCII that it refuses is not.
+pub record FirstScans : Type 0 where
+  pub accepted : (s : Text) → scanAccepts (map asciiByte s) ≡ true → legalOwn s ≡ true
+  pub refused : (s : Text) → isAscii s ≡ true → scanAccepts (map asciiByte s) ≡ false → legalOwn s ≡ false
+  pub end-accepted : (s : Text) → scanAccepts (map endByte s) ≡ true → isEnd s ≡ true
+  pub end-refused : (s : Text) → isAscii s ≡ true → scanAccepts (map endByte s) ≡ false → isEnd s ≡ false

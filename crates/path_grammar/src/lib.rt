@@ -1,22 +1,24 @@
 // The path grammar: validates path texts (the role of Path::new in the Rust sdf/path.rs, with a narrower
 // grammar). The scan is a table-driven automaton that reads one byte at a time and keeps its state in
-// the low six bits of a number. It reads a path's own part; the path in brackets is checked apart.
+// the low six bits of a number. It reads a path's own part; the path in brackets is checked apart. The
+// first scan accepts texts of ASCII; the wide scan, with a table of its own, takes bytes of characters
+// outside ASCII for bytes of names, and these characters are then checked.
 ghost use mathlib.Core.Path.{_≡_};
 ghost use mathlib.Core.Bool.{_&&_, not};
 ghost use Prim.Native.Nat.{_/_, _%_, _^_};
 ghost use lib.Dec.{leb};
-ghost use Rattle.path_grammar.specs.Legal.{isIdentifierStart, isIdentifierCont, isRoot, legalOwn, legalWithin, legal, isEnd};
+ghost use Rattle.path_grammar.specs.Legal.{isNameStartByte, isNameByte, isRoot, scanAccepts, legalOwn, legalWithin, legal, isEnd};
 ghost use Rattle.text.specs.Text.{lacksByte};
 ghost use Rattle.text.specs.Bytes.{dot};
 ghost use Rattle.path_grammar.specs.InnerText.{innerText};
-ghost use Rattle.path_grammar.specs.PackedScan.{packedSteps, endByte};
+ghost use Rattle.path_grammar.specs.PackedScan.{packedSteps, asciiByte, endByte};
 
-// The transition table: the next state of every state at the byte `a`, six bits for each. A match whose
-// arms are single values compiles to a table in read-only memory, whereas a const array is built anew at
-// each use. Adjacent values in one arm would become range tests, so odd and even letters and digits are
-// in separate arms.
+// The transition table of the first scan: the next state of every state at the byte `a`, six bits for
+// each. A match whose arms are single values compiles to a table in read-only memory, whereas a const
+// array is built anew at each use. Adjacent values in one arm would become range tests, so odd and even
+// letters and digits are in separate arms.
 fn row(a: u8) -> u64
-    ensures { λ r. ⌜ r ≡ packedSteps a ⌝ }
+    ensures { λ r. ⌜ r ≡ packedSteps (asciiByte a) ⌝ }
 {
     match a {
         65 | 67 | 69 | 71 | 73 | 75 | 77 | 79 | 81 | 83 | 85 | 87 | 89 | 95 => 976342856119664640,
@@ -39,14 +41,57 @@ fn row(a: u8) -> u64
 
 // The state after state `s` and byte `a`; only the low six bits count.
 fn next(s: u64, a: u8) -> u64
-    ensures { λ r. ⌜ r ≡ packedSteps a / 2 ^ (s % 64) ⌝ }
+    ensures { λ r. ⌜ r ≡ packedSteps (asciiByte a) / 2 ^ (s % 64) ⌝ }
 {
     row(a) >> (s % 64)
 }
 
-// Returns whether the text is a legal path without brackets.
-fn is_legal_own(p: &[u8]) -> bool
-    ensures { λ r. ⌜ r ≡ legalOwn (now (p .entry)) ⌝ }
+// The transition table of the wide scan: like `row`, but a byte of a character outside ASCII counts as a byte
+// of a name.
+fn wide_row(a: u8) -> u64
+    ensures { λ r. ⌜ r ≡ packedSteps a ⌝ }
+{
+    match a {
+        65 | 67 | 69 | 71 | 73 | 75 | 77 | 79 | 81 | 83 | 85 | 87 | 89 | 95 => 976342856119664640,
+        97 | 99 | 101 | 103 | 105 | 107 | 109 => 976342856119664640,
+        111 | 113 | 115 | 117 | 119 | 121 => 976342856119664640,
+        66 | 68 | 70 | 72 | 74 | 76 | 78 | 80 | 82 | 84 | 86 | 88 | 90 => 976342856119664640,
+        98 | 100 | 102 | 104 | 106 | 108 | 110 => 976342856119664640,
+        112 | 114 | 116 | 118 | 120 | 122 => 976342856119664640,
+        48 | 50 | 52 | 54 | 56 => 988164805558324608,
+        49 | 51 | 53 | 55 | 57 => 988164805558324608,
+        46 => 988218432520154160,
+        47 => 988218432520154514,
+        58 => 988218432520129974,
+        61 => 988218413192801718,
+        123 => 988218432520152600,
+        125 => 988007326287621558,
+        128 | 130 | 132 | 134 | 136 | 138 | 140 | 142 | 144 | 146 | 148 => 976396457311518720,
+        150 | 152 | 154 | 156 | 158 | 160 | 162 | 164 | 166 | 168 | 170 => 976396457311518720,
+        172 | 174 | 176 | 178 | 180 | 182 | 184 | 186 | 188 | 190 | 192 => 976396457311518720,
+        194 | 196 | 198 | 200 | 202 | 204 | 206 | 208 | 210 | 212 | 214 => 976396457311518720,
+        216 | 218 | 220 | 222 | 224 | 226 | 228 | 230 | 232 | 234 | 236 => 976396457311518720,
+        238 | 240 | 242 | 244 | 246 | 248 | 250 | 252 | 254 => 976396457311518720,
+        129 | 131 | 133 | 135 | 137 | 139 | 141 | 143 | 145 | 147 | 149 => 976396457311518720,
+        151 | 153 | 155 | 157 | 159 | 161 | 163 | 165 | 167 | 169 | 171 => 976396457311518720,
+        173 | 175 | 177 | 179 | 181 | 183 | 185 | 187 | 189 | 191 | 193 => 976396457311518720,
+        195 | 197 | 199 | 201 | 203 | 205 | 207 | 209 | 211 | 213 | 215 => 976396457311518720,
+        217 | 219 | 221 | 223 | 225 | 227 | 229 | 231 | 233 | 235 | 237 => 976396457311518720,
+        239 | 241 | 243 | 245 | 247 | 249 | 251 | 253 | 255 => 976396457311518720,
+        _ => 988218432520154550,
+    }
+}
+
+// Like `next`, with `wide_row`.
+fn wide_next(s: u64, a: u8) -> u64
+    ensures { λ r. ⌜ r ≡ packedSteps a / 2 ^ (s % 64) ⌝ }
+{
+    wide_row(a) >> (s % 64)
+}
+
+// Returns whether the automaton accepts the text.
+fn scan_accepts(p: &[u8]) -> bool
+    ensures { λ r. ⌜ r ≡ scanAccepts (now (p .entry)) ⌝ }
 {
     if p.len() == 0 {
         return true;
@@ -58,10 +103,52 @@ fn is_legal_own(p: &[u8]) -> bool
         let mut s = 18;
         let mut i = 1;
         while i < p.len() {
-            s = next(s, p[i]);
+            s = wide_next(s, p[i]);
             i += 1;
         }
         return s % 64 < 18;
+    }
+    false
+}
+
+// Returns whether the text is a legal path without brackets, by the wide scan.
+fn is_legal_wide(p: &[u8]) -> bool
+    ensures { λ r. ⌜ r ≡ legalOwn (now (p .entry)) ⌝ }
+{
+    if !scan_accepts(p) {
+        return false;
+    }
+    characters::characters_allowed(p)
+}
+
+// Returns whether the text is a legal path without brackets. The first scan accepts most texts. It is left
+// out for a text whose first name begins outside ASCII, which it cannot accept.
+fn is_legal_own(p: &[u8]) -> bool
+    ensures { λ r. ⌜ r ≡ legalOwn (now (p .entry)) ⌝ }
+{
+    if p.len() == 0 {
+        return true;
+    }
+    if p[0] == b'/' {
+        if p.len() == 1 {
+            return true;
+        }
+        if 128 <= p[1] {
+            return is_legal_wide(p);
+        }
+        let mut s = 18;
+        let mut i = 1;
+        while i < p.len() {
+            s = next(s, p[i]);
+            i += 1;
+        }
+        if s % 64 < 18 {
+            return true;
+        }
+        if characters::is_ascii(p) {
+            return false;
+        }
+        return is_legal_wide(p);
     }
     false
 }
@@ -152,8 +239,21 @@ fn next_in_end(s: u64, a: u8) -> u64
     end_row(a) >> (s % 64)
 }
 
-// Returns whether the text is a prim path, `/` or empty, regardless of its length. Uses one scan, as
-// `is_legal` does.
+// Returns whether the text is a prim path, `/` or empty, by the wide scan.
+fn is_end_wide(p: &[u8]) -> bool
+    ensures { λ r. ⌜ r ≡ isEnd (now (p .entry)) ⌝ }
+{
+    if !is_legal_wide(p) {
+        return false;
+    }
+    if !text::lacks_byte(p, b'{') {
+        return false;
+    }
+    text::lacks_byte(p, b'.')
+}
+
+// Returns whether the text is a prim path, `/` or empty, regardless of its length. Uses one scan for most
+// texts, as `is_legal_own` does.
 pub fn is_end(p: &[u8]) -> bool
     ensures { λ r. ⌜ r ≡ isEnd (now (p .entry)) ⌝ }
 {
@@ -164,13 +264,22 @@ pub fn is_end(p: &[u8]) -> bool
         if p.len() == 1 {
             return true;
         }
+        if 128 <= p[1] {
+            return is_end_wide(p);
+        }
         let mut state = 18;
         let mut i = 1;
         while i < p.len() {
             state = next_in_end(state, p[i]);
             i += 1;
         }
-        return state % 64 < 18;
+        if state % 64 < 18 {
+            return true;
+        }
+        if characters::is_ascii(p) {
+            return false;
+        }
+        return is_end_wide(p);
     }
     false
 }
@@ -193,15 +302,15 @@ fn is_between(low: u8, a: u8, high: u8) -> bool
 }
 
 // Returns whether the byte may begin a name.
-fn is_identifier_start(a: u8) -> bool
-    ensures { λ r. ⌜ r ≡ isIdentifierStart a ⌝ }
+fn is_name_start_byte(a: u8) -> bool
+    ensures { λ r. ⌜ r ≡ isNameStartByte a ⌝ }
 {
-    is_between(b'A', a, b'Z') | is_between(b'a', a, b'z') | (a == b'_')
+    is_between(b'A', a, b'Z') | is_between(b'a', a, b'z') | (a == b'_') | (128 <= a)
 }
 
-// Returns whether the byte may follow the first byte of a name.
-pub fn is_identifier_cont(a: u8) -> bool
-    ensures { λ r. ⌜ r ≡ isIdentifierCont a ⌝ }
+// Returns whether the byte may be part of a name.
+pub fn is_name_byte(a: u8) -> bool
+    ensures { λ r. ⌜ r ≡ isNameByte a ⌝ }
 {
-    is_identifier_start(a) | is_between(b'0', a, b'9')
+    is_name_start_byte(a) | is_between(b'0', a, b'9')
 }

@@ -12,7 +12,7 @@ use Rattle.text.specs.Text.{Text, isNil, endsWithByte, lacksByte, takeUntil}
 use Rattle.text.proofs.BoolLaws.{and-no, or-false}
 use Rattle.text.proofs.TextLaws.{last-snoc, lacks-after}
 use Rattle.path_grammar.specs.Own.{ownPart, hasVariantSelection}
-use Rattle.path_grammar.specs.Legal.{isIdentifierCont, isRoot, legal, isEnd}
+use Rattle.path_grammar.specs.Legal.{isNameByte, isRoot, legal, isEnd}
 use Rattle.path_grammar.proofs.OwnLaws.{no-selection, own-after, lacks-own-after}
 use Rattle.path_grammar.proofs.LegalLaws.{no-root-dot, legal-last, end-lacks, end-close, end-unbracketed, end-no-selection, root-is}
 use Rattle.path_prefix.specs.Prefix.{canFollow, hasPrefix}
@@ -154,7 +154,7 @@ replaced p s t q n es et lp f e lq = go (drop (length s) p) (prefix-rest p s h .
     go r k j i = let m : join s t r ≡ q = cc in rw (k, ← m) (rests s t r n es et (rw k at lp) (rw k at f) j (rw (← m) at lq))
 
 count-stem : (f : Bool) (s y : Text) → isEnd s ≡ true → countElements f (stem s ++ 47 ∷ y) ≡ countElements f s + countElements f (47 ∷ y)
-unfolding isIdentifierCont
+unfolding isNameByte
 count-stem f s y e = go (isRoot s) refl
   where
     go : (b : Bool) → isRoot s ≡ b → countElements f (stem s ++ 47 ∷ y) ≡ countElements f s + countElements f (47 ∷ y)
@@ -163,7 +163,7 @@ count-stem f s y e = go (isRoot s) refl
 
 -- The path p has as many elements beyond those of s as q has beyond those of t.
 pub weigh : {s t p q : Text} (f : Bool) → Rel s t p q → isEnd s ≡ true → isEnd t ≡ true → countElements f p + countElements f t ≡ countElements f q + countElements f s
-unfolding isIdentifierCont
+unfolding isNameByte
 weigh f whole es et = omega arith
 weigh {s} {t} f (under x r) es et = omega (arith, count-stem f s (x ∷ r) es, count-stem f t (x ∷ r) et)
 weigh {s} {t} f (dotted r h k) es et = omega (arith, count-after f s 46 r refl es h, count-after f t 46 r refl et k)

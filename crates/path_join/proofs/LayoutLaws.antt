@@ -13,7 +13,7 @@ use borrow.Author.Tests.{ne-eqb}
 use Rattle.text.specs.Text.{Text, endsWithByte}
 use Rattle.text.proofs.BoolLaws.{and-no, and-yes, and-assoc}
 use Rattle.text.proofs.TextLaws.{last-some}
-use Rattle.path_grammar.specs.Legal.{isRoot, isIdentifierCont}
+use Rattle.path_grammar.specs.Legal.{isRoot, isNameByte}
 use Rattle.path_join.specs.Join.{isChild, endsWithSeparator, separatorLen, body}
 use Rattle.path_join.specs.Layout.{asNumber, firstByte, lastByte, separatorBy, LaysOut}
 use Rattle.path_join.proofs.SeparatorLaws.{separator-short}
@@ -118,7 +118,7 @@ body-inside b (a ∷ r) = omega (arith, number-short (b && eqb a 47))
 
 -- What `layout_of` returns: a is the first byte of the remainder, o and l are the last bytes of the old and the new prefix, and i tells whether a
 -- name may contain a.
-module _ (s t r : Text) (a o l : ℕ) (i : Bool) (ea : a ≡ firstByte r) (eo : o ≡ lastByte s) (el : l ≡ lastByte t) (ei : i ≡ isIdentifierCont a) where
+module _ (s t r : Text) (a o l : ℕ) (i : Bool) (ea : a ≡ firstByte r) (eo : o ≡ lastByte s) (el : l ≡ lastByte t) (ei : i ≡ isNameByte a) where
   old-root : (eqb (length s) 1 && eqb o 47) ≡ isRoot s
   old-root = rw eo (root-by-last s)
 

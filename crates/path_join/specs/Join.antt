@@ -10,13 +10,13 @@ use lib.Dec.{eqb}
 use lib.ListN.{length, take, drop}
 use Rattle.text.specs.Text.{Text, bytes, isNil, stripPrefix, endsWithByte}
 use Rattle.text.specs.Bytes.{closeBrace, dot, openBrace, slash}
-use Rattle.path_grammar.specs.Legal.{isRoot, isIdentifierCont, legal, isEnd}
+use Rattle.path_grammar.specs.Legal.{isRoot, isNameByte, legal, isEnd}
 use Rattle.path_prefix.specs.Prefix.{canFollow}
 
 -- The remainder after s, which begins with byte a, is a child prim: it begins with a slash, or it is a name directly after a selection.
 unfoldable pub isChild : Text → ℕ → Bool
-unfolding endsWithByte isIdentifierCont
-isChild s a = eqb a slash || endsWithByte closeBrace s && isIdentifierCont a
+unfolding endsWithByte isNameByte
+isChild s a = eqb a slash || endsWithByte closeBrace s && isNameByte a
 
 -- A child prim is appended to t without a slash: `/` already ends in one, and after a selection there is none.
 unfoldable pub endsWithSeparator : Text → Bool

@@ -75,7 +75,7 @@ fn layout_of(old: &[u8], new: &[u8], remainder: &[u8]) -> Layout
     let new_last = last_byte(new);
     let old_is_root = (old.len() == 1) & (old_last == b'/');
     let new_is_root = (new.len() == 1) & (new_last == b'/');
-    let child = (first == b'/') | ((old_last == b'}') & path_grammar::is_identifier_cont(first));
+    let child = (first == b'/') | ((old_last == b'}') & path_grammar::is_name_byte(first));
     let direct = new_is_root | (new_last == b'}');
     Layout {
         separator: separator_len(

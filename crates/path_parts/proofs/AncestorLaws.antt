@@ -8,15 +8,15 @@ use native.Mathlib.Omega.{arith}
 use lib.Dec.{eqb}
 use lib.ListN.{length, getD, take, length-take, length-map, length-append}
 use Rattle.text.specs.Text.{Text, isNil}
-use Rattle.path_grammar.specs.Legal.{ScanState, Slash, Name, Opened, Set, Equals, Sel, Closed, Dot, Prop, Dead, isIdentifierStart, isIdentifierCont, startsName, step, run, accept, legalOwn, legal}
+use Rattle.path_grammar.specs.Legal.{ScanState, Slash, Name, Opened, Set, Equals, Sel, Closed, Dot, Prop, Dead, isNameStartByte, isNameByte, isVariantByte, startsName, step, run, accept, scanAccepts, legalOwn, legal}
 use Rattle.path_grammar.specs.Own.{ownPart, targetPart}
 use Rattle.path_grammar.proofs.OwnLaws.{own-parts}
-use Rattle.path_grammar.proofs.LegalLaws.{absolute-first, legal-own-part, own-legal, own-is, own-no-close-bracket, target-closed, target-long}
+use Rattle.path_grammar.proofs.LegalLaws.{own-scan, scan-no-close-bracket, empty-legal, absolute-first, legal-own-part, own-is, target-closed, target-long}
 use Rattle.text.proofs.BoolLaws.{and-no, or-right}
 use Rattle.path_parts.specs.Parent.{startsPart, lastPartStart, ownParentLen, parentLen, hasParent, parent, ancestorsFrom, ancestorsWithin, ancestors, ancestorLens}
 use Rattle.path_parts.proofs.ReadLaws.{Shape, empty, root, below, shape, closes}
 use Rattle.path_parts.proofs.LastLaws.{Last, here, after, beyond, last, begins-byte, after-byte, after-name, may-end, last-legal, before, slash-len, before-lt}
-use Rattle.path_parts.proofs.ParentLaws.{parent-take, parent-less, parent-closed, parent-unclosed}
+use Rattle.path_parts.proofs.ParentLaws.{parent-take, parent-less, parent-closed, unclosed-len}
 
 -- One step.
 pub ancestors-none : (k : ℕ) (p : Text) → hasParent p ≡ false → ancestorsWithin k p ≡ p ∷ []
@@ -39,16 +39,16 @@ lens-count p = length-map (ancestors p) length
 
 -- Every ancestor of a legal path is legal.
 in-legal : (k : ℕ) (p : Text) (i : ℕ) → legal p ≡ true → legal (getD (ancestorsWithin k p) i []) ≡ true
-unfolding ancestorsWithin legal
+unfolding ancestorsWithin
 in-legal zero p zero e = e
-in-legal zero p (suc i) e = refl
+in-legal zero p (suc i) e = empty-legal
 in-legal (suc k) p zero e = e
 in-legal (suc k) p (suc i) e = go (hasParent p) refl (λ q. in-legal k q i)
   where
     go : (t : Bool) → hasParent p ≡ t → ((q : Text) → legal q ≡ true → legal (getD (ancestorsWithin k q) i []) ≡ true)
         → legal (getD (ancestorsWithin (suc k) p) (suc i) []) ≡ true
     go true h ih = rw h (ih (take (parentLen p) p) (parent-take p e))
-    go false h ih = rw h
+    go false h ih = rw h empty-legal
 
 pub ancestors-legal : (p : Text) (i : ℕ) → legal p ≡ true → legal (getD (ancestors p) i []) ≡ true
 unfolding ancestors
@@ -116,20 +116,20 @@ open-light a n = either-light (eqb a 123) Opened _ n (omega arith) (either-light
 
 closed-light : (a : ℕ) → weight (step Closed a) ≤ 1
 unfolding step
-closed-light a = either-light (isIdentifierStart a) Name _ 1 (omega arith) (open-light a 1)
+closed-light a = either-light (isNameStartByte a) Name _ 1 (omega arith) (open-light a 1)
 
 weight-step : (s : ScanState) (a : ℕ) → weight (step s a) ≤ suc (weight s)
 unfolding step
-weight-step Slash a = either-light (isIdentifierStart a) Name Dead 1 (omega arith) (omega arith)
+weight-step Slash a = either-light (isNameStartByte a) Name Dead 1 (omega arith) (omega arith)
 weight-step Name a =
-    either-light (isIdentifierCont a) Name _ 2 (omega arith) (either-light (eqb a 47) Slash _ 2 (omega arith) (open-light a 2))
-weight-step Opened a = either-light (isIdentifierStart a) Set Dead 1 (omega arith) (omega arith)
-weight-step Set a = either-light (isIdentifierCont a) Set _ 1 (omega arith) (either-light (eqb a 61) Equals Dead 1 (omega arith) (omega arith))
-weight-step Equals a = either-light (isIdentifierCont a) Sel Dead 1 (omega arith) (omega arith)
-weight-step Sel a = either-light (isIdentifierCont a) Sel _ 2 (omega arith) (either-light (eqb a 125) Closed Dead 2 (omega arith) (omega arith))
+    either-light (isNameByte a) Name _ 2 (omega arith) (either-light (eqb a 47) Slash _ 2 (omega arith) (open-light a 2))
+weight-step Opened a = either-light (isNameStartByte a) Set Dead 1 (omega arith) (omega arith)
+weight-step Set a = either-light (isNameByte a) Set _ 1 (omega arith) (either-light (eqb a 61) Equals Dead 1 (omega arith) (omega arith))
+weight-step Equals a = either-light (isVariantByte a) Sel Dead 1 (omega arith) (omega arith)
+weight-step Sel a = either-light (isVariantByte a) Sel _ 2 (omega arith) (either-light (eqb a 125) Closed Dead 2 (omega arith) (omega arith))
 weight-step Closed a = omega (arith, closed-light a)
-weight-step Dot a = either-light (isIdentifierStart a) Prop Dead 1 (omega arith) (omega arith)
-weight-step Prop a = either-light (isIdentifierCont a) Prop _ 2 (omega arith) (either-light (eqb a 58) Dot Dead 2 (omega arith) (omega arith))
+weight-step Dot a = either-light (isNameStartByte a) Prop Dead 1 (omega arith) (omega arith)
+weight-step Prop a = either-light (isNameByte a) Prop _ 2 (omega arith) (either-light (eqb a 58) Dot Dead 2 (omega arith) (omega arith))
 weight-step Dead a = omega arith
 
 weight-run : (s : ScanState) (r : Text) → weight (run s r) ≤ weight s + length r
@@ -151,24 +151,24 @@ accept-weight Prop e = omega arith
 accept-weight Dead e = absurd (false≢true e)
 
 -- A byte that begins a part leads to a state of weight 0.
-module _ (a : ℕ) (start : isIdentifierStart a ≡ false) (cont : isIdentifierCont a ≡ false) (close : eqb a 125 ≡ false) where
+module _ (a : ℕ) (start : isNameStartByte a ≡ false) (cont : isNameByte a ≡ false) (variant : isVariantByte a ≡ false) (close : eqb a 125 ≡ false) where
   mark-light : (s : ScanState) → weight (step s a) ≤ 0
   unfolding step
   mark-light Slash = rw start (omega arith)
   mark-light Name = rw cont (either-light (eqb a 47) Slash _ 0 (omega arith) (open-light a 0))
   mark-light Opened = rw start (omega arith)
   mark-light Set = rw cont (either-light (eqb a 61) Equals Dead 0 (omega arith) (omega arith))
-  mark-light Equals = rw cont (omega arith)
-  mark-light Sel = rw (cont, close) (omega arith)
+  mark-light Equals = rw variant (omega arith)
+  mark-light Sel = rw (variant, close) (omega arith)
   mark-light Closed = rw start (open-light a 0)
   mark-light Dot = rw start (omega arith)
   mark-light Prop = rw cont (either-light (eqb a 58) Dot Dead 0 (omega arith) (omega arith))
   mark-light Dead = omega arith
 
 begins-light : (s : ScanState) (a : ℕ) (r : Text) → startsPart a r ≡ true → weight (step s a) ≤ 0
-unfolding isIdentifierStart isIdentifierCont
+unfolding isNameStartByte isNameByte isVariantByte
 begins-light s =
-    begins-byte (λ (a : ℕ). weight (step s a) ≤ 0) (mark-light 47 refl refl refl s) (mark-light 123 refl refl refl s) (mark-light 46 refl refl refl s)
+    begins-byte (λ (a : ℕ). weight (step s a) ≤ 0) (mark-light 47 refl refl refl refl s) (mark-light 123 refl refl refl refl s) (mark-light 46 refl refl refl refl s)
 
 -- After a selection, a text that begins with a name leads to a weight of at most its length.
 closed-run : (r : Text) → startsName r ≡ true → weight (run Closed r) ≤ length r
@@ -186,9 +186,9 @@ falls s (after a r b) e =
     rw c (omega (arith, closed-run r (after-name a r b)))
 falls s (beyond a l) e = omega (arith, falls (step s a) l e)
 
-below-legal : (r : Text) → accept (run Slash r) ≡ true → legalOwn (47 ∷ r) ≡ true
-unfolding legalOwn
-below-legal r e = or-right (isNil r) (accept (run Slash r)) e
+below-accepted : (r : Text) → accept (run Slash r) ≡ true → scanAccepts (47 ∷ r) ≡ true
+unfolding scanAccepts
+below-accepted r e = or-right (isNil r) (accept (run Slash r)) e
 
 slash-parent : (r : Text) → accept (run Slash r) ≡ true → hasParent (47 ∷ r) ≡ true
 unfolding run accept
@@ -200,12 +200,9 @@ in-most : (k : ℕ) (r : Text) → accept (run Slash r) ≡ true → 2 * length 
 in-most zero r e = rw (ancestors-least (47 ∷ r)) (omega (arith, weight-run Slash r))
 in-most (suc k) r e = go (lastPartStart r) refl (λ x. in-most k x)
   where
-    own : legalOwn (47 ∷ r) ≡ true
-    own = below-legal r e
-
     onwards : (o : Option ℕ) → lastPartStart r ≡ o → ancestorsWithin (suc k) (47 ∷ r) ≡ (47 ∷ r) ∷ ancestorsWithin k (47 ∷ take (before o) r)
     onwards o h =
-        let n : parentLen (47 ∷ r) ≡ ownParentLen (47 ∷ r) = parent-unclosed (47 ∷ r) (own-legal (47 ∷ r) own) (own-no-close-bracket (47 ∷ r) own) .0 in
+        let n : parentLen (47 ∷ r) ≡ ownParentLen (47 ∷ r) = unclosed-len (47 ∷ r) (scan-no-close-bracket (47 ∷ r) (below-accepted r e)) in
         ancestors-some k (47 ∷ r) (slash-parent r e) ∙ rw (n, slash-len r e, h)
 
     go : (o : Option ℕ) → lastPartStart r ≡ o
@@ -217,7 +214,7 @@ in-most (suc k) r e = go (lastPartStart r) refl (λ x. in-most k x)
         rw (onwards (some j) h) (omega (arith, ih (take j r) (last-legal Slash l e), falls Slash l e, length-take j r))
 
 own-most : (k : ℕ) (p : Text) → legalOwn p ≡ true → 2 * length (ancestorsWithin k p) ≤ length p + 2
-own-most k p e = go (shape p e)
+own-most k p e = go (shape p (own-scan p e))
   where
     go : {q : Text} → Shape q → 2 * length (ancestorsWithin k q) ≤ length q + 2
     go empty = rw (ancestors-none k [] refl) (omega arith)

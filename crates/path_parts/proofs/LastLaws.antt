@@ -5,12 +5,14 @@ use mathlib.Core.List.{[], _∷_, _++_}
 use mathlib.Core.Option.{Option, none, some}
 use Prim.Native.Nat.{ℕ, suc, _<_}
 use native.Mathlib.Omega.{arith}
-use lib.Dec.{eqb}
+use lib.Dec.{eqb, leb}
 use lib.ListN.{length, take, drop}
 use borrow.Author.Tests.{eqb-true}
 use Rattle.text.specs.Text.{Text, lacksByte}
 use Rattle.text.proofs.BoolLaws.{and-l, and-r}
-use Rattle.path_grammar.specs.Legal.{ScanState, Slash, Name, Opened, Set, Equals, Sel, Closed, Dot, Prop, Dead, isIdentifierStart, isIdentifierCont, startsName, step, run, accept}
+use Rattle.characters.specs.Utf8.{Reading}
+use Rattle.characters.proofs.ReadingLaws.{allowedFrom, next, allowedAfter, reads-byte, nothing-read, ascii-read, ascii-here}
+use Rattle.path_grammar.specs.Legal.{ScanState, Slash, Name, Opened, Set, Equals, Sel, Closed, Dot, Prop, Dead, isNameStartByte, isNameByte, isVariantByte, startsName, step, run, accept}
 use Rattle.path_parts.specs.Parent.{startsPart, startsNameAfter, partOffset, lastPartStart, parentEnd, ownParentLen}
 use Rattle.path_parts.proofs.ReadLaws.{choose, dies, closes}
 use Rattle.path_grammar.proofs.LegalLaws.{start-cont}
@@ -67,24 +69,25 @@ last-lt (after a r b) = omega (arith, name-long r (after-name a r b))
 last-lt (beyond a l) = omega (arith, last-lt l)
 
 -- A text may end before a part that the automaton goes on to read.
-module _ (a : ℕ) (start : isIdentifierStart a ≡ false) (cont : isIdentifierCont a ≡ false) (equals : eqb a 61 ≡ false) (close : eqb a 125 ≡ false) where
+module _ (a : ℕ) (start : isNameStartByte a ≡ false) (cont : isNameByte a ≡ false) (variant : isVariantByte a ≡ false) (equals : eqb a 61 ≡ false)
+    (close : eqb a 125 ≡ false) where
   mark-dies : (s : ScanState) → accept s ≡ false → step s a ≡ Dead
   unfolding step accept
   mark-dies Slash n = rw start
   mark-dies Name n = absurd (true≢false n)
   mark-dies Opened n = rw start
   mark-dies Set n = rw (cont, equals)
-  mark-dies Equals n = rw cont
-  mark-dies Sel n = rw (cont, close)
+  mark-dies Equals n = rw variant
+  mark-dies Sel n = rw (variant, close)
   mark-dies Closed n = absurd (true≢false n)
   mark-dies Dot n = rw start
   mark-dies Prop n = absurd (true≢false n)
   mark-dies Dead n = refl
 
 begins-dies : (s : ScanState) → accept s ≡ false → (a : ℕ) (r : Text) → startsPart a r ≡ true → step s a ≡ Dead
-unfolding isIdentifierStart isIdentifierCont
+unfolding isNameStartByte isNameByte isVariantByte
 begins-dies s n =
-    begins-byte (λ (a : ℕ). step s a ≡ Dead) (mark-dies 47 refl refl refl refl s n) (mark-dies 123 refl refl refl refl s n) (mark-dies 46 refl refl refl refl s n)
+    begins-byte (λ (a : ℕ). step s a ≡ Dead) (mark-dies 47 refl refl refl refl refl s n) (mark-dies 123 refl refl refl refl refl s n) (mark-dies 46 refl refl refl refl refl s n)
 
 pub may-end : (s : ScanState) (a : ℕ) (r : Text) → startsPart a r ≡ true → accept (run (step s a) r) ≡ true → accept s ≡ true
 may-end s a r b e = go (accept s) refl
@@ -98,6 +101,20 @@ unfolding run accept
 last-legal s (here a r b) e = may-end s a r b e
 last-legal s (after a r b) e = let z : a ≡ 125 = after-byte a r b in rw z (ap accept (closes s r (rw z at e)))
 last-legal s (beyond a l) e = last-legal (step s a) l e
+
+-- The text before the last part cuts no character: a byte of ASCII ends or follows it.
+pub last-allowed : (u : Reading) {r : Text} {k : ℕ} → Last r k → allowedFrom u r ≡ true → allowedFrom u (take k r) ≡ true
+last-allowed u (here a r b) e =
+    rw (ascii-here a (begins-byte (λ (x : ℕ). leb x 0x7F ≡ true) refl refl refl a r b) u r e .0) nothing-read
+last-allowed u (after a r b) e =
+    let z : a ≡ 125 = after-byte a r b in
+    rw (z, ascii-here 125 refl u r (rw z at e) .0) (ascii-read 125 refl [] ∙ nothing-read)
+last-allowed u (beyond a {r} {k} l) e = reads-byte u a (take k r) ∙ go (next u a) (sym (reads-byte u a r) ∙ e) (λ v. last-allowed v l)
+  where
+    go : (n : Option Reading) → allowedAfter n r ≡ true → ((v : Reading) → allowedFrom v r ≡ true → allowedFrom v (take k r) ≡ true)
+        → allowedAfter n (take k r) ≡ true
+    go none f ih = f
+    go (some v) f ih = ih v f
 
 -- After a slash, the last part is that of the following text, or else it begins at the slash.
 abbrev afterSlash : Option ℕ → ℕ
@@ -136,13 +153,13 @@ before-lt (b ∷ r) e = go (lastPartStart (b ∷ r)) refl
     go (some k) h = last-lt (last (b ∷ r) k h)
 
 -- No part begins at a byte of a name.
-pub name-part : (a : ℕ) (r : Text) → isIdentifierCont a ≡ true → partOffset a r ≡ none
-unfolding partOffset isIdentifierCont
+pub name-part : (a : ℕ) (r : Text) → isNameByte a ≡ true → partOffset a r ≡ none
+unfolding partOffset isNameByte
 name-part a r h = go (startsPart a r) (startsNameAfter a r) refl refl
   where
     go : (b c : Bool) → startsPart a r ≡ b → startsNameAfter a r ≡ c → partOffset a r ≡ none
-    go true c f g = absurd (true≢false (sym h ∙ begins-byte (λ (x : ℕ). isIdentifierCont x ≡ false) refl refl refl a r f))
-    go false true f g = absurd (true≢false (sym h ∙ ap isIdentifierCont (after-byte a r g)))
+    go true c f g = absurd (true≢false (sym h ∙ begins-byte (λ (x : ℕ). isNameByte x ≡ false) refl refl refl a r f))
+    go false true f g = absurd (true≢false (sym h ∙ ap isNameByte (after-byte a r g)))
     go false false f g = rw (f, g)
 
 pub none-on : (a : ℕ) (r : Text) → partOffset a r ≡ none → lastPartStart r ≡ none → lastPartStart (a ∷ r) ≡ none
@@ -154,9 +171,9 @@ property-part : (r : Text) → (accept (run Prop r) ≡ true → lastPartStart r
 unfolding run step lastPartStart
 property-part [] = (λ e. refl, λ e. refl)
 property-part (a ∷ r) = (
-  λ e. choose (isIdentifierCont a) Prop _ r (λ h f. none-on a r (name-part a r h) (property-part r .0 f))
+  λ e. choose (isNameByte a) Prop _ r (λ h f. none-on a r (name-part a r h) (property-part r .0 f))
       (λ _ g. choose (eqb a 58) Dot Dead r (λ h f. none-on a r (ap (λ (x : ℕ). partOffset x r) (eqb-true a 58 h)) (property-part r .1 f)) (λ _ d. dies r d) g) e,
-  λ e. choose (isIdentifierStart a) Prop Dead r (λ h f. none-on a r (name-part a r (start-cont a h)) (property-part r .0 f)) (λ _ d. dies r d) e,
+  λ e. choose (isNameStartByte a) Prop Dead r (λ h f. none-on a r (name-part a r (start-cont a h)) (property-part r .0 f)) (λ _ d. dies r d) e,
 )
 
 -- So the last part of a property path begins at its dot.

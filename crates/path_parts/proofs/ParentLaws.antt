@@ -10,13 +10,16 @@ use lib.Seq.{take-length, take-take}
 use Rattle.text.specs.Text.{Text, isNil, endsWithByte, lacksByte}
 use Rattle.text.proofs.BoolLaws.{and-l, and-r, not-true, or-right}
 use Rattle.text.proofs.TextLaws.{no-text}
+use Rattle.characters.specs.Utf8.{Between}
+use Rattle.characters.specs.NameCharacter.{charactersAllowed}
+use Rattle.characters.proofs.AllowedLaws.{allowed-from, allowed-none, allowed-ascii}
 use Rattle.path_grammar.specs.Own.{ownPart, targetPart, hasProperty}
-use Rattle.path_grammar.specs.Legal.{Slash, run, accept, legalOwn, legal}
+use Rattle.path_grammar.specs.Legal.{Slash, run, accept, scanAccepts, legalOwn, legal}
 use Rattle.path_grammar.proofs.OwnLaws.{own-parts, own-slice, own-length, own-all, target-nil, property-scan}
-use Rattle.path_grammar.proofs.LegalLaws.{legal-own-part, own-legal, own-is, unclosed-own, own-no-close-bracket}
+use Rattle.path_grammar.proofs.LegalLaws.{own-scan, own-allowed, own-by-scan, empty-own, legal-own-part, own-legal, own-is, unclosed-own, own-no-close-bracket}
 use Rattle.path_parts.specs.Parent.{lastPartStart, parentEnd, ownParentLen, parentLen, hasParent, parent, isProperty, primLen, primPath}
 use Rattle.path_parts.proofs.ReadLaws.{Shape, empty, root, below, shape}
-use Rattle.path_parts.proofs.LastLaws.{last, last-lt, last-legal, before, slash-len, before-lt, Dotted, dotted}
+use Rattle.path_parts.proofs.LastLaws.{last, last-lt, last-legal, last-allowed, before, slash-len, before-lt, Dotted, dotted}
 
 -- The results of `own_parent_len`, `parent_len` and `prim_len` are at most the length of the text, for any bytes.
 own-parent-len-le : (p : Text) → ownParentLen p ≤ length p
@@ -49,31 +52,44 @@ pub prim-len-le : (p : Text) → primLen p ≤ length p
 prim-len-le p = omega (arith, prim-in-own p, own-length p)
 
 -- The text before the last part of a legal path without brackets is legal.
-slash-legal : (r : Text) → accept (run Slash r) ≡ true → legalOwn (take (ownParentLen (47 ∷ r)) (47 ∷ r)) ≡ true
-unfolding legalOwn
+slash-legal : (r : Text) → accept (run Slash r) ≡ true → scanAccepts (take (ownParentLen (47 ∷ r)) (47 ∷ r)) ≡ true
+unfolding scanAccepts
 slash-legal r e = rw (slash-len r e) (go (lastPartStart r) refl)
   where
-    go : (o : Option ℕ) → lastPartStart r ≡ o → legalOwn (47 ∷ take (before o) r) ≡ true
+    go : (o : Option ℕ) → lastPartStart r ≡ o → scanAccepts (47 ∷ take (before o) r) ≡ true
     go none h = refl
     go (some k) h = or-right (isNil (take k r)) (accept (run Slash (take k r))) (last-legal Slash (last r k h) e)
 
-own-parent-take : (p : Text) → legalOwn p ≡ true → legalOwn (take (ownParentLen p) p) ≡ true
-unfolding legalOwn ownParentLen
-own-parent-take p e = go (shape p e)
+slash-allowed : (r : Text) → accept (run Slash r) ≡ true → charactersAllowed (47 ∷ r) ≡ true → charactersAllowed (take (ownParentLen (47 ∷ r)) (47 ∷ r)) ≡ true
+slash-allowed r e f = rw (slash-len r e) (go (lastPartStart r) refl)
   where
-    go : {q : Text} → Shape q → legalOwn (take (ownParentLen q) q) ≡ true
-    go empty = refl
-    go root = refl
-    go (below r f) = slash-legal r f
+    go : (o : Option ℕ) → lastPartStart r ≡ o → charactersAllowed (47 ∷ take (before o) r) ≡ true
+    go none h = allowed-ascii 47 refl [] ∙ allowed-none
+    go (some k) h =
+        allowed-ascii 47 refl (take k r) ∙ allowed-from (take k r)
+        ∙ last-allowed Between (last r k h) (sym (allowed-from r) ∙ sym (allowed-ascii 47 refl r) ∙ f)
+
+own-parent-take : (p : Text) → legalOwn p ≡ true → legalOwn (take (ownParentLen p) p) ≡ true
+unfolding ownParentLen
+own-parent-take p e = go (shape p (own-scan p e)) (own-allowed p e)
+  where
+    go : {q : Text} → Shape q → charactersAllowed q ≡ true → legalOwn (take (ownParentLen q) q) ≡ true
+    go empty a = empty-own
+    go root a = empty-own
+    go (below r f) a = own-by-scan (take (ownParentLen (47 ∷ r)) (47 ∷ r)) (slash-allowed r f a) ∙ slash-legal r f
 
 -- It is shorter than the path.
 own-parent-less : (p : Text) → legalOwn p ≡ true → hasParent p ≡ true → length (take (ownParentLen p) p) < length p
-own-parent-less p e h = go (shape p e) h
+own-parent-less p e h = go (shape p (own-scan p e)) h
   where
     go : {q : Text} → Shape q → hasParent q ≡ true → length (take (ownParentLen q) q) < length q
     go empty h = absurd (false≢true h)
     go root h = absurd (false≢true h)
     go (below r f) h = rw (slash-len r f) (omega (arith, length-take (before (lastPartStart r)) r, before-lt r f))
+
+pub unclosed-len : (p : Text) → endsWithByte 93 p ≡ false → parentLen p ≡ ownParentLen p
+unfolding parentLen
+unclosed-len p h = rw h
 
 -- A legal path, by whether it ends in a closing bracket: then its parent is its own part, and else it is its own part itself.
 module _ (p : Text) (e : legal p ≡ true) where
@@ -82,8 +98,7 @@ module _ (p : Text) (e : legal p ≡ true) where
   parent-closed h = rw h (own-slice p)
 
   pub parent-unclosed : endsWithByte 93 p ≡ false → (parentLen p ≡ ownParentLen p) × (legalOwn p ≡ true)
-  unfolding parentLen
-  parent-unclosed h = (rw h, rw (own-is p (unclosed-own p e h)) at (legal-own-part p e))
+  parent-unclosed h = (unclosed-len p h, rw (own-is p (unclosed-own p e h)) at (legal-own-part p e))
 
   -- The text before the last part is legal, and shorter than the path.
   pub parent-take : legal (take (parentLen p) p) ≡ true
@@ -150,7 +165,7 @@ slash-joins r e o f d =
 
 pub split-joins : (p : Text) → legal p ≡ true → isProperty p ≡ true → p ≡ primPath p ++ 46 ∷ drop (suc (primLen p)) p
 unfolding isProperty lacksByte
-split-joins p e f = go (shape p (rw o at (legal-own-part p e))) o (sym (ap (λ (x : Text). not (lacksByte 46 x)) o) ∙ sym (property-scan p) ∙ h) h
+split-joins p e f = go (shape p (own-scan p (rw o at (legal-own-part p e)))) o (sym (ap (λ (x : Text). not (lacksByte 46 x)) o) ∙ sym (property-scan p) ∙ h) h
   where
     h : hasProperty p ≡ true
     h = and-l (hasProperty p) (isNil (targetPart p)) f

@@ -15,7 +15,7 @@ use borrow.Author.Tests.{ne-eqb, ltb-true, ltb-false}
 use Rattle.text.specs.Text.{Text, isNil, endsWithByte, lacksByte}
 use Rattle.text.proofs.BoolLaws.{told, known-false, known-true, or-false, and-no, and-yes}
 use Rattle.path_grammar.specs.Own.{ownPart, hasProperty}
-use Rattle.path_grammar.specs.Legal.{isIdentifierCont, startsName}
+use Rattle.path_grammar.specs.Legal.{isNameByte, startsName}
 use Rattle.path_grammar.proofs.OwnLaws.{target-nil, property-scan, own-all}
 use Rattle.path_parts.specs.Parent.{startsPart, startsNameAfter, partOffset, lastPartStart, ownParentLen, parentLen, isProperty, primLen}
 use Rattle.path_parts.proofs.LastLaws.{no-part}
@@ -24,7 +24,7 @@ use Rattle.path_parts.proofs.LastLaws.{no-part}
 pub name-none : (p : Text) (i : ℕ) → length p ≤ i → false ≡ startsName (drop i p)
 name-none p i h = rw (drop-of-length-le p h)
 
-pub name-some : (p : Text) (i : ℕ) (b : Bool) → i < length p → b ≡ isIdentifierCont (getD p i 0) → b ≡ startsName (drop i p)
+pub name-some : (p : Text) (i : ℕ) (b : Bool) → i < length p → b ≡ isNameByte (getD p i 0) → b ≡ startsName (drop i p)
 name-some p i b h e = rw (drop-cons p i 0 h) e
 
 -- Lemmas for `starts_part`.

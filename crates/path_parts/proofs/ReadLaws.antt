@@ -7,17 +7,17 @@ use lib.Dec.{eqb}
 use borrow.Author.Tests.{eqb-true}
 use Rattle.text.specs.Text.{Text}
 use Rattle.text.proofs.BoolLaws.{and-l, and-r}
-use Rattle.path_grammar.specs.Legal.{ScanState, Slash, Name, Opened, Set, Equals, Sel, Closed, Dot, Prop, Dead, isIdentifierCont, step, run, accept, legalOwn}
+use Rattle.path_grammar.specs.Legal.{ScanState, Slash, Name, Opened, Set, Equals, Sel, Closed, Dot, Prop, Dead, isNameByte, step, run, accept, scanAccepts}
 use Rattle.path_grammar.proofs.RunLaws.{dead-refuses}
 
--- A legal text without brackets is empty, or `/`, or a slash before a text that the automaton accepts.
+-- A text that the automaton accepts is empty, or `/`, or a slash before a text that the automaton accepts.
 pub data Shape : Text → Type 0 where
   empty : Shape []
   root : Shape (47 ∷ [])
   below : (r : Text) → accept (run Slash r) ≡ true → Shape (47 ∷ r)
 
-pub shape : (p : Text) → legalOwn p ≡ true → Shape p
-unfolding legalOwn
+pub shape : (p : Text) → scanAccepts p ≡ true → Shape p
+unfolding scanAccepts
 shape [] e = empty
 shape (a ∷ []) e = rw (eqb-true a 47 (and-l (eqb a 47) true e)) root
 shape (a ∷ b ∷ r) e =

@@ -14,14 +14,19 @@ use Rattle.text.specs.declared.Fit.the-variants.{Written, Over}
 use Rattle.text.proofs.BoolLaws.{and-yes, or-right}
 use Rattle.text.proofs.TextLaws.{lacks-append, lacks-first, lacks-rest, lacks-join}
 use Rattle.text.proofs.WriteLaws.{read-back}
-use Rattle.path_grammar.specs.Legal.{ScanState, Slash, Name, Opened, Set, Equals, Sel, Closed, Dot, Prop, Dead, isIdentifierStart, isIdentifierCont, startsName, step, run, accept, legalOwn, legal}
+use mathlib.Core.Option.{Option, none, some}
+use Rattle.characters.specs.Utf8.{Reading, Between}
+use Rattle.characters.specs.NameCharacter.{charactersAllowed}
+use Rattle.characters.proofs.ReadingLaws.{allowedFrom, next, allowedAfter, reads-byte, nothing-read, ascii-read, ascii-here}
+use Rattle.characters.proofs.AllowedLaws.{allowed-from}
+use Rattle.path_grammar.specs.Legal.{ScanState, Slash, Name, Opened, Set, Equals, Sel, Closed, Dot, Prop, Dead, isNameStartByte, isNameByte, isVariantByte, startsName, step, run, accept, scanAccepts, legalOwn, legal}
 use Rattle.path_grammar.specs.Own.{ownPart, targetPart, hasVariantSelection}
 use Rattle.path_grammar.proofs.OwnLaws.{own-parts, own-lacks, own-of, target-of, no-selection, property-scan}
 use Rattle.path_grammar.proofs.RunLaws.{run-app}
 use Rattle.path_parts.specs.Parent.{startsNameAfter}
 use Rattle.path_parts.specs.Strip.{strippedByte, insideAfter, stripFrom, strip, stripFit, stripBuffer}
 use Rattle.path_parts.proofs.ReadLaws.{Shape, empty, root, below, shape, choose, dies}
-use Rattle.path_grammar.proofs.LegalLaws.{legal-own-part, legal-as, start-cont}
+use Rattle.path_grammar.proofs.LegalLaws.{own-scan, own-allowed, own-by-scan, legal-own-part, legal-as, start-cont, variant-cont}
 use Rattle.path_grammar.proofs.RenderLacks.{not-name}
 
 -- Each byte yields at most one byte.
@@ -147,12 +152,12 @@ abbrev Along : ScanState → ℕ → Text → Type 0
 Along s a r = (insideAfter (within s) a ≡ within (step s a)) × (run (beside s (a ∷ r)) (strippedByte (within s) a r) ≡ beside (step s a) r)
 
 module _ (a : ℕ) (r : Text) where
-  opens : isIdentifierCont a ≡ true → eqb a 123 ≡ false
-  unfolding isIdentifierCont
+  opens : isNameByte a ≡ true → eqb a 123 ≡ false
+  unfolding isNameByte
   opens h = not-name a 123 refl h
 
-  shuts : isIdentifierCont a ≡ true → eqb a 125 ≡ false
-  unfolding isIdentifierCont
+  shuts : isNameByte a ≡ true → eqb a 125 ≡ false
+  unfolding isNameByte
   shuts h = not-name a 125 refl h
 
   at-byte : (s : ScanState) (k : ℕ) → eqb a k ≡ true → Along s k r → Along s a r
@@ -169,38 +174,38 @@ module _ (a : ℕ) (r : Text) where
   along : (s : ScanState) → accept (run (step s a) r) ≡ true → Along s a r
   unfolding step run strippedByte
   along Slash e =
-      choose (isIdentifierStart a) Name Dead r
+      choose (isNameStartByte a) Name Dead r
       (λ h _. rw (opens (start-cont a h), h) (refl, refl))
       (λ _ d. dies r d) e
   along Name e =
-      choose (isIdentifierCont a) Name _ r (λ h _. rw (opens h, h) (refl, refl))
+      choose (isNameByte a) Name _ r (λ h _. rw (opens h, h) (refl, refl))
       (λ _ f. choose (eqb a 47) Slash _ r (λ h _. at-byte Name 47 h (refl, refl))
       (λ _ g. choose (eqb a 123) Opened _ r (λ h _. at-byte Name 123 h (refl, refl))
       (λ _ i. choose (eqb a 46) Dot Dead r (λ h _. at-byte Name 46 h (refl, refl)) (λ _ d. dies r d) i) g) f) e
   along Opened e =
-      choose (isIdentifierStart a) Set Dead r
+      choose (isNameStartByte a) Set Dead r
       (λ h _. rw (shuts (start-cont a h), h) (refl, refl))
       (λ _ d. dies r d) e
   along Set e =
-      choose (isIdentifierCont a) Set _ r (λ h _. rw (shuts h, h) (refl, refl))
+      choose (isNameByte a) Set _ r (λ h _. rw (shuts h, h) (refl, refl))
       (λ _ f. choose (eqb a 61) Equals Dead r (λ h _. at-byte Set 61 h (refl, refl)) (λ _ d. dies r d) f) e
   along Equals e =
-      choose (isIdentifierCont a) Sel Dead r (λ h _. rw (shuts h, h) (refl, refl))
+      choose (isVariantByte a) Sel Dead r (λ h _. rw (shuts (variant-cont a h), h) (refl, refl))
       (λ _ d. dies r d) e
   along Sel e =
-      choose (isIdentifierCont a) Sel _ r (λ h _. rw (shuts h, h) (refl, refl))
+      choose (isVariantByte a) Sel _ r (λ h _. rw (shuts (variant-cont a h), h) (refl, refl))
       (λ _ f. choose (eqb a 125) Closed Dead r (λ h _. at-byte Sel 125 h closed-fold) (λ _ d. dies r d) f) e
   along Closed e =
-      choose (isIdentifierStart a) Name _ r
+      choose (isNameStartByte a) Name _ r
       (λ h _. rw (opens (start-cont a h), start-cont a h, h) (refl, refl))
       (λ _ g. choose (eqb a 123) Opened _ r (λ h _. at-byte Closed 123 h (refl, refl))
       (λ _ i. choose (eqb a 46) Dot Dead r (λ h _. at-byte Closed 46 h (refl, refl)) (λ _ d. dies r d) i) g) e
   along Dot e =
-      choose (isIdentifierStart a) Prop Dead r
+      choose (isNameStartByte a) Prop Dead r
       (λ h _. rw (opens (start-cont a h), h) (refl, refl))
       (λ _ d. dies r d) e
   along Prop e =
-      choose (isIdentifierCont a) Prop _ r (λ h _. rw (opens h, h) (refl, refl))
+      choose (isNameByte a) Prop _ r (λ h _. rw (opens h, h) (refl, refl))
       (λ _ f. choose (eqb a 58) Dot Dead r (λ h _. at-byte Prop 58 h (refl, refl)) (λ _ d. dies r d) f) e
   along Dead e = dies r e
 
@@ -226,7 +231,7 @@ strip-run s (a ∷ r) e =
 
 -- Stripping removes no dot: no selection of a legal path has one.
 dot-dies : (s : ScanState) → within s ≡ true → step s 46 ≡ Dead
-unfolding step isIdentifierStart isIdentifierCont
+unfolding step isNameStartByte isNameByte isVariantByte
 dot-dies Slash h = absurd (false≢true h)
 dot-dies Name h = absurd (false≢true h)
 dot-dies Opened h = refl
@@ -269,14 +274,58 @@ strip-dots s (a ∷ r) e =
       strip-dots (step s a) r e,
     )
 
-own-strip-legal : (p : Text) → legalOwn p ≡ true → (legalOwn (stripFrom false p) ≡ true) × (lacksByte 46 (stripFrom false p) ≡ lacksByte 46 p)
-unfolding legalOwn stripFrom lacksByte
-own-strip-legal p e = go (shape p e)
+strip-shape : {q : Text} → Shape q → (scanAccepts (stripFrom false q) ≡ true) × (lacksByte 46 (stripFrom false q) ≡ lacksByte 46 q)
+unfolding scanAccepts stripFrom strippedByte lacksByte
+strip-shape empty = (refl, refl)
+strip-shape root = (refl, refl)
+strip-shape (below r f) = (or-right (isNil (stripFrom false r)) (accept (run Slash (stripFrom false r))) (strip-run Slash r f), strip-dots Slash r f)
+
+-- Stripping cuts no character: it removes the bytes from a `{` to a `}`, which are bytes of ASCII. Inside a selection, the reader of the stripped
+-- text is between two characters.
+abbrev beside-reader : Bool → Reading → Reading
+beside-reader true u = Between
+beside-reader false u = u
+
+read-on : (u : Reading) (a : ℕ) (r : Text) {G : Type 0} → allowedFrom u (a ∷ r) ≡ true → ((v : Reading) → next u a ≡ some v → allowedFrom v r ≡ true → G) → G
+read-on u a r {G} e k = go (next u a) refl (sym (reads-byte u a r) ∙ e)
   where
-    go : {q : Text} → Shape q → (legalOwn (stripFrom false q) ≡ true) × (lacksByte 46 (stripFrom false q) ≡ lacksByte 46 q)
-    go empty = (refl, refl)
-    go root = (refl, refl)
-    go (below r f) = (or-right (isNil (stripFrom false r)) (accept (run Slash (stripFrom false r))) (strip-run Slash r f), strip-dots Slash r f)
+    go : (n : Option Reading) → next u a ≡ n → allowedAfter n r ≡ true → G
+    go none h f = absurd (false≢true f)
+    go (some v) h f = k v h f
+
+strip-reads : (m : Bool) (u : Reading) (r : Text) → allowedFrom u r ≡ true → allowedFrom (beside-reader m u) (stripFrom m r) ≡ true
+unfolding stripFrom strippedByte startsNameAfter
+strip-reads true u [] e = nothing-read
+strip-reads false u [] e = e
+strip-reads true u (a ∷ r) e = go (eqb a 125) refl (λ v. strip-reads true v r) (strip-reads false Between r)
+  where
+    slashed : (b : Bool) → allowedFrom Between (stripFrom false r) ≡ true → allowedFrom Between (cond b (47 ∷ []) [] ++ stripFrom false r) ≡ true
+    slashed true f = ascii-read 47 refl (stripFrom false r) ∙ f
+    slashed false f = f
+
+    go : (b : Bool) → eqb a 125 ≡ b → ((v : Reading) → allowedFrom v r ≡ true → allowedFrom Between (stripFrom true r) ≡ true)
+        → (allowedFrom Between r ≡ true → allowedFrom Between (stripFrom false r) ≡ true) → allowedFrom Between (stripFrom true (a ∷ r)) ≡ true
+    go true h inside outside =
+        let z : a ≡ 125 = eqb-true a 125 h in
+        rw h (slashed (startsName r) (outside (ascii-here 125 refl u r (rw z at e) .1)))
+    go false h inside outside = rw h (read-on u a r e (λ v _ f. inside v f))
+strip-reads false u (a ∷ r) e = go (eqb a 123) refl (λ v. strip-reads false v r) (strip-reads true Between r)
+  where
+    go : (b : Bool) → eqb a 123 ≡ b → ((v : Reading) → allowedFrom v r ≡ true → allowedFrom v (stripFrom false r) ≡ true)
+        → (allowedFrom Between r ≡ true → allowedFrom Between (stripFrom true r) ≡ true) → allowedFrom u (stripFrom false (a ∷ r)) ≡ true
+    go true h outside inside =
+        let z : a ≡ 123 = eqb-true a 123 h in
+        let w = ascii-here 123 refl u r (rw z at e) in
+        rw (h, w .0) (inside (w .1))
+    go false h outside inside = rw h (read-on u a r e (λ v n f. reads-byte u a (stripFrom false r) ∙ rw n (outside v f)))
+
+strip-allowed : (p : Text) → charactersAllowed p ≡ true → charactersAllowed (stripFrom false p) ≡ true
+strip-allowed p e = allowed-from (stripFrom false p) ∙ strip-reads false Between p (sym (allowed-from p) ∙ e)
+
+own-strip-legal : (p : Text) → legalOwn p ≡ true → (legalOwn (stripFrom false p) ≡ true) × (lacksByte 46 (stripFrom false p) ≡ lacksByte 46 p)
+own-strip-legal p e =
+    let w = strip-shape (shape p (own-scan p e)) in
+    (own-by-scan (stripFrom false p) (strip-allowed p (own-allowed p e)) ∙ w .0, w .1)
 
 pub strip-legal : (p : Text) → legal p ≡ true → legal (strip p) ≡ true
 strip-legal p e =

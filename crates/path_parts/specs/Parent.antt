@@ -9,7 +9,7 @@ use lib.ListN.{length, take}
 use Rattle.text.specs.Text.{Text, isNil, endsWithByte}
 use Rattle.text.specs.Bytes.{closeBrace, closeBracket, dot, openBrace, slash}
 use Rattle.path_grammar.specs.Own.{ownPart, targetPart, hasProperty}
-use Rattle.path_grammar.specs.Legal.{isRoot, isIdentifierCont, startsName}
+use Rattle.path_grammar.specs.Legal.{isRoot, isNameByte, startsName}
 
 -- A part (an element or the property) begins at the byte a followed by r.
 unfoldable pub startsPart : ℕ → Text → Bool
@@ -17,7 +17,7 @@ startsPart a r = eqb a slash && not (isNil r) || eqb a openBrace || eqb a dot
 
 -- A part begins directly after the byte a followed by r: a name after a selection.
 unfoldable pub startsNameAfter : ℕ → Text → Bool
-unfolding isIdentifierCont
+unfolding isNameByte
 startsNameAfter a r = eqb a closeBrace && startsName r
 
 -- The offset from the byte a at which a part begins: 0, 1 or none.

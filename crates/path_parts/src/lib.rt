@@ -17,7 +17,7 @@ fn starts_name(path: &[u8], i: usize) -> bool
     if path.len() <= i {
         return false;
     }
-    path_grammar::is_identifier_cont(path[i])
+    path_grammar::is_name_byte(path[i])
 }
 
 // Returns whether a part (an element or the property) begins at byte `i`.

@@ -12,7 +12,7 @@ use lib.Seq.{drop-cons}
 use borrow.Author.Tests.{ne-eqb, ltb-true, ltb-false}
 use Rattle.text.specs.Text.{Text, isNil}
 use Rattle.text.proofs.BoolLaws.{or-false}
-use Rattle.path_grammar.specs.Legal.{isIdentifierCont}
+use Rattle.path_grammar.specs.Legal.{isNameByte}
 use Rattle.path_prefix.specs.Elements.{startsElement, countElements}
 
 module _ (s : Text) (i : ℕ) (f : Bool) where
@@ -35,7 +35,7 @@ module _ (s : Text) (i : ℕ) (f : Bool) where
   pub begins-last : getD s i 0 ≢ 47 → getD s i 0 ≢ 123 → getD s i 0 ≡ 125 → length s ≤ i + 1 → false ≡ startsElement f (getD s i 0) (drop (i + 1) s)
   begins-last d e g l = rw (drop-of-length-le s l, g)
 
-  pub begins-name : (r : Bool) → getD s i 0 ≢ 47 → getD s i 0 ≢ 123 → getD s i 0 ≡ 125 → i + 1 < length s → r ≡ isIdentifierCont (getD s (i + 1) 0)
+  pub begins-name : (r : Bool) → getD s i 0 ≢ 47 → getD s i 0 ≢ 123 → getD s i 0 ≡ 125 → i + 1 < length s → r ≡ isNameByte (getD s (i + 1) 0)
       → r ≡ startsElement f (getD s i 0) (drop (i + 1) s)
   begins-name r d e g l h = rw (drop-cons s (i + 1) 0 l, g) h
 

@@ -7,7 +7,7 @@ use native.Mathlib.Omega.{arith}
 use lib.Dec.{eqb}
 use lib.ListN.{length}
 use Rattle.text.specs.Text.{Text, endsWithByte}
-use Rattle.path_grammar.specs.Legal.{isIdentifierCont, isRoot, isEnd}
+use Rattle.path_grammar.specs.Legal.{isNameByte, isRoot, isEnd}
 use Rattle.path_grammar.proofs.LegalLaws.{legal-last, end-legal}
 use Rattle.path_prefix.specs.Elements.{startsElement, countElements}
 
@@ -24,7 +24,7 @@ count-short f (a ∷ s) = go (startsElement f a s) (count-short f s)
 -- A text has no fewer elements when more bytes follow.
 begins-more : (f : Bool) (a : ℕ) (s r : Text) → startsElement f a s ≡ true → startsElement f a (s ++ r) ≡ true
 begins-more f a [] [] h = h
-begins-more f a [] (x ∷ r) h = go (eqb a 47) (eqb a 123 && f) (eqb a 125) (isIdentifierCont x) h
+begins-more f a [] (x ∷ r) h = go (eqb a 47) (eqb a 123 && f) (eqb a 125) (isNameByte x) h
   where
     go : (t o c n : Bool) → (t && false || o || c && false) ≡ true → (t && true || o || c && n) ≡ true
     go true o c n h = refl
@@ -50,7 +50,7 @@ unfolding countElements
 count-root f = refl
 
 -- The elements of a concatenation are those of its parts if no element begins at the last byte of the first part.
-pub count-app : (f : Bool) (s : Text) (c : ℕ) (y : Text) → isIdentifierCont c ≡ false → endsWithByte 47 s ≡ false
+pub count-app : (f : Bool) (s : Text) (c : ℕ) (y : Text) → isNameByte c ≡ false → endsWithByte 47 s ≡ false
     → countElements f (s ++ c ∷ y) ≡ countElements f s + countElements f (c ∷ y)
 unfolding countElements endsWithByte
 count-app f [] c y t l = omega arith
@@ -58,6 +58,6 @@ count-app f (a ∷ []) c y t l = rw (l, t) (omega arith)
 count-app f (a ∷ b ∷ s) c y t l = rw (count-app f (b ∷ s) c y t l) (omega arith)
 
 -- That holds after every end except `/`.
-pub count-after : (f : Bool) (s : Text) (c : ℕ) (y : Text) → isIdentifierCont c ≡ false → isEnd s ≡ true → isRoot s ≡ false
+pub count-after : (f : Bool) (s : Text) (c : ℕ) (y : Text) → isNameByte c ≡ false → isEnd s ≡ true → isRoot s ≡ false
     → countElements f (s ++ c ∷ y) ≡ countElements f s + countElements f (c ∷ y)
 count-after f s c y t e n = count-app f s c y t (legal-last s (end-legal s e) n)

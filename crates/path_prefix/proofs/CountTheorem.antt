@@ -9,22 +9,17 @@ use lib.Dec.{eqb}
 use Rattle.text.specs.Text.{Text, takeUntil}
 use Rattle.text.proofs.BoolLaws.{and-l, and-r, and-no, or-false}
 use Rattle.path_grammar.specs.Own.{ownPart}
-use Rattle.path_grammar.specs.Legal.{isIdentifierCont, startsName}
+use Rattle.path_grammar.specs.Legal.{isNameByte, startsName}
 use Rattle.path_grammar.specs.Grammar as g
-use Rattle.path_grammar.specs.Grammar.{allCont, nameText, wordText, selectionText, selectionsText, primSeparator, primsText, moreText, propertyText, ownText, absoluteText, render}
+use Rattle.path_grammar.specs.Grammar.{nameText, wordText, selectionText, selectionsText, primSeparator, primsText, moreText, propertyText, ownText, absoluteText, render}
 use Rattle.path_prefix.specs.Elements.{countElements, selectionCount, primCount, absoluteCount, pathCount, CountsAgree}
-use Rattle.path_grammar.proofs.LegalLaws.{start-cont}
+use Rattle.path_grammar.proofs.NameLaws.{areNameBytes, name-bytes, word-bytes}
 use Rattle.path_grammar.proofs.RenderLacks.{not-name}
-use Rattle.path_grammar.proofs.Render.{own-prims, own-target}
+use Rattle.path_grammar.proofs.Render.{prims-named, own-prims, own-target}
 
--- The text of prims begins with a name; the text of a property does not.
-prims-start : (p : g.Prim) (r : List g.Prim) (y : Text) → startsName (primsText p r ++ y) ≡ true
-unfolding primsText
-prims-start p [] y = start-cont (p .name .first) (p .name .first-is)
-prims-start p (q ∷ r) y = start-cont (p .name .first) (p .name .first-is)
-
+-- The text of prims begins with a name (`prims-named`); the text of a property does not.
 property-starts : (x : Option g.Property) → startsName (propertyText x) ≡ false
-unfolding propertyText isIdentifierCont
+unfolding propertyText isNameByte
 property-starts none = refl
 property-starts (some x) = refl
 
@@ -39,22 +34,20 @@ module _ (f : Bool) where
   unfolding countElements
   other a r h k l = rw (h, k, l) (omega arith)
 
-  byte : (a : ℕ) (r : Text) → isIdentifierCont a ≡ true → countElements f (a ∷ r) ≡ countElements f r
-  unfolding isIdentifierCont
+  byte : (a : ℕ) (r : Text) → isNameByte a ≡ true → countElements f (a ∷ r) ≡ countElements f r
+  unfolding isNameByte
   byte a r h = other a r (not-name a 47 refl h) (not-name a 123 refl h) (not-name a 125 refl h)
 
-  bytes : (t y : Text) → allCont t ≡ true → countElements f (t ++ y) ≡ countElements f y
-  unfolding allCont
+  bytes : (t y : Text) → areNameBytes t ≡ true → countElements f (t ++ y) ≡ countElements f y
+  unfolding areNameBytes
   bytes [] y e = refl
-  bytes (a ∷ t) y e = byte a (t ++ y) (and-l (isIdentifierCont a) (allCont t) e) ∙ bytes t y (and-r (isIdentifierCont a) (allCont t) e)
+  bytes (a ∷ t) y e = byte a (t ++ y) (and-l (isNameByte a) (areNameBytes t) e) ∙ bytes t y (and-r (isNameByte a) (areNameBytes t) e)
 
   name : (n : g.Name) (y : Text) → countElements f (nameText n ++ y) ≡ countElements f y
-  unfolding nameText
-  name n y = byte (n .first) (n .more ++ y) (start-cont (n .first) (n .first-is)) ∙ bytes (n .more) y (n .more-are)
+  name n y = bytes (nameText n) y (name-bytes n)
 
   word : (w : g.Word) (y : Text) → countElements f (wordText w ++ y) ≡ countElements f y
-  unfolding wordText
-  word w y = byte (w .first) (w .more ++ y) (w .first-is) ∙ bytes (w .more) y (w .more-are)
+  word w y = bytes (wordText w) y (word-bytes w)
 
   -- What those three bytes add.
   slash-adds : (y : Text) → startsName y ≡ true → countElements f (47 ∷ y) ≡ suc (countElements f y)
@@ -78,7 +71,7 @@ module _ (f : Bool) where
 
   selections : (r : List g.Selection) (y : Text)
       → countElements f (selectionsText r ++ y) ≡ selectionCount f r + (cond (any r && startsName y) 1 0 + countElements f y)
-  unfolding selectionsText selectionCount isIdentifierCont
+  unfolding selectionsText selectionCount isNameByte
   selections [] y = omega arith
   selections (s ∷ []) y = rw (append-assoc (selectionText s) [] y) (selection s y ∙ omega arith)
   selections (s ∷ u ∷ r) y =
@@ -122,7 +115,7 @@ module _ (f : Bool) where
         name (p .name) (selectionsText (p .selections) ++ ((primSeparator (p .selections) ++ primsText q r) ++ propertyText x)),
         append-assoc (primSeparator (p .selections)) (primsText q r) (propertyText x),
         selections (p .selections) (primSeparator (p .selections) ++ (primsText q r ++ propertyText x)),
-        next (p .selections) (primsText q r ++ propertyText x) (prims-start q r (propertyText x)),
+        next (p .selections) (primsText q r ++ propertyText x) (prims-named q r (propertyText x)),
         prims q r x,
       )
       (omega arith)
@@ -130,7 +123,7 @@ module _ (f : Bool) where
 -- The count of a path's own part is the count of the path.
 own-counted : (f : Bool) (p : g.Prim) (r : List g.Prim) (x : Option g.Property) → countElements f (ownText p r x) ≡ primCount f p r
 unfolding ownText
-own-counted f p r x = slash-adds f (primsText p r ++ propertyText x) (prims-start p r (propertyText x)) ∙ prims f p r x
+own-counted f p r x = slash-adds f (primsText p r ++ propertyText x) (prims-named p r (propertyText x)) ∙ prims f p r x
 
 absolute-counted : (f : Bool) {d : ℕ} (q : g.Absolute d) → countElements f (ownPart (absoluteText q)) ≡ absoluteCount f q
 unfolding absoluteText absoluteCount countElements ownPart takeUntil

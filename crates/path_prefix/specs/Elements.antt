@@ -8,7 +8,7 @@ use mathlib.Core.List.{List, [], _∷_}
 use lib.Dec.{eqb}
 use Rattle.text.specs.Text.{Text, isNil}
 use Rattle.text.specs.Bytes.{closeBrace, openBrace, slash}
-use Rattle.path_grammar.specs.Legal.{isIdentifierCont, startsName}
+use Rattle.path_grammar.specs.Legal.{isNameByte, startsName}
 use Rattle.path_grammar.specs.Own.{ownPart}
 use Rattle.path_grammar.specs.Grammar as g
 use Rattle.path_grammar.specs.Grammar.{render}
@@ -20,7 +20,7 @@ startsElement selections a r = eqb a slash && not (isNil r) || eqb a openBrace &
 
 -- The number of elements that begin in a text; selections count only if `selections` is set.
 unfoldable pub countElements : Bool → Text → ℕ
-unfolding isIdentifierCont
+unfolding isNameByte
 countElements selections [] = 0
 countElements selections (a ∷ r) = cond (startsElement selections a r) 1 0 + countElements selections r
 

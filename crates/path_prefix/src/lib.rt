@@ -72,7 +72,7 @@ fn starts_element(text: &[u8], i: usize, selections: bool) -> bool
     if text.len() <= j {
         return false;
     }
-    path_grammar::is_identifier_cont(text[j])
+    path_grammar::is_name_byte(text[j])
 }
 
 // Returns n + 1 if `b` is set, otherwise n.

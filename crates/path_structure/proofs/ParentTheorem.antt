@@ -13,11 +13,11 @@ use Rattle.path_grammar.specs.Grammar as g
 use Rattle.path_grammar.specs.Grammar.{nameText, moreText, primsText, propertyText, ownText, bracketText, absoluteText, render}
 use Rattle.path_grammar.proofs.OwnLaws.{own-slice}
 use Rattle.path_grammar.proofs.LegalLaws.{own-no-close-bracket}
-use Rattle.path_grammar.proofs.Render.{own-render, own-target}
+use Rattle.path_grammar.proofs.Render.{prims-named, own-render, own-target}
 use Rattle.path_parts.specs.Parent.{startsPart, startsNameAfter, partOffset, lastPartStart, ownParentLen, parentLen, hasParent, parent}
 use Rattle.path_parts.proofs.LastLaws.{none-on, before}
 use Rattle.path_structure.specs.Structure.{dropLastPart, pathOfPrims, absoluteParent, absoluteOption, parentOf, renderOption}
-use Rattle.path_structure.proofs.PartLaws.{name-free, Before, before-here, prims-named, PrimsBefore, prims-part}
+use Rattle.path_structure.proofs.PartLaws.{name-free, Before, before-here, PrimsBefore, prims-part}
 
 -- The text before the last part, after a slash.
 pub before-slash : (t : Text) → startsName t ≡ true → take (ownParentLen (47 ∷ t)) (47 ∷ t) ≡ 47 ∷ take (before (lastPartStart t)) t

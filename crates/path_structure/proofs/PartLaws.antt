@@ -9,29 +9,27 @@ use lib.ListN.{length, take, length-append}
 use lib.Seq.{take-append-add}
 use Rattle.text.specs.Text.{Text}
 use Rattle.text.proofs.BoolLaws.{and-l, and-r}
-use Rattle.path_grammar.specs.Legal.{isIdentifierCont, startsName}
+use Rattle.path_grammar.specs.Legal.{isNameByte, startsName}
 use Rattle.path_grammar.specs.Grammar as g
-use Rattle.path_grammar.specs.Grammar.{allCont, nameText, wordText, selectionText, selectionsText, primText, primSeparator, primsText}
-use Rattle.path_grammar.proofs.LegalLaws.{start-cont}
+use Rattle.path_grammar.specs.Grammar.{nameText, wordText, selectionText, selectionsText, primText, primSeparator, primsText}
+use Rattle.path_grammar.proofs.NameLaws.{areNameBytes, name-bytes, word-bytes}
+use Rattle.path_grammar.proofs.Render.{prims-named}
 use Rattle.path_parts.specs.Parent.{startsPart, startsNameAfter, partOffset, lastPartStart}
 use Rattle.path_parts.proofs.LastLaws.{name-part, none-on}
 use Rattle.path_structure.specs.Structure.{dropLastSelection, dropPrimPart, dropLastPart}
 
 -- No part begins in a name or a variant, nor in what follows it if none begins there.
-cont-free : (t u : Text) → allCont t ≡ true → lastPartStart u ≡ none → lastPartStart (t ++ u) ≡ none
-unfolding allCont
-cont-free [] u e h = h
-cont-free (a ∷ t) u e h =
-    none-on a (t ++ u) (name-part a (t ++ u) (and-l (isIdentifierCont a) (allCont t) e)) (cont-free t u (and-r (isIdentifierCont a) (allCont t) e) h)
+bytes-free : (t u : Text) → areNameBytes t ≡ true → lastPartStart u ≡ none → lastPartStart (t ++ u) ≡ none
+unfolding areNameBytes
+bytes-free [] u e h = h
+bytes-free (a ∷ t) u e h =
+    none-on a (t ++ u) (name-part a (t ++ u) (and-l (isNameByte a) (areNameBytes t) e)) (bytes-free t u (and-r (isNameByte a) (areNameBytes t) e) h)
 
 pub name-free : (n : g.Name) (u : Text) → lastPartStart u ≡ none → lastPartStart (nameText n ++ u) ≡ none
-unfolding nameText
-name-free n u h =
-    none-on (n .first) (n .more ++ u) (name-part (n .first) (n .more ++ u) (start-cont (n .first) (n .first-is))) (cont-free (n .more) u (n .more-are) h)
+name-free n u h = bytes-free (nameText n) u (name-bytes n) h
 
 word-free : (w : g.Word) (u : Text) → lastPartStart u ≡ none → lastPartStart (wordText w ++ u) ≡ none
-unfolding wordText
-word-free w u h = none-on (w .first) (w .more ++ u) (name-part (w .first) (w .more ++ u) (w .first-is)) (cont-free (w .more) u (w .more-are) h)
+word-free w u h = bytes-free (wordText w) u (word-bytes w) h
 
 -- The text u is what precedes the last part of t.
 pub record Before (t u : Text) : Type 0 where
@@ -109,12 +107,6 @@ unfolding primSeparator
 joint n [] q f e = before-here (nameText n ++ selectionsText []) (47 ∷ q) (slash-part q f e)
 joint n (s ∷ r) q f e =
     rw (append-assoc (nameText n) (selectionsText (s ∷ r)) q) (before-append (nameText n) (selections-joint s r q f e))
-
--- The text of prims begins with a name.
-pub prims-named : (p : g.Prim) (r : List g.Prim) (t : Text) → startsName (primsText p r ++ t) ≡ true
-unfolding primsText primText nameText
-prims-named p [] t = start-cont (p .name .first) (p .name .first-is)
-prims-named p (q ∷ r) t = start-cont (p .name .first) (p .name .first-is)
 
 -- The prims ps are what precedes the last part of t; if there are none, t has no part.
 abbrev pub PrimsBefore : Text → List g.Prim → Type 0

@@ -8,19 +8,18 @@ use lib.ListN.{length, take}
 use lib.Seq.{take-length}
 use Rattle.text.specs.Text.{Text, isNil, endsWithByte, lacksByte, takeUntil}
 use Rattle.text.proofs.BoolLaws.{and-l, and-r, and-no}
-use Rattle.text.proofs.TextLaws.{last-after}
+use Rattle.text.proofs.TextLaws.{last-after, lacks-last}
 use Rattle.path_grammar.specs.Own.{ownPart, hasProperty}
-use Rattle.path_grammar.specs.Legal.{isIdentifierCont, startsName}
+use Rattle.path_grammar.specs.Legal.{startsName}
 use Rattle.path_grammar.specs.Grammar as g
-use Rattle.path_grammar.specs.Grammar.{allCont, nameText, wordText, selectionText, selectionsText, primText, primSeparator, primsText, propertyText, ownText, bracketText, absoluteText, render}
+use Rattle.path_grammar.specs.Grammar.{nameText, wordText, selectionText, selectionsText, primText, primSeparator, primsText, propertyText, ownText, bracketText, absoluteText, render}
 use Rattle.path_grammar.proofs.OwnLaws.{own-all, own-lacks}
-use Rattle.path_grammar.proofs.LegalLaws.{start-cont}
-use Rattle.path_grammar.proofs.RenderLacks.{not-name, prims-dotless, close-no-name}
-use Rattle.path_grammar.proofs.Render.{own-dotted, own-prims, target-prims, own-target, target-target}
+use Rattle.path_grammar.proofs.RenderLacks.{name-lacks, prims-dotless, close-no-name}
+use Rattle.path_grammar.proofs.Render.{prims-named, own-dotted, own-prims, target-prims, own-target, target-target}
 use Rattle.path_parts.specs.Parent.{ownParentLen, isProperty, primLen, primPath, splitProperty}
 use Rattle.path_parts.proofs.ParentLaws.{prim-of-own}
 use Rattle.path_structure.specs.Structure.{dropLastPart, pathOfPrims, anySelection, endsInSelection, absolutePrimPath, primPathOf, absoluteSplit, splitPropertyOf, renderOption}
-use Rattle.path_structure.proofs.PartLaws.{prims-named, prims-part}
+use Rattle.path_structure.proofs.PartLaws.{prims-part}
 use Rattle.path_structure.proofs.ParentTheorem.{before-slash, prims-before, property-before, no-property-text, prims-name, textOption, option-texts}
 
 -- So a path has a property exactly if its text has a dot.
@@ -33,14 +32,8 @@ ends-after : (b : ℕ) (x t : Text) → isNil t ≡ false → endsWithByte b (x 
 ends-after b x [] e = absurd (true≢false e)
 ends-after b x (a ∷ t) e = last-after b x a t
 
-cont-ends : (a : ℕ) (t : Text) → isIdentifierCont a ≡ true → allCont t ≡ true → endsWithByte 125 (a ∷ t) ≡ false
-unfolding endsWithByte allCont
-cont-ends a [] h e = not-name a 125 close-no-name h
-cont-ends a (c ∷ t) h e = cont-ends c t (and-l (isIdentifierCont c) (allCont t) e) (and-r (isIdentifierCont c) (allCont t) e)
-
 name-ends : (n : g.Name) → endsWithByte 125 (nameText n) ≡ false
-unfolding nameText
-name-ends n = cont-ends (n .first) (n .more) (start-cont (n .first) (n .first-is)) (n .more-are)
+name-ends n = lacks-last 125 (nameText n) (name-lacks 125 close-no-name n)
 
 selection-ends : (s : g.Selection) → endsWithByte 125 (selectionText s) ≡ true
 unfolding selectionText endsWithByte

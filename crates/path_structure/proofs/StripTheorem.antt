@@ -7,15 +7,14 @@ use Prim.Native.Nat.{ℕ}
 use Rattle.text.specs.Text.{Text, lacksByte, takeUntil, dropUntil}
 use Rattle.text.proofs.TextLaws.{lacks-first, lacks-rest, lacks-join}
 use Rattle.path_grammar.specs.Own.{ownPart, targetPart}
-use Rattle.path_grammar.specs.Legal.{isIdentifierStart, isIdentifierCont, startsName}
+use Rattle.path_grammar.specs.Legal.{isNameStartByte, isNameByte, startsName}
 use Rattle.path_grammar.specs.Grammar as g
 use Rattle.path_grammar.specs.Grammar.{nameText, wordText, selectionText, selectionsText, primText, primSeparator, primsText, moreText, propertyText, ownText, bracketText, absoluteText, render}
 use Rattle.path_grammar.proofs.RenderLacks.{name-lacks, word-lacks, close-no-name}
-use Rattle.path_grammar.proofs.Render.{own-prims, target-prims, own-target, target-target}
+use Rattle.path_grammar.proofs.Render.{prims-named, own-prims, target-prims, own-target, target-target}
 use Rattle.path_parts.specs.Parent.{startsNameAfter}
 use Rattle.path_parts.specs.Strip.{strippedByte, stripFrom, strip}
 use Rattle.path_structure.specs.Structure.{stripPrim, absoluteStrip, stripOf}
-use Rattle.path_structure.proofs.PartLaws.{prims-named}
 
 -- Outside selections a text without `{` is kept.
 outside : (t k : Text) → lacksByte 123 t ≡ true → stripFrom false (t ++ k) ≡ t ++ stripFrom false k
@@ -29,8 +28,8 @@ unfolding stripFrom strippedByte startsNameAfter
 inside [] k e = refl
 inside (a ∷ t) k e = rw (lacks-first 125 a t e) (inside t k (lacks-rest 125 a t e))
 
-open-no-name : isIdentifierCont 123 ≡ false
-unfolding isIdentifierCont isIdentifierStart
+open-no-name : isNameByte 123 ≡ false
+unfolding isNameByte isNameStartByte
 open-no-name = refl
 
 name-kept : (n : g.Name) (k : Text) → stripFrom false (nameText n ++ k) ≡ nameText n ++ stripFrom false k
@@ -65,7 +64,7 @@ selection-dropped s k =
 
 -- No name follows a selection that another one follows.
 selection-no-gap : (s : g.Selection) (k : Text) → gap (selectionText s ++ k) ≡ []
-unfolding selectionText isIdentifierCont isIdentifierStart
+unfolding selectionText isNameByte isNameStartByte
 selection-no-gap s k = refl
 
 selections-dropped : (s : g.Selection) (r : List g.Selection) (k : Text) → stripFrom false (selectionsText (s ∷ r) ++ k) ≡ gap k ++ stripFrom false k
@@ -127,7 +126,7 @@ property-lacks none = refl
 property-lacks (some x) = lacks-join 123 (nameText (x .first)) (moreText (x .more)) (name-lacks 123 open-no-name (x .first)) (more-lacks (x .more))
 
 property-no-gap : (x : Option g.Property) → gap (propertyText x) ≡ []
-unfolding propertyText isIdentifierCont isIdentifierStart
+unfolding propertyText isNameByte isNameStartByte
 property-no-gap none = refl
 property-no-gap (some x) = refl
 

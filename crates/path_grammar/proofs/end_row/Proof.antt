@@ -2,8 +2,9 @@ use mathlib.Core.Path.{refl}
 use mathlib.Core.List.{[], _∷_}
 use borrow.Author.Needs.{needs}
 use Rattle.path_grammar.specs.PackedScan.{packedSteps}
-use Rattle.path_grammar.proofs.ScanLaws.{upper-1, lower-1, more-1, upper-2, lower-2, more-2, digits-1, digits-2, arm, others}
-use Rattle.path_grammar.proofs.EndLaws.{end-pack, end-arms, all-end-listed}
+use Rattle.text.proofs.TableLaws.{arm, others}
+use Rattle.path_grammar.proofs.ScanLaws.{upper-1, lower-1, more-1, upper-2, lower-2, more-2, digits-1, digits-2}
+use Rattle.path_grammar.proofs.FirstScanLaws.{end-pack, end-arms, all-end-listed}
 use Rattle.path_grammar.proofs.end_row.Statement.{statement}
 use Rattle.path_grammar.proofs.end_row.Tie as tie
 
@@ -57,7 +58,7 @@ returns-12 c = arm end-pack _ (125 ∷ []) _ (c .match .keys12) refl
 
 returns-13 : tie.Need-returns-13
 unfolding end-arms upper-1 lower-1 more-1 upper-2 lower-2 more-2 digits-1 digits-2
-returns-13 c = others end-pack end-arms _ all-end-listed (search needs) (c .match .rest)
+returns-13 c = others end-pack 988218432520154550 end-arms _ all-end-listed (search needs) (c .match .rest)
 
 pub end-row-spec : {M : Type 1} → statement M
 end-row-spec =

@@ -2,69 +2,70 @@ use mathlib.Core.Path.{refl}
 use mathlib.Core.List.{[], _∷_}
 use borrow.Author.Needs.{needs}
 use Rattle.path_grammar.specs.PackedScan.{packedSteps}
-use Rattle.path_grammar.proofs.ScanLaws.{upper-1, lower-1, more-1, upper-2, lower-2, more-2, digits-1, digits-2, arm, arms, others, all-listed}
+use Rattle.text.proofs.TableLaws.{arm, others}
+use Rattle.path_grammar.proofs.ScanLaws.{upper-1, lower-1, more-1, upper-2, lower-2, more-2, digits-1, digits-2, arms, ascii-pack, all-listed}
 use Rattle.path_grammar.proofs.row.Statement.{statement}
 use Rattle.path_grammar.proofs.row.Tie as tie
 
 returns : tie.Need-returns
 unfolding packedSteps upper-1
-returns c = arm packedSteps _ upper-1 _ (c .match .keys1) refl
+returns c = arm ascii-pack _ upper-1 _ (c .match .keys1) refl
 
 returns-2 : tie.Need-returns-2
 unfolding packedSteps lower-1
-returns-2 c = arm packedSteps _ lower-1 _ (c .match .keys2) refl
+returns-2 c = arm ascii-pack _ lower-1 _ (c .match .keys2) refl
 
 returns-3 : tie.Need-returns-3
 unfolding packedSteps more-1
-returns-3 c = arm packedSteps _ more-1 _ (c .match .keys3) refl
+returns-3 c = arm ascii-pack _ more-1 _ (c .match .keys3) refl
 
 returns-4 : tie.Need-returns-4
 unfolding packedSteps upper-2
-returns-4 c = arm packedSteps _ upper-2 _ (c .match .keys4) refl
+returns-4 c = arm ascii-pack _ upper-2 _ (c .match .keys4) refl
 
 returns-5 : tie.Need-returns-5
 unfolding packedSteps lower-2
-returns-5 c = arm packedSteps _ lower-2 _ (c .match .keys5) refl
+returns-5 c = arm ascii-pack _ lower-2 _ (c .match .keys5) refl
 
 returns-6 : tie.Need-returns-6
 unfolding packedSteps more-2
-returns-6 c = arm packedSteps _ more-2 _ (c .match .keys6) refl
+returns-6 c = arm ascii-pack _ more-2 _ (c .match .keys6) refl
 
 returns-7 : tie.Need-returns-7
 unfolding packedSteps digits-1
-returns-7 c = arm packedSteps _ digits-1 _ (c .match .keys7) refl
+returns-7 c = arm ascii-pack _ digits-1 _ (c .match .keys7) refl
 
 returns-8 : tie.Need-returns-8
 unfolding packedSteps digits-2
-returns-8 c = arm packedSteps _ digits-2 _ (c .match .keys8) refl
+returns-8 c = arm ascii-pack _ digits-2 _ (c .match .keys8) refl
 
 returns-9 : tie.Need-returns-9
 unfolding packedSteps
-returns-9 c = arm packedSteps _ (46 ∷ []) _ (c .match .keys9) refl
+returns-9 c = arm ascii-pack _ (46 ∷ []) _ (c .match .keys9) refl
 
 returns-10 : tie.Need-returns-10
 unfolding packedSteps
-returns-10 c = arm packedSteps _ (47 ∷ []) _ (c .match .keys10) refl
+returns-10 c = arm ascii-pack _ (47 ∷ []) _ (c .match .keys10) refl
 
 returns-11 : tie.Need-returns-11
 unfolding packedSteps
-returns-11 c = arm packedSteps _ (58 ∷ []) _ (c .match .keys11) refl
+returns-11 c = arm ascii-pack _ (58 ∷ []) _ (c .match .keys11) refl
 
 returns-12 : tie.Need-returns-12
 unfolding packedSteps
-returns-12 c = arm packedSteps _ (61 ∷ []) _ (c .match .keys12) refl
+returns-12 c = arm ascii-pack _ (61 ∷ []) _ (c .match .keys12) refl
 
 returns-13 : tie.Need-returns-13
 unfolding packedSteps
-returns-13 c = arm packedSteps _ (123 ∷ []) _ (c .match .keys13) refl
+returns-13 c = arm ascii-pack _ (123 ∷ []) _ (c .match .keys13) refl
 
 returns-14 : tie.Need-returns-14
 unfolding packedSteps
-returns-14 c = arm packedSteps _ (125 ∷ []) _ (c .match .keys14) refl
+returns-14 c = arm ascii-pack _ (125 ∷ []) _ (c .match .keys14) refl
 
 returns-15 : tie.Need-returns-15
 unfolding arms upper-1 lower-1 more-1 upper-2 lower-2 more-2 digits-1 digits-2
-returns-15 c = others packedSteps arms _ all-listed (search needs) (c .match .rest)
+returns-15 c = others ascii-pack 988218432520154550 arms _ all-listed (search needs) (c .match .rest)
 
 pub row-spec : {M : Type 1} → statement M
 row-spec =

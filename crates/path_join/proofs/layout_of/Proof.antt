@@ -13,8 +13,8 @@ last-byte-requires c κs = search needs
 last-byte-requires-2 : tie.Need-last-byte-requires-2
 last-byte-requires-2 c κs = search needs
 
-is-identifier-cont-requires : tie.Need-is-identifier-cont-requires
-is-identifier-cont-requires c κs = search needs
+is-name-byte-requires : tie.Need-is-name-byte-requires
+is-name-byte-requires c κs = search needs
 
 separator-len-requires : tie.Need-separator-len-requires
 separator-len-requires c κs = search needs
@@ -25,14 +25,14 @@ as-number-requires c κs = search needs
 returns : tie.Need-returns
 returns c =
     let at-separator-len = c .before in
-    let at-is-identifier-cont = at-separator-len .before in
-    let at-last-byte2 = at-is-identifier-cont .before in
+    let at-is-name-byte = at-separator-len .before in
+    let at-last-byte2 = at-is-name-byte .before in
     let at-last-byte = at-last-byte2 .before in
     let at-first-byte = at-last-byte .before in
     let first = at-first-byte .first-byte .ensures in
     let old-last = at-last-byte .last-byte .ensures in
     let new-last = at-last-byte2 .last-byte2 .ensures in
-    let name = at-is-identifier-cont .is-identifier-cont .ensures in
+    let name = at-is-name-byte .is-name-byte .ensures in
     laid-out _ _ _ _ _ _ _ first old-last new-last name _ _ (at-separator-len .separator-len .ensures) (c .as-number .ensures)
 
 pub layout-of-spec : {M : Type 1} → statement M
@@ -42,7 +42,7 @@ layout-of-spec =
     first-byte-requires
     last-byte-requires
     last-byte-requires-2
-    is-identifier-cont-requires
+    is-name-byte-requires
     separator-len-requires
     as-number-requires
     returns)

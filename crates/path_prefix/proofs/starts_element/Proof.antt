@@ -21,11 +21,11 @@ returns-3 c = search (needs, counts)
 returns-4 : tie.Need-returns-4
 returns-4 c = search (needs, counts)
 
-shared-slice-read-is-identifier-cont : tie.Need-shared-slice-read-is-identifier-cont
-shared-slice-read-is-identifier-cont c = search needs
+shared-slice-read-is-name-byte : tie.Need-shared-slice-read-is-name-byte
+shared-slice-read-is-name-byte c = search needs
 
-is-identifier-cont-requires : tie.Need-is-identifier-cont-requires
-is-identifier-cont-requires c κs = search needs
+is-name-byte-requires : tie.Need-is-name-byte-requires
+is-name-byte-requires c κs = search needs
 
 returns-5 : tie.Need-returns-5
 returns-5 c = search (needs, counts)
@@ -40,6 +40,6 @@ starts-element-spec =
     returns-2
     returns-3
     returns-4
-    shared-slice-read-is-identifier-cont
-    is-identifier-cont-requires
+    shared-slice-read-is-name-byte
+    is-name-byte-requires
     returns-5)
