@@ -1,0 +1,1 @@
+// Theorems that every path made from legal texts is well-formed UTF-8 (specs/, proofs/), no code.
