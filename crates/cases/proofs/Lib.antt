@@ -8,5 +8,6 @@ pub mod WrongMaps
 pub mod WrongRelocates
 pub mod WrongRests
 pub mod WrongTargets
+pub mod WrongNames
 pub mod TargetTable
 pub mod WrongFrames
