@@ -27,6 +27,22 @@
 //! # }
 //! ```
 //!
+//! # Texts
+//!
+//! Paths are UTF-8, and the names in them may have characters outside ASCII; [`Path`] says which. Lengths, limits and ranges
+//! count bytes. It is proved for the library that every legal path is UTF-8, and so is every path that it makes, so
+//! [`Path::as_str`] checks nothing.
+//!
+//! ```
+//! use mudvizsor::{MapFunction, Path};
+//!
+//! let placed = MapFunction::from_pair("/Oszlop", "/Széll_Kálmán_tér/Jelző_12")?;
+//! let there = placed.map_source_to_target_carried(&Path::new("/Oszlop/Lámpa.szín")?)?;
+//! assert_eq!(there.path.as_str(), "/Széll_Kálmán_tér/Jelző_12/Lámpa.szín");
+//! assert_eq!(there.rest_str(), "/Lámpa.szín");
+//! # Ok::<(), mudvizsor::Refusal>(())
+//! ```
+//!
 //! # Refusals
 //!
 //! A call that has no result is refused with one of the numbers of `docs/REQUIREMENTS.md` (Validation and refusals), as a

@@ -1,23 +1,28 @@
 //! Scene paths.
 
-use crate::ffi::{Reply, paths};
+use crate::ffi::{Reply, path_text, paths};
 use crate::refusal::{Refusal, Result, accepted, read};
 use std::borrow::Borrow;
 use std::fmt;
 use std::str::FromStr;
 
-/// The maximum length of a path in bytes.
+/// The maximum length of a path in bytes of UTF-8.
 pub const MAX_PATH_LEN: usize = 255;
 
 /// The maximum number of ancestors of a path, including the path itself.
 const MAX_ANCESTORS: usize = 128;
 
-/// A legal scene path of at most 255 bytes, such as `/Line{season=winter}Stop/Signal.aspect:state`.
+/// A legal scene path of at most 255 bytes of UTF-8, such as `/Line{season=winter}Stop/Signal.aspect:state`.
 ///
 /// A path is empty, or `/`, or absolute: names, each preceded by a slash, and perhaps a property, which is a dot and names
 /// joined by `:`. A name may be followed by variant selections `{set=sel}`; the name after a selection has no slash before
-/// it. A prim path has names only. `docs/REQUIREMENTS.md` (Path texts) defines the grammar. Paths are ordered by their
-/// texts.
+/// it. A prim path has names only. `docs/REQUIREMENTS.md` (Path texts) defines the grammar. Paths are ordered by the bytes of
+/// their texts.
+///
+/// A name, also that of a property or a variant set, begins with an ASCII letter, `_` or a character from U+0080 up, and
+/// continues with these and ASCII digits. Controls (U+0080 to U+009F) and white space (U+00A0, U+1680, U+2000 to U+200A,
+/// U+2028, U+2029, U+202F, U+205F, U+3000) are excluded. The variant `sel` has only ASCII letters, digits and `_`. Names are
+/// compared as they are written: `é` as one character and `e` with a combining accent are two names.
 ///
 /// After a property an absolute path in brackets may follow, the target of a relationship: `/Line7/Quay.next[/Line7/Depot]`.
 /// It ends the text, and may have brackets itself; a text has at most four opening brackets. What comes before the first one
@@ -31,13 +36,18 @@ const MAX_ANCESTORS: usize = 128;
 /// assert_eq!(Path::try_from("/Line7/"), Err(Refusal::NotLegal));
 /// assert!(Path::new("/Line7/Quay.next[/Line7/Depot]").is_ok());
 /// assert_eq!(Path::new("/Line7/Quay[/Line7/Depot]"), Err(Refusal::NotLegal));
+///
+/// let signal = Path::new("/Széll_Kálmán_tér{idő=fagy}Jelző_12.állás")?;
+/// assert_eq!(signal.parent()?.as_str(), "/Széll_Kálmán_tér{idő=fagy}Jelző_12");
+/// assert_eq!(Path::new("/Széll_Kálmán_tér{idő=hó}"), Err(Refusal::NotLegal)); // a variant is ASCII
+/// assert_eq!(Path::new("/Széll\u{a0}Kálmán"), Err(Refusal::NotLegal)); // white space
 /// # Ok::<(), Refusal>(())
 /// ```
 #[derive(Clone, Default, PartialEq, Eq, PartialOrd, Ord, Hash)]
 pub struct Path(Box<str>);
 
 impl Path {
-    /// Creates a path from its text.
+    /// Creates a path from its text. A text in bytes is converted by `Path::try_from`.
     ///
     /// # Errors
     ///
@@ -47,8 +57,10 @@ impl Path {
     /// use mudvizsor::{Path, Refusal};
     ///
     /// assert_eq!(Path::new("/Line7/Quay").unwrap().as_str(), "/Line7/Quay");
+    /// assert_eq!(Path::new("/Krisztina_körút").unwrap().as_str(), "/Krisztina_körút");
     /// assert_eq!(Path::new("Line7"), Err(Refusal::NotLegal));
     /// assert_eq!(Path::new(&"/n".repeat(128)), Err(Refusal::TooLong));
+    /// assert_eq!(Path::new(&"/é".repeat(86)), Err(Refusal::TooLong)); // 172 characters, 258 bytes
     /// ```
     pub fn new(text: &str) -> Result<Self> {
         read(paths::new(text.as_bytes()))?;
@@ -73,9 +85,9 @@ impl Path {
         Path::default()
     }
 
-    /// Creates a path from bytes that the library wrote.
+    /// Creates a path from bytes that the library wrote as a path, or accepted as one.
     pub(crate) fn written(bytes: &[u8]) -> Self {
-        Path(str::from_utf8(bytes).expect("the library writes ASCII").into())
+        Path(path_text(bytes).into())
     }
 
     /// Returns the text of the path.
@@ -175,7 +187,7 @@ impl Path {
     }
 
     /// Returns the index at which the rest of the path begins, which follows `prefix`; `None` if the path does not have that
-    /// [prefix](Self::has_prefix).
+    /// [prefix](Self::has_prefix). The index counts bytes and is always a character boundary.
     ///
     /// A separating slash belongs to the rest. So after the prefix `/` the rest of a longer path is the whole path.
     ///
@@ -225,6 +237,7 @@ impl Path {
     /// assert_eq!(Path::new("/Line7.next[/Line8]")?.parent()?.as_str(), "/Line7.next");
     /// assert_eq!(Path::new("/Line7.state")?.parent()?.as_str(), "/Line7");
     /// assert_eq!(Path::new("/Line7{season=winter}Quay")?.parent()?.as_str(), "/Line7{season=winter}");
+    /// assert_eq!(Path::new("/Széll_Kálmán_tér/Jelző_12")?.parent()?.as_str(), "/Széll_Kálmán_tér");
     /// assert_eq!(Path::root().parent(), Err(Refusal::NoPath));
     /// # Ok::<(), Refusal>(())
     /// ```
@@ -419,6 +432,25 @@ impl TryFrom<String> for Path {
     fn try_from(text: String) -> Result<Self> {
         read(paths::new(text.as_bytes()))?;
         Ok(Path(text.into()))
+    }
+}
+
+/// Converts bytes, which need not be UTF-8.
+///
+/// ```
+/// use mudvizsor::{Path, Refusal};
+///
+/// let path = Path::try_from("/Jelző_12".as_bytes())?;
+/// assert_eq!(path.as_str(), "/Jelző_12");
+/// assert_eq!(Path::try_from(&b"/Jelz\xf5_12"[..]), Err(Refusal::NotLegal)); // Latin-2, not UTF-8
+/// # Ok::<(), Refusal>(())
+/// ```
+impl TryFrom<&[u8]> for Path {
+    type Error = Refusal;
+
+    fn try_from(bytes: &[u8]) -> Result<Self> {
+        read(paths::new(bytes))?;
+        Ok(Path::written(bytes))
     }
 }
 

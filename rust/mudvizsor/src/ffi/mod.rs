@@ -35,6 +35,16 @@ pub mod times;
 
 use entry::entry;
 
+/// Returns the text of a path that an entry wrote, or accepted, when it did not refuse the call. A debug build checks that the
+/// bytes are UTF-8.
+pub(crate) fn path_text(bytes: &[u8]) -> &str {
+    debug_assert!(str::from_utf8(bytes).is_ok(), "not UTF-8: {}", bytes.escape_ascii());
+    // SAFETY: the contract of each entry says that a path which it accepts or writes is legal. It is proved that a legal text is
+    // the rendering of a path (`legal-is-rendered` in crates/path_grammar/proofs/Theorem.antt), whose names consist of
+    // characters in their UTF-8 encoding (`decodes-exactly` in crates/characters/proofs/Theorem.antt).
+    unsafe { str::from_utf8_unchecked(bytes) }
+}
+
 /// The reply of an entry: 256 times a value, plus the number of the refusal (0 for success).
 #[derive(Debug, Clone, Copy, PartialEq, Eq)]
 #[repr(transparent)]

@@ -2,7 +2,7 @@
 
 use super::{Reply, entry};
 
-/// Checks that `text` is a legal path: the reply has the value 0, or is a refusal.
+/// Checks that `text` is a legal path: the reply has the value 0, or is a refusal. Bytes that are not UTF-8 are not legal.
 pub fn new(text: &[u8]) -> Reply {
     entry!(mudvizsor_path_new: text text,)
 }

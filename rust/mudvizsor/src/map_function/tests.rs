@@ -68,6 +68,43 @@ fn checks_in_order() {
     assert_eq!(MapFunction::from_pair_identity("/A", "bad"), Err(Refusal::NotLegal));
 }
 
+/// Names are matched whole, byte by byte: not by their first character, nor by the first byte of a character.
+#[test]
+fn names_outside_ascii() {
+    let some = map(&[("/é", "/Jelző"), ("/A", "/Á/B"), ("/A/é", "")]);
+    for (text, expected) in [
+        ("/é/ő.ü", Path::new("/Jelző/ő.ü")),
+        ("/A{é=p}ß", Path::new("/Á/B{é=p}ß")),
+        ("/A/è.ü[/é]", Path::new("/Á/B/è.ü[/é]")),
+        ("/A/é", Err(Refusal::NoPath)),
+        ("/éA", Err(Refusal::NoPath)),
+        ("/Aé", Err(Refusal::NoPath)),
+        ("/è", Err(Refusal::NoPath)),
+        ("/e\u{301}", Err(Refusal::NoPath)),
+    ] {
+        assert_eq!(some.map_source_to_target(&path(text)), expected, "{text}");
+    }
+    assert_eq!(some.translate_to_target_carried(&path("/é/ő.ü")), carried("/Jelző/ő.ü", 3..9));
+    assert_eq!(some.map_target_to_source(&path("/Jelző/ő")), Path::new("/é/ő"));
+    assert_eq!(texts(&some.inverse()), [("", "/A/é"), ("/Jelző", "/é"), ("/Á/B", "/A")]);
+    let composed = map(&[("/Jelző", "/ß/Jelző")]).compose(&some).unwrap();
+    assert_eq!(composed.map_source_to_target(&path("/é.ü")), Path::new("/ß/Jelző.ü"));
+}
+
+#[test]
+fn ends_outside_ascii() {
+    for (end, refusal) in [
+        ("/A{é=p}", Refusal::NotAnEnd),
+        ("/é.ü", Refusal::NotAnEnd),
+        ("/A{v=é}", Refusal::NotLegal),
+        ("/A\u{3000}", Refusal::NotLegal),
+        (&"/é".repeat(86), Refusal::TooLong),
+    ] {
+        assert_eq!(MapFunction::from_pair("/A", end), Err(refusal), "{end}");
+        assert_eq!(MapFunction::new([(end, "/A")]), Err(refusal), "{end}");
+    }
+}
+
 #[test]
 fn at_most_64_pairs() {
     let pairs = |count: usize| (0..count).map(|i| (format!("/A{i}"), format!("/B{i}")));

@@ -20,10 +20,112 @@ fn legal_and_illegal_texts() {
     for text in ["", "/", "/A", "/_a1/B2", "/A{v=p}", "/A{v=p}{w=q}B.c", "/A.b:c:d", "/A/B{s=1x}.y"] {
         assert_eq!(Path::new(text).unwrap().as_str(), text);
     }
-    for text in ["A", "/A/", "//", "/1", "/A.", "/A.b:", "/A{v=}", "/A{v=p}/B", "/.b", "/A b", "/Ä", "/A[x]"]
-    {
+    for text in ["A", "/A/", "//", "/1", "/A.", "/A.b:", "/A{v=}", "/A{v=p}/B", "/.b", "/A b", "/A[x]"] {
         assert_eq!(Path::new(text), Err(Refusal::NotLegal), "{text}");
     }
+}
+
+/// Names of prims, properties and variant sets may have characters outside ASCII anywhere, variants may not.
+#[test]
+fn names_outside_ascii() {
+    for text in [
+        "/é",
+        "/Aé/éA",
+        "/Széll_Kálmán_tér/Jelző_12.állás:szín",
+        "/A{é=p}",
+        "/A{é=p}ß.ő",
+        "/A.ő[/Á{é=p}É.ü]",
+        "/e\u{301}",
+        "/日本/\u{1f68b}",
+    ] {
+        assert_eq!(Path::new(text).unwrap().as_str(), text);
+        assert_eq!(Path::try_from(text.as_bytes()), Path::new(text));
+    }
+    for text in ["é", "/A{v=é}", "/A{é=pé}", "/A{é=}", "/A{é}", "/é/", "/A.é:", "/A.r[é]", "/1é"] {
+        assert_eq!(Path::new(text), Err(Refusal::NotLegal), "{text}");
+    }
+}
+
+/// Every character from U+0080 up, at the beginning and in the middle of a name.
+#[test]
+fn every_character_outside_ascii() {
+    let white_space = |c: char| {
+        let others = ['\u{a0}', '\u{1680}', '\u{2028}', '\u{2029}', '\u{202f}', '\u{205f}', '\u{3000}'];
+        ('\u{2000}'..='\u{200a}').contains(&c) || others.contains(&c)
+    };
+    for c in '\u{80}'..=char::MAX {
+        let excluded = ('\u{80}'..='\u{9f}').contains(&c) || white_space(c);
+        for text in [format!("/{c}"), format!("/A{c}_")] {
+            let expected = if excluded { Err(Refusal::NotLegal) } else { Ok(Path(text.as_str().into())) };
+            assert_eq!(Path::new(&text), expected, "U+{:04X}", u32::from(c));
+        }
+    }
+}
+
+/// Truncated and overlong sequences, surrogates, numbers above U+10FFFF, bytes that begin no character, a lone continuation.
+#[test]
+fn malformed_utf8() {
+    for bytes in [
+        &b"\xc3"[..],
+        b"\xe6\x97",
+        b"\xf0\x9f\x9a",
+        b"\xc3_",
+        b"\xe6\x97_",
+        b"\xc0\xaf",
+        b"\xc1\xbf",
+        b"\xe0\x9f\xbf",
+        b"\xf0\x8f\xbf\xbf",
+        b"\xed\xa0\x80",
+        b"\xed\xbf\xbf",
+        b"\xf4\x90\x80\x80",
+        b"\xf8\x88\x80\x80\x80",
+        b"\xff",
+        b"\xa9",
+        b"\xc3\xa9\xa9",
+    ] {
+        for text in [
+            [b"/".as_slice(), bytes].concat(),
+            [b"/A", bytes, b"/B"].concat(),
+            [b"/A{v", bytes, b"=p}"].concat(),
+        ] {
+            assert_eq!(Path::try_from(&text[..]), Err(Refusal::NotLegal), "{}", text.escape_ascii());
+        }
+    }
+    let long = [b"/".as_slice(), &[0xff; 255]].concat();
+    assert_eq!(Path::try_from(&long[..]), Err(Refusal::TooLong));
+    assert_eq!(Path::try_from(&long[..255]), Err(Refusal::NotLegal));
+}
+
+/// No call cuts a character, and a name is no prefix of a longer name.
+#[test]
+fn parts_outside_ascii() {
+    assert_eq!(path("/Á/É").parent(), Path::new("/Á"));
+    assert_eq!(path("/A{é=p}ß.ő").strip_variant_selections().as_str(), "/A/ß.ő");
+    assert_eq!(path("/A{é=p}ß.ő").prim_path().as_str(), "/A{é=p}ß");
+    assert_eq!(path("/Á.ő:ű").split_property(), Ok((path("/Á"), "ő:ű")));
+    assert_eq!(path("/Á{é=p}É.ü").element_count(), 3);
+    assert!(!path("/Aé").has_prefix(&path("/A")));
+    assert!(!path("/\u{e9}").has_prefix(&path("/\u{e8}")));
+    assert!(!path("/e\u{301}").has_prefix(&path("/e")));
+    assert_eq!(path("/Á/É").rest_start(&path("/Á")), Some(3));
+    let lengths: Vec<_> = path("/Á{é=p}É.ü").ancestors().map(|each| each.as_str().len()).collect();
+    assert_eq!(lengths, [14, 11, 9, 3, 1]);
+    assert_eq!(path("/Á.ő[/É]").embedded_target(), Path::new("/É"));
+    assert_eq!(path("/Á.ő[/É]").replace_embedded_target(&path("/ß")), Path::new("/Á.ő[/ß]"));
+}
+
+#[test]
+fn joins_outside_ascii() {
+    let replaced = |text: &str, old: &str, new: &str| path(text).replace_prefix(&path(old), &path(new));
+    assert_eq!(replaced("/A{v=p}é/b", "/A{v=p}", "/C"), Path::new("/C/é/b"));
+    assert_eq!(replaced("/A/é", "/A", "/C{ő=p}"), Path::new("/C{ő=p}é"));
+    assert_eq!(replaced("/A/é", "/A", "/"), Path::new("/é"));
+    assert_eq!(replaced("/Aé", "/A", "/C"), Err(Refusal::NoPath));
+    assert_eq!(replaced("/é.ő", "/é", "/ß"), Path::new("/ß.ő"));
+    // 255 bytes are the limit, however many characters they are.
+    let longest = format!("/{}", "é".repeat(126));
+    assert_eq!(replaced("/A/b", "/A", &longest).unwrap().as_str().len(), MAX_PATH_LEN);
+    assert_eq!(replaced("/A/é", "/A", &longest), Err(Refusal::MadeTooLong));
 }
 
 /// Brackets follow a property and end the text; the path in them is absolute, and there are at most four.
@@ -211,7 +313,9 @@ fn ancestors_from_both_sides() {
 #[test]
 fn the_traits_of_a_path() {
     assert_eq!("/A".parse::<Path>(), Path::try_from("/A".to_string()));
+    assert_eq!("/A".parse::<Path>(), Path::try_from(b"/A".as_slice()));
     assert_eq!(format!("[{:>4}] {0:?}", path("/A")), "[  /A] Path(\"/A\")");
+    assert_eq!(format!("[{:>4}] {0:?}", path("/Á")), "[  /Á] Path(\"/Á\")");
     assert!(path("/A") < path("/A/b") && path("/A/b") < path("/B"));
     assert!(HashSet::from([path("/A")]).contains("/A") && BTreeSet::from([path("/A")]).contains("/A"));
     assert_eq!(Path::default(), Path::empty());

@@ -49,6 +49,16 @@ fn brackets_are_left() {
     assert_eq!(Relocates::new([("/R/a", "/R/b.r[/R]")]), Err(Refusal::NotAnEnd));
 }
 
+/// A name is no prefix of a longer name, and `é` is not `e` with a combining accent.
+#[test]
+fn names_outside_ascii() {
+    assert_eq!(bytes(&[("/R/é", "/R/éé"), ("/R/e\u{301}", "/R/ő"), ("/R/é", "/R/ű")]), [0, 0, 2]);
+    assert_eq!(bytes(&[("/R/é", "/R/é/b"), ("/É", "/Á")]), [1, 1]);
+    let moved = relocates(&[("/R/é", "/R/ő"), ("/R/ő/ü", "/R/ß")]);
+    assert_eq!(moved.chain(&path("/R/é/ü.á")), Ok(Chain { path: path("/R/ß.á"), steps: 2 }));
+    assert_eq!(moved.shift(&path("/R/éü")), Path::new("/R/éü"));
+}
+
 #[test]
 fn refused_steps() {
     let to_root = relocates(&[("/A/b", "/")]);

@@ -69,6 +69,25 @@ fn addresses_come_home() {
     assert_eq!(stripped, Path::new("/Town/Trams/Line7/Quay/Signal_12.next[/Mast{v=p}]"));
 }
 
+/// A path with names outside ASCII comes home; its rest begins at a character.
+#[test]
+fn names_outside_ascii_come_home() {
+    let legs = [
+        map(&[("/Oszlop", "/Vonal/Krisztina_körút/Jelző_1")]),
+        relocates(&[("/Vonal/Krisztina_körút/Jelző_1", "/Vonal/Széll_Kálmán_tér/Jelző_12")]),
+        map(&[("/Vonal", "/Város/Villamos")]),
+    ];
+    let route = Route::new(legs).unwrap();
+    let there = path("/Város/Villamos/Széll_Kálmán_tér/Jelző_12/Lámpa.szín");
+    for (text, rest) in [("/Oszlop/Lámpa.szín", "/Lámpa.szín"), ("/Oszlop{idő=fagy}Lámpa.szín", "")] {
+        let carried = route.out_carried(&path(text)).unwrap();
+        assert_eq!((&carried.path, carried.rest_str()), (&there, rest), "{text}");
+        assert_eq!(route.out_all([&path(text)]), [Ok(there.clone())]);
+    }
+    assert_eq!(route.home(&there), Path::new("/Oszlop/Lámpa.szín"));
+    assert_eq!(route.out(&path("/Oszlopé")), Err(Refusal::NoPath));
+}
+
 /// The last step has the result of the whole route, and the way home visits the same paths in reverse.
 #[test]
 fn steps_are_the_route() {
