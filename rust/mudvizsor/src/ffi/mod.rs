@@ -35,13 +35,13 @@ pub mod times;
 
 use entry::entry;
 
-/// Returns the text of a path that an entry wrote, or accepted, when it did not refuse the call. A debug build checks that the
-/// bytes are UTF-8.
+/// Returns the bytes of a path that an entry wrote, or accepted, as text. A debug build checks that they are UTF-8.
 pub(crate) fn path_text(bytes: &[u8]) -> &str {
     debug_assert!(str::from_utf8(bytes).is_ok(), "not UTF-8: {}", bytes.escape_ascii());
-    // SAFETY: the contract of each entry says that a path which it accepts or writes is legal. It is proved that a legal text is
-    // the rendering of a path (`legal-is-rendered` in crates/path_grammar/proofs/Theorem.antt), whose names consist of
-    // characters in their UTF-8 encoding (`decodes-exactly` in crates/characters/proofs/Theorem.antt).
+    // SAFETY: the only caller, `Path::written`, passes bytes that an entry wrote as a path or accepted as one, and by the
+    // contracts of the entries these are legal paths. It is proved that a legal path is UTF-8: it is the rendering of names
+    // and ASCII signs (`legal-is-rendered` in crates/path_grammar/proofs/Theorem.antt), and names consist of encoded
+    // characters (`decodes-exactly` in crates/characters/proofs/Theorem.antt).
     unsafe { str::from_utf8_unchecked(bytes) }
 }
 
