@@ -13,6 +13,12 @@
    any value. Bad texts, places and counts are refused; every float is accepted. A text needs no terminating 0, and none
    is written after a result. A `bool` is false or true. A call uses up to about 300 KiB of stack.
 
+   TEXTS are UTF-8; malformed UTF-8 is not a legal path (2). A name of a prim, a property or a variant set begins with an
+   ASCII letter, `_` or a character from U+0080 up, and continues with these and ASCII digits. Controls (U+0080 to U+009F)
+   and white space (U+00A0, U+1680, U+2000 to U+200A, U+2028, U+2029, U+202F, U+205F, U+3000) are excluded. The variant, v
+   in {set=v}, has ASCII letters, digits and `_` only. Texts are compared byte by byte, and lengths, starts and limits count
+   bytes. Every path that is written is UTF-8, and no length or start divides a character.
+
    A REPLY is one number: 256 times a value, plus the refusal number in the low byte, which is 0 for success and one of the
    numbers below for a refusal. The value of a refusal is 0. A refused call writes nothing. A successful call writes its
    result to the beginning of the lent buffers and leaves the rest of them unchanged.
@@ -95,7 +101,7 @@ extern "C" {
 enum {
     MUDVIZSOR_ANSWER = 0,        /* success */
     MUDVIZSOR_TOO_LONG = 1,      /* a text is longer than 255 bytes, or its place reaches outside its store */
-    MUDVIZSOR_ILLEGAL = 2,       /* a text is not a legal path */
+    MUDVIZSOR_ILLEGAL = 2,       /* a text is not a legal path, or malformed UTF-8 */
     MUDVIZSOR_NOT_AN_END = 3,    /* an end is neither a prim path nor `/` nor empty */
     MUDVIZSOR_TOO_MANY = 4,      /* more than 64 pairs or 16 legs, or a count that exceeds its slice */
     MUDVIZSOR_NO_ROOM = 5,       /* a lent buffer is too small */
@@ -150,7 +156,7 @@ static inline size_t mudvizsor_carried_rest_length(size_t reply) { return reply 
 
 /* ---- Paths ---- */
 
-/* Checks that the text is a legal path of at most 255 bytes. The reply is 0 if it is, else a refusal: 1, 2. */
+/* Checks that the text is a legal path of at most 255 bytes of UTF-8. The reply is 0 if it is, else a refusal: 1, 2. */
 size_t mudvizsor_path_new(const char *path, size_t path_length);
 
 /* The value is 1 if the path can be an end of a pair, which a prim path, `/` and the empty path can; else 0.

@@ -204,10 +204,22 @@ static const struct {
     {ENTRY(path_new), "/A.r[/T][/U]", 2, 0},
     {ENTRY(path_new), "/A.r[/T", 2, 0},
     {ENTRY(path_new), "/A.r[/T]]", 2, 0},
+    {ENTRY(path_new), "/Széll_Kálmán_tér{idő=fagy}Jelző_12.állás", 0, 0},
+    {ENTRY(path_new), "/A.ő[/É]", 0, 0},
+    {ENTRY(path_new), "/A{v=é}", 2, 0},
+    {ENTRY(path_new), "/A\xC2\xA0", 2, 0},         /* U+00A0, white space */
+    {ENTRY(path_new), "/A\xC2\x85", 2, 0},         /* U+0085, a control */
+    {ENTRY(path_new), "/A\xC3", 2, 0},             /* truncated */
+    {ENTRY(path_new), "/A\xA9", 2, 0},             /* a continuation alone */
+    {ENTRY(path_new), "/A\xC1\xA1", 2, 0},         /* overlong */
+    {ENTRY(path_new), "/A\xED\xA0\x80", 2, 0},     /* a surrogate */
+    {ENTRY(path_new), "/A\xF4\x90\x80\x80", 2, 0}, /* above U+10FFFF */
     {ENTRY(path_is_end), "/A/B", 0, 1},
     {ENTRY(path_is_end), "/A.b", 0, 0},
     {ENTRY(path_is_end), "/A.r[/T]", 0, 0},
     {ENTRY(path_is_end), "/A{v=}", 2, 0},
+    {ENTRY(path_is_end), "/Á/É", 0, 1},
+    {ENTRY(path_is_end), "/Á\xFF", 2, 0},
     {ENTRY(path_has_variant_selection), "/A{v=p}", 0, 1},
     {ENTRY(path_has_variant_selection), "/A", 0, 0},
     {ENTRY(path_has_variant_selection), "/A{v=p}.r[/T]", 0, 1},
@@ -217,6 +229,7 @@ static const struct {
     {ENTRY(path_element_count), "/", 0, 0},
     {ENTRY(path_element_count), "/A{v=p}B.r[/T{w=q}C]", 0, 3},
     {ENTRY(path_element_count), "/.c", 2, 0},
+    {ENTRY(path_element_count), "/Á{é=p}É.ü", 0, 3},
     {ENTRY(path_prim_element_count), "/A{v=p}B.c", 0, 2},
     {ENTRY(path_prim_element_count), "/A{v=p}B.r[/T{w=q}C]", 0, 2},
     {ENTRY(path_prim_element_count), "//", 2, 0},
@@ -240,6 +253,8 @@ static void test_has_prefix(void) {
     check_reply(entry, "/A, NULL", mudvizsor_path_has_prefix(TEXT("/A"), NULL, 0), 0, 1);
     check_reply(entry, "/A.r[/T], /A", mudvizsor_path_has_prefix(TEXT("/A.r[/T]"), TEXT("/A")), 0, 1);
     check_reply(entry, "/A.r[/T], /A.r", mudvizsor_path_has_prefix(TEXT("/A.r[/T]"), TEXT("/A.r")), 0, 0);
+    check_reply(entry, "/Aé, /A", mudvizsor_path_has_prefix(TEXT("/Aé"), TEXT("/A")), 0, 0);
+    check_reply(entry, "/é, a part of it", mudvizsor_path_has_prefix(TEXT("/é"), TEXT("/\xC3")), 2, 0);
     check_reply(entry, "/A, A", mudvizsor_path_has_prefix(TEXT("/A"), TEXT("A")), 2, 0);
     check_reply(entry, "A, 256 bytes", mudvizsor_path_has_prefix(TEXT("A"), TEXT(path_of(256))), 1, 0);
 }
@@ -264,6 +279,8 @@ static const struct {
     {"/A.r[/T]", "/A.r[/T]", 0, true, 8},
     {"/A.r[/T]", "/", 0, true, 0},
     {"/A.r[/T]", "/A.r", 0, false, 0},
+    {"/Á/É", "/Á", 0, true, 3},
+    {"/Áé", "/Á", 0, false, 0},
     {"/A", "A", 2, false, 0},
     {"A", "/A", 2, false, 0},
 };
@@ -298,8 +315,12 @@ static const struct {
     {"/A.r[/A]", "/A.r[/A]", "/X", 255, 0, "/X"},
     {"/A.r[/T]", "/A.r", "/X.s", 255, 6, ""},
     {"/A.r[/T]", "/A", "/", 255, 8, ""},
+    {"/A{v=p}é/b", "/A{v=p}", "/C", 255, 0, "/C/é/b"},
+    {"/A/é", "/A", "/C{ő=p}", 255, 0, "/C{ő=p}é"},
+    {"/Aé", "/A", "/C", 255, 6, ""},
     {"/A/B", "/A", "/C", 254, 5, ""},
     {"/A/B", "/A", "C", 0, 2, ""},
+    {"/A/B", "/A", "/C\xC3", 255, 2, ""},
 };
 
 static void test_replace_prefix(void) {
@@ -329,6 +350,8 @@ static const struct {
     {ENTRY(path_parent), "/A", 0, "/"},
     {ENTRY(path_parent), "/", 6, ""},
     {ENTRY(path_parent), "/A.r[/T]", 0, "/A.r"},
+    {ENTRY(path_parent), "/Á/É", 0, "/Á"},
+    {ENTRY(path_parent), "/Á/É\xC3", 2, ""},
     {ENTRY(path_prim_path), "/A{v=p}.b", 0, "/A{v=p}"},
     {ENTRY(path_prim_path), "/A{v=p}{w=q}", 0, "/A{v=p}"},
     {ENTRY(path_prim_path), "/A.r[/T]", 0, "/A"},
@@ -338,6 +361,7 @@ static const struct {
     {ENTRY(path_split_property), "/A/B.r[/T]", 6, ""},
     {ENTRY(path_strip_variant_selections), "/A{v=p}{w=q}B.c", 0, "/A/B.c"},
     {ENTRY(path_strip_variant_selections), "/A{v=p}B.r[/T{w=q}C]", 0, "/A/B.r[/T{w=q}C]"},
+    {ENTRY(path_strip_variant_selections), "/A{é=p}ß.ő", 0, "/A/ß.ő"},
     {ENTRY(path_strip_variant_selections), "/A{v=p", 2, ""},
     {ENTRY(path_embedded_target), "/A.r[/B.s[/C]]", 0, "/B.s[/C]"},
     {ENTRY(path_embedded_target), "/A{v=p}B.r[/T{w=q}C]", 0, "/T{w=q}C"},
@@ -453,6 +477,9 @@ static const struct {
     {ENTRY_AND_CARRIED(map_source_to_target), "/A>/", false, "/A.r[/T]", 8, "", 0, 0},
     {ENTRY_AND_CARRIED(map_source_to_target), "/A.r[/T]>/X", false, "/A", 3, "", 0, 0},
     {ENTRY_AND_CARRIED(map_source_to_target), "/A>/X", false, "/A[/T]", 2, "", 0, 0},
+    {ENTRY_AND_CARRIED(map_source_to_target), "/é>/Jelző /A>/X", false, "/é/ő.ü", 0, "/Jelző/ő.ü", 3, 6},
+    {ENTRY_AND_CARRIED(map_source_to_target), "/é>/Jelző /A>/X", false, "/Aé", 6, "", 0, 0},
+    {ENTRY_AND_CARRIED(map_source_to_target), "/é>/Jelző\xC5", false, "/é", 2, "", 0, 0},
     {ENTRY_AND_CARRIED(map_target_to_source), "/A>/X", false, "/X/y", 0, "/A/y", 2, 2},
     {ENTRY_AND_CARRIED(map_target_to_source), ">/X", false, "/X/y", 0, "/y", 2, 2},
     {ENTRY_AND_CARRIED(map_target_to_source), "/A>/X/Y", false, "/X/Y", 0, "/A", 4, 0},
@@ -629,7 +656,10 @@ static const struct {
     {"/A> /A/B>/B", 7, 8, REFUSED(5)},
     {"/A> /A/B>/B", 8, 7, REFUSED(5)},
     {"/A.b>/X", 99, 99, REFUSED(3)},
+    {"/é>/Á /é/B>/Á/B", 16, 8, {0, "/é>/Á", false, 0, 1}},
+    {"/é>/Á /é/B>/Á/B", 15, 8, REFUSED(5)},
     {"A>/X", 99, 99, REFUSED(2)},
+    {"/A>/X\xC3", 99, 99, REFUSED(2)},
 };
 
 static void test_new(void) {
