@@ -1,11 +1,12 @@
-/* Calls every entry of the library with random and damaged input: random bytes, almost legal paths, places outside their store,
-   counts that exceed their slices, overlapping places, short buffers, the largest numbers, NaN and infinities. All lent slices
-   have exactly the stated length: they end just before an inaccessible page or start just after one, so that accessing one
-   byte too many is a fault; or they are allocated with malloc, so that valgrind checks them. After each call the program
-   checks that the reply is well formed, that a refused call has changed nothing, that an accepted one has changed only its
-   result, that its input and the bytes around the lent slices are unchanged, that a written path is legal, that a rest is the
-   end of the given path and of the written one, that stripping and mapping leave brackets as they are, and that the same call
-   with other buffers and other old contents has the same result.
+/* Calls every entry of the library with random and damaged input: random bytes, almost legal paths, malformed UTF-8, places
+   outside their store, counts that exceed their slices, overlapping places, short buffers, the largest numbers, NaN and
+   infinities. All lent slices have exactly the stated length: they end just before an inaccessible page or start just after
+   one, so that accessing one byte too many is a fault; or they are allocated with malloc, so that valgrind checks them. After
+   each call the program checks that the reply is well formed, that a refused call has changed nothing, that an accepted one
+   has changed only its result, that its input and the bytes around the lent slices are unchanged, that an accepted path is
+   UTF-8 without the characters that no name has, that a written path is legal and such UTF-8, too, that a rest is the end of
+   the given path and of the written one, that stripping and mapping leave brackets as they are, and that the same call with
+   other buffers and other old contents has the same result.
 
        robust [--calls N | --seconds N] [--seed N] [--table] */
 #define _GNU_SOURCE
@@ -140,9 +141,21 @@ static size_t append(char *text, size_t at, const char *more) {
     return at + length;
 }
 
+/* Names, the common ones first. Some have characters of two, three and four bytes, which share their first bytes. */
 static size_t append_name(char *text, size_t at) {
-    const char *const names[] = {"A", "B", "C", "Ab", "_1", "Stop"};
-    return append(text, at, names[below(percent(80) ? 3 : 6)]);
+    const char *const names[] = {"A", "B", "é", "C", "è", "Ab", "Aé", "éA", "_1", "Stop", "Jelző_12", "日本", "旦",
+                                 "e\xCC\x81", "\xF0\x9F\x9A\x8B", "\xF4\x8F\xBF\xBF"};
+    return append(text, at, names[below(percent(80) ? 3 : sizeof names / sizeof *names)]);
+}
+
+/* Sequences that no name has: malformed UTF-8, and characters at both ends of each excluded range. */
+static size_t append_bad_character(char *text, size_t at) {
+    const char *const characters[] = {
+        "\xC3", "\xE6\x97", "\xF0\x9F\x9A", "\xA9", "\xC3\xA9\xA9", "\xC1\xBF", "\xE0\x9F\xBF", "\xF0\x8F\xBF\xBF",
+        "\xED\xA0\x80", "\xED\xBF\xBF", "\xF4\x90\x80\x80", "\xF8\x88\x80\x80\x80", "\xFF", "\xC2\x80", "\xC2\x9F",
+        "\xC2\xA0", "\xE1\x9A\x80", "\xE2\x80\x80", "\xE2\x80\x8A", "\xE2\x80\xA8", "\xE2\x80\xA9", "\xE2\x80\xAF",
+        "\xE2\x81\x9F", "\xE3\x80\x80"};
+    return append(text, at, characters[below(sizeof characters / sizeof *characters)]);
 }
 
 /* Appends a path of this many names, with selections and a property if `rich` is true. */
@@ -152,10 +165,10 @@ static size_t append_path(char *text, size_t at, size_t names, bool rich) {
         if (slash) text[at++] = '/';
         at = append_name(text, at);
         slash = !(rich && percent(15));
-        if (!slash) at = append(text, at, percent(50) ? "{v=p}" : "{w=q}{v=1}");
+        if (!slash) at = append(text, at, percent(50) ? "{v=p}" : percent(50) ? "{w=q}{v=1}" : "{é=p}");
     }
     if (names == 0 && percent(50)) text[at++] = '/';
-    if (names > 0 && rich && percent(20)) at = append(text, at, percent(70) ? ".b" : ".c:d");
+    if (names > 0 && rich && percent(20)) at = append(text, at, percent(70) ? ".b" : percent(50) ? ".c:d" : ".ő:é");
     return at;
 }
 
@@ -175,20 +188,31 @@ static size_t bracketed_text(char *text) {
     return at;
 }
 
-/* A path of one long name, near the limit of 255 bytes. */
+/* A path of one long name, near the limit of 255 bytes, sometimes of characters of two bytes. */
 static size_t long_text(char *text) {
     size_t length = 245 + below(15);
     memset(text, 'A', length);
+    for (size_t at = 1; at + 1 < length && length % 3 == 0;) at = append(text, at, "é");
     text[0] = '/';
     return percent(50) ? length : append(text, length, percent(50) ? ".b" : "/B");
 }
 
 static size_t noise(char *text) {
-    const char letters[] = "/A/B{v=p}.:_1[/]";
+    const char letters[] = "/A/B{v=p}.:_1[/]\xC3\xA9\xE6\x97";
     size_t length = percent(90) ? below(12) : below(MAX_TEXT);
     bool any = percent(30);
     for (size_t i = 0; i < length; i++) text[i] = any ? (char)random_bits() : letters[below(sizeof letters - 1)];
     return length;
+}
+
+/* Inserts a sequence that no name has somewhere in the text. */
+static size_t with_bad_character(char *text, size_t length) {
+    char after[MAX_TEXT + 16];
+    size_t at = below(length + 1), left = length - at;
+    memcpy(after, text + at, left);
+    at = append_bad_character(text, at);
+    memcpy(text + at, after, left);
+    return at + left;
 }
 
 static size_t some_text(char *text) {
@@ -197,6 +221,7 @@ static size_t some_text(char *text) {
     if (kind < 10) return long_text(text);
     size_t length = percent(30) ? bracketed_text(text) : legal_text(text, below(5), true);
     if (kind < 16 && length > 0) text[below(length)] = (char)random_bits();
+    if (kind >= 16 && kind < 20) length = with_bad_character(text, length);
     return length;
 }
 
@@ -395,8 +420,42 @@ static void fault(int signal) {
 
 static size_t slot_at(size_t k) { return ((const size_t *)(const void *)lent[SLOTS].at)[k]; }
 
+/* Returns the length of the character at the start of the text, and its number; 0 if there is no well-formed one. */
+static size_t character_at(const unsigned char *text, size_t length, uint32_t *number) {
+    const uint32_t least[] = {0, 0, 0x80, 0x800, 0x10000};
+    size_t bytes = text[0] < 0x80 ? 1 : text[0] < 0xC0 ? 0 : text[0] < 0xE0 ? 2 : text[0] < 0xF0 ? 3 : text[0] < 0xF8 ? 4 : 0;
+    if (bytes == 0 || bytes > length) return 0;
+    uint32_t found = bytes == 1 ? text[0] : text[0] & (0x7Fu >> bytes);
+    for (size_t i = 1; i < bytes; i++) {
+        if (text[i] >> 6 != 2) return 0;
+        found = found << 6 | (text[i] & 0x3Fu);
+    }
+    *number = found;
+    return found < least[bytes] || found > 0x10FFFF || found >> 11 == 0x1B ? 0 : bytes;
+}
+
+/* Returns whether this is a control or white space outside ASCII. */
+static bool is_excluded(uint32_t number) {
+    const uint32_t ranges[][2] = {{0x80, 0x9F}, {0xA0, 0xA0}, {0x1680, 0x1680}, {0x2000, 0x200A}, {0x2028, 0x2029},
+                                  {0x202F, 0x202F}, {0x205F, 0x205F}, {0x3000, 0x3000}};
+    for (size_t i = 0; i < sizeof ranges / sizeof *ranges; i++)
+        if (number >= ranges[i][0] && number <= ranges[i][1]) return true;
+    return false;
+}
+
+/* Returns whether the text is UTF-8 without the characters that no name has. It uses nothing of the library. */
+static bool is_text(const unsigned char *text, size_t length) {
+    uint32_t number = 0;
+    for (size_t at = 0, bytes; at < length; at += bytes) {
+        bytes = character_at(text + at, length - at, &number);
+        if (bytes == 0 || is_excluded(number)) return false;
+    }
+    return true;
+}
+
 static bool legal_at(size_t from, size_t length) {
-    return mudvizsor_path_new((const char *)lent[OUT].at + from, length) == 0;
+    const unsigned char *text = lent[OUT].at + from;
+    return is_text(text, length) && mudvizsor_path_new((const char *)text, length) == 0;
 }
 
 /* Checks that only the first `bytes` bytes of OUT and `numbers` numbers of SLOTS have changed. */
@@ -473,14 +532,17 @@ static void check_carried(unsigned uses, size_t reply, bool translated) {
     check_path(uses, length);
     check(start + rest == (stripped ? 0 : contents[PATH].length), "a rest that is not the end of the path");
     if (rest > length || start + rest > contents[PATH].length) check(false, "a rest that is too long");
-    else if (rest > 0)
+    else if (rest > 0) {
         check(memcmp(lent[PATH].at + start, lent[OUT].at + length - rest, rest) == 0, "a rest that is not the end of the result");
+        check(lent[PATH].at[start] >> 6 != 2, "a rest that begins within a character");
+    }
 }
 
 static void check_lengths(unsigned uses, size_t value) {
     check(value >= 1 && value <= 128 && value <= numbers_in(SLOTS), "the number of ancestors");
     check(slot_at(0) == contents[PATH].length, "the first ancestor");
     for (size_t k = 1; k < value; k++) check(slot_at(k) < slot_at(k - 1), "an ancestor that is not shorter");
+    for (size_t k = 0; k < value; k++) check(is_text(lent[PATH].at, slot_at(k)), "an ancestor that divides a character");
     check_rest(uses, 0, value);
 }
 
@@ -498,10 +560,16 @@ static void check_map(unsigned uses, size_t reply) {
         size_t length = slot_at(2 * k + 1);
         check(slot_at(2 * k) == at, "a list that is not stored consecutively");
         check(length <= 255 && at + length <= contents[OUT].length, "an end outside its buffer");
+        check(legal_at(at, length), "an illegal end");
         check(mudvizsor_path_is_end((const char *)lent[OUT].at + at, length) == 256, "not an end");
         at += length;
     }
     check_rest(uses, at, 4 * pairs);
+}
+
+/* Returns whether text k of slice i, whose places are in slice j, is UTF-8 without the characters that no name has. */
+static bool is_text_at(size_t i, size_t j, size_t k) {
+    return is_text(contents[i].bytes + number_at(j, 2 * k), number_at(j, 2 * k + 1));
 }
 
 /* Checks the bytes and the reply of each path. */
@@ -513,13 +581,24 @@ static void check_many(unsigned uses) {
         check(mudvizsor_number(reply) <= 8 && mudvizsor_value(reply) <= 255, "a reply");
         check(mudvizsor_number(reply) == 0 || mudvizsor_value(reply) == 0, "a refusal with a value");
         check(legal_at(255 * k, length), "an illegal path of many");
+        check(mudvizsor_number(reply) != 0 || is_text_at(TEXTS, SPOTS, k), "a path of many that is no text was accepted");
         check(unchanged(OUT, 255 * k + length, 255 * k + 255), "a byte after a path of many changed");
     }
     check_rest(uses, 255 * paths, paths);
 }
 
+/* Checks that the given path and the ends of the given lists, which the call accepted, are texts. */
+static void check_accepted(unsigned uses) {
+    if (uses & BIT(PATH)) check(is_text(contents[PATH].bytes, contents[PATH].length), "a path that is no text was accepted");
+    for (size_t k = 0; (uses & A_LIST) && !(uses & BIT(LEGS)) && k < 2 * count; k++)
+        check(is_text_at(STORE, PLACES, k), "an end that is no text was accepted");
+    for (size_t k = 0; (uses & A_SECOND_LIST) && k < 2 * icount; k++)
+        check(is_text_at(ISTORE, IPLACES, k), "an end that is no text was accepted");
+}
+
 static void check_answer(const struct entry *entry, size_t reply) {
     size_t value = mudvizsor_value(reply);
+    check_accepted(entry->uses);
     switch (entry->kind) {
     case A_TEST: check(value <= 1, "neither 0 nor 1"); break;
     case A_COUNT: check(value <= 255, "a count"); break;

@@ -39,8 +39,24 @@ size_t __wrap_mudvizsor_map_source_to_target(
 
 static volatile char seen;
 
+/* Returns whether the text has a byte outside ASCII. */
+static bool has_high_byte(const char *text, size_t length) {
+    for (size_t i = 0; i < length; i++)
+        if ((unsigned char)text[i] >= 0x80) return true;
+    return false;
+}
+
+/* Makes the last character of a written path one byte shorter, if it has several bytes. The byte gets its old value back. */
+static size_t cut(size_t reply, const char *old, char *out) {
+    size_t length = mudvizsor_value(reply);
+    if (length < 2 || (unsigned char)out[length - 1] < 0x80) return reply;
+    out[length - 1] = old[length - 1];
+    return reply - 256;
+}
+
 size_t __wrap_mudvizsor_path_parent(const char *path, size_t path_length, char *out, size_t out_length) {
-    char last = out_length > 0 ? out[out_length - 1] : 0;
+    char last = out_length > 0 ? out[out_length - 1] : 0, old[MUDVIZSOR_PATH_BYTES];
+    if (out_length >= sizeof old) memcpy(old, out, sizeof old);
     size_t reply = __real_mudvizsor_path_parent(path, path_length, out, out_length), length = mudvizsor_value(reply);
     bool answered = mudvizsor_number(reply) == MUDVIZSOR_ANSWER;
     if (path_length == 0 || out_length == 0) return reply;
@@ -53,6 +69,9 @@ size_t __wrap_mudvizsor_path_parent(const char *path, size_t path_length, char *
     if (WRONG == 7 && answered && length > 1 && last < 0) return 256;             /* depends on the old contents */
     if (WRONG == 8 && !answered) return reply + 256;                              /* a refusal with a value */
     if (WRONG == 9) ((char *)path)[0] = 'x';                                      /* writes to its input */
+    if (WRONG == 19 && reply == MUDVIZSOR_ILLEGAL && out_length >= 255 && has_high_byte(path, path_length))
+        return out[0] = '/', 256;                                                 /* accepts malformed UTF-8 */
+    if (WRONG == 20 && answered) return cut(reply, old, out);                     /* divides a character */
     return reply;
 }
 
