@@ -11,6 +11,7 @@ pub fn string(text: &str) -> String {
             '\n' => written.push_str("\\n"),
             '\r' => written.push_str("\\r"),
             '\t' => written.push_str("\\t"),
+            // JSON requires this of the controls below U+0020 only. The others would act on a terminal, too.
             c if c.is_control() => written.push_str(&format!("\\u{:04x}", u32::from(c))),
             c => written.push(c),
         }
@@ -40,6 +41,8 @@ mod tests {
     fn strings_are_escaped() {
         assert_eq!(string(""), "\"\"");
         assert_eq!(string("/A{v=p}.b:c"), "\"/A{v=p}.b:c\"");
+        assert_eq!(string("/Széll_Kálmán_tér{idő=fagy}Jelző_12"), "\"/Széll_Kálmán_tér{idő=fagy}Jelző_12\"");
+        assert_eq!(string("\u{a0}\u{2028}e\u{301}"), "\"\u{a0}\u{2028}e\u{301}\"");
         assert_eq!(string("a\"b\\c\n\r\t"), "\"a\\\"b\\\\c\\n\\r\\t\"");
         assert_eq!(
             string("\u{0}\u{1b}\u{7f}\u{85}é→\u{1f68b}"),

@@ -70,7 +70,7 @@ struct Reader {
 impl Scenario {
     /// Parses the whole text; returns the scenario, or all its problems.
     pub fn read(bytes: &[u8]) -> Result<Self, Vec<Problem>> {
-        let text = str::from_utf8(bytes).map_err(|error| vec![not_utf8(&bytes[..error.valid_up_to()])])?;
+        let text = str::from_utf8(bytes).map_err(|_| not_utf8(bytes))?;
         let mut reader = Reader {
             scenario: Scenario::default(),
             current: Current::None,
@@ -86,14 +86,36 @@ impl Scenario {
     }
 }
 
-fn not_utf8(before: &[u8]) -> Problem {
-    let line = before.iter().filter(|&&byte| byte == b'\n').count() + 1;
-    Problem { line, message: "the text is not UTF-8".to_string() }
+/// The first bad byte of each line that is not UTF-8. No other problems are reported then, since such a line is not parsed.
+fn not_utf8(bytes: &[u8]) -> Vec<Problem> {
+    let problem = |(i, line): (usize, &[u8])| {
+        let bad = str::from_utf8(line).err()?.valid_up_to();
+        let message = format!("the text is not UTF-8 at byte {} of the line ({:#04x})", bad + 1, line[bad]);
+        Some(Problem { line: i + 1, message })
+    };
+    bytes.split(|&byte| byte == b'\n').enumerate().filter_map(problem).collect()
 }
 
-/// The words of a line without its comment.
+/// The words of a line without its comment; none if the line is blank. White space outside ASCII separates no words: in a path
+/// it is an error that must be reported, not two paths.
 fn words(line: &str) -> Vec<&str> {
-    line.split_whitespace().take_while(|word| !word.starts_with('#')).collect()
+    if line.trim().is_empty() {
+        return Vec::new();
+    }
+    line.split_ascii_whitespace().take_while(|word| !word.starts_with('#')).collect()
+}
+
+/// A title, with single spaces in place of all white space.
+fn title(words: &[&str]) -> String {
+    words.iter().flat_map(|word| word.split_whitespace()).collect::<Vec<_>>().join(" ")
+}
+
+/// What a message about words that were not understood adds if they contain white space: it looks as if it separated words.
+fn remark(words: &[&str]) -> String {
+    match words.iter().flat_map(|word| word.chars()).find(|c| c.is_whitespace()) {
+        Some(c) => format!("; the white space `{}` separates no words", c.escape_unicode()),
+        None => String::new(),
+    }
 }
 
 impl Reader {
@@ -107,8 +129,8 @@ impl Reader {
             [] => {}
             ["signals"] => self.begin_signals(),
             ["signals", ..] => self.problem(number, "`signals` must be alone on its line"),
-            ["map", ref title @ ..] => self.begin_leg(number, false, title.join(" ")),
-            ["relocates", ref title @ ..] => self.begin_leg(number, true, title.join(" ")),
+            ["map", ref words @ ..] => self.begin_leg(number, false, title(words)),
+            ["relocates", ref words @ ..] => self.begin_leg(number, true, title(words)),
             _ => self.entry(number, &words),
         }
     }
@@ -132,20 +154,19 @@ impl Reader {
 
     /// Parses a line within a section.
     fn entry(&mut self, number: usize, words: &[&str]) {
-        match (&self.current, words) {
-            (Current::None, _) => {
-                self.problem(number, "no section has begun: `map`, `relocates` or `signals` comes first");
-            }
+        let message = match (&self.current, words) {
             (Current::Signals, &[text]) => {
                 self.scenario.signals.push(Signal { line: number, text: path_text(text).to_string() });
+                return;
             }
-            (Current::Signals, _) => self.problem(number, "a signal is one path, alone on its line"),
-            (Current::Leg(_), &[source, "->", target]) => self.pair(number, source, target),
-            (Current::Leg(_), _) => self.problem(
-                number,
-                "neither a pair, `SOURCE -> TARGET`, nor the beginning of a section, `map`, `relocates` or `signals`",
-            ),
-        }
+            (Current::Leg(_), &[source, "->", target]) => return self.pair(number, source, target),
+            (Current::None, _) => "no section has begun: `map`, `relocates` or `signals` comes first",
+            (Current::Signals, _) => "a signal is one path, alone on its line",
+            (Current::Leg(_), _) => {
+                "neither a pair, `SOURCE -> TARGET`, nor the beginning of a section, `map`, `relocates` or `signals`"
+            }
+        };
+        self.problem(number, format!("{message}{}", remark(words)));
     }
 
     fn pair(&mut self, number: usize, source: &str, target: &str) {

@@ -176,9 +176,10 @@ fn shown_text(text: &str) -> &str {
     if text.is_empty() { "-" } else { text }
 }
 
-/// A text of the scenario with its control characters escaped.
+/// A text of the scenario with its control characters, and its white space other than spaces, escaped. A legal path has none.
 fn plain(text: &str) -> String {
-    let each = |c: char| if c.is_control() { c.escape_default().to_string() } else { c.to_string() };
+    let hidden = |c: char| c.is_control() || (c.is_whitespace() && c != ' ');
+    let each = |c: char| if hidden(c) { c.escape_default().to_string() } else { c.to_string() };
     text.chars().map(each).collect()
 }
 
@@ -283,10 +284,33 @@ mod tests {
         assert_eq!(highlighted("-", ""), "-");
     }
 
+    /// The range of the unaltered end counts bytes, of which some characters have two.
     #[test]
-    fn control_characters_are_escaped() {
-        let text = written(Outcome::BadPath(Refusal::NotLegal), "/A\u{1b}[2J");
-        assert_eq!(text, "\nline 3: /A\\u{1b}[2J\n  no signal: 2, the text is not a legal path\n");
+    fn ends_outside_ascii_are_highlighted() {
+        let signal = Signal { line: 3, text: "/é/Jelző.ő".to_string() };
+        let steps = vec![Path::new("/Ő/Jelző.ő").unwrap()];
+        let outcome = Outcome::Home(Path::new("/é/Jelző.ő").unwrap());
+        let trace = Trace { signal: &signal, steps, unaltered: Some(3..13), target: None, outcome };
+        let plain = "\nline 3: /é/Jelző.ő\n  leg 1   /Ő/Jelző.ő\n  home    /é/Jelző.ő\n";
+        assert_eq!(reported(false, &trace), plain);
+        assert_eq!(reported(true, &trace), plain.replace("/Jelző.ő", "\x1b[1;32m/Jelző.ő\x1b[0m"));
+    }
+
+    /// What cannot be seen is escaped in a signal that is not legal, and other characters are not.
+    #[test]
+    fn hidden_characters_are_escaped() {
+        for (text, shown) in [
+            ("/A\u{1b}[2J", "/A\\u{1b}[2J"),
+            ("/A\u{9b}2J", "/A\\u{9b}2J"),
+            ("/Széll\u{a0}Kálmán", "/Széll\\u{a0}Kálmán"),
+            ("/\u{2028}\u{3000}日本", "/\\u{2028}\\u{3000}日本"),
+            ("/A{idő=hó}", "/A{idő=hó}"),
+        ] {
+            let written = written(Outcome::BadPath(Refusal::NotLegal), text);
+            let expected = format!("\nline 3: {shown}\n  no signal: 2, the text is not a legal path\n");
+            assert_eq!(written, expected);
+        }
+        assert_eq!(plain("a title, Széll Kálmán tér"), "a title, Széll Kálmán tér");
     }
 
     #[test]

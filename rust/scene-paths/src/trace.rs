@@ -246,6 +246,22 @@ mod tests {
         assert_eq!(outcomes[6], (vec![], stopped(1, Refusal::MadeNotLegal)));
     }
 
+    #[test]
+    fn names_outside_ascii() {
+        let outcomes = outcomes(
+            "map\n/Jelző -> /Tér/Jelző_1\nrelocates\n/Tér/Jelző_1 -> /Tér/Jelző_12\n\
+             signals\n/Jelző{idő=fagy}Lámpa.szín\n/Jelzőé\n/Jelzo\u{30b}\n/Jelző\u{a0}\n/Jelző{idő=hó}\n",
+        );
+        let steps = vec!["/Tér/Jelző_1/Lámpa.szín".into(), "/Tér/Jelző_12/Lámpa.szín".into()];
+        assert_eq!(outcomes[0], (steps, Outcome::Home(path("/Jelző/Lámpa.szín"))));
+        for outcome in &outcomes[1..3] {
+            assert_eq!(outcome.1, Outcome::Stopped { leg: 1, refusal: Refusal::NoPath });
+        }
+        for outcome in &outcomes[3..] {
+            assert_eq!(outcome.1, Outcome::BadPath(Refusal::NotLegal));
+        }
+    }
+
     /// The target of each signal, and what becomes of it.
     fn targets(text: &str) -> Vec<Option<Target>> {
         let scenario = Scenario::read(text.as_bytes()).unwrap();

@@ -25,6 +25,26 @@ fn one_does_not() {
     );
 }
 
+/// Names outside ASCII are written as they are, in the text report, with colours and as JSON.
+#[test]
+fn names_outside_ascii() {
+    let text = "map Széll Kálmán tér\n/Jelző -> /Tér/Jelző_12\nsignals\n/Jelző/Lámpa.szín\n/Jelz\u{a0}ő\n";
+    let plain = run(&[], text.as_bytes());
+    let first =
+        "line 4: /Jelző/Lámpa.szín\n  leg 1   /Tér/Jelző_12/Lámpa.szín\n  home    /Jelző/Lámpa.szín\n";
+    let second = "line 5: /Jelz\\u{a0}ő\n  no signal: 2, the text is not a legal path\n";
+    let title = "leg 1, map, line 1, 1 pair: Széll Kálmán tér\n";
+    let end = "2 signals: 1 came home, 1 did not\n";
+    assert_eq!(plain.out, format!("{title}\n{first}\n{second}\n{end}"));
+    let highlighted = run(&["--color=always"], text.as_bytes());
+    assert_eq!(highlighted.out, plain.out.replace("/Lámpa.szín", "\x1b[1;32m/Lámpa.szín\x1b[0m"));
+    let json = run(&["--json"], text.as_bytes());
+    let signal = "\"signal\": \"/Jelző/Lámpa.szín\", \"steps\": [\"/Tér/Jelző_12/Lámpa.szín\"], \
+                  \"unaltered\": {\"start\": 7, \"length\": 13}, \"came_home\": true";
+    assert!(json.out.contains(signal) && json.out.contains("\"/Jelz\u{a0}ő\""), "{}", json.out);
+    assert_eq!([plain.status, highlighted.status, json.status], [1; 3]);
+}
+
 #[test]
 fn problems_have_line_numbers() {
     for (text, expected) in [
@@ -40,6 +60,10 @@ fn problems_have_line_numbers() {
         ),
         ("signals\n/A /B\n", "standard input:2: a signal is one path, alone on its line\n"),
         (
+            "map\n/Széll\u{a0}Kálmán -> /B\nsignals\n/A",
+            "standard input:2: `/Széll\\u{a0}Kálmán`: the text is not a legal path (2)\n",
+        ),
+        (
             "# nothing\n\n",
             "standard input:2: the scenario ends without a signal: `signals`, then a path on each line\n",
         ),
@@ -48,6 +72,18 @@ fn problems_have_line_numbers() {
             let expected = Ran { out: String::new(), errors: expected.to_string(), status: 2 };
             assert_eq!(run(arguments, text.as_bytes()), expected);
         }
+    }
+}
+
+/// Text in another encoding, here Latin-2, is reported by line and byte.
+#[test]
+fn scenarios_that_are_not_utf8() {
+    let text = b"map Sz\xe9ll K\xe1lm\xe1n t\xe9r\n/Mast -> /Jelz\xf5_12\nsignals\n/Mast\n";
+    for arguments in [&[][..], &["--json"], &["--color=always"]] {
+        let errors = "standard input:1: the text is not UTF-8 at byte 7 of the line (0xe9)\n\
+                      standard input:2: the text is not UTF-8 at byte 15 of the line (0xf5)\n";
+        let expected = Ran { out: String::new(), errors: errors.to_string(), status: 2 };
+        assert_eq!(run(arguments, text), expected);
     }
 }
 

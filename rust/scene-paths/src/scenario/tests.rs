@@ -59,6 +59,8 @@ fn ends_that_are_refused() {
         ("/A{v=p}", "or empty (3)"),
         ("/A.r[/T]", "or empty (3)"),
         ("/A[/T]", "not a legal path (2)"),
+        ("/A{v=é}", "not a legal path (2)"),
+        ("/é.ő", "or empty (3)"),
         (&long, "bytes (1)"),
     ];
     for (text, expected) in ends {
@@ -95,8 +97,51 @@ fn a_scenario_without_signals() {
     assert!(problem("map\n/A -> /B\nsignals\n").1.contains("without a signal"));
 }
 
+/// Each line that is not UTF-8 is reported with its first bad byte, and nothing else is.
 #[test]
 fn bytes_that_are_not_text() {
-    let problems = Scenario::read(b"map\n/A -> /B\n\xff").unwrap_err();
-    assert_eq!(problems, [Problem { line: 3, message: "the text is not UTF-8".into() }]);
+    for (bytes, expected) in [
+        (&b"map\n/A -> /B\n\xff"[..], &[(3, 1, "0xff")][..]),
+        (b"map\n/Jelz\xc5\x91 -> /Jelz\xf5\n", &[(2, 17, "0xf5")]),
+        (b"\xef\xbb\xbfmap \xe9\r\nsignals\r\n/\xc3\n", &[(1, 8, "0xe9"), (3, 2, "0xc3")]),
+        (b"bad line\nmap # \xed\xa0\x80 \xff\nbad line\n", &[(2, 7, "0xed")]),
+    ] {
+        let expected: Vec<_> = expected
+            .iter()
+            .map(|(line, byte, value)| {
+                let message = format!("the text is not UTF-8 at byte {byte} of the line ({value})");
+                Problem { line: *line, message }
+            })
+            .collect();
+        assert_eq!(Scenario::read(bytes).unwrap_err(), expected, "{}", bytes.escape_ascii());
+    }
+}
+
+#[test]
+fn names_outside_ascii() {
+    let text =
+        "map Széll\u{a0}Kálmán\u{2003} tér\n/Jelző -> /Tér/Jelző_12\nsignals\n/Jelző{idő=fagy}Lámpa.szín\n";
+    let scenario = Scenario::read(text.as_bytes()).unwrap();
+    assert_eq!(scenario.legs[0].title, "Széll Kálmán tér");
+    assert_eq!(scenario.legs[0].leg, MapFunction::from_pair("/Jelző", "/Tér/Jelző_12").unwrap().into());
+    assert_eq!(scenario.signals[0].text, "/Jelző{idő=fagy}Lámpa.szín");
+}
+
+/// White space outside ASCII belongs to a word, which is then no legal path. Messages show it.
+#[test]
+fn white_space_outside_ascii() {
+    let (line, message) = problem("map\n/Széll\u{a0}Kálmán -> /A\nsignals\n/A");
+    assert_eq!((line, &*message), (2, "`/Széll\\u{a0}Kálmán`: the text is not a legal path (2)"));
+    for (text, expected) in [
+        ("map\n/A\u{3000}-> /B\nsignals\n/A", "`signals`; the white space `\\u{3000}` separates no words"),
+        ("map\n/A -> /B\n\u{a0}signals\n", "`signals`; the white space `\\u{a0}` separates no words"),
+        ("signals\n/A /B\u{2028}\n", "its line; the white space `\\u{2028}` separates no words"),
+        ("\u{85}map\n", "comes first; the white space `\\u{85}` separates no words"),
+    ] {
+        let message = problem(text).1;
+        assert!(message.ends_with(expected), "{message}");
+    }
+    let scenario = Scenario::read("signals\n\u{3000}\u{a0} \n/A\u{a0}/B\n".as_bytes()).unwrap();
+    let texts: Vec<_> = scenario.signals.iter().map(|signal| signal.text.as_str()).collect();
+    assert_eq!(texts, ["/A\u{a0}/B"]);
 }
