@@ -92,13 +92,28 @@ mod tests {
         assert_eq!(&out, b"FF09\n");
     }
 
-    #[test]
-    fn the_scenario_of_line_7() {
-        let input = include_str!("../../../scenarios/line-7.frames");
-        let expected = include_str!("../../../scenarios/line-7.answers");
+    /// Checks that each frame of a recorded scenario gets the recorded answer.
+    fn check_scenario(input: &str, expected: &str) {
         let mut frames = Frames::new();
         let answers: Vec<_> = input.lines().map(|line| frames.answer(line)).collect();
         assert_eq!(answers, expected.lines().collect::<Vec<_>>());
+    }
+
+    #[test]
+    fn the_scenario_of_line_7() {
+        check_scenario(
+            include_str!("../../../scenarios/line-7.frames"),
+            include_str!("../../../scenarios/line-7.answers"),
+        );
+    }
+
+    /// Its names have characters outside ASCII.
+    #[test]
+    fn the_scenario_of_line_61() {
+        check_scenario(
+            include_str!("../../../scenarios/line-61.frames"),
+            include_str!("../../../scenarios/line-61.answers"),
+        );
     }
 
     #[test]
