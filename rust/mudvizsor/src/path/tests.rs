@@ -46,20 +46,45 @@ fn names_outside_ascii() {
     }
 }
 
+/// Returns whether a character outside ASCII is a control or white space, which no name has.
+fn is_excluded(c: char) -> bool {
+    let white_space = ['\u{a0}', '\u{1680}', '\u{2028}', '\u{2029}', '\u{202f}', '\u{205f}', '\u{3000}'];
+    matches!(c, '\u{80}'..='\u{9f}' | '\u{2000}'..='\u{200a}') || white_space.contains(&c)
+}
+
 /// Every character from U+0080 up, at the beginning and in the middle of a name.
 #[test]
 fn every_character_outside_ascii() {
-    let white_space = |c: char| {
-        let others = ['\u{a0}', '\u{1680}', '\u{2028}', '\u{2029}', '\u{202f}', '\u{205f}', '\u{3000}'];
-        ('\u{2000}'..='\u{200a}').contains(&c) || others.contains(&c)
-    };
     for c in '\u{80}'..=char::MAX {
-        let excluded = ('\u{80}'..='\u{9f}').contains(&c) || white_space(c);
         for text in [format!("/{c}"), format!("/A{c}_")] {
-            let expected = if excluded { Err(Refusal::NotLegal) } else { Ok(Path(text.as_str().into())) };
+            let expected =
+                if is_excluded(c) { Err(Refusal::NotLegal) } else { Ok(Path(text.as_str().into())) };
             assert_eq!(Path::new(&text), expected, "U+{:04X}", u32::from(c));
         }
     }
+}
+
+/// Checks the text followed by up to `more` of these bytes: legal exactly if it is UTF-8 without excluded characters.
+fn check_bytes(text: &mut Vec<u8>, bytes: &[u8], more: usize) {
+    for &byte in bytes {
+        text.push(byte);
+        let legal = str::from_utf8(text).is_ok_and(|name| !name.contains(is_excluded));
+        let refusal = Path::try_from(&text[..]).err();
+        assert_eq!(refusal, (!legal).then_some(Refusal::NotLegal), "{}", text.escape_ascii());
+        if more > 1 {
+            check_bytes(text, bytes, more - 1);
+        }
+        text.pop();
+    }
+}
+
+/// All names of up to three bytes outside ASCII, and of four at the ends of the ranges that UTF-8 distinguishes.
+#[test]
+fn all_short_names_outside_ascii() {
+    check_bytes(&mut b"/".to_vec(), &Vec::from_iter(0x80..=0xff), 3);
+    let ends =
+        b"\x80\x8f\x90\x9f\xa0\xbf\xc0\xc1\xc2\xdf\xe0\xe1\xec\xed\xee\xef\xf0\xf1\xf3\xf4\xf5\xf7\xf8\xff";
+    check_bytes(&mut b"/".to_vec(), ends, 4);
 }
 
 /// Truncated and overlong sequences, surrogates, numbers above U+10FFFF, bytes that begin no character, a lone continuation.
