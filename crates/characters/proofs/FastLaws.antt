@@ -1,12 +1,12 @@
 -- The theorem that a text which the first scan accepts is allowed.
 use mathlib.Core.Path.{_≡_, refl, sym, ap, _∙_}
-use mathlib.Core.Bool.{Bool, true, false, not, cond, _&&_, _||_, false≢true}
+use mathlib.Core.Bool.{Bool, true, false, not, cond, _&&_, _||_, true≢false, false≢true}
 use mathlib.Core.List.{[], _∷_}
 use mathlib.Core.Option.{none, some}
 use Prim.Native.Nat.{ℕ, suc, _+_, _*_, _%_, _≤_, _<_}
 use native.Mathlib.Omega.{arith}
-use lib.Dec.{eqb, leb}
-use borrow.Author.Tests.{eqb-true, leb-true, le-leb, lt-leb, ne-eqb}
+use lib.Dec.{eqb, leb, ltb}
+use borrow.Author.Tests.{eqb-true, leb-true, le-leb, lt-leb, ltb-true}
 use Rattle.text.specs.Text.{Text}
 use Rattle.text.specs.Range.{inRange}
 use Rattle.text.proofs.BoolLaws.{and-l, and-r, or-right}
@@ -17,85 +17,83 @@ use Rattle.characters.specs.FastScan.{FastState, Start, Unsure, One, Two
 use Rattle.characters.proofs.ReadingLaws.{allowedFrom, next, allowedAfter, reads-byte, nothing-read, ascii-between}
 use Rattle.characters.proofs.AllowedLaws.{allowed-from}
 
--- Ranges of characters that a name may have.
-below : (c k : ℕ) → c < k → eqb c k ≡ false
-below c k h = ne-eqb c k (λ e. omega (arith, e))
+-- The numbers from low to high are apart from those from x to y.
+abbrev apartFrom : ℕ → ℕ → ℕ → ℕ → Bool
+apartFrom low high x y = ltb y low || ltb high x
 
-above : (c k : ℕ) → k < c → eqb c k ≡ false
-above c k h = ne-eqb c k (λ e. omega (arith, e))
+-- They are apart from all that no name may have.
+abbrev apart : ℕ → ℕ → Bool
+apart low high =
+    leb 0x80 low
+    && (leb high 0x10FFFF
+    && (apartFrom low high 0xD800 0xDFFF
+    && (apartFrom low high 0x80 0x9F
+    && (apartFrom low high 0xA0 0xA0
+    && (apartFrom low high 0x1680 0x1680
+    && (apartFrom low high 0x2000 0x200A
+    && (apartFrom low high 0x2028 0x2029
+    && (apartFrom low high 0x202F 0x202F
+    && (apartFrom low high 0x205F 0x205F
+    && apartFrom low high 0x3000 0x3000)))))))))
 
+module _ (low high c : ℕ) (h : low ≤ c) (k : c ≤ high) where
+  outside : (x y : ℕ) → apartFrom low high x y ≡ true → inRange x y c ≡ false
+  outside x y e = go (ltb y low) (ltb high x) refl refl e
+    where
+      go : (a b : Bool) → ltb y low ≡ a → ltb high x ≡ b → (a || b) ≡ true → inRange x y c ≡ false
+      go true b f g t = within-above x y c (omega (arith, ltb-true y low f))
+      go false true f g t = within-below x y c (omega (arith, ltb-true high x g))
+      go false false f g t = absurd (false≢true t)
+
+  -- A number in a range that the others are apart from.
+  unlike : (x y n : ℕ) → x ≤ n → n ≤ y → apartFrom low high x y ≡ true → eqb c n ≡ false
+  unlike x y n l m e = go (eqb c n) refl
+    where
+      go : (b : Bool) → eqb c n ≡ b → b ≡ false
+      go true f = let z : c ≡ n = eqb-true c n f in absurd (true≢false (sym (within-yes x y n l m) ∙ rw (← z) (outside x y e)))
+      go false f = refl
+
+  name-between : apart low high ≡ true → isNameCharacter c ≡ true
+  unfolding isNameCharacter isScalarValue
+  name-between e0 =
+      let e1 = and-r (leb 0x80 low) _ e0 in
+      let e2 = and-r (leb high 0x10FFFF) _ e1 in
+      let e3 = and-r (apartFrom low high 0xD800 0xDFFF) _ e2 in
+      let e4 = and-r (apartFrom low high 0x80 0x9F) _ e3 in
+      let e5 = and-r (apartFrom low high 0xA0 0xA0) _ e4 in
+      let e6 = and-r (apartFrom low high 0x1680 0x1680) _ e5 in
+      let e7 = and-r (apartFrom low high 0x2000 0x200A) _ e6 in
+      let e8 = and-r (apartFrom low high 0x2028 0x2029) _ e7 in
+      let e9 = and-r (apartFrom low high 0x202F 0x202F) _ e8 in
+      let lines = and-l (apartFrom low high 0x2028 0x2029) _ e7 in
+      rw (
+        le-leb c 0x10FFFF (omega (arith, leb-true high 0x10FFFF (and-l (leb high 0x10FFFF) _ e1))),
+        outside 0xD800 0xDFFF (and-l (apartFrom low high 0xD800 0xDFFF) _ e2),
+        outside 0x80 0x9F (and-l (apartFrom low high 0x80 0x9F) _ e3),
+        le-leb 0x80 c (omega (arith, leb-true 0x80 low (and-l (leb 0x80 low) _ e0))),
+        unlike 0xA0 0xA0 0xA0 (omega arith) (omega arith) (and-l (apartFrom low high 0xA0 0xA0) _ e4),
+        unlike 0x1680 0x1680 0x1680 (omega arith) (omega arith) (and-l (apartFrom low high 0x1680 0x1680) _ e5),
+        outside 0x2000 0x200A (and-l (apartFrom low high 0x2000 0x200A) _ e6),
+        unlike 0x2028 0x2029 0x2028 (omega arith) (omega arith) lines,
+        unlike 0x2028 0x2029 0x2029 (omega arith) (omega arith) lines,
+        unlike 0x202F 0x202F 0x202F (omega arith) (omega arith) (and-l (apartFrom low high 0x202F 0x202F) _ e8),
+        unlike 0x205F 0x205F 0x205F (omega arith) (omega arith) (and-l (apartFrom low high 0x205F 0x205F) _ e9),
+        unlike 0x3000 0x3000 0x3000 (omega arith) (omega arith) (and-r (apartFrom low high 0x205F 0x205F) _ e9),
+      )
+
+-- The four ranges of characters that a name may have and that the automaton knows.
 module _ (c : ℕ) where
   fine-1 : 0xA1 ≤ c → c ≤ 0x167F → isNameCharacter c ≡ true
-  unfolding isNameCharacter isScalarValue
-  fine-1 h k =
-      rw (
-        le-leb c 0x10FFFF (omega arith),
-        within-below 0xD800 0xDFFF c (omega arith),
-        within-above 0x80 0x9F c (omega arith),
-        le-leb 0x80 c (omega arith),
-        above c 0xA0 (omega arith),
-        below c 0x1680 (omega arith),
-        within-below 0x2000 0x200A c (omega arith),
-        below c 0x2028 (omega arith),
-        below c 0x2029 (omega arith),
-        below c 0x202F (omega arith),
-        below c 0x205F (omega arith),
-        below c 0x3000 (omega arith),
-      )
+  fine-1 h k = name-between 0xA1 0x167F c h k refl
 
   fine-2 : 0x1681 ≤ c → c ≤ 0x1FFF → isNameCharacter c ≡ true
-  unfolding isNameCharacter isScalarValue
-  fine-2 h k =
-      rw (
-        le-leb c 0x10FFFF (omega arith),
-        within-below 0xD800 0xDFFF c (omega arith),
-        within-above 0x80 0x9F c (omega arith),
-        le-leb 0x80 c (omega arith),
-        above c 0xA0 (omega arith),
-        above c 0x1680 (omega arith),
-        within-below 0x2000 0x200A c (omega arith),
-        below c 0x2028 (omega arith),
-        below c 0x2029 (omega arith),
-        below c 0x202F (omega arith),
-        below c 0x205F (omega arith),
-        below c 0x3000 (omega arith),
-      )
+  fine-2 h k = name-between 0x1681 0x1FFF c h k refl
 
   fine-3 : 0x3001 ≤ c → c ≤ 0xD7FF → isNameCharacter c ≡ true
-  unfolding isNameCharacter isScalarValue
-  fine-3 h k =
-      rw (
-        le-leb c 0x10FFFF (omega arith),
-        within-below 0xD800 0xDFFF c (omega arith),
-        within-above 0x80 0x9F c (omega arith),
-        le-leb 0x80 c (omega arith),
-        above c 0xA0 (omega arith),
-        above c 0x1680 (omega arith),
-        within-above 0x2000 0x200A c (omega arith),
-        above c 0x2028 (omega arith),
-        above c 0x2029 (omega arith),
-        above c 0x202F (omega arith),
-        above c 0x205F (omega arith),
-        above c 0x3000 (omega arith),
-      )
+  fine-3 h k = name-between 0x3001 0xD7FF c h k refl
 
   fine-4 : 0xE000 ≤ c → c ≤ 0x10FFFF → isNameCharacter c ≡ true
-  unfolding isNameCharacter isScalarValue
-  fine-4 h k =
-      rw (
-        le-leb c 0x10FFFF k,
-        within-above 0xD800 0xDFFF c (omega arith),
-        within-above 0x80 0x9F c (omega arith),
-        le-leb 0x80 c (omega arith),
-        above c 0xA0 (omega arith),
-        above c 0x1680 (omega arith),
-        within-above 0x2000 0x200A c (omega arith),
-        above c 0x2028 (omega arith),
-        above c 0x2029 (omega arith),
-        above c 0x202F (omega arith),
-        above c 0x205F (omega arith),
-        above c 0x3000 (omega arith),
-      )
+  fine-4 h k = name-between 0xE000 0x10FFFF c h k refl
 
 -- Every number from low to high is no less than `least`, and a character that a name may have.
 abbrev Fine : ℕ → ℕ → ℕ → Type 0

@@ -1,24 +1,24 @@
 -- The first scans, which read some bytes as a byte that no path contains: what they accept is legal, or an end, and what they refuse in a text of
--- ASCII is not. Lemmas for the branches of `is_legal_own` and `is_end`.
+-- ASCII is not. Lemmas for the loops of the scans, and for the functions that ask them.
 use mathlib.Core.Path.{_≡_, refl, sym, ap, _∙_}
 use mathlib.Core.Bool.{Bool, true, false, not, cond, _&&_, _||_, true≢false}
 use mathlib.Core.List.{List, [], _∷_, map}
 use mathlib.Core.Logic.{_≢_}
-use Prim.Native.Nat.{ℕ, _+_, _/_, _%_, _^_, _≤_, _<_}
+use Prim.Native.Nat.{ℕ, zero, suc, _+_, _/_, _%_, _^_, _≤_, _<_}
 use native.Mathlib.Omega.{arith}
 use lib.Dec.{eqb, leb, ltb}
 use lib.ListN.{length, getD, length-map, List·getD-map}
-use borrow.Author.Tests.{eqb-true, lt-ltb, le-ltb}
-use Rattle.text.specs.Text.{Text, lacksByte}
+use borrow.Author.Tests.{eqb-true, lt-leb}
+use Rattle.text.specs.Text.{Text, endsWithByte, lacksByte}
 use Rattle.text.proofs.BoolLaws.{and-l, and-r, and-no, and-yes, not-true, not-false, upTo}
 use Rattle.text.proofs.TableLaws.{listed}
 use Rattle.text.proofs.TextLaws.{lacks-first, lacks-rest}
 use Rattle.characters.specs.NameCharacter.{charactersAllowed, isAscii}
 use Rattle.characters.proofs.AllowedLaws.{ascii-allowed}
-use Rattle.path_grammar.specs.Legal.{scanAccepts, legalOwn, isEnd}
+use Rattle.path_grammar.specs.Legal.{scanAccepts, legalOwn, legal, isEnd}
 use Rattle.path_grammar.specs.PackedScan.{packedSteps, asciiByte, endByte, FirstScans}
 use Rattle.path_grammar.proofs.RunLaws.{null-unread}
-use Rattle.path_grammar.proofs.LegalLaws.{own-scan, own-by-scan, scan-lacks-byte, end-own}
+use Rattle.path_grammar.proofs.LegalLaws.{own-by-scan, scan-lacks-byte, scan-no-close-bracket, own-legal, end-own}
 use Rattle.path_grammar.proofs.ScanLaws.{upper-1, lower-1, more-1, upper-2, lower-2, more-2, digits-1, digits-2, Reads, first, on, none, other, root, whole}
 
 -- The byte 0 is no byte of a path, so a text that is accepted as it is read has no byte that is read as 0: it is read as it is, and every byte is
@@ -117,28 +117,64 @@ pub all-end-listed : upTo (listed end-pack 988218432520154550 end-arms) 256 ≡ 
 unfolding end-arms upper-1 lower-1 more-1 upper-2 lower-2 more-2 digits-1 digits-2 packedSteps
 all-end-listed = refl
 
--- A way to read bytes that keeps the byte 0 and the slash, and gives bytes.
+-- A way to read bytes: it keeps the byte 0 and the slash, reads no other byte as a slash, reads bytes outside ASCII as 0, and gives bytes.
 record Keeps (f : ℕ → ℕ) : Type 0 where
   null : f 0 ≡ 0
   slash : f 47 ≡ 47
+  only : (a : ℕ) → f a ≡ 47 → a ≡ 47
+  high : (a : ℕ) → 128 ≤ a → f a ≡ 0
   byte : (a : ℕ) → a < 256 → f a < 256
 
 either-small : (b : Bool) (x y : ℕ) → x < 256 → y < 256 → cond b x y < 256
 either-small true x y h k = h
 either-small false x y h k = k
 
+ascii-only : (a : ℕ) → asciiByte a ≡ 47 → a ≡ 47
+ascii-only a e = go (leb a 0x7F) e
+  where
+    go : (b : Bool) → cond b a 0 ≡ 47 → a ≡ 47
+    go true e = e
+    go false e = absurd (omega arith)
+
+end-only : (a : ℕ) → endByte a ≡ 47 → a ≡ 47
+end-only a e = go (eqb a 46 || eqb a 123) e
+  where
+    go : (b : Bool) → cond b 0 (asciiByte a) ≡ 47 → a ≡ 47
+    go true e = absurd (omega arith)
+    go false e = ascii-only a e
+
+ascii-high : (a : ℕ) → 128 ≤ a → asciiByte a ≡ 0
+ascii-high a h = rw (lt-leb a 0x7F (omega arith))
+
+end-high-zero : (a : ℕ) → 128 ≤ a → endByte a ≡ 0
+end-high-zero a h = go (eqb a 46 || eqb a 123)
+  where
+    go : (b : Bool) → cond b 0 (asciiByte a) ≡ 0
+    go true = refl
+    go false = ascii-high a h
+
 ascii-keeps : Keeps asciiByte
-ascii-keeps = record { null = refl; slash = refl; byte = λ a h. either-small (leb a 0x7F) a 0 h (omega arith) }
+ascii-keeps =
+    record { null = refl; slash = refl; only = ascii-only; high = ascii-high; byte = λ a h. either-small (leb a 0x7F) a 0 h (omega arith) }
 
 end-keeps : Keeps endByte
 end-keeps =
     record {
       null = refl;
       slash = refl;
+      only = end-only;
+      high = end-high-zero;
       byte = λ a h. either-small (eqb a 46 || eqb a 123) 0 (asciiByte a) (omega arith) (either-small (leb a 0x7F) a 0 h (omega arith));
     }
 
--- A scan that reads the text in such a way, and the test l that it decides.
+-- A text does not lack a byte that it has.
+found : (t : Text) (i : ℕ) → i < length t → getD t i 0 ≡ 0 → lacksByte 0 t ≡ true → ⊥
+unfolding lacksByte
+found [] i h e f = absurd (omega arith)
+found (a ∷ t) zero h e f = true≢false (sym f ∙ rw e)
+found (a ∷ t) (suc i) h e f = found t i (omega arith) e (lacks-rest 0 a t f)
+
+-- A scan that reads the text in such a way.
 module _ (f : ℕ → ℕ) (k : Keeps f) (p : Text) where
   read-at : (i : ℕ) → getD (map f p) i 0 ≡ f (getD p i 0)
   read-at i = ap (getD (map f p) i) (sym (k .null)) ∙ List·getD-map f p i 0
@@ -147,82 +183,121 @@ module _ (f : ℕ → ℕ) (k : Keeps f) (p : Text) where
   goes-on s i m h w l e =
       on (map f p) s i m (rw (length-map p f) h) w (rw (read-at i) (k .byte (getD p i 0) l)) (rw (read-at i) e)
 
-  module _ (l : Bool) (yes : scanAccepts (map f p) ≡ true → l ≡ true) where
-    decides-none : length p ≡ 0 → true ≡ l
-    decides-none h = sym (yes (sym (none (map f p) (length-map p f ∙ h))))
+  reads-none : length p ≡ 0 → true ≡ scanAccepts (map f p)
+  reads-none h = none (map f p) (length-map p f ∙ h)
 
-    decides-root : getD p 0 0 ≡ 47 → length p ≡ 1 → true ≡ l
-    decides-root h n = sym (yes (sym (root (map f p) (read-at 0 ∙ ap f h ∙ k .slash) (length-map p f ∙ n))))
+  reads-other : length p ≢ 0 → getD p 0 0 ≢ 47 → false ≡ scanAccepts (map f p)
+  reads-other n h = other (map f p) (λ e. n (sym (length-map p f) ∙ e)) (λ e. h (k .only (getD p 0 0) (sym (read-at 0) ∙ e)))
 
-    module _ (s i : ℕ) (h : getD p 0 0 ≡ 47) (n : length p ≢ 0) (m : length p ≢ 1) (w : Reads (map f p) s i) (e : length p ≤ i) where
-      scanned : ltb (s % 64) 18 ≡ scanAccepts (map f p)
-      scanned =
+  module _ (h : getD p 0 0 ≡ 47) where
+    reads-root : length p ≡ 1 → true ≡ scanAccepts (map f p)
+    reads-root n = root (map f p) (read-at 0 ∙ ap f h ∙ k .slash) (length-map p f ∙ n)
+
+    module _ (n : length p ≢ 0) (m : length p ≢ 1) where
+      reads-whole : (s i : ℕ) → Reads (map f p) s i → length p ≤ i → ltb (s % 64) 18 ≡ scanAccepts (map f p)
+      reads-whole s i w e =
           whole (map f p) s i (read-at 0 ∙ ap f h ∙ k .slash) (λ z. n (sym (length-map p f) ∙ z)) (λ z. m (sym (length-map p f) ∙ z)) w (rw (length-map p f) e)
 
-      decides-yes : s % 64 < 18 → true ≡ l
-      decides-yes t = sym (yes (sym scanned ∙ lt-ltb (s % 64) 18 t))
+      -- A byte outside ASCII is read as 0, which no path contains.
+      reads-high : 128 ≤ getD p 1 0 → false ≡ scanAccepts (map f p)
+      reads-high l = go (scanAccepts (map f p)) refl
+        where
+          zero-read : getD (map f p) 1 0 ≡ 0
+          zero-read = read-at 1 ∙ k .high (getD p 1 0) l
 
-      decides-no : (isAscii p ≡ true → scanAccepts (map f p) ≡ false → l ≡ false) → 18 ≤ s % 64 → (b : Bool) → b ≡ isAscii p → b ≡ true → false ≡ l
-      decides-no refused t b d c = sym (refused (sym d ∙ c) (sym scanned ∙ le-ltb (s % 64) 18 t))
+          inside : 1 < length (map f p)
+          inside = rw (length-map p f) (omega arith)
 
--- Lemmas for `is_legal_own`.
+          go : (b : Bool) → scanAccepts (map f p) ≡ b → false ≡ b
+          go true e = absurd (found (map f p) 1 inside zero-read (scan-lacks-byte null-unread refl (map f p) e))
+          go false e = refl
+
+-- Lemmas for `first_scan` and `first_end_scan`.
 module _ (p : Text) where
-  yes : scanAccepts (map asciiByte p) ≡ true → legalOwn p ≡ true
-  yes = first-accepted p
+  pub first-none : length p ≡ 0 → true ≡ scanAccepts (map asciiByte p)
+  first-none h = reads-none asciiByte ascii-keeps p h
 
-  pub own-none : length p ≡ 0 → true ≡ legalOwn p
-  own-none h = decides-none asciiByte ascii-keeps p (legalOwn p) yes h
+  pub first-other : length p ≢ 0 → getD p 0 0 ≢ 47 → false ≡ scanAccepts (map asciiByte p)
+  first-other n h = reads-other asciiByte ascii-keeps p n h
 
-  pub own-root : getD p 0 0 ≡ 47 → length p ≡ 1 → true ≡ legalOwn p
-  own-root h n = decides-root asciiByte ascii-keeps p (legalOwn p) yes h n
+  pub first-root : getD p 0 0 ≡ 47 → length p ≡ 1 → true ≡ scanAccepts (map asciiByte p)
+  first-root h n = reads-root asciiByte ascii-keeps p h n
 
-  pub own-other : length p ≢ 0 → getD p 0 0 ≢ 47 → false ≡ legalOwn p
-  unfolding legalOwn
-  own-other n h = rw (← other p n h)
+  pub first-high : getD p 0 0 ≡ 47 → length p ≢ 0 → length p ≢ 1 → 128 ≤ getD p 1 0 → false ≡ scanAccepts (map asciiByte p)
+  first-high h n m l = reads-high asciiByte ascii-keeps p h n m l
 
-  pub own-first : Reads (map asciiByte p) 18 1
-  own-first = first (map asciiByte p)
+  pub first-starts : Reads (map asciiByte p) 18 1
+  first-starts = first (map asciiByte p)
 
-  pub own-on : (s i m : ℕ) → i < length p → Reads (map asciiByte p) s i → getD p i 0 < 256 → m ≡ packedSteps (asciiByte (getD p i 0)) / 2 ^ (s % 64) → Reads (map asciiByte p) m (i + 1)
-  own-on s i m h w l e = goes-on asciiByte ascii-keeps p s i m h w l e
+  pub first-on : (s i m : ℕ) → i < length p → Reads (map asciiByte p) s i → getD p i 0 < 256 → m ≡ packedSteps (asciiByte (getD p i 0)) / 2 ^ (s % 64) → Reads (map asciiByte p) m (i + 1)
+  first-on s i m h w l e = goes-on asciiByte ascii-keeps p s i m h w l e
 
-  module _ (s i : ℕ) (h : getD p 0 0 ≡ 47) (n : length p ≢ 0) (m : length p ≢ 1) (w : Reads (map asciiByte p) s i) (e : length p ≤ i) where
-    pub own-yes : s % 64 < 18 → true ≡ legalOwn p
-    own-yes t = decides-yes asciiByte ascii-keeps p (legalOwn p) yes s i h n m w e t
+  pub first-whole : (s i : ℕ) → getD p 0 0 ≡ 47 → length p ≢ 0 → length p ≢ 1 → Reads (map asciiByte p) s i → length p ≤ i → ltb (s % 64) 18 ≡ scanAccepts (map asciiByte p)
+  first-whole s i h n m w e = reads-whole asciiByte ascii-keeps p h n m s i w e
 
-    pub own-no : 18 ≤ s % 64 → (b : Bool) → b ≡ isAscii p → b ≡ true → false ≡ legalOwn p
-    own-no t b d c = decides-no asciiByte ascii-keeps p (legalOwn p) yes s i h n m w e (first-refused p) t b d c
+  pub end-none : length p ≡ 0 → true ≡ scanAccepts (map endByte p)
+  end-none h = reads-none endByte end-keeps p h
 
-pub ruleset owning = (own-none, own-root, own-other, own-first, own-yes, own-no)
+  pub end-other : length p ≢ 0 → getD p 0 0 ≢ 47 → false ≡ scanAccepts (map endByte p)
+  end-other n h = reads-other endByte end-keeps p n h
 
--- Lemmas for `is_end`.
-module _ (p : Text) where
-  is : scanAccepts (map endByte p) ≡ true → isEnd p ≡ true
-  is = end-accepted p
+  pub end-root : getD p 0 0 ≡ 47 → length p ≡ 1 → true ≡ scanAccepts (map endByte p)
+  end-root h n = reads-root endByte end-keeps p h n
 
-  pub end-none : length p ≡ 0 → true ≡ isEnd p
-  end-none h = decides-none endByte end-keeps p (isEnd p) is h
+  pub end-high : getD p 0 0 ≡ 47 → length p ≢ 0 → length p ≢ 1 → 128 ≤ getD p 1 0 → false ≡ scanAccepts (map endByte p)
+  end-high h n m l = reads-high endByte end-keeps p h n m l
 
-  pub end-root : getD p 0 0 ≡ 47 → length p ≡ 1 → true ≡ isEnd p
-  end-root h n = decides-root endByte end-keeps p (isEnd p) is h n
-
-  pub end-other : length p ≢ 0 → getD p 0 0 ≢ 47 → false ≡ isEnd p
-  end-other n h = rw (end-own p, ← own-other p n h)
-
-  pub end-first : Reads (map endByte p) 18 1
-  end-first = first (map endByte p)
+  pub end-starts : Reads (map endByte p) 18 1
+  end-starts = first (map endByte p)
 
   pub end-on : (s i m : ℕ) → i < length p → Reads (map endByte p) s i → getD p i 0 < 256 → m ≡ packedSteps (endByte (getD p i 0)) / 2 ^ (s % 64) → Reads (map endByte p) m (i + 1)
   end-on s i m h w l e = goes-on endByte end-keeps p s i m h w l e
 
-  module _ (s i : ℕ) (h : getD p 0 0 ≡ 47) (n : length p ≢ 0) (m : length p ≢ 1) (w : Reads (map endByte p) s i) (e : length p ≤ i) where
-    pub end-yes : s % 64 < 18 → true ≡ isEnd p
-    end-yes t = decides-yes endByte end-keeps p (isEnd p) is s i h n m w e t
+  pub end-whole : (s i : ℕ) → getD p 0 0 ≡ 47 → length p ≢ 0 → length p ≢ 1 → Reads (map endByte p) s i → length p ≤ i → ltb (s % 64) 18 ≡ scanAccepts (map endByte p)
+  end-whole s i h n m w e = reads-whole endByte end-keeps p h n m s i w e
 
-    pub end-no : 18 ≤ s % 64 → (b : Bool) → b ≡ isAscii p → b ≡ true → false ≡ isEnd p
-    end-no t b d c = decides-no endByte end-keeps p (isEnd p) is s i h n m w e (end-refused p) t b d c
+pub ruleset scanning = (first-none, first-other, first-root, first-high, first-starts, first-whole)
 
-pub ruleset ending = (end-none, end-root, end-other, end-first, end-yes, end-no)
+pub ruleset end-scanning = (end-none, end-other, end-root, end-high, end-starts, end-whole)
+
+ends-closed : (s : Text) → endsWithByte 93 s ≡ true → endsWithByte 93 (map asciiByte s) ≡ true
+unfolding endsWithByte
+ends-closed [] h = h
+ends-closed (a ∷ []) h = rw (eqb-true a 93 h)
+ends-closed (a ∷ c ∷ s) h = ends-closed (c ∷ s) h
+
+-- Lemmas for the functions that ask a first scan.
+module _ (p : Text) (b : Bool) where
+  pub own-accepted : b ≡ scanAccepts (map asciiByte p) → b ≡ true → true ≡ legalOwn p
+  own-accepted e t = sym (first-accepted p (sym e ∙ t))
+
+  pub own-refused : b ≡ scanAccepts (map asciiByte p) → b ≡ false → scanAccepts (map asciiByte p) ≡ false
+  own-refused e t = sym e ∙ t
+
+  pub ascii-refused : scanAccepts (map asciiByte p) ≡ false → b ≡ isAscii p → b ≡ true → false ≡ legalOwn p
+  ascii-refused e d c = sym (first-refused p (sym d ∙ c) e)
+
+  pub is-end-accepted : b ≡ scanAccepts (map endByte p) → b ≡ true → true ≡ isEnd p
+  is-end-accepted e t = sym (end-accepted p (sym e ∙ t))
+
+  pub is-end-refused : b ≡ scanAccepts (map endByte p) → b ≡ false → scanAccepts (map endByte p) ≡ false
+  is-end-refused e t = sym e ∙ t
+
+  pub ascii-no-end : scanAccepts (map endByte p) ≡ false → b ≡ isAscii p → b ≡ true → false ≡ isEnd p
+  ascii-no-end e d c = sym (end-refused p (sym d ∙ c) e)
+
+  pub legal-accepted : b ≡ scanAccepts (map asciiByte p) → b ≡ true → true ≡ legal p
+  legal-accepted e t = sym (own-legal p (first-accepted p (sym e ∙ t)))
+
+  -- A text that ends in a closing bracket is refused.
+  pub closed-refused : b ≡ endsWithByte 93 p → b ≡ true → scanAccepts (map asciiByte p) ≡ false
+  closed-refused e t = go (scanAccepts (map asciiByte p)) refl
+    where
+      go : (c : Bool) → scanAccepts (map asciiByte p) ≡ c → c ≡ false
+      go true f = absurd (true≢false (sym (ends-closed p (sym e ∙ t)) ∙ scan-no-close-bracket (map asciiByte p) f))
+      go false f = refl
+
+pub ruleset asking = (own-accepted, own-refused, ascii-refused, is-end-accepted, is-end-refused, ascii-no-end, legal-accepted, closed-refused)
 
 -- Lemmas for `is_legal_wide` and `is_end_wide`.
 module _ (p : Text) (b : Bool) where

@@ -4,7 +4,8 @@
 // first scan accepts texts of ASCII; the wide scan, with a table of its own, takes bytes of characters
 // outside ASCII for bytes of names, and these characters are then checked.
 ghost use mathlib.Core.Path.{_≡_};
-ghost use mathlib.Core.Bool.{_&&_, not};
+ghost use mathlib.Core.Bool.{_&&_, not, false};
+ghost use mathlib.Core.List.{map};
 ghost use Prim.Native.Nat.{_/_, _%_, _^_};
 ghost use lib.Dec.{leb};
 ghost use Rattle.path_grammar.specs.Legal.{isNameStartByte, isNameByte, isRoot, scanAccepts, legalOwn, legalWithin, legal, isEnd};
@@ -121,10 +122,10 @@ fn is_legal_wide(p: &[u8]) -> bool
     characters::characters_allowed(p)
 }
 
-// Returns whether the text is a legal path without brackets. The first scan accepts most texts. It is left
-// out for a text whose first name begins outside ASCII, which it cannot accept.
-fn is_legal_own(p: &[u8]) -> bool
-    ensures { λ r. ⌜ r ≡ legalOwn (now (p .entry)) ⌝ }
+// Returns whether the first scan accepts the text. A text whose first name begins outside ASCII is refused
+// at once. This function passes its text to no other, so that it takes the text in registers.
+fn first_scan(p: &[u8]) -> bool
+    ensures { λ r. ⌜ r ≡ scanAccepts (map asciiByte (now (p .entry))) ⌝ }
 {
     if p.len() == 0 {
         return true;
@@ -134,7 +135,7 @@ fn is_legal_own(p: &[u8]) -> bool
             return true;
         }
         if 128 <= p[1] {
-            return is_legal_wide(p);
+            return false;
         }
         let mut s = 18;
         let mut i = 1;
@@ -142,15 +143,30 @@ fn is_legal_own(p: &[u8]) -> bool
             s = next(s, p[i]);
             i += 1;
         }
-        if s % 64 < 18 {
-            return true;
-        }
-        if characters::is_ascii(p) {
-            return false;
-        }
-        return is_legal_wide(p);
+        return s % 64 < 18;
     }
     false
+}
+
+// Returns whether the text, which the first scan refuses, is a legal path without brackets.
+fn is_legal_refused(p: &[u8]) -> bool
+    requires { ⌜ scanAccepts (map asciiByte (now p)) ≡ false ⌝ }
+    ensures { λ r. ⌜ r ≡ legalOwn (now (p .entry)) ⌝ }
+{
+    if characters::is_ascii(p) {
+        return false;
+    }
+    is_legal_wide(p)
+}
+
+// Returns whether the text is a legal path without brackets. The first scan accepts most texts.
+fn is_legal_own(p: &[u8]) -> bool
+    ensures { λ r. ⌜ r ≡ legalOwn (now (p .entry)) ⌝ }
+{
+    if first_scan(p) {
+        return true;
+    }
+    is_legal_refused(p)
 }
 
 // Returns whether the text is a legal path without brackets that has a property, which a target may
@@ -197,8 +213,19 @@ fn is_legal_within(p: &[u8], depth: usize) -> bool
     is_legal_within(inner, depth - 1)
 }
 
-// Returns whether the text is a legal path, regardless of its length. A text that does not end in `]` has no
-// brackets and is scanned once.
+// Returns whether the text, which the first scan refuses, is a legal path.
+fn is_legal_slow(p: &[u8]) -> bool
+    requires { ⌜ scanAccepts (map asciiByte (now p)) ≡ false ⌝ }
+    ensures { λ r. ⌜ r ≡ legal (now (p .entry)) ⌝ }
+{
+    if text::last_is(p, b']') {
+        return is_legal_within(p, 4);
+    }
+    is_legal_refused(p)
+}
+
+// Returns whether the text is a legal path, regardless of its length. A text of ASCII that does not end in
+// `]` has no brackets and is scanned once.
 pub fn is_legal(p: &[u8]) -> bool
     ensures { λ r. ⌜ r ≡ legal (now (p .entry)) ⌝ }
 {
@@ -206,9 +233,12 @@ pub fn is_legal(p: &[u8]) -> bool
         return true;
     }
     if text::last_is(p, b']') {
-        return is_legal_within(p, 4);
+        return is_legal_slow(p);
     }
-    is_legal_own(p)
+    if first_scan(p) {
+        return true;
+    }
+    is_legal_slow(p)
 }
 
 // Like `row`, but treats `.` and `{` as bytes that no path contains.
@@ -252,10 +282,9 @@ fn is_end_wide(p: &[u8]) -> bool
     text::lacks_byte(p, b'.')
 }
 
-// Returns whether the text is a prim path, `/` or empty, regardless of its length. Uses one scan for most
-// texts, as `is_legal_own` does.
-pub fn is_end(p: &[u8]) -> bool
-    ensures { λ r. ⌜ r ≡ isEnd (now (p .entry)) ⌝ }
+// Like `first_scan`, with `end_row`.
+fn first_end_scan(p: &[u8]) -> bool
+    ensures { λ r. ⌜ r ≡ scanAccepts (map endByte (now (p .entry))) ⌝ }
 {
     if p.len() == 0 {
         return true;
@@ -265,7 +294,7 @@ pub fn is_end(p: &[u8]) -> bool
             return true;
         }
         if 128 <= p[1] {
-            return is_end_wide(p);
+            return false;
         }
         let mut state = 18;
         let mut i = 1;
@@ -273,15 +302,31 @@ pub fn is_end(p: &[u8]) -> bool
             state = next_in_end(state, p[i]);
             i += 1;
         }
-        if state % 64 < 18 {
-            return true;
-        }
-        if characters::is_ascii(p) {
-            return false;
-        }
-        return is_end_wide(p);
+        return state % 64 < 18;
     }
     false
+}
+
+// Returns whether the text, which the first scan for ends refuses, is an end.
+fn is_end_refused(p: &[u8]) -> bool
+    requires { ⌜ scanAccepts (map endByte (now p)) ≡ false ⌝ }
+    ensures { λ r. ⌜ r ≡ isEnd (now (p .entry)) ⌝ }
+{
+    if characters::is_ascii(p) {
+        return false;
+    }
+    is_end_wide(p)
+}
+
+// Returns whether the text is a prim path, `/` or empty, regardless of its length. Uses one scan for most
+// texts, as `is_legal` does.
+pub fn is_end(p: &[u8]) -> bool
+    ensures { λ r. ⌜ r ≡ isEnd (now (p .entry)) ⌝ }
+{
+    if first_end_scan(p) {
+        return true;
+    }
+    is_end_refused(p)
 }
 
 // Returns whether the text is `/`.
