@@ -1,4 +1,4 @@
--- Lemmas for the branches of `character_len`, and for the loops of `characters_allowed` and `is_ascii`.
+-- Lemmas for the branches of `character_len`, and for the loop of `decodes_allowed`.
 use mathlib.Core.Path.{_≡_, refl, sym, ap, _∙_}
 use mathlib.Core.Logic.{_≢_}
 use mathlib.Core.Bool.{Bool, true, false, not, cond, _&&_, true≢false}
@@ -13,10 +13,10 @@ use lib.Seq.{drop-cons, drop-drop}
 use borrow.Author.Tests.{leb-true, leb-false, le-leb, lt-leb, ne-eqb}
 use Rattle.text.specs.Text.{Text}
 use Rattle.text.specs.Range.{inRange}
-use Rattle.text.proofs.BoolLaws.{and-l, and-r, and-assoc, and-yes}
+use Rattle.text.proofs.BoolLaws.{and-l, and-r}
 use Rattle.text.proofs.RangeLaws.{within-yes, within-below, within-above, within-low, within-high}
 use Rattle.characters.specs.Utf8.{Reading, Between, Inside, isContinuation, withBits}
-use Rattle.characters.specs.NameCharacter.{charactersAllowed, isAscii}
+use Rattle.characters.specs.NameCharacter.{charactersAllowed}
 use Rattle.characters.specs.CharacterLen.{lengthByFirst, characterLen}
 use Rattle.characters.proofs.ReadingLaws.{allowedFrom, next, allowedAfter, reads-byte, cut-off, nothing-read}
 use Rattle.characters.proofs.AllowedLaws.{allowed-none, allowed-ascii}
@@ -185,7 +185,7 @@ module _ (p : Text) (i : ℕ) (h : i < length p) where
 
 pub ruleset lengths = (len-one, len-stray, len-over, len-two-short, len-two, len-two-not, len-three-short, len-three, len-three-not, len-four-short, len-four, len-four-not)
 
--- Lemmas for `characters_allowed`. The text from index i on is allowed exactly if the whole text is.
+-- Lemmas for `decodes_allowed`. The text from index i on is allowed exactly if the whole text is.
 allowed-cons : (p : Text) (i : ℕ) → i < length p
     → charactersAllowed (drop i p) ≡ (not (eqb (characterLen (drop i p)) 0) && charactersAllowed (drop (characterLen (drop i p)) (drop i p)))
 allowed-cons p i h = rw (drop-cons p i 0 h) (allowed-by-character (getD p i 0) (drop (suc i) p))
@@ -243,12 +243,3 @@ module _ (p : Text) (i n : ℕ) (h : i < length p) (e : n ≡ characterLen (drop
 
 pub allowed-end : (p : Text) (i : ℕ) → length p ≤ i → charactersAllowed (drop i p) ≡ charactersAllowed p → true ≡ charactersAllowed p
 allowed-end p i l w = sym allowed-none ∙ ap charactersAllowed (sym (drop-of-length-le p l)) ∙ w
-
--- Lemmas for `is_ascii`.
-pub ascii-on : (s : Text) (i : ℕ) (ascii : Bool) → i < length s → isAscii s ≡ (ascii && isAscii (drop i s)) → isAscii s ≡ (ascii && leb (getD s i 0) 127 && isAscii (drop (i + 1) s))
-unfolding isAscii
-ascii-on s i ascii h w = rw (add-one i, and-assoc ascii (leb (getD s i 0) 127) (isAscii (drop (suc i) s))) (rw (drop-cons s i 0 h) at w)
-
-pub ascii-end : (s : Text) (i : ℕ) (ascii : Bool) → length s ≤ i → isAscii s ≡ (ascii && isAscii (drop i s)) → ascii ≡ isAscii s
-unfolding isAscii
-ascii-end s i ascii l w = sym (and-yes ascii) ∙ sym (rw (drop-of-length-le s l) at w)

@@ -161,7 +161,7 @@ module _ (a : ℕ) where
   first-byte : Follows Between a (fastStep Start a)
   unfolding fastStep next
   first-byte =
-      choose Between a (leb a 0x7F) Start _ (λ h. goes Between (ascii-between a h) start)
+      choose Between a (leb a 0x7E) Start _ (λ h. goes Between (ascii-between a (le-leb a 0x7F (omega (arith, leb-true a 0x7E h)))) start)
       (choose Between a (eqb a 0xC2) AfterC2 _ (λ h. rw (eqb-true a 0xC2 h) (goes (Inside 0 0x80 2) refl c2))
       (choose Between a (inRange 0xC3 0xDF a) One _ (λ h. latin (within-low 0xC3 0xDF a h) (within-high 0xC3 0xDF a h))
       (choose Between a (eqb a 0xE0) AfterE0 _ (λ h. rw (eqb-true a 0xE0 h) (goes (Inside 1 0x800 0) refl e0))

@@ -76,7 +76,7 @@ unfoldable pub arm-12 : List ℕ
 arm-12 = 192 ∷ 226 ∷ 246 ∷ 248 ∷ 250 ∷ 252 ∷ 254 ∷ []
 
 unfoldable pub arm-13 : List ℕ
-arm-13 = 193 ∷ 245 ∷ 247 ∷ 249 ∷ 251 ∷ 253 ∷ 255 ∷ []
+arm-13 = 127 ∷ 193 ∷ 245 ∷ 247 ∷ 249 ∷ 251 ∷ 253 ∷ 255 ∷ []
 
 unfoldable pub arm-14 : List ℕ
 arm-14 = 194 ∷ []

@@ -1,6 +1,6 @@
 -- Method: A first scan of the characters of a text: a table-driven automaton that does not decode. It accepts most allowed texts and no other text;
 -- what it does not accept is decoded. It is unsure of the characters that begin with the byte 0xE2 and of a few others, among which the white
--- space of three bytes is.
+-- space of three bytes is. It is unsure of the byte 0x7F, which no path contains, so that the last byte of the table is not the default.
 use Prim.Native.Nat.{ℕ, _+_, _*_, _^_}
 use mathlib.Core.Path.{_≡_}
 use mathlib.Core.Bool.{Bool, true, false, cond, _||_}
@@ -31,7 +31,7 @@ pub data FastState : Type 0 where
 -- The next state after the byte a.
 unfoldable pub fastStep : FastState → ℕ → FastState
 fastStep Start a =
-    cond (leb a 0x7F) Start
+    cond (leb a 0x7E) Start
     (cond (eqb a 0xC2) AfterC2
     (cond (inRange 0xC3 0xDF a) One
     (cond (eqb a 0xE0) AfterE0

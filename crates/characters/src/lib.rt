@@ -9,7 +9,7 @@ ghost use lib.Dec.{leb};
 ghost use lib.ListN.{length, getD, drop};
 ghost use Rattle.text.specs.Range.{inRange};
 ghost use Rattle.characters.specs.Utf8.{isContinuation, withBits};
-ghost use Rattle.characters.specs.NameCharacter.{isWhiteSpace, isNameCharacter, charactersAllowed, isAscii};
+ghost use Rattle.characters.specs.NameCharacter.{isWhiteSpace, isNameCharacter, charactersAllowed};
 ghost use Rattle.characters.specs.CharacterLen.{characterLen};
 ghost use Rattle.characters.specs.FastScan.{fastAccepts, packedFastSteps};
 
@@ -166,7 +166,7 @@ fn fast_row(a: u8) -> u64
         161 | 163 | 165 | 167 | 169 | 171 | 173 | 175 | 177 | 179 => 1080891130934182278,
         181 | 183 | 185 | 187 | 189 | 191 => 1080891130934182278,
         192 | 226 | 246 | 248 | 250 | 252 | 254 => 7027331075698876806,
-        193 | 245 | 247 | 249 | 251 | 253 | 255 => 7027331075698876806,
+        127 | 193 | 245 | 247 | 249 | 251 | 253 | 255 => 7027331075698876806,
         194 => 7027331075698876848,
         196 | 198 | 200 | 202 | 204 | 206 | 208 | 210 | 212 | 214 => 7027331075698876860,
         216 | 218 | 220 | 222 => 7027331075698876860,
@@ -230,18 +230,4 @@ pub fn characters_allowed(text: &[u8]) -> bool
         return true;
     }
     decodes_allowed(text)
-}
-
-// Returns whether every byte of the text is below 128. The loop has no early exit, so that it compiles to
-// tests of many bytes at once.
-pub fn is_ascii(text: &[u8]) -> bool
-    ensures { λ r. ⌜ r ≡ isAscii (now (text .entry)) ⌝ }
-{
-    let mut ascii = true;
-    let mut i = 0;
-    while i < text.len() {
-        ascii = ascii & (text[i] <= 127);
-        i += 1;
-    }
-    ascii
 }

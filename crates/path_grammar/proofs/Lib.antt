@@ -9,5 +9,6 @@ mod Parse
 pub mod Theorem
 mod ScanLaws
 mod ByteLaws
-mod FirstScanLaws
+mod EndLaws
+mod CodeLaws
 mod InnerLaws

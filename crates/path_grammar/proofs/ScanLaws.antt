@@ -14,7 +14,7 @@ use Rattle.text.specs.Text.{Text}
 use Rattle.text.proofs.BoolLaws.{upTo, at-each}
 use Rattle.text.proofs.TableLaws.{listed}
 use Rattle.path_grammar.specs.Legal.{ScanState, Name, Closed, Prop, Slash, Opened, Set, Equals, Sel, Dot, Dead, step, accept, run, scanAccepts}
-use Rattle.path_grammar.specs.PackedScan.{stateCode, packedSteps, asciiByte}
+use Rattle.path_grammar.specs.PackedScan.{stateCode, packedSteps, endByte}
 
 -- The packed number of byte a holds the next state of state s at the bit offset of s.
 unfoldable pub holds : ScanState → ℕ → Bool
@@ -39,32 +39,31 @@ pub rule : (s : ScanState) (a : ℕ) → a < 256 → packedSteps a / 2 ^ stateCo
 unfolding holds
 rule s a h = eqb-true (packedSteps a / 2 ^ stateCode s % 64) (stateCode (step s a)) (at-each (holds s) 256 a (all-hold s) h)
 
--- The values of the arms of the match, in their order.
-unfoldable pub upper-1 : List ℕ
-upper-1 = 65 ∷ 67 ∷ 69 ∷ 71 ∷ 73 ∷ 75 ∷ 77 ∷ 79 ∷ 81 ∷ 83 ∷ 85 ∷ 87 ∷ 89 ∷ 95 ∷ []
-
-unfoldable pub lower-1 : List ℕ
-lower-1 = 97 ∷ 99 ∷ 101 ∷ 103 ∷ 105 ∷ 107 ∷ 109 ∷ []
-
-unfoldable pub more-1 : List ℕ
-more-1 = 111 ∷ 113 ∷ 115 ∷ 117 ∷ 119 ∷ 121 ∷ []
-
-unfoldable pub upper-2 : List ℕ
-upper-2 = 66 ∷ 68 ∷ 70 ∷ 72 ∷ 74 ∷ 76 ∷ 78 ∷ 80 ∷ 82 ∷ 84 ∷ 86 ∷ 88 ∷ 90 ∷ []
-
-unfoldable pub lower-2 : List ℕ
-lower-2 = 98 ∷ 100 ∷ 102 ∷ 104 ∷ 106 ∷ 108 ∷ 110 ∷ []
-
-unfoldable pub more-2 : List ℕ
-more-2 = 112 ∷ 114 ∷ 116 ∷ 118 ∷ 120 ∷ 122 ∷ []
-
+-- The values of the arms of the two tables.
 unfoldable pub digits-1 : List ℕ
 digits-1 = 48 ∷ 50 ∷ 52 ∷ 54 ∷ 56 ∷ []
 
 unfoldable pub digits-2 : List ℕ
 digits-2 = 49 ∷ 51 ∷ 53 ∷ 55 ∷ 57 ∷ []
 
--- The arms of the wide table that the first table lacks: the bytes of characters outside ASCII.
+unfoldable pub dead-1 : List ℕ
+dead-1 = 0 ∷ 2 ∷ 4 ∷ 6 ∷ 8 ∷ 10 ∷ 12 ∷ 14 ∷ 16 ∷ 18 ∷ 20 ∷ []
+
+unfoldable pub dead-2 : List ℕ
+dead-2 = 22 ∷ 24 ∷ 26 ∷ 28 ∷ 30 ∷ 32 ∷ 34 ∷ 36 ∷ 38 ∷ 40 ∷ 42 ∷ []
+
+unfoldable pub dead-3 : List ℕ
+dead-3 = 44 ∷ 60 ∷ 62 ∷ 64 ∷ 92 ∷ 94 ∷ 96 ∷ 124 ∷ 126 ∷ []
+
+unfoldable pub dead-4 : List ℕ
+dead-4 = 1 ∷ 3 ∷ 5 ∷ 7 ∷ 9 ∷ 11 ∷ 13 ∷ 15 ∷ 17 ∷ 19 ∷ 21 ∷ []
+
+unfoldable pub dead-5 : List ℕ
+dead-5 = 23 ∷ 25 ∷ 27 ∷ 29 ∷ 31 ∷ 33 ∷ 35 ∷ 37 ∷ 39 ∷ 41 ∷ 43 ∷ []
+
+unfoldable pub dead-6 : List ℕ
+dead-6 = 45 ∷ 59 ∷ 63 ∷ 91 ∷ 93 ∷ 127 ∷ []
+
 unfoldable pub high-1 : List ℕ
 high-1 = 128 ∷ 130 ∷ 132 ∷ 134 ∷ 136 ∷ 138 ∷ 140 ∷ 142 ∷ 144 ∷ 146 ∷ 148 ∷ []
 
@@ -101,24 +100,67 @@ high-11 = 217 ∷ 219 ∷ 221 ∷ 223 ∷ 225 ∷ 227 ∷ 229 ∷ 231 ∷ 233 �
 unfoldable pub high-12 : List ℕ
 high-12 = 239 ∷ 241 ∷ 243 ∷ 245 ∷ 247 ∷ 249 ∷ 251 ∷ 253 ∷ 255 ∷ []
 
+unfoldable pub end-high-1 : List ℕ
+end-high-1 = 128 ∷ 130 ∷ 132 ∷ 134 ∷ 136 ∷ 138 ∷ 140 ∷ 142 ∷ 144 ∷ 146 ∷ []
+
+unfoldable pub end-high-2 : List ℕ
+end-high-2 = 148 ∷ 150 ∷ 152 ∷ 154 ∷ 156 ∷ 158 ∷ 160 ∷ 162 ∷ 164 ∷ 166 ∷ []
+
+unfoldable pub end-high-3 : List ℕ
+end-high-3 = 168 ∷ 170 ∷ 172 ∷ 174 ∷ 176 ∷ 178 ∷ 180 ∷ 182 ∷ 184 ∷ 186 ∷ []
+
+unfoldable pub end-high-4 : List ℕ
+end-high-4 = 188 ∷ 190 ∷ 192 ∷ 194 ∷ 196 ∷ 198 ∷ 200 ∷ 202 ∷ 204 ∷ 206 ∷ []
+
+unfoldable pub end-high-5 : List ℕ
+end-high-5 = 208 ∷ 210 ∷ 212 ∷ 214 ∷ 216 ∷ 218 ∷ 220 ∷ 222 ∷ 224 ∷ 226 ∷ []
+
+unfoldable pub end-high-6 : List ℕ
+end-high-6 = 228 ∷ 230 ∷ 232 ∷ 234 ∷ 236 ∷ 238 ∷ 240 ∷ 242 ∷ 244 ∷ 246 ∷ []
+
+unfoldable pub end-high-7 : List ℕ
+end-high-7 = 248 ∷ 250 ∷ 252 ∷ 254 ∷ []
+
+unfoldable pub end-high-8 : List ℕ
+end-high-8 = 129 ∷ 131 ∷ 133 ∷ 135 ∷ 137 ∷ 139 ∷ 141 ∷ 143 ∷ 145 ∷ 147 ∷ []
+
+unfoldable pub end-high-9 : List ℕ
+end-high-9 = 149 ∷ 151 ∷ 153 ∷ 155 ∷ 157 ∷ 159 ∷ 161 ∷ 163 ∷ 165 ∷ 167 ∷ []
+
+unfoldable pub end-high-10 : List ℕ
+end-high-10 = 169 ∷ 171 ∷ 173 ∷ 175 ∷ 177 ∷ 179 ∷ 181 ∷ 183 ∷ 185 ∷ 187 ∷ []
+
+unfoldable pub end-high-11 : List ℕ
+end-high-11 = 189 ∷ 191 ∷ 193 ∷ 195 ∷ 197 ∷ 199 ∷ 201 ∷ 203 ∷ 205 ∷ 207 ∷ []
+
+unfoldable pub end-high-12 : List ℕ
+end-high-12 = 209 ∷ 211 ∷ 213 ∷ 215 ∷ 217 ∷ 219 ∷ 221 ∷ 223 ∷ 225 ∷ 227 ∷ []
+
+unfoldable pub end-high-13 : List ℕ
+end-high-13 = 229 ∷ 231 ∷ 233 ∷ 235 ∷ 237 ∷ 239 ∷ 241 ∷ 243 ∷ 245 ∷ 247 ∷ []
+
+unfoldable pub end-high-14 : List ℕ
+end-high-14 = 249 ∷ 251 ∷ 253 ∷ 255 ∷ []
+
 unfoldable pub arms : List (List ℕ)
 arms =
-    (125 ∷ []) ∷ (123 ∷ []) ∷ (61 ∷ []) ∷ (58 ∷ []) ∷ (47 ∷ []) ∷ (46 ∷ []) ∷ digits-2 ∷ digits-1 ∷ more-2 ∷ lower-2 ∷ upper-2 ∷ more-1 ∷ lower-1 ∷ upper-1 ∷ []
+    high-12 ∷ high-11 ∷ high-10 ∷ high-9 ∷ high-8 ∷ high-7 ∷ high-6 ∷ high-5 ∷ high-4 ∷ high-3 ∷ high-2 ∷ high-1 ∷ dead-6 ∷ dead-5 ∷ dead-4 ∷ dead-3 ∷ dead-2 ∷ dead-1 ∷ (125 ∷ []) ∷ (123 ∷ []) ∷ (61 ∷ []) ∷ (58 ∷ []) ∷ (47 ∷ []) ∷ (46 ∷ []) ∷ digits-2 ∷ digits-1 ∷ []
 
-unfoldable pub wide-arms : List (List ℕ)
-wide-arms = high-12 ∷ high-11 ∷ high-10 ∷ high-9 ∷ high-8 ∷ high-7 ∷ high-6 ∷ high-5 ∷ high-4 ∷ high-3 ∷ high-2 ∷ high-1 ∷ arms
-
-pub all-wide-listed : upTo (listed packedSteps 988218432520154550 wide-arms) 256 ≡ true
-unfolding wide-arms arms upper-1 lower-1 more-1 upper-2 lower-2 more-2 digits-1 digits-2 high-1 high-2 high-3 high-4 high-5 high-6 high-7 high-8 high-9 high-10 high-11 high-12 packedSteps
-all-wide-listed = refl
-
--- The first scan.
-abbrev pub ascii-pack : ℕ → ℕ
-ascii-pack a = packedSteps (asciiByte a)
-
-pub all-listed : upTo (listed ascii-pack 988218432520154550 arms) 256 ≡ true
-unfolding arms upper-1 lower-1 more-1 upper-2 lower-2 more-2 digits-1 digits-2 packedSteps
+pub all-listed : upTo (listed packedSteps 976342856119664640 arms) 256 ≡ true
+unfolding arms digits-1 digits-2 dead-1 dead-2 dead-3 dead-4 dead-5 dead-6 high-1 high-2 high-3 high-4 high-5 high-6 high-7 high-8 high-9 high-10 high-11 high-12 packedSteps
 all-listed = refl
+
+-- The table for ends.
+abbrev pub end-pack : ℕ → ℕ
+end-pack a = packedSteps (endByte a)
+
+unfoldable pub end-arms : List (List ℕ)
+end-arms =
+    end-high-14 ∷ end-high-13 ∷ end-high-12 ∷ end-high-11 ∷ end-high-10 ∷ end-high-9 ∷ end-high-8 ∷ end-high-7 ∷ end-high-6 ∷ end-high-5 ∷ end-high-4 ∷ end-high-3 ∷ end-high-2 ∷ end-high-1 ∷ dead-6 ∷ dead-5 ∷ dead-4 ∷ dead-3 ∷ dead-2 ∷ dead-1 ∷ (125 ∷ []) ∷ (123 ∷ []) ∷ (61 ∷ []) ∷ (58 ∷ []) ∷ (47 ∷ []) ∷ (46 ∷ []) ∷ digits-2 ∷ digits-1 ∷ []
+
+pub all-end-listed : upTo (listed end-pack 976342856119664640 end-arms) 256 ≡ true
+unfolding end-arms digits-1 digits-2 dead-1 dead-2 dead-3 dead-4 dead-5 dead-6 end-high-1 end-high-2 end-high-3 end-high-4 end-high-5 end-high-6 end-high-7 end-high-8 end-high-9 end-high-10 end-high-11 end-high-12 end-high-13 end-high-14 packedSteps
+all-end-listed = refl
 
 -- The accepting states are those below 18.
 ends : (s : ScanState) → ltb (stateCode s) 18 ≡ accept s

@@ -2,13 +2,13 @@
 -- the number of a byte and shifts it right by the current state.
 use Prim.Native.Nat.{ℕ, _+_, _*_, _^_}
 use mathlib.Core.Path.{_≡_}
-use mathlib.Core.Bool.{true, false, cond, _||_}
+use mathlib.Core.Bool.{cond, _&&_, _||_}
 use mathlib.Core.List.{map}
-use lib.Dec.{eqb, leb}
+use lib.Dec.{eqb}
 use Rattle.text.specs.Text.{Text}
 use Rattle.text.specs.Bytes.{dot, openBrace}
-use Rattle.characters.specs.NameCharacter.{isAscii}
-use Rattle.path_grammar.specs.Legal.{ScanState, Name, Closed, Prop, Slash, Opened, Set, Equals, Sel, Dot, Dead, step, scanAccepts, legalOwn, isEnd}
+use Rattle.characters.specs.NameCharacter.{charactersAllowed, isAscii}
+use Rattle.path_grammar.specs.Legal.{ScanState, Name, Closed, Prop, Slash, Opened, Set, Equals, Sel, Dot, Dead, step, scanAccepts, isEnd}
 
 -- The bit offset of a state in the packed number: six times its index. The accepting states are those below 18.
 unfoldable pub stateCode : ScanState → ℕ
@@ -43,19 +43,14 @@ packedSteps a =
     + packedStep Dot a
     + packedStep Dead a
 
--- The byte as the first scan reads it: a byte of a character outside ASCII is replaced by a byte that no path contains. Most texts have none, and
--- are accepted by this scan alone.
-abbrev pub asciiByte : ℕ → ℕ
-asciiByte a = cond (leb a 0x7F) a 0
-
--- The byte as the first scan for ends reads it: so are `.` and `{`, which no end contains.
+-- The byte as the scan for ends reads it: `.` and `{`, which no end contains, are replaced by a byte that no path contains.
 abbrev pub endByte : ℕ → ℕ
-endByte a = cond (eqb a dot || eqb a openBrace) 0 (asciiByte a)
+endByte a = cond (eqb a dot || eqb a openBrace) 0 a
 
--- Theorem (proofs/FirstScanLaws.antt): a text that the first scan accepts is legal, and one that the first scan for ends accepts is an end. A text
--- of ASCII that it refuses is not.
-pub record FirstScans : Type 0 where
-  pub accepted : (s : Text) → scanAccepts (map asciiByte s) ≡ true → legalOwn s ≡ true
-  pub refused : (s : Text) → isAscii s ≡ true → scanAccepts (map asciiByte s) ≡ false → legalOwn s ≡ false
-  pub end-accepted : (s : Text) → scanAccepts (map endByte s) ≡ true → isEnd s ≡ true
-  pub end-refused : (s : Text) → isAscii s ≡ true → scanAccepts (map endByte s) ≡ false → isEnd s ≡ false
+-- What the scan tells of the text p, which it reads as q: 0 if it refuses it, 1 if it accepts it and every byte is one of ASCII, and otherwise 2.
+unfoldable pub scanCode : Text → Text → ℕ
+scanCode q p = cond (scanAccepts q) (cond (isAscii p) 1 2) 0
+
+-- Theorem (proofs/EndLaws.antt): a text is an end exactly if the automaton accepts it after this replacement and its characters are allowed.
+abbrev pub EndsByScan : Type 0
+EndsByScan = (s : Text) → isEnd s ≡ (scanAccepts (map endByte s) && charactersAllowed s)

@@ -1,64 +1,27 @@
 // The path grammar: validates path texts (the role of Path::new in the Rust sdf/path.rs, with a narrower
 // grammar). The scan is a table-driven automaton that reads one byte at a time and keeps its state in
-// the low six bits of a number. It reads a path's own part; the path in brackets is checked apart. The
-// first scan accepts texts of ASCII; the wide scan, with a table of its own, takes bytes of characters
-// outside ASCII for bytes of names, and these characters are then checked.
+// the low six bits of a number. It reads a path's own part; the path in brackets is checked apart, and
+// so are the characters outside ASCII, whose bytes the scan takes for bytes of names.
 ghost use mathlib.Core.Path.{_≡_};
-ghost use mathlib.Core.Bool.{_&&_, not, false};
+ghost use mathlib.Core.Bool.{_&&_, not};
 ghost use mathlib.Core.List.{map};
 ghost use Prim.Native.Nat.{_/_, _%_, _^_};
 ghost use lib.Dec.{leb};
-ghost use Rattle.path_grammar.specs.Legal.{isNameStartByte, isNameByte, isRoot, scanAccepts, legalOwn, legalWithin, legal, isEnd};
+ghost use Rattle.path_grammar.specs.Legal.{isNameStartByte, isNameByte, isRoot, legalOwn, legalWithin, legal, isEnd};
 ghost use Rattle.text.specs.Text.{lacksByte};
 ghost use Rattle.text.specs.Bytes.{dot};
 ghost use Rattle.path_grammar.specs.InnerText.{innerText};
-ghost use Rattle.path_grammar.specs.PackedScan.{packedSteps, asciiByte, endByte};
+ghost use Rattle.path_grammar.specs.PackedScan.{packedSteps, endByte, scanCode};
 
-// The transition table of the first scan: the next state of every state at the byte `a`, six bits for
-// each. A match whose arms are single values compiles to a table in read-only memory, whereas a const
-// array is built anew at each use. Adjacent values in one arm would become range tests, so odd and even
-// letters and digits are in separate arms.
+// The transition table: the next state of every state at the byte `a`, six bits for each. A match whose
+// arms are single values compiles to a table in read-only memory, whereas a const array is built anew at
+// each use. Adjacent values in one arm would become range tests, so odd and even values are in separate
+// arms. The letters are the default, so that the first and the last value of the table are listed: then
+// no test is needed whether a byte is in the table.
 fn row(a: u8) -> u64
-    ensures { λ r. ⌜ r ≡ packedSteps (asciiByte a) ⌝ }
-{
-    match a {
-        65 | 67 | 69 | 71 | 73 | 75 | 77 | 79 | 81 | 83 | 85 | 87 | 89 | 95 => 976342856119664640,
-        97 | 99 | 101 | 103 | 105 | 107 | 109 => 976342856119664640,
-        111 | 113 | 115 | 117 | 119 | 121 => 976342856119664640,
-        66 | 68 | 70 | 72 | 74 | 76 | 78 | 80 | 82 | 84 | 86 | 88 | 90 => 976342856119664640,
-        98 | 100 | 102 | 104 | 106 | 108 | 110 => 976342856119664640,
-        112 | 114 | 116 | 118 | 120 | 122 => 976342856119664640,
-        48 | 50 | 52 | 54 | 56 => 988164805558324608,
-        49 | 51 | 53 | 55 | 57 => 988164805558324608,
-        46 => 988218432520154160,
-        47 => 988218432520154514,
-        58 => 988218432520129974,
-        61 => 988218413192801718,
-        123 => 988218432520152600,
-        125 => 988007326287621558,
-        _ => 988218432520154550,
-    }
-}
-
-// The state after state `s` and byte `a`; only the low six bits count.
-fn next(s: u64, a: u8) -> u64
-    ensures { λ r. ⌜ r ≡ packedSteps (asciiByte a) / 2 ^ (s % 64) ⌝ }
-{
-    row(a) >> (s % 64)
-}
-
-// The transition table of the wide scan: like `row`, but a byte of a character outside ASCII counts as a byte
-// of a name.
-fn wide_row(a: u8) -> u64
     ensures { λ r. ⌜ r ≡ packedSteps a ⌝ }
 {
     match a {
-        65 | 67 | 69 | 71 | 73 | 75 | 77 | 79 | 81 | 83 | 85 | 87 | 89 | 95 => 976342856119664640,
-        97 | 99 | 101 | 103 | 105 | 107 | 109 => 976342856119664640,
-        111 | 113 | 115 | 117 | 119 | 121 => 976342856119664640,
-        66 | 68 | 70 | 72 | 74 | 76 | 78 | 80 | 82 | 84 | 86 | 88 | 90 => 976342856119664640,
-        98 | 100 | 102 | 104 | 106 | 108 | 110 => 976342856119664640,
-        112 | 114 | 116 | 118 | 120 | 122 => 976342856119664640,
         48 | 50 | 52 | 54 | 56 => 988164805558324608,
         49 | 51 | 53 | 55 | 57 => 988164805558324608,
         46 => 988218432520154160,
@@ -67,6 +30,12 @@ fn wide_row(a: u8) -> u64
         61 => 988218413192801718,
         123 => 988218432520152600,
         125 => 988007326287621558,
+        0 | 2 | 4 | 6 | 8 | 10 | 12 | 14 | 16 | 18 | 20 => 988218432520154550,
+        22 | 24 | 26 | 28 | 30 | 32 | 34 | 36 | 38 | 40 | 42 => 988218432520154550,
+        44 | 60 | 62 | 64 | 92 | 94 | 96 | 124 | 126 => 988218432520154550,
+        1 | 3 | 5 | 7 | 9 | 11 | 13 | 15 | 17 | 19 | 21 => 988218432520154550,
+        23 | 25 | 27 | 29 | 31 | 33 | 35 | 37 | 39 | 41 | 43 => 988218432520154550,
+        45 | 59 | 63 | 91 | 93 | 127 => 988218432520154550,
         128 | 130 | 132 | 134 | 136 | 138 | 140 | 142 | 144 | 146 | 148 => 976396457311518720,
         150 | 152 | 154 | 156 | 158 | 160 | 162 | 164 | 166 | 168 | 170 => 976396457311518720,
         172 | 174 | 176 | 178 | 180 | 182 | 184 | 186 | 188 | 190 | 192 => 976396457311518720,
@@ -79,94 +48,60 @@ fn wide_row(a: u8) -> u64
         195 | 197 | 199 | 201 | 203 | 205 | 207 | 209 | 211 | 213 | 215 => 976396457311518720,
         217 | 219 | 221 | 223 | 225 | 227 | 229 | 231 | 233 | 235 | 237 => 976396457311518720,
         239 | 241 | 243 | 245 | 247 | 249 | 251 | 253 | 255 => 976396457311518720,
-        _ => 988218432520154550,
+        _ => 976342856119664640,
     }
 }
 
-// Like `next`, with `wide_row`.
-fn wide_next(s: u64, a: u8) -> u64
+// The state after state `s` and byte `a`; only the low six bits count.
+fn next(s: u64, a: u8) -> u64
     ensures { λ r. ⌜ r ≡ packedSteps a / 2 ^ (s % 64) ⌝ }
 {
-    wide_row(a) >> (s % 64)
+    row(a) >> (s % 64)
 }
 
-// Returns whether the automaton accepts the text.
-fn scan_accepts(p: &[u8]) -> bool
-    ensures { λ r. ⌜ r ≡ scanAccepts (now (p .entry)) ⌝ }
+// Returns 0 if the automaton refuses the text, 1 if it accepts it and every byte is one of ASCII, and
+// otherwise 2. This function passes its text to no other, so that it takes the text in registers.
+fn scan(p: &[u8]) -> u8
+    ensures { λ r. ⌜ r ≡ scanCode (now (p .entry)) (now (p .entry)) ⌝ }
 {
     if p.len() == 0 {
-        return true;
+        return 1;
     }
-    if p[0] == b'/' {
-        if p.len() == 1 {
-            return true;
-        }
-        let mut s = 18;
-        let mut i = 1;
-        while i < p.len() {
-            s = wide_next(s, p[i]);
-            i += 1;
-        }
-        return s % 64 < 18;
+    if p[0] != b'/' {
+        return 0;
     }
-    false
+    if p.len() == 1 {
+        return 1;
+    }
+    let mut s = 18;
+    let mut seen = 0;
+    let mut i = 1;
+    while i < p.len() {
+        s = next(s, p[i]);
+        seen = seen | p[i];
+        i += 1;
+    }
+    if 18 <= s % 64 {
+        return 0;
+    }
+    if seen < 128 {
+        return 1;
+    }
+    2
 }
 
-// Returns whether the text is a legal path without brackets, by the wide scan.
-fn is_legal_wide(p: &[u8]) -> bool
-    ensures { λ r. ⌜ r ≡ legalOwn (now (p .entry)) ⌝ }
-{
-    if !scan_accepts(p) {
-        return false;
-    }
-    characters::characters_allowed(p)
-}
-
-// Returns whether the first scan accepts the text. A text whose first name begins outside ASCII is refused
-// at once. This function passes its text to no other, so that it takes the text in registers.
-fn first_scan(p: &[u8]) -> bool
-    ensures { λ r. ⌜ r ≡ scanAccepts (map asciiByte (now (p .entry))) ⌝ }
-{
-    if p.len() == 0 {
-        return true;
-    }
-    if p[0] == b'/' {
-        if p.len() == 1 {
-            return true;
-        }
-        if 128 <= p[1] {
-            return false;
-        }
-        let mut s = 18;
-        let mut i = 1;
-        while i < p.len() {
-            s = next(s, p[i]);
-            i += 1;
-        }
-        return s % 64 < 18;
-    }
-    false
-}
-
-// Returns whether the text, which the first scan refuses, is a legal path without brackets.
-fn is_legal_refused(p: &[u8]) -> bool
-    requires { ⌜ scanAccepts (map asciiByte (now p)) ≡ false ⌝ }
-    ensures { λ r. ⌜ r ≡ legalOwn (now (p .entry)) ⌝ }
-{
-    if characters::is_ascii(p) {
-        return false;
-    }
-    is_legal_wide(p)
-}
-
-// Returns whether the text is a legal path without brackets. The first scan accepts most texts.
+// Returns whether the text is a legal path without brackets.
 fn is_legal_own(p: &[u8]) -> bool
     ensures { λ r. ⌜ r ≡ legalOwn (now (p .entry)) ⌝ }
 {
-    if first_scan(p) {
+    let code = scan(p);
+    if code == 1 {
         return true;
     }
-    is_legal_refused(p)
+    if code == 0 {
+        return false;
+    }
+    characters::characters_allowed(p)
 }
 
 // Returns whether the text is a legal path without brackets that has a property, which a target may
@@ -213,19 +148,8 @@ fn is_legal_within(p: &[u8], depth: usize) -> bool
     is_legal_within(inner, depth - 1)
 }
 
-// Returns whether the text, which the first scan refuses, is a legal path.
-fn is_legal_slow(p: &[u8]) -> bool
-    requires { ⌜ scanAccepts (map asciiByte (now p)) ≡ false ⌝ }
-    ensures { λ r. ⌜ r ≡ legal (now (p .entry)) ⌝ }
-{
-    if text::last_is(p, b']') {
-        return is_legal_within(p, 4);
-    }
-    is_legal_refused(p)
-}
-
-// Returns whether the text is a legal path, regardless of its length. A text of ASCII that does not end in
-// `]` has no brackets and is scanned once.
+// Returns whether the text is a legal path, regardless of its length. A text that does not end in `]` has no
+// brackets.
 pub fn is_legal(p: &[u8]) -> bool
     ensures { λ r. ⌜ r ≡ legal (now (p .entry)) ⌝ }
 {
@@ -233,12 +157,9 @@ pub fn is_legal(p: &[u8]) -> bool
         return true;
     }
     if text::last_is(p, b']') {
-        return is_legal_slow(p);
+        return is_legal_within(p, 4);
     }
-    if first_scan(p) {
-        return true;
-    }
-    is_legal_slow(p)
+    is_legal_own(p)
 }
 
 // Like `row`, but treats `.` and `{` as bytes that no path contains.
@@ -246,19 +167,35 @@ fn end_row(a: u8) -> u64
     ensures { λ r. ⌜ r ≡ packedSteps (endByte a) ⌝ }
 {
     match a {
-        65 | 67 | 69 | 71 | 73 | 75 | 77 | 79 | 81 | 83 | 85 | 87 | 89 | 95 => 976342856119664640,
-        97 | 99 | 101 | 103 | 105 | 107 | 109 => 976342856119664640,
-        111 | 113 | 115 | 117 | 119 | 121 => 976342856119664640,
-        66 | 68 | 70 | 72 | 74 | 76 | 78 | 80 | 82 | 84 | 86 | 88 | 90 => 976342856119664640,
-        98 | 100 | 102 | 104 | 106 | 108 | 110 => 976342856119664640,
-        112 | 114 | 116 | 118 | 120 | 122 => 976342856119664640,
         48 | 50 | 52 | 54 | 56 => 988164805558324608,
         49 | 51 | 53 | 55 | 57 => 988164805558324608,
+        46 => 988218432520154550,
         47 => 988218432520154514,
         58 => 988218432520129974,
         61 => 988218413192801718,
+        123 => 988218432520154550,
         125 => 988007326287621558,
-        _ => 988218432520154550,
+        0 | 2 | 4 | 6 | 8 | 10 | 12 | 14 | 16 | 18 | 20 => 988218432520154550,
+        22 | 24 | 26 | 28 | 30 | 32 | 34 | 36 | 38 | 40 | 42 => 988218432520154550,
+        44 | 60 | 62 | 64 | 92 | 94 | 96 | 124 | 126 => 988218432520154550,
+        1 | 3 | 5 | 7 | 9 | 11 | 13 | 15 | 17 | 19 | 21 => 988218432520154550,
+        23 | 25 | 27 | 29 | 31 | 33 | 35 | 37 | 39 | 41 | 43 => 988218432520154550,
+        45 | 59 | 63 | 91 | 93 | 127 => 988218432520154550,
+        128 | 130 | 132 | 134 | 136 | 138 | 140 | 142 | 144 | 146 => 976396457311518720,
+        148 | 150 | 152 | 154 | 156 | 158 | 160 | 162 | 164 | 166 => 976396457311518720,
+        168 | 170 | 172 | 174 | 176 | 178 | 180 | 182 | 184 | 186 => 976396457311518720,
+        188 | 190 | 192 | 194 | 196 | 198 | 200 | 202 | 204 | 206 => 976396457311518720,
+        208 | 210 | 212 | 214 | 216 | 218 | 220 | 222 | 224 | 226 => 976396457311518720,
+        228 | 230 | 232 | 234 | 236 | 238 | 240 | 242 | 244 | 246 => 976396457311518720,
+        248 | 250 | 252 | 254 => 976396457311518720,
+        129 | 131 | 133 | 135 | 137 | 139 | 141 | 143 | 145 | 147 => 976396457311518720,
+        149 | 151 | 153 | 155 | 157 | 159 | 161 | 163 | 165 | 167 => 976396457311518720,
+        169 | 171 | 173 | 175 | 177 | 179 | 181 | 183 | 185 | 187 => 976396457311518720,
+        189 | 191 | 193 | 195 | 197 | 199 | 201 | 203 | 205 | 207 => 976396457311518720,
+        209 | 211 | 213 | 215 | 217 | 219 | 221 | 223 | 225 | 227 => 976396457311518720,
+        229 | 231 | 233 | 235 | 237 | 239 | 241 | 243 | 245 | 247 => 976396457311518720,
+        249 | 251 | 253 | 255 => 976396457311518720,
+        _ => 976342856119664640,
     }
 }
 
@@ -269,64 +206,48 @@ fn next_in_end(s: u64, a: u8) -> u64
     end_row(a) >> (s % 64)
 }
 
-// Returns whether the text is a prim path, `/` or empty, by the wide scan.
-fn is_end_wide(p: &[u8]) -> bool
-    ensures { λ r. ⌜ r ≡ isEnd (now (p .entry)) ⌝ }
-{
-    if !is_legal_wide(p) {
-        return false;
-    }
-    if !text::lacks_byte(p, b'{') {
-        return false;
-    }
-    text::lacks_byte(p, b'.')
-}
-
-// Like `first_scan`, with `end_row`.
-fn first_end_scan(p: &[u8]) -> bool
-    ensures { λ r. ⌜ r ≡ scanAccepts (map endByte (now (p .entry))) ⌝ }
+// Like `scan`, with `end_row`.
+fn scan_end(p: &[u8]) -> u8
+    ensures { λ r. ⌜ r ≡ scanCode (map endByte (now (p .entry))) (now (p .entry)) ⌝ }
 {
     if p.len() == 0 {
-        return true;
+        return 1;
     }
-    if p[0] == b'/' {
-        if p.len() == 1 {
-            return true;
-        }
-        if 128 <= p[1] {
-            return false;
-        }
-        let mut state = 18;
-        let mut i = 1;
-        while i < p.len() {
-            state = next_in_end(state, p[i]);
-            i += 1;
-        }
-        return state % 64 < 18;
+    if p[0] != b'/' {
+        return 0;
     }
-    false
+    if p.len() == 1 {
+        return 1;
+    }
+    let mut state = 18;
+    let mut seen = 0;
+    let mut i = 1;
+    while i < p.len() {
+        state = next_in_end(state, p[i]);
+        seen = seen | p[i];
+        i += 1;
+    }
+    if 18 <= state % 64 {
+        return 0;
+    }
+    if seen < 128 {
+        return 1;
+    }
+    2
 }
 
-// Returns whether the text, which the first scan for ends refuses, is an end.
-fn is_end_refused(p: &[u8]) -> bool
-    requires { ⌜ scanAccepts (map endByte (now p)) ≡ false ⌝ }
-    ensures { λ r. ⌜ r ≡ isEnd (now (p .entry)) ⌝ }
-{
-    if characters::is_ascii(p) {
-        return false;
-    }
-    is_end_wide(p)
-}
-
-// Returns whether the text is a prim path, `/` or empty, regardless of its length. Uses one scan for most
-// texts, as `is_legal` does.
+// Returns whether the text is a prim path, `/` or empty, regardless of its length.
 pub fn is_end(p: &[u8]) -> bool
     ensures { λ r. ⌜ r ≡ isEnd (now (p .entry)) ⌝ }
 {
-    if first_end_scan(p) {
+    let code = scan_end(p);
+    if code == 1 {
         return true;
     }
-    is_end_refused(p)
+    if code == 0 {
+        return false;
+    }
+    characters::characters_allowed(p)
 }
 
 // Returns whether the text is `/`.

@@ -1,20 +1,18 @@
--- The loop. The number holds the state of the automaton after i bytes, as the first scan reads them.
+-- The loop. The number s holds the state of the automaton after i bytes, and `seen` combines these bytes.
 use Prim.Native.Nat.{_≤_, _-_}
 use lib.ListN.{length}
 use native.Mathlib.Omega.{arith}
 use borrow.Author.Needs.{needs}
-use mathlib.Core.List.{map}
-use Rattle.path_grammar.specs.PackedScan.{asciiByte}
-use Rattle.path_grammar.proofs.ScanLaws.{Reads}
-use Rattle.path_grammar.proofs.FirstScanLaws.{scanning, first-on}
-use Rattle.path_grammar.proofs.first_scan.Statement.{statement}
-use Rattle.path_grammar.proofs.first_scan.Tie as tie
+use Rattle.path_grammar.proofs.ScanLaws.{Reads, on}
+use Rattle.path_grammar.proofs.CodeLaws.{Seen, seen-on, scanning}
+use Rattle.path_grammar.proofs.scan.Statement.{statement}
+use Rattle.path_grammar.proofs.scan.Tie as tie
 
 abbrev Inv-loop : tie.InvT-loop
-Inv-loop p s₀ i₀ s i = (i ≤ length p) × Reads (map asciiByte p) s i
+Inv-loop p s₀ seen₀ i₀ s seen i = (i ≤ length p) × Reads p s i × Seen p seen i
 
 abbrev μ-loop : tie.MeasureT-loop
-μ-loop p s₀ i₀ s i = length p - i
+μ-loop p s₀ seen₀ i₀ s seen i = length p - i
 
 returns : tie.Need-returns Inv-loop μ-loop
 returns c = search (needs, scanning)
@@ -24,9 +22,6 @@ shared-slice-read-if2 c = search needs
 
 returns-2 : tie.Need-returns-2 Inv-loop μ-loop
 returns-2 c = search (needs, scanning)
-
-shared-slice-read-if4 : tie.Need-shared-slice-read-if4 Inv-loop μ-loop
-shared-slice-read-if4 c = search needs
 
 returns-3 : tie.Need-returns-3 Inv-loop μ-loop
 returns-3 c = search (needs, scanning)
@@ -40,6 +35,9 @@ shared-slice-read-next c = search needs
 next-requires : tie.Need-next-requires Inv-loop μ-loop
 next-requires c κs = search needs
 
+shared-slice-read-seen : tie.Need-shared-slice-read-seen Inv-loop μ-loop
+shared-slice-read-seen c = search needs
+
 add-i : tie.Need-add-i Inv-loop μ-loop
 add-i c = search needs
 
@@ -49,7 +47,8 @@ loop-less c = search needs
 loop-again : tie.Need-loop-again Inv-loop μ-loop
 loop-again c = (
   search needs,
-  first-on (c .before .before .before .before .before .before .before .before .before .before .before .args .p .now) _ _ _ (search needs) (c .before .before .before .loop .inv .1) (omega (arith, c .before .shared-slice-known4 .given (c .before .before .before .loop .i))) (c .next .ensures),
+  on _ _ _ _ (search needs) (c .before .before .before .before .loop .inv .1) (omega (arith, c .before .before .shared-slice-known3 .given (c .before .before .before .before .loop .i))) (c .before .next .ensures),
+  seen-on (c .before .before .before .before .before .before .before .before .before .before .args .p .now) (c .before .before .before .before .loop .seen) (c .before .before .before .before .loop .i) (search needs) (c .before .before .before .before .loop .inv .2),
 )
 
 returns-4 : tie.Need-returns-4 Inv-loop μ-loop
@@ -58,8 +57,11 @@ returns-4 c = search (needs, scanning)
 returns-5 : tie.Need-returns-5 Inv-loop μ-loop
 returns-5 c = search (needs, scanning)
 
-pub first-scan-spec : {M : Type 1} → statement M
-first-scan-spec =
+returns-6 : tie.Need-returns-6 Inv-loop μ-loop
+returns-6 c = search (needs, scanning)
+
+pub scan-spec : {M : Type 1} → statement M
+scan-spec =
     tie.close
     (tie.spec
     Inv-loop
@@ -67,13 +69,14 @@ first-scan-spec =
     returns
     shared-slice-read-if2
     returns-2
-    shared-slice-read-if4
     returns-3
     loop-holds
     shared-slice-read-next
     next-requires
+    shared-slice-read-seen
     add-i
     loop-less
     loop-again
     returns-4
-    returns-5)
+    returns-5
+    returns-6)
