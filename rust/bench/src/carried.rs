@@ -119,7 +119,7 @@ fn results(paths: &[String], call: impl Fn(&[u8], &mut [u8]) -> Reply) -> Vec<St
     let result = |path: &String| {
         let reply = call(path.as_bytes(), &mut out);
         assert_eq!(reply.number(), 0);
-        String::from_utf8(out[..reply.value()].to_vec()).expect("a path is ASCII")
+        String::from_utf8(out[..reply.value()].to_vec()).expect("a path is UTF-8")
     };
     paths.iter().map(result).collect()
 }

@@ -87,7 +87,7 @@ impl Sides {
         let mut out = [0; MAX_PATH_LEN];
         let end = |text: &String| {
             let length = self.original(false, text, &mut out);
-            String::from_utf8(out[..length].to_vec()).expect("a path is ASCII")
+            String::from_utf8(out[..length].to_vec()).expect("a path is UTF-8")
         };
         texts.iter().map(end).collect()
     }

@@ -65,7 +65,7 @@ pub fn path_of(bytes: &[u8]) -> Answer<Path> {
 
 /// The path of a legal text in the original; `None` if `Path::new` refuses it.
 pub fn parsed(legal: &[u8]) -> Option<Path> {
-    let text = str::from_utf8(legal).expect("a legal text is ASCII");
+    let text = str::from_utf8(legal).expect("a legal text is UTF-8");
     Path::new(text).ok()
 }
 

@@ -1,12 +1,14 @@
-//! Texts with one wrong byte, or with wrong brackets.
+//! Texts with a wrong byte or character, or with wrong brackets.
 
+use crate::characters::wrong_bytes;
 use crate::legal::{MAX_BRACKETS, opening_brackets};
 use crate::random::Random;
 
 /// Bytes that have a meaning in a path, and a few that have none.
 const SPECIAL: &[u8] = b"/{}=.:_A1[]- ";
 
-/// `text` with one byte changed, inserted or deleted; if it has brackets, half of the time with something wrong about these.
+/// `text` with one byte changed, inserted or deleted, or with a character inserted that is not allowed or not UTF-8; if it has
+/// brackets, half of the time with something wrong about these.
 pub fn damaged(random: &mut Random, text: &[u8]) -> Vec<u8> {
     if let Some(at) = text.iter().position(|byte| *byte == b'[')
         && random.one_in(2)
@@ -14,7 +16,12 @@ pub fn damaged(random: &mut Random, text: &[u8]) -> Vec<u8> {
         let damage = *random.pick(&OF_BRACKETS);
         return damage(random, &text[..at], &text[at..]);
     }
-    with_a_wrong_byte(random, text)
+    if random.one_in(5) { with_a_wrong_character(random, text) } else { with_a_wrong_byte(random, text) }
+}
+
+fn with_a_wrong_character(random: &mut Random, text: &[u8]) -> Vec<u8> {
+    let (before, after) = text.split_at(random.within(0..=text.len()));
+    [before, &wrong_bytes(random), after].concat()
 }
 
 fn with_a_wrong_byte(random: &mut Random, text: &[u8]) -> Vec<u8> {
@@ -104,17 +111,26 @@ fn with_a_byte_in_the_brackets(random: &mut Random, own: &[u8], tail: &[u8]) -> 
 
 #[cfg(test)]
 mod tests {
-    use super::{OF_BRACKETS, damaged};
+    use super::{OF_BRACKETS, with_a_wrong_byte, with_a_wrong_character};
     use crate::generate::{legal_text, length};
     use crate::legal::is_legal;
     use crate::random::Random;
 
     #[test]
-    fn damage_keeps_the_length_within_one_byte() {
+    fn a_wrong_byte_keeps_the_length_within_one_byte() {
         let random = &mut Random::new(1);
         for _ in 0..1_000 {
-            let length = damaged(random, b"/A{v=p}").len();
+            let length = with_a_wrong_byte(random, b"/A{v=p}").len();
             assert!((6..=8).contains(&length));
+        }
+    }
+
+    #[test]
+    fn paths_with_wrong_characters_are_not_legal() {
+        let random = &mut Random::new(1);
+        for _ in 0..5_000 {
+            let damaged = with_a_wrong_character(random, "/A{é=p}中.b".as_bytes());
+            assert!(!is_legal(&damaged), "{}", damaged.escape_ascii());
         }
     }
 

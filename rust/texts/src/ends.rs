@@ -5,21 +5,26 @@ use crate::generate::{continued, end_text, length};
 use crate::random::Random;
 
 /// There are only a few names, so that ends are often nested or equal.
-const NAMES: [&[u8]; 4] = [b"A", b"B", b"AB", b"c1"];
+const NAMES: [&str; 4] = ["A", "B", "AB", "c1"];
+
+/// Names of which some begin or end with the same bytes, but not with the same character.
+const NAMES_OUTSIDE_ASCII: [&str; 5] = ["A", "é", "Aé", "è", "ĩ"];
 
 /// Generates `size` ends, of which the first is `/`: nested, equal, nearly equal, empty, some near the length limit.
 pub fn family(random: &mut Random, size: usize) -> Vec<Vec<u8>> {
     let with_long_ends = random.one_in(2);
+    let names: &[&str] = if random.one_in(4) { &NAMES_OUTSIDE_ASCII } else { &NAMES };
     let mut family = vec![b"/".to_vec()];
     while family.len() < size {
-        let end = relative(random, &family, with_long_ends);
+        let name = random.pick(names);
+        let end = relative(random, &family, name.as_bytes(), with_long_ends);
         family.push(end);
     }
     family
 }
 
-fn relative(random: &mut Random, family: &[Vec<u8>], with_long_ends: bool) -> Vec<u8> {
-    let (other, name) = (random.pick(family), *random.pick(&NAMES));
+fn relative(random: &mut Random, family: &[Vec<u8>], name: &[u8], with_long_ends: bool) -> Vec<u8> {
+    let other = random.pick(family);
     match random.below(10) {
         0 => Vec::new(),
         1 => other.clone(),
@@ -125,6 +130,13 @@ mod tests {
             outside += usize::from(path[..at].contains(&b'{'));
         }
         assert!(bracketed > 1_000 && inside > 500 && outside > 500, "{bracketed} {inside} {outside}");
+    }
+
+    #[test]
+    fn some_families_have_names_outside_ascii() {
+        let random = &mut Random::new(1);
+        let outside = (0..1_000).filter(|_| !family(random, 6).concat().is_ascii()).count();
+        assert!((200..700).contains(&outside), "{outside}");
     }
 
     #[test]

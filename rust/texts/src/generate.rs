@@ -1,7 +1,8 @@
 //! Random legal texts, and texts related to a given one.
 
 use crate::MAX_PATH_LEN;
-use crate::damage::{damaged, with_byte_inserted};
+use crate::characters::name_character;
+use crate::damage::damaged;
 use crate::legal::MAX_BRACKETS;
 use crate::random::Random;
 
@@ -25,7 +26,10 @@ pub fn length(random: &mut Random) -> usize {
 
 /// How the parts of one text are chosen.
 struct Style {
+    /// In bytes.
     longest_name: usize,
+    /// How many of eight characters of a name are outside ASCII.
+    outside_ascii: usize,
     /// How many of four positions that may have a selection have one.
     selections: usize,
     properties: bool,
@@ -42,7 +46,8 @@ impl Style {
 
     fn names_only(random: &mut Random) -> Self {
         let longest_name = *random.pick(&[1, 3, 8, 40]);
-        Style { longest_name, selections: 0, properties: false, brackets: 0 }
+        let outside_ascii = *random.pick(&[0, 0, 0, 1, 6]);
+        Style { longest_name, outside_ascii, selections: 0, properties: false, brackets: 0 }
     }
 
     /// A property is the last part of a path, so it must be rare where much is left, unless a target may follow it.
@@ -88,43 +93,50 @@ fn continued_in(random: &mut Random, end: &[u8], style: &Style, length: usize) -
 /// Appends a name, a selection, a property or one more byte of a name, within `length` bytes.
 fn append_part(random: &mut Random, text: &mut Vec<u8>, style: &Style, length: usize) {
     let left = length - text.len();
-    let longest_name = style.longest_name;
     if text == b"/" {
-        append_name(random, text, longest_name.min(left));
+        append_name(random, text, style, left);
     } else if left >= SHORTEST_SELECTION && random.below(4) < style.selections {
-        append_selection(random, text, longest_name, left);
+        append_selection(random, text, style, left);
     } else if style.has_property(random, left) {
         append_tail(random, text, style, length);
     } else if text.ends_with(b"}") {
-        append_name(random, text, longest_name.min(left));
+        append_name(random, text, style, left);
     } else if left >= 2 {
         text.push(b'/');
-        append_name(random, text, longest_name.min(left - 1));
+        append_name(random, text, style, left - 1);
     } else {
         text.push(*random.pick(NAME_BYTES));
     }
 }
 
-/// Appends a name of 1 to `longest` bytes.
-fn append_name(random: &mut Random, text: &mut Vec<u8>, longest: usize) {
-    text.push(*random.pick(LETTERS));
-    append_name_bytes(random, text, longest - 1);
-}
-
-/// Appends up to `most` bytes that may continue a name.
-fn append_name_bytes(random: &mut Random, text: &mut Vec<u8>, most: usize) {
-    for _ in 0..random.within(0..=most) {
-        text.push(*random.pick(NAME_BYTES));
+/// Appends a name of at least one byte, and of at most `most`.
+fn append_name(random: &mut Random, text: &mut Vec<u8>, style: &Style, most: usize) {
+    let end = text.len() + random.within(1..=style.longest_name.min(most));
+    append_character(random, text, style, LETTERS, end);
+    while text.len() < end {
+        append_character(random, text, style, NAME_BYTES, end);
     }
 }
 
-fn append_selection(random: &mut Random, text: &mut Vec<u8>, longest_name: usize, left: usize) {
-    let longest = longest_name.min((left - 3) / 2);
+/// Appends one of the given bytes, or a character outside ASCII that ends within `end` bytes.
+fn append_character(random: &mut Random, text: &mut Vec<u8>, style: &Style, ascii: &[u8], end: usize) {
+    let left = end - text.len();
+    if left >= 2 && random.below(8) < style.outside_ascii {
+        let bytes = random.within(2..=left.min(4));
+        text.extend(name_character(random, bytes).to_string().bytes());
+    } else {
+        text.push(*random.pick(ascii));
+    }
+}
+
+fn append_selection(random: &mut Random, text: &mut Vec<u8>, style: &Style, left: usize) {
+    let most = (left - 3) / 2;
     text.push(b'{');
-    append_name(random, text, longest);
+    append_name(random, text, style, most);
     text.push(b'=');
-    text.push(*random.pick(NAME_BYTES));
-    append_name_bytes(random, text, longest - 1);
+    for _ in 0..random.within(1..=style.longest_name.min(most)) {
+        text.push(*random.pick(NAME_BYTES));
+    }
     text.push(b'}');
 }
 
@@ -133,13 +145,13 @@ fn append_selection(random: &mut Random, text: &mut Vec<u8>, longest_name: usize
 fn append_tail(random: &mut Random, text: &mut Vec<u8>, style: &Style, length: usize) {
     let left = length - text.len();
     if style.brackets == 0 || left < SHORTEST_BRACKETED || random.one_in(8) {
-        return append_property(random, text, style.longest_name, length);
+        return append_property(random, text, style, length);
     }
     // A long target may have brackets itself.
     let longest = left - (SHORTEST_BRACKETED - 1);
     let shortest = if random.one_in(3) { 1 } else { longest.saturating_sub(8).max(1) };
     let target = random.within(shortest..=longest);
-    append_property(random, text, style.longest_name, length - target - 2);
+    append_property(random, text, style, length - target - 2);
     let inside = Style { brackets: style.brackets - 1, ..*style };
     text.push(b'[');
     text.extend(continued_in(random, b"", &inside, target));
@@ -147,15 +159,15 @@ fn append_tail(random: &mut Random, text: &mut Vec<u8>, style: &Style, length: u
 }
 
 /// Appends a property that fills the text up to `length`.
-fn append_property(random: &mut Random, text: &mut Vec<u8>, longest_name: usize, length: usize) {
+fn append_property(random: &mut Random, text: &mut Vec<u8>, style: &Style, length: usize) {
     text.push(b'.');
-    append_name(random, text, longest_name.min(length - text.len()));
+    append_name(random, text, style, length - text.len());
     while text.len() < length {
         if length - text.len() >= 2 && random.one_in(2) {
             text.push(b':');
-            append_name(random, text, longest_name.min(length - text.len()));
+            append_name(random, text, style, length - text.len());
         } else {
-            text.push(*random.pick(NAME_BYTES));
+            append_character(random, text, style, NAME_BYTES, length);
         }
     }
 }
@@ -185,7 +197,7 @@ pub fn prefix_for(random: &mut Random, text: &[u8]) -> Vec<u8> {
         2 => text.to_vec(),
         3 => damaged(random, &prefix),
         4 => text[..random.within(0..=text.len())].to_vec(),
-        5 => with_byte_inserted(&prefix, prefix.len(), *random.pick(NAME_BYTES)),
+        5 => with_a_character_after(random, &prefix),
         6 => {
             let length = length(random);
             legal_text(random, length)
@@ -193,6 +205,15 @@ pub fn prefix_for(random: &mut Random, text: &[u8]) -> Vec<u8> {
         7 => own_part(text).to_vec(),
         _ => prefix,
     }
+}
+
+/// `text` with one more character of a name.
+fn with_a_character_after(random: &mut Random, text: &[u8]) -> Vec<u8> {
+    let character = match random.pick(&[1, 1, 2, 3, 4]) {
+        1 => char::from(*random.pick(NAME_BYTES)),
+        bytes => name_character(random, *bytes),
+    };
+    [text, character.to_string().as_bytes()].concat()
 }
 
 /// A new prefix to replace `old` in `text`. Often the length of the joined text is near the limit.
@@ -258,6 +279,30 @@ mod tests {
         }
         assert_eq!(short.len(), MAX_BRACKETS + 1);
         assert!(short.iter().chain(&long).all(|texts| *texts > 100), "{short:?} {long:?}");
+    }
+
+    /// Of the short and of the long texts that are not ASCII the characters have two, three and four bytes, in names that begin
+    /// with them, after a selection, in sets, in properties and in brackets.
+    #[test]
+    fn generated_texts_have_characters_outside_ascii_everywhere() {
+        for length in [24, MAX_PATH_LEN] {
+            let (random, mut outside, mut found) = (&mut Random::new(1), 0, [0; 8]);
+            for _ in 0..5_000 {
+                let text = String::from_utf8(legal_text(random, length)).expect("a legal text");
+                outside += usize::from(!text.is_ascii());
+                let (own, target) = text.split_once('[').unwrap_or((&text, ""));
+                let has = |place: char, text: &str| {
+                    text.split(place).skip(1).any(|rest| rest.starts_with(|first: char| !first.is_ascii()))
+                };
+                let bytes = [2, 3, 4].map(|bytes| text.chars().any(|it| it.len_utf8() == bytes));
+                let places = ['/', '}', '{', '.'].map(|place| has(place, own));
+                for (at, occurs) in bytes.into_iter().chain(places).chain([has('/', target)]).enumerate() {
+                    found[at] += usize::from(occurs);
+                }
+            }
+            assert!((1_000..3_000).contains(&outside), "{outside}");
+            assert!(found.iter().all(|texts| *texts > 50), "{length}: {found:?}");
+        }
     }
 
     #[test]

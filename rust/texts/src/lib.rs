@@ -3,6 +3,7 @@
 //! This crate depends neither on the original nor on the library that is compared with it, so its grammar check is
 //! independent of both.
 
+pub mod characters;
 pub mod damage;
 pub mod ends;
 pub mod enumerate;

@@ -24,7 +24,7 @@ pub const FLAWS: [Flaw; 9] = [
 ];
 
 /// Illegal texts.
-const ILLEGAL: [&[u8]; 12] = [
+const ILLEGAL: [&[u8]; 15] = [
     b"A",
     b".",
     b"//",
@@ -32,7 +32,10 @@ const ILLEGAL: [&[u8]; 12] = [
     b"/A//B",
     b"/1",
     b"/A b",
-    b"/\xC3\xA9",
+    b"/\xC2\xA0",
+    b"/A\xE3\x80\x80",
+    b"/\xC3/B",
+    b"/A\xED\xA0\x80",
     b"/A[/C]",
     b"/A.b[C]",
     b"/A.b[/C",
