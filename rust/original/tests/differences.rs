@@ -29,8 +29,24 @@ fn paths() {
     assert_eq!(path("/A{v=p}.b").prim_path().as_str(), "/A{v=p}");
     assert_eq!(path("/A.b").element_count(), 1);
     assert!(Path::new("").is_err());
-    assert!(Path::new("/é").is_ok());
     assert_eq!(path("/A{v=p}B").strip_variant_selections().as_str(), "/A/B");
+}
+
+/// Characters that are in neither of Unicode's XID classes are accepted too, but no white space and no controls.
+#[test]
+fn names_outside_ascii() {
+    for legal_there in ["/é", "/A.é", "/A{é=p}", "/€", "/\u{200B}"] {
+        assert!(Path::new(legal_there).is_ok(), "{legal_there}");
+    }
+    for illegal_there_too in ["/\u{85}", "/A\u{A0}", "/A\u{3000}B"] {
+        assert!(Path::new(illegal_there_too).is_err(), "{illegal_there_too}");
+    }
+}
+
+/// A variant, too, may have such characters; the grammar of the requirements has only ASCII there.
+#[test]
+fn variants_outside_ascii() {
+    assert!(Path::new("/A{v=é}").is_ok());
 }
 
 #[test]
