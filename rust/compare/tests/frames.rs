@@ -3,7 +3,7 @@
 use std::process::{Command, Output};
 
 fn compare(program: &str) -> Output {
-    let arguments = ["--only", "frames", "--cases", "2", "--program", program];
+    let arguments = ["--only", "frames", "--cases", "2", "--seed", "3", "--program", program];
     Command::new(env!("CARGO_BIN_EXE_compare")).args(arguments).output().expect("a run")
 }
 
@@ -25,5 +25,7 @@ fn wrong_answers_are_counted_and_shown() {
     // lines one by one.
     assert!(last.starts_with("compare: ") && last.ends_with(" comparisons, 283 differences"), "{last}");
     // The first line of one of these scripts, which is all that remains of it.
-    assert!(report.contains("\n    02\n    answer 1: expected 8200\\n, found 02\\n"), "{report}");
+    let line = "0100012F00012F";
+    let wrong = format!("\n    {line}\n    answer 1: expected 8100\\n, found {line}\\n");
+    assert!(report.contains(&wrong), "{report}");
 }

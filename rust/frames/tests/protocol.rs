@@ -168,3 +168,33 @@ fn only_05_answered_00_is_counted() {
     let input = line(Frame::Out(b"A")) + &line(Frame::Home(b"/A")) + &line(Frame::Out(b"/A")) + "07\n07\n";
     assert_eq!(answered(input), "8502\n86002F41\n85002F41\n870000000001\n870000000001\n");
 }
+
+#[test]
+fn names_outside_ascii() {
+    let input = pair("/é", "/中") + "03\n" + &line(Frame::Out("/é/b".as_bytes()));
+    assert_eq!(answered(input.clone()), "8100\n8300\n85002FE4B8AD2F62\n");
+    for (frame, expected) in [
+        (Frame::Home("/中.б".as_bytes()), "86002FC3A92ED0B1"),
+        (Frame::Out("/éb".as_bytes()), "8506"),
+        (Frame::Out("/A{v=é}".as_bytes()), "8502"),
+        (Frame::Out("/A\u{A0}".as_bytes()), "8502"),
+        (Frame::Out(b"/\xC3"), "8502"),
+        (Frame::Home(b"/\xC0\xAFA"), "8602"),
+        (Frame::Pair { source: b"/\xC3", target: b"/A.b" }, "8102"),
+        (Frame::Pair { source: "/A{é=p}".as_bytes(), target: b"" }, "8103"),
+    ] {
+        assert_eq!(answered(input.clone() + &line(frame)).lines().last(), Some(expected), "{frame:?}");
+    }
+}
+
+/// The limit counts bytes, and is checked before anything else.
+#[test]
+fn long_names_outside_ascii() {
+    for (bytes, number) in [(255, "00"), (257, "01")] {
+        let path = format!("/{}", "é".repeat(bytes / 2));
+        assert_eq!(&answered(line(Frame::Out(path.as_bytes())))[2..4], number);
+    }
+    let malformed = [&b"/"[..], &[0xC3; 255]].concat();
+    assert_eq!(answered(line(Frame::Out(&malformed))), "8501\n");
+    assert_eq!(answered(line(Frame::Out(&malformed[..255]))), "8502\n");
+}

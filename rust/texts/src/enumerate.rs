@@ -21,8 +21,13 @@ pub fn texts_of_words_near_legal(words: &[&[u8]], most: usize, visit: &mut impl 
 
 /// Returns the legal texts over `alphabet` of at most `longest` bytes.
 pub fn legal_texts(alphabet: &[u8], longest: usize) -> Vec<Vec<u8>> {
+    legal_texts_of_words(&bytes_of(alphabet), longest)
+}
+
+/// Returns the legal texts of at most `most` of these words, none of them empty.
+pub fn legal_texts_of_words(words: &[&[u8]], most: usize) -> Vec<Vec<u8>> {
     let mut legal = Vec::new();
-    texts_near_legal(alphabet, longest, &mut |text| {
+    texts_of_words_near_legal(words, most, &mut |text| {
         if is_legal(text) {
             legal.push(text.to_vec());
         }

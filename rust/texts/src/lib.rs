@@ -9,6 +9,7 @@ pub mod ends;
 pub mod enumerate;
 pub mod generate;
 pub mod legal;
+pub mod mixed;
 pub mod random;
 
 /// The maximum length of a path text in bytes.

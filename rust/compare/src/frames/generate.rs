@@ -27,7 +27,7 @@ pub fn script(random: &mut Random) -> Script {
 mod tests {
     use super::script;
     use crate::frames::answers::Answers;
-    use frames_original::hex;
+    use frames_original::{Frame, hex};
     use texts::random::Random;
 
     #[test]
@@ -51,27 +51,45 @@ mod tests {
         assert_eq!(found.join(" "), expected);
     }
 
-    /// How many lines of scripts are a frame of this kind with a bracket in its bytes, and have this answer.
-    fn with_brackets(kind: &[u8], answer: &[u8]) -> usize {
+    /// The texts of a frame.
+    fn texts(frame: Frame) -> Vec<&[u8]> {
+        match frame {
+            Frame::Pair { source, target } => vec![source, target],
+            Frame::Out(path) | Frame::Home(path) => vec![path],
+            _ => Vec::new(),
+        }
+    }
+
+    /// How many frames of scripts are answered like this, and have a text with such a byte.
+    fn answered_with(answer: &str, is_such: fn(u8) -> bool) -> usize {
         let (random, mut count) = (&mut Random::new(1), 0);
         for _ in 0..500 {
             let script = script(random);
             let answers = frames_original::answers(&script.input());
-            let pairs = script.lines.iter().zip(answers.split(|byte| *byte == b'\n'));
-            let is_one = |line: &[u8], found: &[u8]| {
+            for (line, found) in script.lines.iter().zip(answers.split(|byte| *byte == b'\n')) {
                 let bytes = hex::read(line).unwrap_or_default();
-                bytes.starts_with(kind) && bytes.contains(&b'[') && found.starts_with(answer)
-            };
-            count += pairs.filter(|(line, found)| is_one(line, found)).count();
+                let texts = Frame::read(&bytes).map(texts).unwrap_or_default().concat();
+                let is_one = found.starts_with(answer.as_bytes()) && texts.iter().any(|byte| is_such(*byte));
+                count += usize::from(is_one);
+            }
         }
         count
     }
 
     #[test]
     fn paths_with_brackets_come_out_and_home_and_are_no_ends() {
-        for (kind, answer) in [([5], b"8500"), ([6], b"8600"), ([1], b"8103"), ([1], b"8102")] {
-            let count = with_brackets(&kind, answer);
-            assert!(count > 10, "{} {count}", answer.escape_ascii());
+        for answer in ["8500", "8600", "8103", "8102"] {
+            let count = answered_with(answer, |byte| byte == b'[');
+            assert!(count > 10, "{answer} {count}");
+        }
+    }
+
+    #[test]
+    fn texts_outside_ascii_come_out_and_home_and_are_ends_and_are_refused() {
+        for answer in ["8500", "8501", "8502", "8507", "8600", "8601", "8602", "8607", "8100", "8101", "8102"]
+        {
+            let count = answered_with(answer, |byte| !byte.is_ascii());
+            assert!(count > 10, "{answer} {count}");
         }
     }
 

@@ -120,9 +120,11 @@ fn resulting_paths(writer: &mut Writer) {
     for end in [source, target] {
         for more in 0..=10 {
             let path = [end, &b"/bcdefghijk"[..more]].concat();
+            // Sometimes cut off within a character.
+            let outside_ascii = [end, &"/é中😀b".as_bytes()[..more]].concat();
             let property = [end, &b".b"[..]].concat();
             let bracketed = [&property, &b"[/T]"[..]].concat();
-            for path in [path, property, bracketed] {
+            for path in [path, outside_ascii, property, bracketed] {
                 writer.out(&path);
                 writer.home(&path);
             }
