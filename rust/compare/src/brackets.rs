@@ -7,7 +7,7 @@ use crate::comparison::Comparison;
 use crate::exhaustive::{every_byte_everywhere, legal, one_text, pairs, triples};
 use crate::phase::phase;
 use crate::text::Text;
-use texts::enumerate::{all_texts, texts_near_legal, texts_of_words_near_legal};
+use texts::enumerate::{all_texts, legal_texts_of_words, texts_near_legal, texts_of_words_near_legal};
 use texts::legal::{is_legal, opening_brackets};
 
 /// Enough for every depth, and for one bracket more than allowed.
@@ -61,13 +61,7 @@ fn bracketed(alphabet: &[u8], longest: usize) -> Vec<Text> {
 
 /// Legal texts with no bracket to four.
 fn of_every_depth() -> Vec<Text> {
-    let mut texts = Vec::new();
-    texts_of_words_near_legal(&[b"/A.r[", b"/B", b"/", b"]"], 10, &mut |bytes| {
-        if is_legal(bytes) {
-            texts.push(Text::new(bytes));
-        }
-    });
-    texts
+    legal_texts_of_words(&[b"/A.r[", b"/B", b"/", b"]"], 10).iter().map(|bytes| Text::new(bytes)).collect()
 }
 
 fn targets(comparison: &mut Comparison, texts: &[Text], targets: &[Text]) {

@@ -74,7 +74,8 @@ impl Comparison {
         self.ancestors(text);
     }
 
-    fn one_path(&mut self, call: &PathCall, text: &Text, capacities: &[usize]) {
+    /// Compares a call that maps one path to another, with a buffer of each capacity.
+    pub fn one_path(&mut self, call: &PathCall, text: &Text, capacities: &[usize]) {
         let expected = call.expected(text);
         let entry = |out: &mut [u8]| (call.entry)(&text.bytes, out);
         self.path(call.name, &Texts(&[text]), capacities, &expected, entry);

@@ -8,7 +8,7 @@ mod difference;
 mod entry;
 mod generate;
 mod program;
-mod script;
+pub mod script;
 mod scripts;
 mod sending;
 

@@ -9,19 +9,19 @@ use texts::MAX_PATH_LEN;
 const PREFIXES: [&[&str]; 6] = [
     &[""],
     &["/"],
-    &["/A", "/A/B", "/_a1", "/A{v=p}B"],
-    &["/A{v=p}", "/A{v=p}{w=q}", "/A/B{v=p}"],
-    &["/A.b", "/A{v=p}.b:c"],
+    &["/A", "/A/B", "/_a1", "/A{v=p}B", "/é", "/A{v=p}中"],
+    &["/A{v=p}", "/A{v=p}{w=q}", "/A/B{v=p}", "/é{中=q}"],
+    &["/A.b", "/A{v=p}.b:c", "/é.中"],
     &["/A.b[/T]", "/A{v=p}.b[/T{w=q}]"],
 ];
 
 /// Remainders by what they begin with: nothing, a slash and a name, a name, a property, a selection, a bracket.
 const REMAINDERS: [&[&str]; 6] = [
     &[""],
-    &["/C", "/C/D.e", "/_1", "/C.d[/T{w=q}]"],
-    &["C", "_C/D", "c.e", "C{w=q}", "c.e[/A.b[/T]]"],
-    &[".d", ".d:e", ".d[/]"],
-    &["{w=q}C", "{w=q}.d", "{w=q}", "{w=q}.d[/A{v=p}]"],
+    &["/C", "/C/D.e", "/_1", "/C.d[/T{w=q}]", "/é"],
+    &["C", "_C/D", "c.e", "C{w=q}", "c.e[/A.b[/T]]", "é", "中/D", "😀.é"],
+    &[".d", ".d:e", ".d[/]", ".é"],
+    &["{w=q}C", "{w=q}.d", "{w=q}", "{w=q}.d[/A{v=p}]", "{é=q}中"],
     &["[/T]"],
 ];
 
@@ -31,7 +31,9 @@ pub fn run(comparison: &mut Comparison) {
             for rest in REMAINDERS.concat() {
                 join(comparison, old, new, rest.to_string());
                 for length in MAX_PATH_LEN - 2..=MAX_PATH_LEN + 1 {
-                    join(comparison, old, new, lengthened(rest, length.saturating_sub(new.len())));
+                    let length = length.saturating_sub(new.len());
+                    join(comparison, old, new, lengthened(rest, length, "x"));
+                    join(comparison, old, new, lengthened(rest, length, "é"));
                 }
             }
         }
@@ -44,12 +46,12 @@ fn join(comparison: &mut Comparison, old: &str, new: &str, rest: String) {
     comparison.replace_prefix(&path, &old, &new);
 }
 
-/// The remainder with its last name, which may be in brackets, lengthened to `length` bytes in all; itself if it ends in no
-/// name. The path `/` in brackets gets a name.
-fn lengthened(rest: &str, length: usize) -> String {
+/// The remainder with its last name, which may be in brackets, lengthened by this letter to `length` bytes in all, or to as many as
+/// whole letters make; itself if it ends in no name. The path `/` in brackets gets a name.
+fn lengthened(rest: &str, length: usize, letter: &str) -> String {
     let (names, brackets) = rest.split_at(rest.trim_end_matches(']').len());
     let more = if names.is_empty() || names.ends_with('}') { 0 } else { length.saturating_sub(rest.len()) };
-    format!("{names}{}{brackets}", "x".repeat(more))
+    format!("{names}{}{brackets}", letter.repeat(more / letter.len()))
 }
 
 #[cfg(test)]
@@ -81,10 +83,12 @@ mod tests {
 
     #[test]
     fn a_lengthened_remainder_reaches_the_limit() {
-        assert_eq!(lengthened("/C", 250).len(), 250);
-        assert_eq!(lengthened("", 250), "");
-        assert_eq!(lengthened("{w=q}", 250), "{w=q}");
-        assert_eq!(lengthened(".d[/]", 7), ".d[/xx]");
-        assert_eq!(lengthened(".d[/A{v=p}]", 250), ".d[/A{v=p}]");
+        assert_eq!(lengthened("/C", 250, "x").len(), 250);
+        assert_eq!(lengthened("/C", 250, "é").len(), 250);
+        assert_eq!(lengthened("/C", 251, "é").len(), 250);
+        assert_eq!(lengthened("", 250, "x"), "");
+        assert_eq!(lengthened("{w=q}", 250, "x"), "{w=q}");
+        assert_eq!(lengthened(".d[/]", 7, "x"), ".d[/xx]");
+        assert_eq!(lengthened(".d[/A{v=p}]", 250, "x"), ".d[/A{v=p}]");
     }
 }

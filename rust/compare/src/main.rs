@@ -14,6 +14,7 @@ mod lent;
 mod makes;
 mod many;
 mod maps;
+mod names;
 mod options;
 mod own_part;
 mod parts;

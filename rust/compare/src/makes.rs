@@ -1,7 +1,7 @@
 //! Compares the calls that build maps: on all small lists and maps, with flaws, and on random ones.
 
 mod before;
-mod calls;
+pub mod calls;
 pub mod cases;
 mod numbers;
 mod small;

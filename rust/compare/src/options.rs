@@ -42,7 +42,7 @@ pub struct Options {
 
 /// The help text, which lists the parts.
 pub fn help() -> String {
-    format!("{USAGE}\nparts: {}", parts::names())
+    format!("{USAGE}\nparts: {}", parts::all_names())
 }
 
 impl Options {

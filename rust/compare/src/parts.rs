@@ -3,7 +3,7 @@
 use crate::comparison::Comparison;
 use crate::options::Options;
 use crate::phase::random_phase;
-use crate::{carried, cases, exhaustive, frames, makes, maps, relocates, routes, times};
+use crate::{carried, cases, exhaustive, frames, makes, maps, names, relocates, routes, times};
 
 pub struct Part {
     pub name: &'static str,
@@ -15,6 +15,7 @@ pub const FRAMES: &str = "frames";
 
 pub const PARTS: &[Part] = &[
     Part { name: "paths", run: paths },
+    Part { name: "names", run: names },
     Part { name: "maps", run: maps },
     Part { name: "makes", run: makes },
     Part { name: "relocates", run: relocates },
@@ -25,7 +26,7 @@ pub const PARTS: &[Part] = &[
 ];
 
 /// The names of all parts, for the help text.
-pub fn names() -> String {
+pub fn all_names() -> String {
     PARTS.iter().map(|part| part.name).collect::<Vec<_>>().join(", ")
 }
 
@@ -33,6 +34,17 @@ fn paths(comparison: &mut Comparison, options: &Options) {
     exhaustive::run(comparison);
     random_phase(comparison, "cases", options.seed, &options.limit, cases::case);
     println!("legal texts that Path::new refuses: {}", comparison.refused_by_original.len());
+}
+
+fn names(comparison: &mut Comparison, options: &Options) {
+    names::run(comparison);
+    random_phase(
+        comparison,
+        "texts with names outside ASCII",
+        options.seed,
+        &options.limit,
+        names::cases::case,
+    );
 }
 
 fn maps(comparison: &mut Comparison, options: &Options) {

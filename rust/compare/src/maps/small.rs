@@ -10,7 +10,7 @@ pub const ENDS: [&str; 10] = ["", "/", "/A", "/B", "/AB", "/A/A", "/A/B", "/B/A"
 
 pub const FEW_ENDS: [&str; 5] = ["", "/", "/A", "/A/B", "/B"];
 
-const PATHS: [&str; 47] = [
+const PATHS: [&str; 50] = [
     "",
     "/",
     "/A",
@@ -58,6 +58,9 @@ const PATHS: [&str; 47] = [
     "/A.a[/B]",
     "/A/B.a[/A{v=p}B]",
     "/B{v=p}A.a[/A/B.a[/]]",
+    "/Aé",
+    "/A{v=p}é/B",
+    "/A/B{v=p}中.é[/é]",
 ];
 
 pub fn lists_of_at_most_two(visit: Visit) {
