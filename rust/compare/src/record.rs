@@ -30,11 +30,17 @@ fn sample(seed: u64) -> Vec<Case> {
     while sample.len() < LINES {
         let length = recorded_length(random);
         let case = cases::texts(random, length);
-        if case.iter().flatten().all(u8::is_ascii_graphic) && !sample.contains(&case) {
+        if case.iter().all(|text| is_writable(text)) && !sample.contains(&case) {
             sample.push(case);
         }
     }
     sample
+}
+
+/// Returns whether a text can be written to a line between spaces. The sample is UTF-8.
+fn is_writable(text: &[u8]) -> bool {
+    let is_visible = |character: char| character.is_ascii_graphic() || !character.is_ascii();
+    str::from_utf8(text).is_ok_and(|text| text.chars().all(is_visible))
 }
 
 /// Mostly short, so that the sample stays small.
@@ -146,6 +152,20 @@ fn chosen_cases() -> Vec<Case> {
         ["/A", "/A", "C"],
         ["/A", "/A/", "/C"],
         ["/A", "/B", "/C/"],
+        ["/é", "/", "/C"],
+        ["/é/b", "/é", "/中"],
+        ["/Aé", "/A", "/C"],
+        ["/é", "/è", "/C"],
+        ["/A/é", "/A", "/C{v=p}"],
+        ["/A{v=p}é/b", "/A{v=p}", "/C"],
+        ["/A{v=p}😀.é:б", "/A{v=p}", "/C{w=q}"],
+        ["/A{v=p}{é=q}中", "/A{v=p}", "/"],
+        ["/A.é[/中/😀]", "/A", "/é"],
+        ["/A{v=é}", "/A", "/C"],
+        ["/A", "/A", "/C{v=é}"],
+        ["/A\u{A0}", "/A", "/C"],
+        ["/A/\u{200B}", "/A", "/C"],
+        ["/A\u{3000}", "/A", "/C"],
     ];
     CASES.iter().map(|case| case.map(|text| text.as_bytes().to_vec())).collect()
 }
