@@ -1,4 +1,5 @@
-//! Times `new` and `replace_prefix` on path texts, and on texts with brackets also the calls on the path in them.
+//! Times `new` and `replace_prefix` on path texts, in and outside ASCII, and on texts with brackets also the calls on the path in
+//! them.
 
 mod brackets;
 
@@ -12,20 +13,31 @@ use texts::MAX_PATH_LEN;
 
 pub fn print() {
     head(&["call", "texts", "mean bytes", "original, ns", "library, ns", "library / original"]);
-    for names in [Names::Mixed, Names::LowerCase] {
-        for length in [27, 71, 222] {
-            time_new(names, length);
-        }
-    }
-    for length in [40, 100, 200] {
-        time_replace_prefix(length);
-    }
+    time_new(Names::Mixed);
+    time_new(Names::LowerCase);
+    time_replace_prefix(Names::Mixed);
     for length in [80, 200] {
         brackets::time(length);
     }
+    for names in Names::OUTSIDE_ASCII {
+        time_new(names);
+        time_replace_prefix(names);
+    }
 }
 
-fn time_new(names: Names, length: usize) {
+fn time_new(names: Names) {
+    for length in [27, 71, 222] {
+        time_new_of(names, length);
+    }
+}
+
+fn time_replace_prefix(names: Names) {
+    for length in [40, 100, 200] {
+        time_replace_prefix_of(names, length);
+    }
+}
+
+fn time_new_of(names: Names, length: usize) {
     let paths = inputs::paths(names, length, COUNT);
     assert!(paths.iter().all(|path| ffi::paths::new(path.as_bytes()).number() == 0));
     let original = || {
@@ -42,8 +54,8 @@ fn time_new(names: Names, length: usize) {
     print_row("`new`", names.title(), paths.iter().map(String::len), times);
 }
 
-fn time_replace_prefix(length: usize) {
-    let replacements = inputs::replacements(length, COUNT);
+fn time_replace_prefix_of(names: Names, length: usize) {
+    let replacements = inputs::replacements(names, length, COUNT);
     assert!(replacements.iter().all(sides_agree));
     let (mut out, mut other_out) = ([0; MAX_PATH_LEN], [0; MAX_PATH_LEN]);
     let original = || {
@@ -57,12 +69,7 @@ fn time_replace_prefix(length: usize) {
         }
     };
     let times = best_times(COUNT, original, library);
-    print_row(
-        "`replace_prefix`",
-        Names::Mixed.title(),
-        replacements.iter().map(|each| each.path.len()),
-        times,
-    );
+    print_row("`replace_prefix`", names.title(), replacements.iter().map(|each| each.path.len()), times);
 }
 
 /// From text to text: three paths are parsed, the prefix is replaced, and the bytes of the result are copied.

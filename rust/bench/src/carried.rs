@@ -2,7 +2,7 @@
 //! same texts.
 
 use crate::clock::best_times;
-use crate::inputs::{self, COUNT, packed};
+use crate::inputs::{self, COUNT, Names, packed};
 use crate::table::{head, nanoseconds, ratio, row};
 use mudvizsor::ffi::Reply;
 use mudvizsor::ffi::maps::{Direction, List, apply, apply_carried};
@@ -30,7 +30,7 @@ pub fn print() {
 
 /// Tests the prefix of paths of about this length.
 fn time_prefixes(length: usize) {
-    let texts = inputs::replacements(length, COUNT);
+    let texts = inputs::replacements(Names::Mixed, length, COUNT);
     let texts: Vec<[&[u8]; 2]> =
         texts.iter().map(|each| [each.path.as_bytes(), each.old.as_bytes()]).collect();
     time(

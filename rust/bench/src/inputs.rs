@@ -7,36 +7,56 @@ use texts::random::Random;
 /// The number of texts that are timed together.
 pub const COUNT: usize = 2_000;
 
-const LOWER: &[u8] = b"abcdefghijklmnopqrstuvwxyz";
-/// Name bytes; the first 53 may start a name.
-const MIXED: &[u8] = b"abcdefghijklmnopqrstuvwxyzABCDEFGHIJKLMNOPQRSTUVWXYZ_0123456789";
+const LOWER: &str = "abcdefghijklmnopqrstuvwxyz";
+/// Characters of names in ASCII; the first 53 may start a name.
+const MIXED: &str = "abcdefghijklmnopqrstuvwxyzABCDEFGHIJKLMNOPQRSTUVWXYZ_0123456789";
+/// Letters of which about one in three has two bytes.
+const LATIN: &str = "abcdefghijklmnopqrstuvwxyzäöüßéèêçàñôåø";
+/// Two bytes each.
+const CYRILLIC: &str = "абвгдежзийклмнопрстуфхцчшщъыьэюя";
+/// Three bytes each.
+const CHINESE: &str = "信号灯轨道车站桥门东西南北上下左右红黄绿";
+/// Four bytes each: letters of the Gothic alphabet.
+const GOTHIC: &str = "𐌰𐌱𐌲𐌳𐌴𐌵𐌶𐌷𐌸𐌹𐌺𐌻𐌼𐌽𐌾𐌿𐍀𐍂𐍃𐍄𐍅𐍆𐍇𐍈𐍉";
 
 /// The alphabet of the names.
 #[derive(Clone, Copy)]
 pub enum Names {
     Mixed,
     LowerCase,
+    Latin,
+    Cyrillic,
+    Chinese,
+    Gothic,
 }
 
 impl Names {
+    pub const OUTSIDE_ASCII: [Names; 4] = [Names::Latin, Names::Cyrillic, Names::Chinese, Names::Gothic];
+
     pub fn title(self) -> &'static str {
         match self {
             Names::Mixed => "letters, digits, `_`",
             Names::LowerCase => "lower case",
+            Names::Latin => "Latin, a third with accents",
+            Names::Cyrillic => "Cyrillic (two bytes)",
+            Names::Chinese => "Chinese (three bytes)",
+            Names::Gothic => "Gothic (four bytes)",
         }
     }
 
-    fn first_bytes(self) -> &'static [u8] {
-        match self {
-            Names::Mixed => &MIXED[..53],
-            Names::LowerCase => LOWER,
-        }
+    /// The alphabet of the variants of selections, which must be ASCII.
+    fn of_variants(self) -> Names {
+        if self.characters().is_ascii() { self } else { Names::LowerCase }
     }
 
-    fn bytes(self) -> &'static [u8] {
+    fn characters(self) -> &'static str {
         match self {
             Names::Mixed => MIXED,
             Names::LowerCase => LOWER,
+            Names::Latin => LATIN,
+            Names::Cyrillic => CYRILLIC,
+            Names::Chinese => CHINESE,
+            Names::Gothic => GOTHIC,
         }
     }
 }
@@ -73,9 +93,9 @@ pub fn paths(names: Names, length: usize, count: usize) -> Vec<String> {
 }
 
 /// Paths of about `length` bytes, with a prefix of about a third of them and a new prefix of that length.
-pub fn replacements(length: usize, count: usize) -> Vec<Replacement> {
+pub fn replacements(names: Names, length: usize, count: usize) -> Vec<Replacement> {
     let random = &mut Random::new(length as u64);
-    (0..count).map(|_| replacement(random, length)).collect()
+    (0..count).map(|_| replacement(random, names, length)).collect()
 }
 
 /// Paths of about `length` bytes, of which about half are in brackets.
@@ -164,10 +184,10 @@ fn path_of_one(random: &mut Random, pairs: &[[String; 2]], length: usize) -> Str
     format!("{source}{rest}")
 }
 
-fn replacement(random: &mut Random, length: usize) -> Replacement {
-    let old = prim_path(random, Names::Mixed, length / 3);
-    let new = prim_path(random, Names::Mixed, length / 3);
-    let rest = path(random, Names::Mixed, length - old.len());
+fn replacement(random: &mut Random, names: Names, length: usize) -> Replacement {
+    let old = prim_path(random, names, length / 3);
+    let new = prim_path(random, names, length / 3);
+    let rest = path(random, names, length - old.len());
     Replacement { path: format!("{old}{rest}"), old, new }
 }
 
@@ -177,8 +197,8 @@ fn path(random: &mut Random, names: Names, length: usize) -> String {
     append_child(random, names, &mut text);
     while text.len() + 10 < length {
         if random.one_in(5) {
-            let (set, selection) = (name(random, names), name(random, names));
-            text += &format!("{{{set}={selection}}}");
+            let (set, variant) = (name(random, names), name(random, names.of_variants()));
+            text += &format!("{{{set}={variant}}}");
         } else {
             append_child(random, names, &mut text);
         }
@@ -211,11 +231,18 @@ fn append_child(random: &mut Random, names: Names, text: &mut String) {
     *text += &name(random, names);
 }
 
-/// A name of 4 to 12 bytes.
+/// A name of at most 4 to 12 bytes.
 fn name(random: &mut Random, names: Names) -> String {
-    let mut name = vec![*random.pick(names.first_bytes())];
-    for _ in 0..random.within(3..=11) {
-        name.push(*random.pick(names.bytes()));
+    let characters: Vec<char> = names.characters().chars().collect();
+    let first: Vec<char> = characters.iter().copied().filter(|first| !first.is_ascii_digit()).collect();
+    let mut name = random.pick(&first).to_string();
+    let longest = random.within(4..=12);
+    while name.len() < longest {
+        let next = *random.pick(&characters);
+        if name.len() + next.len_utf8() > longest {
+            break;
+        }
+        name.push(next);
     }
-    name.into_iter().map(char::from).collect()
+    name
 }
