@@ -9,9 +9,9 @@ pub struct Lent<T> {
 }
 
 impl Lent<u8> {
-    /// A buffer of bytes. Every byte of the pattern is a control from 1 to 31, so none can be a byte of a path.
+    /// A buffer of bytes. Every byte of the pattern is a control from 16 to 31, so none can be a byte of a path.
     pub fn bytes(most: usize) -> Self {
-        Lent::new((0..most + 2 * MARGIN).map(|at| (at % 31 + 1) as u8).collect())
+        Lent::new((0..most + 2 * MARGIN).map(|at| 0x10 | at as u8 & 0x0F).collect())
     }
 }
 
