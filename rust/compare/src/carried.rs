@@ -16,6 +16,7 @@ use crate::routes::cases::route_and_paths;
 use crate::text::Text;
 use crate::{cases, maps, routes};
 use entries::EXPECTED;
+use kinds::Kinds;
 use std::mem;
 use texts::MAX_PATH_LEN;
 use texts::enumerate::{all_texts, legal_texts};
@@ -33,6 +34,8 @@ const ENOUGH: u64 = 2_000;
 const PATH: &[usize] = &[MAX_PATH_LEN];
 
 pub fn run(comparison: &mut Comparison, seed: u64, limit: &Limit) {
+    // Only the cases of this part count.
+    comparison.kinds = Kinds::default();
     phase(comparison, "cases of the rest", table::run);
     phase(comparison, "the rest of every pair of texts", every_pair_of_texts);
     phase(comparison, "the rest, lists of at most two pairs", |comparison| {

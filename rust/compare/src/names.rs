@@ -48,8 +48,8 @@ pub fn run(comparison: &mut Comparison) {
     });
     phase(comparison, "pairs and triples of legal texts with names outside ASCII", |comparison| {
         // Some names begin or end with the same bytes.
-        pairs(comparison, &legal(&["/", "A", "é", "è", "ĩ", ".", "{v=p}"], 4));
-        triples(comparison, &legal(&["/", "A", "é", ".", "{v=p}"], 4));
+        pairs(comparison, &legal(&["/", "A", "é", "è", "ĩ", ".", "{v=p}"], 5));
+        triples(comparison, &legal(&["/", "A", "é", ".", "{v=p}"], 5));
     });
 }
 

@@ -1,4 +1,4 @@
-//! Every character outside ASCII wherever a name may stand, and in selections.
+//! Every character outside ASCII wherever a name may stand, and in variants.
 
 use crate::calls::{self, NEW, PARENT, PathCall, STRIP_VARIANT_SELECTIONS};
 use crate::comparison::Comparison;
@@ -39,14 +39,14 @@ pub fn run(comparison: &mut Comparison) {
         let is_of_names = is_name_character_outside_ascii(character);
         for [before, after] in OF_NAMES {
             let text = text(before, character, after);
-            is_taken(comparison, &text, is_of_names);
-            original_takes(comparison, &text, is_of_names);
+            is_accepted(comparison, &text, is_of_names);
+            original_accepts(comparison, &text, is_of_names);
         }
         for [before, after] in OF_VARIANTS {
             let text = text(before, character, after);
-            is_taken(comparison, &text, false);
-            // There the original is wider.
-            original_takes(comparison, &text, is_of_names);
+            is_accepted(comparison, &text, false);
+            // The original accepts in variants what it accepts in names.
+            original_accepts(comparison, &text, is_of_names);
         }
         if is_of_names {
             after_a_selection(comparison, character);
@@ -59,28 +59,25 @@ fn text(before: &str, character: char, after: &str) -> Text {
     Text::new(format!("{before}{character}{after}").as_bytes())
 }
 
-/// Compares whether the text is legal.
-fn is_taken(comparison: &mut Comparison, text: &Text, expected: bool) {
+/// Compares whether the text is legal, and checks that this is as the requirements say.
+fn is_accepted(comparison: &mut Comparison, text: &Text, expected: bool) {
     let given = &Texts(&[text]);
     let call = Call { name: NEW.name, given, capacity: None };
     let answer = NEW.expected(text);
     comparison.tally.compare(call, answer, paths::new(&text.bytes), None);
-    comparison.tally.fact(
-        "a name has the characters that the requirements list",
-        given,
-        answer.is_ok() == expected,
-    );
+    let name = "a character outside ASCII is accepted as the requirements say";
+    comparison.tally.fact(name, given, answer.is_ok() == expected);
 }
 
-/// Checks whether `Path::new` takes the text.
-fn original_takes(comparison: &mut Comparison, text: &Text, expected: bool) {
-    let takes = match text.path() {
+/// Checks whether `Path::new` accepts the text.
+fn original_accepts(comparison: &mut Comparison, text: &Text, expected: bool) {
+    let accepts = match text.path() {
         // The path of a text that `Path::new` refuses is the empty one.
         Some(path) => !path.is_empty(),
         None => str::from_utf8(&text.bytes).is_ok_and(|text| Path::new(text).is_ok()),
     };
-    let name = "Path::new takes the characters that the requirements list";
-    comparison.tally.fact(name, &Texts(&[text]), takes == expected);
+    let name = "Path::new accepts the characters that the requirements list";
+    comparison.tally.fact(name, &Texts(&[text]), accepts == expected);
 }
 
 /// "Joins, and stripping after a `}`, take such characters for name characters."

@@ -74,6 +74,6 @@ pub fn in_every_call(comparison: &mut Comparison) {
 fn refused(comparison: &mut Comparison, bytes: &[u8], number: u8) {
     let text = &Text::new(bytes);
     let agrees = text.answer() == Err(number);
-    comparison.tally.fact("what is not UTF-8 is refused", &Texts(&[text]), agrees);
+    comparison.tally.fact("what is not UTF-8 is refused with 2, or with 1", &Texts(&[text]), agrees);
     every_call(comparison, text);
 }
