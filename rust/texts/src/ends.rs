@@ -7,7 +7,7 @@ use crate::random::Random;
 /// There are only a few names, so that ends are often nested or equal.
 const NAMES: [&str; 4] = ["A", "B", "AB", "c1"];
 
-/// Names of which some begin or end with the same bytes, but not with the same character.
+/// Names of which some begin or end with the same bytes.
 const NAMES_OUTSIDE_ASCII: [&str; 5] = ["A", "é", "Aé", "è", "ĩ"];
 
 /// Generates `size` ends, of which the first is `/`: nested, equal, nearly equal, empty, some near the length limit.

@@ -58,3 +58,24 @@ fn join(random: &mut Random) -> [Vec<u8>; 3] {
     let new = [end_text(random, length - new_end.len()), new_end.into()].concat();
     [path, old.into(), new]
 }
+
+#[cfg(test)]
+mod tests {
+    use super::*;
+    use crate::calls::replace_prefix;
+    use crate::text::{MADE_NOT_LEGAL, MADE_TOO_LONG};
+    use std::collections::BTreeMap;
+
+    #[test]
+    fn results_of_joins_are_on_both_sides_of_the_limit() {
+        let (random, mut counts) = (&mut Random::new(1), BTreeMap::new());
+        for _ in 0..5_000 {
+            let [path, old, new] = join(random).map(|bytes| Text::new(&bytes));
+            let answer = replace_prefix(&path, &old, &new).map(|made| made.as_str().len());
+            *counts.entry(answer).or_insert(0) += 1;
+        }
+        for answer in [Ok(MAX_PATH_LEN - 1), Ok(MAX_PATH_LEN), Err(MADE_TOO_LONG), Err(MADE_NOT_LEGAL)] {
+            assert!(counts.get(&answer).is_some_and(|count| *count > 100), "{answer:?} {counts:?}");
+        }
+    }
+}
