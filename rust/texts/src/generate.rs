@@ -281,8 +281,8 @@ mod tests {
         assert!(short.iter().chain(&long).all(|texts| *texts > 100), "{short:?} {long:?}");
     }
 
-    /// In short and in long texts there are characters of two, three and four bytes, and some begin the name of a prim, also after a
-    /// selection, of a set, of a property and of a prim in brackets.
+    /// In short and in long texts there are characters of two, three and four bytes, and some begin the name of a prim, also after
+    /// a selection, of a set, of a property and of a prim in brackets.
     #[test]
     fn generated_texts_have_characters_outside_ascii_everywhere() {
         for length in [24, MAX_PATH_LEN] {

@@ -9,8 +9,8 @@ use crate::random::Random;
 const PARTS: [&str; 16] =
     ["/", "/A", "/é", "{v=p}", "{é=p}", "{v=é}", ".b", ".é", ":c", ":é", "[/", "]", "B", "é", "1", "_"];
 
-/// A text of `length` bytes that begins with a slash, if it has any: parts of paths, characters of names, now and then a control, white
-/// space, bytes that are not UTF-8 or any byte. Its last character may be cut off.
+/// A text of `length` bytes that begins with a slash, if it has any: parts of paths, characters of names, now and then a control,
+/// white space, bytes that are not UTF-8 or any byte. Its last character may be cut off.
 pub fn mixed_text(random: &mut Random, length: usize) -> Vec<u8> {
     let mut text = b"/".to_vec();
     let wrong = *random.pick(&[0, 0, 1, 4]);

@@ -52,7 +52,7 @@ mod tests {
     }
 
     /// The texts of a frame.
-    fn texts(frame: Frame) -> Vec<&[u8]> {
+    fn texts(frame: Frame<'_>) -> Vec<&[u8]> {
         match frame {
             Frame::Pair { source, target } => vec![source, target],
             Frame::Out(path) | Frame::Home(path) => vec![path],

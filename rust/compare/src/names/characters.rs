@@ -9,8 +9,8 @@ use original::sdf::Path;
 use texts::MAX_PATH_LEN;
 use texts::legal::is_name_character_outside_ascii;
 
-/// What comes before a character of a name, and after it: it begins or continues the name of a prim, of a property, a later name of a
-/// property, the name of a variant set, the name of a prim after a selection, and such names in brackets.
+/// What comes before a character of a name, and after it: it begins or continues the name of a prim, the first or a later name of
+/// a property, the name of a variant set, the name of a prim after a selection, and such names in brackets.
 const OF_NAMES: [[&str; 2]; 17] = [
     ["/", ""],
     ["/A", ""],
