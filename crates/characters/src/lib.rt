@@ -222,7 +222,7 @@ fn decodes_allowed(text: &[u8]) -> bool
 }
 
 // Returns whether the text is well-formed UTF-8 and each of its characters outside ASCII is one that a
-// name may have. The first scan accepts most such texts, in a quarter of the time.
+// name may have. The first scan accepts most such texts, and is faster.
 pub fn characters_allowed(text: &[u8]) -> bool
     ensures { λ r. ⌜ r ≡ charactersAllowed (now (text .entry)) ⌝ }
 {

@@ -11,13 +11,14 @@ use lib.Bits.{bitOr, bitAnd, or-lt, or-add-and, or-comm, and-le-r}
 use lib.ListN.{length, getD, drop, drop-of-length-le, length-map, List·getD-map}
 use lib.Seq.{drop-cons}
 use borrow.Author.Tests.{leb-true, leb-false, le-leb, lt-leb, lt-ltb, le-ltb}
-use Rattle.text.specs.Text.{Text}
+use Rattle.text.specs.Text.{Text, endsWithByte}
 use Rattle.text.proofs.BoolLaws.{and-assoc, and-no, and-yes}
 use Rattle.characters.specs.NameCharacter.{charactersAllowed, isAscii}
 use Rattle.characters.proofs.AllowedLaws.{ascii-allowed}
-use Rattle.path_grammar.specs.Legal.{scanAccepts, legalOwn, isEnd}
+use Rattle.path_grammar.specs.Legal.{scanAccepts, legalOwn, legal, isEnd}
 use Rattle.path_grammar.specs.PackedScan.{packedSteps, endByte, scanCode}
 use Rattle.path_grammar.proofs.ScanLaws.{Reads, first, on, none, other, root, whole}
+use Rattle.path_grammar.proofs.InnerLaws.{legal-scanned}
 use Rattle.path_grammar.proofs.EndLaws.{ends-by-scan}
 
 -- The bytes so far, combined, are below 128 exactly if each of them is.
@@ -222,6 +223,17 @@ module _ (p : Text) (n : ℕ) (e : n ≡ scanCode p p) where
   unfolding legalOwn
   own-asks c z f = code-asks p p n e c z f
 
+-- Lemmas for `is_legal`, of a text that does not end in a closing bracket.
+module _ (p : Text) (l : Bool) (h : l ≡ endsWithByte 93 p) (o : l ≡ false) (n : ℕ) (e : n ≡ scanCode p p) where
+  pub legal-yes : n ≡ 1 → true ≡ legal p
+  legal-yes t = legal-scanned p l true h o (own-yes p n e t)
+
+  pub legal-no : n ≡ 0 → false ≡ legal p
+  legal-no t = legal-scanned p l false h o (own-no p n e t)
+
+  pub legal-asks : (c : Bool) → n ≢ 0 → c ≡ charactersAllowed p → c ≡ legal p
+  legal-asks c z f = legal-scanned p l c h o (own-asks p n e c z f)
+
 -- Lemmas for `is_end`.
 module _ (p : Text) (n : ℕ) (e : n ≡ scanCode (map endByte p) p) where
   pub is-end-yes : n ≡ 1 → true ≡ isEnd p
@@ -233,4 +245,4 @@ module _ (p : Text) (n : ℕ) (e : n ≡ scanCode (map endByte p) p) where
   pub is-end-asks : (c : Bool) → n ≢ 0 → c ≡ charactersAllowed p → c ≡ isEnd p
   is-end-asks c z f = rw (ends-by-scan p) (code-asks p (map endByte p) n e c z f)
 
-pub ruleset asking = (own-yes, own-no, own-asks, is-end-yes, is-end-no, is-end-asks)
+pub ruleset asking = (own-yes, own-no, own-asks, legal-yes, legal-no, legal-asks, is-end-yes, is-end-no, is-end-asks)

@@ -149,7 +149,7 @@ fn is_legal_within(p: &[u8], depth: usize) -> bool
 }
 
 // Returns whether the text is a legal path, regardless of its length. A text that does not end in `]` has no
-// brackets.
+// brackets. The last lines are those of `is_legal_own`: a call of it would take the text from memory.
 pub fn is_legal(p: &[u8]) -> bool
     ensures { λ r. ⌜ r ≡ legal (now (p .entry)) ⌝ }
 {
@@ -159,7 +159,14 @@ pub fn is_legal(p: &[u8]) -> bool
     if text::last_is(p, b']') {
         return is_legal_within(p, 4);
     }
-    is_legal_own(p)
+    let code = scan(p);
+    if code == 1 {
+        return true;
+    }
+    if code == 0 {
+        return false;
+    }
+    characters::characters_allowed(p)
 }
 
 // Like `row`, but treats `.` and `{` as bytes that no path contains.

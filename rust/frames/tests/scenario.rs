@@ -1,11 +1,23 @@
-//! The scenario of tram line 7 in the repository.
+//! The scenarios of the tram lines in the repository.
 
 use frames_original::answers;
 
-const FRAMES: &[u8] = include_bytes!("../../../scenarios/line-7.frames");
-const ANSWERS: &[u8] = include_bytes!("../../../scenarios/line-7.answers");
+fn check(frames: &[u8], recorded: &[u8]) {
+    assert_eq!(answers(frames).escape_ascii().to_string(), recorded.escape_ascii().to_string());
+}
 
 #[test]
 fn line_7_gets_the_recorded_answers() {
-    assert_eq!(answers(FRAMES).escape_ascii().to_string(), ANSWERS.escape_ascii().to_string());
+    check(
+        include_bytes!("../../../scenarios/line-7.frames"),
+        include_bytes!("../../../scenarios/line-7.answers"),
+    );
+}
+
+#[test]
+fn line_61_gets_the_recorded_answers() {
+    check(
+        include_bytes!("../../../scenarios/line-61.frames"),
+        include_bytes!("../../../scenarios/line-61.answers"),
+    );
 }

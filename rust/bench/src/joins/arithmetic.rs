@@ -1,6 +1,6 @@
 //! The join whose separator is a number, computed from tests as numbers: `join` of crates/path_join.
 
-use super::inputs::{is_identifier_cont, write_at};
+use super::inputs::{is_name_byte, write_at};
 
 struct Layout {
     separator: usize,
@@ -28,7 +28,7 @@ fn layout_of(old: &[u8], new: &[u8], rest: &[u8]) -> Layout {
     let new_last = last_byte(new);
     let old_is_root = (old.len() == 1) & (old_last == b'/');
     let new_is_root = (new.len() == 1) & (new_last == b'/');
-    let child = (first == b'/') | ((old_last == b'}') & is_identifier_cont(first));
+    let child = (first == b'/') | ((old_last == b'}') & is_name_byte(first));
     let direct = new_is_root | (new_last == b'}');
     Layout {
         separator: separator_len(!rest.is_empty(), old_is_root, new_is_root, child, direct),

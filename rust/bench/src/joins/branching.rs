@@ -1,6 +1,6 @@
 //! The join that chooses the separator by branches: `join` of crates/path_join before its separator became a number.
 
-use super::inputs::{is_identifier_cont, write_at};
+use super::inputs::{is_name_byte, write_at};
 
 fn is_root(path: &[u8]) -> bool {
     if path.len() != 1 {
@@ -20,7 +20,7 @@ fn is_child(prefix: &[u8], first: u8) -> bool {
     if !last_is(prefix, b'}') {
         return false;
     }
-    is_identifier_cont(first)
+    is_name_byte(first)
 }
 
 fn ends_with_separator(prefix: &[u8]) -> bool {

@@ -67,8 +67,12 @@ impl Set {
     }
 }
 
-pub fn is_identifier_cont(byte: u8) -> bool {
-    byte.is_ascii_uppercase() | byte.is_ascii_lowercase() | (byte == b'_') | byte.is_ascii_digit()
+pub fn is_name_byte(byte: u8) -> bool {
+    byte.is_ascii_uppercase()
+        | byte.is_ascii_lowercase()
+        | (byte == b'_')
+        | (128 <= byte)
+        | byte.is_ascii_digit()
 }
 
 /// Copies the text into the buffer from index `at`.
