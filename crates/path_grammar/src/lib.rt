@@ -243,6 +243,19 @@ fn scan_end(p: &[u8]) -> u8
     2
 }
 
+// Like `is_end`, for a text that is no end of ASCII: refused, or one whose characters are checked. That it scans
+// the text again keeps the compiler from merging `scan_end` into `is_end`, where it would take the text from
+// memory.
+fn is_end_wide(p: &[u8]) -> bool
+    ensures { λ r. ⌜ r ≡ isEnd (now (p .entry)) ⌝ }
+{
+    let code = scan_end(p);
+    if code == 0 {
+        return false;
+    }
+    characters::characters_allowed(p)
+}
+
 // Returns whether the text is a prim path, `/` or empty, regardless of its length.
 pub fn is_end(p: &[u8]) -> bool
     ensures { λ r. ⌜ r ≡ isEnd (now (p .entry)) ⌝ }
@@ -251,10 +264,7 @@ pub fn is_end(p: &[u8]) -> bool
     if code == 1 {
         return true;
     }
-    if code == 0 {
-        return false;
-    }
-    characters::characters_allowed(p)
+    is_end_wide(p)
 }
 
 // Returns whether the text is `/`.

@@ -9,14 +9,11 @@ scan-end-requires c κs = search needs
 returns : tie.Need-returns
 returns c = search (needs, asking)
 
+is-end-wide-requires : tie.Need-is-end-wide-requires
+is-end-wide-requires c κs = search needs
+
 returns-2 : tie.Need-returns-2
-returns-2 c = search (needs, asking)
-
-characters-allowed-requires : tie.Need-characters-allowed-requires
-characters-allowed-requires c κs = search needs
-
-returns-3 : tie.Need-returns-3
-returns-3 c = search (needs, asking)
+returns-2 c = search needs
 
 pub is-end-spec : {M : Type 1} → statement M
-is-end-spec = tie.close (tie.spec scan-end-requires returns returns-2 characters-allowed-requires returns-3)
+is-end-spec = tie.close (tie.spec scan-end-requires returns is-end-wide-requires returns-2)
