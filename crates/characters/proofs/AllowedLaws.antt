@@ -1,13 +1,13 @@
 -- The allowed texts, put together and taken apart: no character is cut by a byte of ASCII, or by the end of an allowed text.
 use mathlib.Core.Path.{_≡_, refl, sym, _∙_}
-use mathlib.Core.Bool.{Bool, true, false, _&&_, false≢true}
+use mathlib.Core.Bool.{true, false≢true}
 use mathlib.Core.List.{[], _∷_, _++_}
 use mathlib.Core.Option.{Option, none, some}
 use Prim.Native.Nat.{ℕ}
 use lib.Dec.{leb}
 use Rattle.text.specs.Text.{Text}
 use Rattle.text.proofs.BoolLaws.{and-l, and-r}
-use Rattle.characters.specs.Utf8.{Reading, Between, Inside, decode}
+use Rattle.characters.specs.Utf8.{Reading, Between, decode}
 use Rattle.characters.specs.NameCharacter.{charactersAllowed, isAscii}
 use Rattle.characters.proofs.ReadingLaws.{allowedFrom, next, allowedAfter, reads-byte, reads-end, nothing-read, ascii-read, ascii-here}
 

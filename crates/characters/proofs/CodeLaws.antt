@@ -13,12 +13,11 @@ use lib.Seq.{drop-cons, drop-drop}
 use borrow.Author.Tests.{leb-true, leb-false, le-leb, lt-leb, ne-eqb}
 use Rattle.text.specs.Text.{Text}
 use Rattle.text.specs.Range.{inRange}
-use Rattle.text.proofs.BoolLaws.{and-l, and-r}
 use Rattle.text.proofs.RangeLaws.{within-yes, within-below, within-above, within-low, within-high}
-use Rattle.characters.specs.Utf8.{Reading, Between, Inside, isContinuation, withBits}
+use Rattle.characters.specs.Utf8.{Inside, isContinuation, withBits}
 use Rattle.characters.specs.NameCharacter.{charactersAllowed}
 use Rattle.characters.specs.CharacterLen.{lengthByFirst, characterLen}
-use Rattle.characters.proofs.ReadingLaws.{allowedFrom, next, allowedAfter, reads-byte, cut-off, nothing-read}
+use Rattle.characters.proofs.ReadingLaws.{allowedFrom, next, allowedAfter, reads-byte, cut-off}
 use Rattle.characters.proofs.AllowedLaws.{allowed-none, allowed-ascii}
 use Rattle.characters.proofs.LenLaws.{allowed-by-character}
 use Rattle.characters.proofs.TestLaws.{begins-2, begins-3, begins-4}

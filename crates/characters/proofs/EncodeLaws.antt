@@ -1,17 +1,15 @@
 -- The bytes of a character: how they are decoded, and that they lie in ASCII exactly if the character does.
-use mathlib.Core.Path.{_≡_, refl, sym, ap, _∙_}
-use mathlib.Core.Bool.{Bool, true, false, cond, _&&_}
-use mathlib.Core.List.{List, [], _∷_, _++_}
-use mathlib.Core.Option.{Option, none, some}
-use Prim.Native.Nat.{ℕ, zero, suc, _+_, _*_, _/_, _%_, _≤_, _<_}
+use mathlib.Core.Path.{_≡_, refl, ap, _∙_}
+use mathlib.Core.Bool.{Bool, true, false, _&&_}
+use mathlib.Core.List.{[], _∷_, _++_}
+use Prim.Native.Nat.{ℕ, suc, _+_, _/_, _%_, _≤_, _<_}
 use native.Mathlib.Omega.{arith}
 use lib.Dec.{leb}
 use borrow.Author.Tests.{leb-true, leb-false, le-leb, lt-leb}
 use Rattle.text.specs.Text.{Text}
-use Rattle.text.specs.Range.{inRange}
-use Rattle.text.proofs.BoolLaws.{and-l, and-r}
-use Rattle.text.proofs.RangeLaws.{within-yes, within-below, within-above, within-low, within-high}
-use Rattle.characters.specs.Utf8.{isScalarValue, areScalarValues, continuation, encode, encodeAll, Reading, Between, Inside, isContinuation, isShortest, withBits, prepend, decodeFrom}
+use Rattle.text.proofs.BoolLaws.{and-l}
+use Rattle.text.proofs.RangeLaws.{within-yes, within-above}
+use Rattle.characters.specs.Utf8.{isScalarValue, continuation, encode, Between, Inside, withBits, prepend, decodeFrom}
 
 -- The bytes of a character, by its size.
 module _ (c : ℕ) where

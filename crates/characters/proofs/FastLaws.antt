@@ -1,9 +1,9 @@
 -- The theorem that a text which the first scan accepts is allowed.
-use mathlib.Core.Path.{_≡_, refl, sym, ap, _∙_}
-use mathlib.Core.Bool.{Bool, true, false, not, cond, _&&_, _||_, true≢false, false≢true}
+use mathlib.Core.Path.{_≡_, refl, sym, _∙_}
+use mathlib.Core.Bool.{Bool, true, false, cond, _&&_, _||_, true≢false, false≢true}
 use mathlib.Core.List.{[], _∷_}
-use mathlib.Core.Option.{none, some}
-use Prim.Native.Nat.{ℕ, suc, _+_, _*_, _%_, _≤_, _<_}
+use mathlib.Core.Option.{some}
+use Prim.Native.Nat.{ℕ, suc, _+_, _*_, _%_, _≤_}
 use native.Mathlib.Omega.{arith}
 use lib.Dec.{eqb, leb, ltb}
 use borrow.Author.Tests.{eqb-true, leb-true, le-leb, lt-leb, ltb-true}
@@ -11,8 +11,8 @@ use Rattle.text.specs.Text.{Text}
 use Rattle.text.specs.Range.{inRange}
 use Rattle.text.proofs.BoolLaws.{and-l, and-r, or-right}
 use Rattle.text.proofs.RangeLaws.{within-yes, within-below, within-above, within-low, within-high}
-use Rattle.characters.specs.Utf8.{isScalarValue, Reading, Between, Inside, isContinuation, isShortest, withBits}
-use Rattle.characters.specs.NameCharacter.{isNameCharacter, isAllowed, charactersAllowed}
+use Rattle.characters.specs.Utf8.{isScalarValue, Reading, Between, Inside, withBits}
+use Rattle.characters.specs.NameCharacter.{isNameCharacter}
 use Rattle.characters.specs.FastScan.{FastState, Start, Unsure, One, Two, Three, AfterC2, AfterE0, AfterE1E3, AfterED, AfterF0, AfterF4, fastStep, fastRun, fastAccept, fastAccepts, FastIsSound}
 use Rattle.characters.proofs.ReadingLaws.{allowedFrom, next, allowedAfter, reads-byte, nothing-read, ascii-between}
 use Rattle.characters.proofs.AllowedLaws.{allowed-from}

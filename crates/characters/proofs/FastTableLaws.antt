@@ -1,6 +1,6 @@
 -- Lemmas about the packed table of the first scan, and about the scan that uses it.
 use mathlib.Core.Path.{_≡_, refl, sym, ap, _∙_}
-use mathlib.Core.Bool.{Bool, true, false}
+use mathlib.Core.Bool.{Bool, true}
 use mathlib.Core.List.{List, [], _∷_}
 use Prim.Native.Nat.{ℕ, _+_, _/_, _%_, _^_, _<_, _≤_}
 use native.Mathlib.Numerals.{add-one}
@@ -164,9 +164,6 @@ accepts-zero AfterF4 = refl
 pub scans-end : (p : Text) (k i : ℕ) → Scans p k i → length p ≤ i → eqb (k % 64) 0 ≡ fastAccepts p
 unfolding fastAccepts fastRun
 scans-end p k i w l = rw (w .numbered, ← w .rest, drop-of-length-le p l) (accepts-zero (w .at-state))
-
-pub shifted : (x y s : ℕ) → x ≡ y → x / 2 ^ s ≡ y / 2 ^ s
-shifted x y s e = rw e
 
 -- Lemmas for `characters_allowed`.
 pub fast-yes : (p : Text) (b : Bool) → b ≡ fastAccepts p → b ≡ true → true ≡ charactersAllowed p

@@ -1,8 +1,8 @@
 -- The theorem that a text is allowed exactly if the character at its beginning and what follows it are.
-use mathlib.Core.Path.{_≡_, refl, sym, ap, _∙_}
+use mathlib.Core.Path.{_≡_, refl, sym, _∙_}
 use mathlib.Core.Bool.{Bool, true, false, not, cond, _&&_}
 use mathlib.Core.List.{[], _∷_}
-use mathlib.Core.Option.{Option, none, some}
+use mathlib.Core.Option.{some}
 use Prim.Native.Nat.{ℕ, zero, suc, _%_}
 use native.Mathlib.Omega.{arith}
 use lib.Dec.{eqb, leb}
@@ -10,9 +10,9 @@ use borrow.Author.Tests.{ne-eqb}
 use lib.ListN.{take, drop}
 use Rattle.text.specs.Text.{Text}
 use Rattle.text.specs.Range.{inRange}
-use Rattle.characters.specs.Utf8.{Reading, Between, Inside, isContinuation, isShortest, withBits}
+use Rattle.characters.specs.Utf8.{Between, Inside, isContinuation, isShortest, withBits}
 use Rattle.characters.specs.NameCharacter.{isAllowed, charactersAllowed}
-use Rattle.characters.specs.CharacterLen.{lengthByFirst, characterLen, AllowedByCharacter}
+use Rattle.characters.specs.CharacterLen.{characterLen, AllowedByCharacter}
 use Rattle.characters.proofs.ReadingLaws.{allowedFrom, next, allowedAfter, reads-byte, cut-off, nothing-read}
 use Rattle.characters.proofs.AllowedLaws.{allowed-from}
 

@@ -3,14 +3,14 @@ use mathlib.Core.Path.{_≡_, refl, sym, ap, _∙_}
 use mathlib.Core.Bool.{Bool, true, false, not, cond, _&&_, _||_}
 use mathlib.Core.List.{[], _∷_}
 use mathlib.Core.Option.{none, some}
-use Prim.Native.Nat.{ℕ, suc, _+_, _*_, _%_, _≤_, _<_}
+use Prim.Native.Nat.{ℕ, suc, _%_, _≤_, _<_}
 use native.Mathlib.Omega.{arith}
 use lib.Dec.{eqb, leb}
 use borrow.Author.Tests.{leb-true, lt-leb}
 use Rattle.text.specs.Text.{Text}
 use Rattle.text.specs.Range.{inRange}
-use Rattle.text.proofs.BoolLaws.{and-no, and-yes, and-assoc}
-use Rattle.characters.specs.Utf8.{isScalarValue, Reading, Between, Inside, isContinuation, isShortest, withBits, decodeFrom}
+use Rattle.text.proofs.BoolLaws.{and-assoc}
+use Rattle.characters.specs.Utf8.{isScalarValue, Between, Inside, isContinuation, isShortest, withBits}
 use Rattle.characters.specs.NameCharacter.{isControl, isWhiteSpace, isNameCharacter, isAllowed, allowedIn, charactersAllowed}
 use Rattle.characters.proofs.ReadingLaws.{allowedFrom, next, allowedAfter, reads-byte, nothing-read}
 use Rattle.characters.proofs.AllowedLaws.{allowed-from}

@@ -1,9 +1,9 @@
 -- The theorem that the well-formed texts are the bytes of characters, one after the other.
-use mathlib.Core.Path.{_≡_, refl, sym, ap, _∙_}
+use mathlib.Core.Path.{_≡_, refl, ap, _∙_}
 use mathlib.Core.Bool.{Bool, true, false, cond, _&&_, false≢true}
 use mathlib.Core.List.{List, [], _∷_, _++_}
 use mathlib.Core.Option.{Option, none, some}
-use Prim.Native.Nat.{ℕ, zero, suc, _+_, _*_, _/_, _%_, _≤_, _<_}
+use Prim.Native.Nat.{ℕ, zero, suc, _+_, _/_, _%_, _≤_, _<_}
 use native.Mathlib.Omega.{arith}
 use lib.Dec.{leb}
 use lib.ListN.{length}
@@ -12,7 +12,7 @@ use Rattle.text.specs.Text.{Text}
 use Rattle.text.specs.Range.{inRange}
 use Rattle.text.proofs.BoolLaws.{and-l, and-r}
 use Rattle.text.proofs.RangeLaws.{within-below, within-low, within-high}
-use Rattle.characters.specs.Utf8.{isScalarValue, areScalarValues, continuation, encode, encodeAll, Reading, Between, Inside, isContinuation, isShortest, withBits, prepend, decodeFrom, decode, Encoded, DecodesExactly}
+use Rattle.characters.specs.Utf8.{isScalarValue, areScalarValues, continuation, encode, encodeAll, Between, Inside, isContinuation, isShortest, withBits, prepend, decodeFrom, decode, Encoded, DecodesExactly}
 use Rattle.characters.specs.NameCharacter.{areAllowed, allowedIn, charactersAllowed}
 use Rattle.characters.proofs.EncodeLaws.{encode-1, encode-2, encode-3, encode-4, decodes}
 

@@ -3,7 +3,7 @@
 -- space of three bytes is. It is unsure of the byte 0x7F, which no path contains, so that the last byte of the table is not the default.
 use Prim.Native.Nat.{ℕ, _+_, _*_, _^_}
 use mathlib.Core.Path.{_≡_}
-use mathlib.Core.Bool.{Bool, true, false, cond, _||_}
+use mathlib.Core.Bool.{Bool, true, false, cond}
 use mathlib.Core.List.{[], _∷_}
 use lib.Dec.{eqb, leb}
 use Rattle.text.specs.Text.{Text}

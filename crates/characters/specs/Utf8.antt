@@ -2,7 +2,7 @@
 -- definitions D76 (scalar values) and D92 (UTF-8); RFC 3629.
 use Prim.Native.Nat.{ℕ, zero, suc, _+_, _*_, _/_, _%_}
 use mathlib.Core.Path.{_≡_}
-use mathlib.Core.Bool.{Bool, true, false, not, cond, _&&_}
+use mathlib.Core.Bool.{Bool, true, not, cond, _&&_}
 use mathlib.Core.List.{List, [], _∷_, _++_}
 use mathlib.Core.Logic.{_↔_}
 use mathlib.Core.Option.{Option, none, some}
@@ -51,11 +51,11 @@ withBits bits a = bits * 64 + a % 64
 pub data Reading : Type 0 where
   -- Between two characters.
   Between : Reading
-  -- In a character: how many bytes follow the next one in it, the least code point that takes as many bytes, and the number that its bits so
-  -- far make.
+  -- In a character: how many bytes it has after the next one, the least code point that takes as many bytes as this character, and the number
+  -- that its bits so far make.
   Inside : ℕ → ℕ → ℕ → Reading
 
--- The code point c, of a character whose bytes could hold no less than `least`, is that of a character in its shortest form.
+-- The number c is the code point of a character, and no less than the least one that takes as many bytes: its bytes are its shortest form.
 abbrev pub isShortest : ℕ → ℕ → Bool
 isShortest least c = leb least c && isScalarValue c
 

@@ -1,6 +1,6 @@
 // Characters outside ASCII: validates UTF-8, and that each character is one that a name may have (the
-// role of is_name_byte in the Rust sdf/path.rs, which reads characters). Every public function is
-// defined for any bytes and has no precondition.
+// role of is_identifier_cont in the Rust sdf/path.rs). Every public function is defined for any bytes and
+// has no precondition.
 ghost use mathlib.Core.Path.{_≡_};
 ghost use mathlib.Core.Bool.{_&&_};
 ghost use mathlib.Core.List.{[], _∷_};

@@ -7,12 +7,12 @@ use Prim.Native.Nat.{ℕ, _+_, _/_, _%_, _^_, _≤_, _<_}
 use native.Mathlib.Numerals.{add-one}
 use native.Mathlib.Omega.{arith}
 use lib.Dec.{eqb, leb, ltb}
-use lib.Bits.{bitOr, bitAnd, or-lt, or-add-and, or-comm, and-le-r}
+use lib.Bits.{bitOr, or-lt, or-add-and, or-comm, and-le-r}
 use lib.ListN.{length, getD, drop, drop-of-length-le, length-map, List·getD-map}
 use lib.Seq.{drop-cons}
 use borrow.Author.Tests.{leb-true, leb-false, le-leb, lt-leb, lt-ltb, le-ltb}
 use Rattle.text.specs.Text.{Text, endsWithByte}
-use Rattle.text.proofs.BoolLaws.{and-assoc, and-no, and-yes}
+use Rattle.text.proofs.BoolLaws.{and-assoc, and-yes}
 use Rattle.characters.specs.NameCharacter.{charactersAllowed, isAscii}
 use Rattle.characters.proofs.AllowedLaws.{ascii-allowed}
 use Rattle.path_grammar.specs.Legal.{scanAccepts, legalOwn, legal, isEnd}

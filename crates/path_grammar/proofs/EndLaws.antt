@@ -1,14 +1,13 @@
 -- The theorem that an end is a text that the automaton accepts when `.` and `{` count as bytes that no path contains, and whose characters are allowed.
 use mathlib.Core.Path.{_≡_, refl, sym, ap, _∙_}
 use mathlib.Core.Bool.{Bool, true, false, not, cond, _&&_, _||_}
-use mathlib.Core.List.{List, [], _∷_, map}
-use Prim.Native.Nat.{ℕ}
+use mathlib.Core.List.{[], _∷_, map}
 use lib.Dec.{eqb}
 use borrow.Author.Tests.{eqb-true}
 use Rattle.text.specs.Text.{Text, isNil, lacksByte}
 use Rattle.text.proofs.BoolLaws.{and-no, and-yes}
 use Rattle.characters.specs.NameCharacter.{charactersAllowed}
-use Rattle.path_grammar.specs.Legal.{ScanState, Slash, step, run, accept, scanAccepts, legalOwn, isEnd}
+use Rattle.path_grammar.specs.Legal.{ScanState, Slash, step, run, accept, scanAccepts, legalOwn}
 use Rattle.path_grammar.specs.PackedScan.{endByte, EndsByScan}
 use Rattle.path_grammar.proofs.RunLaws.{run-dead, unread-dead, null-unread}
 use Rattle.path_grammar.proofs.LegalLaws.{end-own}

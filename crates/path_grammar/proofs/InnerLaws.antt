@@ -4,7 +4,7 @@ use mathlib.Core.Path.{_≡_, refl, sym, ap, _∙_}
 use mathlib.Core.Logic.{_≢_}
 use mathlib.Core.Bool.{Bool, true, false, not, cond, _&&_, true≢false, false≢true}
 use mathlib.Core.List.{[], _∷_, _++_, append-nil}
-use Prim.Native.Nat.{ℕ, zero, suc, _+_, _-_, _≤_, _<_}
+use Prim.Native.Nat.{ℕ, zero, suc, _+_, _-_, _≤_}
 use native.Mathlib.Omega.{arith}
 use lib.ListN.{length, take, drop, length-drop}
 use lib.Seq.{length-take-le, drop-drop}
@@ -15,8 +15,8 @@ use Rattle.text.proofs.UntilLaws.{take-until-length, take-until-slice, drop-unt
 use Rattle.path_grammar.specs.Own.{ownPart, targetPart, hasProperty}
 use Rattle.path_grammar.specs.Legal.{legalOwn, isAbsolute, closesTarget, legalTarget, legalWithin, legal}
 use Rattle.path_grammar.specs.InnerText.{innerText, WithinByInner}
-use Rattle.path_grammar.proofs.OwnLaws.{own-parts, target-none, target-nil, own-all, target-head}
-use Rattle.path_grammar.proofs.LegalLaws.{empty-legal, own-unbracketed, own-no-close-bracket, within-absolute}
+use Rattle.path_grammar.proofs.OwnLaws.{own-parts, target-nil, target-head}
+use Rattle.path_grammar.proofs.LegalLaws.{empty-legal, own-unbracketed, within-absolute}
 
 -- The last byte of a path with a target part is that of the target part.
 last-target : (p : Text) (a : ℕ) (r : Text) → targetPart p ≡ a ∷ r → endsWithByte 93 p ≡ endsWithByte 93 (a ∷ r)

@@ -1,13 +1,13 @@
 -- The bytes of names: each is a byte that a name may have, and the automaton reads the bytes of a character as it reads the character.
 use mathlib.Core.Path.{_≡_, refl, sym, ap, _∙_}
-use mathlib.Core.Bool.{Bool, true, false, not, cond, _&&_, _||_, true≢false}
+use mathlib.Core.Bool.{Bool, true, false, _&&_, _||_, true≢false}
 use mathlib.Core.List.{List, [], _∷_, _++_}
 use Prim.Native.Nat.{ℕ, _<_, _≤_}
 use native.Mathlib.Omega.{arith}
-use lib.Dec.{eqb, leb}
-use borrow.Author.Tests.{leb-true, leb-false, le-leb, lt-leb, ne-eqb}
+use lib.Dec.{leb}
+use borrow.Author.Tests.{leb-true, leb-false, le-leb, ne-eqb}
 use Rattle.text.specs.Text.{Text}
-use Rattle.text.proofs.BoolLaws.{and-l, and-r, and-no, or-right, or-false}
+use Rattle.text.proofs.BoolLaws.{and-l, and-r, or-right, or-false}
 use Rattle.text.proofs.RangeLaws.{within-above}
 use Rattle.characters.specs.Utf8.{isScalarValue, areScalarValues, encode, encodeAll}
 use Rattle.characters.specs.NameCharacter.{isNameCharacter, isAllowed, areAllowed, charactersAllowed, isAscii}

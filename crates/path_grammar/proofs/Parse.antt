@@ -1,7 +1,7 @@
 -- A text that the automaton accepts from a state is the text of what may remain of a path there: one half of the theorem. The text is given by its
 -- characters, which are allowed.
 use mathlib.Core.Path.{_≡_, refl, sym, ap, _∙_}
-use mathlib.Core.Bool.{Bool, true, false, cond, _&&_, _||_, false≢true}
+use mathlib.Core.Bool.{Bool, true, false, cond, _||_, false≢true}
 use mathlib.Core.List.{List, [], _∷_, _++_, append-assoc}
 use mathlib.Core.Option.{Option, none, some}
 use Prim.Native.Nat.{ℕ}
@@ -18,7 +18,7 @@ use Rattle.path_grammar.proofs.NameLaws.{run-characters, variant-ascii}
 use Rattle.characters.specs.Utf8.{encode, encodeAll}
 use Rattle.characters.specs.NameCharacter.{isAllowed, isNameCharacter, areAllowed, charactersAllowed}
 use Rattle.characters.proofs.EncodeLaws.{encode-1}
-use Rattle.characters.proofs.Theorem.{AllowedCharacters, allowed-characters}
+use Rattle.characters.proofs.Theorem.{allowed-characters}
 
 -- The remaining characters of a name, and the remaining bytes of a variant.
 record Tail : Type 0 where

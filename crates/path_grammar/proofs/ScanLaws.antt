@@ -1,5 +1,5 @@
 -- Lemmas about the packed transition table, and about the scan that uses it.
-use mathlib.Core.Path.{_≡_, refl, sym, ap, _∙_}
+use mathlib.Core.Path.{_≡_, refl, ap, _∙_}
 use mathlib.Core.Bool.{Bool, true, false}
 use mathlib.Core.List.{List, [], _∷_}
 use mathlib.Core.Logic.{_≢_}
@@ -218,8 +218,3 @@ whole [] k i h n m w l = absurd (n refl)
 whole (x ∷ []) k i h n m w l = absurd (m refl)
 whole (x ∷ y ∷ p) k i h n m w l =
     rw (w .numbered, h, ← w .rest, drop-of-length-le (x ∷ y ∷ p) l) (ends (w .at-state))
-
-pub ruleset reading = (first, on, none, other, root, whole)
-
-pub shifted : (x y s : ℕ) → x ≡ y → x / 2 ^ s ≡ y / 2 ^ s
-shifted x y s e = rw e

@@ -1,19 +1,19 @@
 -- The theorem that a text is legal exactly if it is the rendering of some path.
 use mathlib.Core.Path.{_≡_, refl, sym, ap, _∙_}
 use mathlib.Core.Bool.{Bool, true, false, _&&_, true≢false, false≢true}
-use mathlib.Core.List.{List, [], _∷_, _++_, append-nil, append-assoc}
+use mathlib.Core.List.{List, [], _∷_, _++_, append-nil}
 use mathlib.Core.Option.{Option, none, some}
 use Prim.Native.Nat.{ℕ, zero, suc}
 use lib.Dec.{eqb}
 use borrow.Author.Tests.{eqb-true}
-use Rattle.text.specs.Text.{Text, isNil, endsWithByte, lacksByte, dropLast}
+use Rattle.text.specs.Text.{Text, endsWithByte, lacksByte, dropLast}
 use Rattle.text.proofs.BoolLaws.{and-l, and-r, not-true}
 use Rattle.text.proofs.UntilLaws.{last-split}
 use Rattle.path_grammar.specs.Own.{ownPart, targetPart, hasProperty}
 use Rattle.path_grammar.specs.Legal.{Slash, run, accept, scanAccepts, legalOwn, isAbsolute, closesTarget, legalTarget, legalWithin, legal}
 use Rattle.path_grammar.specs.Grammar as g
 use Rattle.path_grammar.specs.Grammar.{Rendered, LegalIsRendered, primsText, propertyText, ownText, bracketText, absoluteText, render}
-use Rattle.path_grammar.proofs.OwnLaws.{own-parts, own-all, property-scan, target-head}
+use Rattle.path_grammar.proofs.OwnLaws.{own-parts, property-scan, target-head}
 use Rattle.path_grammar.proofs.LegalLaws.{own-scan, own-allowed, own-absolute, absolute-first}
 use Rattle.characters.proofs.AllowedLaws.{allowed-ascii}
 use Rattle.path_grammar.proofs.RenderLacks.{prims-dotless}

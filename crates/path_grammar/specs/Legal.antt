@@ -1,6 +1,6 @@
 -- Meaning: Legal path texts: an automaton reads a path's own part byte by byte, its characters outside ASCII are decoded and tested, and the path
--- in its brackets is asked the same. Grammar.antt defines the same texts by data types; proofs/Theorem.antt proves that the two agree. The bytes: . is 46, / is 47, : is 58, = is 61, [ is 91,
--- ] is 93, _ is 95, { is 123, } is 125.
+-- in its brackets is asked the same. Grammar.antt defines the same texts by data types; proofs/Theorem.antt proves that the two agree. The bytes:
+-- . is 46, / is 47, : is 58, = is 61, [ is 91, ] is 93, _ is 95, { is 123, } is 125.
 use Prim.Native.Nat.{ℕ, zero, suc}
 use mathlib.Core.Path.{_≡_}
 use mathlib.Core.Bool.{Bool, true, false, not, cond, _&&_, _||_}
@@ -13,11 +13,11 @@ use Rattle.text.specs.Bytes.{closeBrace, closeBracket, colon, digit0, digit9, d
 use Rattle.characters.specs.NameCharacter.{charactersAllowed}
 use Rattle.path_grammar.specs.Own.{ownPart, targetPart, hasVariantSelection, hasProperty}
 
--- The byte is an ASCII letter or `_`. Requirements: "A name is a letter or `_`, then letters, digits, `_`."
+-- The number is that of an ASCII letter or of `_`; in UTF-8 such a byte is the whole character. Requirements: "A name is a letter or `_`, then letters, digits, `_`."
 abbrev pub isAsciiStart : ℕ → Bool
 isAsciiStart a = inRange upperA upperZ a || inRange lowerA lowerZ a || eqb a underscore
 
--- The byte is an ASCII digit.
+-- The number is that of an ASCII digit.
 abbrev pub isAsciiDigit : ℕ → Bool
 isAsciiDigit a = inRange digit0 digit9 a
 
@@ -31,8 +31,8 @@ unfoldable pub isNameByte : ℕ → Bool
 unfolding isNameStartByte
 isNameByte a = isNameStartByte a || isAsciiDigit a
 
--- The byte may be part of a variant. Requirements: "`sel` is one or more letters, digits, `_`." These are ASCII letters and digits: what may be
--- part of a name was widened, and a variant is not a name.
+-- The byte may be part of a variant. Requirements: "`sel` is one or more letters, digits, `_`." These are letters and digits of ASCII:
+-- the characters outside ASCII are for names, and a variant is not a name.
 unfoldable pub isVariantByte : ℕ → Bool
 isVariantByte a = isAsciiStart a || isAsciiDigit a
 

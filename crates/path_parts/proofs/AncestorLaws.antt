@@ -15,7 +15,7 @@ use Rattle.path_grammar.proofs.LegalLaws.{own-scan, scan-no-close-bracket, empt
 use Rattle.text.proofs.BoolLaws.{and-no, or-right}
 use Rattle.path_parts.specs.Parent.{startsPart, lastPartStart, ownParentLen, parentLen, hasParent, parent, ancestorsFrom, ancestorsWithin, ancestors, ancestorLens}
 use Rattle.path_parts.proofs.ReadLaws.{Shape, empty, root, below, shape, closes}
-use Rattle.path_parts.proofs.LastLaws.{Last, here, after, beyond, last, begins-byte, after-byte, after-name, may-end, last-legal, before, slash-len, before-lt}
+use Rattle.path_parts.proofs.LastLaws.{Last, here, after, beyond, last, begins-byte, after-byte, after-name, may-end, last-legal, before, slash-len}
 use Rattle.path_parts.proofs.ParentLaws.{parent-take, parent-less, parent-closed, unclosed-len}
 
 -- One step.

@@ -7,7 +7,7 @@ use Prim.Native.Nat.{ℕ}
 use lib.ListN.{length, take}
 use lib.Seq.{take-length}
 use Rattle.text.specs.Text.{Text, isNil, endsWithByte, lacksByte, takeUntil}
-use Rattle.text.proofs.BoolLaws.{and-l, and-r, and-no}
+use Rattle.text.proofs.BoolLaws.{and-no}
 use Rattle.text.proofs.TextLaws.{last-after, lacks-last}
 use Rattle.path_grammar.specs.Own.{ownPart, hasProperty}
 use Rattle.path_grammar.specs.Legal.{startsName}

@@ -4,7 +4,7 @@ use mathlib.Core.Path.{_≡_, refl, sym, _∙_}
 use mathlib.Core.Bool.{Bool, true, false, _&&_, _||_, false≢true}
 use mathlib.Core.List.{List, [], _∷_}
 use mathlib.Core.Logic.{inl, inr}
-use Prim.Native.Nat.{ℕ, _<_}
+use Prim.Native.Nat.{ℕ, _/_, _^_, _<_}
 use lib.Dec.{eqb}
 use borrow.Author.Tests.{eqb-true}
 use types.Run.{OneOf}
@@ -57,3 +57,7 @@ listed f x arms a = in-arms arms a || eqb (f a) x
 
 pub others : (f : ℕ → ℕ) (x : ℕ) (arms : List (List ℕ)) (a : ℕ) → upTo (listed f x arms) 256 ≡ true → a < 256 → Rest arms a → x ≡ f a
 others f x arms a t h w = sym (eqb-true (f a) x (rw (none-of arms a w) at (at-each (listed f x arms) 256 a t h)))
+
+-- The row of a table, shifted.
+pub shifted : (x y s : ℕ) → x ≡ y → x / 2 ^ s ≡ y / 2 ^ s
+shifted x y s e = rw e

@@ -2,10 +2,7 @@
 -- allowed.
 use mathlib.Core.Path.{_≡_, refl, sym, ap, _∙_}
 use mathlib.Core.Bool.{Bool, true, false, cond, false≢true}
-use mathlib.Core.List.{_++_}
 use mathlib.Core.Option.{Option, none, some}
-use Prim.Native.Nat.{ℕ}
-use native.Mathlib.Omega.{arith}
 use Rattle.text.specs.Text.{Text, stripPrefix}
 use Rattle.text.proofs.TextLaws.{no-text, after-up}
 use Rattle.characters.specs.NameCharacter.{charactersAllowed}

@@ -9,7 +9,7 @@ use lib.ListN.{getD}
 use Rattle.text.specs.Text.{Text}
 use Rattle.characters.specs.Utf8.{Encoded}
 use Rattle.path_grammar.specs.Legal.{legal}
-use Rattle.path_join.specs.Join.{join, replacePrefix}
+use Rattle.path_join.specs.Join.{replacePrefix}
 use Rattle.path_parts.specs.Parent.{parent, primPath, ancestors}
 use Rattle.path_parts.specs.Strip.{strip}
 use Rattle.path_target.specs.Target.{embeddedTarget}

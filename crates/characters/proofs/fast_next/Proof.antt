@@ -1,4 +1,4 @@
-use Rattle.characters.proofs.FastTableLaws.{shifted}
+use Rattle.text.proofs.TableLaws.{shifted}
 use borrow.Author.Needs.{needs}
 use Rattle.characters.proofs.fast_next.Statement.{statement}
 use Rattle.characters.proofs.fast_next.Tie as tie

@@ -1,4 +1,4 @@
-use Rattle.path_grammar.proofs.ScanLaws.{shifted}
+use Rattle.text.proofs.TableLaws.{shifted}
 use borrow.Author.Needs.{needs}
 use Rattle.path_grammar.proofs.next_in_end.Statement.{statement}
 use Rattle.path_grammar.proofs.next_in_end.Tie as tie
