@@ -1,16 +1,16 @@
 // Maps many paths through one map, or over one route, in one call: the lists and the lent buffers are validated
 // first and once, then each path by itself.
 ghost use Rattle.std.specs.Prelude.{◌≡◌, true, ◌+◌, ◌*◌, ◌≤◌, ◌<◌, length, set, []};
-ghost use Rattle.text_list.specs.Places.{inStore};
-ghost use Rattle.refusal.specs.Outcome.{outcomeReply, ReturnsPath};
-ghost use Rattle.ffi_values.specs.Code.{replyCode};
-ghost use Rattle.route_legs.specs.LentRoute.{lentRoute, validateRoute};
-ghost use Rattle.batch.specs.Batch.{mappedAt, routedAt, pathBuffers, replyNumbers, batchFits, validateBatch, validateMapAll, validateRouteAll, ReturnsBatch};
-ghost use Rattle.batch.specs.BatchStep.{mapPathBy, mapSpotBy, writtenBlock};
+ghost use Rattle.text_list.specs.Places.{in_store};
+ghost use Rattle.refusal.specs.Outcome.{outcome_reply, ReturnsPath};
+ghost use Rattle.ffi_values.specs.Code.{reply_code};
+ghost use Rattle.route_legs.specs.LentRoute.{lent_route, validate_route};
+ghost use Rattle.batch.specs.Batch.{mapped_at, routed_at, path_buffers, reply_numbers, batch_fits, validate_batch, validate_map_all, validate_route_all, ReturnsBatch};
+ghost use Rattle.batch.specs.BatchStep.{map_path_by, map_spot_by, written_block};
 
 // Returns whether the lent buffers suffice for n paths (question 5).
 fn batch_fits(n: usize, spots: usize, bytes: usize, replies: usize) -> bool
-    ensures { result ≡ batchFits n spots bytes replies }
+    ensures { result ≡ batch_fits n spots bytes replies }
 {
     if spots / 2 < n {
         return false;
@@ -29,7 +29,7 @@ fn validate_batch(
     bytes: usize,
     replies: usize,
 ) -> refusal::Validation
-    ensures { result ≡ validateBatch list n spots bytes replies }
+    ensures { result ≡ validate_batch list n spots bytes replies }
 {
     if let refusal::Validation::Refused(x) = list {
         return refusal::Validation::Refused(x);
@@ -46,7 +46,7 @@ fn validate_batch(
 // Returns whether the place of text i lies within `texts`.
 fn is_inside(texts: &[u8], spots: &[usize], i: usize) -> bool
     requires { 2 * i + 2 ≤ length spots.now }
-    ensures { result ≡ inStore texts.now spots.now i }
+    ensures { result ≡ in_store texts.now spots.now i }
 {
     let start = spots[2 * i];
     let n = spots[2 * i + 1];
@@ -74,7 +74,7 @@ fn map_one(
     path: &[u8],
     out: &mut [u8],
 ) -> refusal::Reply
-    ensures { ReturnsPath (mapPathBy list by store.now places.now legs.now
+    ensures { ReturnsPath (map_path_by list by store.now places.now legs.now
         (length out.old) path.now) result out.old out.new }
 {
     match by {
@@ -100,7 +100,7 @@ fn map_spot(
     out: &mut [u8],
 ) -> refusal::Reply
     requires { 2 * i + 2 ≤ length spots.now }
-    ensures { ReturnsPath (mapSpotBy list by store.now places.now legs.now
+    ensures { ReturnsPath (map_spot_by list by store.now places.now legs.now
         texts.now spots.now (length out.old) i) result out.old
         out.new }
 {
@@ -127,11 +127,11 @@ fn map_block(
     requires i_in_bounds { 2 * i + 2 ≤ length spots.now }
     requires i_in_bounds_2 { 255 * i + 255 ≤ length out.old }
     requires i_in_bounds_3 { i < length replies.old }
-    ensures out_after { out.new ≡ writtenBlock i
-        (mapSpotBy list by store.now places.now legs.now texts.now
+    ensures out_after { out.new ≡ written_block i
+        (map_spot_by list by store.now places.now legs.now texts.now
         spots.now 255 i) out.old }
     ensures replies_after { replies.new ≡ set replies.old i
-        (replyCode (outcomeReply (mapSpotBy list by store.now places.now legs.now
+        (reply_code (outcome_reply (map_spot_by list by store.now places.now legs.now
         texts.now spots.now 255 i))) }
 {
     let at = 255 * i;
@@ -163,12 +163,12 @@ fn map_each(
     out: &mut [u8],
     replies: &mut [usize],
 )
-    requires { batchFits n (length spots.now) (length out.old) (length replies.old) ≡ true }
-    ensures out_after { out.new ≡ pathBuffers
-        (mapSpotBy list by store.now places.now legs.now texts.now
+    requires { batch_fits n (length spots.now) (length out.old) (length replies.old) ≡ true }
+    ensures out_after { out.new ≡ path_buffers
+        (map_spot_by list by store.now places.now legs.now texts.now
         spots.now 255) 0 n out.old }
-    ensures replies_after { replies.new ≡ replyNumbers
-        (mapSpotBy list by store.now places.now legs.now texts.now
+    ensures replies_after { replies.new ≡ reply_numbers
+        (map_spot_by list by store.now places.now legs.now texts.now
         spots.now 255) 0 n replies.old }
 {
     let mut i = 0;
@@ -191,9 +191,9 @@ pub fn map_all(
     out: &mut [u8],
     replies: &mut [usize],
 ) -> refusal::Validation
-    ensures { ReturnsBatch (validateMapAll store.now places.now map n spots.now
+    ensures { ReturnsBatch (validate_map_all store.now places.now map n spots.now
         out.old replies.old)
-        (mappedAt direction store.now places.now map texts.now spots.now) n
+        (mapped_at direction store.now places.now map texts.now spots.now) n
         result out.old out.new replies.old replies.new }
 {
     let list = validate::validate_list(store, places, map.count);
@@ -222,13 +222,13 @@ fn route_prepared(
     out: &mut [u8],
     replies: &mut [usize],
 )
-    requires replies_value { batchFits n (length spots.now) (length out.old) (length replies.old) ≡ true }
-    requires list_value { list ≡ validateRoute (lentRoute store.now places.now legs.now count) [] }
-    ensures out_after { out.new ≡ pathBuffers
-        (routedAt home (lentRoute store.now places.now legs.now count)
+    requires replies_value { batch_fits n (length spots.now) (length out.old) (length replies.old) ≡ true }
+    requires list_value { list ≡ validate_route (lent_route store.now places.now legs.now count) [] }
+    ensures out_after { out.new ≡ path_buffers
+        (routed_at home (lent_route store.now places.now legs.now count)
         texts.now spots.now) 0 n out.old }
-    ensures replies_after { replies.new ≡ replyNumbers
-        (routedAt home (lentRoute store.now places.now legs.now count)
+    ensures replies_after { replies.new ≡ reply_numbers
+        (routed_at home (lent_route store.now places.now legs.now count)
         texts.now spots.now) 0 n replies.old }
 {
     let mut made = [0usize; 4096];
@@ -254,13 +254,13 @@ fn route_each(
     out: &mut [u8],
     replies: &mut [usize],
 )
-    requires replies_value { batchFits n (length spots.now) (length out.old) (length replies.old) ≡ true }
-    requires list_value { list ≡ validateRoute (lentRoute store.now places.now legs.now count) [] }
-    ensures out_after { out.new ≡ pathBuffers
-        (routedAt home (lentRoute store.now places.now legs.now count)
+    requires replies_value { batch_fits n (length spots.now) (length out.old) (length replies.old) ≡ true }
+    requires list_value { list ≡ validate_route (lent_route store.now places.now legs.now count) [] }
+    ensures out_after { out.new ≡ path_buffers
+        (routed_at home (lent_route store.now places.now legs.now count)
         texts.now spots.now) 0 n out.old }
-    ensures replies_after { replies.new ≡ replyNumbers
-        (routedAt home (lentRoute store.now places.now legs.now count)
+    ensures replies_after { replies.new ≡ reply_numbers
+        (routed_at home (lent_route store.now places.now legs.now count)
         texts.now spots.now) 0 n replies.old }
 {
     if !route::needs_maps(list, legs, count) {
@@ -287,9 +287,9 @@ pub fn route_all(
     out: &mut [u8],
     replies: &mut [usize],
 ) -> refusal::Validation
-    ensures { let route = lentRoute store.now places.now legs.now count
-        in ReturnsBatch (validateRouteAll route n spots.now out.old replies.old)
-        (routedAt home route texts.now spots.now) n result out.old out.new
+    ensures { let route = lent_route store.now places.now legs.now count
+        in ReturnsBatch (validate_route_all route n spots.now out.old replies.old)
+        (routed_at home route texts.now spots.now) n result out.old out.new
         replies.old replies.new }
 {
     let list = route_legs::validate_legs(store, places, legs, count);

@@ -7,10 +7,10 @@ use mathlib.Core.List.{[], ◌∷◌}
 use Prim.Native.Nat.{ℕ, ◌+◌, ◌*◌}
 use lib.Dec.{eqb}
 use Rattle.text.specs.Text.{Text}
-use Rattle.text.proofs.BoolLaws.{eqb-self}
+use Rattle.text.proofs.BoolLaws.{eqb_self}
 use Rattle.layer_offset.specs.declared.LayerOffset.{LayerOffset}
-use Rattle.layer_offset.specs.Number.{bitPattern}
-use Rattle.refusal.specs.Refusal.{refusalNumber}
+use Rattle.layer_offset.specs.Number.{bit_pattern}
+use Rattle.refusal.specs.Refusal.{refusal_number}
 use Rattle.refusal.specs.declared.Validation.{Validation}
 use Rattle.refusal.specs.declared.Validation.TheVariants.{Passed, Refused as RefusedValidation}
 use Rattle.refusal.specs.declared.Reply.{Reply}
@@ -24,45 +24,45 @@ use Rattle.relocate_chain.specs.Chain.{Chained, chained, stopped}
 
 -- Values to which a function gives different numbers are not equal.
 pub apart : {A : Type 0} (f : A → ℕ) {x y : A} → eqb (f x) (f y) ≡ false → x ≢ y
-apart {A} f {x} {y} h e = true≢false (sym (eqb-self (f y)) ∙ ap (λ (z : A). eqb (f z) (f y)) (sym e) ∙ h)
+apart {A} f {x} {y} h e = true≢false (sym (eqb_self (f y)) ∙ ap (λ (z : A). eqb (f z) (f y)) (sym e) ∙ h)
 
 -- A number for a list of numbers below 256: its digits to the base 256, after a leading one.
-unfoldable pub textNumber : Text → ℕ
-textNumber [] = 1
-textNumber (b ∷ t) = b + 256 * textNumber t
+unfoldable pub text_number : Text → ℕ
+text_number [] = 1
+text_number (b ∷ t) = b + 256 * text_number t
 
-unfoldable pub boolNumber : Bool → ℕ
-boolNumber true = 1
-boolNumber false = 0
+unfoldable pub bool_number : Bool → ℕ
+bool_number true = 1
+bool_number false = 0
 
 -- The numbers of replies; refusals have numbers below 16.
-unfoldable pub validationNumber : Validation → ℕ
-validationNumber Passed = 0
-validationNumber (RefusedValidation x) = refusalNumber x
+unfoldable pub validation_number : Validation → ℕ
+validation_number Passed = 0
+validation_number (RefusedValidation x) = refusal_number x
 
-unfoldable pub testNumber : Test → ℕ
-unfolding boolNumber
-testNumber (Holds b) = 16 + boolNumber b
-testNumber (RefusedTest x) = refusalNumber x
+unfoldable pub test_number : Test → ℕ
+unfolding bool_number
+test_number (Holds b) = 16 + bool_number b
+test_number (RefusedTest x) = refusal_number x
 
-unfoldable pub countNumber : Count → ℕ
-countNumber (Counted n) = 16 + n.0
-countNumber (RefusedCount x) = refusalNumber x
+unfoldable pub count_number : Count → ℕ
+count_number (Counted n) = 16 + n.0
+count_number (RefusedCount x) = refusal_number x
 
-unfoldable pub replyNumber : Reply → ℕ
-replyNumber (Written n) = 16 + n
-replyNumber (RefusedReply x) = refusalNumber x
+unfoldable pub reply_number : Reply → ℕ
+reply_number (Written n) = 16 + n
+reply_number (RefusedReply x) = refusal_number x
 
-unfoldable pub outcomeNumber : Outcome → ℕ
-unfolding textNumber
-outcomeNumber (path q) = 16 * textNumber q
-outcomeNumber (refused x) = refusalNumber x
+unfoldable pub outcome_number : Outcome → ℕ
+unfolding text_number
+outcome_number (path q) = 16 * text_number q
+outcome_number (refused x) = refusal_number x
 
-unfoldable pub chainNumber : Chained → ℕ
-unfolding textNumber
-chainNumber (chained q k) = 16 + k + 256 * textNumber q
-chainNumber (stopped x) = refusalNumber x
+unfoldable pub chain_number : Chained → ℕ
+unfolding text_number
+chain_number (chained q k) = 16 + k + 256 * text_number q
+chain_number (stopped x) = refusal_number x
 
 -- The bits of both numbers of a time offset, 64 each.
-unfoldable pub timeNumber : LayerOffset → ℕ
-timeNumber o = bitPattern o.offset + 18446744073709551616 * bitPattern o.scale
+unfoldable pub time_number : LayerOffset → ℕ
+time_number o = bit_pattern o.offset + 18446744073709551616 * bit_pattern o.scale

@@ -1,64 +1,64 @@
 -- Every wrong answer for names outside ASCII differs from the right one, by computing both.
 use mathlib.Core.Path.{refl}
-use Rattle.characters.specs.Utf8.{encode, encodeAll}
-use Rattle.path_prefix.specs.Elements.{countElements}
-use Rattle.path.specs.Calls.{pathNewCall, isEndCall, hasPrefixCall, primElementCountCall}
-use Rattle.path_derive.specs.Calls.{replacePrefixCall, parentCall, stripCall, ancestorsReply}
+use Rattle.characters.specs.Utf8.{encode, encode_all}
+use Rattle.path_prefix.specs.Elements.{count_elements}
+use Rattle.path.specs.Calls.{path_new_call, is_end_call, has_prefix_call, prim_element_count_call}
+use Rattle.path_derive.specs.Calls.{replace_prefix_call, parent_call, strip_call, ancestors_reply}
 use Rattle.cases.specs.WrongNames.{WrongNames}
-use Rattle.cases.proofs.Tell.{apart, validationNumber, testNumber, countNumber, replyNumber, outcomeNumber}
+use Rattle.cases.proofs.Tell.{apart, validation_number, test_number, count_number, reply_number, outcome_number}
 
-pub wrong-names : WrongNames
-unfolding encode encodeAll countElements pathNewCall isEndCall hasPrefixCall primElementCountCall replacePrefixCall parentCall stripCall ancestorsReply
-    validationNumber testNumber countNumber replyNumber outcomeNumber
-wrong-names = record {
-  ascii-only = apart validationNumber refl;
-  not_first = apart validationNumber refl;
-  ascii-property = apart validationNumber refl;
-  ascii_set = apart validationNumber refl;
-  ascii-after-selection = apart validationNumber refl;
-  ascii-target = apart validationNumber refl;
-  sel-widened = apart validationNumber refl;
-  control-80 = apart validationNumber refl;
-  control-9F = apart validationNumber refl;
-  no-break-space = apart validationNumber refl;
-  ogham-space = apart validationNumber refl;
-  en-quad = apart validationNumber refl;
-  hair-space = apart validationNumber refl;
-  line-separator = apart validationNumber refl;
-  paragraph-separator = apart validationNumber refl;
-  narrow-space = apart validationNumber refl;
-  mathematical-space = apart validationNumber refl;
-  ideographic-space = apart validationNumber refl;
-  above-control = apart validationNumber refl;
-  zero-width-space = apart validationNumber refl;
-  accent = apart validationNumber refl;
-  above-ideographic = apart validationNumber refl;
-  below-surrogates = apart validationNumber refl;
-  above-surrogates = apart validationNumber refl;
-  last-character = apart validationNumber refl;
-  surrogate = apart validationNumber refl;
-  last-surrogate = apart validationNumber refl;
-  overlong-slash = apart validationNumber refl;
-  overlong-slash-three = apart validationNumber refl;
-  overlong-letter = apart validationNumber refl;
-  overlong-four = apart validationNumber refl;
-  above-all = apart validationNumber refl;
-  stray = apart validationNumber refl;
-  no-first-byte = apart validationNumber refl;
-  cut_off = apart validationNumber refl;
-  cut-by-slash = apart validationNumber refl;
-  cut-by-character = apart validationNumber refl;
-  malformed-first = apart validationNumber refl;
-  limit-of-characters = apart validationNumber refl;
-  limit-too-low = apart validationNumber refl;
-  ascii-end = apart testNumber refl;
-  malformed-end = apart testNumber refl;
-  character-is-boundary = apart testNumber refl;
-  name-not-counted = apart countNumber refl;
-  parent-too-short = apart outcomeNumber refl;
-  ancestors-too-few = apart replyNumber refl;
-  parent-cuts = apart outcomeNumber refl;
-  strip-without-slash = apart outcomeNumber refl;
-  joined-without-slash = apart outcomeNumber refl;
-  joined-no-path = apart outcomeNumber refl;
+pub wrong_names : WrongNames
+unfolding encode encode_all count_elements path_new_call is_end_call has_prefix_call prim_element_count_call replace_prefix_call parent_call strip_call ancestors_reply
+    validation_number test_number count_number reply_number outcome_number
+wrong_names = record {
+  ascii_only = apart validation_number refl;
+  not_first = apart validation_number refl;
+  ascii_property = apart validation_number refl;
+  ascii_set = apart validation_number refl;
+  ascii_after_selection = apart validation_number refl;
+  ascii_target = apart validation_number refl;
+  sel_widened = apart validation_number refl;
+  control_80 = apart validation_number refl;
+  control_9_f = apart validation_number refl;
+  no_break_space = apart validation_number refl;
+  ogham_space = apart validation_number refl;
+  en_quad = apart validation_number refl;
+  hair_space = apart validation_number refl;
+  line_separator = apart validation_number refl;
+  paragraph_separator = apart validation_number refl;
+  narrow_space = apart validation_number refl;
+  mathematical_space = apart validation_number refl;
+  ideographic_space = apart validation_number refl;
+  above_control = apart validation_number refl;
+  zero_width_space = apart validation_number refl;
+  accent = apart validation_number refl;
+  above_ideographic = apart validation_number refl;
+  below_surrogates = apart validation_number refl;
+  above_surrogates = apart validation_number refl;
+  last_character = apart validation_number refl;
+  surrogate = apart validation_number refl;
+  last_surrogate = apart validation_number refl;
+  overlong_slash = apart validation_number refl;
+  overlong_slash_three = apart validation_number refl;
+  overlong_letter = apart validation_number refl;
+  overlong_four = apart validation_number refl;
+  above_all = apart validation_number refl;
+  stray = apart validation_number refl;
+  no_first_byte = apart validation_number refl;
+  cut_off = apart validation_number refl;
+  cut_by_slash = apart validation_number refl;
+  cut_by_character = apart validation_number refl;
+  malformed_first = apart validation_number refl;
+  limit_of_characters = apart validation_number refl;
+  limit_too_low = apart validation_number refl;
+  ascii_end = apart test_number refl;
+  malformed_end = apart test_number refl;
+  character_is_boundary = apart test_number refl;
+  name_not_counted = apart count_number refl;
+  parent_too_short = apart outcome_number refl;
+  ancestors_too_few = apart reply_number refl;
+  parent_cuts = apart outcome_number refl;
+  strip_without_slash = apart outcome_number refl;
+  joined_without_slash = apart outcome_number refl;
+  joined_no_path = apart outcome_number refl;
 }

@@ -1,60 +1,60 @@
 -- Every wrong answer of a call that tells the rest of a path differs from the right one, by computing both.
 use mathlib.Core.Path.{refl}
 use Prim.Native.Nat.{ℕ, suc, ◌+◌, ◌*◌}
-use Rattle.refusal.specs.Refusal.{refusalNumber}
-use Rattle.path_prefix.specs.Elements.{countElements}
-use Rattle.pair_list.specs.Places.{pairsIn}
+use Rattle.refusal.specs.Refusal.{refusal_number}
+use Rattle.path_prefix.specs.Elements.{count_elements}
+use Rattle.pair_list.specs.Places.{pairs_in}
 use Rattle.path.specs.declared.RestTest.{RestTest}
 use Rattle.path.specs.declared.RestTest.TheVariants.{Tested, Refused as RefusedRestTest}
-use Rattle.path.specs.Calls.{restStartCall}
+use Rattle.path.specs.Calls.{rest_start_call}
 use Rattle.path_rest.specs.declared.Rest.{Rest}
 use Rattle.path_rest.specs.declared.Rest.TheVariants.{From, Nothing}
 use Rattle.path_rest.specs.declared.Carried.{Carried}
 use Rattle.path_rest.specs.declared.Carried.TheVariants.{Written, Refused}
 use Rattle.route_spec.specs.Leg.{outward, homeward}
 use Rattle.cases.specs.Lent.{store_of, places_of}
-use Rattle.cases.specs.WrongRests.{sourceCarried, targetCarried, translatedCarried, routedCarried, carriedText, WrongRests}
-use Rattle.cases.proofs.Tell.{apart, textNumber}
+use Rattle.cases.specs.WrongRests.{source_carried, target_carried, translated_carried, routed_carried, carried_text, WrongRests}
+use Rattle.cases.proofs.Tell.{apart, text_number}
 
 -- The numbers of a rest, of the reply of `rest_start`, and of a reply with a rest.
-unfoldable restNumber : Rest → ℕ
-restNumber (From n) = suc n
-restNumber Nothing = 0
+unfoldable rest_number : Rest → ℕ
+rest_number (From n) = suc n
+rest_number Nothing = 0
 
-unfoldable restTestNumber : RestTest → ℕ
-unfolding restNumber
-restTestNumber (Tested rest) = 16 + restNumber rest
-restTestNumber (RefusedRestTest x) = refusalNumber x
+unfoldable rest_test_number : RestTest → ℕ
+unfolding rest_number
+rest_test_number (Tested rest) = 16 + rest_number rest
+rest_test_number (RefusedRestTest x) = refusal_number x
 
-unfoldable carriedNumber : Carried → ℕ
-unfolding restNumber
-carriedNumber (Written n rest) = 16 + n + 256 * restNumber rest
-carriedNumber (Refused x) = refusalNumber x
+unfoldable carried_number : Carried → ℕ
+unfolding rest_number
+carried_number (Written n rest) = 16 + n + 256 * rest_number rest
+carried_number (Refused x) = refusal_number x
 
-pub wrong-rests : WrongRests
-unfolding countElements store_of places_of pairsIn outward homeward restStartCall sourceCarried targetCarried translatedCarried routedCarried carriedText
-    textNumber restTestNumber carriedNumber
-wrong-rests = record {
-  start-one-later = apart restTestNumber refl;
-  start-below-root = apart restTestNumber refl;
-  start-with-no = apart restTestNumber refl;
-  start-unvalidated = apart restTestNumber refl;
-  source-one-later = apart carriedNumber refl;
-  source-in-made = apart carriedNumber refl;
-  source-below-root = apart carriedNumber refl;
-  source-by-mark = apart carriedNumber refl;
-  source-by-mark-none = apart carriedNumber refl;
-  source-no-path = apart textNumber refl;
-  source-made-illegal = apart textNumber refl;
-  target-by-source = apart carriedNumber refl;
-  target-no-path = apart textNumber refl;
-  translated-stripped = apart carriedNumber refl;
-  translated-after-selection = apart carriedNumber refl;
-  translated-never = apart carriedNumber refl;
-  out-first-leg = apart carriedNumber refl;
-  out-in-last-leg = apart carriedNumber refl;
-  out-stripped = apart carriedNumber refl;
-  out-no-path = apart textNumber refl;
-  home-last-leg = apart carriedNumber refl;
-  home-as-out = apart carriedNumber refl;
+pub wrong_rests : WrongRests
+unfolding count_elements store_of places_of pairs_in outward homeward rest_start_call source_carried target_carried translated_carried routed_carried carried_text
+    text_number rest_test_number carried_number
+wrong_rests = record {
+  start_one_later = apart rest_test_number refl;
+  start_below_root = apart rest_test_number refl;
+  start_with_no = apart rest_test_number refl;
+  start_unvalidated = apart rest_test_number refl;
+  source_one_later = apart carried_number refl;
+  source_in_made = apart carried_number refl;
+  source_below_root = apart carried_number refl;
+  source_by_mark = apart carried_number refl;
+  source_by_mark_none = apart carried_number refl;
+  source_no_path = apart text_number refl;
+  source_made_illegal = apart text_number refl;
+  target_by_source = apart carried_number refl;
+  target_no_path = apart text_number refl;
+  translated_stripped = apart carried_number refl;
+  translated_after_selection = apart carried_number refl;
+  translated_never = apart carried_number refl;
+  out_first_leg = apart carried_number refl;
+  out_in_last_leg = apart carried_number refl;
+  out_stripped = apart carried_number refl;
+  out_no_path = apart text_number refl;
+  home_last_leg = apart carried_number refl;
+  home_as_out = apart carried_number refl;
 }

@@ -1,64 +1,64 @@
 -- Every wrong answer for a path with a target differs from the right one, by computing both.
 use mathlib.Core.Path.{refl}
-use Rattle.path_prefix.specs.Elements.{countElements}
-use Rattle.pair_list.specs.Places.{pairsIn}
-use Rattle.path.specs.Calls.{pathNewCall, isEndCall, hasVariantSelectionCall, hasPrefixCall, elementCountCall, primElementCountCall}
-use Rattle.path_derive.specs.Calls.{replacePrefixCall, parentCall, primPathCall, splitPropertyCall, stripCall, ancestorsReply}
-use Rattle.path_target.specs.Calls.{embeddedTargetCall, replaceEmbeddedTargetCall}
-use Rattle.map_spec.specs.Leg.{translateChecked, mapBackChecked}
-use Rattle.relocate_chain.specs.Calls.{chainCall, shiftCall}
+use Rattle.path_prefix.specs.Elements.{count_elements}
+use Rattle.pair_list.specs.Places.{pairs_in}
+use Rattle.path.specs.Calls.{path_new_call, is_end_call, has_variant_selection_call, has_prefix_call, element_count_call, prim_element_count_call}
+use Rattle.path_derive.specs.Calls.{replace_prefix_call, parent_call, prim_path_call, split_property_call, strip_call, ancestors_reply}
+use Rattle.path_target.specs.Calls.{embedded_target_call, replace_embedded_target_call}
+use Rattle.map_spec.specs.Leg.{translate_checked, map_back_checked}
+use Rattle.relocate_chain.specs.Calls.{chain_call, shift_call}
 use Rattle.route_spec.specs.Leg.{outward, homeward}
-use Rattle.route.specs.Calls.{routeCall}
-use Rattle.cases.specs.Lent.{store_of, places_of, lentPairs}
+use Rattle.route.specs.Calls.{route_call}
+use Rattle.cases.specs.Lent.{store_of, places_of, lent_pairs}
 use Rattle.cases.specs.WrongTargets.{WrongTargets}
-use Rattle.cases.proofs.Tell.{apart, validationNumber, testNumber, countNumber, replyNumber, outcomeNumber, chainNumber}
+use Rattle.cases.proofs.Tell.{apart, validation_number, test_number, count_number, reply_number, outcome_number, chain_number}
 
-pub wrong-targets : WrongTargets
-unfolding countElements pairsIn store_of places_of lentPairs pathNewCall isEndCall hasVariantSelectionCall hasPrefixCall elementCountCall primElementCountCall replacePrefixCall parentCall primPathCall splitPropertyCall stripCall ancestorsReply
-    embeddedTargetCall replaceEmbeddedTargetCall translateChecked mapBackChecked chainCall shiftCall outward homeward routeCall validationNumber testNumber countNumber replyNumber outcomeNumber chainNumber
-wrong-targets = record {
-  target-refused = apart validationNumber refl;
-  root-refused = apart validationNumber refl;
-  fourth-bracket-refused = apart validationNumber refl;
-  fifth-bracket = apart validationNumber refl;
-  bracket-after-selection = apart validationNumber refl;
-  bracket-after-name = apart validationNumber refl;
-  nothing-in-brackets = apart validationNumber refl;
-  relative-in-brackets = apart validationNumber refl;
-  property-after-brackets = apart validationNumber refl;
-  second-brackets = apart validationNumber refl;
-  unclosed = apart validationNumber refl;
-  target-is-end = apart testNumber refl;
-  selection-inside = apart testNumber refl;
-  elements-inside = apart countNumber refl;
-  names-inside = apart countNumber refl;
-  bracket-is-boundary = apart testNumber refl;
-  parent-is-prim = apart outcomeNumber refl;
-  parent-inside = apart outcomeNumber refl;
-  prim-is-property = apart outcomeNumber refl;
-  split-before-target = apart outcomeNumber refl;
-  strip-inside = apart outcomeNumber refl;
-  strip-drops-target = apart outcomeNumber refl;
-  ancestors-without-property = apart replyNumber refl;
-  ancestors-of-target = apart replyNumber refl;
-  target-replaced = apart outcomeNumber refl;
-  target-lost = apart outcomeNumber refl;
-  target-translated = apart outcomeNumber refl;
-  target-translated-stripped = apart outcomeNumber refl;
-  target-mapped-back = apart outcomeNumber refl;
-  target-chained = apart chainNumber refl;
-  target-shifted = apart outcomeNumber refl;
-  target-routed = apart outcomeNumber refl;
-  target-routed-stripped = apart outcomeNumber refl;
-  target-routed-home = apart outcomeNumber refl;
-  embedded-first-close = apart outcomeNumber refl;
-  embedded-with-brackets = apart outcomeNumber refl;
-  embedded-innermost = apart outcomeNumber refl;
-  embedded-never = apart outcomeNumber refl;
-  embedded-empty = apart outcomeNumber refl;
-  embedded-kept = apart outcomeNumber refl;
-  embedded-inner-replaced = apart outcomeNumber refl;
-  embedded-by-nothing = apart outcomeNumber refl;
-  embedded-too-deep = apart outcomeNumber refl;
-  embedded-eight = apart outcomeNumber refl;
+pub wrong_targets : WrongTargets
+unfolding count_elements pairs_in store_of places_of lent_pairs path_new_call is_end_call has_variant_selection_call has_prefix_call element_count_call prim_element_count_call replace_prefix_call parent_call prim_path_call split_property_call strip_call ancestors_reply
+    embedded_target_call replace_embedded_target_call translate_checked map_back_checked chain_call shift_call outward homeward route_call validation_number test_number count_number reply_number outcome_number chain_number
+wrong_targets = record {
+  target_refused = apart validation_number refl;
+  root_refused = apart validation_number refl;
+  fourth_bracket_refused = apart validation_number refl;
+  fifth_bracket = apart validation_number refl;
+  bracket_after_selection = apart validation_number refl;
+  bracket_after_name = apart validation_number refl;
+  nothing_in_brackets = apart validation_number refl;
+  relative_in_brackets = apart validation_number refl;
+  property_after_brackets = apart validation_number refl;
+  second_brackets = apart validation_number refl;
+  unclosed = apart validation_number refl;
+  target_is_end = apart test_number refl;
+  selection_inside = apart test_number refl;
+  elements_inside = apart count_number refl;
+  names_inside = apart count_number refl;
+  bracket_is_boundary = apart test_number refl;
+  parent_is_prim = apart outcome_number refl;
+  parent_inside = apart outcome_number refl;
+  prim_is_property = apart outcome_number refl;
+  split_before_target = apart outcome_number refl;
+  strip_inside = apart outcome_number refl;
+  strip_drops_target = apart outcome_number refl;
+  ancestors_without_property = apart reply_number refl;
+  ancestors_of_target = apart reply_number refl;
+  target_replaced = apart outcome_number refl;
+  target_lost = apart outcome_number refl;
+  target_translated = apart outcome_number refl;
+  target_translated_stripped = apart outcome_number refl;
+  target_mapped_back = apart outcome_number refl;
+  target_chained = apart chain_number refl;
+  target_shifted = apart outcome_number refl;
+  target_routed = apart outcome_number refl;
+  target_routed_stripped = apart outcome_number refl;
+  target_routed_home = apart outcome_number refl;
+  embedded_first_close = apart outcome_number refl;
+  embedded_with_brackets = apart outcome_number refl;
+  embedded_innermost = apart outcome_number refl;
+  embedded_never = apart outcome_number refl;
+  embedded_empty = apart outcome_number refl;
+  embedded_kept = apart outcome_number refl;
+  embedded_inner_replaced = apart outcome_number refl;
+  embedded_by_nothing = apart outcome_number refl;
+  embedded_too_deep = apart outcome_number refl;
+  embedded_eight = apart outcome_number refl;
 }

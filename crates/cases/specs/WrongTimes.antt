@@ -3,12 +3,12 @@
 use Rattle.std.specs.Prelude.{◌≢◌, true, false, pos, negsuc, Float}
 use Rattle.std.specs.Float.{nan, inf, fin}
 use Rattle.layer_offset.specs.declared.LayerOffset.{LayerOffset}
-use Rattle.layer_offset.specs.Number.{plusZero, one}
-use Rattle.layer_offset.specs.Offset.{layerOffset, identityOffset, isIdentity, isValid, isValidComposition, sanitized, applyOffset, concatenateOffsets, inverseOffset, offsetBits, isClose}
+use Rattle.layer_offset.specs.Number.{plus_zero, one}
+use Rattle.layer_offset.specs.Offset.{layer_offset, identity_offset, is_identity, is_valid, is_valid_composition, sanitized, apply_offset, concatenate_offsets, inverse_offset, offset_bits, is_close}
 
 -- The floats -0, 2, 3, 5 and -1.
-abbrev pub minusZeroFloat : Float
-minusZeroFloat = fin true 0 (pos 0)
+abbrev pub minus_zero_float : Float
+minus_zero_float = fin true 0 (pos 0)
 
 abbrev pub two : Float
 two = fin false 1 (pos 1)
@@ -19,38 +19,38 @@ three = fin false 3 (pos 0)
 abbrev pub five : Float
 five = fin false 5 (pos 0)
 
-abbrev pub minusOne : Float
-minusOne = fin true 1 (pos 0)
+abbrev pub minus_one : Float
+minus_one = fin true 1 (pos 0)
 
 -- The offset 5 and the scale 2.
-abbrev pub fiveTwo : LayerOffset
-fiveTwo = layerOffset five two
+abbrev pub five_two : LayerOffset
+five_two = layer_offset five two
 
 pub record WrongTimes : Type 0 where
   -- `new` and `scale_only`: the numbers swapped; an offset invented.
-  pub new-swapped : layerOffset five two ≢ layerOffset two five
-  pub scale-with-offset : layerOffset plusZero two ≢ layerOffset two two
+  pub new_swapped : layer_offset five two ≢ layer_offset two five
+  pub scale_with_offset : layer_offset plus_zero two ≢ layer_offset two two
   -- `is_valid`: an infinite scale passes; a finite time offset does not.
-  pub infinite-is-valid : isValid (layerOffset plusZero (inf false)) ≢ true
-  pub finite-is-invalid : isValid fiveTwo ≢ false
+  pub infinite_is_valid : is_valid (layer_offset plus_zero (inf false)) ≢ true
+  pub finite_is_invalid : is_valid five_two ≢ false
   -- `is_identity`: minus zero does not count as offset 0; the scale is not looked at.
-  pub minus-zero-is-none : isIdentity (layerOffset minusZeroFloat one) ≢ false
-  pub scale-ignored : isIdentity (layerOffset plusZero two) ≢ true
+  pub minus_zero_is_none : is_identity (layer_offset minus_zero_float one) ≢ false
+  pub scale_ignored : is_identity (layer_offset plus_zero two) ≢ true
   -- `is_close`: any two invalid time offsets are close; nothing is.
-  pub invalid-are-close : isClose (layerOffset nan one) (layerOffset (inf false) one) ≢ true
-  pub never-close : isClose fiveTwo fiveTwo ≢ false
+  pub invalid_are_close : is_close (layer_offset nan one) (layer_offset (inf false) one) ≢ true
+  pub never_close : is_close five_two five_two ≢ false
   -- `to_bits`: the scale lost.
-  pub bits-without-scale : offsetBits fiveTwo ≢ offsetBits (layerOffset five one)
+  pub bits_without_scale : offset_bits five_two ≢ offset_bits (layer_offset five one)
   -- `apply`: the sum before the product; the scale added.
-  pub sum_first : applyOffset fiveTwo three ≢ fin false 1 (pos 4)
-  pub scale-added : applyOffset fiveTwo three ≢ fin false 5 (pos 1)
+  pub sum_first : apply_offset five_two three ≢ fin false 1 (pos 4)
+  pub scale_added : apply_offset five_two three ≢ fin false 5 (pos 1)
   -- `inverse`: scale 0 returned unchanged; the offset not divided.
-  pub zero-scale-kept : inverseOffset (layerOffset five plusZero) ≢ layerOffset five plusZero
-  pub offset-not-divided : inverseOffset (layerOffset two two) ≢ layerOffset (fin true 1 (pos 1)) (fin false 1 (negsuc 0))
+  pub zero_scale_kept : inverse_offset (layer_offset five plus_zero) ≢ layer_offset five plus_zero
+  pub offset_not_divided : inverse_offset (layer_offset two two) ≢ layer_offset (fin true 1 (pos 1)) (fin false 1 (negsuc 0))
   -- `is_valid_composition` and `sanitized`: a scale of zero or below passes; a good one becomes the identity.
-  pub zero-scale-composes : isValidComposition (layerOffset five plusZero) ≢ true
-  pub negative-kept : sanitized (layerOffset five minusOne) ≢ layerOffset five minusOne
-  pub sanitized-to-identity : sanitized fiveTwo ≢ identityOffset
+  pub zero_scale_composes : is_valid_composition (layer_offset five plus_zero) ≢ true
+  pub negative_kept : sanitized (layer_offset five minus_one) ≢ layer_offset five minus_one
+  pub sanitized_to_identity : sanitized five_two ≢ identity_offset
   -- `concatenate`: inner and outer exchanged; the sum before the product.
-  pub concatenated-swapped : concatenateOffsets fiveTwo (layerOffset three one) ≢ concatenateOffsets (layerOffset three one) fiveTwo
-  pub concatenated-sum-first : concatenateOffsets fiveTwo (layerOffset three one) ≢ layerOffset (fin false 1 (pos 4)) two
+  pub concatenated_swapped : concatenate_offsets five_two (layer_offset three one) ≢ concatenate_offsets (layer_offset three one) five_two
+  pub concatenated_sum_first : concatenate_offsets five_two (layer_offset three one) ≢ layer_offset (fin false 1 (pos 4)) two

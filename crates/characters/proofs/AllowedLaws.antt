@@ -8,51 +8,51 @@ use lib.Dec.{leb}
 use Rattle.text.specs.Text.{Text}
 use Rattle.text.proofs.BoolLaws.{and_l, and_r}
 use Rattle.characters.specs.Utf8.{Reading, Between, decode}
-use Rattle.characters.specs.NameCharacter.{charactersAllowed, isAscii}
-use Rattle.characters.proofs.ReadingLaws.{allowedFrom, next, allowedAfter, reads_byte, reads_end, nothing_read, ascii-read, ascii-here}
+use Rattle.characters.specs.NameCharacter.{characters_allowed, is_ascii}
+use Rattle.characters.proofs.ReadingLaws.{allowed_from, next, allowed_after, reads_byte, reads_end, nothing_read, ascii_read, ascii_here}
 
-pub allowed-from : (p : Text) → charactersAllowed p ≡ allowedFrom Between p
-unfolding charactersAllowed decode allowedFrom
-allowed-from p = refl
+pub allowed_from_lem : (p : Text) → characters_allowed p ≡ allowed_from Between p
+unfolding characters_allowed decode allowed_from
+allowed_from_lem p = refl
 
-pub allowed-none : charactersAllowed [] ≡ true
-allowed-none = allowed-from [] ∙ nothing_read
+pub allowed_none : characters_allowed [] ≡ true
+allowed_none = allowed_from_lem [] ∙ nothing_read
 
 -- What follows an allowed text is read by itself.
-after-from : (u : Reading) (x y : Text) → allowedFrom u x ≡ true → allowedFrom u (x ++ y) ≡ allowedFrom Between y
-after-from u [] y e = rw (reads_end u e)
-after-from u (a ∷ x) y e = reads_byte u a (x ++ y) ∙ go (next u a) (sym (reads_byte u a x) ∙ e) (λ v. after-from v x y)
+after_from : (u : Reading) (x y : Text) → allowed_from u x ≡ true → allowed_from u (x ++ y) ≡ allowed_from Between y
+after_from u [] y e = rw (reads_end u e)
+after_from u (a ∷ x) y e = reads_byte u a (x ++ y) ∙ go (next u a) (sym (reads_byte u a x) ∙ e) (λ v. after_from v x y)
   where
-    go : (n : Option Reading) → allowedAfter n x ≡ true → ((v : Reading) → allowedFrom v x ≡ true → allowedFrom v (x ++ y) ≡ allowedFrom Between y)
-        → allowedAfter n (x ++ y) ≡ allowedFrom Between y
+    go : (n : Option Reading) → allowed_after n x ≡ true → ((v : Reading) → allowed_from v x ≡ true → allowed_from v (x ++ y) ≡ allowed_from Between y)
+        → allowed_after n (x ++ y) ≡ allowed_from Between y
     go none f ih = absurd (false≢true f)
     go (some v) f ih = ih v f
 
-pub allowed-after : (x y : Text) → charactersAllowed x ≡ true → charactersAllowed (x ++ y) ≡ charactersAllowed y
-allowed-after x y e = allowed-from (x ++ y) ∙ after-from Between x y (sym (allowed-from x) ∙ e) ∙ sym (allowed-from y)
+pub allowed_after_lem : (x y : Text) → characters_allowed x ≡ true → characters_allowed (x ++ y) ≡ characters_allowed y
+allowed_after_lem x y e = allowed_from_lem (x ++ y) ∙ after_from Between x y (sym (allowed_from_lem x) ∙ e) ∙ sym (allowed_from_lem y)
 
-pub allowed-join : (x y : Text) → charactersAllowed x ≡ true → charactersAllowed y ≡ true → charactersAllowed (x ++ y) ≡ true
-allowed-join x y e f = allowed-after x y e ∙ f
+pub allowed_join : (x y : Text) → characters_allowed x ≡ true → characters_allowed y ≡ true → characters_allowed (x ++ y) ≡ true
+allowed_join x y e f = allowed_after_lem x y e ∙ f
 
 -- A byte of ASCII ends the character before it.
-before-from : (u : Reading) (x : Text) (a : ℕ) (y : Text) → leb a 0x7F ≡ true → allowedFrom u (x ++ a ∷ y) ≡ true → allowedFrom u x ≡ true
-before-from u [] a y h e = rw (ascii-here a h u y e).0 nothing_read
-before-from u (b ∷ x) a y h e = reads_byte u b x ∙ go (next u b) (sym (reads_byte u b (x ++ a ∷ y)) ∙ e) (λ v. before-from v x a y h)
+before_from : (u : Reading) (x : Text) (a : ℕ) (y : Text) → leb a 0x7F ≡ true → allowed_from u (x ++ a ∷ y) ≡ true → allowed_from u x ≡ true
+before_from u [] a y h e = rw (ascii_here a h u y e).0 nothing_read
+before_from u (b ∷ x) a y h e = reads_byte u b x ∙ go (next u b) (sym (reads_byte u b (x ++ a ∷ y)) ∙ e) (λ v. before_from v x a y h)
   where
-    go : (n : Option Reading) → allowedAfter n (x ++ a ∷ y) ≡ true → ((v : Reading) → allowedFrom v (x ++ a ∷ y) ≡ true → allowedFrom v x ≡ true)
-        → allowedAfter n x ≡ true
+    go : (n : Option Reading) → allowed_after n (x ++ a ∷ y) ≡ true → ((v : Reading) → allowed_from v (x ++ a ∷ y) ≡ true → allowed_from v x ≡ true)
+        → allowed_after n x ≡ true
     go none f ih = f
     go (some v) f ih = ih v f
 
 module _ (a : ℕ) (h : leb a 0x7F ≡ true) where
-  pub allowed-ascii : (r : Text) → charactersAllowed (a ∷ r) ≡ charactersAllowed r
-  allowed-ascii r = allowed-from (a ∷ r) ∙ ascii-read a h r ∙ sym (allowed-from r)
+  pub allowed_ascii : (r : Text) → characters_allowed (a ∷ r) ≡ characters_allowed r
+  allowed_ascii r = allowed_from_lem (a ∷ r) ∙ ascii_read a h r ∙ sym (allowed_from_lem r)
 
-  pub allowed-before : (x y : Text) → charactersAllowed (x ++ a ∷ y) ≡ true → charactersAllowed x ≡ true
-  allowed-before x y e = allowed-from x ∙ before-from Between x a y h (sym (allowed-from (x ++ a ∷ y)) ∙ e)
+  pub allowed_before : (x y : Text) → characters_allowed (x ++ a ∷ y) ≡ true → characters_allowed x ≡ true
+  allowed_before x y e = allowed_from_lem x ∙ before_from Between x a y h (sym (allowed_from_lem (x ++ a ∷ y)) ∙ e)
 
 -- A text of ASCII is allowed.
-pub ascii-allowed : (p : Text) → isAscii p ≡ true → charactersAllowed p ≡ true
-unfolding isAscii
-ascii-allowed [] e = allowed-none
-ascii-allowed (a ∷ r) e = allowed-ascii a (and_l (leb a 0x7F) (isAscii r) e) r ∙ ascii-allowed r (and_r (leb a 0x7F) (isAscii r) e)
+pub ascii_allowed : (p : Text) → is_ascii p ≡ true → characters_allowed p ≡ true
+unfolding is_ascii
+ascii_allowed [] e = allowed_none
+ascii_allowed (a ∷ r) e = allowed_ascii a (and_l (leb a 0x7F) (is_ascii r) e) r ∙ ascii_allowed r (and_r (leb a 0x7F) (is_ascii r) e)

@@ -11,14 +11,14 @@ use lib.Seq.{drop-cons}
 use Rattle.text.specs.Text.{Text}
 use Rattle.text.proofs.BoolLaws.{up_to, at_each}
 use Rattle.text.proofs.TableLaws.{listed}
-use Rattle.characters.specs.NameCharacter.{charactersAllowed}
-use Rattle.characters.specs.FastScan.{FastState, Start, Unsure, One, Two, Three, AfterC2, AfterE0, AfterE1E3, AfterED, AfterF0, AfterF4, fastStep, fastRun, fastAccept, fastAccepts, fast_code, packedFastSteps}
-use Rattle.characters.proofs.FastLaws.{fast-is-sound}
+use Rattle.characters.specs.NameCharacter.{characters_allowed}
+use Rattle.characters.specs.FastScan.{FastState, Start, Unsure, One, Two, Three, AfterC2, AfterE0, AfterE1E3, AfterED, AfterF0, AfterF4, fast_step, fast_run, fast_accept, fast_accepts, fast_code, packed_fast_steps}
+use Rattle.characters.proofs.FastLaws.{fast_is_sound}
 
 -- The packed number of byte a holds the next state of state s at the bit offset of s: for each state and each byte, by computation.
 unfoldable holds : FastState → ℕ → Bool
-unfolding fast_code packedFastSteps fastStep
-holds s a = eqb (packedFastSteps a / 2 ^ fast_code s % 64) (fast_code (fastStep s a))
+unfolding fast_code packed_fast_steps fast_step
+holds s a = eqb (packed_fast_steps a / 2 ^ fast_code s % 64) (fast_code (fast_step s a))
 
 all_hold : (s : FastState) → up_to (holds s) 256 ≡ true
 unfolding holds
@@ -34,137 +34,137 @@ all_hold AfterED = refl
 all_hold AfterF0 = refl
 all_hold AfterF4 = refl
 
-rule : (s : FastState) (a : ℕ) → a < 256 → packedFastSteps a / 2 ^ fast_code s % 64 ≡ fast_code (fastStep s a)
+rule : (s : FastState) (a : ℕ) → a < 256 → packed_fast_steps a / 2 ^ fast_code s % 64 ≡ fast_code (fast_step s a)
 unfolding holds
-rule s a h = eqb-true (packedFastSteps a / 2 ^ fast_code s % 64) (fast_code (fastStep s a)) (at_each (holds s) 256 a (all_hold s) h)
+rule s a h = eqb-true (packed_fast_steps a / 2 ^ fast_code s % 64) (fast_code (fast_step s a)) (at_each (holds s) 256 a (all_hold s) h)
 
 -- The values of the arms of the match, in their order.
-unfoldable pub arm-1 : List ℕ
-arm-1 = 128 ∷ []
+unfoldable pub arm_1 : List ℕ
+arm_1 = 128 ∷ []
 
-unfoldable pub arm-2 : List ℕ
-arm-2 = 130 ∷ 132 ∷ 134 ∷ 136 ∷ 138 ∷ 140 ∷ 142 ∷ []
+unfoldable pub arm_2 : List ℕ
+arm_2 = 130 ∷ 132 ∷ 134 ∷ 136 ∷ 138 ∷ 140 ∷ 142 ∷ []
 
-unfoldable pub arm-3 : List ℕ
-arm-3 = 129 ∷ 131 ∷ 133 ∷ 135 ∷ 137 ∷ 139 ∷ 141 ∷ 143 ∷ []
+unfoldable pub arm_3 : List ℕ
+arm_3 = 129 ∷ 131 ∷ 133 ∷ 135 ∷ 137 ∷ 139 ∷ 141 ∷ 143 ∷ []
 
-unfoldable pub arm-4 : List ℕ
-arm-4 = 144 ∷ 146 ∷ 148 ∷ 150 ∷ 152 ∷ 156 ∷ 158 ∷ []
+unfoldable pub arm_4 : List ℕ
+arm_4 = 144 ∷ 146 ∷ 148 ∷ 150 ∷ 152 ∷ 156 ∷ 158 ∷ []
 
-unfoldable pub arm-5 : List ℕ
-arm-5 = 145 ∷ 147 ∷ 149 ∷ 151 ∷ 153 ∷ 155 ∷ 157 ∷ 159 ∷ []
+unfoldable pub arm_5 : List ℕ
+arm_5 = 145 ∷ 147 ∷ 149 ∷ 151 ∷ 153 ∷ 155 ∷ 157 ∷ 159 ∷ []
 
-unfoldable pub arm-6 : List ℕ
-arm-6 = 154 ∷ []
+unfoldable pub arm_6 : List ℕ
+arm_6 = 154 ∷ []
 
-unfoldable pub arm-7 : List ℕ
-arm-7 = 160 ∷ []
+unfoldable pub arm_7 : List ℕ
+arm_7 = 160 ∷ []
 
-unfoldable pub arm-8 : List ℕ
-arm-8 = 162 ∷ 164 ∷ 166 ∷ 168 ∷ 170 ∷ 172 ∷ 174 ∷ 176 ∷ 178 ∷ 180 ∷ []
+unfoldable pub arm_8 : List ℕ
+arm_8 = 162 ∷ 164 ∷ 166 ∷ 168 ∷ 170 ∷ 172 ∷ 174 ∷ 176 ∷ 178 ∷ 180 ∷ []
 
-unfoldable pub arm-9 : List ℕ
-arm-9 = 182 ∷ 184 ∷ 186 ∷ 188 ∷ 190 ∷ []
+unfoldable pub arm_9 : List ℕ
+arm_9 = 182 ∷ 184 ∷ 186 ∷ 188 ∷ 190 ∷ []
 
-unfoldable pub arm-10 : List ℕ
-arm-10 = 161 ∷ 163 ∷ 165 ∷ 167 ∷ 169 ∷ 171 ∷ 173 ∷ 175 ∷ 177 ∷ 179 ∷ []
+unfoldable pub arm_10 : List ℕ
+arm_10 = 161 ∷ 163 ∷ 165 ∷ 167 ∷ 169 ∷ 171 ∷ 173 ∷ 175 ∷ 177 ∷ 179 ∷ []
 
-unfoldable pub arm-11 : List ℕ
-arm-11 = 181 ∷ 183 ∷ 185 ∷ 187 ∷ 189 ∷ 191 ∷ []
+unfoldable pub arm_11 : List ℕ
+arm_11 = 181 ∷ 183 ∷ 185 ∷ 187 ∷ 189 ∷ 191 ∷ []
 
-unfoldable pub arm-12 : List ℕ
-arm-12 = 192 ∷ 226 ∷ 246 ∷ 248 ∷ 250 ∷ 252 ∷ 254 ∷ []
+unfoldable pub arm_12 : List ℕ
+arm_12 = 192 ∷ 226 ∷ 246 ∷ 248 ∷ 250 ∷ 252 ∷ 254 ∷ []
 
-unfoldable pub arm-13 : List ℕ
-arm-13 = 127 ∷ 193 ∷ 245 ∷ 247 ∷ 249 ∷ 251 ∷ 253 ∷ 255 ∷ []
+unfoldable pub arm_13 : List ℕ
+arm_13 = 127 ∷ 193 ∷ 245 ∷ 247 ∷ 249 ∷ 251 ∷ 253 ∷ 255 ∷ []
 
-unfoldable pub arm-14 : List ℕ
-arm-14 = 194 ∷ []
+unfoldable pub arm_14 : List ℕ
+arm_14 = 194 ∷ []
 
-unfoldable pub arm-15 : List ℕ
-arm-15 = 196 ∷ 198 ∷ 200 ∷ 202 ∷ 204 ∷ 206 ∷ 208 ∷ 210 ∷ 212 ∷ 214 ∷ []
+unfoldable pub arm_15 : List ℕ
+arm_15 = 196 ∷ 198 ∷ 200 ∷ 202 ∷ 204 ∷ 206 ∷ 208 ∷ 210 ∷ 212 ∷ 214 ∷ []
 
-unfoldable pub arm-16 : List ℕ
-arm-16 = 216 ∷ 218 ∷ 220 ∷ 222 ∷ []
+unfoldable pub arm_16 : List ℕ
+arm_16 = 216 ∷ 218 ∷ 220 ∷ 222 ∷ []
 
-unfoldable pub arm-17 : List ℕ
-arm-17 = 195 ∷ 197 ∷ 199 ∷ 201 ∷ 203 ∷ 205 ∷ 207 ∷ 209 ∷ 211 ∷ 213 ∷ []
+unfoldable pub arm_17 : List ℕ
+arm_17 = 195 ∷ 197 ∷ 199 ∷ 201 ∷ 203 ∷ 205 ∷ 207 ∷ 209 ∷ 211 ∷ 213 ∷ []
 
-unfoldable pub arm-18 : List ℕ
-arm-18 = 215 ∷ 217 ∷ 219 ∷ 221 ∷ 223 ∷ []
+unfoldable pub arm_18 : List ℕ
+arm_18 = 215 ∷ 217 ∷ 219 ∷ 221 ∷ 223 ∷ []
 
-unfoldable pub arm-19 : List ℕ
-arm-19 = 224 ∷ []
+unfoldable pub arm_19 : List ℕ
+arm_19 = 224 ∷ []
 
-unfoldable pub arm-20 : List ℕ
-arm-20 = 225 ∷ 227 ∷ []
+unfoldable pub arm_20 : List ℕ
+arm_20 = 225 ∷ 227 ∷ []
 
-unfoldable pub arm-21 : List ℕ
-arm-21 = 228 ∷ 230 ∷ 232 ∷ 234 ∷ 236 ∷ 238 ∷ []
+unfoldable pub arm_21 : List ℕ
+arm_21 = 228 ∷ 230 ∷ 232 ∷ 234 ∷ 236 ∷ 238 ∷ []
 
-unfoldable pub arm-22 : List ℕ
-arm-22 = 229 ∷ 231 ∷ 233 ∷ 235 ∷ 239 ∷ []
+unfoldable pub arm_22 : List ℕ
+arm_22 = 229 ∷ 231 ∷ 233 ∷ 235 ∷ 239 ∷ []
 
-unfoldable pub arm-23 : List ℕ
-arm-23 = 237 ∷ []
+unfoldable pub arm_23 : List ℕ
+arm_23 = 237 ∷ []
 
-unfoldable pub arm-24 : List ℕ
-arm-24 = 240 ∷ []
+unfoldable pub arm_24 : List ℕ
+arm_24 = 240 ∷ []
 
-unfoldable pub arm-25 : List ℕ
-arm-25 = 242 ∷ []
+unfoldable pub arm_25 : List ℕ
+arm_25 = 242 ∷ []
 
-unfoldable pub arm-26 : List ℕ
-arm-26 = 241 ∷ 243 ∷ []
+unfoldable pub arm_26 : List ℕ
+arm_26 = 241 ∷ 243 ∷ []
 
-unfoldable pub arm-27 : List ℕ
-arm-27 = 244 ∷ []
+unfoldable pub arm_27 : List ℕ
+arm_27 = 244 ∷ []
 
-unfoldable pub fast-arms : List (List ℕ)
-fast-arms =
-    arm-27 ∷ arm-26 ∷ arm-25 ∷ arm-24 ∷ arm-23 ∷ arm-22 ∷ arm-21 ∷ arm-20 ∷ arm-19 ∷ arm-18 ∷ arm-17 ∷ arm-16 ∷ arm-15 ∷ arm-14 ∷ arm-13 ∷ arm-12 ∷ arm-11 ∷ arm-10 ∷ arm-9 ∷ arm-8 ∷ arm-7 ∷ arm-6 ∷ arm-5 ∷ arm-4 ∷ arm-3 ∷ arm-2 ∷ arm-1 ∷ []
+unfoldable pub fast_arms : List (List ℕ)
+fast_arms =
+    arm_27 ∷ arm_26 ∷ arm_25 ∷ arm_24 ∷ arm_23 ∷ arm_22 ∷ arm_21 ∷ arm_20 ∷ arm_19 ∷ arm_18 ∷ arm_17 ∷ arm_16 ∷ arm_15 ∷ arm_14 ∷ arm_13 ∷ arm_12 ∷ arm_11 ∷ arm_10 ∷ arm_9 ∷ arm_8 ∷ arm_7 ∷ arm_6 ∷ arm_5 ∷ arm_4 ∷ arm_3 ∷ arm_2 ∷ arm_1 ∷ []
 
-pub all-fast-listed : up_to (listed packedFastSteps 7027331075698876800 fast-arms) 256 ≡ true
-unfolding fast-arms arm-1 arm-2 arm-3 arm-4 arm-5 arm-6 arm-7 arm-8 arm-9 arm-10 arm-11 arm-12 arm-13 arm-14 arm-15 arm-16 arm-17 arm-18 arm-19 arm-20 arm-21 arm-22 arm-23 arm-24 arm-25 arm-26 arm-27 packedFastSteps
-all-fast-listed = refl
+pub all_fast_listed : up_to (listed packed_fast_steps 7027331075698876800 fast_arms) 256 ≡ true
+unfolding fast_arms arm_1 arm_2 arm_3 arm_4 arm_5 arm_6 arm_7 arm_8 arm_9 arm_10 arm_11 arm_12 arm_13 arm_14 arm_15 arm_16 arm_17 arm_18 arm_19 arm_20 arm_21 arm_22 arm_23 arm_24 arm_25 arm_26 arm_27 packed_fast_steps
+all_fast_listed = refl
 
 -- The loop invariant: scanning the text from index i, in the state given by the low six bits of k, has the same result as scanning the whole text.
 pub record Scans (p : Text) (k i : ℕ) : Type 0 where
-  pub at-state : FastState
-  pub numbered : k % 64 ≡ fast_code at-state
-  pub rest : fastRun at-state (drop i p) ≡ fastRun Start p
+  pub at_state : FastState
+  pub numbered : k % 64 ≡ fast_code at_state
+  pub rest : fast_run at_state (drop i p) ≡ fast_run Start p
 
-pub scans-first : (p : Text) → Scans p 0 0
+pub scans_first : (p : Text) → Scans p 0 0
 unfolding fast_code
-scans-first p = record { at-state = Start; numbered = refl; rest = refl }
+scans_first p = record { at_state = Start; numbered = refl; rest = refl }
 
-pub scans-on : (p : Text) (k i m : ℕ) → i < length p → Scans p k i → get_or p i 0 < 256 → m ≡ packedFastSteps (get_or p i 0) / 2 ^ (k % 64) → Scans p m (i + 1)
-unfolding fastRun
-scans-on p k i m h w l e =
+pub scans_on : (p : Text) (k i m : ℕ) → i < length p → Scans p k i → get_or p i 0 < 256 → m ≡ packed_fast_steps (get_or p i 0) / 2 ^ (k % 64) → Scans p m (i + 1)
+unfolding fast_run
+scans_on p k i m h w l e =
     record {
-      at-state = fastStep w.at-state (get_or p i 0);
-      numbered = ap (λ (x : ℕ). x % 64) (rw w.numbered at e) ∙ rule w.at-state (get_or p i 0) l;
+      at_state = fast_step w.at_state (get_or p i 0);
+      numbered = ap (λ (x : ℕ). x % 64) (rw w.numbered at e) ∙ rule w.at_state (get_or p i 0) l;
       rest = rw (add-one i) (rw (drop-cons p i 0 h) at w.rest);
     }
 
-accepts-zero : (s : FastState) → eqb (fast_code s) 0 ≡ fastAccept s
+accepts_zero : (s : FastState) → eqb (fast_code s) 0 ≡ fast_accept s
 unfolding fast_code
-accepts-zero Start = refl
-accepts-zero Unsure = refl
-accepts-zero One = refl
-accepts-zero Two = refl
-accepts-zero Three = refl
-accepts-zero AfterC2 = refl
-accepts-zero AfterE0 = refl
-accepts-zero AfterE1E3 = refl
-accepts-zero AfterED = refl
-accepts-zero AfterF0 = refl
-accepts-zero AfterF4 = refl
+accepts_zero Start = refl
+accepts_zero Unsure = refl
+accepts_zero One = refl
+accepts_zero Two = refl
+accepts_zero Three = refl
+accepts_zero AfterC2 = refl
+accepts_zero AfterE0 = refl
+accepts_zero AfterE1E3 = refl
+accepts_zero AfterED = refl
+accepts_zero AfterF0 = refl
+accepts_zero AfterF4 = refl
 
-pub scans-end : (p : Text) (k i : ℕ) → Scans p k i → length p ≤ i → eqb (k % 64) 0 ≡ fastAccepts p
-unfolding fastAccepts fastRun
-scans-end p k i w l = rw (w.numbered, ← w.rest, drop_of_length-le p l) (accepts-zero w.at-state)
+pub scans_end : (p : Text) (k i : ℕ) → Scans p k i → length p ≤ i → eqb (k % 64) 0 ≡ fast_accepts p
+unfolding fast_accepts fast_run
+scans_end p k i w l = rw (w.numbered, ← w.rest, drop_of_length-le p l) (accepts_zero w.at_state)
 
 -- Lemmas for `characters_allowed`.
-pub fast-yes : (p : Text) (b : Bool) → b ≡ fastAccepts p → b ≡ true → true ≡ charactersAllowed p
-fast-yes p b e t = sym (fast-is-sound p (sym e ∙ t))
+pub fast_yes : (p : Text) (b : Bool) → b ≡ fast_accepts p → b ≡ true → true ≡ characters_allowed p
+fast_yes p b e t = sym (fast_is_sound p (sym e ∙ t))

@@ -4,7 +4,7 @@
 use Rattle.std.specs.Prelude.{ℕ, ◌+◌, ◌*◌, ◌^◌, ◌≡◌, Bool, true, false, cond, [], ◌∷◌, eqb, leb}
 use Rattle.text.specs.Text.{Text}
 use Rattle.text.specs.Range.{in_range}
-use Rattle.characters.specs.NameCharacter.{charactersAllowed}
+use Rattle.characters.specs.NameCharacter.{characters_allowed}
 
 -- The state of the automaton.
 pub data FastState : Type 0 where
@@ -25,8 +25,8 @@ pub data FastState : Type 0 where
   AfterF4 : FastState
 
 -- The next state after the byte a.
-unfoldable pub fastStep : FastState → ℕ → FastState
-fastStep Start a =
+unfoldable pub fast_step : FastState → ℕ → FastState
+fast_step Start a =
     cond (leb a 0x7E) Start
     (cond (eqb a 0xC2) AfterC2
     (cond (in_range 0xC3 0xDF a) One
@@ -39,45 +39,45 @@ fastStep Start a =
     (cond (eqb a 0xF0) AfterF0
     (cond (in_range 0xF1 0xF3 a) Three
     (cond (eqb a 0xF4) AfterF4 Unsure)))))))))))
-fastStep Unsure a = Unsure
-fastStep One a = cond (in_range 0x80 0xBF a) Start Unsure
-fastStep Two a = cond (in_range 0x80 0xBF a) One Unsure
-fastStep Three a = cond (in_range 0x80 0xBF a) Two Unsure
-fastStep AfterC2 a = cond (in_range 0xA1 0xBF a) Start Unsure
-fastStep AfterE0 a = cond (in_range 0xA0 0xBF a) One Unsure
-fastStep AfterE1E3 a = cond (in_range 0x81 0x99 a) One (cond (in_range 0x9B 0xBF a) One Unsure)
-fastStep AfterED a = cond (in_range 0x80 0x9F a) One Unsure
-fastStep AfterF0 a = cond (in_range 0x90 0xBF a) Two Unsure
-fastStep AfterF4 a = cond (in_range 0x80 0x8F a) Two Unsure
+fast_step Unsure a = Unsure
+fast_step One a = cond (in_range 0x80 0xBF a) Start Unsure
+fast_step Two a = cond (in_range 0x80 0xBF a) One Unsure
+fast_step Three a = cond (in_range 0x80 0xBF a) Two Unsure
+fast_step AfterC2 a = cond (in_range 0xA1 0xBF a) Start Unsure
+fast_step AfterE0 a = cond (in_range 0xA0 0xBF a) One Unsure
+fast_step AfterE1E3 a = cond (in_range 0x81 0x99 a) One (cond (in_range 0x9B 0xBF a) One Unsure)
+fast_step AfterED a = cond (in_range 0x80 0x9F a) One Unsure
+fast_step AfterF0 a = cond (in_range 0x90 0xBF a) Two Unsure
+fast_step AfterF4 a = cond (in_range 0x80 0x8F a) Two Unsure
 
 -- The state after all bytes of a text.
-unfoldable pub fastRun : FastState → Text → FastState
-unfolding fastStep
-fastRun s [] = s
-fastRun s (a ∷ r) = fastRun (fastStep s a) r
+unfoldable pub fast_run : FastState → Text → FastState
+unfolding fast_step
+fast_run s [] = s
+fast_run s (a ∷ r) = fast_run (fast_step s a) r
 
 -- A text may end between two characters.
-abbrev pub fastAccept : FastState → Bool
-fastAccept Start = true
-fastAccept Unsure = false
-fastAccept One = false
-fastAccept Two = false
-fastAccept Three = false
-fastAccept AfterC2 = false
-fastAccept AfterE0 = false
-fastAccept AfterE1E3 = false
-fastAccept AfterED = false
-fastAccept AfterF0 = false
-fastAccept AfterF4 = false
+abbrev pub fast_accept : FastState → Bool
+fast_accept Start = true
+fast_accept Unsure = false
+fast_accept One = false
+fast_accept Two = false
+fast_accept Three = false
+fast_accept AfterC2 = false
+fast_accept AfterE0 = false
+fast_accept AfterE1E3 = false
+fast_accept AfterED = false
+fast_accept AfterF0 = false
+fast_accept AfterF4 = false
 
 -- The automaton accepts the text.
-unfoldable pub fastAccepts : Text → Bool
-unfolding fastRun
-fastAccepts p = fastAccept (fastRun Start p)
+unfoldable pub fast_accepts : Text → Bool
+unfolding fast_run
+fast_accepts p = fast_accept (fast_run Start p)
 
 -- Theorem (proofs/FastLaws.antt): a text that the automaton accepts is allowed.
 abbrev pub FastIsSound : Type 0
-FastIsSound = (p : Text) → fastAccepts p ≡ true → charactersAllowed p ≡ true
+FastIsSound = (p : Text) → fast_accepts p ≡ true → characters_allowed p ≡ true
 
 -- The bit offset of a state in the packed number of a byte, which holds the next state of every state (as in the scan of paths). Six bits hold a
 -- state; the last offset has four bits left, which are enough for the two states that follow there.
@@ -95,22 +95,22 @@ fast_code AfterE1E3 = 54
 fast_code One = 60
 
 -- The part of the packed number for state s and byte a.
-unfoldable pub packedFastStep : FastState → ℕ → ℕ
-unfolding fast_code fastStep
-packedFastStep s a = fast_code (fastStep s a) * 2 ^ fast_code s
+unfoldable pub packed_fast_step : FastState → ℕ → ℕ
+unfolding fast_code fast_step
+packed_fast_step s a = fast_code (fast_step s a) * 2 ^ fast_code s
 
 -- The packed number of byte a.
-unfoldable pub packedFastSteps : ℕ → ℕ
-unfolding packedFastStep
-packedFastSteps a =
-    packedFastStep Start a
-    + packedFastStep Unsure a
-    + packedFastStep Two a
-    + packedFastStep Three a
-    + packedFastStep AfterE0 a
-    + packedFastStep AfterED a
-    + packedFastStep AfterF0 a
-    + packedFastStep AfterF4 a
-    + packedFastStep AfterC2 a
-    + packedFastStep AfterE1E3 a
-    + packedFastStep One a
+unfoldable pub packed_fast_steps : ℕ → ℕ
+unfolding packed_fast_step
+packed_fast_steps a =
+    packed_fast_step Start a
+    + packed_fast_step Unsure a
+    + packed_fast_step Two a
+    + packed_fast_step Three a
+    + packed_fast_step AfterE0 a
+    + packed_fast_step AfterED a
+    + packed_fast_step AfterF0 a
+    + packed_fast_step AfterF4 a
+    + packed_fast_step AfterC2 a
+    + packed_fast_step AfterE1E3 a
+    + packed_fast_step One a

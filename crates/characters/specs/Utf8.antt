@@ -6,14 +6,14 @@ use Rattle.text.specs.Text.{Text}
 use Rattle.text.specs.Range.{in_range}
 
 -- The number is the code point of a character (a Unicode scalar value): it is at most U+10FFFF, and no surrogate.
-unfoldable pub isScalarValue : ℕ → Bool
-isScalarValue c = leb c 0x10FFFF && not (in_range 0xD800 0xDFFF c)
+unfoldable pub is_scalar_value : ℕ → Bool
+is_scalar_value c = leb c 0x10FFFF && not (in_range 0xD800 0xDFFF c)
 
 -- Every number of the list is the code point of a character.
-unfoldable pub areScalarValues : List ℕ → Bool
-unfolding isScalarValue
-areScalarValues [] = true
-areScalarValues (c ∷ r) = isScalarValue c && areScalarValues r
+unfoldable pub are_scalar_values : List ℕ → Bool
+unfolding is_scalar_value
+are_scalar_values [] = true
+are_scalar_values (c ∷ r) = is_scalar_value c && are_scalar_values r
 
 -- The byte that continues a character and holds the lowest six bits of c.
 abbrev pub continuation : ℕ → ℕ
@@ -29,14 +29,14 @@ encode c =
     ((0xF0 + c / 64 / 64 / 64) ∷ continuation (c / 64 / 64) ∷ continuation (c / 64) ∷ continuation c ∷ [])))
 
 -- The bytes of characters, one after the other.
-unfoldable pub encodeAll : List ℕ → Text
+unfoldable pub encode_all : List ℕ → Text
 unfolding encode
-encodeAll [] = []
-encodeAll (c ∷ r) = encode c ++ encodeAll r
+encode_all [] = []
+encode_all (c ∷ r) = encode c ++ encode_all r
 
 -- The byte continues a character.
-abbrev pub isContinuation : ℕ → Bool
-isContinuation a = in_range 0x80 0xBF a
+abbrev pub is_continuation : ℕ → Bool
+is_continuation a = in_range 0x80 0xBF a
 
 -- The number that the bits so far and the six bits of the byte a make.
 abbrev pub with_bits : ℕ → ℕ → ℕ
@@ -51,8 +51,8 @@ pub data Reading : Type 0 where
   Inside : ℕ → ℕ → ℕ → Reading
 
 -- The number c is the code point of a character, and no less than the least one that takes as many bytes: its bytes are its shortest form.
-abbrev pub isShortest : ℕ → ℕ → Bool
-isShortest least c = leb least c && isScalarValue c
+abbrev pub is_shortest : ℕ → ℕ → Bool
+is_shortest least c = leb least c && is_scalar_value c
 
 -- A character before the characters of the rest; none if the rest has none.
 abbrev pub prepend : ℕ → Option (List ℕ) → Option (List ℕ)
@@ -62,7 +62,7 @@ prepend c (some r) = some (c ∷ r)
 -- The characters of a text, read from the middle of it; none if it is malformed: overlong forms, surrogates, numbers above U+10FFFF, characters
 -- that are cut off, and bytes that continue none.
 unfoldable pub decode_from : Reading → Text → Option (List ℕ)
-unfolding isScalarValue
+unfolding is_scalar_value
 decode_from Between [] = some []
 decode_from Between (a ∷ r) =
     cond (leb a 0x7F) (prepend a (decode_from Between r))
@@ -71,9 +71,9 @@ decode_from Between (a ∷ r) =
     (cond (in_range 0xF0 0xF7 a) (decode_from (Inside 2 0x10000 (a % 8)) r) none)))
 decode_from (Inside more least bits) [] = none
 decode_from (Inside zero least bits) (a ∷ r) =
-    cond (isContinuation a && isShortest least (with_bits bits a)) (prepend (with_bits bits a) (decode_from Between r)) none
+    cond (is_continuation a && is_shortest least (with_bits bits a)) (prepend (with_bits bits a) (decode_from Between r)) none
 decode_from (Inside (suc more) least bits) (a ∷ r) =
-    cond (isContinuation a) (decode_from (Inside more least (with_bits bits a)) r) none
+    cond (is_continuation a) (decode_from (Inside more least (with_bits bits a)) r) none
 
 -- The characters of a text; none if it is malformed.
 unfoldable pub decode : Text → Option (List ℕ)
@@ -82,8 +82,8 @@ decode p = decode_from Between p
 
 -- The text is the bytes of these characters.
 pub record Encoded (p : Text) (characters : List ℕ) : Type 0 where
-  pub scalar : areScalarValues characters ≡ true
-  pub same : encodeAll characters ≡ p
+  pub scalar : are_scalar_values characters ≡ true
+  pub same : encode_all characters ≡ p
 
 -- Theorem (proofs/Theorem.antt): the well-formed texts are the bytes of characters, one after the other. Encoding and then decoding gives the
 -- characters, and decoding and then encoding gives the text.

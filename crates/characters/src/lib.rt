@@ -3,10 +3,10 @@
 // has no precondition.
 ghost use Rattle.std.specs.Prelude.{◌≡◌, ◌&&◌, [], ◌∷◌, ◌<◌, ◌≤◌, ◌/◌, ◌%◌, ◌^◌, leb, length, get_or, drop};
 ghost use Rattle.text.specs.Range.{in_range};
-ghost use Rattle.characters.specs.Utf8.{isContinuation, with_bits};
-ghost use Rattle.characters.specs.NameCharacter.{isWhiteSpace, isNameCharacter, charactersAllowed};
-ghost use Rattle.characters.specs.CharacterLen.{characterLen};
-ghost use Rattle.characters.specs.FastScan.{fastAccepts, packedFastSteps};
+ghost use Rattle.characters.specs.Utf8.{is_continuation, with_bits};
+ghost use Rattle.characters.specs.NameCharacter.{is_white_space, is_name_character, characters_allowed};
+ghost use Rattle.characters.specs.CharacterLen.{character_len};
+ghost use Rattle.characters.specs.FastScan.{fast_accepts, packed_fast_steps};
 
 // Returns whether `n` lies between `low` and `high`, both included.
 fn in_range(low: u32, high: u32, n: u32) -> bool
@@ -17,7 +17,7 @@ fn in_range(low: u32, high: u32, n: u32) -> bool
 
 // Returns whether the byte continues a character.
 fn is_continuation(a: u8) -> bool
-    ensures { result ≡ isContinuation a }
+    ensures { result ≡ is_continuation a }
 {
     (128 <= a) & (a <= 191)
 }
@@ -32,7 +32,7 @@ fn with_bits(bits: u32, a: u8) -> u32
 
 // Returns whether the character is white space outside ASCII.
 fn is_white_space(c: u32) -> bool
-    ensures { result ≡ isWhiteSpace c }
+    ensures { result ≡ is_white_space c }
 {
     (c == 0xA0)
         | (c == 0x1680)
@@ -46,7 +46,7 @@ fn is_white_space(c: u32) -> bool
 
 // Returns whether the number is the code point of a character outside ASCII that a name may have.
 fn is_name_character(c: u32) -> bool
-    ensures { result ≡ isNameCharacter c }
+    ensures { result ≡ is_name_character c }
 {
     (c <= 0x10FFFF)
         & !in_range(0xD800, 0xDFFF, c)
@@ -59,7 +59,7 @@ fn is_name_character(c: u32) -> bool
 fn is_two_bytes(a: u8, b: u8) -> bool
     requires le_a { 192 ≤ a }
     requires a_bound { a ≤ 223 }
-    ensures { result ≡ charactersAllowed (a ∷ b ∷ []) }
+    ensures { result ≡ characters_allowed (a ∷ b ∷ []) }
 {
     let c = with_bits((a % 32) as u32, b);
     is_continuation(b) & (0x80 <= c) & is_name_character(c)
@@ -69,7 +69,7 @@ fn is_two_bytes(a: u8, b: u8) -> bool
 fn is_three_bytes(a: u8, b: u8, d: u8) -> bool
     requires le_a { 224 ≤ a }
     requires a_bound { a ≤ 239 }
-    ensures { result ≡ charactersAllowed (a ∷ b ∷ d ∷ []) }
+    ensures { result ≡ characters_allowed (a ∷ b ∷ d ∷ []) }
 {
     let c = with_bits(with_bits((a % 16) as u32, b), d);
     is_continuation(b) & is_continuation(d) & (0x800 <= c) & is_name_character(c)
@@ -79,7 +79,7 @@ fn is_three_bytes(a: u8, b: u8, d: u8) -> bool
 fn is_four_bytes(a: u8, b: u8, d: u8, e: u8) -> bool
     requires le_a { 240 ≤ a }
     requires a_bound { a ≤ 247 }
-    ensures { result ≡ charactersAllowed (a ∷ b ∷ d ∷ e ∷ []) }
+    ensures { result ≡ characters_allowed (a ∷ b ∷ d ∷ e ∷ []) }
 {
     let c = with_bits(with_bits(with_bits((a % 8) as u32, b), d), e);
     is_continuation(b)
@@ -94,7 +94,7 @@ fn is_four_bytes(a: u8, b: u8, d: u8, e: u8) -> bool
 fn long_character_len(text: &[u8], i: usize) -> usize
     requires i_in_bounds { i < length text.now }
     requires bound { 224 ≤ get_or text.now i 0 }
-    ensures { result ≡ characterLen (drop i text.now) }
+    ensures { result ≡ character_len (drop i text.now) }
 {
     let a = text[i];
     let n = text.len() - i;
@@ -122,7 +122,7 @@ fn long_character_len(text: &[u8], i: usize) -> usize
 // The number of bytes of the character at index `i`; 0 if there is none, or one that no name may have.
 fn character_len(text: &[u8], i: usize) -> usize
     requires { i < length text.now }
-    ensures { result ≡ characterLen (drop i text.now) }
+    ensures { result ≡ character_len (drop i text.now) }
 {
     let a = text[i];
     if a < 128 {
@@ -146,7 +146,7 @@ fn character_len(text: &[u8], i: usize) -> usize
 // The transition table of the first scan: the next state of every state at the byte `a`, as in the scan of
 // paths (path_grammar).
 fn fast_row(a: u8) -> u64
-    ensures { result ≡ packedFastSteps a }
+    ensures { result ≡ packed_fast_steps a }
 {
     match a {
         128 => 109828494320714118,
@@ -182,14 +182,14 @@ fn fast_row(a: u8) -> u64
 
 // The state after state `s` and byte `a`; only the low six bits count.
 fn fast_next(s: u64, a: u8) -> u64
-    ensures { result ≡ packedFastSteps a / 2 ^ (s % 64) }
+    ensures { result ≡ packed_fast_steps a / 2 ^ (s % 64) }
 {
     fast_row(a) >> (s % 64)
 }
 
 // Returns whether the first scan accepts the text.
 fn fast_accepts(text: &[u8]) -> bool
-    ensures { result ≡ fastAccepts text.now }
+    ensures { result ≡ fast_accepts text.now }
 {
     let mut s = 0;
     let mut i = 0;
@@ -203,7 +203,7 @@ fn fast_accepts(text: &[u8]) -> bool
 // Returns whether the text is well-formed UTF-8 and each of its characters outside ASCII is one that a
 // name may have, by decoding it.
 fn decodes_allowed(text: &[u8]) -> bool
-    ensures { result ≡ charactersAllowed text.now }
+    ensures { result ≡ characters_allowed text.now }
 {
     let mut i = 0;
     while i < text.len() {
@@ -219,7 +219,7 @@ fn decodes_allowed(text: &[u8]) -> bool
 // Returns whether the text is well-formed UTF-8 and each of its characters outside ASCII is one that a
 // name may have. The first scan accepts most such texts, and is faster.
 pub fn characters_allowed(text: &[u8]) -> bool
-    ensures { result ≡ charactersAllowed text.now }
+    ensures { result ≡ characters_allowed text.now }
 {
     if fast_accepts(text) {
         return true;

@@ -1,9 +1,9 @@
 // Closes the open list of the program `frames` as a leg, in lent memory. The buffers may hold anything.
 ghost use Rattle.std.specs.Prelude.{◌≡◌, cond, [], ◌∷◌, ◌+◌, ◌*◌, ◌≤◌, ◌<◌, length};
-ghost use Rattle.text.specs.Text.{writtenAt};
-ghost use Rattle.pair_list.specs.Places.{pairsIn};
-ghost use Rattle.validate.specs.Validate.{lentList};
-ghost use Rattle.close_leg.specs.Close.{legStore, storeHasLegRoom, closeListReply, closeListStore, closeReply, closeStore};
+ghost use Rattle.text.specs.Text.{written_at};
+ghost use Rattle.pair_list.specs.Places.{pairs_in};
+ghost use Rattle.validate.specs.Validate.{lent_list};
+ghost use Rattle.close_leg.specs.Close.{leg_store, store_has_leg_room, close_list_reply, close_list_store, close_reply, close_store};
 
 // The size of the leg store: the number of legs, and the bytes of their ends before redundant pairs are
 // dropped.
@@ -22,7 +22,7 @@ pub enum Closed {
 
 // Returns whether there is space for one more leg (question 4).
 fn has_leg_room(v: LegTotals, slots: &[usize], table: &[usize]) -> bool
-    ensures { result ≡ storeHasLegRoom (legStore v [] slots.now table.now) }
+    ensures { result ≡ store_has_leg_room (leg_store v [] slots.now table.now) }
 {
     let count = v.count;
     if 16 <= count {
@@ -47,8 +47,8 @@ fn validate_close(
     slots: &[usize],
     table: &[usize],
 ) -> Closed
-    ensures { result ≡ closeListReply (pairsIn bytes.now places.now n)
-        (legStore v store.now slots.now table.now) }
+    ensures { result ≡ close_list_reply (pairs_in bytes.now places.now n)
+        (leg_store v store.now slots.now table.now) }
 {
     if !has_leg_room(v, slots, table) {
         return Closed::Refused(refusal::Refusal::TooMany);
@@ -84,7 +84,7 @@ fn mark_number(mark: bool) -> usize
 // Writes the three numbers of leg k, which has w pairs.
 fn write_leg_entry(k: usize, mark: bool, w: usize, table: &mut [usize])
     requires { (k < 16) × (3 * k + 3 ≤ length table.old) }
-    ensures { table.new ≡ writtenAt (3 * k) (cond mark 1 0 ∷ 64 * k ∷ w ∷ []) table.old }
+    ensures { table.new ≡ written_at (3 * k) (cond mark 1 0 ∷ 64 * k ∷ w ∷ []) table.old }
 {
     route_legs::write_leg(k, mark_number(mark), 64 * k, w, table);
 }
@@ -101,14 +101,14 @@ fn close_list(
     table: &mut [usize],
 ) -> Closed
     requires { (n ≤ 64) × (4 * n ≤ length places.now) }
-    ensures value { result ≡ closeListReply (pairsIn bytes.now places.now n)
-        (legStore v store.old slots.old table.old) }
-    ensures store_after { store.new ≡ (closeListStore mark (pairsIn bytes.now places.now n)
-        (legStore v store.old slots.old table.old)).store }
-    ensures slots_after { slots.new ≡ (closeListStore mark (pairsIn bytes.now places.now n)
-        (legStore v store.old slots.old table.old)).slots }
-    ensures table_after { table.new ≡ (closeListStore mark (pairsIn bytes.now places.now n)
-        (legStore v store.old slots.old table.old)).table }
+    ensures value { result ≡ close_list_reply (pairs_in bytes.now places.now n)
+        (leg_store v store.old slots.old table.old) }
+    ensures store_after { store.new ≡ (close_list_store mark (pairs_in bytes.now places.now n)
+        (leg_store v store.old slots.old table.old)).store }
+    ensures slots_after { slots.new ≡ (close_list_store mark (pairs_in bytes.now places.now n)
+        (leg_store v store.old slots.old table.old)).slots }
+    ensures table_after { table.new ≡ (close_list_store mark (pairs_in bytes.now places.now n)
+        (leg_store v store.old slots.old table.old)).table }
 {
     let r = validate_close(bytes, places, n, v, store, slots, table);
     if let Closed::Refused(x) = r {
@@ -135,14 +135,14 @@ pub fn close(
     slots: &mut [usize],
     table: &mut [usize],
 ) -> Closed
-    ensures value { result ≡ closeReply relocates (lentList bytes.now places.now n)
-        (legStore v store.old slots.old table.old) }
-    ensures store_after { store.new ≡ (closeStore relocates (lentList bytes.now places.now n)
-        (legStore v store.old slots.old table.old)).store }
-    ensures slots_after { slots.new ≡ (closeStore relocates (lentList bytes.now places.now n)
-        (legStore v store.old slots.old table.old)).slots }
-    ensures table_after { table.new ≡ (closeStore relocates (lentList bytes.now places.now n)
-        (legStore v store.old slots.old table.old)).table }
+    ensures value { result ≡ close_reply relocates (lent_list bytes.now places.now n)
+        (leg_store v store.old slots.old table.old) }
+    ensures store_after { store.new ≡ (close_store relocates (lent_list bytes.now places.now n)
+        (leg_store v store.old slots.old table.old)).store }
+    ensures slots_after { slots.new ≡ (close_store relocates (lent_list bytes.now places.now n)
+        (leg_store v store.old slots.old table.old)).slots }
+    ensures table_after { table.new ≡ (close_store relocates (lent_list bytes.now places.now n)
+        (leg_store v store.old slots.old table.old)).table }
 {
     if !validate::can_select(places, n, 256) {
         return Closed::Refused(refusal::Refusal::TooMany);

@@ -2,14 +2,14 @@
 // buffer (the two loops of Rust's `MapFunction::compose`).
 ghost use Rattle.std.specs.Prelude.{◌≡◌, true, false, map as mapped, ◌+◌, ◌*◌, ◌≤◌, leb, length};
 ghost use Rattle.std.proofs.Math.Option.{some};
-ghost use Rattle.text.specs.Text.{equal, written, writtenIfFits};
+ghost use Rattle.text.specs.Text.{equal, written, written_if_fits};
 ghost use Rattle.path_join.specs.Join.{join};
 ghost use Rattle.pair_list.specs.Pair.{pair};
-ghost use Rattle.pair_list.specs.Places.{pairsIn, listText, listPlaces};
+ghost use Rattle.pair_list.specs.Places.{pairs_in, list_text, list_places};
 ghost use Rattle.pair_list_write.specs.Packed.{PackedList, IsPacked, AppendedPair};
-ghost use Rattle.map_spec.specs.Map.{lentMap};
-ghost use Rattle.map_spec.specs.Compose.{composedPair, hasSource, addIfNewSource, pulledBack, composedPairs};
-ghost use Rattle.compose_pairs.specs.ComposePairs.{mapPlainly, pathIfMarked, image, imageLength, imageBuffer, composedTarget, composeFits, CanCompose, builtOf, composedOrNone};
+ghost use Rattle.map_spec.specs.Map.{lent_map};
+ghost use Rattle.map_spec.specs.Compose.{composed_pair, has_source, add_if_new_source, pulled_back, composed_pairs};
+ghost use Rattle.compose_pairs.specs.ComposePairs.{map_plainly, path_if_marked, image, image_length, image_buffer, composed_target, compose_fits, CanCompose, built_of, composed_or_none};
 
 // The result of mapping a text: no path, or the length of the path made.
 #[derive(Drop)]
@@ -22,7 +22,7 @@ enum Image {
 fn join_at(old: &[u8], new: &[u8], remainder: &[u8], at: usize, bytes: &mut [u8]) -> usize
     requires { at + length (join old.now new.now remainder.now) ≤ length bytes.old }
     ensures value { result ≡ length (join old.now new.now remainder.now) }
-    ensures bytes_after { bytes.new ≡ writtenIfFits at
+    ensures bytes_after { bytes.new ≡ written_if_fits at
         (join old.now new.now remainder.now) bytes.old }
 {
     let fit = path_join::join(old, new, remainder, &mut bytes[at..]);
@@ -34,8 +34,8 @@ fn join_at(old: &[u8], new: &[u8], remainder: &[u8], at: usize, bytes: &mut [u8]
 
 // Writes the path itself at offset `at` if the map has the mark.
 fn keep_at(mark: bool, path: &[u8], at: usize, bytes: &mut [u8]) -> Image
-    ensures value { result ≡ image (pathIfMarked mark path.now) }
-    ensures bytes_after { bytes.new ≡ imageBuffer at (pathIfMarked mark path.now) bytes.old }
+    ensures value { result ≡ image (path_if_marked mark path.now) }
+    ensures bytes_after { bytes.new ≡ image_buffer at (path_if_marked mark path.now) bytes.old }
 {
     if !mark {
         return Image::Nothing;
@@ -54,12 +54,12 @@ fn map_at(
     at: usize,
     bytes: &mut [u8],
 ) -> Image
-    requires { at + imageLength (mapPlainly false (lentMap store.now places.now n mark) path.now) ≤ length
+    requires { at + image_length (map_plainly false (lent_map store.now places.now n mark) path.now) ≤ length
         bytes.old }
-    ensures value { result ≡ image (mapPlainly false (lentMap store.now places.now n mark)
+    ensures value { result ≡ image (map_plainly false (lent_map store.now places.now n mark)
         path.now) }
-    ensures bytes_after { bytes.new ≡ imageBuffer at
-        (mapPlainly false (lentMap store.now places.now n mark) path.now)
+    ensures bytes_after { bytes.new ≡ image_buffer at
+        (map_plainly false (lent_map store.now places.now n mark) path.now)
         bytes.old }
 {
     let f = map_lookup::best_prefix(store, places, n, false, path);
@@ -87,12 +87,12 @@ fn composed_target_at(
     at: usize,
     bytes: &mut [u8],
 ) -> usize
-    requires { at + length (composedTarget (lentMap store.now places.now n mark) target.now) ≤ length
+    requires { at + length (composed_target (lent_map store.now places.now n mark) target.now) ≤ length
         bytes.old }
-    ensures value { result ≡ length (composedTarget (lentMap store.now places.now n mark)
+    ensures value { result ≡ length (composed_target (lent_map store.now places.now n mark)
         target.now) }
-    ensures bytes_after { bytes.new ≡ writtenIfFits at
-        (composedTarget (lentMap store.now places.now n mark) target.now)
+    ensures bytes_after { bytes.new ≡ written_if_fits at
+        (composed_target (lent_map store.now places.now n mark) target.now)
         bytes.old }
 {
     if target.len() == 0 {
@@ -118,11 +118,11 @@ fn compose_pair(
     bytes: &mut [u8],
     slots: &mut [usize],
 ) -> usize
-    requires t_in_bounds { at + (length s.now + length (composedTarget (lentMap store.now places.now count mark) t.now)) ≤
+    requires t_in_bounds { at + (length s.now + length (composed_target (lent_map store.now places.now count mark) t.now)) ≤
         length bytes.old }
     requires n_in_bounds { 4 * n + 4 ≤ length slots.old }
     ensures { AppendedPair (pair s.now
-        (composedTarget (lentMap store.now places.now count mark) t.now)) n at
+        (composed_target (lent_map store.now places.now count mark) t.now)) n at
         bytes.old slots.old result bytes.new slots.new }
 {
     text::write_at(s, at, bytes);
@@ -156,7 +156,7 @@ fn has_joined(
     new: &[u8],
     remainder: &[u8],
 ) -> bool
-    ensures { result ≡ hasSource (pairsIn bytes.now slots.now n)
+    ensures { result ≡ has_source (pairs_in bytes.now slots.now n)
         (join old.now new.now remainder.now) }
 {
     let mut i = 0;
@@ -195,7 +195,7 @@ fn add_joined(
     requires packed { IsPacked b.n b.at bytes.old slots.old }
     requires t_in_bounds { b.at + (length (join old.now new.now remainder.now) + length t.now) ≤ length bytes.old }
     requires n_in_bounds { 4 * b.n + 4 ≤ length slots.old }
-    ensures { PackedList (addIfNewSource (pairsIn bytes.old slots.old b.n)
+    ensures { PackedList (add_if_new_source (pairs_in bytes.old slots.old b.n)
         t.now (some (join old.now new.now remainder.now))) result.n result.at
         bytes.old slots.old bytes.new slots.new }
 {
@@ -229,11 +229,11 @@ fn pull_back_pair(
     slots: &mut [usize],
 ) -> Built
     requires packed { IsPacked b.n b.at bytes.old slots.old }
-    requires t_in_bounds { b.at + (imageLength (mapPlainly true (lentMap store.now places.now count mark) s.now) + length
+    requires t_in_bounds { b.at + (image_length (map_plainly true (lent_map store.now places.now count mark) s.now) + length
         t.now) ≤ length bytes.old }
     requires n_in_bounds { 4 * b.n + 4 ≤ length slots.old }
-    ensures { PackedList (addIfNewSource (pairsIn bytes.old slots.old b.n)
-        t.now (mapPlainly true (lentMap store.now places.now count mark)
+    ensures { PackedList (add_if_new_source (pairs_in bytes.old slots.old b.n)
+        t.now (map_plainly true (lent_map store.now places.now count mark)
         s.now)) result.n result.at bytes.old slots.old bytes.new
         slots.new }
 {
@@ -264,10 +264,10 @@ fn compose_all(
     bytes: &mut [u8],
     slots: &mut [usize],
 ) -> usize
-    requires { CanCompose (pairsIn store.now places.now count) (pairsIn istore.now iplaces.now inner)
+    requires { CanCompose (pairs_in store.now places.now count) (pairs_in istore.now iplaces.now inner)
         (inner + count) bytes.old slots.old }
-    ensures packed_list { PackedList (mapped (composedPair (lentMap store.now places.now count mark))
-        (pairsIn istore.now iplaces.now inner)) inner result bytes.old slots.old
+    ensures packed_list { PackedList (mapped (composed_pair (lent_map store.now places.now count mark))
+        (pairs_in istore.now iplaces.now inner)) inner result bytes.old slots.old
         bytes.new slots.new }
     ensures upper_bound { result ≤ 1534 * inner }
 {
@@ -296,13 +296,13 @@ fn pull_back_all(
     bytes: &mut [u8],
     slots: &mut [usize],
 ) -> Built
-    requires can_compose { CanCompose (pairsIn store.now places.now count) (pairsIn istore.now iplaces.now inner)
+    requires can_compose { CanCompose (pairs_in store.now places.now count) (pairs_in istore.now iplaces.now inner)
         (inner + count) bytes.old slots.old }
     requires packed { IsPacked inner at bytes.old slots.old }
     requires at_bound { at ≤ 1534 * inner }
-    ensures { PackedList (pulledBack (lentMap istore.now iplaces.now inner mark)
-        (pairsIn bytes.old slots.old inner)
-        (pairsIn store.now places.now count)) result.n result.at bytes.old
+    ensures { PackedList (pulled_back (lent_map istore.now iplaces.now inner mark)
+        (pairs_in bytes.old slots.old inner)
+        (pairs_in store.now places.now count)) result.n result.at bytes.old
         slots.old bytes.new slots.new }
 {
     let mut b = Built { n: inner, at: at };
@@ -329,10 +329,10 @@ fn compose_both(
     bytes: &mut [u8],
     slots: &mut [usize],
 ) -> Built
-    requires { CanCompose (pairsIn store.now places.now count) (pairsIn istore.now iplaces.now inner)
+    requires { CanCompose (pairs_in store.now places.now count) (pairs_in istore.now iplaces.now inner)
         (inner + count) bytes.old slots.old }
-    ensures { PackedList (composedPairs (lentMap store.now places.now count mark)
-        (lentMap istore.now iplaces.now inner imark)) result.n result.at bytes.old
+    ensures { PackedList (composed_pairs (lent_map store.now places.now count mark)
+        (lent_map istore.now iplaces.now inner imark)) result.n result.at bytes.old
         slots.old bytes.new slots.new }
 {
     let at = compose_all(
@@ -365,8 +365,8 @@ fn compose_fits(
     room: usize,
     slots: usize,
 ) -> bool
-    ensures { result ≡ composeFits (pairsIn store.now places.now count)
-        (pairsIn istore.now iplaces.now inner) room slots }
+    ensures { result ≡ compose_fits (pairs_in store.now places.now count)
+        (pairs_in istore.now iplaces.now inner) room slots }
 {
     if !sum_at_most(inner, count, room / 1534) {
         return false;
@@ -394,16 +394,16 @@ pub fn compose_into(
     bytes: &mut [u8],
     slots: &mut [usize],
 ) -> Built
-    ensures value { result ≡ builtOf (composedOrNone (lentMap store.now places.now count mark)
-        (lentMap istore.now iplaces.now inner imark) (length bytes.old)
+    ensures value { result ≡ built_of (composed_or_none (lent_map store.now places.now count mark)
+        (lent_map istore.now iplaces.now inner imark) (length bytes.old)
         (length slots.old)) }
     ensures bytes_after { bytes.new ≡ written
-        (listText (composedOrNone (lentMap store.now places.now count mark)
-        (lentMap istore.now iplaces.now inner imark) (length bytes.old)
+        (list_text (composed_or_none (lent_map store.now places.now count mark)
+        (lent_map istore.now iplaces.now inner imark) (length bytes.old)
         (length slots.old))) bytes.old }
     ensures slots_after { slots.new ≡ written
-        (listPlaces 0 (composedOrNone (lentMap store.now places.now count mark)
-        (lentMap istore.now iplaces.now inner imark) (length bytes.old)
+        (list_places 0 (composed_or_none (lent_map store.now places.now count mark)
+        (lent_map istore.now iplaces.now inner imark) (length bytes.old)
         (length slots.old))) slots.old }
 {
     let room = bytes.len();

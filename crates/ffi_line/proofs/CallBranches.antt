@@ -10,108 +10,108 @@ use lib.Dec.{leb}
 use lib.ListN.{length, take, drop, set}
 use lib.Seq.{sets-eq}
 use borrow.Author.Tests.{le-leb, lt-leb, leb-true}
-use Rattle.text.specs.Text.{Text, written, writtenIfFits}
-use Rattle.text.proofs.WriteLaws.{placed_first, placed-next}
-use Rattle.text.proofs.BoolLaws.{known-false, known-true}
+use Rattle.text.specs.Text.{Text, written, written_if_fits}
+use Rattle.text.proofs.WriteLaws.{placed_first, placed_next}
+use Rattle.text.proofs.BoolLaws.{known_false, known_true}
 use Rattle.refusal.specs.declared.Refusal.{Refusal}
 use Rattle.refusal.specs.declared.Refusal.TheVariants.{NoRoom}
 use Rattle.refusal.specs.declared.Validation.{Validation}
 use Rattle.refusal.specs.declared.Validation.TheVariants.{Passed, Refused as RefusedValidation}
 use Rattle.refusal.specs.declared.Reply.{Reply}
 use Rattle.refusal.specs.declared.Reply.TheVariants.{Written, Refused}
-use Rattle.refusal.specs.Refusal.{refusalNumber, refusedOr}
+use Rattle.refusal.specs.Refusal.{refusal_number, refused_or}
 use Rattle.line_reader.specs.Lines.{Line}
-use Rattle.hex.specs.Hex.{encodeHex}
-use Rattle.frames_spec.specs.Frame.{Frame, frame, Action, decodeFrame}
-use Rattle.frames_spec.specs.State.{answerBytes, Transition}
-use Rattle.frames_spec.specs.Run.{nextState, answerFrame}
-use Rattle.frames_spec.specs.Input.{parseLine, nextLine, answerLine}
+use Rattle.hex.specs.Hex.{encode_hex}
+use Rattle.frames_spec.specs.Frame.{Frame, frame, Action, decode_frame}
+use Rattle.frames_spec.specs.State.{answer_bytes, Transition}
+use Rattle.frames_spec.specs.Run.{next_state, answer_frame}
+use Rattle.frames_spec.specs.Input.{parse_line, next_line, answer_line}
 use Rattle.frame_decode.specs.declared.FrameHeader.{FrameHeader}
 use Rattle.frame_decode.specs.declared.DecodedFrame.{DecodedFrame}
 use Rattle.frame_decode.specs.declared.DecodedFrame.TheVariants.{Frame as FrameDecoded, Bad}
-use Rattle.frame_decode.specs.Header.{decodedOf, actionIn, frameIn}
-use Rattle.frame_decode.proofs.HeaderLaws.{decode-decodes}
-use Rattle.frame_decode.proofs.LineLaws.{Decodes, line-parsed}
+use Rattle.frame_decode.specs.Header.{decoded_of, action_in, frame_in}
+use Rattle.frame_decode.proofs.HeaderLaws.{decode_decodes}
+use Rattle.frame_decode.proofs.LineLaws.{Decodes, line_parsed}
 use Rattle.frames_memory.specs.declared.Counters.{Counters}
-use Rattle.frames_memory.specs.Memory.{FramesMemory, framesMemory, stepFrameIn}
-use Rattle.frames_validate.specs.Checked.{validateUse, refuseIn, stepFrameChecked}
-use Rattle.frames_validate.proofs.QuickLaws.{quick-step}
-use Rattle.frame_answer.specs.Answer.{memoryAfterLine, endAfterLine, outAfterLine, lineText}
+use Rattle.frames_memory.specs.Memory.{FramesMemory, frames_memory, step_frame_in}
+use Rattle.frames_validate.specs.Checked.{validate_use, refuse_in, step_frame_checked}
+use Rattle.frames_validate.proofs.QuickLaws.{quick_step}
+use Rattle.frame_answer.specs.Answer.{memory_after_line, end_after_line, out_after_line, line_text}
 use Rattle.ffi_line.specs.declared.LineCheck.{LineCheck}
 use Rattle.ffi_line.specs.declared.LineCheck.TheVariants.{Short, NoSpace, Open}
-use Rattle.ffi_line.specs.LineCall.{countersOf, counterNumbers, lentMemory, wholeLine, hasLineRoom, validateLineCall, lineReply, lineMemory, lineOut, countersAfter, lineCounters, lineCheck, shortReply, shortOut, ProcessesLine}
+use Rattle.ffi_line.specs.LineCall.{counters_of, counter_numbers, lent_memory, whole_line, has_line_room, validate_line_call, line_reply, line_memory, line_out, counters_after, line_counters, line_check, short_reply, short_out, ProcessesLine}
 
 -- `write_counters`
-pub counters-stored : (l : List ℕ) (a b c d e : ℕ) → 5 ≤ length l → set (set (set (set (set l 0 a) 1 b) 2 c) 3 d) 4 e ≡ written (a ∷ b ∷ c ∷ d ∷ e ∷ []) l
-counters-stored l a b c d e h = sets-eq (a ∷ b ∷ c ∷ d ∷ e ∷ []) l 0 h
+pub counters_stored : (l : List ℕ) (a b c d e : ℕ) → 5 ≤ length l → set (set (set (set (set l 0 a) 1 b) 2 c) 3 d) 4 e ≡ written (a ∷ b ∷ c ∷ d ∷ e ∷ []) l
+counters_stored l a b c d e h = sets-eq (a ∷ b ∷ c ∷ d ∷ e ∷ []) l 0 h
 
 -- `has_line_room`
-pub few-kept : (kept : List ℕ) (room : ℕ) → length kept < 5 → false ≡ hasLineRoom kept room
-few-kept kept room h = rw (lt-leb 5 (length kept) h)
+pub few_kept : (kept : List ℕ) (room : ℕ) → length kept < 5 → false ≡ has_line_room kept room
+few_kept kept room h = rw (lt-leb 5 (length kept) h)
 
-pub enough-kept : (kept : List ℕ) (room : ℕ) → 5 ≤ length kept → leb 515 room ≡ hasLineRoom kept room
-enough-kept kept room h = rw (le-leb 5 (length kept) h)
+pub enough_kept : (kept : List ℕ) (room : ℕ) → 5 ≤ length kept → leb 515 room ≡ has_line_room kept room
+enough_kept kept room h = rw (le-leb 5 (length kept) h)
 
-room-bounds : (kept : List ℕ) (room : ℕ) → hasLineRoom kept room ≡ true → (5 ≤ length kept) × (515 ≤ room)
-room-bounds kept room e = go (leb 5 (length kept)) refl (leb 515 room) refl e
+room_bounds : (kept : List ℕ) (room : ℕ) → has_line_room kept room ≡ true → (5 ≤ length kept) × (515 ≤ room)
+room_bounds kept room e = go (leb 5 (length kept)) refl (leb 515 room) refl e
   where
     go : (b : Bool) → leb 5 (length kept) ≡ b → (c : Bool) → leb 515 room ≡ c → (b && c) ≡ true → (5 ≤ length kept) × (515 ≤ room)
     go true f true g h = (leb-true 5 (length kept) f, leb-true 515 room g)
     go true f false g h = absurd (let z : ◌≡◌ {A = ℕ} 0 1 = cc in omega arith)
     go false f c g h = absurd (let z : ◌≡◌ {A = ℕ} 0 1 = cc in omega arith)
 
-pub roomy-kept : (kept : List ℕ) (room : ℕ) (b : Bool) → b ≡ hasLineRoom kept room → not b ≡ false → 5 ≤ length kept
-roomy-kept kept room b e h = (room-bounds kept room (known-true e h)).0
+pub roomy_kept : (kept : List ℕ) (room : ℕ) (b : Bool) → b ≡ has_line_room kept room → not b ≡ false → 5 ≤ length kept
+roomy_kept kept room b e h = (room_bounds kept room (known_true e h)).0
 
 -- `check_line`
-pub whole-parsed : (line : Text) (r : ℕ) (before bytes : Text) → length before ≡ 2048 → Decodes line (length line) r before bytes
-    → decodeFrame (take r bytes) ≡ parseLine (wholeLine line)
-unfolding wholeLine
-whole-parsed line r before bytes room w = line-parsed line (length line) r before bytes room w
+pub whole_parsed : (line : Text) (r : ℕ) (before bytes : Text) → length before ≡ 2048 → Decodes line (length line) r before bytes
+    → decode_frame (take r bytes) ≡ parse_line (whole_line line)
+unfolding whole_line
+whole_parsed line r before bytes room w = line_parsed line (length line) r before bytes room w
 
-module _ (b : Text) (d : DecodedFrame) (e : d ≡ decodedOf (decodeFrame b)) (o : Option Frame) (p : decodeFrame b ≡ o) (kept : List ℕ) (m : FramesMemory) (room : ℕ) where
-  is-frame : frameIn b d ≡ o
-  is-frame = decode-decodes b d e ∙ p
+module _ (b : Text) (d : DecodedFrame) (e : d ≡ decoded_of (decode_frame b)) (o : Option Frame) (p : decode_frame b ≡ o) (kept : List ℕ) (m : FramesMemory) (room : ℕ) where
+  is_frame : frame_in b d ≡ o
+  is_frame = decode_decodes b d e ∙ p
 
-  pub check-bad : d ≡ Bad → Short 255 9 ≡ lineCheck o kept m room
-  unfolding lineCheck
-  check-bad h = rw (← is-frame, h) refl
+  pub check_bad : d ≡ Bad → Short 255 9 ≡ line_check o kept m room
+  unfolding line_check
+  check_bad h = rw (← is_frame, h) refl
 
-  module _ (k : ℕ) (h : FrameHeader) (w : d ≡ FrameDecoded k h) (t : Bool) (g : t ≡ hasLineRoom kept room) where
-    pub check-full : not t ≡ true → NoSpace ≡ lineCheck o kept m room
-    unfolding lineCheck
-    check-full i = rw (← is-frame, w, known-false g i) refl
+  module _ (k : ℕ) (h : FrameHeader) (w : d ≡ FrameDecoded k h) (t : Bool) (g : t ≡ has_line_room kept room) where
+    pub check-full : not t ≡ true → NoSpace ≡ line_check o kept m room
+    unfolding line_check
+    check-full i = rw (← is_frame, w, known_false g i) refl
 
-    module _ (i : not t ≡ false) (q : Validation) (v : q ≡ validateUse m (actionIn b h)) where
-      asked : lineCheck o kept m room ≡ refusedOr q (λ (x : Refusal). Short (k + 128) (refusalNumber x)) Open
-      unfolding lineCheck
-      asked = rw (← is-frame, w, known-true g i, v) refl
+    module _ (i : not t ≡ false) (q : Validation) (v : q ≡ validate_use m (action_in b h)) where
+      asked : line_check o kept m room ≡ refused_or q (λ (x : Refusal). Short (k + 128) (refusal_number x)) Open
+      unfolding line_check
+      asked = rw (← is_frame, w, known_true g i, v) refl
 
-      pub check-refused : (x : Refusal) → q ≡ RefusedValidation x → (n : ℕ) → n ≡ refusalNumber x → Short (k + 128) n ≡ lineCheck o kept m room
+      pub check-refused : (x : Refusal) → q ≡ RefusedValidation x → (n : ℕ) → n ≡ refusal_number x → Short (k + 128) n ≡ line_check o kept m room
       check-refused x j n u = rw (asked, j, u) refl
 
-      pub check-open : q ≡ Passed → Open ≡ lineCheck o kept m room
+      pub check-open : q ≡ Passed → Open ≡ line_check o kept m room
       check-open j = rw (asked, j) refl
 
 -- The same, with the counters read from the number buffer before.
-pub counted-use : (kept : List ℕ) (bytes : Text) (places : List ℕ) (store : Text) (slots table : List ℕ) (k : Counters) → k ≡ countersOf kept → (a : Action) (q : Validation)
-    → q ≡ validateUse (framesMemory k bytes places store slots table) a → q ≡ validateUse (lentMemory kept bytes places store slots table) a
-counted-use kept bytes places store slots table k e a q h = rw e at h
+pub counted_use : (kept : List ℕ) (bytes : Text) (places : List ℕ) (store : Text) (slots table : List ℕ) (k : Counters) → k ≡ counters_of kept → (a : Action) (q : Validation)
+    → q ≡ validate_use (frames_memory k bytes places store slots table) a → q ≡ validate_use (lent_memory kept bytes places store slots table) a
+counted_use kept bytes places store slots table k e a q h = rw e at h
 
 -- `write_short`: the two bytes and the newline are written consecutively.
 module _ (head answer : ℕ) (out : Text) where
-  pub short-refused : length out < 5 → (Refused NoRoom ≡ shortReply out) × (out ≡ shortOut head answer out)
-  unfolding shortOut
-  short-refused h = rw (lt-leb 5 (length out) h) (refl, refl)
+  pub short_refused : length out < 5 → (Refused NoRoom ≡ short_reply out) × (out ≡ short_out head answer out)
+  unfolding short_out
+  short_refused h = rw (lt-leb 5 (length out) h) (refl, refl)
 
-  pub short-written : 5 ≤ length out → (one two : Text) → one ≡ writtenIfFits 0 (encodeHex (head ∷ answer ∷ [])) out → two ≡ writtenIfFits 4 (10 ∷ []) one
-      → (Written 5 ≡ shortReply out) × (two ≡ shortOut head answer out)
-  unfolding shortOut lineText encodeHex
-  short-written h one two e f =
-      let digits : Text = encodeHex (head ∷ answer ∷ []) in
+  pub short_written : 5 ≤ length out → (one two : Text) → one ≡ written_if_fits 0 (encode_hex (head ∷ answer ∷ [])) out → two ≡ written_if_fits 4 (10 ∷ []) one
+      → (Written 5 ≡ short_reply out) × (two ≡ short_out head answer out)
+  unfolding short_out line_text encode_hex
+  short_written h one two e f =
+      let digits : Text = encode_hex (head ∷ answer ∷ []) in
       rw (le-leb 5 (length out) h) (
         refl,
-        f ∙ ap (writtenIfFits 4 (10 ∷ [])) (e ∙ placed_first digits out (omega arith)) ∙ placed-next digits (10 ∷ []) out (omega arith),
+        f ∙ ap (written_if_fits 4 (10 ∷ [])) (e ∙ placed_first digits out (omega arith)) ∙ placed_next digits (10 ∷ []) out (omega arith),
       )
 
 -- `process_line`
@@ -120,38 +120,38 @@ module _ (l : Line) (kept : List ℕ) (m : FramesMemory) (out : Text) (h : 515 �
   room : 0 + 515 ≤ length out
   room = omega arith
 
-  processed : (end : ℕ) (out' : Text) (kept' : List ℕ) → framesMemory k bytes places store slots table ≡ memoryAfterLine 0 out m l → end ≡ endAfterLine 0 out m l
-      → out' ≡ outAfterLine 0 out m l → kept' ≡ written (counterNumbers k) kept
-      → ProcessesLine l kept m out end kept' out' × (lentMemory kept' bytes places store slots table ≡ nextLine stepFrameIn m l)
-  unfolding memoryAfterLine endAfterLine outAfterLine
+  processed : (end : ℕ) (out' : Text) (kept' : List ℕ) → frames_memory k bytes places store slots table ≡ memory_after_line 0 out m l → end ≡ end_after_line 0 out m l
+      → out' ≡ out_after_line 0 out m l → kept' ≡ written (counter_numbers k) kept
+      → ProcessesLine l kept m out end kept' out' × (lent_memory kept' bytes places store slots table ≡ next_line step_frame_in m l)
+  unfolding memory_after_line end_after_line out_after_line
   processed end out' kept' f g i j =
-      let t : framesMemory k bytes places store slots table ≡ nextLine stepFrameIn m l = rw (le-leb (0 + 515) (length out) room) at f in (
+      let t : frames_memory k bytes places store slots table ≡ next_line step_frame_in m l = rw (le-leb (0 + 515) (length out) room) at f in (
         record {
           size = (rw (le-leb (0 + 515) (length out) room) at g) ∙ omega arith;
-          counters = j ∙ ap (λ (x : FramesMemory). written (counterNumbers x.kept) kept) t;
+          counters = j ∙ ap (λ (x : FramesMemory). written (counter_numbers x.kept) kept) t;
           reply =
-              (rw (le-leb (0 + 515) (length out) room) at i) ∙ ap (λ (n : ℕ). answerLine stepFrameIn m l ++ drop n out) (zero-add (length (answerLine stepFrameIn m l)));
+              (rw (le-leb (0 + 515) (length out) room) at i) ∙ ap (λ (n : ℕ). answer_line step_frame_in m l ++ drop n out) (zero-add (length (answer_line step_frame_in m l)));
         },
-        ap (λ (x : List ℕ). lentMemory x bytes places store slots table) j ∙ t,
+        ap (λ (x : List ℕ). lent_memory x bytes places store slots table) j ∙ t,
       )
 
 -- The same, with the counters read from the number buffer before.
 module _ (l : Line) (kept : List ℕ) (bytes₀ : Text) (places₀ : List ℕ) (store₀ : Text) (slots₀ table₀ : List ℕ) (out : Text) (h : 515 ≤ length out)
-    (k₀ : Counters) (w : k₀ ≡ countersOf kept) where
+    (k₀ : Counters) (w : k₀ ≡ counters_of kept) where
   abbrev from : Counters → FramesMemory
-  from x = framesMemory x bytes₀ places₀ store₀ slots₀ table₀
+  from x = frames_memory x bytes₀ places₀ store₀ slots₀ table₀
 
-  pub line-processed : (k : Counters) (bytes : Text) (places : List ℕ) (store : Text) (slots table : List ℕ) (end : ℕ) (out' : Text) (kept' : List ℕ)
-      → framesMemory k bytes places store slots table ≡ memoryAfterLine 0 out (from k₀) l → end ≡ endAfterLine 0 out (from k₀) l → out' ≡ outAfterLine 0 out (from k₀) l
-      → kept' ≡ written (counterNumbers k) kept
-      → ProcessesLine l kept (from (countersOf kept)) out end kept' out' × (lentMemory kept' bytes places store slots table ≡ nextLine stepFrameIn (from (countersOf kept)) l)
-  line-processed k bytes places store slots table end out' kept' f g i j =
-      processed l kept (from (countersOf kept)) out h k bytes places store slots table end out' kept'
-      (f ∙ ap (λ (x : Counters). memoryAfterLine 0 out (from x) l) w) (g ∙ ap (λ (x : Counters). endAfterLine 0 out (from x) l) w)
-      (i ∙ ap (λ (x : Counters). outAfterLine 0 out (from x) l) w) j
+  pub line_processed : (k : Counters) (bytes : Text) (places : List ℕ) (store : Text) (slots table : List ℕ) (end : ℕ) (out' : Text) (kept' : List ℕ)
+      → frames_memory k bytes places store slots table ≡ memory_after_line 0 out (from k₀) l → end ≡ end_after_line 0 out (from k₀) l → out' ≡ out_after_line 0 out (from k₀) l
+      → kept' ≡ written (counter_numbers k) kept
+      → ProcessesLine l kept (from (counters_of kept)) out end kept' out' × (lent_memory kept' bytes places store slots table ≡ next_line step_frame_in (from (counters_of kept)) l)
+  line_processed k bytes places store slots table end out' kept' f g i j =
+      processed l kept (from (counters_of kept)) out h k bytes places store slots table end out' kept'
+      (f ∙ ap (λ (x : Counters). memory_after_line 0 out (from x) l) w) (g ∙ ap (λ (x : Counters). end_after_line 0 out (from x) l) w)
+      (i ∙ ap (λ (x : Counters). out_after_line 0 out (from x) l) w) j
 
 -- The five numbers written over themselves.
-same_numbers : (kept : List ℕ) → 5 ≤ length kept → written (counterNumbers (countersOf kept)) kept ≡ kept
+same_numbers : (kept : List ℕ) → 5 ≤ length kept → written (counter_numbers (counters_of kept)) kept ≡ kept
 same_numbers [] h = absurd (omega arith)
 same_numbers (a ∷ []) h = absurd (omega arith)
 same_numbers (a ∷ b ∷ []) h = absurd (omega arith)
@@ -162,139 +162,139 @@ same_numbers (a ∷ b ∷ c ∷ d ∷ e ∷ r) h = refl
 -- `answer_whole`: the parsed frame decides the branch.
 module _ (kept : List ℕ) (bytes : Text) (places : List ℕ) (store : Text) (slots table : List ℕ) (out : Text) where
   abbrev m : FramesMemory
-  m = lentMemory kept bytes places store slots table
+  m = lent_memory kept bytes places store slots table
 
   abbrev answer : Option Frame → Text
-  answer o = encodeHex (answerFrame stepFrameChecked m o) ++ 10 ∷ []
+  answer o = encode_hex (answer_frame step_frame_checked m o) ++ 10 ∷ []
 
   -- What the call answers to a parsed or a bad frame.
   abbrev Answers : Option Frame → Reply → List ℕ → FramesMemory → Text → Type 0
   Answers o r kept' m' out' =
-      (r ≡ refusedOr (validateLineCall o kept out) Refused (Written (length (answer o))))
-      × ((kept' ≡ refusedOr (validateLineCall o kept out) (λ (x : Refusal). kept) (countersAfter o (nextState stepFrameChecked m o).kept kept))
-      × ((m' ≡ refusedOr (validateLineCall o kept out) (λ (x : Refusal). m) (nextState stepFrameChecked m o))
-      × (out' ≡ refusedOr (validateLineCall o kept out) (λ (x : Refusal). out) (written (answer o) out))))
+      (r ≡ refused_or (validate_line_call o kept out) Refused (Written (length (answer o))))
+      × ((kept' ≡ refused_or (validate_line_call o kept out) (λ (x : Refusal). kept) (counters_after o (next_state step_frame_checked m o).kept kept))
+      × ((m' ≡ refused_or (validate_line_call o kept out) (λ (x : Refusal). m) (next_state step_frame_checked m o))
+      × (out' ≡ refused_or (validate_line_call o kept out) (λ (x : Refusal). out) (written (answer o) out))))
 
   -- FF09, or no space for it.
-  bad-answers : (b : Bool) → leb 5 (length out) ≡ b
-      → Answers none (cond b (Written 5) (Refused NoRoom)) kept m (cond b (written (lineText (255 ∷ 9 ∷ [])) out) out)
-  unfolding validateLineCall lineText encodeHex
-  bad-answers true e = rw e (refl, (refl, (refl, refl)))
-  bad-answers false e = rw e (refl, (refl, (refl, refl)))
+  bad_answers : (b : Bool) → leb 5 (length out) ≡ b
+      → Answers none (cond b (Written 5) (Refused NoRoom)) kept m (cond b (written (line_text (255 ∷ 9 ∷ [])) out) out)
+  unfolding validate_line_call line_text encode_hex
+  bad_answers true e = rw e (refl, (refl, (refl, refl)))
+  bad_answers false e = rw e (refl, (refl, (refl, refl)))
 
   -- What the call answers to a frame of the kind k with the step s, given the result of question 5.
   abbrev AnswersStep : Validation → ℕ → Transition FramesMemory → Reply → List ℕ → FramesMemory → Text → Type 0
   AnswersStep v k s r kept' m' out' =
-      (r ≡ refusedOr v Refused (Written (length (encodeHex ((k + 128) ∷ answerBytes s.answer) ++ 10 ∷ []))))
-      × ((kept' ≡ refusedOr v (λ (x : Refusal). kept) (written (counterNumbers s.state.kept) kept))
-      × ((m' ≡ refusedOr v (λ (x : Refusal). m) s.state)
-      × (out' ≡ refusedOr v (λ (x : Refusal). out) (written (encodeHex ((k + 128) ∷ answerBytes s.answer) ++ 10 ∷ []) out))))
+      (r ≡ refused_or v Refused (Written (length (encode_hex ((k + 128) ∷ answer_bytes s.answer) ++ 10 ∷ []))))
+      × ((kept' ≡ refused_or v (λ (x : Refusal). kept) (written (counter_numbers s.state.kept) kept))
+      × ((m' ≡ refused_or v (λ (x : Refusal). m) s.state)
+      × (out' ≡ refused_or v (λ (x : Refusal). out) (written (encode_hex ((k + 128) ∷ answer_bytes s.answer) ++ 10 ∷ []) out))))
 
-  answers-step : (k : ℕ) (a : Action) (s : Transition FramesMemory) (r : Reply) (kept' : List ℕ) (m' : FramesMemory) (out' : Text)
-      → hasLineRoom kept (length out) ≡ true → stepFrameChecked m (frame k a) ≡ s → AnswersStep Passed k s r kept' m' out' → Answers (some (frame k a)) r kept' m' out'
-  unfolding validateLineCall
-  answers-step k a s r kept' m' out' w e h =
-      subst (λ (v : Validation). AnswersStep v k (stepFrameChecked m (frame k a)) r kept' m' out') (sym (ap (λ (b : Bool). cond b Passed (RefusedValidation NoRoom)) w))
+  answers_step : (k : ℕ) (a : Action) (s : Transition FramesMemory) (r : Reply) (kept' : List ℕ) (m' : FramesMemory) (out' : Text)
+      → has_line_room kept (length out) ≡ true → step_frame_checked m (frame k a) ≡ s → AnswersStep Passed k s r kept' m' out' → Answers (some (frame k a)) r kept' m' out'
+  unfolding validate_line_call
+  answers_step k a s r kept' m' out' w e h =
+      subst (λ (v : Validation). AnswersStep v k (step_frame_checked m (frame k a)) r kept' m' out') (sym (ap (λ (b : Bool). cond b Passed (RefusedValidation NoRoom)) w))
       (subst (λ (x : Transition FramesMemory). AnswersStep Passed k x r kept' m' out') (sym e) h)
 
-  step_is : (k : ℕ) (a : Action) (q : Validation) → validateUse m a ≡ q → stepFrameChecked m (frame k a) ≡ refusedOr q (refuseIn m) (stepFrameIn m (frame k a))
-  step_is k a q h = quick-step m k a ∙ ap (λ (v : Validation). refusedOr v (refuseIn m) (stepFrameIn m (frame k a))) h
+  step_is : (k : ℕ) (a : Action) (q : Validation) → validate_use m a ≡ q → step_frame_checked m (frame k a) ≡ refused_or q (refuse_in m) (step_frame_in m (frame k a))
+  step_is k a q h = quick_step m k a ∙ ap (λ (v : Validation). refused_or v (refuse_in m) (step_frame_in m (frame k a))) h
 
   -- A frame whose use of the memory is refused.
-  refused-answers : (k : ℕ) (a : Action) (x : Refusal) → hasLineRoom kept (length out) ≡ true → validateUse m a ≡ RefusedValidation x
-      → Answers (some (frame k a)) (shortReply out) kept m (shortOut (k + 128) (refusalNumber x) out)
-  unfolding shortOut lineText encodeHex
-  refused-answers k a x r q =
-      let w = room-bounds kept (length out) r in
+  refused_answers : (k : ℕ) (a : Action) (x : Refusal) → has_line_room kept (length out) ≡ true → validate_use m a ≡ RefusedValidation x
+      → Answers (some (frame k a)) (short_reply out) kept m (short_out (k + 128) (refusal_number x) out)
+  unfolding short_out line_text encode_hex
+  refused_answers k a x r q =
+      let w = room_bounds kept (length out) r in
       let s : leb 5 (length out) ≡ true = le-leb 5 (length out) (omega (arith, w.1)) in
-      answers-step k a (refuseIn m x) (shortReply out) kept m (shortOut (k + 128) (refusalNumber x) out) r (step_is k a (RefusedValidation x) q)
+      answers_step k a (refuse_in m x) (short_reply out) kept m (short_out (k + 128) (refusal_number x) out) r (step_is k a (RefusedValidation x) q)
       (rw s (refl, (sym (same_numbers kept w.0), (refl, refl))))
 
-  short-by : (o : Option Frame) (h n : ℕ) → Short h n ≡ lineCheck o kept m (length out) → Answers o (shortReply out) kept m (shortOut h n out)
-  unfolding lineCheck shortOut
-  short-by none h n w =
+  short_by : (o : Option Frame) (h n : ℕ) → Short h n ≡ line_check o kept m (length out) → Answers o (short_reply out) kept m (short_out h n out)
+  unfolding line_check short_out
+  short_by none h n w =
       let i : h ≡ 255 = cc in
       let j : n ≡ 9 = cc in
-      rw (i, j) (bad-answers (leb 5 (length out)) refl)
-  short-by (some (frame k a)) h n w = go (hasLineRoom kept (length out)) refl (validateUse m a) refl w
+      rw (i, j) (bad_answers (leb 5 (length out)) refl)
+  short_by (some (frame k a)) h n w = go (has_line_room kept (length out)) refl (validate_use m a) refl w
     where
-      go : (t : Bool) → hasLineRoom kept (length out) ≡ t → (q : Validation) → validateUse m a ≡ q
-          → Short h n ≡ cond t (refusedOr q (λ (x : Refusal). Short (k + 128) (refusalNumber x)) Open) NoSpace
-          → Answers (some (frame k a)) (shortReply out) kept m (shortOut h n out)
+      go : (t : Bool) → has_line_room kept (length out) ≡ t → (q : Validation) → validate_use m a ≡ q
+          → Short h n ≡ cond t (refused_or q (λ (x : Refusal). Short (k + 128) (refusal_number x)) Open) NoSpace
+          → Answers (some (frame k a)) (short_reply out) kept m (short_out h n out)
       go true r Passed q v = absurd (let z : ◌≡◌ {A = ℕ} 0 1 = cc in omega arith)
       go true r (RefusedValidation x) q v =
           let i : h ≡ k + 128 = cc in
-          let j : n ≡ refusalNumber x = cc in
-          rw (i, j) (refused-answers k a x r q)
+          let j : n ≡ refusal_number x = cc in
+          rw (i, j) (refused_answers k a x r q)
       go false r q e v = absurd (let z : ◌≡◌ {A = ℕ} 0 1 = cc in omega arith)
 
-  full_by : (o : Option Frame) → NoSpace ≡ lineCheck o kept m (length out) → Answers o (Refused NoRoom) kept m out
-  unfolding lineCheck validateLineCall
+  full_by : (o : Option Frame) → NoSpace ≡ line_check o kept m (length out) → Answers o (Refused NoRoom) kept m out
+  unfolding line_check validate_line_call
   full_by none w = absurd (let z : ◌≡◌ {A = ℕ} 0 1 = cc in omega arith)
-  full_by (some (frame k a)) w = go (hasLineRoom kept (length out)) refl (validateUse m a) w
+  full_by (some (frame k a)) w = go (has_line_room kept (length out)) refl (validate_use m a) w
     where
-      go : (t : Bool) → hasLineRoom kept (length out) ≡ t → (q : Validation)
-          → NoSpace ≡ cond t (refusedOr q (λ (x : Refusal). Short (k + 128) (refusalNumber x)) Open) NoSpace → Answers (some (frame k a)) (Refused NoRoom) kept m out
+      go : (t : Bool) → has_line_room kept (length out) ≡ t → (q : Validation)
+          → NoSpace ≡ cond t (refused_or q (λ (x : Refusal). Short (k + 128) (refusal_number x)) Open) NoSpace → Answers (some (frame k a)) (Refused NoRoom) kept m out
       go true r Passed v = absurd (let z : ◌≡◌ {A = ℕ} 0 1 = cc in omega arith)
       go true r (RefusedValidation x) v = absurd (let z : ◌≡◌ {A = ℕ} 0 1 = cc in omega arith)
       go false r q v = rw r (refl, (refl, (refl, refl)))
 
   -- A frame that is processed, by the step without validation.
   record Processes (o : Option Frame) (n : ℕ) (kept' : List ℕ) (m' : FramesMemory) (out' : Text) : Type 0 where
-    size : n ≡ length (encodeHex (answerFrame stepFrameIn m o) ++ 10 ∷ [])
-    counters : kept' ≡ written (counterNumbers (nextState stepFrameIn m o).kept) kept
-    memory : m' ≡ nextState stepFrameIn m o
-    reply : out' ≡ written (encodeHex (answerFrame stepFrameIn m o) ++ 10 ∷ []) out
+    size : n ≡ length (encode_hex (answer_frame step_frame_in m o) ++ 10 ∷ [])
+    counters : kept' ≡ written (counter_numbers (next_state step_frame_in m o).kept) kept
+    memory : m' ≡ next_state step_frame_in m o
+    reply : out' ≡ written (encode_hex (answer_frame step_frame_in m o) ++ 10 ∷ []) out
 
   -- The line has a frame, the buffers have space, and the frame's use of the memory passed.
   record Opened (o : Option Frame) : Type 0 where
     code : ℕ
     action : Action
     parsed : o ≡ some (frame code action)
-    roomy : hasLineRoom kept (length out) ≡ true
-    passed : validateUse m action ≡ Passed
+    roomy : has_line_room kept (length out) ≡ true
+    passed : validate_use m action ≡ Passed
 
-  opened-by : (o : Option Frame) → Open ≡ lineCheck o kept m (length out) → Opened o
-  unfolding lineCheck
-  opened-by none w = absurd (let z : ◌≡◌ {A = ℕ} 0 1 = cc in omega arith)
-  opened-by (some (frame k a)) w = go (hasLineRoom kept (length out)) refl (validateUse m a) refl w
+  opened_by : (o : Option Frame) → Open ≡ line_check o kept m (length out) → Opened o
+  unfolding line_check
+  opened_by none w = absurd (let z : ◌≡◌ {A = ℕ} 0 1 = cc in omega arith)
+  opened_by (some (frame k a)) w = go (has_line_room kept (length out)) refl (validate_use m a) refl w
     where
-      go : (t : Bool) → hasLineRoom kept (length out) ≡ t → (q : Validation) → validateUse m a ≡ q
-          → Open ≡ cond t (refusedOr q (λ (x : Refusal). Short (k + 128) (refusalNumber x)) Open) NoSpace → Opened (some (frame k a))
+      go : (t : Bool) → has_line_room kept (length out) ≡ t → (q : Validation) → validate_use m a ≡ q
+          → Open ≡ cond t (refused_or q (λ (x : Refusal). Short (k + 128) (refusal_number x)) Open) NoSpace → Opened (some (frame k a))
       go true r Passed q v = record { code = k; action = a; parsed = refl; roomy = r; passed = q }
       go true r (RefusedValidation x) q v = absurd (let z : ◌≡◌ {A = ℕ} 0 1 = cc in omega arith)
       go false r q e v = absurd (let z : ◌≡◌ {A = ℕ} 0 1 = cc in omega arith)
 
-  frame-by : (k : ℕ) (a : Action) → hasLineRoom kept (length out) ≡ true → validateUse m a ≡ Passed → (n : ℕ) (kept' : List ℕ) (m' : FramesMemory) (out' : Text)
+  frame_by : (k : ℕ) (a : Action) → has_line_room kept (length out) ≡ true → validate_use m a ≡ Passed → (n : ℕ) (kept' : List ℕ) (m' : FramesMemory) (out' : Text)
       → Processes (some (frame k a)) n kept' m' out' → Answers (some (frame k a)) (Written n) kept' m' out'
-  frame-by k a r q n kept' m' out' p =
-      answers-step k a (stepFrameIn m (frame k a)) (Written n) kept' m' out' r (step_is k a Passed q) (ap Written p.size, (p.counters, (p.memory, p.reply)))
+  frame_by k a r q n kept' m' out' p =
+      answers_step k a (step_frame_in m (frame k a)) (Written n) kept' m' out' r (step_is k a Passed q) (ap Written p.size, (p.counters, (p.memory, p.reply)))
 
   open_by : (o : Option Frame) → Opened o → (n : ℕ) (kept' : List ℕ) (m' : FramesMemory) (out' : Text) → Processes o n kept' m' out' → Answers o (Written n) kept' m' out'
   open_by o g n kept' m' out' p =
       subst (λ (x : Option Frame). Answers x (Written n) kept' m' out') (sym g.parsed)
-      (frame-by g.code g.action g.roomy g.passed n kept' m' out' (subst (λ (x : Option Frame). Processes x n kept' m' out') g.parsed p))
+      (frame_by g.code g.action g.roomy g.passed n kept' m' out' (subst (λ (x : Option Frame). Processes x n kept' m' out') g.parsed p))
 
   -- The branches of the call on a line.
-  module _ (l : Line) (c : LineCheck) (e : c ≡ lineCheck (parseLine l) kept m (length out)) where
+  module _ (l : Line) (c : LineCheck) (e : c ≡ line_check (parse_line l) kept m (length out)) where
     abbrev Replies : Reply → List ℕ → FramesMemory → Text → Type 0
     Replies r kept' m' out' =
-        (r ≡ lineReply l kept m out) × ((kept' ≡ lineCounters l kept m out) × ((m' ≡ lineMemory l kept m out) × (out' ≡ lineOut l kept m out)))
+        (r ≡ line_reply l kept m out) × ((kept' ≡ line_counters l kept m out) × ((m' ≡ line_memory l kept m out) × (out' ≡ line_out l kept m out)))
 
-    pub call-short : (h n : ℕ) → c ≡ Short h n → (r : Reply) (out' : Text) → r ≡ shortReply out → out' ≡ shortOut h n out → Replies r kept m out'
-    unfolding lineReply lineCounters lineMemory lineOut answerLine
-    call-short h n w r out' f g = rw (f, g) (short-by (parseLine l) h n (sym w ∙ e))
+    pub call-short : (h n : ℕ) → c ≡ Short h n → (r : Reply) (out' : Text) → r ≡ short_reply out → out' ≡ short_out h n out → Replies r kept m out'
+    unfolding line_reply line_counters line_memory line_out answer_line
+    call-short h n w r out' f g = rw (f, g) (short_by (parse_line l) h n (sym w ∙ e))
 
     pub call-full : c ≡ NoSpace → Replies (Refused NoRoom) kept m out
-    unfolding lineReply lineCounters lineMemory lineOut answerLine
-    call-full w = full_by (parseLine l) (sym w ∙ e)
+    unfolding line_reply line_counters line_memory line_out answer_line
+    call-full w = full_by (parse_line l) (sym w ∙ e)
 
     pub call-room : c ≡ Open → (5 ≤ length kept) × (515 ≤ length out)
-    call-room w = room-bounds kept (length out) (opened-by (parseLine l) (sym w ∙ e)).roomy
+    call-room w = room_bounds kept (length out) (opened_by (parse_line l) (sym w ∙ e)).roomy
 
-    pub call-open : c ≡ Open → (n : ℕ) (kept' : List ℕ) (m' : FramesMemory) (out' : Text) → ProcessesLine l kept m out n kept' out' → m' ≡ nextLine stepFrameIn m l
+    pub call-open : c ≡ Open → (n : ℕ) (kept' : List ℕ) (m' : FramesMemory) (out' : Text) → ProcessesLine l kept m out n kept' out' → m' ≡ next_line step_frame_in m l
         → Replies (Written n) kept' m' out'
-    unfolding lineReply lineCounters lineMemory lineOut answerLine
+    unfolding line_reply line_counters line_memory line_out answer_line
     call-open w n kept' m' out' p q =
-        open_by (parseLine l) (opened-by (parseLine l) (sym w ∙ e)) n kept' m' out'
+        open_by (parse_line l) (opened_by (parse_line l) (sym w ∙ e)) n kept' m' out'
         (record { size = p.size; counters = p.counters; memory = q; reply = p.reply })

@@ -9,94 +9,94 @@ use Rattle.refusal.specs.declared.Validation.{Validation}
 use Rattle.refusal.specs.declared.Validation.TheVariants.{Passed, Refused as RefusedValidation}
 use Rattle.refusal.specs.declared.Reply.{Reply}
 use Rattle.refusal.specs.declared.Reply.TheVariants.{Written, Refused}
-use Rattle.refusal.specs.Refusal.{refusalNumber, refusedOr}
-use Rattle.line_reader.specs.Lines.{Line, lineInBuffer}
+use Rattle.refusal.specs.Refusal.{refusal_number, refused_or}
+use Rattle.line_reader.specs.Lines.{Line, line_in_buffer}
 use Rattle.frames_spec.specs.Frame.{Frame, frame}
-use Rattle.frames_spec.specs.Input.{parseLine, nextLine, answerLine, maxAnswerLine}
+use Rattle.frames_spec.specs.Input.{parse_line, next_line, answer_line, max_answer_line}
 use Rattle.frames_memory.specs.declared.Counters.{Counters}
-use Rattle.frames_memory.specs.Memory.{FramesMemory, framesMemory, stepFrameIn}
-use Rattle.frames_validate.specs.Checked.{validateUse, stepFrameChecked}
-use Rattle.frame_answer.specs.Answer.{lineText}
+use Rattle.frames_memory.specs.Memory.{FramesMemory, frames_memory, step_frame_in}
+use Rattle.frames_validate.specs.Checked.{validate_use, step_frame_checked}
+use Rattle.frame_answer.specs.Answer.{line_text}
 use Rattle.ffi_line.specs.declared.LineCheck.{LineCheck}
 use Rattle.ffi_line.specs.declared.LineCheck.TheVariants.{Short, NoSpace, Open}
 
 -- The counters from five numbers: pairs and bytes of the open list, legs and their bytes before redundant pairs are dropped, 05 frames
 -- answered 00.
-abbrev pub countersOf : List ℕ → Counters
-countersOf n = record {
+abbrev pub counters_of : List ℕ → Counters
+counters_of n = record {
   opened = record { pairs = get_or n 0 0; bytes = get_or n 1 0 };
   legs = record { count = get_or n 2 0; bytes = get_or n 3 0 };
   outs = get_or n 4 0;
 }
 
 -- The five numbers of the counters.
-abbrev pub counterNumbers : Counters → List ℕ
-counterNumbers k = k.opened.pairs ∷ k.opened.bytes ∷ k.legs.count ∷ k.legs.bytes ∷ k.outs ∷ []
+abbrev pub counter_numbers : Counters → List ℕ
+counter_numbers k = k.opened.pairs ∷ k.opened.bytes ∷ k.legs.count ∷ k.legs.bytes ∷ k.outs ∷ []
 
 -- The memory that a caller lends: the counters from their numbers, and the buffers.
-abbrev pub lentMemory : List ℕ → Text → List ℕ → Text → List ℕ → List ℕ → FramesMemory
-lentMemory kept bytes places store slots table = framesMemory (countersOf kept) bytes places store slots table
+abbrev pub lent_memory : List ℕ → Text → List ℕ → Text → List ℕ → List ℕ → FramesMemory
+lent_memory kept bytes places store slots table = frames_memory (counters_of kept) bytes places store slots table
 
 -- The line given as a whole text; one of more than 4,096 bytes is overlong.
-unfoldable pub wholeLine : Text → Line
-unfolding lineInBuffer
-wholeLine t = lineInBuffer (length t) t
+unfoldable pub whole_line : Text → Line
+unfolding line_in_buffer
+whole_line t = line_in_buffer (length t) t
 
 -- Question 5 for a well-formed frame: five numbers, and space for the longest reply line.
-abbrev pub hasLineRoom : List ℕ → ℕ → Bool
-hasLineRoom kept room = leb 5 (length kept) && leb maxAnswerLine room
+abbrev pub has_line_room : List ℕ → ℕ → Bool
+has_line_room kept room = leb 5 (length kept) && leb max_answer_line room
 
 -- Question 5. Question 9 is put first: a bad frame is answered FF09 and a newline, and needs only the five bytes for that.
-unfoldable pub validateLineCall : Option Frame → List ℕ → Text → Validation
-validateLineCall none kept out = cond (leb 5 (length out)) Passed (RefusedValidation NoRoom)
-validateLineCall (some f) kept out = cond (hasLineRoom kept (length out)) Passed (RefusedValidation NoRoom)
+unfoldable pub validate_line_call : Option Frame → List ℕ → Text → Validation
+validate_line_call none kept out = cond (leb 5 (length out)) Passed (RefusedValidation NoRoom)
+validate_line_call (some f) kept out = cond (has_line_room kept (length out)) Passed (RefusedValidation NoRoom)
 
 -- The reply of the call: the length of the reply line.
-unfoldable pub lineReply : Line → List ℕ → FramesMemory → Text → Reply
-unfolding parseLine validateLineCall answerLine
-lineReply l kept m out = refusedOr (validateLineCall (parseLine l) kept out) Refused (Written (length (answerLine stepFrameChecked m l)))
+unfoldable pub line_reply : Line → List ℕ → FramesMemory → Text → Reply
+unfolding parse_line validate_line_call answer_line
+line_reply l kept m out = refused_or (validate_line_call (parse_line l) kept out) Refused (Written (length (answer_line step_frame_checked m l)))
 
 -- The memory after the call; unchanged if it was refused.
-unfoldable pub lineMemory : Line → List ℕ → FramesMemory → Text → FramesMemory
-unfolding parseLine validateLineCall stepFrameChecked
-lineMemory l kept m out = refusedOr (validateLineCall (parseLine l) kept out) (λ (x : Refusal). m) (nextLine stepFrameChecked m l)
+unfoldable pub line_memory : Line → List ℕ → FramesMemory → Text → FramesMemory
+unfolding parse_line validate_line_call step_frame_checked
+line_memory l kept m out = refused_or (validate_line_call (parse_line l) kept out) (λ (x : Refusal). m) (next_line step_frame_checked m l)
 
 -- The output buffer after the call: the reply line over its beginning; unchanged if it was refused.
-unfoldable pub lineOut : Line → List ℕ → FramesMemory → Text → Text
-unfolding parseLine validateLineCall answerLine
-lineOut l kept m out = refusedOr (validateLineCall (parseLine l) kept out) (λ (x : Refusal). out) (written (answerLine stepFrameChecked m l) out)
+unfoldable pub line_out : Line → List ℕ → FramesMemory → Text → Text
+unfolding parse_line validate_line_call answer_line
+line_out l kept m out = refused_or (validate_line_call (parse_line l) kept out) (λ (x : Refusal). out) (written (answer_line step_frame_checked m l) out)
 
 -- The number buffer after a frame that leaves these counters: the five numbers over its beginning; unchanged by a bad frame.
-abbrev pub countersAfter : Option Frame → Counters → List ℕ → List ℕ
-countersAfter none k kept = kept
-countersAfter (some f) k kept = written (counterNumbers k) kept
+abbrev pub counters_after : Option Frame → Counters → List ℕ → List ℕ
+counters_after none k kept = kept
+counters_after (some f) k kept = written (counter_numbers k) kept
 
 -- The number buffer after the call; unchanged if it was refused.
-unfoldable pub lineCounters : Line → List ℕ → FramesMemory → Text → List ℕ
-unfolding parseLine validateLineCall stepFrameChecked
-lineCounters l kept m out =
-    refusedOr (validateLineCall (parseLine l) kept out) (λ (x : Refusal). kept) (countersAfter (parseLine l) (nextLine stepFrameChecked m l).kept kept)
+unfoldable pub line_counters : Line → List ℕ → FramesMemory → Text → List ℕ
+unfolding parse_line validate_line_call step_frame_checked
+line_counters l kept m out =
+    refused_or (validate_line_call (parse_line l) kept out) (λ (x : Refusal). kept) (counters_after (parse_line l) (next_line step_frame_checked m l).kept kept)
 
 -- The result of the questions put before a line is processed, for an output buffer of capacity `room`: the reply line has only two bytes (FF09,
 -- or a refusal), there is no space, or the line is processed.
-unfoldable pub lineCheck : Option Frame → List ℕ → FramesMemory → ℕ → LineCheck
-unfolding validateUse
-lineCheck none kept m room = Short 255 9
-lineCheck (some (frame k a)) kept m room =
-    cond (hasLineRoom kept room) (refusedOr (validateUse m a) (λ (x : Refusal). Short (k + 128) (refusalNumber x)) Open) NoSpace
+unfoldable pub line_check : Option Frame → List ℕ → FramesMemory → ℕ → LineCheck
+unfolding validate_use
+line_check none kept m room = Short 255 9
+line_check (some (frame k a)) kept m room =
+    cond (has_line_room kept room) (refused_or (validate_use m a) (λ (x : Refusal). Short (k + 128) (refusal_number x)) Open) NoSpace
 
 -- The reply of writing a line of two bytes: its length is 5.
-abbrev pub shortReply : Text → Reply
-shortReply out = cond (leb 5 (length out)) (Written 5) (Refused NoRoom)
+abbrev pub short_reply : Text → Reply
+short_reply out = cond (leb 5 (length out)) (Written 5) (Refused NoRoom)
 
 -- The output buffer after writing a line of two bytes.
-unfoldable pub shortOut : ℕ → ℕ → Text → Text
-unfolding lineText
-shortOut head answer out = cond (leb 5 (length out)) (written (lineText (head ∷ answer ∷ [])) out) out
+unfoldable pub short_out : ℕ → ℕ → Text → Text
+unfolding line_text
+short_out head answer out = cond (leb 5 (length out)) (written (line_text (head ∷ answer ∷ [])) out) out
 
 -- The code processed the line without validating the memory: the length of the reply line, the numbers and the output buffer are those of
 -- the step.
 pub record ProcessesLine (l : Line) (kept : List ℕ) (m : FramesMemory) (out : Text) (n : ℕ) (kept' : List ℕ) (out' : Text) : Type 0 where
-  pub size : n ≡ length (answerLine stepFrameIn m l)
-  pub counters : kept' ≡ written (counterNumbers (nextLine stepFrameIn m l).kept) kept
-  pub reply : out' ≡ written (answerLine stepFrameIn m l) out
+  pub size : n ≡ length (answer_line step_frame_in m l)
+  pub counters : kept' ≡ written (counter_numbers (next_line step_frame_in m l).kept) kept
+  pub reply : out' ≡ written (answer_line step_frame_in m l) out

@@ -2,9 +2,9 @@
 // is validated, since the caller may have altered it between two calls.
 ghost use Rattle.std.specs.Prelude.{◌≡◌, ◌≤◌, length};
 ghost use Rattle.text.specs.Text.{written};
-ghost use Rattle.frames_spec.specs.Input.{parseLine, nextLine};
-ghost use Rattle.frames_memory.specs.Memory.{stepFrameIn};
-ghost use Rattle.ffi_line.specs.LineCall.{countersOf, counterNumbers, lentMemory, wholeLine, hasLineRoom, lineReply, lineMemory, lineOut, lineCounters, lineCheck, shortReply, shortOut, ProcessesLine};
+ghost use Rattle.frames_spec.specs.Input.{parse_line, next_line};
+ghost use Rattle.frames_memory.specs.Memory.{step_frame_in};
+ghost use Rattle.ffi_line.specs.LineCall.{counters_of, counter_numbers, lent_memory, whole_line, has_line_room, line_reply, line_memory, line_out, line_counters, line_check, short_reply, short_out, ProcessesLine};
 
 // The result of the questions put before a line is processed.
 #[derive(Drop)]
@@ -20,7 +20,7 @@ pub enum LineCheck {
 // The counters from five plain numbers.
 fn counters_of(kept: &[usize]) -> frames_memory::Counters
     requires { 5 ≤ length kept.now }
-    ensures { result ≡ countersOf kept.now }
+    ensures { result ≡ counters_of kept.now }
 {
     frames_memory::Counters {
         opened: open_list::OpenList {
@@ -38,7 +38,7 @@ fn counters_of(kept: &[usize]) -> frames_memory::Counters
 // Writes the counters as five plain numbers.
 fn write_counters(k: frames_memory::Counters, kept: &mut [usize])
     requires { 5 ≤ length kept.old }
-    ensures { kept.new ≡ written (counterNumbers k) kept.old }
+    ensures { kept.new ≡ written (counter_numbers k) kept.old }
 {
     let opened = k.opened;
     let legs = k.legs;
@@ -51,7 +51,7 @@ fn write_counters(k: frames_memory::Counters, kept: &mut [usize])
 
 // Returns whether there is space for five numbers and the longest reply line (question 5).
 fn has_line_room(kept: &[usize], room: usize) -> bool
-    ensures { result ≡ hasLineRoom kept.now room }
+    ensures { result ≡ has_line_room kept.now room }
 {
     if kept.len() < 5 {
         return false;
@@ -70,8 +70,8 @@ fn check_line(
     table: &[usize],
     room: usize,
 ) -> LineCheck
-    ensures { result ≡ lineCheck (parseLine (wholeLine line.now)) kept.now
-        (lentMemory kept.now bytes.now places.now store.now
+    ensures { result ≡ line_check (parse_line (whole_line line.now)) kept.now
+        (lent_memory kept.now bytes.now places.now store.now
         slots.now table.now) room }
 {
     let mut frame = [0u8; 2048];
@@ -102,8 +102,8 @@ fn check_line(
 
 // Writes the reply line of two bytes to the beginning of `out`.
 fn write_short(head: u8, answer: u8, out: &mut [u8]) -> refusal::Reply
-    ensures value { result ≡ shortReply out.old }
-    ensures out_after { out.new ≡ shortOut head answer out.old }
+    ensures value { result ≡ short_reply out.old }
+    ensures out_after { out.new ≡ short_out head answer out.old }
 {
     if out.len() < 5 {
         return refusal::Reply::Refused(refusal::Refusal::NoRoom);
@@ -128,13 +128,13 @@ fn process_line(
     out: &mut [u8],
 ) -> usize
     requires { (5 ≤ length kept.old) × (515 ≤ length out.old) }
-    ensures processes_line { ProcessesLine (wholeLine line.now) kept.old
-        (lentMemory kept.old bytes.old places.old store.old
+    ensures processes_line { ProcessesLine (whole_line line.now) kept.old
+        (lent_memory kept.old bytes.old places.old store.old
         slots.old table.old) out.old result kept.new out.new }
-    ensures table_after { lentMemory kept.new bytes.new places.new store.new
-        slots.new table.new ≡ nextLine stepFrameIn
-        (lentMemory kept.old bytes.old places.old store.old
-        slots.old table.old) (wholeLine line.now) }
+    ensures table_after { lent_memory kept.new bytes.new places.new store.new
+        slots.new table.new ≡ next_line step_frame_in
+        (lent_memory kept.old bytes.old places.old store.old
+        slots.old table.old) (whole_line line.now) }
 {
     let k = counters_of(kept);
     let a = frame_answer::answer_line(
@@ -168,18 +168,18 @@ pub fn answer_whole(
     table: &mut [usize],
     out: &mut [u8],
 ) -> refusal::Reply
-    ensures value { result ≡ lineReply (wholeLine line.now) kept.old
-        (lentMemory kept.old bytes.old places.old store.old
+    ensures value { result ≡ line_reply (whole_line line.now) kept.old
+        (lent_memory kept.old bytes.old places.old store.old
         slots.old table.old) out.old }
-    ensures kept_after { kept.new ≡ lineCounters (wholeLine line.now) kept.old
-        (lentMemory kept.old bytes.old places.old store.old
+    ensures kept_after { kept.new ≡ line_counters (whole_line line.now) kept.old
+        (lent_memory kept.old bytes.old places.old store.old
         slots.old table.old) out.old }
-    ensures table_after { lentMemory kept.new bytes.new places.new store.new
-        slots.new table.new ≡ lineMemory (wholeLine line.now) kept.old
-        (lentMemory kept.old bytes.old places.old store.old
+    ensures table_after { lent_memory kept.new bytes.new places.new store.new
+        slots.new table.new ≡ line_memory (whole_line line.now) kept.old
+        (lent_memory kept.old bytes.old places.old store.old
         slots.old table.old) out.old }
-    ensures out_after { out.new ≡ lineOut (wholeLine line.now) kept.old
-        (lentMemory kept.old bytes.old places.old store.old
+    ensures out_after { out.new ≡ line_out (whole_line line.now) kept.old
+        (lent_memory kept.old bytes.old places.old store.old
         slots.old table.old) out.old }
 {
     let c = check_line(line, kept, bytes, places, store, slots, table, out.len());

@@ -2,8 +2,8 @@
 use mathlib.Core.Path.{◌≡◌}
 use Prim.Native.Nat.{ℕ, ◌<◌, ◌%◌}
 use native.Mathlib.Omega.{arith}
-use Rattle.ffi_rest.specs.RestCode.{carriedValue, CodeReadsBack}
+use Rattle.ffi_rest.specs.RestCode.{carried_value, CodeReadsBack}
 
-pub code-reads-back : CodeReadsBack
-unfolding carriedValue
-code-reads-back len start rest l s r = (omega arith, omega arith, omega arith, omega arith)
+pub code_reads_back : CodeReadsBack
+unfolding carried_value
+code_reads_back len start rest l s r = (omega arith, omega arith, omega arith, omega arith)

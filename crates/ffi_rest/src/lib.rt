@@ -1,11 +1,11 @@
 // Conversions of replies that tell where the rest of a path begins to the plain numbers that pass across the C
 // interface.
 ghost use Rattle.std.specs.Prelude.{◌≡◌};
-ghost use Rattle.ffi_rest.specs.RestCode.{restCode, restTestCode, restFirst, carriedValue, carriedCode};
+ghost use Rattle.ffi_rest.specs.RestCode.{rest_code, rest_test_code, rest_first, carried_value, carried_code};
 
 // Encodes where the rest begins.
 fn rest_code(rest: path_rest::Rest) -> usize
-    ensures { result ≡ restCode rest }
+    ensures { result ≡ rest_code rest }
 {
     match rest {
         path_rest::Rest::From(n) => 65536 * (n % 1099511627776) + 256,
@@ -15,7 +15,7 @@ fn rest_code(rest: path_rest::Rest) -> usize
 
 // Encodes the reply of the prefix test.
 pub fn rest_test_code(t: path::RestTest) -> usize
-    ensures { result ≡ restTestCode t }
+    ensures { result ≡ rest_test_code t }
 {
     match t {
         path::RestTest::Tested(rest) => rest_code(rest),
@@ -25,7 +25,7 @@ pub fn rest_test_code(t: path::RestTest) -> usize
 
 // The start of the rest; 0 if there is none.
 fn rest_first(rest: path_rest::Rest) -> usize
-    ensures { result ≡ restFirst rest }
+    ensures { result ≡ rest_first rest }
 {
     match rest {
         path_rest::Rest::From(n) => n,
@@ -35,14 +35,14 @@ fn rest_first(rest: path_rest::Rest) -> usize
 
 // Encodes the length of a path that was written, and the start and the length of the rest.
 fn carried_value(len: usize, start: usize, rest: usize) -> usize
-    ensures { result ≡ carriedValue len start rest }
+    ensures { result ≡ carried_value len start rest }
 {
     256 * (len % 256) + 65536 * (start % 256) + 16777216 * (rest % 256)
 }
 
 // Encodes a reply with the rest of the path.
 pub fn carried_code(path: &[u8], carried: path_rest::Carried) -> usize
-    ensures { result ≡ carriedCode path.now carried }
+    ensures { result ≡ carried_code path.now carried }
 {
     match carried {
         path_rest::Carried::Written(n, rest) => {

@@ -4,9 +4,9 @@ use Rattle.layer_offset.specs.declared.LayerOffset.{LayerOffset}
 use Rattle.layer_offset.specs.declared.OffsetBits.{OffsetBits}
 
 -- The offset and the scale as floats.
-unfoldable pub offsetNumbers : LayerOffset → List Float
-offsetNumbers o = o.offset ∷ o.scale ∷ []
+unfoldable pub offset_numbers : LayerOffset → List Float
+offset_numbers o = o.offset ∷ o.scale ∷ []
 
 -- The bit patterns of the offset and the scale.
-unfoldable pub offsetPatterns : OffsetBits → List ℕ
-offsetPatterns b = b.0 ∷ b.1 ∷ []
+unfoldable pub offset_patterns : OffsetBits → List ℕ
+offset_patterns b = b.0 ∷ b.1 ∷ []

@@ -1,14 +1,14 @@
 // Conversions between replies, maps, directions, chains and time offsets and the plain numbers that pass
 // across the C interface.
 ghost use Rattle.std.specs.Prelude.{◌≡◌};
-ghost use Rattle.ffi_values.specs.Code.{valueCode, validationCode, testCode, countCode, replyCode};
-ghost use Rattle.ffi_values.specs.Map.{untimedMap, directionOf};
-ghost use Rattle.ffi_values.specs.Time.{offsetNumbers, offsetPatterns};
-ghost use Rattle.ffi_values.specs.MapCode.{mapFromNumbers, mapValue, mapCode, mapTime, withTimeOffsetCall, chainValue, chainCode};
+ghost use Rattle.ffi_values.specs.Code.{value_code, validation_code, test_code, count_code, reply_code};
+ghost use Rattle.ffi_values.specs.Map.{untimed_map, direction_of};
+ghost use Rattle.ffi_values.specs.Time.{offset_numbers, offset_patterns};
+ghost use Rattle.ffi_values.specs.MapCode.{map_from_numbers, map_value, map_code, map_time, with_time_offset_call, chain_value, chain_code};
 
 // A map's header with the identity time offset.
 pub fn untimed_map(count: usize, mark: bool) -> map_function::MapFunction
-    ensures { result ≡ untimedMap count mark }
+    ensures { result ≡ untimed_map count mark }
 {
     let time = layer_offset::LayerOffset::IDENTITY;
     map_function::MapFunction {
@@ -25,7 +25,7 @@ pub fn map_from_numbers(
     offset: f64,
     scale: f64,
 ) -> map_function::MapFunction
-    ensures { result ≡ mapFromNumbers count mark offset scale }
+    ensures { result ≡ map_from_numbers count mark offset scale }
 {
     map_function::MapFunction {
         count,
@@ -36,7 +36,7 @@ pub fn map_from_numbers(
 
 // The direction for a number: 0 out, 1 home, any other number translation.
 pub fn direction_of(direction: usize) -> mapping::Direction
-    ensures { result ≡ directionOf direction }
+    ensures { result ≡ direction_of direction }
 {
     if direction == 0 {
         return mapping::Direction::Out;
@@ -49,21 +49,21 @@ pub fn direction_of(direction: usize) -> mapping::Direction
 
 // Writes the offset and the scale.
 pub fn write_offset(made: layer_offset::LayerOffset, out: &mut [f64; 2])
-    ensures { out.new ≡ offsetNumbers made }
+    ensures { out.new ≡ offset_numbers made }
 {
     *out = [made.offset, made.scale];
 }
 
 // Writes the bit patterns of the offset and the scale.
 pub fn write_bits(bits: layer_offset::OffsetBits, out: &mut [u64; 2])
-    ensures { out.new ≡ offsetPatterns bits }
+    ensures { out.new ≡ offset_patterns bits }
 {
     *out = [bits.0, bits.1];
 }
 
 // Encodes the number of pairs and the mark in one number.
 fn map_value(count: usize, mark: bool) -> usize
-    ensures { result ≡ mapValue count mark }
+    ensures { result ≡ map_value count mark }
 {
     if mark {
         return 512 * (count % 36028797018963968) + 256;
@@ -73,8 +73,8 @@ fn map_value(count: usize, mark: bool) -> usize
 
 // Encodes the reply as one number and writes the time offset of a map that was built.
 pub fn map_code(made: map_function::MapReply, time: &mut [f64; 2]) -> usize
-    ensures value { result ≡ mapCode made }
-    ensures time_after { time.new ≡ mapTime made time.old }
+    ensures value { result ≡ map_code made }
+    ensures time_after { time.new ≡ map_time made time.old }
 {
     match made {
         map_function::MapReply::Made(f) => {
@@ -90,7 +90,7 @@ pub fn with_time_offset(
     map: map_function::MapFunction,
     offset: layer_offset::LayerOffset,
 ) -> map_function::MapReply
-    ensures { result ≡ withTimeOffsetCall map offset }
+    ensures { result ≡ with_time_offset_call map offset }
 {
     if 64 < map.count {
         return map_function::MapReply::Refused(refusal::Refusal::TooMany);
@@ -100,14 +100,14 @@ pub fn with_time_offset(
 
 // Encodes the length and the number of steps in one number.
 fn chain_value(len: usize, steps: usize) -> usize
-    ensures { result ≡ chainValue len steps }
+    ensures { result ≡ chain_value len steps }
 {
     65536 * (steps % 281474976710656) + 256 * (len % 256)
 }
 
 // Encodes the reply as one number.
 pub fn chain_code(c: relocate_chain::Chain) -> usize
-    ensures { result ≡ chainCode c }
+    ensures { result ≡ chain_code c }
 {
     match c {
         relocate_chain::Chain::Chained(len, steps) => chain_value(len, steps),
@@ -118,14 +118,14 @@ pub fn chain_code(c: relocate_chain::Chain) -> usize
 // Encodes the value of a reply that is no refusal. Every value is far below 2^56, so the remainder only
 // rules out overflow.
 fn value_code(n: usize) -> usize
-    ensures { result ≡ valueCode n }
+    ensures { result ≡ value_code n }
 {
     256 * (n % 72057594037927936)
 }
 
 // Encodes the result of validation.
 pub fn validation_code(q: refusal::Validation) -> usize
-    ensures { result ≡ validationCode q }
+    ensures { result ≡ validation_code q }
 {
     match q {
         refusal::Validation::Passed => 0,
@@ -135,7 +135,7 @@ pub fn validation_code(q: refusal::Validation) -> usize
 
 // Encodes the reply of a test.
 pub fn test_code(t: path::Test) -> usize
-    ensures { result ≡ testCode t }
+    ensures { result ≡ test_code t }
 {
     match t {
         path::Test::Holds(b) => {
@@ -150,7 +150,7 @@ pub fn test_code(t: path::Test) -> usize
 
 // Encodes a number of elements.
 pub fn count_code(n: path::Count) -> usize
-    ensures { result ≡ countCode n }
+    ensures { result ≡ count_code n }
 {
     match n {
         path::Count::Counted(e) => value_code(e.0),
@@ -160,7 +160,7 @@ pub fn count_code(n: path::Count) -> usize
 
 // Encodes the reply of a call that writes.
 pub fn reply_code(r: refusal::Reply) -> usize
-    ensures { result ≡ replyCode r }
+    ensures { result ≡ reply_code r }
 {
     match r {
         refusal::Reply::Written(n) => value_code(n),

@@ -9,113 +9,113 @@ use lib.Dec.{leb}
 use lib.ListN.{length, take, drop, length-append}
 use borrow.Author.Tests.{le-leb, lt-leb, leb-true, leb-false}
 use Rattle.text.specs.Text.{Text}
-use Rattle.text.proofs.BoolLaws.{known-false, known-true}
-use Rattle.text.proofs.WriteLaws.{read_back, part-size}
+use Rattle.text.proofs.BoolLaws.{known_false, known_true}
+use Rattle.text.proofs.WriteLaws.{read_back, part_size}
 use Rattle.refusal.specs.declared.Reply.{Reply}
 use Rattle.refusal.specs.declared.Reply.TheVariants.{Written, Refused}
 use Rattle.refusal.specs.declared.Refusal.{Refusal}
-use Rattle.refusal.specs.Refusal.{refusalNumber}
+use Rattle.refusal.specs.Refusal.{refusal_number}
 use Rattle.line_reader.specs.Lines.{Line}
-use Rattle.frames_spec.specs.Frame.{Frame, frame, decodeFrame}
-use Rattle.frames_spec.specs.State.{Answer, success, refusal, answerBytes}
-use Rattle.frames_spec.specs.Run.{nextState, answerFrame}
-use Rattle.frames_spec.specs.Input.{parseLine, answerLine}
+use Rattle.frames_spec.specs.Frame.{Frame, frame, decode_frame}
+use Rattle.frames_spec.specs.State.{Answer, success, refusal, answer_bytes}
+use Rattle.frames_spec.specs.Run.{next_state, answer_frame}
+use Rattle.frames_spec.specs.Input.{parse_line, answer_line}
 use Rattle.frame_decode.specs.declared.FrameHeader.{FrameHeader}
 use Rattle.frame_decode.specs.declared.DecodedFrame.{DecodedFrame}
 use Rattle.frame_decode.specs.declared.DecodedFrame.TheVariants.{Frame as FrameDecoded, Bad}
-use Rattle.frame_decode.specs.Header.{decodedOf, actionIn, frameIn}
-use Rattle.frame_decode.proofs.HeaderLaws.{decode-decodes}
-use Rattle.frames_memory.specs.Memory.{FramesMemory, stepFrameIn}
-use Rattle.frame_apply.specs.Done.{answerReply, answerPayload, StepDone, FrameDone}
-use Rattle.frame_answer.specs.Answer.{lineText, replyLine, PayloadFits, WroteAt, AnswersFrame, memoryAfterLine, endAfterLine, outAfterLine}
+use Rattle.frame_decode.specs.Header.{decoded_of, action_in, frame_in}
+use Rattle.frame_decode.proofs.HeaderLaws.{decode_decodes}
+use Rattle.frames_memory.specs.Memory.{FramesMemory, step_frame_in}
+use Rattle.frame_apply.specs.Done.{answer_reply, answer_payload, StepDone, FrameDone}
+use Rattle.frame_answer.specs.Answer.{line_text, reply_line, PayloadFits, WroteAt, AnswersFrame, memory_after_line, end_after_line, out_after_line}
 
 -- `write_reply`
-pub reply-written : (head n at end : ℕ) (r : Reply) (payload before after : Text) → r ≡ Written n → WroteAt (lineText (head ∷ 0 ∷ take n payload)) at end before after
-    → WroteAt (replyLine head r payload) at end before after
-unfolding replyLine
-reply-written head n at end r payload before after e w = rw e w
+pub reply_written : (head n at end : ℕ) (r : Reply) (payload before after : Text) → r ≡ Written n → WroteAt (line_text (head ∷ 0 ∷ take n payload)) at end before after
+    → WroteAt (reply_line head r payload) at end before after
+unfolding reply_line
+reply_written head n at end r payload before after e w = rw e w
 
-pub reply-refused : (head a at end : ℕ) (r : Reply) (x : Refusal) (payload before after : Text) → r ≡ Refused x → a ≡ refusalNumber x
-    → WroteAt (lineText (head ∷ a ∷ [])) at end before after → WroteAt (replyLine head r payload) at end before after
-unfolding replyLine
-reply-refused head a at end r x payload before after e f w = rw (e, ← f) w
+pub reply_refused : (head a at end : ℕ) (r : Reply) (x : Refusal) (payload before after : Text) → r ≡ Refused x → a ≡ refusal_number x
+    → WroteAt (line_text (head ∷ a ∷ [])) at end before after → WroteAt (reply_line head r payload) at end before after
+unfolding reply_line
+reply_refused head a at end r x payload before after e f w = rw (e, ← f) w
 
-pub fitting-room : (r : Reply) (n room : ℕ) → r ≡ Written n → PayloadFits r room → n ≤ room
+pub fitting_room : (r : Reply) (n room : ℕ) → r ≡ Written n → PayloadFits r room → n ≤ room
 unfolding PayloadFits
-fitting-room r n room e f = rw e at f
+fitting_room r n room e f = rw e at f
 
-pub reply-room : (n at : ℕ) (payload before : Text) → n ≤ length payload → length payload ≡ 255 → at + 515 ≤ length before
+pub reply_room : (n at : ℕ) (payload before : Text) → n ≤ length payload → length payload ≡ 255 → at + 515 ≤ length before
     → at + 5 + 2 * length (take n payload) ≤ length before
-reply-room n at payload before h e r = omega (arith, part-size n payload h, e, r, h)
+reply_room n at payload before h e r = omega (arith, part_size n payload h, e, r, h)
 
 -- `answer_frame`
-module _ (b : Text) (d : DecodedFrame) (e : d ≡ decodedOf (decodeFrame b)) (m : FramesMemory) (at end : ℕ) (before after : Text) where
-  pub frame-bad : d ≡ Bad → WroteAt (lineText (255 ∷ 9 ∷ [])) at end before after → AnswersFrame (decodeFrame b) m m at end before after
+module _ (b : Text) (d : DecodedFrame) (e : d ≡ decoded_of (decode_frame b)) (m : FramesMemory) (at end : ℕ) (before after : Text) where
+  pub frame_bad : d ≡ Bad → WroteAt (line_text (255 ∷ 9 ∷ [])) at end before after → AnswersFrame (decode_frame b) m m at end before after
   unfolding AnswersFrame
-  frame-bad h w = rw (← (decode-decodes b d e), h) (refl, w)
+  frame_bad h w = rw (← (decode_decodes b d e), h) (refl, w)
 
   -- The payload of a reply is read back.
-  reply-line : (a : Answer) (head : ℕ) (reply : Reply) (payload payload' : Text) → reply ≡ answerReply a → payload' ≡ answerPayload a payload
-      → replyLine head reply payload' ≡ lineText (head ∷ answerBytes a)
-  unfolding replyLine
-  reply-line (success q) head reply payload payload' f g = rw (f, g) (ap (λ (t : Text). lineText (head ∷ 0 ∷ t)) (read_back q payload))
-  reply-line (refusal x) head reply payload payload' f g = rw f refl
+  reply_line_lem : (a : Answer) (head : ℕ) (reply : Reply) (payload payload' : Text) → reply ≡ answer_reply a → payload' ≡ answer_payload a payload
+      → reply_line head reply payload' ≡ line_text (head ∷ answer_bytes a)
+  unfolding reply_line
+  reply_line_lem (success q) head reply payload payload' f g = rw (f, g) (ap (λ (t : Text). line_text (head ∷ 0 ∷ t)) (read_back q payload))
+  reply_line_lem (refusal x) head reply payload payload' f g = rw f refl
 
   module _ (k : ℕ) (h : FrameHeader) (parsed : d ≡ FrameDecoded k h) (m' : FramesMemory) (reply : Reply) (payload payload' : Text)
       (a : FrameDone b h m m' reply payload payload') where
     abbrev asked : Frame
-    asked = frame k (actionIn b h)
+    asked = frame k (action_in b h)
 
-    took : StepDone (stepFrameIn m asked) m' reply payload payload'
+    took : StepDone (step_frame_in m asked) m' reply payload payload'
     unfolding FrameDone
     took = a k
 
-    is-frame : some asked ≡ decodeFrame b
-    is-frame = ap (frameIn b) (sym parsed) ∙ decode-decodes b d e
+    is_frame : some asked ≡ decode_frame b
+    is_frame = ap (frame_in b) (sym parsed) ∙ decode_decodes b d e
 
-    line_same : replyLine (k + 128) reply payload' ≡ lineText (answerFrame stepFrameIn m (decodeFrame b))
+    line_same : reply_line (k + 128) reply payload' ≡ line_text (answer_frame step_frame_in m (decode_frame b))
     line_same =
-        reply-line (stepFrameIn m asked).answer (k + 128) reply payload payload' took.reply took.payload
-        ∙ ap (λ (o : Option Frame). lineText (answerFrame stepFrameIn m o)) is-frame
+        reply_line_lem (step_frame_in m asked).answer (k + 128) reply payload payload' took.reply took.payload
+        ∙ ap (λ (o : Option Frame). line_text (answer_frame step_frame_in m o)) is_frame
 
-    pub frame-acted : WroteAt (replyLine (k + 128) reply payload') at end before after → AnswersFrame (decodeFrame b) m m' at end before after
+    pub frame-acted : WroteAt (reply_line (k + 128) reply payload') at end before after → AnswersFrame (decode_frame b) m m' at end before after
     unfolding AnswersFrame
-    frame-acted w = (took.state ∙ ap (nextState stepFrameIn m) is-frame, subst (λ (t : Text). WroteAt t at end before after) line_same w)
+    frame-acted w = (took.state ∙ ap (next_state step_frame_in m) is_frame, subst (λ (t : Text). WroteAt t at end before after) line_same w)
 
     pub frame-fits : PayloadFits reply (length payload')
     unfolding PayloadFits
-    frame-fits = go (stepFrameIn m asked).answer took.reply took.payload
+    frame-fits = go (step_frame_in m asked).answer took.reply took.payload
       where
-        go : (x : Answer) → reply ≡ answerReply x → payload' ≡ answerPayload x payload → PayloadFits reply (length payload')
+        go : (x : Answer) → reply ≡ answer_reply x → payload' ≡ answer_payload x payload → PayloadFits reply (length payload')
         go (success q) f g = rw f (omega (arith, ap length g, length-append q (drop (length q) payload)))
         go (refusal x) f g = rw f (omega arith)
 
 -- `has_room`
-pub room-short : (at len : ℕ) → len < 515 → false ≡ leb (at + 515) len
-room-short at len h = sym (lt-leb (at + 515) len (omega (arith, h)))
+pub room_short : (at len : ℕ) → len < 515 → false ≡ leb (at + 515) len
+room_short at len h = sym (lt-leb (at + 515) len (omega (arith, h)))
 
-pub room-rest : (at len : ℕ) → 515 ≤ len → leb at (len - 515) ≡ leb (at + 515) len
-room-rest at len h = go (leb at (len - 515)) refl
+pub room_rest : (at len : ℕ) → 515 ≤ len → leb at (len - 515) ≡ leb (at + 515) len
+room_rest at len h = go (leb at (len - 515)) refl
   where
     go : (b : Bool) → leb at (len - 515) ≡ b → b ≡ leb (at + 515) len
     go true e = sym (le-leb (at + 515) len (omega (arith, leb-true at (len - 515) e, h)))
     go false e = sym (lt-leb (at + 515) len (omega (arith, leb-false at (len - 515) e, h)))
 
 -- `answer_line`
-pub line-room : (at : ℕ) (before : Text) (b : Bool) → b ≡ leb (at + 515) (length before) → not b ≡ false → at + 515 ≤ length before
-line-room at before b e h = leb-true (at + 515) (length before) (known-true e h)
+pub line_room : (at : ℕ) (before : Text) (b : Bool) → b ≡ leb (at + 515) (length before) → not b ≡ false → at + 515 ≤ length before
+line_room at before b e h = leb-true (at + 515) (length before) (known_true e h)
 
 module _ (l : Line) (m : FramesMemory) (at : ℕ) (before : Text) (b : Bool) (e : b ≡ leb (at + 515) (length before)) where
   abbrev Answers : FramesMemory → ℕ → Text → Type 0
-  Answers m' end after = (m' ≡ memoryAfterLine at before m l) × ((end ≡ endAfterLine at before m l) × (after ≡ outAfterLine at before m l))
+  Answers m' end after = (m' ≡ memory_after_line at before m l) × ((end ≡ end_after_line at before m l) × (after ≡ out_after_line at before m l))
 
   pub line_refused : not b ≡ true → Answers m at before
-  unfolding memoryAfterLine endAfterLine outAfterLine
-  line_refused h = rw (known-false e h) (refl, (refl, refl))
+  unfolding memory_after_line end_after_line out_after_line
+  line_refused h = rw (known_false e h) (refl, (refl, refl))
 
-  pub line-answered : not b ≡ false → (f : Option Frame) → f ≡ parseLine l → (m' : FramesMemory) (end : ℕ) (after : Text)
+  pub line_answered : not b ≡ false → (f : Option Frame) → f ≡ parse_line l → (m' : FramesMemory) (end : ℕ) (after : Text)
       → AnswersFrame f m m' at end before after → Answers m' end after
-  unfolding memoryAfterLine endAfterLine outAfterLine AnswersFrame WroteAt lineText answerLine
-  line-answered h f g m' end after a =
+  unfolding memory_after_line end_after_line out_after_line AnswersFrame WroteAt line_text answer_line
+  line_answered h f g m' end after a =
       let w = subst (λ (o : Option Frame). AnswersFrame o m m' at end before after) g a in
-      rw (known-true e h) (w.0, (w.1.0, w.1.1))
+      rw (known_true e h) (w.0, (w.1.0, w.1.1))

@@ -3,15 +3,15 @@
 // frame.
 ghost use Rattle.std.specs.Prelude.{◌≡◌, [], ◌∷◌, ◌+◌, ◌*◌, ◌≤◌, leb, length, take};
 ghost use Rattle.text.specs.Text.{written};
-ghost use Rattle.frames_spec.specs.State.{bigEndian32};
+ghost use Rattle.frames_spec.specs.State.{big_endian32};
 ghost use Rattle.frames_spec.specs.Run.{saturate32};
-ghost use Rattle.line_reader.specs.Lines.{lineInBuffer};
-ghost use Rattle.frames_spec.specs.Frame.{decodeFrame};
-ghost use Rattle.frames_memory.specs.Memory.{framesMemory, statusesIn, routePathIn};
-ghost use Rattle.frame_decode.specs.Header.{lastBytes, reach};
+ghost use Rattle.line_reader.specs.Lines.{line_in_buffer};
+ghost use Rattle.frames_spec.specs.Frame.{decode_frame};
+ghost use Rattle.frames_memory.specs.Memory.{frames_memory, statuses_in, route_path_in};
+ghost use Rattle.frame_decode.specs.Header.{last_bytes, reach};
 ghost use Rattle.frame_apply.specs.Done.{Replies, RepliesPath, FrameDone, PairDone};
-ghost use Rattle.frame_answer.specs.Answer.{lineText, replyLine, PayloadFits, WroteAt, AnswersFrame, memoryAfterLine, outAfterLine, endAfterLine};
-ghost use Rattle.frames_spec.specs.Input.{maxAnswerLine};
+ghost use Rattle.frame_answer.specs.Answer.{line_text, reply_line, PayloadFits, WroteAt, AnswersFrame, memory_after_line, out_after_line, end_after_line};
+ghost use Rattle.frames_spec.specs.Input.{max_answer_line};
 
 // The length of the longest reply line: two bytes and a path of 255, two digits each, and the newline.
 pub const MAX_ANSWER_LINE: usize = 515;
@@ -26,7 +26,7 @@ pub struct AnsweredLine {
 // Writes a line of two bytes and a payload, in capital digits, and returns the offset after it.
 fn write_line(head: u8, answer: u8, payload: &[u8], at: usize, out: &mut [u8]) -> usize
     requires { at + 5 + 2 * length payload.now ≤ length out.old }
-    ensures { WroteAt (lineText (head ∷ answer ∷ payload.now)) at result out.old
+    ensures { WroteAt (line_text (head ∷ answer ∷ payload.now)) at result out.old
         out.new }
 {
     let mut first = [0u8; 2];
@@ -53,7 +53,7 @@ fn held_count(n: usize) -> usize
 // Writes a number over the first four bytes, the high byte first.
 fn write_count(n: usize, payload: &mut [u8])
     requires { 4 ≤ length payload.old }
-    ensures { payload.new ≡ written (bigEndian32 n) payload.old }
+    ensures { payload.new ≡ written (big_endian32 n) payload.old }
 {
     let mut four = [0u8; 4];
     four[0] = (n / 16777216 % 256) as u8;
@@ -73,7 +73,7 @@ fn apply_pair_in(
     places: &mut [usize],
 ) -> frame_apply::Effect
     requires { n + 2 + m ≤ length frame.now }
-    ensures { PairDone (take n (lastBytes (n + 2 + m) frame.now)) (lastBytes m frame.now) k
+    ensures { PairDone (take n (last_bytes (n + 2 + m) frame.now)) (last_bytes m frame.now) k
         bytes.old places.old result.kept result.reply bytes.new places.new }
 {
     let start = frame.len() - (n + 2 + m);
@@ -90,7 +90,7 @@ fn apply_statuses(
     payload: &mut [u8],
 ) -> refusal::Reply
     requires { length payload.old ≡ 255 }
-    ensures { Replies (statusesIn (framesMemory k bytes.now places.now [] [] [])) result
+    ensures { Replies (statuses_in (frames_memory k bytes.now places.now [] [] [])) result
         payload.old payload.new }
 {
     let opened = k.opened;
@@ -109,9 +109,9 @@ fn apply_route(
     payload: &mut [u8],
 ) -> refusal::Reply
     requires { (length payload.old ≡ 255) × (n ≤ length frame.now) }
-    ensures { RepliesPath (routePathIn back
-        (framesMemory k [] [] store.now slots.now table.now)
-        (lastBytes n frame.now)) result payload.old payload.new }
+    ensures { RepliesPath (route_path_in back
+        (frames_memory k [] [] store.now slots.now table.now)
+        (last_bytes n frame.now)) result payload.old payload.new }
 {
     let legs = k.legs;
     let start = frame.len() - n;
@@ -141,8 +141,8 @@ fn apply_frame(
 ) -> frame_apply::Effect
     requires { (length payload.old ≡ 255) × (reach header ≤ length frame.now) }
     ensures { FrameDone frame.now header
-        (framesMemory k bytes.old places.old store.old slots.old
-        table.old) (framesMemory result.kept bytes.new places.new store.new
+        (frames_memory k bytes.old places.old store.old slots.old
+        table.old) (frames_memory result.kept bytes.new places.new store.new
         slots.new table.new) result.reply payload.old payload.new }
 {
     match header {
@@ -171,8 +171,8 @@ fn apply_frame(
 // Writes the reply line of a reply whose payload is at the beginning of the payload buffer.
 fn write_reply(head: u8, reply: refusal::Reply, payload: &[u8], at: usize, out: &mut [u8]) -> usize
     requires payload_fits { PayloadFits reply (length payload.now) }
-    requires payload_len { (length payload.now ≡ 255) × (at + maxAnswerLine ≤ length out.old) }
-    ensures { WroteAt (replyLine head reply payload.now) at result out.old out.new }
+    requires payload_len { (length payload.now ≡ 255) × (at + max_answer_line ≤ length out.old) }
+    ensures { WroteAt (reply_line head reply payload.now) at result out.old out.new }
 {
     match reply {
         refusal::Reply::Written(n) => write_line(head, 0, &payload[..n], at, out),
@@ -198,10 +198,10 @@ fn answer_frame(
     at: usize,
     out: &mut [u8],
 ) -> AnsweredLine
-    requires { at + maxAnswerLine ≤ length out.old }
-    ensures { AnswersFrame (decodeFrame frame.now)
-        (framesMemory k bytes.old places.old store.old slots.old
-        table.old) (framesMemory result.kept bytes.new places.new store.new
+    requires { at + max_answer_line ≤ length out.old }
+    ensures { AnswersFrame (decode_frame frame.now)
+        (frames_memory k bytes.old places.old store.old slots.old
+        table.old) (frames_memory result.kept bytes.new places.new store.new
         slots.new table.new) at result.end out.old out.new }
 {
     let d = frame_decode::decode_frame(frame);
@@ -229,7 +229,7 @@ fn answer_frame(
 
 // Returns whether there is space for the longest reply after `at` bytes.
 fn has_room(at: usize, len: usize) -> bool
-    ensures { result ≡ leb (at + maxAnswerLine) len }
+    ensures { result ≡ leb (at + max_answer_line) len }
 {
     if len < MAX_ANSWER_LINE {
         return false;
@@ -252,16 +252,16 @@ pub fn answer_line(
     at: usize,
     out: &mut [u8],
 ) -> AnsweredLine
-    ensures table_after { framesMemory result.kept bytes.new places.new store.new
-        slots.new table.new ≡ memoryAfterLine at out.old
-        (framesMemory k bytes.old places.old store.old slots.old
-        table.old) (lineInBuffer len line.now) }
-    ensures end_value { result.end ≡ endAfterLine at out.old
-        (framesMemory k bytes.old places.old store.old slots.old
-        table.old) (lineInBuffer len line.now) }
-    ensures out_after { out.new ≡ outAfterLine at out.old
-        (framesMemory k bytes.old places.old store.old slots.old
-        table.old) (lineInBuffer len line.now) }
+    ensures table_after { frames_memory result.kept bytes.new places.new store.new
+        slots.new table.new ≡ memory_after_line at out.old
+        (frames_memory k bytes.old places.old store.old slots.old
+        table.old) (line_in_buffer len line.now) }
+    ensures end_value { result.end ≡ end_after_line at out.old
+        (frames_memory k bytes.old places.old store.old slots.old
+        table.old) (line_in_buffer len line.now) }
+    ensures out_after { out.new ≡ out_after_line at out.old
+        (frames_memory k bytes.old places.old store.old slots.old
+        table.old) (line_in_buffer len line.now) }
 {
     if !has_room(at, out.len()) {
         return AnsweredLine { kept: k, end: at };

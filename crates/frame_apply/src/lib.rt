@@ -1,9 +1,9 @@
 // The effect of a frame of the program `frames` on the open list, the legs and the counters, for any contents
 // of the lent buffers: crates/frames_memory/specs/Memory.antt defines it.
 ghost use Rattle.std.specs.Prelude.{◌≡◌};
-ghost use Rattle.refusal.specs.Refusal.{refusalNumber};
-ghost use Rattle.frames_memory.specs.Memory.{framesMemory};
-ghost use Rattle.frame_apply.specs.Done.{countRoute, PairDone, CloseDone};
+ghost use Rattle.refusal.specs.Refusal.{refusal_number};
+ghost use Rattle.frames_memory.specs.Memory.{frames_memory};
+ghost use Rattle.frame_apply.specs.Done.{count_route, PairDone, CloseDone};
 
 // The effect of a frame: the counters after it, and the reply; its payload, if there is one, is at the
 // beginning of the payload buffer.
@@ -15,7 +15,7 @@ pub struct Effect {
 
 // The number of a refusal as a byte.
 pub fn number_byte(x: refusal::Refusal) -> u8
-    ensures { result ≡ refusalNumber x }
+    ensures { result ≡ refusal_number x }
 {
     refusal::number_of(x) as u8
 }
@@ -54,7 +54,7 @@ pub fn apply_pair(
 pub fn count_out(back: bool, k: frames_memory::Counters, r: refusal::Reply) -> Effect
     ensures { result ≡ record {
       kept = record
-          { opened = k.opened; legs = k.legs; outs = countRoute back r k.outs };
+          { opened = k.opened; legs = k.legs; outs = count_route back r k.outs };
       reply = r;
     } }
 {
@@ -89,9 +89,9 @@ pub fn apply_close(
     slots: &mut [usize],
     table: &mut [usize],
 ) -> Effect
-    ensures { CloseDone relocates (framesMemory k bytes.now places.now store.old
+    ensures { CloseDone relocates (frames_memory k bytes.now places.now store.old
         slots.old table.old)
-        (framesMemory result.kept bytes.now places.now store.new slots.new
+        (frames_memory result.kept bytes.now places.now store.new slots.new
         table.new) result.reply }
 {
     let opened = k.opened;

@@ -10,17 +10,17 @@ use lib.Dec.{leb}
 use lib.ListN.{length, get_or, take, drop, length-drop}
 use lib.Seq.{length-take-le}
 use borrow.Author.Tests.{ne_eqb, le-leb, leb-true}
-use Rattle.text.specs.Text.{Text, isNil}
-use Rattle.text.proofs.TextLaws.{nil-length}
-use Rattle.frames_spec.specs.Frame.{Action, add-pair, Form, no_payload, field, firstField, withTarget, withSource, kinds, form_of, decodePayload, decodeForm, withKind, decodeFrame}
+use Rattle.text.specs.Text.{Text, is_nil}
+use Rattle.text.proofs.TextLaws.{nil_length}
+use Rattle.frames_spec.specs.Frame.{Action, add_one_pair, Form, no_payload, field, first_field, with_target, with_source, kinds, form_of, decode_payload, decode_form, with_kind, decode_frame}
 use Rattle.frame_decode.specs.declared.FrameHeader.{FrameHeader}
 use Rattle.frame_decode.specs.declared.FrameHeader.TheVariants.{AddPair}
 use Rattle.frame_decode.specs.declared.DecodedFrame.{DecodedFrame}
 use Rattle.frame_decode.specs.declared.DecodedFrame.TheVariants.{Frame as FrameDecoded, Bad}
-use Rattle.frame_decode.specs.Header.{headerOf, decodedOf, decodedAlone}
+use Rattle.frame_decode.specs.Header.{header_of, decoded_of, decoded_alone}
 
 -- Fewer than two bytes contain no length.
-too_few : (x : Text) → length x < 2 → firstField x ≡ none
+too_few : (x : Text) → length x < 2 → first_field x ≡ none
 too_few [] h = refl
 too_few (a ∷ []) h = refl
 too_few (a ∷ b ∷ x) h = absurd (omega arith)
@@ -36,9 +36,9 @@ two_at (suc n) (a ∷ r) h =
     let z : suc n + 2 ≡ suc (n + 2) = omega arith in
     rw (y, z) (two_at n r (omega arith))
 
-not-nil : (x : Text) → 0 < length x → isNil x ≡ false
-not-nil [] h = absurd (omega arith)
-not-nil (a ∷ x) h = refl
+not_nil : (x : Text) → 0 < length x → is_nil x ≡ false
+not_nil [] h = absurd (omega arith)
+not_nil (a ∷ x) h = refl
 
 -- The number that two bytes of a payload encode.
 abbrev number_at : Text → ℕ → ℕ
@@ -47,61 +47,61 @@ number_at b at = 256 * get_or b at 0 + get_or b (at + 1) 0
 -- The payload of a pair.
 module _ (f : Text → Text → Action) where
   -- A source that leaves no space for the target's length.
-  no_target : (h l : ℕ) (r : Text) → length r < 256 * h + l + 2 → none ≡ withSource f (firstField (h ∷ l ∷ r))
+  no_target : (h l : ℕ) (r : Text) → length r < 256 * h + l + 2 → none ≡ with_source f (first_field (h ∷ l ∷ r))
   no_target h l r k = go (leb (256 * h + l) (length r)) refl
     where
       go : (b : Bool) → leb (256 * h + l) (length r) ≡ b
-          → none ≡ withSource f (cond b (some (record { text = take (256 * h + l) r; rest = drop (256 * h + l) r })) none)
+          → none ≡ with_source f (cond b (some (record { text = take (256 * h + l) r; rest = drop (256 * h + l) r })) none)
       go true e =
-          sym (ap (withTarget f (take (256 * h + l) r)) (too_few (drop (256 * h + l) r) (rw (length-drop (256 * h + l) r) (omega (arith, leb-true (256 * h + l) (length r) e, k)))))
+          sym (ap (with_target f (take (256 * h + l) r)) (too_few (drop (256 * h + l) r) (rw (length-drop (256 * h + l) r) (omega (arith, leb-true (256 * h + l) (length r) e, k)))))
       go false e = refl
 
   -- A target after the source.
-  with-target : (h l : ℕ) (r : Text) (n : ℕ) → n ≡ 256 * h + l → n + 2 ≤ length r
-      → withSource f (firstField (h ∷ l ∷ r)) ≡ withTarget f (take n r) (field (256 * get_or r n 0 + get_or r (n + 1) 0) (drop (n + 2) r))
-  with-target h l r n e k =
-      rw (← e, le-leb n (length r) (omega (arith, k))) (ap (λ (x : Text). withTarget f (take n r) (firstField x)) (two_at n r k))
+  with_target_lem : (h l : ℕ) (r : Text) (n : ℕ) → n ≡ 256 * h + l → n + 2 ≤ length r
+      → with_source f (first_field (h ∷ l ∷ r)) ≡ with_target f (take n r) (field (256 * get_or r n 0 + get_or r (n + 1) 0) (drop (n + 2) r))
+  with_target_lem h l r n e k =
+      rw (← e, le-leb n (length r) (omega (arith, k))) (ap (λ (x : Text). with_target f (take n r) (first_field x)) (two_at n r k))
 
   -- A target that does not fill the frame, and one that does.
-  not-filled : (s : Text) (m : ℕ) (x : Text) → length x ≢ m → none ≡ withTarget f s (field m x)
-  not-filled s m x k = go (leb m (length x)) refl
+  not_filled : (s : Text) (m : ℕ) (x : Text) → length x ≢ m → none ≡ with_target f s (field m x)
+  not_filled s m x k = go (leb m (length x)) refl
     where
-      go : (b : Bool) → leb m (length x) ≡ b → none ≡ withTarget f s (cond b (some (record { text = take m x; rest = drop m x })) none)
+      go : (b : Bool) → leb m (length x) ≡ b → none ≡ with_target f s (cond b (some (record { text = take m x; rest = drop m x })) none)
       go true e =
           sym (ap (λ (b : Bool). cond b (some (f s (take m x))) none)
-          (not-nil (drop m x) (rw (length-drop m x) (omega (arith, leb-true m (length x) e, k)))))
+          (not_nil (drop m x) (rw (length-drop m x) (omega (arith, leb-true m (length x) e, k)))))
       go false e = refl
 
-  filled : (s : Text) (m : ℕ) (x : Text) → length x ≡ m → some (f s (take m x)) ≡ withTarget f s (field m x)
+  filled : (s : Text) (m : ℕ) (x : Text) → length x ≡ m → some (f s (take m x)) ≡ with_target f s (field m x)
   filled s m x k =
       rw (le-leb m (length x) (omega (arith, k)))
-      (sym (ap (λ (b : Bool). cond b (some (f s (take m x))) none) (nil-length (drop m x) (rw (length-drop m x) (omega (arith, k))))))
+      (sym (ap (λ (b : Bool). cond b (some (f s (take m x))) none) (nil_length (drop m x) (rw (length-drop m x) (omega (arith, k))))))
 
   module _ (p : Text) where
-    short : length p < 4 → none ≡ withSource f (firstField p)
+    short : length p < 4 → none ≡ with_source f (first_field p)
     short h = go p h
       where
-        go : (p : Text) → length p < 4 → none ≡ withSource f (firstField p)
+        go : (p : Text) → length p < 4 → none ≡ with_source f (first_field p)
         go [] k = refl
         go (h ∷ []) k = refl
         go (h ∷ l ∷ r) k = no_target h l r (omega (arith, k))
 
     module _ (k : 4 ≤ length p) (n : ℕ) (e : n ≡ number_at p 0) where
-      over : length p - 4 < n → none ≡ withSource f (firstField p)
+      over : length p - 4 < n → none ≡ with_source f (first_field p)
       over h = go p k e h
         where
-          go : (p : Text) → 4 ≤ length p → n ≡ number_at p 0 → length p - 4 < n → none ≡ withSource f (firstField p)
+          go : (p : Text) → 4 ≤ length p → n ≡ number_at p 0 → length p - 4 < n → none ≡ with_source f (first_field p)
           go [] k e h = absurd (omega arith)
           go (x ∷ []) k e h = absurd (omega arith)
           go (x ∷ y ∷ r) k e h = no_target x y r (omega (arith, k, e, h))
 
       module _ (l : n ≤ length p - 4) (m : ℕ) (g : m ≡ number_at p (2 + n)) where
         -- The payload, split at the target's length and the target.
-        opened : withSource f (firstField p) ≡ withTarget f (take n (drop 2 p)) (field m (drop (4 + n) p))
+        opened : with_source f (first_field p) ≡ with_target f (take n (drop 2 p)) (field m (drop (4 + n) p))
         opened = go p k e l g
           where
             go : (p : Text) → 4 ≤ length p → n ≡ number_at p 0 → n ≤ length p - 4 → m ≡ number_at p (2 + n)
-                → withSource f (firstField p) ≡ withTarget f (take n (drop 2 p)) (field m (drop (4 + n) p))
+                → with_source f (first_field p) ≡ with_target f (take n (drop 2 p)) (field m (drop (4 + n) p))
             go [] k e l g = absurd (omega arith)
             go (x ∷ []) k e l g = absurd (omega arith)
             go (x ∷ y ∷ r) k e l g =
@@ -111,88 +111,88 @@ module _ (f : Text → Text → Action) where
                 let w : m ≡ 256 * get_or r n 0 + get_or r (n + 1) 0
                 = g ∙ ap (λ (v : ℕ). 256 * get_or (x ∷ y ∷ r) v 0 + get_or (x ∷ y ∷ r) (2 + n + 1) 0) i
                 ∙ ap (λ (v : ℕ). 256 * get_or r n 0 + get_or (x ∷ y ∷ r) v 0) j in
-                with-target x y r n e (omega (arith, k, l))
-                ∙ ap (λ (v : ℕ). withTarget f (take n r) (field v (drop (n + 2) r))) (sym w)
-                ∙ ap (λ (v : ℕ). withTarget f (take n r) (field m (drop v (x ∷ y ∷ r)))) (sym o)
+                with_target_lem x y r n e (omega (arith, k, l))
+                ∙ ap (λ (v : ℕ). with_target f (take n r) (field v (drop (n + 2) r))) (sym w)
+                ∙ ap (λ (v : ℕ). with_target f (take n r) (field m (drop v (x ∷ y ∷ r)))) (sym o)
 
         left : length (drop (4 + n) p) ≡ length p - 4 - n
         left = length-drop (4 + n) p ∙ omega arith
 
-        other : length p - 4 - n ≢ m → none ≡ withSource f (firstField p)
-        other h = not-filled (take n (drop 2 p)) m (drop (4 + n) p) (λ z. h (sym left ∙ z)) ∙ sym opened
+        other : length p - 4 - n ≢ m → none ≡ with_source f (first_field p)
+        other h = not_filled (take n (drop 2 p)) m (drop (4 + n) p) (λ z. h (sym left ∙ z)) ∙ sym opened
 
-        whole : length p - 4 - n ≡ m → some (f (take n (drop 2 p)) (take m (drop (4 + n) p))) ≡ withSource f (firstField p)
+        whole : length p - 4 - n ≡ m → some (f (take n (drop 2 p)) (take m (drop (4 + n) p))) ≡ with_source f (first_field p)
         whole h = filled (take n (drop 2 p)) m (drop (4 + n) p) (left ∙ h) ∙ sym opened
 
 -- `decode_pair`
 module _ (k : ℕ) (p : Text) where
   -- The parse result for the action.
   abbrev decoded : Option Action → DecodedFrame
-  decoded o = decodedOf (withKind k o)
+  decoded o = decoded_of (with_kind k o)
 
-  pub pair-short : length p < 4 → Bad ≡ decoded (withSource add-pair (firstField p))
-  pair-short h = ap decoded (short add-pair p h)
+  pub pair_short : length p < 4 → Bad ≡ decoded (with_source add_one_pair (first_field p))
+  pair_short h = ap decoded (short add_one_pair p h)
 
   module _ (h : 4 ≤ length p) (n : ℕ) (e : n ≡ number_at p 0) where
-    pub pair-over : length p - 4 < n → Bad ≡ decoded (withSource add-pair (firstField p))
-    pair-over l = ap decoded (over add-pair p h n e l)
+    pub pair_over : length p - 4 < n → Bad ≡ decoded (with_source add_one_pair (first_field p))
+    pair_over l = ap decoded (over add_one_pair p h n e l)
 
     module _ (l : n ≤ length p - 4) (m : ℕ) (g : m ≡ number_at p (2 + n)) where
-      pub pair-other : length p - 4 - n ≢ m → Bad ≡ decoded (withSource add-pair (firstField p))
-      pair-other w = ap decoded (other add-pair p h n e l m g w)
+      pub pair_other : length p - 4 - n ≢ m → Bad ≡ decoded (with_source add_one_pair (first_field p))
+      pair_other w = ap decoded (other add_one_pair p h n e l m g w)
 
-      pub pair-filled : length p - 4 - n ≡ m → FrameDecoded k (AddPair n m) ≡ decoded (withSource add-pair (firstField p))
+      pub pair-filled : length p - 4 - n ≡ m → FrameDecoded k (AddPair n m) ≡ decoded (with_source add_one_pair (first_field p))
       pair-filled w =
           let s : length (take n (drop 2 p)) ≡ n = length-take-le n (drop 2 p) (rw (length-drop 2 p) (omega (arith, h, l))) in
           let t : length (take m (drop (4 + n) p)) ≡ m
-          = length-take-le m (drop (4 + n) p) (rw (left add-pair p h n e l m g ∙ w) (omega arith)) in
+          = length-take-le m (drop (4 + n) p) (rw (left add_one_pair p h n e l m g ∙ w) (omega arith)) in
           ap (λ (i : ℕ). FrameDecoded k (AddPair i m)) (sym s) ∙ ap (λ (j : ℕ). FrameDecoded k (AddPair (length (take n (drop 2 p))) j)) (sym t)
-          ∙ ap decoded (whole add-pair p h n e l m g w)
+          ∙ ap decoded (whole add_one_pair p h n e l m g w)
 
-pub ruleset fills = (pair-short, pair-over, pair-other, pair-filled)
+pub ruleset fills = (pair_short, pair_over, pair_other, pair-filled)
 
 -- `decode_nothing`
 module _ (k : ℕ) (p : Text) (h : FrameHeader) where
-  pub alone-more : 0 < length p → Bad ≡ decodedAlone k p h
-  alone-more l = rw (not-nil p l) refl
+  pub alone_more : 0 < length p → Bad ≡ decoded_alone k p h
+  alone_more l = rw (not_nil p l) refl
 
-  pub alone-only : length p ≤ 0 → FrameDecoded k h ≡ decodedAlone k p h
-  alone-only l = rw (nil-length p (omega (arith, l))) refl
+  pub alone_only : length p ≤ 0 → FrameDecoded k h ≡ decoded_alone k p h
+  alone_only l = rw (nil_length p (omega (arith, l))) refl
 
-pub ruleset alone = (alone-more, alone-only)
+pub ruleset alone = (alone_more, alone_only)
 
 -- `decode_kind`: an arm for the kind j, whose line in the table has the form f.
 module _ (k j : ℕ) (p : Text) (h : k ≡ j) (f : Form) (e : form_of j kinds ≡ some f) (r : DecodedFrame) where
-  pub of-kind : r ≡ decodedOf (withKind k (decodePayload f p)) → r ≡ decodedOf (withKind k (decodeForm (form_of k kinds) p))
-  of-kind w = rw (ap (λ (i : ℕ). form_of i kinds) h ∙ e) w
+  pub of_kind : r ≡ decoded_of (with_kind k (decode_payload f p)) → r ≡ decoded_of (with_kind k (decode_form (form_of k kinds) p))
+  of_kind w = rw (ap (λ (i : ℕ). form_of i kinds) h ∙ e) w
 
 -- An arm for a kind that has no bytes after the kind byte.
-pub of-kind-alone : (k j : ℕ) (p : Text) → k ≡ j → (a : Action) → form_of j kinds ≡ some (no_payload a) → (r : DecodedFrame) → r ≡ decodedAlone k p (headerOf a)
-    → r ≡ decodedOf (withKind k (decodeForm (form_of k kinds) p))
-of-kind-alone k j p h a e r w = of-kind k j p h (no_payload a) e r (w ∙ go (isNil p))
+pub of_kind_alone : (k j : ℕ) (p : Text) → k ≡ j → (a : Action) → form_of j kinds ≡ some (no_payload a) → (r : DecodedFrame) → r ≡ decoded_alone k p (header_of a)
+    → r ≡ decoded_of (with_kind k (decode_form (form_of k kinds) p))
+of_kind_alone k j p h a e r w = of_kind k j p h (no_payload a) e r (w ∙ go (is_nil p))
   where
-    go : (t : Bool) → cond t (FrameDecoded k (headerOf a)) Bad ≡ decodedOf (withKind k (cond t (some a) none))
+    go : (t : Bool) → cond t (FrameDecoded k (header_of a)) Bad ≡ decoded_of (with_kind k (cond t (some a) none))
     go true = refl
     go false = refl
 
-pub kind-other : (k : ℕ) (p : Text) → k ≢ 1 → k ≢ 2 → k ≢ 3 → k ≢ 4 → k ≢ 5 → k ≢ 6 → k ≢ 7 → Bad ≡ decodedOf (withKind k (decodeForm (form_of k kinds) p))
-kind-other k p a c d e f g h = rw (ne_eqb k 1 a, ne_eqb k 2 c, ne_eqb k 3 d, ne_eqb k 4 e, ne_eqb k 5 f, ne_eqb k 6 g, ne_eqb k 7 h)
+pub kind_other : (k : ℕ) (p : Text) → k ≢ 1 → k ≢ 2 → k ≢ 3 → k ≢ 4 → k ≢ 5 → k ≢ 6 → k ≢ 7 → Bad ≡ decoded_of (with_kind k (decode_form (form_of k kinds) p))
+kind_other k p a c d e f g h = rw (ne_eqb k 1 a, ne_eqb k 2 c, ne_eqb k 3 d, ne_eqb k 4 e, ne_eqb k 5 f, ne_eqb k 6 g, ne_eqb k 7 h)
 
 -- `decode_frame`
 module _ (b : Text) where
-  pub frame-empty : length b ≡ 0 → Bad ≡ decodedOf (decodeFrame b)
-  unfolding decodeFrame
-  frame-empty h = ap decodedOf (go b h)
+  pub frame_empty : length b ≡ 0 → Bad ≡ decoded_of (decode_frame b)
+  unfolding decode_frame
+  frame_empty h = ap decoded_of (go b h)
     where
-      go : (b : Text) → length b ≡ 0 → none ≡ decodeFrame b
+      go : (b : Text) → length b ≡ 0 → none ≡ decode_frame b
       go [] h = refl
       go (a ∷ b) h = absurd (omega arith)
 
-  pub frame-kind : length b ≢ 0 → (p : Text) → p ≡ drop 1 b → (r : DecodedFrame)
-      → r ≡ decodedOf (withKind (get_or b 0 0) (decodeForm (form_of (get_or b 0 0) kinds) p)) → r ≡ decodedOf (decodeFrame b)
-  unfolding decodeFrame
-  frame-kind h p w r e = e ∙ ap decodedOf (ap (λ (x : Text). withKind (get_or b 0 0) (decodeForm (form_of (get_or b 0 0) kinds) x)) w ∙ go b h)
+  pub frame_kind : length b ≢ 0 → (p : Text) → p ≡ drop 1 b → (r : DecodedFrame)
+      → r ≡ decoded_of (with_kind (get_or b 0 0) (decode_form (form_of (get_or b 0 0) kinds) p)) → r ≡ decoded_of (decode_frame b)
+  unfolding decode_frame
+  frame_kind h p w r e = e ∙ ap decoded_of (ap (λ (x : Text). with_kind (get_or b 0 0) (decode_form (form_of (get_or b 0 0) kinds) x)) w ∙ go b h)
     where
-      go : (b : Text) → length b ≢ 0 → withKind (get_or b 0 0) (decodeForm (form_of (get_or b 0 0) kinds) (drop 1 b)) ≡ decodeFrame b
+      go : (b : Text) → length b ≢ 0 → with_kind (get_or b 0 0) (decode_form (form_of (get_or b 0 0) kinds) (drop 1 b)) ≡ decode_frame b
       go [] h = absurd (h refl)
       go (a ∷ b) h = refl

@@ -10,28 +10,28 @@ use lib.Seq.{length-take-le}
 use borrow.Author.Tests.{le-leb, lt-leb, leb-true, leb-false}
 use Rattle.text.specs.Text.{Text, written}
 use Rattle.text.proofs.WriteLaws.{placed_first, read_back}
-use Rattle.line_reader.specs.Lines.{text, overlong, lineCapacity, lineInBuffer}
-use Rattle.hex.specs.Hex.{decodeHex}
-use Rattle.hex.specs.Calls.{decodeReply, decodeBuffer}
+use Rattle.line_reader.specs.Lines.{text, overlong, line_capacity, line_in_buffer}
+use Rattle.hex.specs.Hex.{decode_hex}
+use Rattle.hex.specs.Calls.{decode_reply, decode_buffer}
 use Rattle.hex.specs.declared.Decoded.{Decoded}
 use Rattle.hex.specs.declared.Decoded.TheVariants.{Bytes, Bad as BadDigits, Over}
-use Rattle.hex.proofs.DecodeLaws.{decoded-length}
-use Rattle.frames_spec.specs.Frame.{decodeFrame}
-use Rattle.frames_spec.specs.Input.{frameOfBytes, parseLine}
-use Rattle.frame_decode.specs.LineBytes.{lineBytes, decodedCount}
+use Rattle.hex.proofs.DecodeLaws.{decoded_length}
+use Rattle.frames_spec.specs.Frame.{decode_frame}
+use Rattle.frames_spec.specs.Input.{frame_of_bytes, parse_line}
+use Rattle.frame_decode.specs.LineBytes.{line_bytes, decoded_count}
 
 -- The capacity of a line buffer is its length, but at most 4,096.
-capacity-most : (n : ℕ) → (lineCapacity n ≤ 4096) × (lineCapacity n ≤ n)
-unfolding lineCapacity
-capacity-most n = go (leb n 4096) refl
+capacity_most : (n : ℕ) → (line_capacity n ≤ 4096) × (line_capacity n ≤ n)
+unfolding line_capacity
+capacity_most n = go (leb n 4096) refl
   where
     go : (b : Bool) → leb n 4096 ≡ b → (cond b n 4096 ≤ 4096) × (cond b n 4096 ≤ n)
     go true e = (leb-true n 4096 e, omega arith)
     go false e = (omega arith, omega (arith, leb-false n 4096 e))
 
-capacity-least : (n len : ℕ) → len ≤ 4096 → len ≤ n → len ≤ lineCapacity n
-unfolding lineCapacity
-capacity-least n len h i = go (leb n 4096)
+capacity_least : (n len : ℕ) → len ≤ 4096 → len ≤ n → len ≤ line_capacity n
+unfolding line_capacity
+capacity_least n len h i = go (leb n 4096)
   where
     go : (b : Bool) → len ≤ cond b n 4096
     go true = i
@@ -43,7 +43,7 @@ count (Bytes n) = n
 count BadDigits = 0
 count Over = 0
 
-counts : (o : Option Text) (room : ℕ) → count (decodeReply o room) ≡ decodedCount o room
+counts : (o : Option Text) (room : ℕ) → count (decode_reply o room) ≡ decoded_count o room
 counts none room = refl
 counts (some t) room = go (leb (length t) room)
   where
@@ -56,26 +56,26 @@ module _ (line : Text) (len : ℕ) where
   -- The function returned the number r and left these bytes in the buffer.
   abbrev pub Decodes : ℕ → Text → Text → Type 0
   Decodes r before bytes =
-      (r ≡ decodedCount (lineBytes (lineInBuffer len line)) (length before)) × (bytes ≡ decodeBuffer (lineBytes (lineInBuffer len line)) before)
+      (r ≡ decoded_count (line_bytes (line_in_buffer len line)) (length before)) × (bytes ≡ decode_buffer (line_bytes (line_in_buffer len line)) before)
 
-  silent : (before : Text) → lineCapacity (length line) < len → Decodes 0 before before
-  unfolding lineBytes lineInBuffer
-  silent before h = rw (lt-leb len (lineCapacity (length line)) h) (refl, refl)
+  silent : (before : Text) → line_capacity (length line) < len → Decodes 0 before before
+  unfolding line_bytes line_in_buffer
+  silent before h = rw (lt-leb len (line_capacity (length line)) h) (refl, refl)
 
-  pub line-long : (before : Text) → 4096 < len → Decodes 0 before before
-  line-long before h = silent before (omega (arith, (capacity-most (length line)).0))
+  pub line_long : (before : Text) → 4096 < len → Decodes 0 before before
+  line_long before h = silent before (omega (arith, (capacity_most (length line)).0))
 
-  pub line-beyond : (before : Text) → length line < len → Decodes 0 before before
-  line-beyond before h = silent before (omega (arith, (capacity-most (length line)).1))
+  pub line_beyond : (before : Text) → length line < len → Decodes 0 before before
+  line_beyond before h = silent before (omega (arith, (capacity_most (length line)).1))
 
   module _ (h : len ≤ 4096) (i : len ≤ length line) (d : Decoded) (before bytes : Text)
-      (e : d ≡ decodeReply (decodeHex (take len line)) (length before)) (f : bytes ≡ decodeBuffer (decodeHex (take len line)) before) where
-    in-line : lineBytes (lineInBuffer len line) ≡ decodeHex (take len line)
-    unfolding lineBytes lineInBuffer
-    in-line = rw (le-leb len (lineCapacity (length line)) (capacity-least (length line) len h i)) refl
+      (e : d ≡ decode_reply (decode_hex (take len line)) (length before)) (f : bytes ≡ decode_buffer (decode_hex (take len line)) before) where
+    in-line : line_bytes (line_in_buffer len line) ≡ decode_hex (take len line)
+    unfolding line_bytes line_in_buffer
+    in-line = rw (le-leb len (line_capacity (length line)) (capacity_least (length line) len h i)) refl
 
     decoded : Decodes (count d) before bytes
-    decoded = rw in-line (ap count e ∙ counts (decodeHex (take len line)) (length before), f)
+    decoded = rw in-line (ap count e ∙ counts (decode_hex (take len line)) (length before), f)
 
     pub line-bytes : (n : ℕ) → d ≡ Bytes n → Decodes n before bytes
     line-bytes n w = rw w at decoded
@@ -88,36 +88,36 @@ module _ (line : Text) (len : ℕ) where
 
 -- In a buffer of 2,048 bytes, the decoded bytes encode the frame of the line.
 module _ (line : Text) (len r : ℕ) (before bytes : Text) (room : length before ≡ 2048) (w : Decodes line len r before bytes) where
-  fits : (o : Option Text) → lineBytes (lineInBuffer len line) ≡ o → (t : Text) → o ≡ some t → length t ≤ 2048
-  unfolding lineBytes lineInBuffer
-  fits o e t f = go (leb len (lineCapacity (length line))) refl (e ∙ f)
+  fits : (o : Option Text) → line_bytes (line_in_buffer len line) ≡ o → (t : Text) → o ≡ some t → length t ≤ 2048
+  unfolding line_bytes line_in_buffer
+  fits o e t f = go (leb len (line_capacity (length line))) refl (e ∙ f)
     where
-      go : (b : Bool) → leb len (lineCapacity (length line)) ≡ b → lineBytes (cond b (text (take len line)) overlong) ≡ some t → length t ≤ 2048
+      go : (b : Bool) → leb len (line_capacity (length line)) ≡ b → line_bytes (cond b (text (take len line)) overlong) ≡ some t → length t ≤ 2048
       go true i k =
-          let c = capacity-most (length line) in
-          let s : len ≤ lineCapacity (length line) = leb-true len (lineCapacity (length line)) i in
-          omega (arith, decoded-length (take len line) t k, length-take-le len line (omega (arith, s, c.1)), s, c.0)
+          let c = capacity_most (length line) in
+          let s : len ≤ line_capacity (length line) = leb-true len (line_capacity (length line)) i in
+          omega (arith, decoded_length (take len line) t k, length-take-le len line (omega (arith, s, c.1)), s, c.0)
       go false i k = absurd (let z : ◌≡◌ {A = ℕ} 0 1 = cc in omega arith)
 
-  parsed : (o : Option Text) → lineBytes (lineInBuffer len line) ≡ o → r ≡ decodedCount o (length before) → bytes ≡ decodeBuffer o before
-      → (r ≤ length bytes) × (decodeFrame (take r bytes) ≡ frameOfBytes o)
-  unfolding decodeFrame
+  parsed : (o : Option Text) → line_bytes (line_in_buffer len line) ≡ o → r ≡ decoded_count o (length before) → bytes ≡ decode_buffer o before
+      → (r ≤ length bytes) × (decode_frame (take r bytes) ≡ frame_of_bytes o)
+  unfolding decode_frame
   parsed none e f g = rw f (omega arith, refl)
   parsed (some t) e f g =
       let l : length t ≤ 2048 = fits (some t) e t refl in
       let k : r ≡ length t = f ∙ rw (room, le-leb (length t) 2048 l) refl in
       let v : bytes ≡ written t before = g ∙ placed_first t before (rw room l) in (
         omega (arith, k, ap length v, length-append t (drop (length t) before)),
-        ap decodeFrame (ap (λ (j : ℕ). take j bytes) k ∙ ap (take (length t)) v ∙ read_back t before),
+        ap decode_frame (ap (λ (j : ℕ). take j bytes) k ∙ ap (take (length t)) v ∙ read_back t before),
       )
 
-  pub line-within : r ≤ length bytes
-  line-within = (parsed (lineBytes (lineInBuffer len line)) refl w.0 w.1).0
+  pub line_within : r ≤ length bytes
+  line_within = (parsed (line_bytes (line_in_buffer len line)) refl w.0 w.1).0
 
-  pub line-parsed : decodeFrame (take r bytes) ≡ parseLine (lineInBuffer len line)
-  unfolding parseLine lineBytes
-  line-parsed = (parsed (lineBytes (lineInBuffer len line)) refl w.0 w.1).1 ∙ same (lineInBuffer len line)
+  pub line_parsed : decode_frame (take r bytes) ≡ parse_line (line_in_buffer len line)
+  unfolding parse_line line_bytes
+  line_parsed = (parsed (line_bytes (line_in_buffer len line)) refl w.0 w.1).1 ∙ same (line_in_buffer len line)
     where
-      same : (l : _) → frameOfBytes (lineBytes l) ≡ parseLine l
+      same : (l : _) → frame_of_bytes (line_bytes l) ≡ parse_line l
       same (text t) = refl
       same overlong = refl

@@ -3,15 +3,15 @@ use Rattle.std.specs.Prelude.{ℕ, cond, leb, length}
 use Rattle.std.proofs.Math.Option.{Option, none, some}
 use Rattle.text.specs.Text.{Text}
 use Rattle.line_reader.specs.Lines.{Line, text, overlong}
-use Rattle.hex.specs.Hex.{decodeHex}
+use Rattle.hex.specs.Hex.{decode_hex}
 
 -- The bytes that a line encodes; none if it is overlong or not a line of digits.
-unfoldable pub lineBytes : Line → Option Text
-unfolding decodeHex
-lineBytes (text t) = decodeHex t
-lineBytes overlong = none
+unfoldable pub line_bytes : Line → Option Text
+unfolding decode_hex
+line_bytes (text t) = decode_hex t
+line_bytes overlong = none
 
 -- The number of decoded bytes in a buffer of capacity `room`; 0 if there are none or they do not fit.
-abbrev pub decodedCount : Option Text → ℕ → ℕ
-decodedCount none room = 0
-decodedCount (some t) room = cond (leb (length t) room) (length t) 0
+abbrev pub decoded_count : Option Text → ℕ → ℕ
+decoded_count none room = 0
+decoded_count (some t) room = cond (leb (length t) room) (length t) 0

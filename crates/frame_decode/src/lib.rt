@@ -1,10 +1,10 @@
 // Decodes the digits of a line, and parses the bytes of a frame in place, without copying them.
 ghost use Rattle.std.specs.Prelude.{◌≡◌, ◌+◌, ◌*◌, ◌≤◌, length, get_or};
-ghost use Rattle.hex.specs.Calls.{decodeBuffer};
-ghost use Rattle.line_reader.specs.Lines.{lineInBuffer};
-ghost use Rattle.frames_spec.specs.Frame.{add-pair, pair-payload, kinds, form_of, decodePayload, decodeForm, withKind, decodeFrame};
-ghost use Rattle.frame_decode.specs.Header.{decodedOf, decodedAlone};
-ghost use Rattle.frame_decode.specs.LineBytes.{lineBytes, decodedCount};
+ghost use Rattle.hex.specs.Calls.{decode_buffer};
+ghost use Rattle.line_reader.specs.Lines.{line_in_buffer};
+ghost use Rattle.frames_spec.specs.Frame.{add-pair, pair-payload, kinds, form_of, decode_payload, decode_form, with_kind, decode_frame};
+ghost use Rattle.frame_decode.specs.Header.{decoded_of, decoded_alone};
+ghost use Rattle.frame_decode.specs.LineBytes.{line_bytes, decoded_count};
 
 // What a frame asks for, with the lengths of the texts that end it; specs/Header.antt defines the action that
 // each case denotes.
@@ -46,7 +46,7 @@ fn number_at(bytes: &[u8], at: usize) -> usize
 
 // Parses the payload of a pair: two texts with their lengths that fill it exactly.
 fn decode_pair(kind: u8, payload: &[u8]) -> DecodedFrame
-    ensures { result ≡ decodedOf (withKind kind (decodePayload (pair-payload add-pair) payload.now)) }
+    ensures { result ≡ decoded_of (with_kind kind (decode_payload (pair-payload add-pair) payload.now)) }
 {
     if payload.len() < 4 {
         return DecodedFrame::Bad;
@@ -65,7 +65,7 @@ fn decode_pair(kind: u8, payload: &[u8]) -> DecodedFrame
 
 // Parses a payload of no bytes.
 fn decode_nothing(kind: u8, payload: &[u8], header: FrameHeader) -> DecodedFrame
-    ensures { result ≡ decodedAlone kind payload.now header }
+    ensures { result ≡ decoded_alone kind payload.now header }
 {
     if 0 < payload.len() {
         return DecodedFrame::Bad;
@@ -75,7 +75,7 @@ fn decode_nothing(kind: u8, payload: &[u8], header: FrameHeader) -> DecodedFrame
 
 // Parses the bytes after the kind: an arm for each line of the table of kinds.
 fn decode_kind(kind: u8, payload: &[u8]) -> DecodedFrame
-    ensures { result ≡ decodedOf (withKind kind (decodeForm (form_of kind kinds) payload.now)) }
+    ensures { result ≡ decoded_of (with_kind kind (decode_form (form_of kind kinds) payload.now)) }
 {
     match kind {
         1 => decode_pair(kind, payload),
@@ -91,7 +91,7 @@ fn decode_kind(kind: u8, payload: &[u8]) -> DecodedFrame
 
 // Parses the bytes of a frame.
 pub fn decode_frame(bytes: &[u8]) -> DecodedFrame
-    ensures { result ≡ decodedOf (decodeFrame bytes.now) }
+    ensures { result ≡ decoded_of (decode_frame bytes.now) }
 {
     if bytes.len() == 0 {
         return DecodedFrame::Bad;
@@ -102,9 +102,9 @@ pub fn decode_frame(bytes: &[u8]) -> DecodedFrame
 // Decodes the digits of a line of `len` bytes to the beginning of the buffer and returns the number of bytes; 0
 // if the line is overlong or not a line of digits, or if the bytes do not fit.
 pub fn decode_line(line: &[u8], len: usize, frame: &mut [u8]) -> usize
-    ensures value { result ≡ decodedCount (lineBytes (lineInBuffer len line.now))
+    ensures value { result ≡ decoded_count (line_bytes (line_in_buffer len line.now))
         (length frame.old) }
-    ensures frame_after { frame.new ≡ decodeBuffer (lineBytes (lineInBuffer len line.now))
+    ensures frame_after { frame.new ≡ decode_buffer (line_bytes (line_in_buffer len line.now))
         frame.old }
 {
     if 4096 < len {

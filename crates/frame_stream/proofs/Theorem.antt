@@ -9,34 +9,34 @@ use lib.ListN.{length, take, drop, length-drop, take-append-drop}
 use borrow.Author.Tests.{leb-true}
 use Rattle.text.specs.Text.{Text}
 use Rattle.text.proofs.WriteLaws.{read_back}
-use Rattle.line_reader.specs.Lines.{Line, text, lineCapacity, lineInBuffer}
-use Rattle.line_reader.specs.Blocks.{stepBlock, answerBlock, answerBlocks, AnyBlocks}
-use Rattle.line_reader.proofs.BlockLaws.{end-newline}
-use Rattle.line_reader.proofs.Theorem.{any-blocks}
-use Rattle.frames_spec.specs.Input.{maxDigits, nextLine, answerLine, output, maxAnswerLine}
-use Rattle.frames_memory.specs.Memory.{FramesMemory, stepFrameIn}
-use Rattle.frames_memory.specs.Represents.{LargeEnough, initialCounters}
-use Rattle.frames_memory.proofs.Theorem.{memory-theorems as memory-claims}
-use Rattle.frame_stream.specs.Stream.{StreamState, processBlock}
-use Rattle.frame_stream.specs.StreamTheorems.{byteMachine, streamLineCapacity, stepBlockIn, answerBlockIn, ProcessesBlock, nextCall, afterCalls, answersIn, writtenOut, runBlocks, StreamTheorems}
-use Rattle.frame_stream.proofs.StepBranches.{line-new}
-use Rattle.frame_stream.proofs.StreamLaws.{never-short, feeds, stepped-both, answered-both}
+use Rattle.line_reader.specs.Lines.{Line, text, line_capacity, line_in_buffer}
+use Rattle.line_reader.specs.Blocks.{step_block, answer_block, answer_blocks, AnyBlocks}
+use Rattle.line_reader.proofs.BlockLaws.{end_newline}
+use Rattle.line_reader.proofs.Theorem.{any_blocks}
+use Rattle.frames_spec.specs.Input.{max_digits, next_line, answer_line, output, max_answer_line}
+use Rattle.frames_memory.specs.Memory.{FramesMemory, step_frame_in}
+use Rattle.frames_memory.specs.Represents.{LargeEnough, initial_counters}
+use Rattle.frames_memory.proofs.Theorem.{memory_theorems as memory-claims}
+use Rattle.frame_stream.specs.Stream.{StreamState, process_block}
+use Rattle.frame_stream.specs.StreamTheorems.{byte_machine, stream_line_capacity, step_block_in, answer_block_in, ProcessesBlock, next_call, after_calls, answers_in, written_out, run_blocks, StreamTheorems}
+use Rattle.frame_stream.proofs.StepBranches.{line_new}
+use Rattle.frame_stream.proofs.StreamLaws.{never_short, feeds, stepped_both, answered_both}
 
 module _ (block : Text) (a a' : StreamState) (f : ProcessesBlock block a a') where
   -- The caller writes out the replies.
-  processes-answered : answersIn a' ≡ answerBlockIn a (take a'.used block)
-  processes-answered =
-      ap (λ (n : ℕ). take n a'.out) f.ends ∙ ap (take (length (answerBlockIn a (take a'.used block)))) f.wrote
-      ∙ read_back (answerBlockIn a (take a'.used block)) a.out
+  processes_answered : answers_in a' ≡ answer_block_in a (take a'.used block)
+  processes_answered =
+      ap (λ (n : ℕ). take n a'.out) f.ends ∙ ap (take (length (answer_block_in a (take a'.used block)))) f.wrote
+      ∙ read_back (answer_block_in a (take a'.used block)) a.out
 
   -- A call with space for one reply consumes at least one byte.
-  processes-on : 0 < length block → maxAnswerLine ≤ length a.out → 0 < a'.used
-  unfolding answerBlock
-  processes-on b h = go a'.used refl
+  processes_on : 0 < length block → max_answer_line ≤ length a.out → 0 < a'.used
+  unfolding answer_block
+  processes_on b h = go a'.used refl
     where
       go : (n : ℕ) → a'.used ≡ n → 0 < n
       go zero e =
-          let s : a'.end ≡ 0 = f.ends ∙ ap (λ (n : ℕ). length (answerBlockIn a (take n block))) e in
+          let s : a'.end ≡ 0 = f.ends ∙ ap (λ (n : ℕ). length (answer_block_in a (take n block))) e in
           absurd (omega (arith, f.further (omega (arith, e)), s))
       go (suc n) e = omega arith
 
@@ -44,24 +44,24 @@ module _ (block : Text) (a a' : StreamState) (f : ProcessesBlock block a a') whe
   both : take a'.used block ++ drop a'.used block ≡ block
   both = take-append-drop a'.used block
 
-  pub stepped_then : stepBlockIn a block ≡ stepBlockIn a' (drop a'.used block)
-  stepped_then = ap (stepBlockIn a) (sym both) ∙ stepped-both a a' (take a'.used block) (drop a'.used block) f.line f.state
+  pub stepped_then : step_block_in a block ≡ step_block_in a' (drop a'.used block)
+  stepped_then = ap (step_block_in a) (sym both) ∙ stepped_both a a' (take a'.used block) (drop a'.used block) f.line f.state
 
-  pub answered-then : answerBlockIn a block ≡ answersIn a' ++ answerBlockIn a' (drop a'.used block)
-  answered-then =
-      ap (answerBlockIn a) (sym both) ∙ answered-both a a' (take a'.used block) (drop a'.used block) f.line f.state
-      ∙ ap (λ (s : Text). s ++ answerBlockIn a' (drop a'.used block)) (sym processes-answered)
+  pub answered_then : answer_block_in a block ≡ answers_in a' ++ answer_block_in a' (drop a'.used block)
+  answered_then =
+      ap (answer_block_in a) (sym both) ∙ answered_both a a' (take a'.used block) (drop a'.used block) f.line f.state
+      ∙ ap (λ (s : Text). s ++ answer_block_in a' (drop a'.used block)) (sym processes_answered)
 
 -- Calls until the block is consumed.
 record Called (n : ℕ) (block : Text) (a : StreamState) : Type 0 where
-  state : stepBlockIn a block ≡ byteMachine (afterCalls n block a)
-  wrote : answerBlockIn a block ≡ writtenOut n block a
-  line : length (afterCalls n block a).line ≡ length a.line
-  room : length (afterCalls n block a).out ≡ length a.out
+  state : step_block_in a block ≡ byte_machine (after_calls n block a)
+  wrote : answer_block_in a block ≡ written_out n block a
+  line : length (after_calls n block a).line ≡ length a.line
+  room : length (after_calls n block a).out ≡ length a.out
 
-module _ (n : ℕ) (block : Text) (a : StreamState) (h : length block ≤ suc n) (r : maxAnswerLine ≤ length a.out) where
+module _ (n : ℕ) (block : Text) (a : StreamState) (h : length block ≤ suc n) (r : max_answer_line ≤ length a.out) where
   abbrev after_one : StreamState
-  after_one = processBlock block (nextCall a)
+  after_one = process_block block (next_call a)
 
   abbrev rest : Text
   rest = drop after_one.used block
@@ -71,74 +71,74 @@ module _ (n : ℕ) (block : Text) (a : StreamState) (h : length block ≤ suc n)
     where
       go : (k : ℕ) → length block ≡ k → length rest ≤ n
       go zero e = omega (arith, length-drop after_one.used block, e)
-      go (suc k) e = omega (arith, length-drop after_one.used block, processes-on block (nextCall a) after_one (feeds block a) (omega (arith, e)) r)
+      go (suc k) e = omega (arith, length-drop after_one.used block, processes_on block (next_call a) after_one (feeds block a) (omega (arith, e)) r)
 
-  still-room : maxAnswerLine ≤ length after_one.out
-  still-room = omega (arith, (feeds block a).room, r)
+  still_room : max_answer_line ≤ length after_one.out
+  still_room = omega (arith, (feeds block a).room, r)
 
   called_on : Called n rest after_one → Called (suc n) block a
-  unfolding afterCalls writtenOut
+  unfolding after_calls written_out
   called_on c =
       let f = feeds block a in
       record {
-        state = stepped_then block (nextCall a) after_one f ∙ c.state;
-        wrote = answered-then block (nextCall a) after_one f ∙ ap (λ (s : Text). answersIn after_one ++ s) c.wrote;
+        state = stepped_then block (next_call a) after_one f ∙ c.state;
+        wrote = answered_then block (next_call a) after_one f ∙ ap (λ (s : Text). answers_in after_one ++ s) c.wrote;
         line = c.line ∙ f.line;
         room = c.room ∙ f.room;
       }
 
-called : (n : ℕ) (block : Text) (a : StreamState) → length block ≤ n → maxAnswerLine ≤ length a.out → Called n block a
-unfolding afterCalls writtenOut stepBlock answerBlock
+called : (n : ℕ) (block : Text) (a : StreamState) → length block ≤ n → max_answer_line ≤ length a.out → Called n block a
+unfolding after_calls written_out step_block answer_block
 called zero [] a h r = record { state = refl; wrote = refl; line = refl; room = refl }
 called zero (b ∷ s) a h r = absurd (omega arith)
-called (suc n) block a h r = called_on n block a h r (called n (rest n block a h r) (after_one n block a h r) (less n block a h r) (still-room n block a h r))
+called (suc n) block a h r = called_on n block a h r (called n (rest n block a h r) (after_one n block a h r) (less n block a h r) (still_room n block a h r))
 
 -- All blocks, and the end of the input.
-pub runs-blocks : (bs : List Text) (a : StreamState) → maxAnswerLine ≤ length a.out
-    → runBlocks bs a ≡ answerBlocks (streamLineCapacity a) (nextLine stepFrameIn) (answerLine stepFrameIn) (byteMachine a) bs
-unfolding runBlocks answerBlocks
-runs-blocks [] a r =
+pub runs_blocks : (bs : List Text) (a : StreamState) → max_answer_line ≤ length a.out
+    → run_blocks bs a ≡ answer_blocks (stream_line_capacity a) (next_line step_frame_in) (answer_line step_frame_in) (byte_machine a) bs
+unfolding run_blocks answer_blocks
+runs_blocks [] a r =
     ap (λ (s : Text). cond (leb 1 a.len) s []) (sym (called 1 (10 ∷ []) a (omega arith) r).wrote)
-    ∙ sym (end-newline (nextLine stepFrameIn) (answerLine stepFrameIn) a.mem a.len a.line)
-runs-blocks (b ∷ bs) a r =
+    ∙ sym (end_newline (next_line step_frame_in) (answer_line step_frame_in) a.mem a.len a.line)
+runs_blocks (b ∷ bs) a r =
     let c = called (length b) b a (omega arith) r in
-    let a' : StreamState = afterCalls (length b) b a in
-    let rest : runBlocks bs a' ≡ answerBlocks (streamLineCapacity a) (nextLine stepFrameIn) (answerLine stepFrameIn) (stepBlockIn a b) bs
-    = runs-blocks bs a' (omega (arith, c.room, r))
-    ∙ ap (λ (n : ℕ). answerBlocks (lineCapacity n) (nextLine stepFrameIn) (answerLine stepFrameIn) (byteMachine a') bs) c.line
-    ∙ ap (λ (x : Line × FramesMemory). answerBlocks (streamLineCapacity a) (nextLine stepFrameIn) (answerLine stepFrameIn) x bs) (sym c.state) in
-    ap (λ (s : Text). s ++ runBlocks bs a') (sym c.wrote) ∙ ap (λ (s : Text). answerBlockIn a b ++ s) rest
+    let a' : StreamState = after_calls (length b) b a in
+    let rest : run_blocks bs a' ≡ answer_blocks (stream_line_capacity a) (next_line step_frame_in) (answer_line step_frame_in) (step_block_in a b) bs
+    = runs_blocks bs a' (omega (arith, c.room, r))
+    ∙ ap (λ (n : ℕ). answer_blocks (line_capacity n) (next_line step_frame_in) (answer_line step_frame_in) (byte_machine a') bs) c.line
+    ∙ ap (λ (x : Line × FramesMemory). answer_blocks (stream_line_capacity a) (next_line step_frame_in) (answer_line step_frame_in) x bs) (sym c.state) in
+    ap (λ (s : Text). s ++ run_blocks bs a') (sym c.wrote) ∙ ap (λ (s : Text). answer_block_in a b ++ s) rest
 
-any-blocks-answered : (m : FramesMemory) → LargeEnough m → m.kept ≡ initialCounters → (bs : List Text)
-    → answerBlocks maxDigits (nextLine stepFrameIn) (answerLine stepFrameIn) (text [], m) bs ≡ output (flatten bs)
+any_blocks_answered : (m : FramesMemory) → LargeEnough m → m.kept ≡ initial_counters → (bs : List Text)
+    → answer_blocks max_digits (next_line step_frame_in) (answer_line step_frame_in) (text [], m) bs ≡ output (flatten bs)
 unfolding AnyBlocks
-any-blocks-answered m large e bs =
-    any-blocks FramesMemory maxDigits (nextLine stepFrameIn) (answerLine stepFrameIn) m bs ∙ memory-claims.writes m large e (flatten bs)
+any_blocks_answered m large e bs =
+    any_blocks FramesMemory max_digits (next_line step_frame_in) (answer_line step_frame_in) m bs ∙ memory-claims.writes m large e (flatten bs)
 
 -- A new line, in a line buffer of at least 4,096 bytes.
-most-digits : (room : ℕ) → maxDigits ≤ room → lineCapacity room ≡ maxDigits
-unfolding lineCapacity
-most-digits room h = go (leb room 4096) refl
+most_digits : (room : ℕ) → max_digits ≤ room → line_capacity room ≡ max_digits
+unfolding line_capacity
+most_digits room h = go (leb room 4096) refl
   where
     go : (v : Bool) → leb room 4096 ≡ v → cond v room 4096 ≡ 4096
     go true e = omega (arith, leb-true room 4096 e)
     go false e = refl
 
-begins : (a : StreamState) → a.len ≡ 0 → byteMachine a ≡ (text [], a.mem)
-begins a z = ap (λ (n : ℕ). (lineInBuffer n a.line, a.mem)) z ∙ ap (λ (l : Line). (l, a.mem)) (line-new a.line)
+begins : (a : StreamState) → a.len ≡ 0 → byte_machine a ≡ (text [], a.mem)
+begins a z = ap (λ (n : ℕ). (line_in_buffer n a.line, a.mem)) z ∙ ap (λ (l : Line). (l, a.mem)) (line_new a.line)
 
-pub runs : (a : StreamState) → LargeEnough a.mem → a.mem.kept ≡ initialCounters → a.len ≡ 0 → maxDigits ≤ length a.line → maxAnswerLine ≤ length a.out
-    → (bs : List Text) → runBlocks bs a ≡ output (flatten bs)
+pub runs : (a : StreamState) → LargeEnough a.mem → a.mem.kept ≡ initial_counters → a.len ≡ 0 → max_digits ≤ length a.line → max_answer_line ≤ length a.out
+    → (bs : List Text) → run_blocks bs a ≡ output (flatten bs)
 runs a large e z l r bs =
-    runs-blocks bs a r ∙ ap (λ (n : ℕ). answerBlocks n (nextLine stepFrameIn) (answerLine stepFrameIn) (byteMachine a) bs) (most-digits (length a.line) l)
-    ∙ ap (λ (x : Line × FramesMemory). answerBlocks maxDigits (nextLine stepFrameIn) (answerLine stepFrameIn) x bs) (begins a z)
-    ∙ any-blocks-answered a.mem large e bs
+    runs_blocks bs a r ∙ ap (λ (n : ℕ). answer_blocks n (next_line step_frame_in) (answer_line step_frame_in) (byte_machine a) bs) (most_digits (length a.line) l)
+    ∙ ap (λ (x : Line × FramesMemory). answer_blocks max_digits (next_line step_frame_in) (answer_line step_frame_in) x bs) (begins a z)
+    ∙ any_blocks_answered a.mem large e bs
 
-pub stream-theorems : StreamTheorems
-stream-theorems = record {
-  never-short = never-short;
+pub stream_theorems : StreamTheorems
+stream_theorems = record {
+  never_short = never_short;
   feeds = feeds;
   calls = λ block a r. let c = called (length block) block a (omega arith) r in (c.state, c.wrote);
-  any-blocks-answered = any-blocks-answered;
+  any_blocks_answered = any_blocks_answered;
   runs = runs;
 }

@@ -1,7 +1,7 @@
 // Processes input blocks of any size for the program `frames`. The lent buffers may hold anything.
 ghost use Rattle.std.specs.Prelude.{◌≡◌, ◌+◌, ◌≤◌, length};
-ghost use Rattle.frames_spec.specs.Input.{maxAnswerLine};
-ghost use Rattle.frame_stream.specs.Stream.{streamState, streamStart, streamStep, processBlock};
+ghost use Rattle.frames_spec.specs.Input.{max_answer_line};
+ghost use Rattle.frame_stream.specs.Stream.{stream_state, stream_start, stream_step, process_block};
 
 // The result of processing a block.
 #[derive(Drop)]
@@ -31,10 +31,10 @@ fn stream_step(
     end: usize,
     out: &mut [u8],
 ) -> StreamReply
-    requires { end + maxAnswerLine ≤ length out.old }
-    ensures { streamState result line.new bytes.new places.new store.new
-        slots.new table.new out.new ≡ streamStep block.now
-        (streamState (streamStart len k end) line.old bytes.old places.old
+    requires { end + max_answer_line ≤ length out.old }
+    ensures { stream_state result line.new bytes.new places.new store.new
+        slots.new table.new out.new ≡ stream_step block.now
+        (stream_state (stream_start len k end) line.old bytes.old places.old
         store.old slots.old table.old out.old) }
 {
     let t = line_reader::take_line(block, line, len);
@@ -71,9 +71,9 @@ pub fn process_block(
     table: &mut [usize],
     out: &mut [u8],
 ) -> StreamReply
-    ensures { streamState result line.new bytes.new places.new store.new
-        slots.new table.new out.new ≡ processBlock block.now
-        (streamState (streamStart len k 0) line.old bytes.old places.old
+    ensures { stream_state result line.new bytes.new places.new store.new
+        slots.new table.new out.new ≡ process_block block.now
+        (stream_state (stream_start len k 0) line.old bytes.old places.old
         store.old slots.old table.old out.old) }
 {
     let mut used = 0;

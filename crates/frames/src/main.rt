@@ -7,9 +7,9 @@
 // reads deliver (crates/frame_stream/specs/Progress.antt). Only which bytes the system's `read` delivers and
 // what its `write` does with the bytes that it is handed is open: the kit's contracts say nothing of them.
 ghost use Rattle.std.specs.Prelude.{◌≡◌, true, false, [], ◌≤◌, length};
-ghost use Rattle.frames_memory.specs.Represents.{initialCounters};
-ghost use Rattle.frame_stream.specs.Stream.{streamState, processBlock};
-ghost use Rattle.frame_stream.specs.Progress.{stateBetween, StartState, unconsumed, Reached, NextReplies, NextStep, LastStep, afterInput, Finished};
+ghost use Rattle.frames_memory.specs.Represents.{initial_counters};
+ghost use Rattle.frame_stream.specs.Stream.{stream_state, process_block};
+ghost use Rattle.frame_stream.specs.Progress.{state_between, StartState, unconsumed, Reached, NextReplies, NextStep, LastStep, after_input, Finished};
 
 use libc::{STDERR_FILENO, STDIN_FILENO, STDOUT_FILENO};
 
@@ -34,7 +34,7 @@ struct StreamNow {
 
 // The counters before the first line.
 fn initial_counters() -> frames_memory::Counters
-    ensures { result ≡ initialCounters }
+    ensures { result ≡ initial_counters }
 {
     frames_memory::Counters {
         opened: open_list::OpenList { pairs: 0, bytes: 0 },
@@ -67,11 +67,11 @@ fn answer(
     table: &mut [usize; 48],
     out: &mut [u8; 65536],
 ) -> AnswerPart
-    requires { Reached part.now (stateBetween len k line.old bytes.old places.old store.old slots.old
+    requires { Reached part.now (state_between len k line.old bytes.old places.old store.old slots.old
         table.old out.old) }
-    ensures { let a = stateBetween len k line.old bytes.old places.old store.old slots.old table.old out.old in
-        let b = streamState result.reply line.new bytes.new places.new store.new slots.new table.new out.new in
-        b ≡ processBlock part.now a }
+    ensures { let a = state_between len k line.old bytes.old places.old store.old slots.old table.old out.old in
+        let b = stream_state result.reply line.new bytes.new places.new store.new slots.new table.new out.new in
+        b ≡ process_block part.now a }
 {
     let reply = frame_stream::process_block(
         part, line, len, k, bytes, places, store, slots, table, out,
@@ -94,11 +94,11 @@ fn finish(
     table: &mut [usize; 48],
     out: &mut [u8; 65536],
 ) -> StreamNow
-    requires { Reached [] (stateBetween len k line.old bytes.old places.old store.old slots.old table.old
+    requires { Reached [] (state_between len k line.old bytes.old places.old store.old slots.old table.old
         out.old) }
-    ensures b_after { let a = stateBetween len k line.old bytes.old places.old store.old slots.old table.old out.old in
-        let b = stateBetween result.len result.kept line.new bytes.new places.new store.new slots.new table.new out.new in
-        b ≡ afterInput a }
+    ensures b_after { let a = state_between len k line.old bytes.old places.old store.old slots.old table.old out.old in
+        let b = state_between result.len result.kept line.new bytes.new places.new store.new slots.new table.new out.new in
+        b ≡ after_input a }
     ensures more_value { result.more ≡ false }
     ensures end_value { result.end ≡ 0 }
 {
@@ -143,10 +143,10 @@ fn step(
 ) -> StreamNow
     requires end_bound { end ≤ 65536 }
     requires reached { Reached (unconsumed block.old at end)
-        (stateBetween len k line.old bytes.old places.old store.old slots.old table.old out.old) }
+        (state_between len k line.old bytes.old places.old store.old slots.old table.old out.old) }
     ensures end_bound_2 { result.end ≤ 65536 }
-    ensures fact { let a = stateBetween len k line.old bytes.old places.old store.old slots.old table.old out.old in
-        let b = stateBetween result.len result.kept line.new bytes.new places.new store.new slots.new table.new out.new in
+    ensures fact { let a = state_between len k line.old bytes.old places.old store.old slots.old table.old out.old in
+        let b = state_between result.len result.kept line.new bytes.new places.new store.new slots.new table.new out.new in
         let rest = unconsumed block.old at end in
         (result.more ≡ true → NextStep rest a (unconsumed block.new result.at result.end) b) × (result.done ≡ true → LastStep rest a b) }
 {
@@ -201,10 +201,10 @@ fn run(
     table: &mut [usize; 48],
     out: &mut [u8; 65536],
 ) -> StreamNow
-    requires { StartState (stateBetween 0 initialCounters line.old bytes.old places.old store.old slots.old
+    requires { StartState (state_between 0 initial_counters line.old bytes.old places.old store.old slots.old
         table.old out.old) }
     ensures { result.done ≡ true → Finished
-        (stateBetween result.len result.kept line.new bytes.new places.new store.new
+        (state_between result.len result.kept line.new bytes.new places.new store.new
         slots.new table.new out.new) }
 {
     let mut now = StreamNow {

@@ -7,24 +7,24 @@ use native.Mathlib.Omega.{arith}
 use lib.Dec.{leb}
 use lib.ListN.{length, length-append}
 use borrow.Author.Tests.{le-leb, lt-leb, leb-true, leb-false}
-use Rattle.pair_list.specs.Pair.{allEnds, allShort}
-use Rattle.pair_list.specs.Places.{listText, listPlaces, endBytes}
-use Rattle.pair_list.proofs.ListLaws.{list_length, places-length}
+use Rattle.pair_list.specs.Pair.{all_ends, all_short}
+use Rattle.pair_list.specs.Places.{list_text, list_places, end_bytes}
+use Rattle.pair_list.proofs.ListLaws.{list_length, places_length}
 use Rattle.refusal.specs.declared.Refusal.TheVariants.{TooMany, NoRoom}
 use Rattle.refusal.specs.declared.Validation.{Validation}
 use Rattle.refusal.specs.declared.Validation.TheVariants.{Passed, Refused}
-use Rattle.map_function.proofs.NewBranches.{fromParts-bytes}
-use Rattle.route_spec.specs.Leg.{Leg, legMap, closedLeg, countedPairs}
-use Rattle.route_spec.proofs.Theorem.{map-ends}
-use Rattle.route_spec.proofs.RelocateLaws.{closed_parts, closed-few, closed-short, closed-ends}
-use Rattle.close_leg.specs.Close.{LegStore, storeHasLegRoom, storeHasByteRoom, validateClose, legEntry, withLeg, closedStore, validateCloseOf, closeStore}
-use Rattle.frames_spec.specs.State.{State, refuse, hasLegRoom, hasByteRoom, withClosedLeg, closeList, closeOpened}
-use Rattle.frames_memory.specs.Memory.{FramesMemory, openListOf, legStoreOf, closeAfter, closeIn}
+use Rattle.map_function.proofs.NewBranches.{from_parts_bytes}
+use Rattle.route_spec.specs.Leg.{Leg, leg_map, closed_leg, counted_pairs}
+use Rattle.route_spec.proofs.Theorem.{map_ends}
+use Rattle.route_spec.proofs.RelocateLaws.{closed_parts, closed_few, closed_short, closed_ends}
+use Rattle.close_leg.specs.Close.{LegStore, store_has_leg_room, store_has_byte_room, validate_close, leg_entry, with_leg, closed_store, validate_close_of, close_store}
+use Rattle.frames_spec.specs.State.{State, refuse, has_leg_room, has_byte_room, with_closed_leg, close_list, close_opened}
+use Rattle.frames_memory.specs.Memory.{FramesMemory, open_list_of, leg_store_of, close_after, close_in}
 use Rattle.frames_memory.specs.Represents.{LargeEnough, Represents, SameStep}
-use Rattle.frames_memory.proofs.LegLaws.{Room, legs-more}
-use Rattle.frames_memory.proofs.RouteLaws.{in-store, legs-count}
-use Rattle.frames_memory.proofs.ValidateLaws.{open-read, list_counts}
-use Rattle.text.proofs.WriteLaws.{over-length}
+use Rattle.frames_memory.proofs.LegLaws.{Room, legs_more}
+use Rattle.frames_memory.proofs.RouteLaws.{in_store_lem, legs_count}
+use Rattle.frames_memory.proofs.ValidateLaws.{open_read, list_counts}
+use Rattle.text.proofs.WriteLaws.{over_length}
 
 -- The result of questions 4 and 5.
 abbrev replied : Bool → Bool → Validation
@@ -35,19 +35,19 @@ module _ (m : FramesMemory) (st : State) (g : Represents m st) where
   k = m.kept.legs.count
 
   -- The buffers have space for 16 legs and 32,768 bytes, so the validation on them agrees with that of the protocol.
-  leg-validated : storeHasLegRoom (legStoreOf m) ≡ hasLegRoom st
-  leg-validated = go (hasLegRoom st) refl
+  leg_validated : store_has_leg_room (leg_store_of m) ≡ has_leg_room st
+  leg_validated = go (has_leg_room st) refl
     where
-      go : (a : Bool) → hasLegRoom st ≡ a → (leb (suc k) 16 && leb (256 * suc k) (length m.slots) && leb (3 * suc k) (length m.table)) ≡ a
+      go : (a : Bool) → has_leg_room st ≡ a → (leb (suc k) 16 && leb (256 * suc k) (length m.slots) && leb (3 * suc k) (length m.table)) ≡ a
       go true h =
-          let l : suc k ≤ 16 = omega (arith, legs-count m st g, leb-true (suc (length st.legs)) 16 h) in
+          let l : suc k ≤ 16 = omega (arith, legs_count m st g, leb-true (suc (length st.legs)) 16 h) in
           rw (le-leb (suc k) 16 l, le-leb (256 * suc k) (length m.slots) (omega (arith, g.large.slots)), le-leb (3 * suc k) (length m.table) (omega (arith, g.large.table))) refl
-      go false h = rw (lt-leb (suc k) 16 (omega (arith, legs-count m st g, leb-false (suc (length st.legs)) 16 h))) refl
+      go false h = rw (lt-leb (suc k) 16 (omega (arith, legs_count m st g, leb-false (suc (length st.legs)) 16 h))) refl
 
-  bytes-validated : (n : ℕ) → storeHasByteRoom (legStoreOf m) n ≡ hasByteRoom st n
-  bytes-validated n = go (hasByteRoom st n) refl
+  bytes_validated : (n : ℕ) → store_has_byte_room (leg_store_of m) n ≡ has_byte_room st n
+  bytes_validated n = go (has_byte_room st n) refl
     where
-      go : (a : Bool) → hasByteRoom st n ≡ a → (leb (m.kept.legs.bytes + n) 32768 && leb (m.kept.legs.bytes + n) (length m.store)) ≡ a
+      go : (a : Bool) → has_byte_room st n ≡ a → (leb (m.kept.legs.bytes + n) 32768 && leb (m.kept.legs.bytes + n) (length m.store)) ≡ a
       go true h =
           let l : m.kept.legs.bytes + n ≤ 32768 = omega (arith, g.used, leb-true (st.used + n) 32768 h) in
           rw (le-leb (m.kept.legs.bytes + n) 32768 l, le-leb (m.kept.legs.bytes + n) (length m.store) (omega (arith, g.large.store))) refl
@@ -56,67 +56,67 @@ module _ (m : FramesMemory) (st : State) (g : Represents m st) where
   -- Closing as a relocate leg if the flag is set, otherwise as a map leg.
   module _ (relocates : Bool) where
     abbrev x : Leg
-    x = closedLeg relocates st.opened
+    x = closed_leg relocates st.opened
 
     abbrev n : ℕ
-    n = endBytes (countedPairs relocates st.opened)
+    n = end_bytes (counted_pairs relocates st.opened)
 
-    few : length (legMap x).pairs ≤ 64
-    few = omega (arith, closed-few relocates st.opened, g.within.pairs)
+    few : length (leg_map x).pairs ≤ 64
+    few = omega (arith, closed_few relocates st.opened, g.within.pairs)
 
-    ends : allEnds (legMap x).pairs ≡ true
-    ends = map-ends x (closed-ends relocates st.opened g.ends)
+    ends : all_ends (leg_map x).pairs ≡ true
+    ends = map_ends x (closed_ends relocates st.opened g.ends)
 
-    short : allShort (legMap x).pairs ≡ true
-    short = closed-short relocates st.opened g.short
+    short : all_short (leg_map x).pairs ≡ true
+    short = closed_short relocates st.opened g.short
 
-    size : endBytes (legMap x).pairs ≤ n
-    size = rw (closed_parts relocates st.opened) (fromParts-bytes (countedPairs relocates st.opened) relocates)
+    size : end_bytes (leg_map x).pairs ≤ n
+    size = rw (closed_parts relocates st.opened) (from_parts_bytes (counted_pairs relocates st.opened) relocates)
 
-    close-validated : validateCloseOf relocates (openListOf m) (legStoreOf m) ≡ replied (hasLegRoom st) (hasByteRoom st n)
-    unfolding validateCloseOf validateClose
-    close-validated = rw (list_counts m st g, open-read m st g, leg-validated, bytes-validated n) refl
+    close-validated : validate_close_of relocates (open_list_of m) (leg_store_of m) ≡ replied (has_leg_room st) (has_byte_room st n)
+    unfolding validate_close_of validate_close
+    close-validated = rw (list_counts m st g, open_read m st g, leg_validated, bytes_validated n) refl
 
-    close-store : closeStore relocates (openListOf m) (legStoreOf m) ≡ closedStore (replied (hasLegRoom st) (hasByteRoom st n)) (legStoreOf m) (legMap x) n
-    unfolding closeStore
-    close-store = rw (close-validated, open-read m st g) refl
+    close-store : close_store relocates (open_list_of m) (leg_store_of m) ≡ closed_store (replied (has_leg_room st) (has_byte_room st n)) (leg_store_of m) (leg_map x) n
+    unfolding close_store
+    close-store = rw (close-validated, open_read m st g) refl
 
-    module _ (h : hasLegRoom st ≡ true) (i : hasByteRoom st n ≡ true) where
+    module _ (h : has_leg_room st ≡ true) (i : has_byte_room st n ≡ true) where
       one_more : suc k ≤ 16
-      one_more = omega (arith, legs-count m st g, leb-true (suc (length st.legs)) 16 h)
+      one_more = omega (arith, legs_count m st g, leb-true (suc (length st.legs)) 16 h)
 
       bytes-more : m.kept.legs.bytes + n ≤ 32768
       bytes-more = omega (arith, g.used, leb-true (st.used + n) 32768 i)
 
-      room : Room (legStoreOf m)
-      room = record { store = in-store m st g; slots = omega (arith, one_more, g.large.slots); table = omega (arith, one_more, g.large.table) }
+      room : Room (leg_store_of m)
+      room = record { store = in_store_lem m st g; slots = omega (arith, one_more, g.large.slots); table = omega (arith, one_more, g.large.table) }
 
       after : FramesMemory
-      after = (closeAfter Passed m (withLeg (legStoreOf m) (legMap x) n)).state
+      after = (close_after Passed m (with_leg (leg_store_of m) (leg_map x) n)).state
 
       still-large : LargeEnough after
-      unfolding withLeg after
+      unfolding with_leg after
       still-large = record {
         bytes = g.large.bytes;
         places = g.large.places;
         store =
-            rw (over-length m.kept.legs.bytes (listText (legMap x).pairs) m.store (omega (arith, list_length (legMap x).pairs, size, bytes-more, g.large.store)))
+            rw (over_length m.kept.legs.bytes (list_text (leg_map x).pairs) m.store (omega (arith, list_length (leg_map x).pairs, size, bytes-more, g.large.store)))
             g.large.store;
         slots =
-            rw (over-length (256 * k) (listPlaces m.kept.legs.bytes (legMap x).pairs) m.slots (omega (arith, places-length m.kept.legs.bytes (legMap x).pairs, few, one_more, g.large.slots)))
+            rw (over_length (256 * k) (list_places m.kept.legs.bytes (leg_map x).pairs) m.slots (omega (arith, places_length m.kept.legs.bytes (leg_map x).pairs, few, one_more, g.large.slots)))
             g.large.slots;
-        table = rw (over-length (3 * k) (legEntry k (legMap x)) m.table (omega (arith, one_more, g.large.table))) g.large.table;
+        table = rw (over_length (3 * k) (leg_entry k (leg_map x)) m.table (omega (arith, one_more, g.large.table))) g.large.table;
       }
 
-      holds_more : Represents after (withClosedLeg st x n).state
-      unfolding after withLeg allEnds allShort listText listPlaces endBytes
+      holds_more : Represents after (with_closed_leg st x n).state
+      unfolding after with_leg all_ends all_short list_text list_places end_bytes
       holds_more = record {
         opened = record { number = refl; end = refl; text = refl; places = refl };
         ends = refl;
         short = refl;
         legs =
-            rw (map-append legMap st.legs (x ∷ []))
-            (legs-more (legStoreOf m) room (legMap x) n few ends short size (map legMap st.legs) g.legs);
+            rw (map-append leg_map st.legs (x ∷ []))
+            (legs_more (leg_store_of m) room (leg_map x) n few ends short size (map leg_map st.legs) g.legs);
         used = ap (λ (u : ℕ). u + n) g.used;
         outs = g.outs;
         within = record {
@@ -128,15 +128,15 @@ module _ (m : FramesMemory) (st : State) (g : Represents m st) where
         large = still-large;
       }
 
-    pub same-close : SameStep (closeIn relocates m) (closeOpened relocates st)
-    unfolding closeIn closeList closedStore after
+    pub same-close : SameStep (close_in relocates m) (close_opened relocates st)
+    unfolding close_in close_list closed_store after
     same-close =
-        subst (λ (a : Validation). SameStep (closeAfter a m (closeStore relocates (openListOf m) (legStoreOf m))) (closeList st x n)) (sym close-validated)
-        (subst (λ (v : LegStore). SameStep (closeAfter (replied (hasLegRoom st) (hasByteRoom st n)) m v) (closeList st x n)) (sym close-store)
-        (go (hasLegRoom st) refl (hasByteRoom st n) refl))
+        subst (λ (a : Validation). SameStep (close_after a m (close_store relocates (open_list_of m) (leg_store_of m))) (close_list st x n)) (sym close-validated)
+        (subst (λ (v : LegStore). SameStep (close_after (replied (has_leg_room st) (has_byte_room st n)) m v) (close_list st x n)) (sym close-store)
+        (go (has_leg_room st) refl (has_byte_room st n) refl))
       where
-        go : (a : Bool) → hasLegRoom st ≡ a → (b : Bool) → hasByteRoom st n ≡ b
-            → SameStep (closeAfter (replied a b) m (closedStore (replied a b) (legStoreOf m) (legMap x) n)) (cond a (cond b (withClosedLeg st x n) (refuse st NoRoom)) (refuse st TooMany))
+        go : (a : Bool) → has_leg_room st ≡ a → (b : Bool) → has_byte_room st n ≡ b
+            → SameStep (close_after (replied a b) m (closed_store (replied a b) (leg_store_of m) (leg_map x) n)) (cond a (cond b (with_closed_leg st x n) (refuse st NoRoom)) (refuse st TooMany))
         go true h true i = record { answers = refl; holds = holds_more h i }
         go true h false i = record { answers = refl; holds = g }
         go false h b i = record { answers = refl; holds = g }

@@ -8,40 +8,40 @@ use lib.ListN.{length, length-map}
 use Rattle.text.specs.Text.{Text}
 use Rattle.refusal.specs.declared.Validation.{Validation}
 use Rattle.refusal.specs.declared.Validation.TheVariants.{Passed, Refused}
-use Rattle.refusal.specs.Outcome.{refused, requireRoom, afterChecks}
-use Rattle.refusal.specs.Refusal.{refusedOr}
-use Rattle.path.specs.Calls.{pathNewCall}
-use Rattle.validate.specs.Validate.{firstRefusal}
-use Rattle.route_spec.specs.Leg.{legMap}
-use Rattle.route_spec.specs.Route.{runRoute}
-use Rattle.route.specs.Fast.{runRouteFast, enteringPath, afterRouteValidated}
-use Rattle.route.proofs.FastLaws.{run-maps}
-use Rattle.frames_spec.specs.State.{State, routePath}
-use Rattle.frames_spec.proofs.RunLaws.{passed-whole}
-use Rattle.frames_memory.specs.Memory.{FramesMemory, legStoreOf, routeOf, routePathIn}
+use Rattle.refusal.specs.Outcome.{refused, require_room, after_checks}
+use Rattle.refusal.specs.Refusal.{refused_or}
+use Rattle.path.specs.Calls.{path_new_call}
+use Rattle.validate.specs.Validate.{first_refusal}
+use Rattle.route_spec.specs.Leg.{leg_map}
+use Rattle.route_spec.specs.Route.{run_route}
+use Rattle.route.specs.Fast.{run_route_fast, entering_path, after_route_validated}
+use Rattle.route.proofs.FastLaws.{run_maps}
+use Rattle.frames_spec.specs.State.{State, route_path}
+use Rattle.frames_spec.proofs.RunLaws.{passed_whole}
+use Rattle.frames_memory.specs.Memory.{FramesMemory, leg_store_of, route_of, route_path_in}
 use Rattle.frames_memory.specs.Represents.{Represents}
-use Rattle.frames_memory.proofs.StoredLaws.{maps-read, maps-sound}
+use Rattle.frames_memory.proofs.StoredLaws.{maps_read, maps_sound}
 
 module _ (m : FramesMemory) (st : State) (g : Represents m st) where
-  pub in-store : m.kept.legs.bytes ≤ length m.store
-  in-store = omega (arith, g.used, g.within.bytes, g.large.store)
+  pub in_store_lem : m.kept.legs.bytes ≤ length m.store
+  in_store_lem = omega (arith, g.used, g.within.bytes, g.large.store)
 
-  pub legs-count : m.kept.legs.count ≡ length st.legs
-  legs-count = g.legs.count ∙ length-map st.legs legMap
+  pub legs_count : m.kept.legs.count ≡ length st.legs
+  legs_count = g.legs.count ∙ length-map st.legs leg_map
 
-  same_route : (back : Bool) (p : Text) → pathNewCall p ≡ Passed
-      → runRoute back st.legs p ≡ runRouteFast back (routeOf m) m.kept.legs.count (enteringPath back m.kept.legs.count p)
+  same_route : (back : Bool) (p : Text) → path_new_call p ≡ Passed
+      → run_route back st.legs p ≡ run_route_fast back (route_of m) m.kept.legs.count (entering_path back m.kept.legs.count p)
   same_route back p h =
-      let w = passed-whole p h in
-      run-maps (routeOf m) back m.kept.legs.count st.legs (sym legs-count) (maps-read (map legMap st.legs) (legStoreOf m) g.legs in-store)
-      (maps-sound (map legMap st.legs) (legStoreOf m) g.legs in-store) p (record { is-legal = w.1; is-short = w.0 })
+      let w = passed_whole p h in
+      run_maps (route_of m) back m.kept.legs.count st.legs (sym legs_count) (maps_read (map leg_map st.legs) (leg_store_of m) g.legs in_store_lem)
+      (maps_sound (map leg_map st.legs) (leg_store_of m) g.legs in_store_lem) p (record { is_legal = w.1; is_short = w.0 })
 
-  pub same-routes : (back : Bool) (p : Text) → routePathIn back m p ≡ routePath back st p
-  unfolding routePathIn routePath afterRouteValidated firstRefusal afterChecks requireRoom
-  same-routes back p = go (pathNewCall p) refl
+  pub same_routes : (back : Bool) (p : Text) → route_path_in back m p ≡ route_path back st p
+  unfolding route_path_in route_path after_route_validated first_refusal after_checks require_room
+  same_routes back p = go (path_new_call p) refl
     where
-      go : (a : Validation) → pathNewCall p ≡ a
-          → afterChecks (firstRefusal Passed a) 255 (runRouteFast back (routeOf m) m.kept.legs.count (enteringPath back m.kept.legs.count p))
-          ≡ refusedOr a refused (runRoute back st.legs p)
+      go : (a : Validation) → path_new_call p ≡ a
+          → after_checks (first_refusal Passed a) 255 (run_route_fast back (route_of m) m.kept.legs.count (entering_path back m.kept.legs.count p))
+          ≡ refused_or a refused (run_route back st.legs p)
       go Passed h = sym (same_route back p h)
       go (Refused x) h = refl

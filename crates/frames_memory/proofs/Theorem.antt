@@ -8,27 +8,27 @@ use Prim.Native.Nat.{ℕ, ◌+◌}
 use native.Mathlib.Omega.{arith}
 use lib.ListN.{length}
 use Rattle.text.specs.Text.{Text}
-use Rattle.hex.specs.Hex.{encodeHex}
-use Rattle.line_reader.specs.Lines.{Line, lines_of, foldAnswers}
+use Rattle.hex.specs.Hex.{encode_hex}
+use Rattle.line_reader.specs.Lines.{Line, lines_of, fold_answers}
 use Rattle.line_reader.proofs.BlockLaws.{simulates}
-use Rattle.pair_list.specs.Pair.{Pair, allEnds, allShort}
-use Rattle.pair_list.specs.Places.{listText, listPlaces, endBytes}
+use Rattle.pair_list.specs.Pair.{Pair, all_ends, all_short}
+use Rattle.pair_list.specs.Places.{list_text, list_places, end_bytes}
 use Rattle.refusal.specs.Outcome.{Outcome}
-use Rattle.relocates.specs.Status.{statusList}
-use Rattle.frames_spec.specs.Frame.{Frame, frame, add-pair, statuses, close, route, count, kind}
-use Rattle.frames_spec.specs.State.{State, Answer, success, answerBytes, outcomeAnswer, initialState, routePath, countOutcome, answerOut, bigEndian32, stepFrame}
-use Rattle.frames_spec.specs.Run.{nextState, answerFrame, saturate32}
-use Rattle.frames_spec.proofs.RunLaws.{saturated-few, counts-few}
-use Rattle.frames_spec.specs.Input.{maxDigits, parseLine, nextLine, answerLine, output}
-use Rattle.frames_memory.specs.Memory.{FramesMemory, statusesIn, countIn, stepFrameIn}
-use Rattle.frames_memory.specs.Represents.{LargeEnough, Represents, SameStep, initialCounters, outputIn, outputOf, MemoryTheorems}
-use Rattle.frames_memory.proofs.RouteLaws.{same-routes}
-use Rattle.frames_memory.proofs.ValidateLaws.{open-read, list-passes}
+use Rattle.relocates.specs.Status.{status_list}
+use Rattle.frames_spec.specs.Frame.{Frame, frame, add_one_pair, statuses, close, route, count, kind}
+use Rattle.frames_spec.specs.State.{State, Answer, success, answer_bytes, outcome_answer, initial_state, route_path, count_outcome, answer_out, big_endian32, step_frame}
+use Rattle.frames_spec.specs.Run.{next_state, answer_frame, saturate32}
+use Rattle.frames_spec.proofs.RunLaws.{saturated_few, counts_few}
+use Rattle.frames_spec.specs.Input.{max_digits, parse_line, next_line, answer_line, output}
+use Rattle.frames_memory.specs.Memory.{FramesMemory, statuses_in, count_in, step_frame_in}
+use Rattle.frames_memory.specs.Represents.{LargeEnough, Represents, SameStep, initial_counters, output_in, output_of, MemoryTheorems}
+use Rattle.frames_memory.proofs.RouteLaws.{same_routes}
+use Rattle.frames_memory.proofs.ValidateLaws.{open_read, list_passes}
 use Rattle.frames_memory.proofs.AddLaws.{same_add}
 use Rattle.frames_memory.proofs.CloseLaws.{same-close}
 
-begins : (m : FramesMemory) → LargeEnough m → m.kept ≡ initialCounters → Represents m initialState
-unfolding allEnds allShort listText listPlaces endBytes
+begins : (m : FramesMemory) → LargeEnough m → m.kept ≡ initial_counters → Represents m initial_state
+unfolding all_ends all_short list_text list_places end_bytes
 begins m large e = record {
   opened = record { number = ap (λ k. k.opened.pairs) e; end = ap (λ k. k.opened.bytes) e; text = refl; places = refl };
   ends = refl;
@@ -41,14 +41,14 @@ begins m large e = record {
 }
 
 module _ (m : FramesMemory) (st : State) (g : Represents m st) where
-  same-statuses : statusesIn m ≡ success (statusList st.opened (length st.opened))
-  unfolding statusesIn
-  same-statuses =
-      rw (list-passes m st g)
-      (ap (λ (l : List Pair). success (statusList l m.kept.opened.pairs)) (open-read m st g)
-      ∙ ap (λ (n : ℕ). success (statusList st.opened n)) g.opened.number)
+  same_statuses : statuses_in m ≡ success (status_list st.opened (length st.opened))
+  unfolding statuses_in
+  same_statuses =
+      rw (list_passes m st g)
+      (ap (λ (l : List Pair). success (status_list l m.kept.opened.pairs)) (open_read m st g)
+      ∙ ap (λ (n : ℕ). success (status_list st.opened n)) g.opened.number)
 
-  same_count : (o : Outcome) → SameStep (countIn m o) (answerOut st o)
+  same_count : (o : Outcome) → SameStep (count_in m o) (answer_out st o)
   same_count o = record {
     answers = refl;
     holds = record {
@@ -57,37 +57,37 @@ module _ (m : FramesMemory) (st : State) (g : Represents m st) where
       short = g.short;
       legs = g.legs;
       used = g.used;
-      outs = ap (countOutcome o) g.outs;
-      within = record { pairs = g.within.pairs; legs = g.within.legs; bytes = g.within.bytes; outs = counts-few o st.outs g.within.outs };
+      outs = ap (count_outcome o) g.outs;
+      within = record { pairs = g.within.pairs; legs = g.within.legs; bytes = g.within.bytes; outs = counts_few o st.outs g.within.outs };
       large = record { bytes = g.large.bytes; places = g.large.places; store = g.large.store; slots = g.large.slots; table = g.large.table };
     };
   }
 
-  steps : (f : Frame) → SameStep (stepFrameIn m f) (stepFrame st f)
-  unfolding stepFrameIn stepFrame
-  steps (frame k (add-pair s t)) = same_add m st g s t
-  steps (frame k statuses) = record { answers = same-statuses; holds = g }
+  steps : (f : Frame) → SameStep (step_frame_in m f) (step_frame st f)
+  unfolding step_frame_in step_frame
+  steps (frame k (add_one_pair s t)) = same_add m st g s t
+  steps (frame k statuses) = record { answers = same_statuses; holds = g }
   steps (frame k (close relocates)) = same-close m st g relocates
-  steps (frame k (route false p)) = rw (same-routes m st g false p) (same_count (routePath false st p))
-  steps (frame k (route true p)) = record { answers = ap outcomeAnswer (same-routes m st g true p); holds = g }
+  steps (frame k (route false p)) = rw (same_routes m st g false p) (same_count (route_path false st p))
+  steps (frame k (route true p)) = record { answers = ap outcome_answer (same_routes m st g true p); holds = g }
   steps (frame k count) =
-      record { answers = ap (λ (n : ℕ). success (bigEndian32 n)) (ap saturate32 g.outs ∙ saturated-few st.outs g.within.outs); holds = g }
+      record { answers = ap (λ (n : ℕ). success (big_endian32 n)) (ap saturate32 g.outs ∙ saturated_few st.outs g.within.outs); holds = g }
 
   -- A parsed frame, or a bad one.
-  same-frame : (f : Option Frame) → (answerFrame stepFrameIn m f ≡ answerFrame stepFrame st f) × Represents (nextState stepFrameIn m f) (nextState stepFrame st f)
-  same-frame none = (refl, g)
-  same-frame (some f) = (ap (λ (a : Answer). (kind f + 128) ∷ answerBytes a) (steps f).answers, (steps f).holds)
+  same_frame : (f : Option Frame) → (answer_frame step_frame_in m f ≡ answer_frame step_frame st f) × Represents (next_state step_frame_in m f) (next_state step_frame st f)
+  same_frame none = (refl, g)
+  same_frame (some f) = (ap (λ (a : Answer). (kind f + 128) ∷ answer_bytes a) (steps f).answers, (steps f).holds)
 
-same_line : (m : FramesMemory) (st : State) (l : Line) → Represents m st → (answerLine stepFrameIn m l ≡ answerLine stepFrame st l) × Represents (nextLine stepFrameIn m l) (nextLine stepFrame st l)
-unfolding answerLine
-same_line m st l g = let w = same-frame m st g (parseLine l) in (ap (λ (b : Text). encodeHex b ++ 10 ∷ []) w.0, w.1)
+same_line : (m : FramesMemory) (st : State) (l : Line) → Represents m st → (answer_line step_frame_in m l ≡ answer_line step_frame st l) × Represents (next_line step_frame_in m l) (next_line step_frame st l)
+unfolding answer_line
+same_line m st l g = let w = same_frame m st g (parse_line l) in (ap (λ (b : Text). encode_hex b ++ 10 ∷ []) w.0, w.1)
 
-outputs : (m : FramesMemory) (st : State) → Represents m st → (ls : List Line) → outputIn m ls ≡ outputOf st ls
-outputs m st g ls = simulates Represents (nextLine stepFrameIn) (answerLine stepFrameIn) (nextLine stepFrame) (answerLine stepFrame) same_line ls m st g
+outputs : (m : FramesMemory) (st : State) → Represents m st → (ls : List Line) → output_in m ls ≡ output_of st ls
+outputs m st g ls = simulates Represents (next_line step_frame_in) (answer_line step_frame_in) (next_line step_frame) (answer_line step_frame) same_line ls m st g
 
-writes : (m : FramesMemory) → LargeEnough m → m.kept ≡ initialCounters → (input : Text) → outputIn m (lines_of maxDigits input) ≡ output input
+writes : (m : FramesMemory) → LargeEnough m → m.kept ≡ initial_counters → (input : Text) → output_in m (lines_of max_digits input) ≡ output input
 unfolding output
-writes m large e input = outputs m initialState (begins m large e) (lines_of maxDigits input)
+writes m large e input = outputs m initial_state (begins m large e) (lines_of max_digits input)
 
-pub memory-theorems : MemoryTheorems
-memory-theorems = record { begins = begins; steps = steps; outputs = outputs; writes = writes }
+pub memory_theorems : MemoryTheorems
+memory_theorems = record { begins = begins; steps = steps; outputs = outputs; writes = writes }

@@ -5,17 +5,17 @@ use Rattle.text.specs.Text.{Text}
 use Rattle.refusal.specs.declared.Refusal.{Refusal}
 use Rattle.refusal.specs.declared.Validation.{Validation}
 use Rattle.refusal.specs.declared.Validation.TheVariants.{Passed}
-use Rattle.refusal.specs.Refusal.{refusedOr}
+use Rattle.refusal.specs.Refusal.{refused_or}
 use Rattle.refusal.specs.Outcome.{Outcome}
-use Rattle.validate.specs.Validate.{LentList, lentList, pairsOf, validateCall}
-use Rattle.relocates.specs.Status.{statusList}
-use Rattle.route_legs.specs.LentRoute.{LentRoute, lentRoute}
-use Rattle.route.specs.Fast.{afterRouteValidated}
+use Rattle.validate.specs.Validate.{LentList, lent_list, pairs_of, validate_call}
+use Rattle.relocates.specs.Status.{status_list}
+use Rattle.route_legs.specs.LentRoute.{LentRoute, lent_route}
+use Rattle.route.specs.Fast.{after_route_validated}
 use Rattle.open_list.specs.declared.OpenList.{OpenList}
-use Rattle.open_list.specs.Add.{validateAdd, withOneMore, addBytes, addPlaces}
-use Rattle.close_leg.specs.Close.{LegStore, legStore, validateCloseOf, closeStore}
-use Rattle.frames_spec.specs.Frame.{Frame, frame, add-pair, statuses, close, route, count}
-use Rattle.frames_spec.specs.State.{Answer, success, refusal, outcomeAnswer, countOutcome, bigEndian32, Transition}
+use Rattle.open_list.specs.Add.{validate_add, with_one_more, add_bytes, add_places}
+use Rattle.close_leg.specs.Close.{LegStore, leg_store, validate_close_of, close_store}
+use Rattle.frames_spec.specs.Frame.{Frame, frame, add_one_pair, statuses, close, route, count}
+use Rattle.frames_spec.specs.State.{Answer, success, refusal, outcome_answer, count_outcome, big_endian32, Transition}
 use Rattle.frames_spec.specs.Run.{saturate32}
 use Rattle.frames_memory.specs.declared.Counters.{Counters}
 
@@ -31,95 +31,95 @@ pub record FramesMemory : Type 0 where
   pub table : List ℕ
 
 -- The memory from its parts.
-abbrev pub framesMemory : Counters → Text → List ℕ → Text → List ℕ → List ℕ → FramesMemory
-framesMemory k bytes places store slots table = record { kept = k; bytes = bytes; places = places; store = store; slots = slots; table = table }
+abbrev pub frames_memory : Counters → Text → List ℕ → Text → List ℕ → List ℕ → FramesMemory
+frames_memory k bytes places store slots table = record { kept = k; bytes = bytes; places = places; store = store; slots = slots; table = table }
 
 -- The open list as a lent list of pairs.
-abbrev pub openListOf : FramesMemory → LentList
-openListOf m = lentList m.bytes m.places m.kept.opened.pairs
+abbrev pub open_list_of : FramesMemory → LentList
+open_list_of m = lent_list m.bytes m.places m.kept.opened.pairs
 
 -- The leg store of the memory.
-abbrev pub legStoreOf : FramesMemory → LegStore
-legStoreOf m = legStore m.kept.legs m.store m.slots m.table
+abbrev pub leg_store_of : FramesMemory → LegStore
+leg_store_of m = leg_store m.kept.legs m.store m.slots m.table
 
 -- The legs as a lent route.
-abbrev pub routeOf : FramesMemory → LentRoute
-routeOf m = lentRoute m.store m.slots m.table m.kept.legs.count
+abbrev pub route_of : FramesMemory → LentRoute
+route_of m = lent_route m.store m.slots m.table m.kept.legs.count
 
 -- The reply of a frame that has no payload.
-abbrev pub acceptedAnswer : Validation → Answer
-acceptedAnswer a = refusedOr a refusal (success [])
+abbrev pub accepted_answer : Validation → Answer
+accepted_answer a = refused_or a refusal (success [])
 
 -- The size of the open list after an 01 frame, given the result of its validation.
-abbrev pub openedAfter : Validation → OpenList → Text → Text → OpenList
-openedAfter a k s t = refusedOr a (λ (x : Refusal). k) (withOneMore k s t)
+abbrev pub opened_after : Validation → OpenList → Text → Text → OpenList
+opened_after a k s t = refused_or a (λ (x : Refusal). k) (with_one_more k s t)
 
 -- The step of an 01 frame, given the result of its validation.
-abbrev pub addAfter : Validation → FramesMemory → Text → Text → Transition FramesMemory
-addAfter a m s t = record {
+abbrev pub add_after : Validation → FramesMemory → Text → Text → Transition FramesMemory
+add_after a m s t = record {
   state = record {
-    kept = record { opened = openedAfter a m.kept.opened s t; legs = m.kept.legs; outs = m.kept.outs };
-    bytes = addBytes a m.kept.opened s t m.bytes;
-    places = addPlaces a m.kept.opened s t m.places;
+    kept = record { opened = opened_after a m.kept.opened s t; legs = m.kept.legs; outs = m.kept.outs };
+    bytes = add_bytes a m.kept.opened s t m.bytes;
+    places = add_places a m.kept.opened s t m.places;
     store = m.store;
     slots = m.slots;
     table = m.table;
   };
-  answer = acceptedAnswer a;
+  answer = accepted_answer a;
 }
 
 -- The step of an 01 frame.
-unfoldable pub addIn : FramesMemory → Text → Text → Transition FramesMemory
-unfolding validateAdd addBytes addPlaces
-addIn m s t = addAfter (validateAdd m.kept.opened s t (length m.bytes) (length m.places)) m s t
+unfoldable pub add_in : FramesMemory → Text → Text → Transition FramesMemory
+unfolding validate_add add_bytes add_places
+add_in m s t = add_after (validate_add m.kept.opened s t (length m.bytes) (length m.places)) m s t
 
 -- The reply to an 02 frame.
-unfoldable pub statusesIn : FramesMemory → Answer
-unfolding validateCall statusList
-statusesIn m = refusedOr (validateCall (openListOf m ∷ []) [] []) refusal (success (statusList (pairsOf (openListOf m)) m.kept.opened.pairs))
+unfoldable pub statuses_in : FramesMemory → Answer
+unfolding validate_call status_list
+statuses_in m = refused_or (validate_call (open_list_of m ∷ []) [] []) refusal (success (status_list (pairs_of (open_list_of m)) m.kept.opened.pairs))
 
 -- The size of an empty open list.
-abbrev pub emptyOpenList : OpenList
-emptyOpenList = record { pairs = 0; bytes = 0 }
+abbrev pub empty_open_list : OpenList
+empty_open_list = record { pairs = 0; bytes = 0 }
 
 -- The step of an 03 or 04 frame, given the result of its validation and the leg store after it. Requirements: "An accepted close empties
 -- the open list; a refused one changes nothing."
-abbrev pub closeAfter : Validation → FramesMemory → LegStore → Transition FramesMemory
-closeAfter a m v = record {
+abbrev pub close_after : Validation → FramesMemory → LegStore → Transition FramesMemory
+close_after a m v = record {
   state = record {
-    kept = record { opened = refusedOr a (λ (x : Refusal). m.kept.opened) emptyOpenList; legs = v.legs; outs = m.kept.outs };
+    kept = record { opened = refused_or a (λ (x : Refusal). m.kept.opened) empty_open_list; legs = v.legs; outs = m.kept.outs };
     bytes = m.bytes;
     places = m.places;
     store = v.store;
     slots = v.slots;
     table = v.table;
   };
-  answer = acceptedAnswer a;
+  answer = accepted_answer a;
 }
 
 -- The step of an 03 or 04 frame.
-unfoldable pub closeIn : Bool → FramesMemory → Transition FramesMemory
-unfolding validateCloseOf closeStore
-closeIn relocates m = closeAfter (validateCloseOf relocates (openListOf m) (legStoreOf m)) m (closeStore relocates (openListOf m) (legStoreOf m))
+unfoldable pub close_in : Bool → FramesMemory → Transition FramesMemory
+unfolding validate_close_of close_store
+close_in relocates m = close_after (validate_close_of relocates (open_list_of m) (leg_store_of m)) m (close_store relocates (open_list_of m) (leg_store_of m))
 
 -- The outcome of an 05 or 06 frame: the route over the legs, which were validated when they were closed.
-unfoldable pub routePathIn : Bool → FramesMemory → Text → Outcome
-unfolding afterRouteValidated
-routePathIn back m p = afterRouteValidated Passed back (routeOf m) p 255
+unfoldable pub route_path_in : Bool → FramesMemory → Text → Outcome
+unfolding after_route_validated
+route_path_in back m p = after_route_validated Passed back (route_of m) p 255
 
 -- The step of an 05 frame with this outcome.
-abbrev pub countIn : FramesMemory → Outcome → Transition FramesMemory
-countIn m o = record {
-  state = framesMemory (record { opened = m.kept.opened; legs = m.kept.legs; outs = countOutcome o m.kept.outs }) m.bytes m.places m.store m.slots m.table;
-  answer = outcomeAnswer o;
+abbrev pub count_in : FramesMemory → Outcome → Transition FramesMemory
+count_in m o = record {
+  state = frames_memory (record { opened = m.kept.opened; legs = m.kept.legs; outs = count_outcome o m.kept.outs }) m.bytes m.places m.store m.slots m.table;
+  answer = outcome_answer o;
 }
 
 -- The step of a frame, by what it asks for.
-unfoldable pub stepFrameIn : FramesMemory → Frame → Transition FramesMemory
-unfolding addIn statusesIn closeIn routePathIn
-stepFrameIn m (frame k (add-pair s t)) = addIn m s t
-stepFrameIn m (frame k statuses) = record { state = m; answer = statusesIn m }
-stepFrameIn m (frame k (close relocates)) = closeIn relocates m
-stepFrameIn m (frame k (route false p)) = countIn m (routePathIn false m p)
-stepFrameIn m (frame k (route true p)) = record { state = m; answer = outcomeAnswer (routePathIn true m p) }
-stepFrameIn m (frame k count) = record { state = m; answer = success (bigEndian32 (saturate32 m.kept.outs)) }
+unfoldable pub step_frame_in : FramesMemory → Frame → Transition FramesMemory
+unfolding add_in statuses_in close_in route_path_in
+step_frame_in m (frame k (add_one_pair s t)) = add_in m s t
+step_frame_in m (frame k statuses) = record { state = m; answer = statuses_in m }
+step_frame_in m (frame k (close relocates)) = close_in relocates m
+step_frame_in m (frame k (route false p)) = count_in m (route_path_in false m p)
+step_frame_in m (frame k (route true p)) = record { state = m; answer = outcome_answer (route_path_in true m p) }
+step_frame_in m (frame k count) = record { state = m; answer = success (big_endian32 (saturate32 m.kept.outs)) }

@@ -3,12 +3,12 @@
 -- frame is read off it.
 use Rattle.std.specs.Prelude.{ℕ, ◌+◌, ◌*◌, Bool, true, false, cond, List, [], ◌∷◌, eqb, leb, length, take, drop}
 use Rattle.std.proofs.Math.Option.{Option, none, some}
-use Rattle.text.specs.Text.{Text, isNil}
+use Rattle.text.specs.Text.{Text, is_nil}
 
 -- What a frame asks for, with the texts of its payload.
 pub data Action : Type 0 where
   -- Add the pair of a source and a target to the open list.
-  add-pair : Text → Text → Action
+  add_one_pair : Text → Text → Action
   -- Reply with the statuses of the open list.
   statuses : Action
   -- Close the open list, as a relocate leg if the flag is set, otherwise as a map leg.
@@ -31,21 +31,21 @@ pub data Form : Type 0 where
   -- No bytes.
   no_payload : Action → Form
   -- "pair, being source length (2 bytes, high first), source, target length, target"
-  pair-payload : (Text → Text → Action) → Form
+  pair_payload : (Text → Text → Action) → Form
   -- A path, which is all bytes.
-  path-payload : (Text → Action) → Form
+  path_payload : (Text → Action) → Form
 
 -- The kinds: the first byte of a frame, with the form of the bytes after it and what they ask for. Requirements: "01: pair ..", "02: statuses
 -- of the open list", "03: close it as a map leg", "04: close as a relocate leg", "05: path out", "06: path home", "07: count of 05 frames
 -- answered 00".
 abbrev pub kinds : List (ℕ × Form)
 kinds =
-    (1, pair-payload add-pair)
+    (1, pair_payload add_one_pair)
     ∷ (2, no_payload statuses)
     ∷ (3, no_payload (close false))
     ∷ (4, no_payload (close true))
-    ∷ (5, path-payload (route false))
-    ∷ (6, path-payload (route true))
+    ∷ (5, path_payload (route false))
+    ∷ (6, path_payload (route true))
     ∷ (7, no_payload count)
     ∷ []
 
@@ -64,41 +64,41 @@ abbrev pub field : ℕ → Text → Option Field
 field n r = cond (leb n (length r)) (some (record { text = take n r; rest = drop n r })) none
 
 -- The field at the beginning of the bytes, its length in two bytes, high first; none if the bytes are too few.
-abbrev pub firstField : Text → Option Field
-firstField [] = none
-firstField (h ∷ []) = none
-firstField (h ∷ l ∷ r) = field (256 * h + l) r
+abbrev pub first_field : Text → Option Field
+first_field [] = none
+first_field (h ∷ []) = none
+first_field (h ∷ l ∷ r) = field (256 * h + l) r
 
 -- What an action makes of a source and of the target field that fills the remaining bytes exactly.
-abbrev pub withTarget : (Text → Text → Action) → Text → Option Field → Option Action
-withTarget f s none = none
-withTarget f s (some t) = cond (isNil t.rest) (some (f s t.text)) none
+abbrev pub with_target : (Text → Text → Action) → Text → Option Field → Option Action
+with_target f s none = none
+with_target f s (some t) = cond (is_nil t.rest) (some (f s t.text)) none
 
 -- What an action makes of the source field and of the target field that follows it.
-abbrev pub withSource : (Text → Text → Action) → Option Field → Option Action
-withSource f none = none
-withSource f (some s) = withTarget f s.text (firstField s.rest)
+abbrev pub with_source : (Text → Text → Action) → Option Field → Option Action
+with_source f none = none
+with_source f (some s) = with_target f s.text (first_field s.rest)
 
 -- The action that the bytes after the kind byte make in their form; none if they are not well formed.
-abbrev pub decodePayload : Form → Text → Option Action
-decodePayload (no_payload a) r = cond (isNil r) (some a) none
-decodePayload (pair-payload f) r = withSource f (firstField r)
-decodePayload (path-payload f) r = some (f r)
+abbrev pub decode_payload : Form → Text → Option Action
+decode_payload (no_payload a) r = cond (is_nil r) (some a) none
+decode_payload (pair_payload f) r = with_source f (first_field r)
+decode_payload (path_payload f) r = some (f r)
 
 -- The action of the bytes after the kind byte; none if the kind is unknown or they are not well formed.
-abbrev pub decodeForm : Option Form → Text → Option Action
-decodeForm none r = none
-decodeForm (some f) r = decodePayload f r
+abbrev pub decode_form : Option Form → Text → Option Action
+decode_form none r = none
+decode_form (some f) r = decode_payload f r
 
 -- The frame of a kind and what it asks for.
-abbrev pub withKind : ℕ → Option Action → Option Frame
-withKind k none = none
-withKind k (some a) = some (frame k a)
+abbrev pub with_kind : ℕ → Option Action → Option Frame
+with_kind k none = none
+with_kind k (some a) = some (frame k a)
 
 -- The frame that the bytes encode; none if they are not well formed.
-unfoldable pub decodeFrame : Text → Option Frame
-decodeFrame [] = none
-decodeFrame (k ∷ r) = withKind k (decodeForm (form_of k kinds) r)
+unfoldable pub decode_frame : Text → Option Frame
+decode_frame [] = none
+decode_frame (k ∷ r) = with_kind k (decode_form (form_of k kinds) r)
 
 -- The frames that the theorems about a run name: 05 and 06 with a path, and 07.
 abbrev pub out : Text → Frame
@@ -107,5 +107,5 @@ out p = frame 5 (route false p)
 abbrev pub home : Text → Frame
 home p = frame 6 (route true p)
 
-abbrev pub countFrame : Frame
-countFrame = frame 7 count
+abbrev pub count_frame : Frame
+count_frame = frame 7 count

@@ -5,35 +5,35 @@ use mathlib.Core.List.{[], ◌∷◌}
 use Rattle.text.specs.Text.{Text}
 use Rattle.refusal.specs.declared.Validation.{Validation}
 use Rattle.refusal.specs.declared.Validation.TheVariants.{Passed, Refused}
-use Rattle.refusal.specs.Refusal.{refusedOr}
+use Rattle.refusal.specs.Refusal.{refused_or}
 use Rattle.refusal.specs.Outcome.{Outcome}
-use Rattle.route_legs.specs.LentRoute.{validateRoute}
-use Rattle.route.proofs.CallBranches.{validated-maps-run}
-use Rattle.frames_spec.specs.Frame.{add-pair, statuses, close, route, count}
-use Rattle.frames_spec.specs.State.{outcomeAnswer, Transition}
-use Rattle.frames_memory.specs.Memory.{FramesMemory, routeOf, countIn, routePathIn, stepFrameIn}
-use Rattle.frames_validate.specs.Checked.{validateUse, refuseIn, routeStored, stepFrameChecked, QuickStep}
+use Rattle.route_legs.specs.LentRoute.{validate_route}
+use Rattle.route.proofs.CallBranches.{validated_maps_run}
+use Rattle.frames_spec.specs.Frame.{add_one_pair, statuses, close, route, count}
+use Rattle.frames_spec.specs.State.{outcome_answer, Transition}
+use Rattle.frames_memory.specs.Memory.{FramesMemory, route_of, count_in, route_path_in, step_frame_in}
+use Rattle.frames_validate.specs.Checked.{validate_use, refuse_in, route_stored, step_frame_checked, QuickStep}
 
 -- A validated path takes the same way.
-same_route : (m : FramesMemory) (back : Bool) (p : Text) → validateRoute (routeOf m) (p ∷ []) ≡ Passed → routeStored back m p ≡ routePathIn back m p
-unfolding routeStored routePathIn
-same_route m back p h = sym (validated-maps-run back (routeOf m) p h)
+same_route : (m : FramesMemory) (back : Bool) (p : Text) → validate_route (route_of m) (p ∷ []) ≡ Passed → route_stored back m p ≡ route_path_in back m p
+unfolding route_stored route_path_in
+same_route m back p h = sym (validated_maps_run back (route_of m) p h)
 
 -- Two steps that agree if validation passes agree after it.
-agree : (m : FramesMemory) (v : Validation) (s t : Transition FramesMemory) → (v ≡ Passed → s ≡ t) → refusedOr v (refuseIn m) s ≡ refusedOr v (refuseIn m) t
+agree : (m : FramesMemory) (v : Validation) (s t : Transition FramesMemory) → (v ≡ Passed → s ≡ t) → refused_or v (refuse_in m) s ≡ refused_or v (refuse_in m) t
 agree m Passed s t h = h refl
 agree m (Refused x) s t h = refl
 
 -- A step that depends on the outcome of a path.
 routed : (m : FramesMemory) (back : Bool) (p : Text) (f : Outcome → Transition FramesMemory)
-    → refusedOr (validateRoute (routeOf m) (p ∷ [])) (refuseIn m) (f (routeStored back m p)) ≡ refusedOr (validateRoute (routeOf m) (p ∷ [])) (refuseIn m) (f (routePathIn back m p))
-routed m back p f = agree m (validateRoute (routeOf m) (p ∷ [])) (f (routeStored back m p)) (f (routePathIn back m p)) (λ h. ap f (same_route m back p h))
+    → refused_or (validate_route (route_of m) (p ∷ [])) (refuse_in m) (f (route_stored back m p)) ≡ refused_or (validate_route (route_of m) (p ∷ [])) (refuse_in m) (f (route_path_in back m p))
+routed m back p f = agree m (validate_route (route_of m) (p ∷ [])) (f (route_stored back m p)) (f (route_path_in back m p)) (λ h. ap f (same_route m back p h))
 
-pub quick-step : QuickStep
-unfolding stepFrameChecked stepFrameIn validateUse
-quick-step m k (add-pair s t) = refl
-quick-step m k statuses = refl
-quick-step m k (close relocates) = refl
-quick-step m k (route false p) = routed m false p (λ (o : Outcome). countIn m o)
-quick-step m k (route true p) = routed m true p (λ (o : Outcome). record { state = m; answer = outcomeAnswer o })
-quick-step m k count = refl
+pub quick_step : QuickStep
+unfolding step_frame_checked step_frame_in validate_use
+quick_step m k (add_one_pair s t) = refl
+quick_step m k statuses = refl
+quick_step m k (close relocates) = refl
+quick_step m k (route false p) = routed m false p (λ (o : Outcome). count_in m o)
+quick_step m k (route true p) = routed m true p (λ (o : Outcome). record { state = m; answer = outcome_answer o })
+quick_step m k count = refl

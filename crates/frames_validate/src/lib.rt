@@ -1,14 +1,14 @@
 // Validates what a frame of the program `frames` uses of memory that the caller of a line keeps between two
 // calls (questions 1 to 4). Every public function is defined for all byte slices and all numbers.
 ghost use Rattle.std.specs.Prelude.{◌≡◌, [], ◌∷◌};
-ghost use Rattle.route_legs.specs.LentRoute.{lentRoute, validateRoute};
-ghost use Rattle.frame_decode.specs.Header.{lastBytes, actionIn};
-ghost use Rattle.frames_memory.specs.Memory.{framesMemory};
-ghost use Rattle.frames_validate.specs.Checked.{validateUse};
+ghost use Rattle.route_legs.specs.LentRoute.{lent_route, validate_route};
+ghost use Rattle.frame_decode.specs.Header.{last_bytes, action_in};
+ghost use Rattle.frames_memory.specs.Memory.{frames_memory};
+ghost use Rattle.frames_validate.specs.Checked.{validate_use};
 
 // The last n bytes of a frame; the whole frame if it is shorter.
 fn last_bytes<'a>(frame: &'a [u8], n: usize) -> &'a [u8]
-    ensures { result.now ≡ lastBytes n frame.now }
+    ensures { result.now ≡ last_bytes n frame.now }
 {
     if frame.len() < n {
         return frame;
@@ -26,8 +26,8 @@ fn validate_path(
     table: &[usize],
     count: usize,
 ) -> refusal::Validation
-    ensures { result ≡ validateRoute (lentRoute store.now slots.now table.now count)
-        (lastBytes n frame.now ∷ []) }
+    ensures { result ≡ validate_route (lent_route store.now slots.now table.now count)
+        (last_bytes n frame.now ∷ []) }
 {
     let q = route_legs::validate_legs(store, slots, table, count);
     validate::first_refusal(q, path::new(last_bytes(frame, n)))
@@ -44,8 +44,8 @@ pub fn validate_use(
     slots: &[usize],
     table: &[usize],
 ) -> refusal::Validation
-    ensures { result ≡ validateUse (framesMemory k bytes.now places.now store.now
-        slots.now table.now) (actionIn frame.now header) }
+    ensures { result ≡ validate_use (frames_memory k bytes.now places.now store.now
+        slots.now table.now) (action_in frame.now header) }
 {
     let opened = k.opened;
     let legs = k.legs;

@@ -5,48 +5,48 @@ use mathlib.Core.Option.{none, some}
 use Prim.Native.Nat.{ℕ, ◌-◌, ◌≤◌, ◌<◌}
 use native.Mathlib.Omega.{arith}
 use Rattle.text.specs.Range.{in_range}
-use Rattle.text.proofs.RangeLaws.{within-yes, within-below, within-above, within-high}
-use Rattle.hex.specs.Hex.{hexValue}
-use Rattle.hex.specs.Calls.{valueOrZero}
+use Rattle.text.proofs.RangeLaws.{within_yes, within_below, within_above, within_high}
+use Rattle.hex.specs.Hex.{hex_value}
+use Rattle.hex.specs.Calls.{value_or_zero}
 
 -- Lemmas for `is_digit` and `hex_value`.
 module _ (b : ℕ) where
-  pub below-decimals : b < 48 → none ≡ hexValue b
-  unfolding hexValue
-  below-decimals h = rw (within-below 48 57 b h, within-below 65 70 b (omega arith), within-below 97 102 b (omega arith))
+  pub below_decimals : b < 48 → none ≡ hex_value b
+  unfolding hex_value
+  below_decimals h = rw (within_below 48 57 b h, within_below 65 70 b (omega arith), within_below 97 102 b (omega arith))
 
-  pub a-decimal : 48 ≤ b → b < 58 → some (b - 48) ≡ hexValue b
-  unfolding hexValue
-  a-decimal h k = rw (within-yes 48 57 b h (omega arith))
+  pub a_decimal : 48 ≤ b → b < 58 → some (b - 48) ≡ hex_value b
+  unfolding hex_value
+  a_decimal h k = rw (within_yes 48 57 b h (omega arith))
 
-  pub below-capitals : 58 ≤ b → b < 65 → none ≡ hexValue b
-  unfolding hexValue
-  below-capitals h k = rw (within-above 48 57 b (omega arith), within-below 65 70 b k, within-below 97 102 b (omega arith))
+  pub below_capitals : 58 ≤ b → b < 65 → none ≡ hex_value b
+  unfolding hex_value
+  below_capitals h k = rw (within_above 48 57 b (omega arith), within_below 65 70 b k, within_below 97 102 b (omega arith))
 
-  pub a-capital : 65 ≤ b → b < 71 → some (b - 55) ≡ hexValue b
-  unfolding hexValue
-  a-capital h k = rw (within-above 48 57 b (omega arith), within-yes 65 70 b h (omega arith))
+  pub a_capital : 65 ≤ b → b < 71 → some (b - 55) ≡ hex_value b
+  unfolding hex_value
+  a_capital h k = rw (within_above 48 57 b (omega arith), within_yes 65 70 b h (omega arith))
 
-  pub below-small : 71 ≤ b → b < 97 → none ≡ hexValue b
-  unfolding hexValue
-  below-small h k = rw (within-above 48 57 b (omega arith), within-above 65 70 b (omega arith), within-below 97 102 b k)
+  pub below_small : 71 ≤ b → b < 97 → none ≡ hex_value b
+  unfolding hex_value
+  below_small h k = rw (within_above 48 57 b (omega arith), within_above 65 70 b (omega arith), within_below 97 102 b k)
 
-  pub a_small : 97 ≤ b → b < 103 → some (b - 87) ≡ hexValue b
-  unfolding hexValue
-  a_small h k = rw (within-above 48 57 b (omega arith), within-above 65 70 b (omega arith), within-yes 97 102 b h (omega arith))
+  pub a_small : 97 ≤ b → b < 103 → some (b - 87) ≡ hex_value b
+  unfolding hex_value
+  a_small h k = rw (within_above 48 57 b (omega arith), within_above 65 70 b (omega arith), within_yes 97 102 b h (omega arith))
 
-  pub above-small : 103 ≤ b → none ≡ hexValue b
-  unfolding hexValue
-  above-small h = rw (within-above 48 57 b (omega arith), within-above 65 70 b (omega arith), within-above 97 102 b (omega arith))
+  pub above_small : 103 ≤ b → none ≡ hex_value b
+  unfolding hex_value
+  above_small h = rw (within_above 48 57 b (omega arith), within_above 65 70 b (omega arith), within_above 97 102 b (omega arith))
 
   -- A value is below 16.
-  pub value-small : valueOrZero (hexValue b) ≤ 15
-  unfolding hexValue
-  value-small = go (in_range 48 57 b) (in_range 65 70 b) (in_range 97 102 b) refl refl refl
+  pub value_small : value_or_zero (hex_value b) ≤ 15
+  unfolding hex_value
+  value_small = go (in_range 48 57 b) (in_range 65 70 b) (in_range 97 102 b) refl refl refl
     where
       go : (p q r : Bool) → in_range 48 57 b ≡ p → in_range 65 70 b ≡ q → in_range 97 102 b ≡ r
-          → valueOrZero (cond p (some (b - 48)) (cond q (some (b - 55)) (cond r (some (b - 87)) none))) ≤ 15
-      go true q r e f g = omega (arith, within-high 48 57 b e)
-      go false true r e f g = omega (arith, within-high 65 70 b f)
-      go false false true e f g = omega (arith, within-high 97 102 b g)
+          → value_or_zero (cond p (some (b - 48)) (cond q (some (b - 55)) (cond r (some (b - 87)) none))) ≤ 15
+      go true q r e f g = omega (arith, within_high 48 57 b e)
+      go false true r e f g = omega (arith, within_high 65 70 b f)
+      go false false true e f g = omega (arith, within_high 97 102 b g)
       go false false false e f g = omega arith

@@ -1,8 +1,8 @@
 // Hexadecimal encoding and decoding, two digits for each byte. No public function has a precondition.
 ghost use Rattle.std.specs.Prelude.{◌≡◌, ◌+◌, ◌*◌, ◌/◌, ◌%◌, ◌<◌, length, set};
-ghost use Rattle.text.specs.Text.{writtenIfFits};
-ghost use Rattle.hex.specs.Hex.{hexValue, decodeHex, hexDigit, encodeHex};
-ghost use Rattle.hex.specs.Calls.{has_value, valueOrZero, allDigits, decodeReply, decodeBuffer};
+ghost use Rattle.text.specs.Text.{written_if_fits};
+ghost use Rattle.hex.specs.Hex.{hex_value, decode_hex, hex_digit, encode_hex};
+ghost use Rattle.hex.specs.Calls.{has_value, value_or_zero, all_digits, decode_reply, decode_buffer};
 
 // The result of `decode`.
 #[derive(Drop)]
@@ -17,7 +17,7 @@ pub enum Decoded {
 
 // Returns whether the byte is a hexadecimal digit.
 fn is_digit(b: u8) -> bool
-    ensures { result ≡ has_value (hexValue b) }
+    ensures { result ≡ has_value (hex_value b) }
 {
     match b {
         b'0'..=b'9' => true,
@@ -29,7 +29,7 @@ fn is_digit(b: u8) -> bool
 
 // The value of a digit; 0 for any other byte.
 fn hex_value(b: u8) -> u8
-    ensures { result ≡ valueOrZero (hexValue b) }
+    ensures { result ≡ value_or_zero (hex_value b) }
 {
     match b {
         b'0'..=b'9' => b - 48,
@@ -41,7 +41,7 @@ fn hex_value(b: u8) -> u8
 
 // Returns whether every byte of the text is a digit.
 fn all_digits(text: &[u8]) -> bool
-    ensures { result ≡ allDigits text.now }
+    ensures { result ≡ all_digits text.now }
 {
     let mut i = 0;
     while i < text.len() {
@@ -55,7 +55,7 @@ fn all_digits(text: &[u8]) -> bool
 
 // The byte that two digits encode.
 fn byte_from(high: u8, low: u8) -> u8
-    ensures { result ≡ 16 * valueOrZero (hexValue high) + valueOrZero (hexValue low) }
+    ensures { result ≡ 16 * value_or_zero (hex_value high) + value_or_zero (hex_value low) }
 {
     16 * hex_value(high) + hex_value(low)
 }
@@ -63,8 +63,8 @@ fn byte_from(high: u8, low: u8) -> u8
 // Decodes a text of digits into the start of the buffer if the text is well formed and its bytes fit;
 // otherwise writes nothing.
 pub fn decode(text: &[u8], out: &mut [u8]) -> Decoded
-    ensures value { result ≡ decodeReply (decodeHex text.now) (length out.old) }
-    ensures out_after { out.new ≡ decodeBuffer (decodeHex text.now) out.old }
+    ensures value { result ≡ decode_reply (decode_hex text.now) (length out.old) }
+    ensures out_after { out.new ≡ decode_buffer (decode_hex text.now) out.old }
 {
     let n = text.len() / 2;
     if text.len() != 2 * n {
@@ -87,7 +87,7 @@ pub fn decode(text: &[u8], out: &mut [u8]) -> Decoded
 // The digit of a value below 16, in upper case.
 fn hex_digit(v: u8) -> u8
     requires { v < 16 }
-    ensures { result ≡ hexDigit v }
+    ensures { result ≡ hex_digit v }
 {
     if v < 10 {
         return b'0' + v;
@@ -98,8 +98,8 @@ fn hex_digit(v: u8) -> u8
 // Writes the two digits of a byte, the high one first.
 fn write_byte(b: u8, at: usize, out: &mut [u8])
     requires { at + 1 < length out.old }
-    ensures { out.new ≡ set (set out.old at (hexDigit (b / 16))) (at + 1)
-        (hexDigit (b % 16)) }
+    ensures { out.new ≡ set (set out.old at (hex_digit (b / 16))) (at + 1)
+        (hex_digit (b % 16)) }
 {
     out[at] = hex_digit(b / 16);
     out[at + 1] = hex_digit(b % 16);
@@ -107,7 +107,7 @@ fn write_byte(b: u8, at: usize, out: &mut [u8])
 
 // Writes the digits of the bytes into the buffer from index `at` if they fit; otherwise writes nothing.
 pub fn encode(bytes: &[u8], at: usize, out: &mut [u8])
-    ensures { out.new ≡ writtenIfFits at (encodeHex bytes.now) out.old }
+    ensures { out.new ≡ written_if_fits at (encode_hex bytes.now) out.old }
 {
     if out.len() < at {
         return;

@@ -11,33 +11,33 @@ use lib.Ieee.Compare.{differs_from_itself}
 use lib.Ieee.Fits.{up_pos, down_pos}
 use lib.Ieee.Scale.{round_same}
 use borrow.Author.Tests.{ltb-false, lt-ltb, le-ltb}
-use Rattle.layer_offset.specs.Number.{plusZero, tolerance, is_finite, absoluteValue, isSmall, bitPattern}
+use Rattle.layer_offset.specs.Number.{plus_zero, tolerance, is_finite, absolute_value, is_small, bit_pattern}
 
 -- A fraction that is zero rounds to zero.
-pub round-zero : (s : Bool) (c : ℕ) → 0 < c → round binary64 s 0 c ≡ round binary64 s 0 1
-round-zero s c h = round_same binary64 s 0 c 0 1 h (omega arith) (omega arith)
+pub round_zero : (s : Bool) (c : ℕ) → 0 < c → round binary64 s 0 c ≡ round binary64 s 0 1
+round_zero s c h = round_same binary64 s 0 c 0 1 h (omega arith) (omega arith)
 
 -- A number minus itself is +0.
-difference : (s : Bool) (a c : ℕ) → 0 < c → sum binary64 s a (not s) a c ≡ plusZero
+difference : (s : Bool) (a c : ℕ) → 0 < c → sum binary64 s a (not s) a c ≡ plus_zero
 unfolding sum round
-difference true a c h = rw (le-ltb a a (omega arith), sub_self a) (round-zero false c h)
-difference false a c h = rw (le-ltb a a (omega arith), sub_self a) (round-zero false c h)
+difference true a c h = rw (le-ltb a a (omega arith), sub_self a) (round_zero false c h)
+difference false a c h = rw (le-ltb a a (omega arith), sub_self a) (round_zero false c h)
 
 -- Lemmas for `is_finite`.
-pub less-itself : (x : Float) → eq (sub binary64 x x) plusZero ≡ is_finite x
+pub less_itself : (x : Float) → eq (sub binary64 x x) plus_zero ≡ is_finite x
 unfolding eq sub add neg
-less-itself nan = refl
-less-itself (inf true) = refl
-less-itself (inf false) = refl
-less-itself (fin s m e) =
-    ap (λ (y : Float). eq y plusZero) (difference s (m * up e * down e) (down e * down e) (mul-pos (down_pos e) (down_pos e)))
+less_itself nan = refl
+less_itself (inf true) = refl
+less_itself (inf false) = refl
+less_itself (fin s m e) =
+    ap (λ (y : Float). eq y plus_zero) (difference s (m * up e * down e) (down e * down e) (mul-pos (down_pos e) (down_pos e)))
 
 -- Lemmas for `is_small`: x lies between minus a positive bound and the bound.
 module _ (n : ℕ) (d : ℤ) (h : 0 < n) where
   reach : (e : ℤ) → 0 < n * up d * down e
   reach e = mul-pos (mul-pos h (up_pos d)) (down_pos e)
 
-  above : (x : Float) → lt (fin true n d) x ≡ true → lt x (fin false n d) ≡ lt (absoluteValue x) (fin false n d)
+  above : (x : Float) → lt (fin true n d) x ≡ true → lt x (fin false n d) ≡ lt (absolute_value x) (fin false n d)
   unfolding lt
   above nan k = refl
   above (inf true) k = sym k
@@ -45,26 +45,26 @@ module _ (n : ℕ) (d : ℤ) (h : 0 < n) where
   above (fin true m e) k = lt-ltb 0 (m * up e * down d + n * up d * down e) (omega (arith, reach e)) ∙ sym k
   above (fin false m e) k = refl
 
-  not-above : (x : Float) → lt (fin true n d) x ≡ false → lt (fin true n d) x ≡ lt (absoluteValue x) (fin false n d)
+  not_above : (x : Float) → lt (fin true n d) x ≡ false → lt (fin true n d) x ≡ lt (absolute_value x) (fin false n d)
   unfolding lt
-  not-above nan k = refl
-  not-above (inf true) k = refl
-  not-above (inf false) k = k
-  not-above (fin true m e) k = refl
-  not-above (fin false m e) k = absurd (omega (arith, reach e, ltb-false 0 (n * up d * down e + m * up e * down d) k))
+  not_above nan k = refl
+  not_above (inf true) k = refl
+  not_above (inf false) k = k
+  not_above (fin true m e) k = refl
+  not_above (fin false m e) k = absurd (omega (arith, reach e, ltb-false 0 (n * up d * down e + m * up e * down d) k))
 
-pub above_lower : (x : Float) → lt (neg tolerance) x ≡ true → lt x tolerance ≡ isSmall x
-unfolding isSmall neg
+pub above_lower : (x : Float) → lt (neg tolerance) x ≡ true → lt x tolerance ≡ is_small x
+unfolding is_small neg
 above_lower x k = above _ _ (omega arith) x k
 
-pub not-above-lower : (x : Float) → lt (neg tolerance) x ≡ false → lt (neg tolerance) x ≡ isSmall x
-unfolding isSmall neg
-not-above-lower x k = not-above _ _ (omega arith) x k
+pub not_above_lower : (x : Float) → lt (neg tolerance) x ≡ false → lt (neg tolerance) x ≡ is_small x
+unfolding is_small neg
+not_above_lower x k = not_above _ _ (omega arith) x k
 
 -- Lemmas for `pattern`: only a NaN differs from itself.
-pub pattern-nan : (x : Float) → ne x x ≡ true → 0x7ff8_0000_0000_0000 ≡ bitPattern x
+pub pattern_nan : (x : Float) → ne x x ≡ true → 0x7ff8_0000_0000_0000 ≡ bit_pattern x
 unfolding to_bits
-pattern-nan x h = rw (differs_from_itself x (subst T (sym h) tt))
+pattern_nan x h = rw (differs_from_itself x (subst T (sym h) tt))
 
 pub no_nan : (x : Float) → ne x x ≡ false → T (not (is_nan x))
 unfolding ne eq is_nan

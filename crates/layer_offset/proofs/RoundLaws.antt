@@ -18,9 +18,9 @@ exponents i j h = le_of_suc-le-suc (lt_of_not-le (λ k. not-le_of_lt (pow-lt k) 
 
 module _ (f : Format) where
   -- A bit pattern is determined by the sign and the magnitude.
-  same-pattern : (s : Bool) (m : ℕ) (e : ℤ) (t : Bool) (n : ℕ) (g : ℤ) → HasValue (fin t n g) s (m * up e) (down e) → to_bits f (fin t n g) ≡ to_bits f (fin s m e)
+  same_pattern : (s : Bool) (m : ℕ) (e : ℤ) (t : Bool) (n : ℕ) (g : ℤ) → HasValue (fin t n g) s (m * up e) (down e) → to_bits f (fin t n g) ≡ to_bits f (fin s m e)
   unfolding to_bits
-  same-pattern s m e t n g v =
+  same_pattern s m e t n g v =
       let l = 2 ^ low f in
       let cross : n * up g * l * down e ≡ m * up e * l * down g =
       mul_right_comm (n * up g) l (down e) ∙ ap (λ (x : ℕ). x * l) v.1 ∙ mul_right_comm (m * up e) (down g) l in
@@ -30,7 +30,7 @@ module _ (f : Format) where
   pub settled : (s : Bool) (m : ℕ) (e : ℤ) (y : Float) → T (fits f (fin s m e)) → T (fits f y) → HasValue y s (m * up e) (down e) → y ≡ fin s m e
   settled s m e nan p q v = absurd v
   settled s m e (inf t) p q v = absurd v
-  settled s m e (fin t n g) p q v = sym (of_bits-to_bits f (fin t n g) q) ∙ ap (of_bits f) (same-pattern s m e t n g v) ∙ of_bits-to_bits f (fin s m e) p
+  settled s m e (fin t n g) p q v = sym (of_bits-to_bits f (fin t n g) q) ∙ ap (of_bits f) (same_pattern s m e t n g v) ∙ of_bits-to_bits f (fin s m e) p
 
   -- 2 ^ e is an integer multiple of the smallest positive value of the format.
   steps : (e : ℤ) → down e ≤ 2 ^ low f → (j : ℕ) × (up e * 2 ^ low f ≡ 2 ^ j * down e)

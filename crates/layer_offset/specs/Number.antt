@@ -6,8 +6,8 @@ use Rattle.std.specs.Float.{nan, inf, fin, binary64}
 use Rattle.std.specs.Float.Ieee.{lt, to_bits}
 
 -- The float +0.
-abbrev pub plusZero : Float
-plusZero = fin false 0 (pos 0)
+abbrev pub plus_zero : Float
+plus_zero = fin false 0 (pos 0)
 
 -- The float 1.
 abbrev pub one : Float
@@ -24,16 +24,16 @@ is_finite (inf s) = false
 is_finite (fin s m e) = true
 
 -- The absolute value: the sign is cleared (Rust: abs).
-abbrev pub absoluteValue : Float → Float
-absoluteValue nan = nan
-absoluteValue (inf s) = inf false
-absoluteValue (fin s m e) = fin false m e
+abbrev pub absolute_value : Float → Float
+absolute_value nan = nan
+absolute_value (inf s) = inf false
+absolute_value (fin s m e) = fin false m e
 
 -- The float is closer to zero than the tolerance.
-unfoldable pub isSmall : Float → Bool
-isSmall x = lt (absoluteValue x) tolerance
+unfoldable pub is_small : Float → Bool
+is_small x = lt (absolute_value x) tolerance
 
 -- The bits of the float (Rust: to_bits). The requirements leave the bits of a NaN open; here every NaN has the pattern
 -- 0x7ff8_0000_0000_0000.
-abbrev pub bitPattern : Float → ℕ
-bitPattern x = to_bits binary64 x
+abbrev pub bit_pattern : Float → ℕ
+bit_pattern x = to_bits binary64 x

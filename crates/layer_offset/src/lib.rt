@@ -1,8 +1,8 @@
 // Time offsets between layers. Ports LayerOffset of the Rust sdf/mod.rs, except the functions that need
 // a Value. Every function is total: none has a precondition.
 ghost use Rattle.std.specs.Prelude.{◌≡◌};
-ghost use Rattle.layer_offset.specs.Offset.{layerOffset, isIdentity, isValid, isValidComposition, sanitized, applyOffset, concatenateOffsets, inverseOffset, offsetBits, sameBits, isNear, isClose};
-ghost use Rattle.layer_offset.specs.Number.{plusZero};
+ghost use Rattle.layer_offset.specs.Offset.{layer_offset, is_identity, is_valid, is_valid_composition, sanitized, apply_offset, concatenate_offsets, inverse_offset, offset_bits, same_bits, is_near, is_close};
+ghost use Rattle.layer_offset.specs.Number.{plus_zero};
 
 mod number;
 
@@ -20,7 +20,7 @@ pub struct OffsetBits(pub u64, pub u64);
 impl OffsetBits {
     // Returns whether both patterns are equal.
     fn is_same(self, other: OffsetBits) -> bool
-        ensures { result ≡ sameBits self other }
+        ensures { result ≡ same_bits self other }
     {
         self.0 == other.0 && self.1 == other.1
     }
@@ -35,28 +35,28 @@ impl LayerOffset {
 
     // Returns the time offset with these two numbers.
     pub fn new(offset: f64, scale: f64) -> Self
-        ensures { result ≡ layerOffset offset scale }
+        ensures { result ≡ layer_offset offset scale }
     {
         Self { offset, scale }
     }
 
     // Returns a time offset that scales without shifting.
     pub fn scale_only(scale: f64) -> Self
-        ensures { result ≡ layerOffset plusZero scale }
+        ensures { result ≡ layer_offset plus_zero scale }
     {
         Self { offset: 0.0, scale }
     }
 
     // Returns whether both numbers are finite.
     pub fn is_valid(self) -> bool
-        ensures { result ≡ isValid self }
+        ensures { result ≡ is_valid self }
     {
         number::is_finite(self.offset) && number::is_finite(self.scale)
     }
 
     // Returns whether this is (0, 1); -0.0 counts as 0.0.
     pub fn is_identity(self) -> bool
-        ensures { result ≡ isIdentity self }
+        ensures { result ≡ is_identity self }
     {
         self.offset == 0.0 && self.scale == 1.0
     }
@@ -64,7 +64,7 @@ impl LayerOffset {
     // Returns whether both are valid and within 1e-6 of each other in both numbers, or both are invalid
     // with the same bits.
     pub fn is_close(self, other: LayerOffset) -> bool
-        ensures { result ≡ isClose self other }
+        ensures { result ≡ is_close self other }
     {
         if self.is_valid() {
             return other.is_valid() && self.is_near(other);
@@ -74,28 +74,28 @@ impl LayerOffset {
 
     // Returns whether both numbers are within 1e-6 of the other's.
     fn is_near(self, other: LayerOffset) -> bool
-        ensures { result ≡ isNear self other }
+        ensures { result ≡ is_near self other }
     {
         number::is_small(self.offset - other.offset) && number::is_small(self.scale - other.scale)
     }
 
     // Returns the bits of both numbers; for every NaN, 0x7ff8_0000_0000_0000.
     pub fn to_bits(self) -> OffsetBits
-        ensures { result ≡ offsetBits self }
+        ensures { result ≡ offset_bits self }
     {
         OffsetBits(number::pattern(self.offset), number::pattern(self.scale))
     }
 
     // Maps a time to offset + scale * time.
     pub fn apply(self, time: f64) -> f64
-        ensures { result ≡ applyOffset self time }
+        ensures { result ≡ apply_offset self time }
     {
         self.offset + self.scale * time
     }
 
     // Returns the inverse; the identity if the scale is zero.
     pub fn inverse(self) -> LayerOffset
-        ensures { result ≡ inverseOffset self }
+        ensures { result ≡ inverse_offset self }
     {
         if self.scale == 0.0 {
             return LayerOffset::IDENTITY;
@@ -108,7 +108,7 @@ impl LayerOffset {
 
     // Returns whether this can be composed: it is valid and its scale is above zero.
     pub fn is_valid_composition(self) -> bool
-        ensures { result ≡ isValidComposition self }
+        ensures { result ≡ is_valid_composition self }
     {
         self.is_valid() && self.scale > 0.0
     }
@@ -127,7 +127,7 @@ impl LayerOffset {
     // Returns the concatenation of this time offset, the outer one, with `inner`, which is applied
     // first.
     pub fn concatenate(self, inner: LayerOffset) -> LayerOffset
-        ensures { result ≡ concatenateOffsets self inner }
+        ensures { result ≡ concatenate_offsets self inner }
     {
         LayerOffset {
             offset: self.offset + self.scale * inner.offset,

@@ -15,7 +15,7 @@ pub fn is_finite(x: f64) -> bool
 
 // Returns whether the number is closer to zero than the tolerance.
 pub fn is_small(x: f64) -> bool
-    ensures { result ≡ spec.isSmall x }
+    ensures { result ≡ spec.is_small x }
 {
     -TOLERANCE < x && x < TOLERANCE
 }
@@ -23,7 +23,7 @@ pub fn is_small(x: f64) -> bool
 // Returns the bits of the number; one fixed pattern for every NaN, because the bits of a NaN are left
 // open.
 pub fn pattern(x: f64) -> u64
-    ensures { result ≡ spec.bitPattern x }
+    ensures { result ≡ spec.bit_pattern x }
 {
     if x != x {
         return 0x7ff8_0000_0000_0000;

@@ -14,30 +14,30 @@ line_of most t = cond (leb (length t) most) (text t) overlong
 
 -- The text after the last newline is a line unless it is empty. So an empty input has no line, and an input that ends in a newline has no
 -- line after it. Requirements: "the last line may lack its newline".
-abbrev pub lastLine : Text → List Text
-lastLine [] = []
-lastLine (b ∷ t) = (b ∷ t) ∷ []
+abbrev pub last_line : Text → List Text
+last_line [] = []
+last_line (b ∷ t) = (b ∷ t) ∷ []
 
 -- The texts that the newlines of an input delimit; t is the text read since the last newline.
-unfoldable pub splitLines : Text → Text → List Text
-splitLines t [] = lastLine t
-splitLines t (b ∷ s) = cond (eqb b newline) (t ∷ splitLines [] s) (splitLines (t ++ (b ∷ [])) s)
+unfoldable pub split_lines : Text → Text → List Text
+split_lines t [] = last_line t
+split_lines t (b ∷ s) = cond (eqb b newline) (t ∷ split_lines [] s) (split_lines (t ++ (b ∷ [])) s)
 
 -- The lines of a whole input, where `most` is the maximum length of a line.
 unfoldable pub lines_of : ℕ → Text → List Line
-unfolding splitLines
-lines_of most s = map (line_of most) (splitLines [] s)
+unfolding split_lines
+lines_of most s = map (line_of most) (split_lines [] s)
 
 -- The output for a list of lines: the `reply` to each line, in the state that `next` computes from the lines before it.
-unfoldable pub foldAnswers : {S : Type 0} → (S → Line → S) → (S → Line → Text) → S → List Line → Text
-foldAnswers next reply st [] = []
-foldAnswers next reply st (l ∷ ls) = reply st l ++ foldAnswers next reply (next st l) ls
+unfoldable pub fold_answers : {S : Type 0} → (S → Line → S) → (S → Line → Text) → S → List Line → Text
+fold_answers next reply st [] = []
+fold_answers next reply st (l ∷ ls) = reply st l ++ fold_answers next reply (next st l) ls
 
 -- The maximum line length for a line buffer of capacity `room`. Requirements: "a line of at most 4,096 digits".
-unfoldable pub lineCapacity : ℕ → ℕ
-lineCapacity room = cond (leb room 4096) room 4096
+unfoldable pub line_capacity : ℕ → ℕ
+line_capacity room = cond (leb room 4096) room 4096
 
 -- The line in the first n bytes of the buffer; overlong if n exceeds the maximum line length.
-unfoldable pub lineInBuffer : ℕ → Text → Line
-unfolding lineCapacity
-lineInBuffer n mem = cond (leb n (lineCapacity (length mem))) (text (take n mem)) overlong
+unfoldable pub line_in_buffer : ℕ → Text → Line
+unfolding line_capacity
+line_in_buffer n mem = cond (leb n (line_capacity (length mem))) (text (take n mem)) overlong

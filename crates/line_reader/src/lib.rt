@@ -1,8 +1,8 @@
 // Splits an input that arrives in blocks of any size into lines, using a caller's line buffer. No
 // function has a precondition.
 ghost use Rattle.std.specs.Prelude.{◌≡◌, length};
-ghost use Rattle.line_reader.specs.TakeLine.{newlineIndex, lineLengthAfter, lineBufferAfter, takeLineReply, takeLineBuffer};
-ghost use Rattle.line_reader.specs.Lines.{lineCapacity};
+ghost use Rattle.line_reader.specs.TakeLine.{newline_index, line_length_after, line_buffer_after, take_line_reply, take_line_buffer};
+ghost use Rattle.line_reader.specs.Lines.{line_capacity};
 
 // The maximum length of a line in bytes.
 const MOST: usize = 4096;
@@ -20,7 +20,7 @@ pub struct Taken {
 
 // Returns the number of bytes before the first newline, or the length of the block if it has none.
 fn newline_index(block: &[u8]) -> usize
-    ensures { result ≡ newlineIndex block.now }
+    ensures { result ≡ newline_index block.now }
 {
     let mut i = 0;
     while i < block.len() {
@@ -34,7 +34,7 @@ fn newline_index(block: &[u8]) -> usize
 
 // The maximum line length for a line buffer of capacity `room`.
 fn line_capacity(room: usize) -> usize
-    ensures { result ≡ lineCapacity room }
+    ensures { result ≡ line_capacity room }
 {
     if room <= MOST {
         return room;
@@ -45,8 +45,8 @@ fn line_capacity(room: usize) -> usize
 // Appends bytes to the line so far and returns its new length; bytes that make the line overlong are not
 // stored.
 fn append_to_line(s: &[u8], line: &mut [u8], len: usize) -> usize
-    ensures value { result ≡ lineLengthAfter (lineCapacity (length line.old)) len (length s.now) }
-    ensures line_after { line.new ≡ lineBufferAfter (lineCapacity (length line.old)) len s.now
+    ensures value { result ≡ line_length_after (line_capacity (length line.old)) len (length s.now) }
+    ensures line_after { line.new ≡ line_buffer_after (line_capacity (length line.old)) len s.now
         line.old }
 {
     let most = line_capacity(line.len());
@@ -63,8 +63,8 @@ fn append_to_line(s: &[u8], line: &mut [u8], len: usize) -> usize
 // Consumes the bytes of a block up to the end of one line, or the whole block if the line does not end
 // in it. `len` is the length returned by the previous call, or 0 for a new line.
 pub fn take_line(block: &[u8], line: &mut [u8], len: usize) -> Taken
-    ensures value { result ≡ takeLineReply block.now len (length line.old) }
-    ensures line_after { line.new ≡ takeLineBuffer block.now len line.old }
+    ensures value { result ≡ take_line_reply block.now len (length line.old) }
+    ensures line_after { line.new ≡ take_line_buffer block.now len line.old }
 {
     let k = newline_index(block);
     let n = append_to_line(&block[..k], line, len);

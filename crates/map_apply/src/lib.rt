@@ -5,14 +5,14 @@
 ghost use Rattle.std.specs.Prelude.{◌≡◌, ◌≤◌, length, drop};
 ghost use Rattle.refusal.specs.Outcome.{ReturnsPath};
 ghost use Rattle.path_rest.specs.Carried.{ReturnsCarried};
-ghost use Rattle.map_spec.specs.Map.{lentMap};
-ghost use Rattle.map_rest.specs.MapRest.{sourceRest};
-ghost use Rattle.map_apply.specs.Fast.{joinChecked, keepPath, mapFast, plainRest, translateByMark, checkedJoin, translateByPair, translateFast};
+ghost use Rattle.map_spec.specs.Map.{lent_map};
+ghost use Rattle.map_rest.specs.MapRest.{source_rest};
+ghost use Rattle.map_apply.specs.Fast.{join_checked, keep_path, map_fast, plain_rest, translate_by_mark, checked_join, translate_by_pair, translate_fast};
 
 // Writes the path with its old prefix replaced by the new one, with questions 7 and 8.
 fn apply_pair(old: &[u8], new: &[u8], path: &[u8], out: &mut [u8; 255]) -> refusal::Reply
     requires { length old.now ≤ length path.now }
-    ensures { ReturnsPath (joinChecked old.now new.now
+    ensures { ReturnsPath (join_checked old.now new.now
         (drop (length old.now) path.now)) result out.old out.new }
 {
     let k = old.len();
@@ -28,7 +28,7 @@ fn apply_pair(old: &[u8], new: &[u8], path: &[u8], out: &mut [u8; 255]) -> refus
 
 // Writes the path itself if the map has the mark.
 fn keep_path(mark: bool, path: &[u8], out: &mut [u8; 255]) -> refusal::Reply
-    ensures { ReturnsPath (keepPath mark path.now) result out.old out.new }
+    ensures { ReturnsPath (keep_path mark path.now) result out.old out.new }
 {
     if !mark {
         return refusal::Reply::Refused(refusal::Refusal::NoPath);
@@ -50,8 +50,8 @@ pub fn map_text_carried(
     path: &[u8],
     out: &mut [u8; 255],
 ) -> path_rest::Carried
-    ensures { let m = lentMap store.now places.now n mark in
-        ReturnsCarried (mapFast invert m path.now) (plainRest invert m path.now) result
+    ensures { let m = lent_map store.now places.now n mark in
+        ReturnsCarried (map_fast invert m path.now) (plain_rest invert m path.now) result
         out.old out.new }
 {
     let f = map_lookup::best_prefix(store, places, n, invert, path);
@@ -82,7 +82,7 @@ pub fn map_text(
     path: &[u8],
     out: &mut [u8; 255],
 ) -> refusal::Reply
-    ensures { ReturnsPath (mapFast invert (lentMap store.now places.now n mark)
+    ensures { ReturnsPath (map_fast invert (lent_map store.now places.now n mark)
         path.now) result out.old out.new }
 {
     path_rest::reply_of(map_text_carried(store, places, n, mark, invert, path, out))
@@ -98,7 +98,7 @@ fn translate_by_mark(
     path: &[u8],
     out: &mut [u8; 255],
 ) -> refusal::Reply
-    ensures { ReturnsPath (translateByMark (lentMap store.now places.now n mark)
+    ensures { ReturnsPath (translate_by_mark (lent_map store.now places.now n mark)
         path.now) result out.old out.new }
 {
     if !mark {
@@ -113,7 +113,7 @@ fn translate_by_mark(
 
 // Writes the path that was built, with questions 8 and 7.
 fn finish_join(illegal: bool, made: &[u8], out: &mut [u8; 255]) -> refusal::Reply
-    ensures { ReturnsPath (checkedJoin illegal made.now) result out.old out.new }
+    ensures { ReturnsPath (checked_join illegal made.now) result out.old out.new }
 {
     if illegal {
         return refusal::Reply::Refused(refusal::Refusal::MadeIllegal);
@@ -134,7 +134,7 @@ fn translate_by_pair(
     remainder: &[u8],
     out: &mut [u8; 255],
 ) -> refusal::Reply
-    ensures { ReturnsPath (translateByPair (lentMap store.now places.now n mark) i
+    ensures { ReturnsPath (translate_by_pair (lent_map store.now places.now n mark) i
         old.now new.now remainder.now) result out.old out.new }
 {
     let mut made = [0u8; 512];
@@ -158,8 +158,8 @@ pub fn translate_text_carried(
     path: &[u8],
     out: &mut [u8; 255],
 ) -> path_rest::Carried
-    ensures { let m = lentMap store.now places.now n mark in
-        ReturnsCarried (translateFast m path.now) (sourceRest m path.now) result
+    ensures { let m = lent_map store.now places.now n mark in
+        ReturnsCarried (translate_fast m path.now) (source_rest m path.now) result
         out.old out.new }
 {
     let f = map_lookup::best_prefix(store, places, n, false, path);
@@ -190,7 +190,7 @@ pub fn translate_text(
     path: &[u8],
     out: &mut [u8; 255],
 ) -> refusal::Reply
-    ensures { ReturnsPath (translateFast (lentMap store.now places.now n mark)
+    ensures { ReturnsPath (translate_fast (lent_map store.now places.now n mark)
         path.now) result out.old out.new }
 {
     path_rest::reply_of(translate_text_carried(store, places, n, mark, path, out))

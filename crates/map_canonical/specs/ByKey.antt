@@ -3,12 +3,12 @@
 use Rattle.std.specs.Prelude.{ℕ, zero, suc, cond, List, [], ◌∷◌, ◌++◌, eqb}
 
 -- The items whose key is e.
-unfoldable pub withKey : {A : Type 0} → (A → ℕ) → ℕ → List A → List A
-withKey key e [] = []
-withKey key e (x ∷ l) = cond (eqb (key x) e) (x ∷ withKey key e l) (withKey key e l)
+unfoldable pub with_key : {A : Type 0} → (A → ℕ) → ℕ → List A → List A
+with_key key e [] = []
+with_key key e (x ∷ l) = cond (eqb (key x) e) (x ∷ with_key key e l) (with_key key e l)
 
 -- The items whose key is below e, level after level.
-unfoldable pub byKey : {A : Type 0} → (A → ℕ) → ℕ → List A → List A
-unfolding withKey
-byKey key zero l = []
-byKey key (suc e) l = byKey key e l ++ withKey key e l
+unfoldable pub by_key : {A : Type 0} → (A → ℕ) → ℕ → List A → List A
+unfolding with_key
+by_key key zero l = []
+by_key key (suc e) l = by_key key e l ++ with_key key e l

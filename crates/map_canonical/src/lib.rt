@@ -1,17 +1,17 @@
 // The canonical form of a map's pairs: root pairs become the mark, and redundant pairs are dropped.
 // Ports canonicalize and map_via of the Rust pcp/mapping.rs.
 ghost use Rattle.std.specs.Prelude.{◌≡◌, cond, ◌||◌, List, length, ℕ, max as larger, ◌+◌, ◌*◌, ◌≤◌};
-ghost use Rattle.pair_list.specs.Places.{pairIn, pairsIn};
-ghost use Rattle.pair_list_write.specs.Lists.{copyEntry};
-ghost use Rattle.pair_list_write.specs.Select.{writtenEntries, HoldsEntries};
-ghost use Rattle.validate.specs.Validate.{lentList};
-ghost use Rattle.map_spec.specs.Map.{lentMap};
-ghost use Rattle.map_spec.specs.New.{isRootPair, anyRootPair, isRedundant};
-ghost use Rattle.map_canonical.specs.Canonical.{maxElements, nonRootWithElements, keptIndices, canonicalIndices, canonicalSelection, HoldsElementCounts, keepsPair};
+ghost use Rattle.pair_list.specs.Places.{pair_in, pairs_in};
+ghost use Rattle.pair_list_write.specs.Lists.{copy_entry};
+ghost use Rattle.pair_list_write.specs.Select.{written_entries, HoldsEntries};
+ghost use Rattle.validate.specs.Validate.{lent_list};
+ghost use Rattle.map_spec.specs.Map.{lent_map};
+ghost use Rattle.map_spec.specs.New.{is_root_pair, any_root_pair, is_redundant};
+ghost use Rattle.map_canonical.specs.Canonical.{max_elements, non_root_with_elements, kept_indices, canonical_indices, canonical_selection, HoldsElementCounts, keeps_pair};
 
 // Returns whether pair `i` is `/`→`/`.
 fn is_root_pair(store: &[u8], places: &[usize], i: usize) -> bool
-    ensures { result ≡ isRootPair (pairIn store.now places.now i) }
+    ensures { result ≡ is_root_pair (pair_in store.now places.now i) }
 {
     if !path_grammar::is_root(pair_list::key_at(store, places, i, false)) {
         return false;
@@ -21,7 +21,7 @@ fn is_root_pair(store: &[u8], places: &[usize], i: usize) -> bool
 
 // Returns whether one of the first n pairs is `/`→`/`.
 fn any_root_pair(store: &[u8], places: &[usize], n: usize) -> bool
-    ensures { result ≡ anyRootPair (pairsIn store.now places.now n) }
+    ensures { result ≡ any_root_pair (pairs_in store.now places.now n) }
 {
     let mut i = 0;
     while i < n {
@@ -35,7 +35,7 @@ fn any_root_pair(store: &[u8], places: &[usize], n: usize) -> bool
 
 // Returns whether the map of the first n pairs has the mark.
 pub fn is_marked(mark: bool, store: &[u8], places: &[usize], n: usize) -> bool
-    ensures { result ≡ (mark || anyRootPair (pairsIn store.now places.now n)) }
+    ensures { result ≡ (mark || any_root_pair (pairs_in store.now places.now n)) }
 {
     if mark {
         return true;
@@ -59,7 +59,7 @@ fn fill_element_counts(
 ) -> path_prefix::Elements
     requires { n ≤ length keys.old }
     ensures holds_element_counts { HoldsElementCounts store.now places.now n keys.new }
-    ensures result_value { result.0 ≡ maxElements store.now places.now n }
+    ensures result_value { result.0 ≡ max_elements store.now places.now n }
 {
     let mut top = path_prefix::Elements(0);
     let mut i = 0;
@@ -75,7 +75,7 @@ fn fill_element_counts(
 // Returns whether the first n kept pairs, or the mark, map the source to the target, so that such a pair
 // is redundant.
 fn is_redundant(store: &[u8], kept: &[usize], n: usize, mark: bool, s: &[u8], t: &[u8]) -> bool
-    ensures { result ≡ isRedundant (lentMap store.now kept.now n mark)
+    ensures { result ≡ is_redundant (lent_map store.now kept.now n mark)
         (record { source = s.now; target = t.now }) }
 {
     let f = map_lookup::best_prefix(store, kept, n, false, s);
@@ -104,11 +104,11 @@ fn keep_pair(
     w: usize,
 ) -> usize
     requires { w ≤ length kept.old }
-    ensures value { result ≡ cond (keepsPair isRedundant store.now places.now i key.0 e.0 mark
+    ensures value { result ≡ cond (keeps_pair is_redundant store.now places.now i key.0 e.0 mark
         kept.old w) (w + 1) w }
     ensures kept_after { kept.new ≡ cond
-        (keepsPair isRedundant store.now places.now i key.0 e.0 mark kept.old w)
-        (copyEntry places.now i w kept.old) kept.old }
+        (keeps_pair is_redundant store.now places.now i key.0 e.0 mark kept.old w)
+        (copy_entry places.now i w kept.old) kept.old }
 {
     if key.0 != e.0 {
         return w;
@@ -139,11 +139,11 @@ fn keep_level(
 ) -> usize
     requires n_in_bounds { (4 * n ≤ length places.now) × (n ≤ length keys.now) }
     requires holds_element_counts { HoldsElementCounts store.now places.now n keys.now }
-    requires n_in_bounds_2 { 4 * (w + length (nonRootWithElements store.now places.now e.0 n)) ≤ length kept.old }
+    requires n_in_bounds_2 { 4 * (w + length (non_root_with_elements store.now places.now e.0 n)) ≤ length kept.old }
     ensures { (picks old : List ℕ) → HoldsEntries places.now picks old kept.old w →
         HoldsEntries places.now
-        (keptIndices isRedundant store.now places.now mark picks
-        (nonRootWithElements store.now places.now e.0 n)) old kept.new result }
+        (kept_indices is_redundant store.now places.now mark picks
+        (non_root_with_elements store.now places.now e.0 n)) old kept.new result }
 {
     let mut k = w;
     let mut i = 0;
@@ -162,7 +162,7 @@ fn canonicalize(store: &[u8], places: &[usize], n: usize, mark: bool, kept: &mut
     requires n_bound { (n ≤ 64) × (4 * n ≤ length places.now) }
     requires in_bounds { 256 ≤ length kept.old }
     ensures { HoldsEntries places.now
-        (canonicalIndices isRedundant store.now places.now n mark) kept.old
+        (canonical_indices is_redundant store.now places.now n mark) kept.old
         kept.new result }
 {
     let mut keys = [0usize; 64];
@@ -185,10 +185,10 @@ pub fn canonical_places(
     mark: bool,
     kept: &mut [usize],
 ) -> usize
-    ensures value { result ≡ length (canonicalSelection (lentList store.now places.now n) mark
+    ensures value { result ≡ length (canonical_selection (lent_list store.now places.now n) mark
         (length kept.old)) }
-    ensures kept_after { kept.new ≡ writtenEntries places.now
-        (canonicalSelection (lentList store.now places.now n) mark (length kept.old))
+    ensures kept_after { kept.new ≡ written_entries places.now
+        (canonical_selection (lent_list store.now places.now n) mark (length kept.old))
         kept.old }
 {
     if !validate::can_select(places, n, kept.len()) {

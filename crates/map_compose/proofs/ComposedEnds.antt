@@ -6,93 +6,93 @@ use mathlib.Core.Option.{Option, none, some}
 use Prim.Native.Nat.{ℕ, zero, suc}
 use lib.Dec.{eqb}
 use lib.ListN.{length, take, drop}
-use Rattle.text.specs.Text.{Text, isNil, lacksByte}
-use Rattle.text.proofs.BoolLaws.{and_l, and_r, and_no, not-true}
-use Rattle.text.proofs.TextLaws.{no_text, lacks-first, lacks-after}
-use Rattle.path_grammar.specs.Legal.{isRoot, legal, isEnd}
-use Rattle.path_grammar.proofs.LegalLaws.{end-scan, end-legal, end-lacks, end-undotted}
-use Rattle.path_prefix.specs.Prefix.{hasPrefix, canFollow}
-use Rattle.path_join.specs.Join.{join, replacePrefix, startsSuffix, joinIllegal}
-use Rattle.path_prefix.proofs.PrefixLaws.{prefix-rest}
-use Rattle.path_join.proofs.ReplaceLaws.{replace-prefix}
-use Rattle.path_join.proofs.TailLaws.{join-lacks}
-use Rattle.path_join.proofs.JoinLegal.{join-legal}
-use Rattle.pair_list.specs.Pair.{Pair, everyEnd, allEnds}
-use Rattle.pair_list.specs.LongestMatch.{longestMatch, matches}
-use Rattle.pair_list.proofs.LongestMatchLaws.{chosen-best}
-use Rattle.map_spec.specs.Map.{Map, mapSource, mapTarget, mapSize, mapBy, matchSource, matchTarget, mapSourceToTarget, mapTargetToSource}
-use Rattle.map_spec.proofs.EndLaws.{ends-source, ends-target}
+use Rattle.text.specs.Text.{Text, is_nil, lacks_byte}
+use Rattle.text.proofs.BoolLaws.{and_l, and_r, and_no, not_true}
+use Rattle.text.proofs.TextLaws.{no_text, lacks_first, lacks_after}
+use Rattle.path_grammar.specs.Legal.{is_root, legal, is_end}
+use Rattle.path_grammar.proofs.LegalLaws.{end_scan, end_legal, end_lacks, end_undotted}
+use Rattle.path_prefix.specs.Prefix.{has_prefix, can_follow}
+use Rattle.path_join.specs.Join.{join, replace_prefix, starts_suffix, join_illegal}
+use Rattle.path_prefix.proofs.PrefixLaws.{prefix_rest}
+use Rattle.path_join.proofs.ReplaceLaws.{replace_prefix_lem}
+use Rattle.path_join.proofs.TailLaws.{join_lacks}
+use Rattle.path_join.proofs.JoinLegal.{join_legal}
+use Rattle.pair_list.specs.Pair.{Pair, every_end, all_ends}
+use Rattle.pair_list.specs.LongestMatch.{longest_match, matches}
+use Rattle.pair_list.proofs.LongestMatchLaws.{chosen_best}
+use Rattle.map_spec.specs.Map.{Map, map_source, map_target, map_size, map_by, match_source, match_target, map_source_to_target, map_target_to_source}
+use Rattle.map_spec.proofs.EndLaws.{ends_source, ends_target}
 use Rattle.map_compose.specs.Calls.{ComposedEnds}
-use Rattle.compose_pairs.proofs.EveryLaws.{composed-every}
+use Rattle.compose_pairs.proofs.EveryLaws.{composed_every}
 
 -- The remainder after a prefix of an end begins with no property and no selection.
-no-suffix : (r : Text) → lacksByte 123 r ≡ true → lacksByte 46 r ≡ true → startsSuffix r ≡ false
-unfolding startsSuffix
-no-suffix [] e f = refl
-no-suffix (a ∷ r) e f = rw (lacks-first 46 a r f, lacks-first 123 a r e)
+no_suffix : (r : Text) → lacks_byte 123 r ≡ true → lacks_byte 46 r ≡ true → starts_suffix r ≡ false
+unfolding starts_suffix
+no_suffix [] e f = refl
+no_suffix (a ∷ r) e f = rw (lacks_first 46 a r f, lacks_first 123 a r e)
 
 -- The join of ends is an end.
-join-end : (s t r : Text) → isEnd (s ++ r) ≡ true → isEnd s ≡ true → isNil s ≡ false → isEnd t ≡ true → canFollow s r ≡ true → isEnd (join s t r) ≡ true
-unfolding joinIllegal
-join-end s t r ep es ns et f =
-    let e : lacksByte 123 r ≡ true = lacks-after 123 s r (end-lacks (s ++ r) ep) in
-    let g : lacksByte 46 r ≡ true = lacks-after 46 s r (end-undotted (s ++ r) ep) in
+join_end : (s t r : Text) → is_end (s ++ r) ≡ true → is_end s ≡ true → is_nil s ≡ false → is_end t ≡ true → can_follow s r ≡ true → is_end (join s t r) ≡ true
+unfolding join_illegal
+join_end s t r ep es ns et f =
+    let e : lacks_byte 123 r ≡ true = lacks_after 123 s r (end_lacks (s ++ r) ep) in
+    let g : lacks_byte 46 r ≡ true = lacks_after 46 s r (end_undotted (s ++ r) ep) in
     let l : legal (join s t r) ≡ true
-    = join-legal s t r (end-legal (s ++ r) ep) es ns et f ∙ ap not (ap (λ (b : Bool). (isNil t || isRoot t) && b) (no-suffix r e g) ∙ and_no (isNil t || isRoot t)) in
-    rw (end-scan (join s t r), l, join-lacks 123 refl s t r (end-lacks t et), e, join-lacks 46 refl s t r (end-undotted t et), g)
+    = join_legal s t r (end_legal (s ++ r) ep) es ns et f ∙ ap not (ap (λ (b : Bool). (is_nil t || is_root t) && b) (no_suffix r e g) ∙ and_no (is_nil t || is_root t)) in
+    rw (end_scan (join s t r), l, join_lacks 123 refl s t r (end_lacks t et), e, join_lacks 46 refl s t r (end_undotted t et), g)
 
-replaced-end : (p s t q : Text) → isEnd p ≡ true → isEnd s ≡ true → isNil s ≡ false → isEnd t ≡ true → hasPrefix p s ≡ true → replacePrefix p s t ≡ some q
-    → isEnd q ≡ true
-replaced-end p s t q ep es ns et h e =
-    let w = prefix-rest p s h in
-    let z : q ≡ join s t (drop (length s) p) = let y : some q ≡ some (join s t (drop (length s) p)) = sym e ∙ replace-prefix p s t h in cc in
-    rw z (join-end s t (drop (length s) p) (rw w.0 at ep) es ns et w.1)
+replaced_end : (p s t q : Text) → is_end p ≡ true → is_end s ≡ true → is_nil s ≡ false → is_end t ≡ true → has_prefix p s ≡ true → replace_prefix p s t ≡ some q
+    → is_end q ≡ true
+replaced_end p s t q ep es ns et h e =
+    let w = prefix_rest p s h in
+    let z : q ≡ join s t (drop (length s) p) = let y : some q ≡ some (join s t (drop (length s) p)) = sym e ∙ replace_prefix_lem p s t h in cc in
+    rw z (join_end s t (drop (length s) p) (rw w.0 at ep) es ns et w.1)
 
-served : (p : Text) (key : ℕ → Text) (n i : ℕ) → longestMatch p key n ≡ some i → (not (isNil (key i)) && hasPrefix p (key i)) ≡ true
-unfolding longestMatch matches
-served p key n i e = (chosen-best (matches p) key n i e).does-pass
+served : (p : Text) (key : ℕ → Text) (n i : ℕ) → longest_match p key n ≡ some i → (not (is_nil (key i)) && has_prefix p (key i)) ≡ true
+unfolding longest_match matches
+served p key n i e = (chosen_best (matches p) key n i e).does_pass
 
 -- Plain mapping of an end through pairs of ends yields an end.
-by_end : (m : Map) (a b : ℕ → Text) (p q : Text) (n : ℕ) (o : Option ℕ) → longestMatch p a n ≡ o → ((i : ℕ) → isEnd (a i) ≡ true) → ((i : ℕ) → isEnd (b i) ≡ true)
-    → isEnd p ≡ true → mapBy m a b p o ≡ some q → isEnd q ≡ true
+by_end : (m : Map) (a b : ℕ → Text) (p q : Text) (n : ℕ) (o : Option ℕ) → longest_match p a n ≡ o → ((i : ℕ) → is_end (a i) ≡ true) → ((i : ℕ) → is_end (b i) ≡ true)
+    → is_end p ≡ true → map_by m a b p o ≡ some q → is_end q ≡ true
 by_end m a b p q n none c ea eb ep e = go m.mark e
   where
-    go : (t : Bool) → cond t (some p) none ≡ some q → isEnd q ≡ true
+    go : (t : Bool) → cond t (some p) none ≡ some q → is_end q ≡ true
     go true e = let z : p ≡ q = cc in rw z at ep
     go false e = absurd (no_text e)
-by_end m a b p q n (some i) c ea eb ep e = go (isNil (mapTarget m i)) e
+by_end m a b p q n (some i) c ea eb ep e = go (is_nil (map_target m i)) e
   where
-    passes : (not (isNil (a i)) && hasPrefix p (a i)) ≡ true
+    passes : (not (is_nil (a i)) && has_prefix p (a i)) ≡ true
     passes = served p a n i c
 
-    go : (t : Bool) → cond t none (replacePrefix p (a i) (b i)) ≡ some q → isEnd q ≡ true
+    go : (t : Bool) → cond t none (replace_prefix p (a i) (b i)) ≡ some q → is_end q ≡ true
     go true e = absurd (no_text e)
     go false e =
-        replaced-end p (a i) (b i) q ep (ea i) (not-true (isNil (a i)) (and_l (not (isNil (a i))) (hasPrefix p (a i)) passes)) (eb i)
-        (and_r (not (isNil (a i))) (hasPrefix p (a i)) passes) e
+        replaced_end p (a i) (b i) q ep (ea i) (not_true (is_nil (a i)) (and_l (not (is_nil (a i))) (has_prefix p (a i)) passes)) (eb i)
+        (and_r (not (is_nil (a i))) (has_prefix p (a i)) passes) e
 
-out-end : (m : Map) → allEnds m.pairs ≡ true → (p q : Text) → isEnd p ≡ true → mapSourceToTarget m p ≡ some q → isEnd q ≡ true
-unfolding mapSourceToTarget matchSource
-out-end m em p q ep e = by_end m (mapSource m) (mapTarget m) p q (mapSize m) (matchSource m p) refl (ends-source m.pairs em) (ends-target m.pairs em) ep e
+out_end : (m : Map) → all_ends m.pairs ≡ true → (p q : Text) → is_end p ≡ true → map_source_to_target m p ≡ some q → is_end q ≡ true
+unfolding map_source_to_target match_source
+out_end m em p q ep e = by_end m (map_source m) (map_target m) p q (map_size m) (match_source m p) refl (ends_source m.pairs em) (ends_target m.pairs em) ep e
 
-home-end : (m : Map) → allEnds m.pairs ≡ true → (p q : Text) → isEnd p ≡ true → mapTargetToSource m p ≡ some q → isEnd q ≡ true
-unfolding mapTargetToSource matchTarget
-home-end m em p q ep e = by_end m (mapTarget m) (mapSource m) p q (mapSize m) (matchTarget m p) refl (ends-target m.pairs em) (ends-source m.pairs em) ep e
+home_end : (m : Map) → all_ends m.pairs ≡ true → (p q : Text) → is_end p ≡ true → map_target_to_source m p ≡ some q → is_end q ≡ true
+unfolding map_target_to_source match_target
+home_end m em p q ep e = by_end m (map_target m) (map_source m) p q (map_size m) (match_target m p) refl (ends_target m.pairs em) (ends_source m.pairs em) ep e
 
-no_end : isEnd [] ≡ true
-unfolding isEnd
+no_end : is_end [] ≡ true
+unfolding is_end
 no_end = refl
 
-pub composed-ends : ComposedEnds
-unfolding allEnds
-composed-ends outer inner eo ei =
-    composed-every isEnd isEnd (λ t e. e) no_end outer inner (λ t q e. out-end outer eo t q e) (λ s q e. home-end inner ei s q e) eo ei
+pub composed_ends : ComposedEnds
+unfolding all_ends
+composed_ends outer inner eo ei =
+    composed_every is_end is_end (λ t e. e) no_end outer inner (λ t q e. out_end outer eo t q e) (λ s q e. home_end inner ei s q e) eo ei
 
 -- Ends are legal.
-pub ends-legal : (l : List Pair) → allEnds l ≡ true → everyEnd legal l ≡ true
-unfolding allEnds everyEnd
-ends-legal [] e = refl
-ends-legal (x ∷ l) e =
-    let s : isEnd x.source ≡ true = search (and_l, and_r) in
-    let t : isEnd x.target ≡ true = search (and_l, and_r) in
-    rw (end-legal x.source s, end-legal x.target t) (ends-legal l (search (and_l, and_r)))
+pub ends_legal : (l : List Pair) → all_ends l ≡ true → every_end legal l ≡ true
+unfolding all_ends every_end
+ends_legal [] e = refl
+ends_legal (x ∷ l) e =
+    let s : is_end x.source ≡ true = search (and_l, and_r) in
+    let t : is_end x.target ≡ true = search (and_l, and_r) in
+    rw (end_legal x.source s, end_legal x.target t) (ends_legal l (search (and_l, and_r)))

@@ -1,17 +1,17 @@
 // Composes two maps into one, after validating both. Ports `MapFunction::compose` of pcp/mapping.rs.
 ghost use Rattle.std.specs.Prelude.{◌≡◌, ◌+◌};
 ghost use Rattle.validate.specs.Validate.{ValidList};
-ghost use Rattle.map_function.specs.MapFunction.{list_of, mapOf};
+ghost use Rattle.map_function.specs.MapFunction.{list_of, map_of};
 ghost use Rattle.map_function.specs.MapOutcome.{ReturnsMap};
 ghost use Rattle.pair_list_write.specs.Packed.{ScratchRoom};
-ghost use Rattle.map_compose.specs.Calls.{composedTime, composeLists, composeCall};
+ghost use Rattle.map_compose.specs.Calls.{composed_time, compose_lists, compose_call};
 
 // The time offset of the composed map.
 pub fn composed_time(
     outer: layer_offset::LayerOffset,
     inner: layer_offset::LayerOffset,
 ) -> layer_offset::LayerOffset
-    ensures { result ≡ composedTime outer inner }
+    ensures { result ≡ composed_time outer inner }
 {
     if validate::both(outer.is_identity(), inner.is_identity()) {
         return layer_offset::LayerOffset::IDENTITY;
@@ -37,8 +37,8 @@ fn compose_in(
     requires valid_list { ValidList (list_of store.now places.now outer) }
     requires valid_list_2 { ValidList (list_of istore.now iplaces.now inner) }
     requires scratch_room { ScratchRoom 1534 (inner.count + outer.count) bytes.old own.old }
-    ensures { ReturnsMap (composeLists (mapOf store.now places.now outer)
-        (mapOf istore.now iplaces.now inner) time out.old slots.old) result
+    ensures { ReturnsMap (compose_lists (map_of store.now places.now outer)
+        (map_of istore.now iplaces.now inner) time out.old slots.old) result
         out.old out.new slots.old slots.new }
 {
     let mark = outer.has_root_identity;
@@ -74,8 +74,8 @@ fn compose_lists(
 ) -> map_function::MapReply
     requires valid_list { ValidList (list_of store.now places.now outer) }
     requires valid_list_2 { ValidList (list_of istore.now iplaces.now inner) }
-    ensures { ReturnsMap (composeLists (mapOf store.now places.now outer)
-        (mapOf istore.now iplaces.now inner) time out.old slots.old) result
+    ensures { ReturnsMap (compose_lists (map_of store.now places.now outer)
+        (map_of istore.now iplaces.now inner) time out.old slots.old) result
         out.old out.new slots.old slots.new }
 {
     if inner.count + outer.count <= 4 {
@@ -103,7 +103,7 @@ pub fn compose(
     out: &mut [u8],
     slots: &mut [usize],
 ) -> map_function::MapReply
-    ensures { ReturnsMap (composeCall store.now places.now outer istore.now
+    ensures { ReturnsMap (compose_call store.now places.now outer istore.now
         iplaces.now inner out.old slots.old) result out.old out.new
         slots.old slots.new }
 {

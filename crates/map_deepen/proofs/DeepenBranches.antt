@@ -7,203 +7,203 @@ use Prim.Native.Nat.{ℕ, ◌+◌, ◌*◌, ◌≤◌, ◌<◌}
 use native.Mathlib.Omega.{arith}
 use lib.ListN.{length, take}
 use borrow.Author.Tests.{lt-leb}
-use Rattle.text.specs.Text.{Text, equal, writtenIfFits, fitOf}
+use Rattle.text.specs.Text.{Text, equal, written_if_fits, fit_of}
 use Rattle.text.specs.declared.Fit.{Fit}
 use Rattle.text.specs.declared.Fit.TheVariants.{Written}
-use Rattle.text.proofs.BoolLaws.{told, not-true, not-false}
-use Rattle.path_grammar.specs.Legal.{legal, atMost255, isEnd}
-use Rattle.path_prefix.specs.Prefix.{hasPrefix}
-use Rattle.path_join.specs.Join.{replacePrefix}
-use Rattle.path_join.proofs.ReplaceLaws.{replace-prefix}
-use Rattle.path_parts.specs.Strip.{strip, stripFit, stripBuffer}
-use Rattle.path_parts.proofs.StripLaws.{strip-shorter, strip-length, strip-back}
+use Rattle.text.proofs.BoolLaws.{told, not_true, not_false}
+use Rattle.path_grammar.specs.Legal.{legal, at_most255, is_end}
+use Rattle.path_prefix.specs.Prefix.{has_prefix}
+use Rattle.path_join.specs.Join.{replace_prefix}
+use Rattle.path_join.proofs.ReplaceLaws.{replace_prefix_lem}
+use Rattle.path_parts.specs.Strip.{strip, strip_fit, strip_buffer}
+use Rattle.path_parts.proofs.StripLaws.{strip_shorter, strip-length, strip-back}
 use Rattle.layer_offset.specs.declared.LayerOffset.{LayerOffset}
 use Rattle.map_deepen.specs.declared.ClassSoFar.{ClassSoFar}
-use Rattle.pair_list.specs.Pair.{Pair, pair, allShort}
-use Rattle.pair_list.specs.Places.{key_at, pairIn, pairsIn}
-use Rattle.pair_list.specs.BestStep.{bestKept, indexKept}
-use Rattle.pair_list.specs.LongestMatch.{longestBy}
-use Rattle.pair_list.proofs.BestLaws.{search-none, step-fails, step-lighter, step-heavier, step-first}
-use Rattle.pair_list.proofs.LongestMatchLaws.{IsLongest, chosen-best, best-same}
-use Rattle.pair_list.proofs.PlaceLaws.{pair_is, pairsIn-length, pairsIn-source, pairsIn-target}
+use Rattle.pair_list.specs.Pair.{Pair, pair, all_short}
+use Rattle.pair_list.specs.Places.{key_at, pair_in, pairs_in}
+use Rattle.pair_list.specs.BestStep.{best_kept, index_kept}
+use Rattle.pair_list.specs.LongestMatch.{longest_by}
+use Rattle.pair_list.proofs.BestLaws.{search_none, step_fails, step-lighter, step-heavier, step-first}
+use Rattle.pair_list.proofs.LongestMatchLaws.{IsLongest, chosen_best, best_same}
+use Rattle.pair_list.proofs.PlaceLaws.{pair_is, pairs_in_length, pairs_in_source, pairs_in_target}
 use Rattle.pair_list_write.specs.Packed.{AppendedPair}
 use Rattle.refusal.specs.declared.Refusal.{Refusal}
 use Rattle.refusal.specs.declared.Refusal.TheVariants.{TooLong}
 use Rattle.refusal.specs.declared.Validation.{Validation}
 use Rattle.refusal.specs.declared.Validation.TheVariants.{Passed, Refused as RefusedValidation}
-use Rattle.validate.specs.Validate.{LentList, every, firstFailed, validateCall, ValidList}
-use Rattle.validate.proofs.PassedLaws.{first-sound, text-short}
-use Rattle.map_spec.specs.Map.{Map, mapSource, mapTarget, mapSize}
-use Rattle.map_spec.specs.New.{fromParts}
-use Rattle.map_spec.specs.Compose.{hasSource}
-use Rattle.map_spec.specs.Derive.{deepenedPair, deepenBy, deepenTo}
+use Rattle.validate.specs.Validate.{LentList, every, first_failed, validate_call, ValidList}
+use Rattle.validate.proofs.PassedLaws.{first_sound, text_short}
+use Rattle.map_spec.specs.Map.{Map, map_source, map_target, map_size}
+use Rattle.map_spec.specs.New.{from_parts}
+use Rattle.map_spec.specs.Compose.{has_source}
+use Rattle.map_spec.specs.Derive.{deepened_pair, deepen_by, deepen_to}
 use Rattle.map_function.specs.declared.MapFunction.{MapFunction}
-use Rattle.map_function.specs.MapFunction.{list_of, mapOf}
-use Rattle.map_function.specs.MapOutcome.{MapOutcome, map, refused, withinLimits, withoutDropping, countInSlice}
-use Rattle.pair_buffer.specs.Ends.{replacedOrSame, writtenLength, fromEnds}
-use Rattle.pair_buffer.proofs.LengthLaws.{placed-back, short-target, replaced-short}
-use Rattle.pair_buffer.proofs.MapLaws.{held_all, limited-map, fromEnds-map}
-use Rattle.map_deepen.specs.FindClass.{classIndex}
-use Rattle.map_deepen.specs.Calls.{deepenedPairs, deepenedMap, deepenedAt, deepenOutcomeBy, deepenOutcome, DeepensTo, deepenToCall}
+use Rattle.map_function.specs.MapFunction.{list_of, map_of}
+use Rattle.map_function.specs.MapOutcome.{MapOutcome, map, refused, within_limits, without_dropping, count_in_slice}
+use Rattle.pair_buffer.specs.Ends.{replaced_or_same, written_length, from_ends}
+use Rattle.pair_buffer.proofs.LengthLaws.{placed_back, short_target, replaced_short}
+use Rattle.pair_buffer.proofs.MapLaws.{held_all, limited_map, from_ends_map}
+use Rattle.map_deepen.specs.FindClass.{class_index}
+use Rattle.map_deepen.specs.Calls.{deepened_pairs, deepened_map, deepened_at, deepen_outcome_by, deepen_outcome, DeepensTo, deepen_to_call}
 
 -- `deepen_pair`
 module _ (s t node above below : Text) (b : Bool) (h : b ≡ equal s above) where
-  deepened-class : b ≡ true → deepenedPair node above below (pair s t) ≡ pair node below
+  deepened_class : b ≡ true → deepened_pair node above below (pair s t) ≡ pair node below
   unfolding equal
-  deepened-class k = ap (λ (c : Bool). cond c (pair node below) (pair s t)) (told h k)
+  deepened_class k = ap (λ (c : Bool). cond c (pair node below) (pair s t)) (told h k)
 
-  deepened-other : b ≡ false → deepenedPair node above below (pair s t) ≡ pair s t
+  deepened_other : b ≡ false → deepened_pair node above below (pair s t) ≡ pair s t
   unfolding equal
-  deepened-other k = ap (λ (c : Bool). cond c (pair node below) (pair s t)) (told h k)
+  deepened_other k = ap (λ (c : Bool). cond c (pair node below) (pair s t)) (told h k)
 
   module _ (at n r : ℕ) (out out' : Text) (slots slots' : List ℕ) where
     abbrev Done : Type 0
-    Done = AppendedPair (deepenedPair node above below (pair s t)) n at out slots r out' slots' × (r ≤ at + 766)
+    Done = AppendedPair (deepened_pair node above below (pair s t)) n at out slots r out' slots' × (r ≤ at + 766)
 
     pub deepen-class : b ≡ true → length node ≤ 255 → length below ≤ 511 → AppendedPair (pair node below) n at out slots r out' slots' → Done
-    deepen-class k l m w = rw (deepened-class k) (w, omega (arith, w.end))
+    deepen-class k l m w = rw (deepened_class k) (w, omega (arith, w.end))
 
     pub deepen-other : b ≡ false → length s ≤ 255 → length t ≤ 255 → AppendedPair (pair s t) n at out slots r out' slots' → Done
-    deepen-other k l m w = rw (deepened-other k) (w, omega (arith, w.end))
+    deepen-other k l m w = rw (deepened_other k) (w, omega (arith, w.end))
 
 -- `deepen_all`
-pub deepened-pair : (store : Text) (places : List ℕ) (i : ℕ) (node above below s t : Text) → s ≡ key_at store places false i → t ≡ key_at store places true i
-    → deepenedPair node above below (pairIn store places i) ≡ deepenedPair node above below (pair s t)
-deepened-pair store places i node above below s t e f = ap (deepenedPair node above below) (sym (pair_is store places i s t e f))
+pub deepened_pair_lem : (store : Text) (places : List ℕ) (i : ℕ) (node above below s t : Text) → s ≡ key_at store places false i → t ≡ key_at store places true i
+    → deepened_pair node above below (pair_in store places i) ≡ deepened_pair node above below (pair s t)
+deepened_pair_lem store places i node above below s t e f = ap (deepened_pair node above below) (sym (pair_is store places i s t e f))
 
 -- `deepen_by`: the node mapped by the class pair, made in a buffer of 511 bytes.
 pub record IsMade (q : Text) (k : ℕ) (made : Text) : Type 0 where
   pub short : k ≤ 511
   pub part : k ≡ length (take k made)
-  pub part-short : length (take k made) ≤ 511
+  pub part_short : length (take k made) ≤ 511
   pub text : take k made ≡ q
 
-pub below-made : (store : Text) (places : List ℕ) (n i : ℕ) → i < n → allShort (pairsIn store places n) ≡ true
+pub below_made : (store : Text) (places : List ℕ) (n i : ℕ) → i < n → all_short (pairs_in store places n) ≡ true
     → (node above new : Text) → length node ≤ 255 → new ≡ key_at store places true i → (k : ℕ) (buffer made : Text) → length buffer ≡ 511
-    → (k ≡ writtenLength (fitOf (replacedOrSame node above new) buffer)) × (made ≡ writtenIfFits 0 (replacedOrSame node above new) buffer)
-    → IsMade (replacedOrSame node above new) k made
-below-made store places n i h e node above new ln f k buffer made size w =
-    let q : Text = replacedOrSame node above new in
-    let l : length q ≤ 511 = replaced-short node above new ln (short-target store places n i h e new f) in
-    let z = placed-back q buffer k made w (rw size l) in
-    record { short = omega (arith, z.0); part = omega (arith, z.0, ap length z.1); part-short = omega (arith, ap length z.1); text = z.1 }
+    → (k ≡ written_length (fit_of (replaced_or_same node above new) buffer)) × (made ≡ written_if_fits 0 (replaced_or_same node above new) buffer)
+    → IsMade (replaced_or_same node above new) k made
+below_made store places n i h e node above new ln f k buffer made size w =
+    let q : Text = replaced_or_same node above new in
+    let l : length q ≤ 511 = replaced_short node above new ln (short_target store places n i h e new f) in
+    let z = placed_back q buffer k made w (rw size l) in
+    record { short = omega (arith, z.0); part = omega (arith, z.0, ap length z.1); part_short = omega (arith, ap length z.1); text = z.1 }
 
-pub deepen-same : (q : Text) (k : ℕ) (made : Text) → IsMade q k made → (store : Text) (places : List ℕ) (f : MapFunction) (node : Text) (i : ℕ) (above new : Text)
-    → above ≡ key_at store places false i → new ≡ key_at store places true i → q ≡ replacedOrSame node above new → (out : Text) (slots : List ℕ)
-    → deepenedAt store places f node i out slots ≡ deepenedMap (mapOf store places f) node above (take k made) f.time_offset out slots
-deepen-same q k made t store places f node i above new g h j out slots = rw (t.text, j, g, h) refl
+pub deepen_same : (q : Text) (k : ℕ) (made : Text) → IsMade q k made → (store : Text) (places : List ℕ) (f : MapFunction) (node : Text) (i : ℕ) (above new : Text)
+    → above ≡ key_at store places false i → new ≡ key_at store places true i → q ≡ replaced_or_same node above new → (out : Text) (slots : List ℕ)
+    → deepened_at store places f node i out slots ≡ deepened_map (map_of store places f) node above (take k made) f.time_offset out slots
+deepen_same q k made t store places f node i above new g h j out slots = rw (t.text, j, g, h) refl
 
 -- `consider_class` and `find_class`
-pub ruleset classes = (step-fails, step-lighter, step-heavier, step-first, search-none)
+pub ruleset classes = (step_fails, step-lighter, step-heavier, step-first, search_none)
 
 -- `strip_node`
-pub node_done : (p out : Text) (f : Fit) → length p ≤ length out → f ≡ stripFit p out → (n : ℕ) → f ≡ Written n → (out' : Text) → out' ≡ stripBuffer p out
+pub node_done : (p out : Text) (f : Fit) → length p ≤ length out → f ≡ strip_fit p out → (n : ℕ) → f ≡ Written n → (out' : Text) → out' ≡ strip_buffer p out
     → (n ≡ length (strip p)) × ((take n out' ≡ strip p) × (n ≤ length out))
 node_done p out f h e n k out' w =
     let z : n ≡ length (strip p) = strip-length p out f h e n k in
-    (z, (strip-back p out f h e n k out' w, omega (arith, strip-shorter p)))
+    (z, (strip-back p out f h e n k out' w, omega (arith, strip_shorter p)))
 
 -- The second text and the second end to validate are empty.
-validate-node : (l : LentList) (p e : Text) → validateCall (l ∷ []) (p ∷ [] ∷ []) (e ∷ [] ∷ []) ≡ validateCall (l ∷ []) (p ∷ []) (e ∷ [])
-unfolding validateCall every atMost255 legal isEnd
-validate-node l p e = refl
+validate_node : (l : LentList) (p e : Text) → validate_call (l ∷ []) (p ∷ [] ∷ []) (e ∷ [] ∷ []) ≡ validate_call (l ∷ []) (p ∷ []) (e ∷ [])
+unfolding validate_call every at_most255 legal is_end
+validate_node l p e = refl
 
 -- `deepen_node`
 module _ (store : Text) (places : List ℕ) (f : MapFunction) (p node : Text) (out : Text) (slots : List ℕ) (is : node ≡ strip p)
-    (q : Validation) (h : q ≡ validateCall (list_of store places f ∷ []) (p ∷ [] ∷ []) (node ∷ [] ∷ [])) where
+    (q : Validation) (h : q ≡ validate_call (list_of store places f ∷ []) (p ∷ [] ∷ []) (node ∷ [] ∷ [])) where
   abbrev m : Map
-  m = mapOf store places f
+  m = map_of store places f
 
-  validated-is : q ≡ validateCall (list_of store places f ∷ []) (p ∷ []) (strip p ∷ [])
-  validated-is = h ∙ validate-node (list_of store places f) p node ∙ rw is refl
+  validated_is : q ≡ validate_call (list_of store places f ∷ []) (p ∷ []) (strip p ∷ [])
+  validated_is = h ∙ validate_node (list_of store places f) p node ∙ rw is refl
 
-  pub deepen-refused : (x : Refusal) → q ≡ RefusedValidation x → deepenToCall store places f p out slots ≡ refused x
-  unfolding deepenToCall
-  deepen-refused x k = rw (← validated-is, k)
+  pub deepen_refused : (x : Refusal) → q ≡ RefusedValidation x → deepen_to_call store places f p out slots ≡ refused x
+  unfolding deepen_to_call
+  deepen_refused x k = rw (← validated_is, k)
 
   module _ (k : q ≡ Passed) where
     pub sound : ValidList (list_of store places f)
-    sound = first-sound (list_of store places f) [] (p ∷ []) (strip p ∷ []) (sym validated-is ∙ k)
+    sound = first_sound (list_of store places f) [] (p ∷ []) (strip p ∷ []) (sym validated_is ∙ k)
 
-    passed : deepenToCall store places f p out slots ≡ deepenOutcome m node f.time_offset out slots
-    unfolding deepenToCall
-    passed = rw (← validated-is, k, is)
+    passed : deepen_to_call store places f p out slots ≡ deepen_outcome m node f.time_offset out slots
+    unfolding deepen_to_call
+    passed = rw (← validated_is, k, is)
 
     pub deepen-node-short : length node ≤ 255
     deepen-node-short =
-        omega (arith, ap length is, strip-shorter p, text-short (list_of store places f ∷ []) p [] (strip p ∷ []) (sym validated-is ∙ k))
+        omega (arith, ap length is, strip_shorter p, text_short (list_of store places f ∷ []) p [] (strip p ∷ []) (sym validated_is ∙ k))
 
     abbrev asItStands : MapOutcome
-    asItStands = countInSlice (list_of store places f) (withoutDropping (pairsIn store places f.count) f.has_root_identity f.time_offset out slots)
+    asItStands = count_in_slice (list_of store places f) (without_dropping (pairs_in store places f.count) f.has_root_identity f.time_offset out slots)
 
-    stands : withoutDropping (pairsIn store places f.count) f.has_root_identity f.time_offset out slots ≡ asItStands
-    stands = sym (held_all store places f.count (withoutDropping (pairsIn store places f.count) f.has_root_identity f.time_offset out slots) sound.held)
+    stands : without_dropping (pairs_in store places f.count) f.has_root_identity f.time_offset out slots ≡ asItStands
+    stands = sym (held_all store places f.count (without_dropping (pairs_in store places f.count) f.has_root_identity f.time_offset out slots) sound.held)
 
-    module _ (b : Bool) (g : b ≡ hasSource (pairsIn store places f.count) node) where
-      pub deepen-there : b ≡ true → deepenToCall store places f p out slots ≡ asItStands
-      unfolding deepenOutcome
+    module _ (b : Bool) (g : b ≡ has_source (pairs_in store places f.count) node) where
+      pub deepen-there : b ≡ true → deepen_to_call store places f p out slots ≡ asItStands
+      unfolding deepen_outcome
       deepen-there l = passed ∙ rw (told g l) stands
 
-      module _ (l : b ≡ false) (c : ClassSoFar) (i : classIndex c ≡ longestBy (hasPrefix node) (key_at store places false) f.count) where
-        class-is : longestBy (hasPrefix node) (mapSource m) (mapSize m) ≡ classIndex c
+      module _ (l : b ≡ false) (c : ClassSoFar) (i : class_index c ≡ longest_by (has_prefix node) (key_at store places false) f.count) where
+        class-is : longest_by (has_prefix node) (map_source m) (map_size m) ≡ class_index c
         class-is =
-            rw (pairsIn-length store places f.count)
-            (best-same (hasPrefix node) (mapSource m) (key_at store places false) f.count (λ j n. pairsIn-source store places f.count j n) ∙ sym i)
+            rw (pairs_in_length store places f.count)
+            (best_same (has_prefix node) (map_source m) (key_at store places false) f.count (λ j n. pairs_in_source store places f.count j n) ∙ sym i)
 
-        opened : deepenToCall store places f p out slots ≡ deepenOutcomeBy m node (classIndex c) f.time_offset out slots
-        unfolding deepenOutcome
-        opened = passed ∙ rw (told g l) (ap (λ (o : Option ℕ). deepenOutcomeBy m node o f.time_offset out slots) class-is)
+        opened : deepen_to_call store places f p out slots ≡ deepen_outcome_by m node (class_index c) f.time_offset out slots
+        unfolding deepen_outcome
+        opened = passed ∙ rw (told g l) (ap (λ (o : Option ℕ). deepen_outcome_by m node o f.time_offset out slots) class-is)
 
-        pub deepen-none : not c.found ≡ true → deepenToCall store places f p out slots ≡ asItStands
-        unfolding deepenOutcomeBy
-        deepen-none n = opened ∙ ap (λ (x : Bool). deepenOutcomeBy m node (indexKept (bestKept x c.at c.elements.0)) f.time_offset out slots) (not-true c.found n) ∙ stands
+        pub deepen-none : not c.found ≡ true → deepen_to_call store places f p out slots ≡ asItStands
+        unfolding deepen_outcome_by
+        deepen-none n = opened ∙ ap (λ (x : Bool). deepen_outcome_by m node (index_kept (best_kept x c.at c.elements.0)) f.time_offset out slots) (not_true c.found n) ∙ stands
 
         module _ (n : not c.found ≡ false) where
-          chosen_is : longestBy (hasPrefix node) (key_at store places false) f.count ≡ some c.at
-          chosen_is = sym i ∙ ap (λ (x : Bool). indexKept (bestKept x c.at c.elements.0)) (not-false c.found n)
+          chosen_is : longest_by (has_prefix node) (key_at store places false) f.count ≡ some c.at
+          chosen_is = sym i ∙ ap (λ (x : Bool). index_kept (best_kept x c.at c.elements.0)) (not_false c.found n)
 
-          best : IsLongest (hasPrefix node) (key_at store places false) f.count c.at
-          best = chosen-best (hasPrefix node) (key_at store places false) f.count c.at chosen_is
+          best : IsLongest (has_prefix node) (key_at store places false) f.count c.at
+          best = chosen_best (has_prefix node) (key_at store places false) f.count c.at chosen_is
 
           pub deepen-inside : c.at < f.count
-          deepen-inside = best.in-range
+          deepen-inside = best.in_range_lem
 
           abbrev above : Text
           above = key_at store places false c.at
 
-          below-is : get_or (replacePrefix node (mapSource m c.at) (mapTarget m c.at)) [] ≡ replacedOrSame node above (key_at store places true c.at)
+          below-is : get_or (replace_prefix node (map_source m c.at) (map_target m c.at)) [] ≡ replaced_or_same node above (key_at store places true c.at)
           below-is =
               rw (
-                pairsIn-source store places f.count c.at deepen-inside,
-                pairsIn-target store places f.count c.at deepen-inside,
-                replace-prefix node above (key_at store places true c.at) best.does-pass,
+                pairs_in_source store places f.count c.at deepen-inside,
+                pairs_in_target store places f.count c.at deepen-inside,
+                replace_prefix_lem node above (key_at store places true c.at) best.does_pass,
               ) refl
 
-          pub deepen-made : deepenToCall store places f p out slots ≡ deepenedAt store places f node c.at out slots
-          unfolding deepenOutcomeBy
+          pub deepen-made : deepen_to_call store places f p out slots ≡ deepened_at store places f node c.at out slots
+          unfolding deepen_outcome_by
           deepen-made =
               opened
-              ∙ ap (λ (x : Bool). deepenOutcomeBy m node (indexKept (bestKept x c.at c.elements.0)) f.time_offset out slots) (not-false c.found n)
-              ∙ ap (λ (y : Text). fromEnds (deepenedPairs node (mapSource m c.at) y (pairsIn store places f.count)) f.has_root_identity f.time_offset out slots) below-is
-              ∙ ap (λ (y : Text). fromEnds (deepenedPairs node y (replacedOrSame node above (key_at store places true c.at)) (pairsIn store places f.count))
-              f.has_root_identity f.time_offset out slots) (pairsIn-source store places f.count c.at deepen-inside)
+              ∙ ap (λ (x : Bool). deepen_outcome_by m node (index_kept (best_kept x c.at c.elements.0)) f.time_offset out slots) (not_false c.found n)
+              ∙ ap (λ (y : Text). from_ends (deepened_pairs node (map_source m c.at) y (pairs_in store places f.count)) f.has_root_identity f.time_offset out slots) below-is
+              ∙ ap (λ (y : Text). from_ends (deepened_pairs node y (replaced_or_same node above (key_at store places true c.at)) (pairs_in store places f.count))
+              f.has_root_identity f.time_offset out slots) (pairs_in_source store places f.count c.at deepen-inside)
 
 -- `deepen_to`: question 1 is checked first.
-pub deepen-long : (store : Text) (places : List ℕ) (f : MapFunction) (p : Text) (out : Text) (slots : List ℕ) → 255 < length p → deepenToCall store places f p out slots ≡ refused TooLong
-unfolding deepenToCall validateCall every atMost255 firstFailed
-deepen-long store places f p out slots h = rw (lt-leb (length p) 255 h) refl
+pub deepen_long : (store : Text) (places : List ℕ) (f : MapFunction) (p : Text) (out : Text) (slots : List ℕ) → 255 < length p → deepen_to_call store places f p out slots ≡ refused TooLong
+unfolding deepen_to_call validate_call every at_most255 first_failed
+deepen_long store places f p out slots h = rw (lt-leb (length p) 255 h) refl
 
 -- A map that the call returns is the map of the definition.
-by-class : (m n : Map) (node : Text) (o : Option ℕ) (time t : LayerOffset) (out : Text) (slots : List ℕ) → deepenOutcomeBy m node o time out slots ≡ map n t → n ≡ deepenBy m node o
-unfolding deepenOutcomeBy withoutDropping equal replacePrefix fromParts
-by-class m n node none time t out slots e = limited-map n t m.pairs m time out slots e
-by-class m n node (some i) time t out slots e =
-    fromEnds-map n t (deepenedPairs node (mapSource m i) (get_or (replacePrefix node (mapSource m i) (mapTarget m i)) []) m.pairs) m.mark time out slots e
+by_class : (m n : Map) (node : Text) (o : Option ℕ) (time t : LayerOffset) (out : Text) (slots : List ℕ) → deepen_outcome_by m node o time out slots ≡ map n t → n ≡ deepen_by m node o
+unfolding deepen_outcome_by without_dropping equal replace_prefix from_parts
+by_class m n node none time t out slots e = limited_map n t m.pairs m time out slots e
+by_class m n node (some i) time t out slots e =
+    from_ends_map n t (deepened_pairs node (map_source m i) (get_or (replace_prefix node (map_source m i) (map_target m i)) []) m.pairs) m.mark time out slots e
 
-pub deepens-to : DeepensTo
-unfolding deepenOutcome deepenTo withoutDropping
-deepens-to m n path time t out slots e = go (hasSource m.pairs (strip path)) e
+pub deepens_to : DeepensTo
+unfolding deepen_outcome deepen_to without_dropping
+deepens_to m n path time t out slots e = go (has_source m.pairs (strip path)) e
   where
-    go : (b : Bool) → cond b (withinLimits m.pairs m time out slots) (deepenOutcomeBy m (strip path) (longestBy (hasPrefix (strip path)) (mapSource m) (mapSize m)) time out slots) ≡ map n t → n ≡ cond b m (deepenBy m (strip path) (longestBy (hasPrefix (strip path)) (mapSource m) (mapSize m)))
-    go true e = limited-map n t m.pairs m time out slots e
-    go false e = by-class m n (strip path) (longestBy (hasPrefix (strip path)) (mapSource m) (mapSize m)) time t out slots e
+    go : (b : Bool) → cond b (within_limits m.pairs m time out slots) (deepen_outcome_by m (strip path) (longest_by (has_prefix (strip path)) (map_source m) (map_size m)) time out slots) ≡ map n t → n ≡ cond b m (deepen_by m (strip path) (longest_by (has_prefix (strip path)) (map_source m) (map_size m)))
+    go true e = limited_map n t m.pairs m time out slots e
+    go false e = by_class m n (strip path) (longest_by (has_prefix (strip path)) (map_source m) (map_size m)) time t out slots e

@@ -1,20 +1,20 @@
 // Deepens the class of a map to a path, after validation: the class pair is replaced by the node and its
 // image. Ports `MapFunction::deepen_to` of pcp/mapping.rs.
 ghost use Rattle.std.specs.Prelude.{◌≡◌, true, false, ◌+◌, ◌*◌, ◌≤◌, ◌<◌, length, take};
-ghost use Rattle.path_prefix.specs.Prefix.{hasPrefix};
-ghost use Rattle.path_prefix.specs.Elements.{elementCount};
+ghost use Rattle.path_prefix.specs.Prefix.{has_prefix};
+ghost use Rattle.path_prefix.specs.Elements.{element_count};
 ghost use Rattle.path_parts.specs.Strip.{strip};
-ghost use Rattle.pair_list.specs.Pair.{pair, allShort};
-ghost use Rattle.pair_list.specs.Places.{key_at, pairsIn};
-ghost use Rattle.pair_list.specs.BestStep.{considerIndex};
-ghost use Rattle.pair_list.specs.LongestMatch.{longestBy};
-ghost use Rattle.map_spec.specs.Derive.{deepenedPair};
+ghost use Rattle.pair_list.specs.Pair.{pair, all_short};
+ghost use Rattle.pair_list.specs.Places.{key_at, pairs_in};
+ghost use Rattle.pair_list.specs.BestStep.{consider_index};
+ghost use Rattle.pair_list.specs.LongestMatch.{longest_by};
+ghost use Rattle.map_spec.specs.Derive.{deepened_pair};
 ghost use Rattle.validate.specs.Validate.{ValidList};
-ghost use Rattle.map_function.specs.MapFunction.{list_of, mapOf};
+ghost use Rattle.map_function.specs.MapFunction.{list_of, map_of};
 ghost use Rattle.map_function.specs.MapOutcome.{ReturnsMap};
 ghost use Rattle.pair_list_write.specs.Packed.{HoldsList, AppendedPair, ScratchRoom};
-ghost use Rattle.map_deepen.specs.FindClass.{classKept, classIndex};
-ghost use Rattle.map_deepen.specs.Calls.{deepenedPairs, deepenedMap, deepenedAt, deepenToCall};
+ghost use Rattle.map_deepen.specs.FindClass.{class_kept, class_index};
+ghost use Rattle.map_deepen.specs.Calls.{deepened_pairs, deepened_map, deepened_at, deepen_to_call};
 
 // Appends a pair and returns the offset after it: the pair itself, or, if its source is the class's, the pair
 // `node`→`below`.
@@ -35,7 +35,7 @@ fn deepen_pair(
     requires below_len_bound { length below.now ≤ 511 }
     requires at_in_bounds { at + 766 ≤ length bytes.old }
     requires n_in_bounds { 4 * n + 4 ≤ length slots.old }
-    ensures appended_pair { AppendedPair (deepenedPair node.now above.now below.now
+    ensures appended_pair { AppendedPair (deepened_pair node.now above.now below.now
         (pair s.now t.now)) n at bytes.old slots.old result bytes.new
         slots.new }
     ensures upper_bound { result ≤ at + 766 }
@@ -57,12 +57,12 @@ fn deepen_all(
     bytes: &mut [u8],
     slots: &mut [usize],
 ) -> usize
-    requires n_value { allShort (pairsIn store.now places.now n) ≡ true }
+    requires n_value { all_short (pairs_in store.now places.now n) ≡ true }
     requires node_len_bound { length node.now ≤ 255 }
     requires below_len_bound { length below.now ≤ 511 }
     requires scratch_room { ScratchRoom 766 n bytes.old slots.old }
-    ensures { HoldsList (deepenedPairs node.now above.now below.now
-        (pairsIn store.now places.now n)) n result bytes.new slots.new }
+    ensures { HoldsList (deepened_pairs node.now above.now below.now
+        (pairs_in store.now places.now n)) n result bytes.new slots.new }
 {
     let mut at = 0;
     let mut i = 0;
@@ -92,7 +92,7 @@ fn deepen_in(
     requires node_len_bound { length node.now ≤ 255 }
     requires below_len_bound { length below.now ≤ 511 }
     requires scratch_room { ScratchRoom 766 map.count bytes.old own.old }
-    ensures { ReturnsMap (deepenedMap (mapOf store.now places.now map) node.now
+    ensures { ReturnsMap (deepened_map (map_of store.now places.now map) node.now
         above.now below.now map.time_offset out.old slots.old) result
         out.old out.new slots.old slots.new }
 {
@@ -118,7 +118,7 @@ fn deepen_pairs(
     requires valid_list { ValidList (list_of store.now places.now map) }
     requires node_len_bound { length node.now ≤ 255 }
     requires below_len_bound { length below.now ≤ 511 }
-    ensures { ReturnsMap (deepenedMap (mapOf store.now places.now map) node.now
+    ensures { ReturnsMap (deepened_map (map_of store.now places.now map) node.now
         above.now below.now map.time_offset out.old slots.old) result
         out.old out.new slots.old slots.new }
 {
@@ -149,7 +149,7 @@ fn deepen_by(
     requires valid_list { ValidList (list_of store.now places.now map) }
     requires node_len_bound { length node.now ≤ 255 }
     requires i_lt_count { i < map.count }
-    ensures { ReturnsMap (deepenedAt store.now places.now map node.now i
+    ensures { ReturnsMap (deepened_at store.now places.now map node.now i
         out.old slots.old) result out.old out.new slots.old
         slots.new }
 {
@@ -171,8 +171,8 @@ struct ClassSoFar {
 // The search result after the source at i: that source if it is a prefix of the node with at least as many
 // elements as the one found so far. An empty source is a prefix like any other.
 fn consider_class(f: ClassSoFar, node: &[u8], source: &[u8], i: usize) -> ClassSoFar
-    ensures { classKept result ≡ considerIndex (classKept f) (hasPrefix node.now source.now) i
-        (elementCount source.now) }
+    ensures { class_kept result ≡ consider_index (class_kept f) (has_prefix node.now source.now) i
+        (element_count source.now) }
 {
     if !path_prefix::has_prefix(node, source) {
         return f;
@@ -192,7 +192,7 @@ fn consider_class(f: ClassSoFar, node: &[u8], source: &[u8], i: usize) -> ClassS
 
 // The class: the pair whose source is a prefix of the node with most elements, the later on a tie.
 fn find_class(store: &[u8], places: &[usize], n: usize, node: &[u8]) -> ClassSoFar
-    ensures { classIndex result ≡ longestBy (hasPrefix node.now)
+    ensures { class_index result ≡ longest_by (has_prefix node.now)
         (key_at store.now places.now false) n }
 {
     let mut f = ClassSoFar {
@@ -219,7 +219,7 @@ fn deepen_node(
     slots: &mut [usize],
 ) -> map_function::MapReply
     requires { node.now ≡ strip path.now }
-    ensures { ReturnsMap (deepenToCall store.now places.now map path.now
+    ensures { ReturnsMap (deepen_to_call store.now places.now map path.now
         out.old slots.old) result out.old out.new slots.old
         slots.new }
 {
@@ -263,7 +263,7 @@ pub fn deepen_to(
     out: &mut [u8],
     slots: &mut [usize],
 ) -> map_function::MapReply
-    ensures { ReturnsMap (deepenToCall store.now places.now map path.now
+    ensures { ReturnsMap (deepen_to_call store.now places.now map path.now
         out.old slots.old) result out.old out.new slots.old
         slots.new }
 {

@@ -6,83 +6,83 @@ use Prim.Native.Nat.{ℕ}
 use lib.ListN.{length}
 use Rattle.text.specs.Text.{Text}
 use Rattle.layer_offset.specs.declared.LayerOffset.{LayerOffset}
-use Rattle.text.proofs.BoolLaws.{told, known-false, known-true}
-use Rattle.path_grammar.specs.Legal.{legal, atMost255, isEnd}
+use Rattle.text.proofs.BoolLaws.{told, known_false, known_true}
+use Rattle.path_grammar.specs.Legal.{legal, at_most255, is_end}
 use Rattle.pair_list.specs.Pair.{Pair}
-use Rattle.validate.specs.Validate.{LentList, pairsOf, every, validateCall}
-use Rattle.map_spec.specs.New.{fromParts}
-use Rattle.map_spec.specs.Derive.{withoutSource, droppingSource, swappedPair, inverse, withRootIdentity}
-use Rattle.map_spec.specs.Compose.{hasSource}
-use Rattle.map_function.specs.MapFunction.{is_null, list_of, mapOf}
+use Rattle.validate.specs.Validate.{LentList, pairs_of, every, validate_call}
+use Rattle.map_spec.specs.New.{from_parts}
+use Rattle.map_spec.specs.Derive.{without_source, dropping_source, swapped_pair, inverse, with_root_identity}
+use Rattle.map_spec.specs.Compose.{has_source}
+use Rattle.map_function.specs.MapFunction.{is_null, list_of, map_of}
 use Rattle.path.specs.declared.Test.TheVariants.{Holds, Refused as RefusedTest}
-use Rattle.refusal.specs.Refusal.{refusedOr}
-use Rattle.map_function.specs.MapOutcome.{MapOutcome, withinLimits, withoutDropping}
-use Rattle.layer_offset.specs.Offset.{isIdentity, identityOffset}
+use Rattle.refusal.specs.Refusal.{refused_or}
+use Rattle.map_function.specs.MapOutcome.{MapOutcome, within_limits, without_dropping}
+use Rattle.layer_offset.specs.Offset.{is_identity, identity_offset}
 use Rattle.map_function.specs.declared.MapFunction.{MapFunction}
-use Rattle.map_new.specs.Calls.{makeMap}
-use Rattle.map_derive.specs.Calls.{allEndsEqual, inverseCall, withRootIdentityCall, droppingSourceCall, isNoopCall}
-use Rattle.map_derive.proofs.ListBranches.{whole-without, without_all}
+use Rattle.map_new.specs.Calls.{make_map}
+use Rattle.map_derive.specs.Calls.{all_ends_equal, inverse_call, with_root_identity_call, dropping_source_call, is_noop_call}
+use Rattle.map_derive.proofs.ListBranches.{whole_without, without_all}
 
 -- The map with its mark set, as the code builds it.
 module _ (l : List Pair) (mark : Bool) (time : LayerOffset) (out : Text) (slots : List ℕ) where
-  pub marked-copy : withinLimits l (withRootIdentity (record { pairs = l; mark = mark })) time out slots ≡ withoutDropping l true time out slots
-  unfolding withRootIdentity withoutDropping
-  marked-copy = refl
+  pub marked_copy : within_limits l (with_root_identity (record { pairs = l; mark = mark })) time out slots ≡ without_dropping l true time out slots
+  unfolding with_root_identity without_dropping
+  marked_copy = refl
 
 -- The pairs without a source, if no pair has it and if one does.
 module _ (l : List Pair) (mark : Bool) (s : Text) (time : LayerOffset) (out : Text) (slots : List ℕ) where
   abbrev dropped : MapOutcome
-  dropped = withinLimits (withoutSource s l) (droppingSource (record { pairs = l; mark = mark }) s) time out slots
+  dropped = within_limits (without_source s l) (dropping_source (record { pairs = l; mark = mark }) s) time out slots
 
-  pub dropped-none : length (withoutSource s l) ≡ length l → dropped ≡ withoutDropping l mark time out slots
-  unfolding droppingSource withoutDropping
-  dropped-none h = let z = whole-without s l h in rw (z.0, z.1) refl
+  pub dropped_none : length (without_source s l) ≡ length l → dropped ≡ without_dropping l mark time out slots
+  unfolding dropping_source without_dropping
+  dropped_none h = let z = whole_without s l h in rw (z.0, z.1) refl
 
-  pub dropped-some : (length (withoutSource s l) ≡ length l → ⊥) → dropped ≡ withinLimits (withoutSource s l) (fromParts (withoutSource s l) mark) time out slots
-  unfolding droppingSource
-  dropped-some h = go (hasSource l s) refl
+  pub dropped_some : (length (without_source s l) ≡ length l → ⊥) → dropped ≡ within_limits (without_source s l) (from_parts (without_source s l) mark) time out slots
+  unfolding dropping_source
+  dropped_some h = go (has_source l s) refl
     where
-      go : (b : Bool) → hasSource l s ≡ b → withinLimits (withoutSource s l) (cond b (fromParts (withoutSource s l) mark) (record { pairs = l; mark = mark })) time out slots
-          ≡ withinLimits (withoutSource s l) (fromParts (withoutSource s l) mark) time out slots
+      go : (b : Bool) → has_source l s ≡ b → within_limits (without_source s l) (cond b (from_parts (without_source s l) mark) (record { pairs = l; mark = mark })) time out slots
+          ≡ within_limits (without_source s l) (from_parts (without_source s l) mark) time out slots
       go true k = refl
       go false k = absurd (h (without_all s l k))
 
 -- Validation of a list and an end.
-pub end-validated : (l : LentList) (s e : Text) → e ≡ [] → validateCall (l ∷ []) (s ∷ e ∷ []) (s ∷ e ∷ []) ≡ validateCall (l ∷ []) (s ∷ []) (s ∷ [])
-unfolding validateCall every atMost255 legal isEnd
-end-validated l s e h = rw h refl
+pub end_validated : (l : LentList) (s e : Text) → e ≡ [] → validate_call (l ∷ []) (s ∷ e ∷ []) (s ∷ e ∷ []) ≡ validate_call (l ∷ []) (s ∷ []) (s ∷ [])
+unfolding validate_call every at_most255 legal is_end
+end_validated l s e h = rw h refl
 
 -- Lemmas for `is_noop`.
 module _ (f : MapFunction) (l : List Pair) (a : Bool) (g : a ≡ is_null f) where
-  pub noop-null : a ≡ true → false ≡ (not (is_null f) && (allEndsEqual l && isIdentity f.time_offset))
-  noop-null h = rw (told g h) refl
+  pub noop_null : a ≡ true → false ≡ (not (is_null f) && (all_ends_equal l && is_identity f.time_offset))
+  noop_null h = rw (told g h) refl
 
-  module _ (h : a ≡ false) (b : Bool) (k : b ≡ allEndsEqual l) where
-    pub noop-pairs : not b ≡ true → false ≡ (not (is_null f) && (allEndsEqual l && isIdentity f.time_offset))
-    noop-pairs m = rw (told g h, known-false k m) refl
+  module _ (h : a ≡ false) (b : Bool) (k : b ≡ all_ends_equal l) where
+    pub noop-pairs : not b ≡ true → false ≡ (not (is_null f) && (all_ends_equal l && is_identity f.time_offset))
+    noop-pairs m = rw (told g h, known_false k m) refl
 
-    pub noop-time : not b ≡ false → (c : Bool) → c ≡ isIdentity f.time_offset → c ≡ (not (is_null f) && (allEndsEqual l && isIdentity f.time_offset))
-    noop-time m c n = rw (told g h, known-true k m) n
+    pub noop-time : not b ≡ false → (c : Bool) → c ≡ is_identity f.time_offset → c ≡ (not (is_null f) && (all_ends_equal l && is_identity f.time_offset))
+    noop-time m c n = rw (told g h, known_true k m) n
 
 -- The calls, unfolded.
 module _ (store : Text) (places : List ℕ) (f : MapFunction) (out : Text) (slots : List ℕ) where
-  pub marked-unfolded : withRootIdentityCall store places f out slots
-      ≡ makeMap (validateCall (list_of store places f ∷ []) [] []) (pairsOf (list_of store places f)) (withRootIdentity (mapOf store places f)) f.time_offset out slots
-  unfolding withRootIdentityCall
-  marked-unfolded = refl
+  pub marked_unfolded : with_root_identity_call store places f out slots
+      ≡ make_map (validate_call (list_of store places f ∷ []) [] []) (pairs_of (list_of store places f)) (with_root_identity (map_of store places f)) f.time_offset out slots
+  unfolding with_root_identity_call
+  marked_unfolded = refl
 
-  pub inverse-unfolded : inverseCall store places f out slots
-      ≡ makeMap (validateCall (list_of store places f ∷ []) [] []) (mapped (λ (x : Pair). swappedPair x) (pairsOf (list_of store places f)))
-      (fromParts (mapped (λ (x : Pair). swappedPair x) (pairsOf (list_of store places f))) f.has_root_identity) identityOffset out slots
-  unfolding inverseCall inverse
-  inverse-unfolded = refl
+  pub inverse_unfolded : inverse_call store places f out slots
+      ≡ make_map (validate_call (list_of store places f ∷ []) [] []) (mapped (λ (x : Pair). swapped_pair x) (pairs_of (list_of store places f)))
+      (from_parts (mapped (λ (x : Pair). swapped_pair x) (pairs_of (list_of store places f))) f.has_root_identity) identity_offset out slots
+  unfolding inverse_call inverse
+  inverse_unfolded = refl
 
-  pub dropping-unfolded : (s : Text) → droppingSourceCall store places f s out slots
-      ≡ makeMap (validateCall (list_of store places f ∷ []) (s ∷ []) (s ∷ [])) (withoutSource s (pairsOf (list_of store places f))) (droppingSource (mapOf store places f) s) f.time_offset out slots
-  unfolding droppingSourceCall
-  dropping-unfolded s = refl
+  pub dropping_unfolded : (s : Text) → dropping_source_call store places f s out slots
+      ≡ make_map (validate_call (list_of store places f ∷ []) (s ∷ []) (s ∷ [])) (without_source s (pairs_of (list_of store places f))) (dropping_source (map_of store places f) s) f.time_offset out slots
+  unfolding dropping_source_call
+  dropping_unfolded s = refl
 
-pub noop-unfolded : (store : Text) (places : List ℕ) (f : MapFunction) → isNoopCall store places f
-    ≡ refusedOr (validateCall (list_of store places f ∷ []) [] []) RefusedTest (Holds (not (is_null f) && (allEndsEqual (pairsOf (list_of store places f)) && isIdentity f.time_offset)))
-unfolding isNoopCall
-noop-unfolded store places f = refl
+pub noop_unfolded : (store : Text) (places : List ℕ) (f : MapFunction) → is_noop_call store places f
+    ≡ refused_or (validate_call (list_of store places f ∷ []) [] []) RefusedTest (Holds (not (is_null f) && (all_ends_equal (pairs_of (list_of store places f)) && is_identity f.time_offset)))
+unfolding is_noop_call
+noop_unfolded store places f = refl

@@ -1,11 +1,11 @@
 // Calls that build a map from one map, and the call that tests whether a map changes anything. Ports
 // with_root_identity, inverse, dropping_source and is_noop of MapFunction in the Rust pcp/mapping.rs.
 ghost use Rattle.std.specs.Prelude.{◌≡◌, [], ◌∷◌, ◌++◌, ◌+◌, ◌*◌, ◌≤◌, length};
-ghost use Rattle.pair_list.specs.Places.{pairIn, pairsIn};
-ghost use Rattle.map_spec.specs.Derive.{withoutSource};
+ghost use Rattle.pair_list.specs.Places.{pair_in, pairs_in};
+ghost use Rattle.map_spec.specs.Derive.{without_source};
 ghost use Rattle.map_function.specs.MapOutcome.{ReturnsMap};
-ghost use Rattle.map_derive.specs.SwapEnds.{swapEnds};
-ghost use Rattle.map_derive.specs.Calls.{inverseCall, withRootIdentityCall, droppingSourceCall, allEndsEqual, isNoopCall};
+ghost use Rattle.map_derive.specs.SwapEnds.{swap_ends};
+ghost use Rattle.map_derive.specs.Calls.{inverse_call, with_root_identity_call, dropping_source_call, all_ends_equal, is_noop_call};
 
 // Builds the map with its mark set.
 pub fn with_root_identity(
@@ -15,7 +15,7 @@ pub fn with_root_identity(
     out: &mut [u8],
     slots: &mut [usize],
 ) -> map_function::MapReply
-    ensures { ReturnsMap (withRootIdentityCall store.now places.now map out.old
+    ensures { ReturnsMap (with_root_identity_call store.now places.now map out.old
         slots.old) result out.old out.new slots.old slots.new }
 {
     let n = map.count;
@@ -29,7 +29,7 @@ pub fn with_root_identity(
 // Writes the four numbers of each of the first n pairs with source and target exchanged; writes nothing
 // if one of the slices is too short.
 pub fn swap_ends(places: &[usize], n: usize, other: &mut [usize])
-    ensures { other.new ≡ swapEnds places.now n other.old }
+    ensures { other.new ≡ swap_ends places.now n other.old }
 {
     if places.len() / 4 < n {
         return;
@@ -60,7 +60,7 @@ pub fn inverse(
     out: &mut [u8],
     slots: &mut [usize],
 ) -> map_function::MapReply
-    ensures { ReturnsMap (inverseCall store.now places.now map out.old
+    ensures { ReturnsMap (inverse_call store.now places.now map out.old
         slots.old) result out.old out.new slots.old slots.new }
 {
     let n = map.count;
@@ -86,9 +86,9 @@ fn keep_other(
 ) -> usize
     requires i_in_bounds { 4 * i + 4 ≤ length places.now }
     requires w_in_bounds { 4 * w + 4 ≤ length kept.old }
-    ensures { pairsIn store.now kept.new result ≡ pairsIn store.now
-        kept.old w ++ withoutSource source.now
-        (pairIn store.now places.now i ∷ []) }
+    ensures { pairs_in store.now kept.new result ≡ pairs_in store.now
+        kept.old w ++ without_source source.now
+        (pair_in store.now places.now i ∷ []) }
 {
     if text::is_equal(pair_list::key_at(store, places, i, false), source) {
         return w;
@@ -107,8 +107,8 @@ fn without_source(
 ) -> usize
     requires n_in_bounds { 4 * n ≤ length places.now }
     requires n_in_bounds_2 { 4 * n ≤ length kept.old }
-    ensures { pairsIn store.now kept.new result ≡ withoutSource source.now
-        (pairsIn store.now places.now n) }
+    ensures { pairs_in store.now kept.new result ≡ without_source source.now
+        (pairs_in store.now places.now n) }
 {
     let mut w = 0;
     let mut i = 0;
@@ -128,7 +128,7 @@ pub fn dropping_source(
     out: &mut [u8],
     slots: &mut [usize],
 ) -> map_function::MapReply
-    ensures { ReturnsMap (droppingSourceCall store.now places.now map source.now
+    ensures { ReturnsMap (dropping_source_call store.now places.now map source.now
         out.old slots.old) result out.old out.new slots.old
         slots.new }
 {
@@ -150,7 +150,7 @@ pub fn dropping_source(
 
 // Returns whether each of the first n pairs has equal ends.
 fn all_ends_equal(store: &[u8], places: &[usize], n: usize) -> bool
-    ensures { result ≡ allEndsEqual (pairsIn store.now places.now n) }
+    ensures { result ≡ all_ends_equal (pairs_in store.now places.now n) }
 {
     let mut i = 0;
     while i < n {
@@ -165,7 +165,7 @@ fn all_ends_equal(store: &[u8], places: &[usize], n: usize) -> bool
 
 // Returns whether the map is not null and changes neither paths nor times.
 pub fn is_noop(store: &[u8], places: &[usize], map: map_function::MapFunction) -> path::Test
-    ensures { result ≡ isNoopCall store.now places.now map }
+    ensures { result ≡ is_noop_call store.now places.now map }
 {
     let n = map.count;
     let q = validate::validate_list(store, places, n);

@@ -10,152 +10,152 @@ use borrow.Author.Tests.{le-leb, lt-leb, leb-true}
 use Rattle.text.specs.Text.{Text}
 use Rattle.text.specs.declared.Fit.{Fit}
 use Rattle.text.specs.declared.Fit.TheVariants.{Written, Over}
-use Rattle.text.proofs.BoolLaws.{and_no, known-false, known-true}
+use Rattle.text.proofs.BoolLaws.{and_no, known_false, known_true}
 use Rattle.layer_offset.specs.declared.LayerOffset.{LayerOffset}
 use Rattle.pair_list.specs.Pair.{Pair}
-use Rattle.pair_list.specs.Places.{pairsIn, endBytes}
-use Rattle.pair_list_write.specs.Lists.{listFitsBuffers, writeListReply, writeListBytes, writeListSlots}
-use Rattle.pair_list.proofs.PlaceLaws.{pairsIn-length}
+use Rattle.pair_list.specs.Places.{pairs_in, end_bytes}
+use Rattle.pair_list_write.specs.Lists.{list_fits_buffers, write_list_reply, write_list_bytes, write_list_slots}
+use Rattle.pair_list.proofs.PlaceLaws.{pairs_in_length}
 use Rattle.refusal.specs.declared.Refusal.{Refusal}
 use Rattle.refusal.specs.declared.Refusal.TheVariants.{TooMany, NoRoom}
-use Rattle.validate.specs.Validate.{lentList}
-use Rattle.map_spec.specs.New.{withoutRootPairs, anyRootPair, canonicalize, fromParts}
-use Rattle.map_spec.proofs.WeightLaws.{weight, fromParts-weight}
-use Rattle.map_spec.proofs.EndLaws.{fromParts-length}
-use Rattle.validate.specs.Select.{pairsIfSelectable}
+use Rattle.validate.specs.Validate.{lent_list}
+use Rattle.map_spec.specs.New.{without_root_pairs, any_root_pair, canonicalize, from_parts}
+use Rattle.map_spec.proofs.WeightLaws.{weight, from_parts_weight}
+use Rattle.map_spec.proofs.EndLaws.{from_parts_length}
+use Rattle.validate.specs.Select.{pairs_if_selectable}
 use Rattle.map_function.specs.declared.MapReply.TheVariants.{Made, Refused}
-use Rattle.map_function.specs.MapOutcome.{MapOutcome, map, refused, mapReply, mapBytes, map_slots, requireListRoom, withinLimits, countInSlice, withoutDropping, fromPartsOutcome, ReturnsMap}
+use Rattle.map_function.specs.MapOutcome.{MapOutcome, map, refused, map_reply, map_bytes, map_slots, require_list_room, within_limits, count_in_slice, without_dropping, from_parts_outcome, ReturnsMap}
 use Rattle.map_canonical.proofs.KeepBranches.{pairs_made}
 use Rattle.map_function.specs.declared.MapReply.{MapReply}
 
 -- The reply of a call that builds a map and the contents of the buffers, once its outcome is known.
-pub refusing-map : (o : MapOutcome) (x : Refusal) → o ≡ refused x → (out : Text) (slots : List ℕ)
-    → (Refused x ≡ mapReply o) × ((out ≡ mapBytes o out) × (slots ≡ map_slots o slots))
-unfolding mapReply mapBytes map_slots
-refusing-map o x e out slots = rw e (refl, (refl, refl))
+pub refusing_map : (o : MapOutcome) (x : Refusal) → o ≡ refused x → (out : Text) (slots : List ℕ)
+    → (Refused x ≡ map_reply o) × ((out ≡ map_bytes o out) × (slots ≡ map_slots o slots))
+unfolding map_reply map_bytes map_slots
+refusing_map o x e out slots = rw e (refl, (refl, refl))
 
 -- Lemmas for `from_parts`.
-endBytes-weight : (l : List Pair) → endBytes l ≡ weight (λ (x : Pair). length x.source + length x.target) l
-unfolding endBytes weight
-endBytes-weight [] = refl
-endBytes-weight (x ∷ l) = ap (λ (k : ℕ). length x.source + length x.target + k) (endBytes-weight l)
+end_bytes_weight : (l : List Pair) → end_bytes l ≡ weight (λ (x : Pair). length x.source + length x.target) l
+unfolding end_bytes weight
+end_bytes_weight [] = refl
+end_bytes_weight (x ∷ l) = ap (λ (k : ℕ). length x.source + length x.target + k) (end_bytes_weight l)
 
-pub fromParts-bytes : (l : List Pair) (mark : Bool) → endBytes (fromParts l mark).pairs ≤ endBytes l
-fromParts-bytes l mark =
-    omega (arith, endBytes-weight l, endBytes-weight (fromParts l mark).pairs, fromParts-weight (λ (x : Pair). length x.source + length x.target) l mark)
+pub from_parts_bytes : (l : List Pair) (mark : Bool) → end_bytes (from_parts l mark).pairs ≤ end_bytes l
+from_parts_bytes l mark =
+    omega (arith, end_bytes_weight l, end_bytes_weight (from_parts l mark).pairs, from_parts_weight (λ (x : Pair). length x.source + length x.target) l mark)
 
 module _ (store : Text) (places : List ℕ) (n : ℕ) (mark : Bool) (time : LayerOffset) (out : Text) (slots : List ℕ) where
   abbrev list : List Pair
-  list = pairsIn store places n
+  list = pairs_in store places n
 
   abbrev call : MapOutcome
-  call = countInSlice (lentList store places n) (fromPartsOutcome list mark time out slots)
+  call = count_in_slice (lent_list store places n) (from_parts_outcome list mark time out slots)
 
   abbrev copy : MapOutcome
-  copy = countInSlice (lentList store places n) (withoutDropping list mark time out slots)
+  copy = count_in_slice (lent_list store places n) (without_dropping list mark time out slots)
 
   -- A list that is too long is refused, whatever the outcome otherwise.
-  many : (o : MapOutcome) → 64 < n → countInSlice (lentList store places n) (cond (leb (length list) 64) o (refused TooMany)) ≡ refused TooMany
-  unfolding countInSlice
-  many o h = rw (pairsIn-length store places n, lt-leb n 64 h) (same (leb n (length places / 4)))
+  many : (o : MapOutcome) → 64 < n → count_in_slice (lent_list store places n) (cond (leb (length list) 64) o (refused TooMany)) ≡ refused TooMany
+  unfolding count_in_slice
+  many o h = rw (pairs_in_length store places n, lt-leb n 64 h) (same (leb n (length places / 4)))
     where
       same : (b : Bool) → cond b (refused TooMany) (refused TooMany) ≡ refused TooMany
       same true = refl
       same false = refl
 
-  pub parts-many : 64 < n → call ≡ refused TooMany
-  unfolding fromPartsOutcome withinLimits
-  parts-many h = many (requireListRoom list out slots (map (fromParts list mark) time)) h
+  pub parts_many : 64 < n → call ≡ refused TooMany
+  unfolding from_parts_outcome within_limits
+  parts_many h = many (require_list_room list out slots (map (from_parts list mark) time)) h
 
-  pub copy-many : 64 < n → copy ≡ refused TooMany
-  unfolding withoutDropping withinLimits
-  copy-many h = many (requireListRoom list out slots (map (record { pairs = list; mark = mark }) time)) h
+  pub copy_many : 64 < n → copy ≡ refused TooMany
+  unfolding without_dropping within_limits
+  copy_many h = many (require_list_room list out slots (map (record { pairs = list; mark = mark }) time)) h
 
-  pub parts-beyond : length places / 4 < n → call ≡ refused TooMany
-  unfolding countInSlice
-  parts-beyond h = rw (lt-leb n (length places / 4) h) refl
+  pub parts_beyond : length places / 4 < n → call ≡ refused TooMany
+  unfolding count_in_slice
+  parts_beyond h = rw (lt-leb n (length places / 4) h) refl
 
-  pub copy-beyond : length places / 4 < n → copy ≡ refused TooMany
-  unfolding countInSlice
-  copy-beyond h = rw (lt-leb n (length places / 4) h) refl
+  pub copy_beyond : length places / 4 < n → copy ≡ refused TooMany
+  unfolding count_in_slice
+  copy_beyond h = rw (lt-leb n (length places / 4) h) refl
 
   module _ (few : n ≤ 64) (h : n ≤ length places / 4) where
-    copy-room : copy ≡ cond (listFitsBuffers list out slots) (map (record { pairs = list; mark = mark }) time) (refused NoRoom)
-    unfolding countInSlice withoutDropping withinLimits requireListRoom
-    copy-room = rw (le-leb n (length places / 4) h, pairsIn-length store places n, le-leb n 64 few) refl
+    copy-room : copy ≡ cond (list_fits_buffers list out slots) (map (record { pairs = list; mark = mark }) time) (refused NoRoom)
+    unfolding count_in_slice without_dropping within_limits require_list_room
+    copy-room = rw (le-leb n (length places / 4) h, pairs_in_length store places n, le-leb n 64 few) refl
 
-    module _ (f : Fit) (e : f ≡ writeListReply list out slots) where
-      pub copy-over : (out' : Text) (slots' : List ℕ) → f ≡ Over → out' ≡ writeListBytes list out slots → slots' ≡ writeListSlots list out slots
-          → (Refused NoRoom ≡ mapReply copy) × ((out' ≡ mapBytes copy out) × (slots' ≡ map_slots copy slots))
-      unfolding writeListReply writeListBytes writeListSlots mapReply mapBytes map_slots
-      copy-over out' slots' o p q = go (listFitsBuffers list out slots) refl
+    module _ (f : Fit) (e : f ≡ write_list_reply list out slots) where
+      pub copy-over : (out' : Text) (slots' : List ℕ) → f ≡ Over → out' ≡ write_list_bytes list out slots → slots' ≡ write_list_slots list out slots
+          → (Refused NoRoom ≡ map_reply copy) × ((out' ≡ map_bytes copy out) × (slots' ≡ map_slots copy slots))
+      unfolding write_list_reply write_list_bytes write_list_slots map_reply map_bytes map_slots
+      copy-over out' slots' o p q = go (list_fits_buffers list out slots) refl
         where
-          go : (b : Bool) → listFitsBuffers list out slots ≡ b → (Refused NoRoom ≡ mapReply copy) × ((out' ≡ mapBytes copy out) × (slots' ≡ map_slots copy slots))
+          go : (b : Bool) → list_fits_buffers list out slots ≡ b → (Refused NoRoom ≡ map_reply copy) × ((out' ≡ map_bytes copy out) × (slots' ≡ map_slots copy slots))
           go true z = absurd (let y : Over ≡ Written (length list) = sym o ∙ e ∙ rw z refl in let x : ◌≡◌ {A = ℕ} 0 1 = cc in omega arith)
           go false z = rw (copy-room, z) (refl, (p ∙ rw z refl, q ∙ rw z refl))
 
-      pub copy-made : (w : ℕ) (out' : Text) (slots' : List ℕ) → f ≡ Written w → out' ≡ writeListBytes list out slots → slots' ≡ writeListSlots list out slots
-          → (Made (record { count = w; has_root_identity = mark; time_offset = time }) ≡ mapReply copy) × ((out' ≡ mapBytes copy out) × (slots' ≡ map_slots copy slots))
-      unfolding writeListReply writeListBytes writeListSlots mapReply mapBytes map_slots
-      copy-made w out' slots' o p q = go (listFitsBuffers list out slots) refl
+      pub copy-made : (w : ℕ) (out' : Text) (slots' : List ℕ) → f ≡ Written w → out' ≡ write_list_bytes list out slots → slots' ≡ write_list_slots list out slots
+          → (Made (record { count = w; has_root_identity = mark; time_offset = time }) ≡ map_reply copy) × ((out' ≡ map_bytes copy out) × (slots' ≡ map_slots copy slots))
+      unfolding write_list_reply write_list_bytes write_list_slots map_reply map_bytes map_slots
+      copy-made w out' slots' o p q = go (list_fits_buffers list out slots) refl
         where
-          go : (b : Bool) → listFitsBuffers list out slots ≡ b
-              → (Made (record { count = w; has_root_identity = mark; time_offset = time }) ≡ mapReply copy) × ((out' ≡ mapBytes copy out) × (slots' ≡ map_slots copy slots))
+          go : (b : Bool) → list_fits_buffers list out slots ≡ b
+              → (Made (record { count = w; has_root_identity = mark; time_offset = time }) ≡ map_reply copy) × ((out' ≡ map_bytes copy out) × (slots' ≡ map_slots copy slots))
           go true z =
               let y : Written w ≡ Written (length list) = sym o ∙ e ∙ rw z refl in
               let x : w ≡ length list = cc in
               rw (copy-room, z) (rw x refl, (p ∙ rw z refl, q ∙ rw z refl))
           go false z = absurd (let y : Written w ≡ Over = sym o ∙ e ∙ rw z refl in let x : ◌≡◌ {A = ℕ} 0 1 = cc in omega arith)
 
-    validated-room : call ≡ cond (listFitsBuffers list out slots) (map (fromParts list mark) time) (refused NoRoom)
-    unfolding countInSlice fromPartsOutcome withinLimits requireListRoom
-    validated-room = rw (le-leb n (length places / 4) h, pairsIn-length store places n, le-leb n 64 few) refl
+    validated-room : call ≡ cond (list_fits_buffers list out slots) (map (from_parts list mark) time) (refused NoRoom)
+    unfolding count_in_slice from_parts_outcome within_limits require_list_room
+    validated-room = rw (le-leb n (length places / 4) h, pairs_in_length store places n, le-leb n 64 few) refl
 
     pub parts-slots : length slots / 4 < n → call ≡ refused NoRoom
-    unfolding listFitsBuffers
-    parts-slots h = validated-room ∙ rw (pairsIn-length store places n, lt-leb n (length slots / 4) h, and_no (leb (endBytes list) (length out))) refl
+    unfolding list_fits_buffers
+    parts-slots h = validated-room ∙ rw (pairs_in_length store places n, lt-leb n (length slots / 4) h, and_no (leb (end_bytes list) (length out))) refl
 
-    module _ (fit : n ≤ length slots / 4) (b : Bool) (e : b ≡ leb (endBytes list) (length out)) where
+    module _ (fit : n ≤ length slots / 4) (b : Bool) (e : b ≡ leb (end_bytes list) (length out)) where
       pub parts-bytes : not b ≡ true → call ≡ refused NoRoom
-      unfolding listFitsBuffers
-      parts-bytes k = validated-room ∙ rw (known-false e k) refl
+      unfolding list_fits_buffers
+      parts-bytes k = validated-room ∙ rw (known_false e k) refl
 
-      module _ (k : not b ≡ false) (marked : Bool) (f : marked ≡ (mark || anyRootPair list)) (room : ℕ) (enough : room ≡ 256) (kept : List ℕ) (w : ℕ)
-          (c : pairsIn store kept w ≡ pairsIfSelectable (lentList store places n) room (canonicalize marked (withoutRootPairs list))) where
-        has_room : listFitsBuffers list out slots ≡ true
-        unfolding listFitsBuffers
-        has_room = rw (known-true e k, pairsIn-length store places n, le-leb n (length slots / 4) fit) refl
+      module _ (k : not b ≡ false) (marked : Bool) (f : marked ≡ (mark || any_root_pair list)) (room : ℕ) (enough : room ≡ 256) (kept : List ℕ) (w : ℕ)
+          (c : pairs_in store kept w ≡ pairs_if_selectable (lent_list store places n) room (canonicalize marked (without_root_pairs list))) where
+        has_room : list_fits_buffers list out slots ≡ true
+        unfolding list_fits_buffers
+        has_room = rw (known_true e k, pairs_in_length store places n, le-leb n (length slots / 4) fit) refl
 
-        mark-is : marked ≡ (fromParts list mark).mark
-        unfolding fromParts
+        mark-is : marked ≡ (from_parts list mark).mark
+        unfolding from_parts
         mark-is = f
 
-        pairs-are : pairsIn store kept w ≡ (fromParts list mark).pairs
-        unfolding fromParts
+        pairs-are : pairs_in store kept w ≡ (from_parts list mark).pairs
+        unfolding from_parts
         pairs-are = pairs_made canonicalize store places n list mark few h marked f room enough kept w c
 
-        count-is : w ≡ length (fromParts list mark).pairs
-        count-is = sym (pairsIn-length store kept w) ∙ ap length pairs-are
+        count-is : w ≡ length (from_parts list mark).pairs
+        count-is = sym (pairs_in_length store kept w) ∙ ap length pairs-are
 
-        room-still : listFitsBuffers (pairsIn store kept w) out slots ≡ true
-        unfolding listFitsBuffers
+        room-still : list_fits_buffers (pairs_in store kept w) out slots ≡ true
+        unfolding list_fits_buffers
         room-still =
-            let r : endBytes list ≤ length out = leb-true (endBytes list) (length out) (known-true e k) in
-            let d : length (fromParts list mark).pairs ≤ length list = fromParts-length list mark in
+            let r : end_bytes list ≤ length out = leb-true (end_bytes list) (length out) (known_true e k) in
+            let d : length (from_parts list mark).pairs ≤ length list = from_parts_length list mark in
             rw (
               pairs-are,
-              le-leb (endBytes (fromParts list mark).pairs) (length out) (omega (arith, r, fromParts-bytes list mark)),
-              le-leb (length (fromParts list mark).pairs) (length slots / 4) (omega (arith, d, pairsIn-length store places n, fit)),
+              le-leb (end_bytes (from_parts list mark).pairs) (length out) (omega (arith, r, from_parts_bytes list mark)),
+              le-leb (length (from_parts list mark).pairs) (length slots / 4) (omega (arith, d, pairs_in_length store places n, fit)),
             ) refl
 
-        pub parts-made : (out' : Text) (slots' : List ℕ) → out' ≡ writeListBytes (pairsIn store kept w) out slots → slots' ≡ writeListSlots (pairsIn store kept w) out slots
-            → (Made (record { count = w; has_root_identity = marked; time_offset = time }) ≡ mapReply call) × ((out' ≡ mapBytes call out) × (slots' ≡ map_slots call slots))
-        unfolding mapReply mapBytes map_slots writeListBytes writeListSlots
+        pub parts-made : (out' : Text) (slots' : List ℕ) → out' ≡ write_list_bytes (pairs_in store kept w) out slots → slots' ≡ write_list_slots (pairs_in store kept w) out slots
+            → (Made (record { count = w; has_root_identity = marked; time_offset = time }) ≡ map_reply call) × ((out' ≡ map_bytes call out) × (slots' ≡ map_slots call slots))
+        unfolding map_reply map_bytes map_slots write_list_bytes write_list_slots
         parts-made out' slots' p q =
-            let z : call ≡ map (fromParts list mark) time = validated-room ∙ rw has_room refl in
+            let z : call ≡ map (from_parts list mark) time = validated-room ∙ rw has_room refl in
             rw z (rw (count-is, mark-is) refl, (p ∙ rw (room-still, pairs-are) refl, q ∙ rw (room-still, pairs-are) refl))
 
 -- The reply of a function that builds a map and the contents of the buffers, for an equal outcome.
-pub gives-map : (o m : MapOutcome) → o ≡ m → (r : MapReply) (out out' : Text) (slots slots' : List ℕ)
+pub gives_map : (o m : MapOutcome) → o ≡ m → (r : MapReply) (out out' : Text) (slots slots' : List ℕ)
     → ReturnsMap m r out out' slots slots' → ReturnsMap o r out out' slots slots'
-gives-map o m e r out out' slots slots' w = rw e w
+gives_map o m e r out out' slots slots' w = rw e w

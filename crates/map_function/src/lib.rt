@@ -1,12 +1,12 @@
 // The map type (MapFunction of the Rust pcp/mapping.rs), and building a map in canonical form in lent
 // memory. The pairs of a map are in buffers that the caller lends; the struct holds the rest.
 ghost use Rattle.std.specs.Prelude.{◌≡◌};
-ghost use Rattle.pair_list.specs.Places.{pairsIn};
-ghost use Rattle.validate.specs.Validate.{lentList};
-ghost use Rattle.map_spec.specs.New.{identityMap, nullMap};
-ghost use Rattle.layer_offset.specs.Offset.{identityOffset};
-ghost use Rattle.map_function.specs.MapFunction.{is_null, pathIsIdentity, isIdentityMap, withTimeOffset};
-ghost use Rattle.map_function.specs.MapOutcome.{mapFunction, ReturnsMap, countInSlice, withoutDropping, fromPartsOutcome};
+ghost use Rattle.pair_list.specs.Places.{pairs_in};
+ghost use Rattle.validate.specs.Validate.{lent_list};
+ghost use Rattle.map_spec.specs.New.{identity_map, null_map};
+ghost use Rattle.layer_offset.specs.Offset.{identity_offset};
+ghost use Rattle.map_function.specs.MapFunction.{is_null, path_is_identity, is_identity_map, with_time_offset};
+ghost use Rattle.map_function.specs.MapOutcome.{map_function, ReturnsMap, count_in_slice, without_dropping, from_parts_outcome};
 
 // A map without its pairs.
 #[derive(Drop)]
@@ -22,7 +22,7 @@ pub struct MapFunction {
 impl MapFunction {
     // Returns the identity map: every path maps to itself.
     pub fn identity() -> Self
-        ensures { result ≡ mapFunction identityMap identityOffset }
+        ensures { result ≡ map_function identity_map identity_offset }
     {
         Self {
             count: 0,
@@ -33,7 +33,7 @@ impl MapFunction {
 
     // Returns the null map: no path is mapped.
     pub fn null() -> Self
-        ensures { result ≡ mapFunction nullMap identityOffset }
+        ensures { result ≡ map_function null_map identity_offset }
     {
         Self {
             count: 0,
@@ -54,7 +54,7 @@ impl MapFunction {
 
     // Returns whether this is the identity on paths, whatever its time offset.
     pub fn path_is_identity(self) -> bool
-        ensures { result ≡ pathIsIdentity self }
+        ensures { result ≡ path_is_identity self }
     {
         if self.count != 0 {
             return false;
@@ -64,7 +64,7 @@ impl MapFunction {
 
     // Returns whether this is the identity on both paths and times.
     pub fn is_identity(self) -> bool
-        ensures { result ≡ isIdentityMap self }
+        ensures { result ≡ is_identity_map self }
     {
         if !self.path_is_identity() {
             return false;
@@ -88,7 +88,7 @@ impl MapFunction {
 
     // Returns the map with its time offset replaced; its pairs are unchanged.
     pub fn with_time_offset(self, offset: layer_offset::LayerOffset) -> Self
-        ensures { result ≡ withTimeOffset self offset }
+        ensures { result ≡ with_time_offset self offset }
     {
         Self {
             count: self.count,
@@ -116,8 +116,8 @@ pub fn from_parts(
     out: &mut [u8],
     slots: &mut [usize],
 ) -> MapReply
-    ensures { ReturnsMap (countInSlice (lentList store.now places.now n)
-        (fromPartsOutcome (pairsIn store.now places.now n) mark time out.old
+    ensures { ReturnsMap (count_in_slice (lent_list store.now places.now n)
+        (from_parts_outcome (pairs_in store.now places.now n) mark time out.old
         slots.old)) result out.old out.new slots.old slots.new }
 {
     if 64 < n {
@@ -153,8 +153,8 @@ pub fn without_dropping(
     out: &mut [u8],
     slots: &mut [usize],
 ) -> MapReply
-    ensures { ReturnsMap (countInSlice (lentList store.now places.now n)
-        (withoutDropping (pairsIn store.now places.now n) mark time out.old
+    ensures { ReturnsMap (count_in_slice (lent_list store.now places.now n)
+        (without_dropping (pairs_in store.now places.now n) mark time out.old
         slots.old)) result out.old out.new slots.old slots.new }
 {
     if 64 < n {

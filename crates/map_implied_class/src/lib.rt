@@ -1,23 +1,23 @@
 // Computes a class's map across a transfer: transfer ∘ class ∘ transfer⁻¹, with the root identity added.
 // Ports `MapFunction::implied_class` of pcp/mapping.rs. Each list is built in a scratch buffer.
 ghost use Rattle.std.specs.Prelude.{◌≡◌, true, ◌||◌, ◌+◌, ◌*◌, ◌≤◌, length};
-ghost use Rattle.layer_offset.specs.Offset.{identityOffset};
-ghost use Rattle.pair_list.specs.Pair.{allShort};
-ghost use Rattle.pair_list.specs.Places.{pairsIn};
-ghost use Rattle.pair_list_write.specs.Lists.{listFitsBuffers};
+ghost use Rattle.layer_offset.specs.Offset.{identity_offset};
+ghost use Rattle.pair_list.specs.Pair.{all_short};
+ghost use Rattle.pair_list.specs.Places.{pairs_in};
+ghost use Rattle.pair_list_write.specs.Lists.{list_fits_buffers};
 ghost use Rattle.validate.specs.Validate.{ValidList};
-ghost use Rattle.map_spec.specs.Map.{lentMap};
+ghost use Rattle.map_spec.specs.Map.{lent_map};
 ghost use Rattle.map_spec.specs.Derive.{inverse};
-ghost use Rattle.map_function.specs.MapFunction.{pathIsIdentity, list_of, mapOf};
-ghost use Rattle.map_function.specs.MapOutcome.{map, mapBytes, map_slots, ReturnsMap, mapFunction};
+ghost use Rattle.map_function.specs.MapFunction.{path_is_identity, list_of, map_of};
+ghost use Rattle.map_function.specs.MapOutcome.{map, map_bytes, map_slots, ReturnsMap, map_function};
 ghost use Rattle.pair_list_write.specs.Packed.{HoldsList};
 ghost use Rattle.compose_pairs.specs.ComposePairs.{CanCompose};
-ghost use Rattle.map_implied_class.specs.Implied.{composedFrom, impliedOutcome, impliedTime, impliedClassCall};
-ghost use Rattle.map_implied_class.specs.Finish.{mapOfReply, finishedMap, composedMap, roomBesideTransfer, impliedAfterClass};
+ghost use Rattle.map_implied_class.specs.Implied.{composed_from, implied_outcome, implied_time, implied_class_call};
+ghost use Rattle.map_implied_class.specs.Finish.{map_of_reply, finished_map, composed_map, room_beside_transfer, implied_after_class};
 
 // The map in a reply; the null map if the reply is a refusal.
 fn map_of_reply(reply: map_function::MapReply) -> map_function::MapFunction
-    ensures { result ≡ mapOfReply reply }
+    ensures { result ≡ map_of_reply reply }
 {
     match reply {
         map_function::MapReply::Made(f) => f,
@@ -37,14 +37,14 @@ fn finish_map(
     slots: &mut [usize],
 ) -> map_function::MapFunction
     requires n_bound { (n ≤ 64) × (4 * n ≤ length places.now) }
-    requires slots_value { listFitsBuffers (pairsIn store.now places.now n) out.old slots.old ≡ true }
-    ensures value { result ≡ mapFunction (finishedMap whole (pairsIn store.now places.now n) mark)
-        identityOffset }
-    ensures out_after { out.new ≡ mapBytes
-        (map (finishedMap whole (pairsIn store.now places.now n) mark) identityOffset)
+    requires slots_value { list_fits_buffers (pairs_in store.now places.now n) out.old slots.old ≡ true }
+    ensures value { result ≡ map_function (finished_map whole (pairs_in store.now places.now n) mark)
+        identity_offset }
+    ensures out_after { out.new ≡ map_bytes
+        (map (finished_map whole (pairs_in store.now places.now n) mark) identity_offset)
         out.old }
     ensures slots_after { slots.new ≡ map_slots
-        (map (finishedMap whole (pairsIn store.now places.now n) mark) identityOffset)
+        (map (finished_map whole (pairs_in store.now places.now n) mark) identity_offset)
         slots.old }
 {
     let time = layer_offset::LayerOffset::IDENTITY;
@@ -66,11 +66,11 @@ fn invert(
     slots: &mut [usize],
 ) -> map_function::MapFunction
     requires n_bound { (n ≤ 64) × (4 * n ≤ length places.now) }
-    requires n_value { allShort (pairsIn store.now places.now n) ≡ true }
+    requires n_value { all_short (pairs_in store.now places.now n) ≡ true }
     requires in_bounds { 65408 ≤ length out.old }
     requires in_bounds_2 { 256 ≤ length slots.old }
-    ensures { mapOf out.new slots.new result ≡ inverse
-        (lentMap store.now places.now n mark) }
+    ensures { map_of out.new slots.new result ≡ inverse
+        (lent_map store.now places.now n mark) }
 {
     let mut own = [0usize; 256];
     map_derive::swap_ends(places, n, &mut own);
@@ -89,10 +89,10 @@ fn compose_list(
     bytes: &mut [u8],
     own: &mut [usize],
 ) -> compose_pairs::Built
-    requires { CanCompose (pairsIn store.now places.now outer.count)
-        (pairsIn istore.now iplaces.now inner.count) (inner.count + outer.count) bytes.old own.old }
-    ensures { HoldsList (composedFrom (mapOf store.now places.now outer)
-        (mapOf istore.now iplaces.now inner)) result.n result.at bytes.new
+    requires { CanCompose (pairs_in store.now places.now outer.count)
+        (pairs_in istore.now iplaces.now inner.count) (inner.count + outer.count) bytes.old own.old }
+    ensures { HoldsList (composed_from (map_of store.now places.now outer)
+        (map_of istore.now iplaces.now inner)) result.n result.at bytes.new
         own.new }
 {
     let n = outer.count;
@@ -111,7 +111,7 @@ fn compose_list(
 
 // Returns whether one of the two maps is the identity on paths.
 fn either_is_identity(a: map_function::MapFunction, b: map_function::MapFunction) -> bool
-    ensures { result ≡ (pathIsIdentity a || pathIsIdentity b) }
+    ensures { result ≡ (path_is_identity a || path_is_identity b) }
 {
     if a.path_is_identity() {
         return true;
@@ -130,14 +130,14 @@ fn finish_composed(
     slots: &mut [usize],
 ) -> map_function::MapFunction
     requires n_bound { (n ≤ 64) × (4 * n ≤ length places.now) }
-    requires slots_value { listFitsBuffers (pairsIn store.now places.now n) out.old slots.old ≡ true }
-    ensures value { result ≡ mapFunction (composedMap outer inner (pairsIn store.now places.now n))
-        identityOffset }
-    ensures out_after { out.new ≡ mapBytes
-        (map (composedMap outer inner (pairsIn store.now places.now n)) identityOffset)
+    requires slots_value { list_fits_buffers (pairs_in store.now places.now n) out.old slots.old ≡ true }
+    ensures value { result ≡ map_function (composed_map outer inner (pairs_in store.now places.now n))
+        identity_offset }
+    ensures out_after { out.new ≡ map_bytes
+        (map (composed_map outer inner (pairs_in store.now places.now n)) identity_offset)
         out.old }
     ensures slots_after { slots.new ≡ map_slots
-        (map (composedMap outer inner (pairsIn store.now places.now n)) identityOffset)
+        (map (composed_map outer inner (pairs_in store.now places.now n)) identity_offset)
         slots.old }
 {
     let whole = either_is_identity(outer, inner);
@@ -156,7 +156,7 @@ fn has_room_beside(
     slots: usize,
 ) -> bool
     requires { (n ≤ 64) × ((b.n ≤ 64) × (d.n ≤ 64)) }
-    ensures { result ≡ roomBesideTransfer (pairsIn store.now places.now n) (b.n + d.n)
+    ensures { result ≡ room_beside_transfer (pairs_in store.now places.now n) (b.n + d.n)
         (b.at + d.at) room slots }
 {
     if slots / 4 < n + (b.n + d.n) {
@@ -190,10 +190,10 @@ fn finish(
     slots: &mut [usize],
 ) -> map_function::MapReply
     requires count_bound { (transfer.count ≤ 64) × (b.n ≤ 64) }
-    requires can_compose { CanCompose (pairsIn store.now places.now transfer.count)
-        (pairsIn mid.now mids.now class.count) (class.count + transfer.count) bytes.old own.old }
-    ensures { ReturnsMap (impliedAfterClass (mapOf store.now places.now transfer)
-        (mapOf mid.now mids.now class) b.n b.at short time out.old
+    requires can_compose { CanCompose (pairs_in store.now places.now transfer.count)
+        (pairs_in mid.now mids.now class.count) (class.count + transfer.count) bytes.old own.old }
+    ensures { ReturnsMap (implied_after_class (map_of store.now places.now transfer)
+        (map_of mid.now mids.now class) b.n b.at short time out.old
         slots.old) result out.old out.new slots.old slots.new }
 {
     let n = transfer.count;
@@ -229,8 +229,8 @@ fn implied_in(
 ) -> map_function::MapReply
     requires valid_list { ValidList (list_of store.now places.now transfer) }
     requires valid_list_2 { ValidList (list_of cstore.now cplaces.now class) }
-    ensures { ReturnsMap (impliedOutcome (mapOf store.now places.now transfer)
-        (mapOf cstore.now cplaces.now class) (impliedTime transfer class) out.old
+    ensures { ReturnsMap (implied_outcome (map_of store.now places.now transfer)
+        (map_of cstore.now cplaces.now class) (implied_time transfer class) out.old
         slots.old) result out.old out.new slots.old slots.new }
 {
     let mut bytes = [0u8; 196352];
@@ -269,7 +269,7 @@ pub fn implied_class(
     out: &mut [u8],
     slots: &mut [usize],
 ) -> map_function::MapReply
-    ensures { ReturnsMap (impliedClassCall store.now places.now transfer
+    ensures { ReturnsMap (implied_class_call store.now places.now transfer
         cstore.now cplaces.now class out.old slots.old) result out.old
         out.new slots.old slots.new }
 {

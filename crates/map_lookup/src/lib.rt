@@ -1,9 +1,9 @@
 // Longest-match lookup: the pair of a map whose key is the longest prefix of a path. Ports best_prefix
 // of the Rust pcp/mapping.rs. Every public function is defined for any bytes and any numbers.
 ghost use Rattle.std.specs.Prelude.{◌≡◌, cond, length, ◌*◌, ◌≤◌, min};
-ghost use Rattle.map_lookup.specs.LookupStep.{substring, keyCount, foundOf, considerKey, isIndex, wins, otherWins};
+ghost use Rattle.map_lookup.specs.LookupStep.{substring, key_count, found_of, consider_key, is_index, wins, other_wins};
 ghost use Rattle.pair_list.specs.Places.{key_at};
-ghost use Rattle.pair_list.specs.LongestMatch.{matches, longestMatch};
+ghost use Rattle.pair_list.specs.LongestMatch.{matches, longest_match};
 
 // The result of a lookup.
 #[derive(Drop)]
@@ -38,7 +38,7 @@ pub fn matches(path: &[u8], key: &[u8]) -> bool
 // counted only if the key matches and covers fewer bytes of the path than the match so far.
 fn better_of(f: BestSoFar, path: &[u8], key: &[u8], i: usize) -> BestSoFar
     requires { f.covered ≤ length path.now }
-    ensures { result ≡ considerKey f path.now key.now i }
+    ensures { result ≡ consider_key f path.now key.now i }
 {
     if !matches(path, key) {
         return f;
@@ -68,7 +68,7 @@ fn consider(
     requires limit_in_bounds_2 { limit ≤ length path.now }
     requires limit_value { limit ≡ min (length store.now) (length path.now) }
     requires covered_in_bounds { f.covered ≤ length path.now }
-    ensures { result ≡ considerKey f path.now (substring store.now start n) i }
+    ensures { result ≡ consider_key f path.now (substring store.now start n) i }
 {
     if n == 0 {
         return f;
@@ -98,7 +98,7 @@ fn min(a: usize, b: usize) -> usize
 
 // The number of the first n pairs whose key lies in the slice, which may end after a source.
 fn key_count(places: &[usize], n: usize, invert: bool) -> usize
-    ensures { result ≡ min n (keyCount places.now invert) }
+    ensures { result ≡ min n (key_count places.now invert) }
 {
     let half = places.len() / 2;
     if invert {
@@ -120,7 +120,7 @@ fn key_offset(invert: bool) -> usize
 // Finds the longest match: the key that is a nonempty prefix of the path and has most elements, the
 // later on a tie.
 pub fn best_prefix(store: &[u8], places: &[usize], n: usize, invert: bool, path: &[u8]) -> Found
-    ensures { result ≡ foundOf (longestMatch path.now
+    ensures { result ≡ found_of (longest_match path.now
         (key_at store.now places.now invert) n) }
 {
     let present = key_count(places, n, invert);
@@ -171,7 +171,7 @@ fn other_wins(
     requires limit_in_bounds { limit ≤ length store.now }
     requires limit_in_bounds_2 { limit ≤ length path.now }
     requires limit_value { limit ≡ min (length store.now) (length path.now) }
-    ensures { result ≡ otherWins path.now (substring store.now start n) k i
+    ensures { result ≡ other_wins path.now (substring store.now start n) k i
         key.now }
 {
     if n == 0 {
@@ -199,7 +199,7 @@ pub fn is_longest_match(
     path: &[u8],
     i: usize,
 ) -> bool
-    ensures { result ≡ isIndex i (longestMatch path.now
+    ensures { result ≡ is_index i (longest_match path.now
         (key_at store.now places.now invert) n) }
 {
     if n <= i {

@@ -6,14 +6,14 @@ use native.Mathlib.Omega.{arith}
 use lib.ListN.{length}
 use Rattle.text.specs.Text.{Text}
 use Rattle.pair_list.specs.Pair.{pair}
-use Rattle.pair_list.specs.Places.{pairsIn}
+use Rattle.pair_list.specs.Places.{pairs_in}
 use Rattle.pair_list_write.proofs.PushBranches.{PushedPair, pair-there}
-use Rattle.pair_list_write.proofs.PackedLaws.{holds-none, holds-list, holds_more}
+use Rattle.pair_list_write.proofs.PackedLaws.{holds_none, holds_list, holds_more}
 
 -- `store_pair`: the pair is pushed to the empty list, and read back.
-pub pair-stored : (s t store : Text) (places : List ℕ) → length s + length t ≤ length store → 4 ≤ length places
-    → (r : ℕ) (store' : Text) (places' : List ℕ) → PushedPair s t 0 0 store places r store' places' → pairsIn store' places' 1 ≡ pair s t ∷ []
-pair-stored s t store places h k r store' places' w =
-    holds-list (pair s t ∷ []) 1 r store' places'
-    (holds_more [] 0 0 store places (holds-none store places) (pair s t) r store' places'
+pub pair_stored : (s t store : Text) (places : List ℕ) → length s + length t ≤ length store → 4 ≤ length places
+    → (r : ℕ) (store' : Text) (places' : List ℕ) → PushedPair s t 0 0 store places r store' places' → pairs_in store' places' 1 ≡ pair s t ∷ []
+pair_stored s t store places h k r store' places' w =
+    holds_list (pair s t ∷ []) 1 r store' places'
+    (holds_more [] 0 0 store places (holds_none store places) (pair s t) r store' places'
     (pair-there s t 0 0 store places (omega arith) (omega arith) r store' places' w))

@@ -3,9 +3,9 @@
 // writes nothing.
 ghost use Rattle.std.specs.Prelude.{◌≡◌, [], ◌∷◌, ◌+◌, ◌≤◌, length};
 ghost use Rattle.pair_list.specs.Pair.{pair};
-ghost use Rattle.pair_list.specs.Places.{pairsIn};
+ghost use Rattle.pair_list.specs.Places.{pairs_in};
 ghost use Rattle.map_function.specs.MapOutcome.{ReturnsMap};
-ghost use Rattle.map_new.specs.Calls.{mapNewCall, fromPairCall, fromPairIdentityCall};
+ghost use Rattle.map_new.specs.Calls.{map_new_call, from_pair_call, from_pair_identity_call};
 
 // Builds the map of the pairs in canonical form.
 pub fn new(
@@ -15,7 +15,7 @@ pub fn new(
     out: &mut [u8],
     slots: &mut [usize],
 ) -> map_function::MapReply
-    ensures { ReturnsMap (mapNewCall store.now places.now count out.old
+    ensures { ReturnsMap (map_new_call store.now places.now count out.old
         slots.old) result out.old out.new slots.old slots.new }
 {
     let q = validate::validate_list(store, places, count);
@@ -30,7 +30,7 @@ pub fn new(
 fn store_pair(s: &[u8], t: &[u8], store: &mut [u8], places: &mut [usize])
     requires t_in_bounds { length s.now + length t.now ≤ length store.old }
     requires in_bounds { 4 ≤ length places.old }
-    ensures { pairsIn store.new places.new 1 ≡ pair s.now t.now ∷
+    ensures { pairs_in store.new places.new 1 ≡ pair s.now t.now ∷
         [] }
 {
     pair_list_write::push_pair(s, t, 0, 0, store, places);
@@ -43,7 +43,7 @@ pub fn from_pair(
     out: &mut [u8],
     slots: &mut [usize],
 ) -> map_function::MapReply
-    ensures { ReturnsMap (fromPairCall source.now target.now out.old
+    ensures { ReturnsMap (from_pair_call source.now target.now out.old
         slots.old) result out.old out.new slots.old slots.new }
 {
     let q = validate::validate_ends(source, target);
@@ -64,7 +64,7 @@ pub fn from_pair_identity(
     out: &mut [u8],
     slots: &mut [usize],
 ) -> map_function::MapReply
-    ensures { ReturnsMap (fromPairIdentityCall source.now target.now out.old
+    ensures { ReturnsMap (from_pair_identity_call source.now target.now out.old
         slots.old) result out.old out.new slots.old slots.new }
 {
     let q = validate::validate_ends(source, target);

@@ -1,16 +1,16 @@
 // Re-anchors the targets of a map from one path to another, after validation. Ports
 // `MapFunction::rebase_target` of pcp/mapping.rs.
 ghost use Rattle.std.specs.Prelude.{◌≡◌, true, [], ◌∷◌, ◌+◌, ◌*◌, ◌≤◌, length};
-ghost use Rattle.pair_list.specs.Pair.{pair, allShort};
-ghost use Rattle.pair_list.specs.Places.{pairsIn};
-ghost use Rattle.map_spec.specs.New.{fromPairIdentity};
-ghost use Rattle.map_spec.specs.Derive.{anyTargetBelow};
+ghost use Rattle.pair_list.specs.Pair.{pair, all_short};
+ghost use Rattle.pair_list.specs.Places.{pairs_in};
+ghost use Rattle.map_spec.specs.New.{from_pair_identity};
+ghost use Rattle.map_spec.specs.Derive.{any_target_below};
 ghost use Rattle.validate.specs.Validate.{ValidList};
-ghost use Rattle.map_function.specs.MapFunction.{list_of, mapOf};
-ghost use Rattle.map_function.specs.MapOutcome.{ReturnsMap, withinLimits};
+ghost use Rattle.map_function.specs.MapFunction.{list_of, map_of};
+ghost use Rattle.map_function.specs.MapOutcome.{ReturnsMap, within_limits};
 ghost use Rattle.pair_list_write.specs.Packed.{HoldsList, AppendedPair, ScratchRoom};
-ghost use Rattle.pair_buffer.specs.Ends.{replacedOrSame};
-ghost use Rattle.map_rebase.specs.Calls.{rebasedPairs, rebasedMap, rebaseTargetCall};
+ghost use Rattle.pair_buffer.specs.Ends.{replaced_or_same};
+ghost use Rattle.map_rebase.specs.Calls.{rebased_pairs, rebased_map, rebase_target_call};
 
 // Appends a pair with its target re-anchored and returns the offset after it.
 fn rebase_pair(
@@ -29,7 +29,7 @@ fn rebase_pair(
     requires at_in_bounds { at + 766 ≤ length bytes.old }
     requires n_in_bounds { 4 * n + 4 ≤ length slots.old }
     ensures appended_pair { AppendedPair (pair s.now
-        (replacedOrSame t.now from.now to.now)) n at bytes.old
+        (replaced_or_same t.now from.now to.now)) n at bytes.old
         slots.old result bytes.new slots.new }
     ensures upper_bound { result ≤ at + 766 }
 {
@@ -40,7 +40,7 @@ fn rebase_pair(
 
 // Returns whether one of the first n pairs has a target at or below `from`.
 fn any_target(store: &[u8], places: &[usize], n: usize, from: &[u8]) -> bool
-    ensures { result ≡ anyTargetBelow from.now (pairsIn store.now places.now n) }
+    ensures { result ≡ any_target_below from.now (pairs_in store.now places.now n) }
 {
     let mut i = 0;
     while i < n {
@@ -62,11 +62,11 @@ fn rebase_all(
     bytes: &mut [u8],
     slots: &mut [usize],
 ) -> usize
-    requires n_value { allShort (pairsIn store.now places.now n) ≡ true }
+    requires n_value { all_short (pairs_in store.now places.now n) ≡ true }
     requires to_len_bound { length to.now ≤ 255 }
     requires scratch_room { ScratchRoom 766 n bytes.old slots.old }
-    ensures { HoldsList (rebasedPairs from.now to.now
-        (pairsIn store.now places.now n)) n result bytes.new slots.new }
+    ensures { HoldsList (rebased_pairs from.now to.now
+        (pairs_in store.now places.now n)) n result bytes.new slots.new }
 {
     let mut at = 0;
     let mut i = 0;
@@ -94,7 +94,7 @@ fn rebase_in(
     requires valid_list { ValidList (list_of store.now places.now map) }
     requires to_len_bound { length to.now ≤ 255 }
     requires scratch_room { ScratchRoom 766 map.count bytes.old own.old }
-    ensures { ReturnsMap (rebasedMap (mapOf store.now places.now map) from.now
+    ensures { ReturnsMap (rebased_map (map_of store.now places.now map) from.now
         to.now map.time_offset out.old slots.old) result out.old
         out.new slots.old slots.new }
 {
@@ -118,7 +118,7 @@ fn rebase_pairs(
 ) -> map_function::MapReply
     requires valid_list { ValidList (list_of store.now places.now map) }
     requires to_len_bound { length to.now ≤ 255 }
-    ensures { ReturnsMap (rebasedMap (mapOf store.now places.now map) from.now
+    ensures { ReturnsMap (rebased_map (map_of store.now places.now map) from.now
         to.now map.time_offset out.old slots.old) result out.old
         out.new slots.old slots.new }
 {
@@ -146,8 +146,8 @@ fn from_pair_identity(
 ) -> map_function::MapReply
     requires s_len_bound { length s.now ≤ 255 }
     requires t_len_bound { length t.now ≤ 255 }
-    ensures { ReturnsMap (withinLimits (pair s.now t.now ∷ [])
-        (fromPairIdentity (pair s.now t.now)) time out.old slots.old) result
+    ensures { ReturnsMap (within_limits (pair s.now t.now ∷ [])
+        (from_pair_identity (pair s.now t.now)) time out.old slots.old) result
         out.old out.new slots.old slots.new }
 {
     let mut bytes = [0u8; 510];
@@ -167,7 +167,7 @@ pub fn rebase_target(
     out: &mut [u8],
     slots: &mut [usize],
 ) -> map_function::MapReply
-    ensures { ReturnsMap (rebaseTargetCall store.now places.now map from.now
+    ensures { ReturnsMap (rebase_target_call store.now places.now map from.now
         to.now out.old slots.old) result out.old out.new
         slots.old slots.new }
 {

@@ -2,12 +2,12 @@
 -- is mapped, so it is kept apart. OpenUSD: PcpMapFunction.
 use Rattle.std.specs.Prelude.{ℕ, Bool, true, false, cond, List, eqb, length}
 use Rattle.std.proofs.Math.Option.{Option, none, some}
-use Rattle.text.specs.Text.{Text, isNil}
-use Rattle.path_join.specs.Join.{replacePrefix}
+use Rattle.text.specs.Text.{Text, is_nil}
+use Rattle.path_join.specs.Join.{replace_prefix}
 use Rattle.path_parts.specs.Strip.{strip}
-use Rattle.pair_list.specs.Pair.{Pair, sourceAt, targetAt}
-use Rattle.pair_list.specs.Places.{pairsIn}
-use Rattle.pair_list.specs.LongestMatch.{longestMatch}
+use Rattle.pair_list.specs.Pair.{Pair, source_at, target_at}
+use Rattle.pair_list.specs.Places.{pairs_in}
+use Rattle.pair_list.specs.LongestMatch.{longest_match}
 
 -- A map without its time offset.
 pub record Map : Type 0 where
@@ -17,62 +17,62 @@ pub record Map : Type 0 where
   pub mark : Bool
 
 -- The map in lent memory: the first n pairs, and the mark.
-abbrev pub lentMap : Text → List ℕ → ℕ → Bool → Map
-lentMap store places n mark = record { pairs = pairsIn store places n; mark = mark }
+abbrev pub lent_map : Text → List ℕ → ℕ → Bool → Map
+lent_map store places n mark = record { pairs = pairs_in store places n; mark = mark }
 
 -- The source of pair i.
-abbrev pub mapSource : Map → ℕ → Text
-mapSource m i = sourceAt m.pairs i
+abbrev pub map_source : Map → ℕ → Text
+map_source m i = source_at m.pairs i
 
 -- The target of pair i.
-abbrev pub mapTarget : Map → ℕ → Text
-mapTarget m i = targetAt m.pairs i
+abbrev pub map_target : Map → ℕ → Text
+map_target m i = target_at m.pairs i
 
 -- The number of pairs.
-abbrev pub mapSize : Map → ℕ
-mapSize m = length m.pairs
+abbrev pub map_size : Map → ℕ
+map_size m = length m.pairs
 
 -- The pair that matches a path on the way out: the longest match among the sources.
-unfoldable pub matchSource : Map → Text → Option ℕ
-unfolding longestMatch
-matchSource m p = longestMatch p (mapSource m) (mapSize m)
+unfoldable pub match_source : Map → Text → Option ℕ
+unfolding longest_match
+match_source m p = longest_match p (map_source m) (map_size m)
 
 -- The pair that matches a path on the way home: the longest match among the targets.
-unfoldable pub matchTarget : Map → Text → Option ℕ
-unfolding longestMatch
-matchTarget m q = longestMatch q (mapTarget m) (mapSize m)
+unfoldable pub match_target : Map → Text → Option ℕ
+unfolding longest_match
+match_target m q = longest_match q (map_target m) (map_size m)
 
 -- The path p mapped by the selected pair, from the ends a to the ends b. A pair with an empty target is a block: it makes the paths below
 -- its source unmappable. Requirements: "an empty target gives no path. With no pair, the mark returns the path itself."
-abbrev pub mapBy : Map → (ℕ → Text) → (ℕ → Text) → Text → Option ℕ → Option Text
-mapBy m a b p none = cond m.mark (some p) none
-mapBy m a b p (some i) = cond (isNil (mapTarget m i)) none (replacePrefix p (a i) (b i))
+abbrev pub map_by : Map → (ℕ → Text) → (ℕ → Text) → Text → Option ℕ → Option Text
+map_by m a b p none = cond m.mark (some p) none
+map_by m a b p (some i) = cond (is_nil (map_target m i)) none (replace_prefix p (a i) (b i))
 
 -- Plain mapping (Rust: map_source_to_target). Requirements: "Plain mapping is `map_source_to_target`".
-unfoldable pub mapSourceToTarget : Map → Text → Option Text
-unfolding matchSource replacePrefix
-mapSourceToTarget m p = mapBy m (mapSource m) (mapTarget m) p (matchSource m p)
+unfoldable pub map_source_to_target : Map → Text → Option Text
+unfolding match_source replace_prefix
+map_source_to_target m p = map_by m (map_source m) (map_target m) p (match_source m p)
 
 -- Plain mapping backwards (Rust: map_target_to_source). Requirements: "plainly back is `map_target_to_source`, whose keys are the targets."
-unfoldable pub mapTargetToSource : Map → Text → Option Text
-unfolding matchTarget replacePrefix
-mapTargetToSource m q = mapBy m (mapTarget m) (mapSource m) q (matchTarget m q)
+unfoldable pub map_target_to_source : Map → Text → Option Text
+unfolding match_target replace_prefix
+map_target_to_source m q = map_by m (map_target m) (map_source m) q (match_target m q)
 
 -- The two selected pairs are the same, or no pair is selected in either case.
-abbrev pub eqIndex : Option ℕ → Option ℕ → Bool
-eqIndex none none = true
-eqIndex none (some j) = false
-eqIndex (some i) none = false
-eqIndex (some i) (some j) = eqb i j
+abbrev pub eq_index : Option ℕ → Option ℕ → Bool
+eq_index none none = true
+eq_index none (some j) = false
+eq_index (some i) none = false
+eq_index (some i) (some j) = eqb i j
 
 -- The invertibility check: mapping the result q backwards must select the same pair i, or no pair if none was used.
-unfoldable pub requireInvertible : Map → Option ℕ → Option Text → Option Text
-unfolding matchTarget
-requireInvertible m i none = none
-requireInvertible m i (some q) = cond (eqIndex i (matchTarget m q)) (some q) none
+unfoldable pub require_invertible : Map → Option ℕ → Option Text → Option Text
+unfolding match_target
+require_invertible m i none = none
+require_invertible m i (some q) = cond (eq_index i (match_target m q)) (some q) none
 
 -- Translation (Rust: translate_to_target). Requirements: "`translate_to_target` strips selections, maps, then gives no path if plain
 -- mapping backwards would take another pair for the result, or any pair where none was used." OpenUSD: PcpTranslatePathFromNodeToRoot.
-unfoldable pub translateToTarget : Map → Text → Option Text
-unfolding requireInvertible matchSource mapSourceToTarget strip
-translateToTarget m p = requireInvertible m (matchSource m (strip p)) (mapSourceToTarget m (strip p))
+unfoldable pub translate_to_target : Map → Text → Option Text
+unfolding require_invertible match_source map_source_to_target strip
+translate_to_target m p = require_invertible m (match_source m (strip p)) (map_source_to_target m (strip p))

@@ -7,110 +7,110 @@ use lib.Dec.{leb}
 use lib.ListN.{length}
 use borrow.Author.Tests.{leb-true}
 use Rattle.text.specs.Text.{Text}
-use Rattle.path_grammar.specs.Legal.{atMost255}
+use Rattle.path_grammar.specs.Legal.{at_most255}
 use Rattle.refusal.specs.declared.Refusal.{Refusal}
 use Rattle.refusal.specs.declared.Refusal.TheVariants.{TooLong, Illegal, NoRoom}
 use Rattle.refusal.specs.declared.Validation.{Validation}
 use Rattle.refusal.specs.declared.Validation.TheVariants.{Passed, Refused}
-use Rattle.refusal.specs.Refusal.{allTextsShort, allTextsLegal, validateTexts}
+use Rattle.refusal.specs.Refusal.{all_texts_short, all_texts_legal, validate_texts}
 use Rattle.refusal.specs.Outcome.{refused}
-use Rattle.path.specs.Calls.{pathNewCall}
+use Rattle.path.specs.Calls.{path_new_call}
 use Rattle.refusal.proofs.CallBranches.{answered-refused, answered-short, answered-passed}
 use Rattle.path_parts.specs.Strip.{strip}
-use Rattle.validate.specs.Validate.{lentList, validateCall, firstRefusal}
-use Rattle.validate.proofs.RefusalLaws.{never, none-earlier, one_by_one}
+use Rattle.validate.specs.Validate.{lent_list, validate_call, first_refusal}
+use Rattle.validate.proofs.RefusalLaws.{never, none_earlier, one_by_one}
 use Rattle.map_spec.specs.Map.{Map}
-use Rattle.map_rest.specs.MapRest.{translatedRest}
-use Rattle.map_apply.specs.Fast.{mapFast, plainRest, translateFast}
+use Rattle.map_rest.specs.MapRest.{translated_rest}
+use Rattle.map_apply.specs.Fast.{map_fast, plain_rest, translate_fast}
 use Rattle.map_function.specs.declared.MapFunction.{MapFunction}
-use Rattle.map_function.specs.MapFunction.{mapOf}
+use Rattle.map_function.specs.MapFunction.{map_of}
 use Rattle.mapping.specs.declared.Direction.{Direction}
 use Rattle.mapping.specs.declared.Direction.TheVariants.{Out, Home, Translated}
-use Rattle.mapping.specs.Direction.{mapFastIn, afterListValidated}
-use Rattle.mapping.specs.Calls.{directionCall, directionRest}
-use Rattle.mapping.proofs.CopyOutBranches.{Short, short-fast, short-translate, short-answered}
-use Rattle.mapping.proofs.MappingBranches.{out-validated, home-validated, translate-validated}
-use Rattle.validate.proofs.PassedLaws.{empty-validated}
+use Rattle.mapping.specs.Direction.{map_fast_in, after_list_validated}
+use Rattle.mapping.specs.Calls.{direction_call, direction_rest}
+use Rattle.mapping.proofs.CopyOutBranches.{Short, short_fast, short_translate, short_answered}
+use Rattle.mapping.proofs.MappingBranches.{out_validated, home_validated, translate_validated}
+use Rattle.validate.proofs.PassedLaws.{empty_validated}
 
 -- Lemmas for `map_in_direction`.
 module _ (direction : Direction) (m : Map) (p : Text) where
-  pub direction-out : direction ≡ Out → mapFastIn direction m p ≡ mapFast false m p
-  unfolding mapFastIn
-  direction-out h = rw h
+  pub direction_out : direction ≡ Out → map_fast_in direction m p ≡ map_fast false m p
+  unfolding map_fast_in
+  direction_out h = rw h
 
-  pub direction-home : direction ≡ Home → mapFastIn direction m p ≡ mapFast true m p
-  unfolding mapFastIn
-  direction-home h = rw h
+  pub direction_home : direction ≡ Home → map_fast_in direction m p ≡ map_fast true m p
+  unfolding map_fast_in
+  direction_home h = rw h
 
-  pub direction-translated : direction ≡ Translated → mapFastIn direction m p ≡ translateFast m (strip p)
-  unfolding mapFastIn
-  direction-translated h = rw h
+  pub direction_translated : direction ≡ Translated → map_fast_in direction m p ≡ translate_fast m (strip p)
+  unfolding map_fast_in
+  direction_translated h = rw h
 
-  pub rest_out : direction ≡ Out → directionRest direction m p ≡ plainRest false m p
-  unfolding directionRest plainRest
+  pub rest_out : direction ≡ Out → direction_rest direction m p ≡ plain_rest false m p
+  unfolding direction_rest plain_rest
   rest_out h = rw h
 
-  pub rest-home : direction ≡ Home → directionRest direction m p ≡ plainRest true m p
-  unfolding directionRest plainRest
-  rest-home h = rw h
+  pub rest_home : direction ≡ Home → direction_rest direction m p ≡ plain_rest true m p
+  unfolding direction_rest plain_rest
+  rest_home h = rw h
 
-  pub rest-translated : direction ≡ Translated → directionRest direction m p ≡ translatedRest m p
-  unfolding directionRest
-  rest-translated h = rw h
+  pub rest_translated : direction ≡ Translated → direction_rest direction m p ≡ translated_rest m p
+  unfolding direction_rest
+  rest_translated h = rw h
 
-new-short : (p : Text) → pathNewCall p ≡ Passed → length p ≤ 255
-unfolding pathNewCall validateTexts allTextsShort atMost255
-new-short p h = go (leb (length p) 255) refl h
+new_short : (p : Text) → path_new_call p ≡ Passed → length p ≤ 255
+unfolding path_new_call validate_texts all_texts_short at_most255
+new_short p h = go (leb (length p) 255) refl h
   where
-    go : (t : Bool) → leb (length p) 255 ≡ t → cond (t && true) (cond (allTextsLegal (p ∷ [])) Passed (Refused Illegal)) (Refused TooLong) ≡ Passed → length p ≤ 255
+    go : (t : Bool) → leb (length p) 255 ≡ t → cond (t && true) (cond (all_texts_legal (p ∷ [])) Passed (Refused Illegal)) (Refused TooLong) ≡ Passed → length p ≤ 255
     go true e k = leb-true (length p) 255 e
     go false e k = absurd (never TooLong k)
 
 -- Lemmas for `map_after_list`.
-pub after-length : (list : Validation) (p : Text) (n q : Validation) → n ≡ pathNewCall p → q ≡ firstRefusal list n → q ≡ Passed → length p ≤ 255
-after-length list p n q g h k = new-short p (none-earlier list (pathNewCall p) (sym (h ∙ ap (firstRefusal list) g) ∙ k)).1
+pub after_length : (list : Validation) (p : Text) (n q : Validation) → n ≡ path_new_call p → q ≡ first_refusal list n → q ≡ Passed → length p ≤ 255
+after_length list p n q g h k = new_short p (none_earlier list (path_new_call p) (sym (h ∙ ap (first_refusal list) g) ∙ k)).1
 
-module _ (list : Validation) (direction : Direction) (store : Text) (places : List ℕ) (f : MapFunction) (p : Text) (room : ℕ) (n q : Validation) (g : n ≡ pathNewCall p) (h : q ≡ firstRefusal list n) where
-  both : q ≡ firstRefusal list (pathNewCall p)
-  both = h ∙ ap (firstRefusal list) g
+module _ (list : Validation) (direction : Direction) (store : Text) (places : List ℕ) (f : MapFunction) (p : Text) (room : ℕ) (n q : Validation) (g : n ≡ path_new_call p) (h : q ≡ first_refusal list n) where
+  both : q ≡ first_refusal list (path_new_call p)
+  both = h ∙ ap (first_refusal list) g
 
-  pub after-refused : (x : Refusal) → q ≡ Refused x → afterListValidated list direction store places f p room ≡ refused x
-  unfolding afterListValidated
-  after-refused x k = answered-refused (firstRefusal list (pathNewCall p)) room (mapFastIn direction (mapOf store places f) p) q both x k
+  pub after_refused : (x : Refusal) → q ≡ Refused x → after_list_validated list direction store places f p room ≡ refused x
+  unfolding after_list_validated
+  after_refused x k = answered-refused (first_refusal list (path_new_call p)) room (map_fast_in direction (map_of store places f) p) q both x k
 
-  pub after-short : q ≡ Passed → room < 255 → afterListValidated list direction store places f p room ≡ refused NoRoom
-  unfolding afterListValidated
-  after-short k l = answered-short (firstRefusal list (pathNewCall p)) room (mapFastIn direction (mapOf store places f) p) q both k l
+  pub after_short : q ≡ Passed → room < 255 → after_list_validated list direction store places f p room ≡ refused NoRoom
+  unfolding after_list_validated
+  after_short k l = answered-short (first_refusal list (path_new_call p)) room (map_fast_in direction (map_of store places f) p) q both k l
 
-  pub after-passed : q ≡ Passed → 255 ≤ room → afterListValidated list direction store places f p room ≡ mapFastIn direction (mapOf store places f) p
-  unfolding afterListValidated
-  after-passed k l = answered-passed (firstRefusal list (pathNewCall p)) room (mapFastIn direction (mapOf store places f) p) q both k l
+  pub after_passed : q ≡ Passed → 255 ≤ room → after_list_validated list direction store places f p room ≡ map_fast_in direction (map_of store places f) p
+  unfolding after_list_validated
+  after_passed k l = answered-passed (first_refusal list (path_new_call p)) room (map_fast_in direction (map_of store places f) p) q both k l
 
 -- Validating a list and a path yields, of the two results, the refusal whose question is put first, so the call equals the one that is
 -- given the result for the list.
-pub after-is-call : (direction : Direction) (store : Text) (places : List ℕ) (f : MapFunction) (p : Text) (room : ℕ)
-    → afterListValidated (validateCall (lentList store places f.count ∷ []) [] []) direction store places f p room ≡ directionCall direction store places f p room
-unfolding afterListValidated directionCall mapFastIn
-after-is-call Out store places f p room = rw (one_by_one (lentList store places f.count ∷ []) p) (sym (out-validated store places f p room))
-after-is-call Home store places f p room = rw (one_by_one (lentList store places f.count ∷ []) p) (sym (home-validated store places f p room))
-after-is-call Translated store places f p room = rw (one_by_one (lentList store places f.count ∷ []) p) (sym (translate-validated store places f p room))
+pub after_is_call : (direction : Direction) (store : Text) (places : List ℕ) (f : MapFunction) (p : Text) (room : ℕ)
+    → after_list_validated (validate_call (lent_list store places f.count ∷ []) [] []) direction store places f p room ≡ direction_call direction store places f p room
+unfolding after_list_validated direction_call map_fast_in
+after_is_call Out store places f p room = rw (one_by_one (lent_list store places f.count ∷ []) p) (sym (out_validated store places f p room))
+after_is_call Home store places f p room = rw (one_by_one (lent_list store places f.count ∷ []) p) (sym (home_validated store places f p room))
+after_is_call Translated store places f p room = rw (one_by_one (lent_list store places f.count ∷ []) p) (sym (translate_validated store places f p room))
 
-pub call-is-after : (direction : Direction) (store : Text) (places : List ℕ) (f : MapFunction) (p : Text) (room : ℕ) (list : Validation)
-    → list ≡ validateCall (lentList store places f.count ∷ []) ([] ∷ []) [] → directionCall direction store places f p room ≡ afterListValidated list direction store places f p room
-call-is-after direction store places f p room list h =
-    sym (after-is-call direction store places f p room) ∙ ap (λ (a : Validation). afterListValidated a direction store places f p room) (sym (h ∙ empty-validated (lentList store places f.count)))
+pub call_is_after : (direction : Direction) (store : Text) (places : List ℕ) (f : MapFunction) (p : Text) (room : ℕ) (list : Validation)
+    → list ≡ validate_call (lent_list store places f.count ∷ []) ([] ∷ []) [] → direction_call direction store places f p room ≡ after_list_validated list direction store places f p room
+call_is_after direction store places f p room list h =
+    sym (after_is_call direction store places f p room) ∙ ap (λ (a : Validation). after_list_validated a direction store places f p room) (sym (h ∙ empty_validated (lent_list store places f.count)))
 
 -- Every path that the calls yield has at most 255 bytes.
-short-direction : (direction : Direction) (m : Map) (p : Text) → Short (mapFastIn direction m p)
-unfolding mapFastIn
-short-direction Out m p = short-fast false m p
-short-direction Home m p = short-fast true m p
-short-direction Translated m p = short-translate m (strip p)
+short_direction : (direction : Direction) (m : Map) (p : Text) → Short (map_fast_in direction m p)
+unfolding map_fast_in
+short_direction Out m p = short_fast false m p
+short_direction Home m p = short_fast true m p
+short_direction Translated m p = short_translate m (strip p)
 
-pub short-after : (list : Validation) (direction : Direction) (store : Text) (places : List ℕ) (f : MapFunction) (p : Text) (room : ℕ) → Short (afterListValidated list direction store places f p room)
-unfolding afterListValidated
-short-after list direction store places f p room = short-answered (firstRefusal list (pathNewCall p)) room (mapFastIn direction (mapOf store places f) p) (λ h. short-direction direction (mapOf store places f) p)
+pub short_after : (list : Validation) (direction : Direction) (store : Text) (places : List ℕ) (f : MapFunction) (p : Text) (room : ℕ) → Short (after_list_validated list direction store places f p room)
+unfolding after_list_validated
+short_after list direction store places f p room = short_answered (first_refusal list (path_new_call p)) room (map_fast_in direction (map_of store places f) p) (λ h. short_direction direction (map_of store places f) p)
 
-pub short-call : (direction : Direction) (store : Text) (places : List ℕ) (f : MapFunction) (p : Text) (room : ℕ) → Short (directionCall direction store places f p room)
-short-call direction store places f p room =
-    rw (← after-is-call direction store places f p room) (short-after (validateCall (lentList store places f.count ∷ []) [] []) direction store places f p room)
+pub short_call : (direction : Direction) (store : Text) (places : List ℕ) (f : MapFunction) (p : Text) (room : ℕ) → Short (direction_call direction store places f p room)
+short_call direction store places f p room =
+    rw (← after_is_call direction store places f p room) (short_after (validate_call (lent_list store places f.count ∷ []) [] []) direction store places f p room)

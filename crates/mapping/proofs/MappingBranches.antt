@@ -8,59 +8,59 @@ use lib.ListN.{length}
 use Rattle.text.specs.Text.{Text}
 use Rattle.path_grammar.specs.Legal.{legal}
 use Rattle.path_parts.specs.Strip.{strip}
-use Rattle.path_parts.proofs.StripLaws.{strip-shorter, strip-legal}
+use Rattle.path_parts.proofs.StripLaws.{strip_shorter, strip_legal}
 use Rattle.refusal.specs.declared.Validation.{Validation}
 use Rattle.refusal.specs.declared.Validation.TheVariants.{Passed}
-use Rattle.refusal.specs.Outcome.{checkedOption}
-use Rattle.refusal.proofs.CallBranches.{answered-same}
-use Rattle.pair_list.specs.Pair.{allShort, allEnds}
-use Rattle.validate.specs.Validate.{LentList, validateCall}
-use Rattle.validate.proofs.PassedLaws.{first-sound, text-short, text-legal}
-use Rattle.map_spec.specs.Map.{Map, mapSourceToTarget, mapTargetToSource, translateToTarget}
-use Rattle.map_apply.specs.Fast.{mapFast, translateFast}
-use Rattle.map_apply.proofs.FastLaws.{fast-out, fast-home, fast-translated}
+use Rattle.refusal.specs.Outcome.{checked_option}
+use Rattle.refusal.proofs.CallBranches.{answered_same}
+use Rattle.pair_list.specs.Pair.{all_short, all_ends}
+use Rattle.validate.specs.Validate.{LentList, validate_call}
+use Rattle.validate.proofs.PassedLaws.{first_sound, text_short, text_legal}
+use Rattle.map_spec.specs.Map.{Map, map_source_to_target, map_target_to_source, translate_to_target}
+use Rattle.map_apply.specs.Fast.{map_fast, translate_fast}
+use Rattle.map_apply.proofs.FastLaws.{fast_out, fast_home, fast_translated}
 use Rattle.map_function.specs.declared.MapFunction.{MapFunction}
-use Rattle.map_function.specs.MapFunction.{list_of, mapOf}
-use Rattle.mapping.specs.Calls.{mappingCall, mapSourceToTargetCall, mapTargetToSourceCall, translateToTargetCall}
+use Rattle.map_function.specs.MapFunction.{list_of, map_of}
+use Rattle.mapping.specs.Calls.{mapping_call, map_source_to_target_call, map_target_to_source_call, translate_to_target_call}
 
 module _ (store : Text) (places : List ℕ) (f : MapFunction) (p : Text) (room : ℕ) where
   abbrev m : Map
-  m = mapOf store places f
+  m = map_of store places f
 
   abbrev l : LentList
   l = list_of store places f
 
   abbrev questions : Validation
-  questions = validateCall (l ∷ []) (p ∷ []) []
+  questions = validate_call (l ∷ []) (p ∷ []) []
 
   -- A call whose validation passed has a legal path of at most 255 bytes, and ends.
   module _ (e : questions ≡ Passed) where
-    is-short : length p ≤ 255
-    is-short = text-short (l ∷ []) p [] [] e
+    is_short : length p ≤ 255
+    is_short = text_short (l ∷ []) p [] [] e
 
-    is-legal : legal p ≡ true
-    is-legal = text-legal (l ∷ []) p [] [] e
+    is_legal : legal p ≡ true
+    is_legal = text_legal (l ∷ []) p [] [] e
 
-    are-ends : allEnds m.pairs ≡ true
-    are-ends = (first-sound l [] (p ∷ []) [] e).ends
+    are-ends : all_ends m.pairs ≡ true
+    are-ends = (first_sound l [] (p ∷ []) [] e).ends
 
-    are-short : allShort m.pairs ≡ true
-    are-short = (first-sound l [] (p ∷ []) [] e).shorts
+    are-short : all_short m.pairs ≡ true
+    are-short = (first_sound l [] (p ∷ []) [] e).shorts
 
-  pub out-validated : mapSourceToTargetCall store places f p room ≡ mappingCall store places f p room (mapFast false m p)
-  unfolding mapSourceToTargetCall
-  out-validated =
-      answered-same questions room (checkedOption (mapSourceToTarget m p)) (mapFast false m p)
-      (λ e. sym (fast-out m p (are-ends e) (is-legal e) (is-short e)))
+  pub out_validated : map_source_to_target_call store places f p room ≡ mapping_call store places f p room (map_fast false m p)
+  unfolding map_source_to_target_call
+  out_validated =
+      answered_same questions room (checked_option (map_source_to_target m p)) (map_fast false m p)
+      (λ e. sym (fast_out m p (are-ends e) (is_legal e) (is_short e)))
 
-  pub home-validated : mapTargetToSourceCall store places f p room ≡ mappingCall store places f p room (mapFast true m p)
-  unfolding mapTargetToSourceCall
-  home-validated =
-      answered-same questions room (checkedOption (mapTargetToSource m p)) (mapFast true m p)
-      (λ e. sym (fast-home m p (are-ends e) (is-legal e) (is-short e)))
+  pub home_validated : map_target_to_source_call store places f p room ≡ mapping_call store places f p room (map_fast true m p)
+  unfolding map_target_to_source_call
+  home_validated =
+      answered_same questions room (checked_option (map_target_to_source m p)) (map_fast true m p)
+      (λ e. sym (fast_home m p (are-ends e) (is_legal e) (is_short e)))
 
-  pub translate-validated : translateToTargetCall store places f p room ≡ mappingCall store places f p room (translateFast m (strip p))
-  unfolding translateToTargetCall translateToTarget
-  translate-validated =
-      answered-same questions room (checkedOption (translateToTarget m p)) (translateFast m (strip p))
-      (λ e. sym (fast-translated m (strip p) (are-ends e) (are-short e) (strip-legal p (is-legal e)) (omega (arith, strip-shorter p, is-short e))))
+  pub translate_validated : translate_to_target_call store places f p room ≡ mapping_call store places f p room (translate_fast m (strip p))
+  unfolding translate_to_target_call translate_to_target
+  translate_validated =
+      answered_same questions room (checked_option (translate_to_target m p)) (translate_fast m (strip p))
+      (λ e. sym (fast_translated m (strip p) (are-ends e) (are-short e) (strip_legal p (is_legal e)) (omega (arith, strip_shorter p, is_short e))))

@@ -6,13 +6,13 @@ ghost use Rattle.std.specs.Prelude.{◌≡◌, ◌≤◌, length};
 ghost use Rattle.path_parts.specs.Strip.{strip};
 ghost use Rattle.refusal.specs.Outcome.{ReturnsPath};
 ghost use Rattle.path_rest.specs.Carried.{ReturnsCarried};
-ghost use Rattle.map_spec.specs.Map.{lentMap};
-ghost use Rattle.map_rest.specs.MapRest.{sourceRest, targetRest, translatedRest};
-ghost use Rattle.map_apply.specs.Fast.{mapFast, plainRest, translateFast};
-ghost use Rattle.map_function.specs.MapFunction.{mapOf};
-ghost use Rattle.mapping.specs.CopyOut.{replyWithin, copiedOut};
-ghost use Rattle.mapping.specs.Calls.{mapSourceToTargetCall, mapTargetToSourceCall, translateToTargetCall, directionCall, directionRest};
-ghost use Rattle.mapping.specs.Direction.{mapFastIn, afterListValidated};
+ghost use Rattle.map_spec.specs.Map.{lent_map};
+ghost use Rattle.map_rest.specs.MapRest.{source_rest, target_rest, translated_rest};
+ghost use Rattle.map_apply.specs.Fast.{map_fast, plain_rest, translate_fast};
+ghost use Rattle.map_function.specs.MapFunction.{map_of};
+ghost use Rattle.mapping.specs.CopyOut.{reply_within, copied_out};
+ghost use Rattle.mapping.specs.Calls.{map_source_to_target_call, map_target_to_source_call, translate_to_target_call, direction_call, direction_rest};
+ghost use Rattle.mapping.specs.Direction.{map_fast_in, after_list_validated};
 
 // How a path is mapped.
 #[derive(Drop)]
@@ -27,9 +27,9 @@ pub enum Direction {
 
 // Copies a path from the scratch buffer to the lent buffer; a refusal writes nothing.
 fn copy_out(r: refusal::Reply, made: &[u8; 255], out: &mut [u8]) -> refusal::Reply
-    requires { replyWithin r (length made.now) }
+    requires { reply_within r (length made.now) }
     ensures value { result ≡ r }
-    ensures out_after { out.new ≡ copiedOut r made.now out.old }
+    ensures out_after { out.new ≡ copied_out r made.now out.old }
 {
     let refusal::Reply::Written(n) = r else {
         return r;
@@ -50,8 +50,8 @@ fn map_into(
     out: &mut [u8],
 ) -> path_rest::Carried
     requires { 255 ≤ length out.old }
-    ensures { let m = lentMap store.now places.now n mark in
-        ReturnsCarried (mapFast invert m path.now) (plainRest invert m path.now) result
+    ensures { let m = lent_map store.now places.now n mark in
+        ReturnsCarried (map_fast invert m path.now) (plain_rest invert m path.now) result
         out.old out.new }
 {
     let mut made = [0u8; 255];
@@ -70,8 +70,8 @@ fn translate_into(
     out: &mut [u8],
 ) -> path_rest::Carried
     requires { 255 ≤ length out.old }
-    ensures { let m = lentMap store.now places.now n mark in
-        ReturnsCarried (translateFast m path.now) (sourceRest m path.now) result
+    ensures { let m = lent_map store.now places.now n mark in
+        ReturnsCarried (translate_fast m path.now) (source_rest m path.now) result
         out.old out.new }
 {
     let mut made = [0u8; 255];
@@ -91,8 +91,8 @@ fn translate_stripped(
     out: &mut [u8],
 ) -> path_rest::Carried
     requires { (length path.now ≤ 255) × (255 ≤ length out.old) }
-    ensures { let m = lentMap store.now places.now n mark in
-        ReturnsCarried (translateFast m (strip path.now)) (translatedRest m path.now) result
+    ensures { let m = lent_map store.now places.now n mark in
+        ReturnsCarried (translate_fast m (strip path.now)) (translated_rest m path.now) result
         out.old out.new }
 {
     if !path_own::has_variant_selection(path) {
@@ -118,8 +118,8 @@ fn map_in_direction(
     out: &mut [u8],
 ) -> path_rest::Carried
     requires { (length path.now ≤ 255) × (255 ≤ length out.old) }
-    ensures { let m = lentMap store.now places.now n mark in
-        ReturnsCarried (mapFastIn direction m path.now) (directionRest direction m path.now) result
+    ensures { let m = lent_map store.now places.now n mark in
+        ReturnsCarried (map_fast_in direction m path.now) (direction_rest direction m path.now) result
         out.old out.new }
 {
     match direction {
@@ -140,9 +140,9 @@ fn map_after_list_carried(
     path: &[u8],
     out: &mut [u8],
 ) -> path_rest::Carried
-    ensures { ReturnsCarried (afterListValidated list direction store.now places.now map
-        path.now (length out.old)) (directionRest direction
-        (mapOf store.now places.now map) path.now) result out.old
+    ensures { ReturnsCarried (after_list_validated list direction store.now places.now map
+        path.now (length out.old)) (direction_rest direction
+        (map_of store.now places.now map) path.now) result out.old
         out.new }
 {
     let count = map.count;
@@ -167,7 +167,7 @@ pub fn map_after_list(
     path: &[u8],
     out: &mut [u8],
 ) -> refusal::Reply
-    ensures { ReturnsPath (afterListValidated list direction store.now places.now map
+    ensures { ReturnsPath (after_list_validated list direction store.now places.now map
         path.now (length out.old)) result out.old out.new }
 {
     path_rest::reply_of(map_after_list_carried(list, store, places, map, direction, path, out))
@@ -182,9 +182,9 @@ fn call(
     path: &[u8],
     out: &mut [u8],
 ) -> path_rest::Carried
-    ensures { ReturnsCarried (directionCall direction store.now places.now map
-        path.now (length out.old)) (directionRest direction
-        (mapOf store.now places.now map) path.now) result out.old
+    ensures { ReturnsCarried (direction_call direction store.now places.now map
+        path.now (length out.old)) (direction_rest direction
+        (map_of store.now places.now map) path.now) result out.old
         out.new }
 {
     let list = validate::validate_list_and_path(store, places, map.count, &path[..0]);
@@ -199,7 +199,7 @@ pub fn map_source_to_target(
     path: &[u8],
     out: &mut [u8],
 ) -> refusal::Reply
-    ensures { ReturnsPath (mapSourceToTargetCall store.now places.now map
+    ensures { ReturnsPath (map_source_to_target_call store.now places.now map
         path.now (length out.old)) result out.old out.new }
 {
     path_rest::reply_of(call(store, places, map, Direction::Out, path, out))
@@ -213,7 +213,7 @@ pub fn map_target_to_source(
     path: &[u8],
     out: &mut [u8],
 ) -> refusal::Reply
-    ensures { ReturnsPath (mapTargetToSourceCall store.now places.now map
+    ensures { ReturnsPath (map_target_to_source_call store.now places.now map
         path.now (length out.old)) result out.old out.new }
 {
     path_rest::reply_of(call(store, places, map, Direction::Home, path, out))
@@ -228,7 +228,7 @@ pub fn translate_to_target(
     path: &[u8],
     out: &mut [u8],
 ) -> refusal::Reply
-    ensures { ReturnsPath (translateToTargetCall store.now places.now map
+    ensures { ReturnsPath (translate_to_target_call store.now places.now map
         path.now (length out.old)) result out.old out.new }
 {
     path_rest::reply_of(call(store, places, map, Direction::Translated, path, out))
@@ -242,8 +242,8 @@ pub fn map_source_to_target_carried(
     path: &[u8],
     out: &mut [u8],
 ) -> path_rest::Carried
-    ensures { ReturnsCarried (mapSourceToTargetCall store.now places.now map
-        path.now (length out.old)) (sourceRest (mapOf store.now places.now map)
+    ensures { ReturnsCarried (map_source_to_target_call store.now places.now map
+        path.now (length out.old)) (source_rest (map_of store.now places.now map)
         path.now) result out.old out.new }
 {
     call(store, places, map, Direction::Out, path, out)
@@ -257,8 +257,8 @@ pub fn map_target_to_source_carried(
     path: &[u8],
     out: &mut [u8],
 ) -> path_rest::Carried
-    ensures { ReturnsCarried (mapTargetToSourceCall store.now places.now map
-        path.now (length out.old)) (targetRest (mapOf store.now places.now map)
+    ensures { ReturnsCarried (map_target_to_source_call store.now places.now map
+        path.now (length out.old)) (target_rest (map_of store.now places.now map)
         path.now) result out.old out.new }
 {
     call(store, places, map, Direction::Home, path, out)
@@ -272,8 +272,8 @@ pub fn translate_to_target_carried(
     path: &[u8],
     out: &mut [u8],
 ) -> path_rest::Carried
-    ensures { ReturnsCarried (translateToTargetCall store.now places.now map
-        path.now (length out.old)) (translatedRest (mapOf store.now places.now map)
+    ensures { ReturnsCarried (translate_to_target_call store.now places.now map
+        path.now (length out.old)) (translated_rest (map_of store.now places.now map)
         path.now) result out.old out.new }
 {
     call(store, places, map, Direction::Translated, path, out)

@@ -2,14 +2,14 @@
 // The reply's value is the length written, plus 256 times the index at which the rest begins in the path given,
 // plus 65,536 times its length. A refusal has no rest.
 ghost use Rattle.std.specs.Prelude.{◌≡◌, true, false, length};
-ghost use Rattle.map_function.specs.MapFunction.{mapOf};
-ghost use Rattle.map_rest.specs.MapRest.{sourceRest, targetRest, translatedRest};
-ghost use Rattle.mapping.specs.Calls.{mapSourceToTargetCall, mapTargetToSourceCall, translateToTargetCall};
-ghost use Rattle.route_spec.specs.Rest.{routeRest};
-ghost use Rattle.route_legs.specs.LentRoute.{lentRoute, legsIn};
-ghost use Rattle.route.specs.Calls.{routeCall};
+ghost use Rattle.map_function.specs.MapFunction.{map_of};
+ghost use Rattle.map_rest.specs.MapRest.{source_rest, target_rest, translated_rest};
+ghost use Rattle.mapping.specs.Calls.{map_source_to_target_call, map_target_to_source_call, translate_to_target_call};
+ghost use Rattle.route_spec.specs.Rest.{route_rest};
+ghost use Rattle.route_legs.specs.LentRoute.{lent_route, legs_in};
+ghost use Rattle.route.specs.Calls.{route_call};
 ghost use Rattle.ffi_rest.specs.RestCode.{ReturnsCarriedCode};
-ghost use Rattle.ffi_values.specs.Map.{untimedMap};
+ghost use Rattle.ffi_values.specs.Map.{untimed_map};
 
 // Like `mudvizsor_map_source_to_target`, with the rest.
 #[unsafe(no_mangle)]
@@ -21,9 +21,9 @@ pub extern "C" fn mudvizsor_map_source_to_target_carried(
     path: &[u8],
     out: &mut [u8],
 ) -> usize
-    ensures { let map = untimedMap count mark in let p = path.now in ReturnsCarriedCode p
-        (mapSourceToTargetCall store.now places.now map p (length out.old))
-        (sourceRest (mapOf store.now places.now map) p) result out.old out.new }
+    ensures { let map = untimed_map count mark in let p = path.now in ReturnsCarriedCode p
+        (map_source_to_target_call store.now places.now map p (length out.old))
+        (source_rest (map_of store.now places.now map) p) result out.old out.new }
 {
     let map = ffi_values::untimed_map(count, mark);
     let carried = mapping::map_source_to_target_carried(store, places, map, path, out);
@@ -40,9 +40,9 @@ pub extern "C" fn mudvizsor_map_target_to_source_carried(
     path: &[u8],
     out: &mut [u8],
 ) -> usize
-    ensures { let map = untimedMap count mark in let p = path.now in ReturnsCarriedCode p
-        (mapTargetToSourceCall store.now places.now map p (length out.old))
-        (targetRest (mapOf store.now places.now map) p) result out.old out.new }
+    ensures { let map = untimed_map count mark in let p = path.now in ReturnsCarriedCode p
+        (map_target_to_source_call store.now places.now map p (length out.old))
+        (target_rest (map_of store.now places.now map) p) result out.old out.new }
 {
     let map = ffi_values::untimed_map(count, mark);
     let carried = mapping::map_target_to_source_carried(store, places, map, path, out);
@@ -59,9 +59,9 @@ pub extern "C" fn mudvizsor_translate_to_target_carried(
     path: &[u8],
     out: &mut [u8],
 ) -> usize
-    ensures { let map = untimedMap count mark in let p = path.now in ReturnsCarriedCode p
-        (translateToTargetCall store.now places.now map p (length out.old))
-        (translatedRest (mapOf store.now places.now map) p) result out.old out.new }
+    ensures { let map = untimed_map count mark in let p = path.now in ReturnsCarriedCode p
+        (translate_to_target_call store.now places.now map p (length out.old))
+        (translated_rest (map_of store.now places.now map) p) result out.old out.new }
 {
     let map = ffi_values::untimed_map(count, mark);
     let carried = mapping::translate_to_target_carried(store, places, map, path, out);
@@ -78,9 +78,9 @@ pub extern "C" fn mudvizsor_route_out_carried(
     path: &[u8],
     out: &mut [u8],
 ) -> usize
-    ensures { let s = lentRoute store.now places.now legs.now count in
-        let p = path.now in ReturnsCarriedCode p (routeCall false s p (length out.old))
-        (routeRest false (legsIn s count) p) result out.old out.new }
+    ensures { let s = lent_route store.now places.now legs.now count in
+        let p = path.now in ReturnsCarriedCode p (route_call false s p (length out.old))
+        (route_rest false (legs_in s count) p) result out.old out.new }
 {
     let carried = route::route_out_carried(store, places, legs, count, path, out);
     ffi_rest::carried_code(path, carried)
@@ -96,9 +96,9 @@ pub extern "C" fn mudvizsor_route_home_carried(
     path: &[u8],
     out: &mut [u8],
 ) -> usize
-    ensures { let s = lentRoute store.now places.now legs.now count in
-        let p = path.now in ReturnsCarriedCode p (routeCall true s p (length out.old))
-        (routeRest true (legsIn s count) p) result out.old out.new }
+    ensures { let s = lent_route store.now places.now legs.now count in
+        let p = path.now in ReturnsCarriedCode p (route_call true s p (length out.old))
+        (route_rest true (legs_in s count) p) result out.old out.new }
 {
     let carried = route::route_home_carried(store, places, legs, count, path, out);
     ffi_rest::carried_code(path, carried)

@@ -2,8 +2,8 @@
 // at first, and the buffers of the open list (32,640 bytes, 256 places) and of the leg store (32,768 bytes,
 // 4,096 places and a table of 48 numbers). What a line uses of them is validated (questions 1 to 5).
 ghost use Rattle.std.specs.Prelude.{◌≡◌};
-ghost use Rattle.ffi_values.specs.Code.{replyCode};
-ghost use Rattle.ffi_line.specs.LineCall.{lentMemory, wholeLine, lineReply, lineMemory, lineOut, lineCounters};
+ghost use Rattle.ffi_values.specs.Code.{reply_code};
+ghost use Rattle.ffi_line.specs.LineCall.{lent_memory, whole_line, line_reply, line_memory, line_out, line_counters};
 
 // Processes the line, given without its newline, and writes the reply line, with its newline, to out.
 #[unsafe(no_mangle)]
@@ -17,18 +17,18 @@ pub extern "C" fn mudvizsor_frames_line(
     table: &mut [usize],
     out: &mut [u8],
 ) -> usize
-    ensures value { result ≡ replyCode (lineReply (wholeLine line.now) kept.old
-        (lentMemory kept.old bytes.old places.old store.old
+    ensures value { result ≡ reply_code (line_reply (whole_line line.now) kept.old
+        (lent_memory kept.old bytes.old places.old store.old
         slots.old table.old) out.old) }
-    ensures kept_after { kept.new ≡ lineCounters (wholeLine line.now) kept.old
-        (lentMemory kept.old bytes.old places.old store.old
+    ensures kept_after { kept.new ≡ line_counters (whole_line line.now) kept.old
+        (lent_memory kept.old bytes.old places.old store.old
         slots.old table.old) out.old }
-    ensures table_after { lentMemory kept.new bytes.new places.new store.new
-        slots.new table.new ≡ lineMemory (wholeLine line.now) kept.old
-        (lentMemory kept.old bytes.old places.old store.old
+    ensures table_after { lent_memory kept.new bytes.new places.new store.new
+        slots.new table.new ≡ line_memory (whole_line line.now) kept.old
+        (lent_memory kept.old bytes.old places.old store.old
         slots.old table.old) out.old }
-    ensures out_after { out.new ≡ lineOut (wholeLine line.now) kept.old
-        (lentMemory kept.old bytes.old places.old store.old
+    ensures out_after { out.new ≡ line_out (whole_line line.now) kept.old
+        (lent_memory kept.old bytes.old places.old store.old
         slots.old table.old) out.old }
 {
     ffi_values::reply_code(ffi_line::answer_whole(

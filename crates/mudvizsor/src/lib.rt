@@ -2,16 +2,16 @@
 // byte is the refusal number (0 if accepted), the remainder is 256 times the value. A slice passes as a
 // pointer followed by a length.
 ghost use Rattle.std.specs.Prelude.{◌≡◌, length};
-ghost use Rattle.path_parts.specs.Parent.{ancestorLens};
-ghost use Rattle.refusal.specs.Outcome.{writtenIfAccepted};
-ghost use Rattle.path.specs.Calls.{pathNewCall, isEndCall, hasVariantSelectionCall, elementCountCall, primElementCountCall, hasPrefixCall, restStartCall};
-ghost use Rattle.path_derive.specs.Calls.{replacePrefixCall, parentCall, primPathCall, splitPropertyCall, stripCall, ancestorsReply};
-ghost use Rattle.path_target.specs.Calls.{embeddedTargetCall, replaceEmbeddedTargetCall};
-ghost use Rattle.mapping.specs.Calls.{mapSourceToTargetCall, mapTargetToSourceCall, translateToTargetCall};
-ghost use Rattle.batch.specs.Batch.{mappedAt, validateMapAll, ReturnsBatchCode};
-ghost use Rattle.ffi_rest.specs.RestCode.{restTestCode};
-ghost use Rattle.ffi_values.specs.Map.{untimedMap, directionOf};
-ghost use Rattle.ffi_values.specs.Code.{validationCode, testCode, countCode, replyCode, ReturnsPathCode};
+ghost use Rattle.path_parts.specs.Parent.{ancestor_lens};
+ghost use Rattle.refusal.specs.Outcome.{written_if_accepted};
+ghost use Rattle.path.specs.Calls.{path_new_call, is_end_call, has_variant_selection_call, element_count_call, prim_element_count_call, has_prefix_call, rest_start_call};
+ghost use Rattle.path_derive.specs.Calls.{replace_prefix_call, parent_call, prim_path_call, split_property_call, strip_call, ancestors_reply};
+ghost use Rattle.path_target.specs.Calls.{embedded_target_call, replace_embedded_target_call};
+ghost use Rattle.mapping.specs.Calls.{map_source_to_target_call, map_target_to_source_call, translate_to_target_call};
+ghost use Rattle.batch.specs.Batch.{mapped_at, validate_map_all, ReturnsBatchCode};
+ghost use Rattle.ffi_rest.specs.RestCode.{rest_test_code};
+ghost use Rattle.ffi_values.specs.Map.{untimed_map, direction_of};
+ghost use Rattle.ffi_values.specs.Code.{validation_code, test_code, count_code, reply_code, ReturnsPathCode};
 
 mod carried;
 mod frames;
@@ -24,7 +24,7 @@ mod time;
 // Validates that the text is a legal path of at most 255 bytes.
 #[unsafe(no_mangle)]
 pub extern "C" fn mudvizsor_path_new(path: &[u8]) -> usize
-    ensures { result ≡ validationCode (pathNewCall path.now) }
+    ensures { result ≡ validation_code (path_new_call path.now) }
 {
     ffi_values::validation_code(path::new(path))
 }
@@ -32,7 +32,7 @@ pub extern "C" fn mudvizsor_path_new(path: &[u8]) -> usize
 // Returns whether the path is a prim path, `/` or empty.
 #[unsafe(no_mangle)]
 pub extern "C" fn mudvizsor_path_is_end(path: &[u8]) -> usize
-    ensures { result ≡ testCode (isEndCall path.now) }
+    ensures { result ≡ test_code (is_end_call path.now) }
 {
     ffi_values::test_code(path::is_end(path))
 }
@@ -40,7 +40,7 @@ pub extern "C" fn mudvizsor_path_is_end(path: &[u8]) -> usize
 // Returns whether the path has a variant selection.
 #[unsafe(no_mangle)]
 pub extern "C" fn mudvizsor_path_has_variant_selection(path: &[u8]) -> usize
-    ensures { result ≡ testCode (hasVariantSelectionCall path.now) }
+    ensures { result ≡ test_code (has_variant_selection_call path.now) }
 {
     ffi_values::test_code(path::has_variant_selection(path))
 }
@@ -48,7 +48,7 @@ pub extern "C" fn mudvizsor_path_has_variant_selection(path: &[u8]) -> usize
 // Returns the number of names and selections of the path.
 #[unsafe(no_mangle)]
 pub extern "C" fn mudvizsor_path_element_count(path: &[u8]) -> usize
-    ensures { result ≡ countCode (elementCountCall path.now) }
+    ensures { result ≡ count_code (element_count_call path.now) }
 {
     ffi_values::count_code(path::element_count(path))
 }
@@ -56,7 +56,7 @@ pub extern "C" fn mudvizsor_path_element_count(path: &[u8]) -> usize
 // Returns the number of names of the path.
 #[unsafe(no_mangle)]
 pub extern "C" fn mudvizsor_path_prim_element_count(path: &[u8]) -> usize
-    ensures { result ≡ countCode (primElementCountCall path.now) }
+    ensures { result ≡ count_code (prim_element_count_call path.now) }
 {
     ffi_values::count_code(path::prim_element_count(path))
 }
@@ -64,7 +64,7 @@ pub extern "C" fn mudvizsor_path_prim_element_count(path: &[u8]) -> usize
 // Returns whether the prefix is a prefix of the path.
 #[unsafe(no_mangle)]
 pub extern "C" fn mudvizsor_path_has_prefix(path: &[u8], prefix: &[u8]) -> usize
-    ensures { result ≡ testCode (hasPrefixCall path.now prefix.now) }
+    ensures { result ≡ test_code (has_prefix_call path.now prefix.now) }
 {
     ffi_values::test_code(path::has_prefix(path, prefix))
 }
@@ -73,7 +73,7 @@ pub extern "C" fn mudvizsor_path_has_prefix(path: &[u8], prefix: &[u8]) -> usize
 // value is 0, or 1 plus 256 times the index. A separating slash belongs to the rest.
 #[unsafe(no_mangle)]
 pub extern "C" fn mudvizsor_path_rest_start(path: &[u8], prefix: &[u8]) -> usize
-    ensures { result ≡ restTestCode (restStartCall path.now prefix.now) }
+    ensures { result ≡ rest_test_code (rest_start_call path.now prefix.now) }
 {
     ffi_rest::rest_test_code(path::rest_start(path, prefix))
 }
@@ -86,7 +86,7 @@ pub extern "C" fn mudvizsor_path_replace_prefix(
     new: &[u8],
     out: &mut [u8],
 ) -> usize
-    ensures { ReturnsPathCode (replacePrefixCall path.now old.now new.now
+    ensures { ReturnsPathCode (replace_prefix_call path.now old.now new.now
         (length out.old)) result out.old out.new }
 {
     ffi_values::reply_code(path_derive::replace_prefix(path, old, new, out))
@@ -95,7 +95,7 @@ pub extern "C" fn mudvizsor_path_replace_prefix(
 // Writes the parent to out: the path without the target in its brackets, its property or its last element.
 #[unsafe(no_mangle)]
 pub extern "C" fn mudvizsor_path_parent(path: &[u8], out: &mut [u8]) -> usize
-    ensures { ReturnsPathCode (parentCall path.now (length out.old)) result out.old
+    ensures { ReturnsPathCode (parent_call path.now (length out.old)) result out.old
         out.new }
 {
     ffi_values::reply_code(path_derive::parent(path, out))
@@ -104,7 +104,7 @@ pub extern "C" fn mudvizsor_path_parent(path: &[u8], out: &mut [u8]) -> usize
 // Writes the path without its property, or without the last selection if it ends in one, to out.
 #[unsafe(no_mangle)]
 pub extern "C" fn mudvizsor_path_prim_path(path: &[u8], out: &mut [u8]) -> usize
-    ensures { ReturnsPathCode (primPathCall path.now (length out.old)) result out.old
+    ensures { ReturnsPathCode (prim_path_call path.now (length out.old)) result out.old
         out.new }
 {
     ffi_values::reply_code(path_derive::prim_path(path, out))
@@ -113,7 +113,7 @@ pub extern "C" fn mudvizsor_path_prim_path(path: &[u8], out: &mut [u8]) -> usize
 // Writes the prim path of a property to out; the name is the text after the dot that follows it.
 #[unsafe(no_mangle)]
 pub extern "C" fn mudvizsor_path_split_property(path: &[u8], out: &mut [u8]) -> usize
-    ensures { ReturnsPathCode (splitPropertyCall path.now (length out.old)) result
+    ensures { ReturnsPathCode (split_property_call path.now (length out.old)) result
         out.old out.new }
 {
     ffi_values::reply_code(path_derive::split_property(path, out))
@@ -122,7 +122,7 @@ pub extern "C" fn mudvizsor_path_split_property(path: &[u8], out: &mut [u8]) -> 
 // Writes the path without its selections to out.
 #[unsafe(no_mangle)]
 pub extern "C" fn mudvizsor_path_strip_variant_selections(path: &[u8], out: &mut [u8]) -> usize
-    ensures { ReturnsPathCode (stripCall path.now (length out.old)) result out.old
+    ensures { ReturnsPathCode (strip_call path.now (length out.old)) result out.old
         out.new }
 {
     ffi_values::reply_code(path_derive::strip_variant_selections(path, out))
@@ -131,9 +131,9 @@ pub extern "C" fn mudvizsor_path_strip_variant_selections(path: &[u8], out: &mut
 // Writes the lengths of the path and its ancestors to lengths.
 #[unsafe(no_mangle)]
 pub extern "C" fn mudvizsor_path_ancestors(path: &[u8], lengths: &mut [usize]) -> usize
-    ensures value { result ≡ replyCode (ancestorsReply path.now (length lengths.old)) }
-    ensures lengths_after { lengths.new ≡ writtenIfAccepted
-        (ancestorsReply path.now (length lengths.old)) (ancestorLens path.now)
+    ensures value { result ≡ reply_code (ancestors_reply path.now (length lengths.old)) }
+    ensures lengths_after { lengths.new ≡ written_if_accepted
+        (ancestors_reply path.now (length lengths.old)) (ancestor_lens path.now)
         lengths.old }
 {
     ffi_values::reply_code(path_derive::ancestors(path, lengths))
@@ -142,7 +142,7 @@ pub extern "C" fn mudvizsor_path_ancestors(path: &[u8], lengths: &mut [usize]) -
 // Writes the path in the path's brackets to out.
 #[unsafe(no_mangle)]
 pub extern "C" fn mudvizsor_path_embedded_target(path: &[u8], out: &mut [u8]) -> usize
-    ensures { ReturnsPathCode (embeddedTargetCall path.now (length out.old)) result
+    ensures { ReturnsPathCode (embedded_target_call path.now (length out.old)) result
         out.old out.new }
 {
     ffi_values::reply_code(path_target::embedded_target(path, out))
@@ -155,7 +155,7 @@ pub extern "C" fn mudvizsor_path_replace_embedded_target(
     target: &[u8],
     out: &mut [u8],
 ) -> usize
-    ensures { ReturnsPathCode (replaceEmbeddedTargetCall path.now target.now
+    ensures { ReturnsPathCode (replace_embedded_target_call path.now target.now
         (length out.old)) result out.old out.new }
 {
     ffi_values::reply_code(path_target::replace_embedded_target(path, target, out))
@@ -171,8 +171,8 @@ pub extern "C" fn mudvizsor_map_source_to_target(
     path: &[u8],
     out: &mut [u8],
 ) -> usize
-    ensures { ReturnsPathCode (mapSourceToTargetCall store.now places.now
-        (untimedMap count mark) path.now (length out.old)) result out.old
+    ensures { ReturnsPathCode (map_source_to_target_call store.now places.now
+        (untimed_map count mark) path.now (length out.old)) result out.old
         out.new }
 {
     let map = ffi_values::untimed_map(count, mark);
@@ -189,8 +189,8 @@ pub extern "C" fn mudvizsor_map_target_to_source(
     path: &[u8],
     out: &mut [u8],
 ) -> usize
-    ensures { ReturnsPathCode (mapTargetToSourceCall store.now places.now
-        (untimedMap count mark) path.now (length out.old)) result out.old
+    ensures { ReturnsPathCode (map_target_to_source_call store.now places.now
+        (untimed_map count mark) path.now (length out.old)) result out.old
         out.new }
 {
     let map = ffi_values::untimed_map(count, mark);
@@ -208,8 +208,8 @@ pub extern "C" fn mudvizsor_translate_to_target(
     path: &[u8],
     out: &mut [u8],
 ) -> usize
-    ensures { ReturnsPathCode (translateToTargetCall store.now places.now
-        (untimedMap count mark) path.now (length out.old)) result out.old
+    ensures { ReturnsPathCode (translate_to_target_call store.now places.now
+        (untimed_map count mark) path.now (length out.old)) result out.old
         out.new }
 {
     let map = ffi_values::untimed_map(count, mark);
@@ -233,9 +233,9 @@ pub extern "C" fn mudvizsor_map_all(
     out: &mut [u8],
     replies: &mut [usize],
 ) -> usize
-    ensures { let map = untimedMap count mark in ReturnsBatchCode
-        (validateMapAll store.now places.now map n spots.now out.old
-        replies.old) (mappedAt (directionOf direction) store.now places.now map
+    ensures { let map = untimed_map count mark in ReturnsBatchCode
+        (validate_map_all store.now places.now map n spots.now out.old
+        replies.old) (mapped_at (direction_of direction) store.now places.now map
         texts.now spots.now) n result out.old out.new replies.old
         replies.new }
 {

@@ -3,14 +3,14 @@
 // out, its places to slots and its time offset to two lent floats; the reply's value is twice the number of
 // its pairs, plus one if it has the mark.
 ghost use Rattle.std.specs.Prelude.{◌≡◌};
-ghost use Rattle.map_new.specs.Calls.{mapNewCall, fromPairCall, fromPairIdentityCall};
-ghost use Rattle.map_derive.specs.Calls.{inverseCall, withRootIdentityCall, droppingSourceCall, isNoopCall};
-ghost use Rattle.map_compose.specs.Calls.{composeCall};
-ghost use Rattle.map_implied_class.specs.Implied.{impliedClassCall};
-ghost use Rattle.map_rebase.specs.Calls.{rebaseTargetCall};
-ghost use Rattle.map_deepen.specs.Calls.{deepenToCall};
-ghost use Rattle.ffi_values.specs.Code.{testCode};
-ghost use Rattle.ffi_values.specs.MapCode.{mapFromNumbers, ReturnsMapCode};
+ghost use Rattle.map_new.specs.Calls.{map_new_call, from_pair_call, from_pair_identity_call};
+ghost use Rattle.map_derive.specs.Calls.{inverse_call, with_root_identity_call, dropping_source_call, is_noop_call};
+ghost use Rattle.map_compose.specs.Calls.{compose_call};
+ghost use Rattle.map_implied_class.specs.Implied.{implied_class_call};
+ghost use Rattle.map_rebase.specs.Calls.{rebase_target_call};
+ghost use Rattle.map_deepen.specs.Calls.{deepen_to_call};
+ghost use Rattle.ffi_values.specs.Code.{test_code};
+ghost use Rattle.ffi_values.specs.MapCode.{map_from_numbers, ReturnsMapCode};
 
 // Builds the map of the pairs, dropping redundant ones.
 #[unsafe(no_mangle)]
@@ -22,7 +22,7 @@ pub extern "C" fn mudvizsor_map_new(
     slots: &mut [usize],
     time: &mut [f64; 2],
 ) -> usize
-    ensures { ReturnsMapCode (mapNewCall store.now places.now count out.old
+    ensures { ReturnsMapCode (map_new_call store.now places.now count out.old
         slots.old) result out.old out.new slots.old slots.new
         time.old time.new }
 {
@@ -42,8 +42,8 @@ pub extern "C" fn mudvizsor_map_with_root_identity(
     slots: &mut [usize],
     time: &mut [f64; 2],
 ) -> usize
-    ensures { ReturnsMapCode (withRootIdentityCall store.now places.now
-        (mapFromNumbers count mark offset scale) out.old slots.old) result out.old
+    ensures { ReturnsMapCode (with_root_identity_call store.now places.now
+        (map_from_numbers count mark offset scale) out.old slots.old) result out.old
         out.new slots.old slots.new time.old time.new }
 {
     let map = ffi_values::map_from_numbers(count, mark, offset, scale);
@@ -72,9 +72,9 @@ pub extern "C" fn mudvizsor_map_compose(
     slots: &mut [usize],
     time: &mut [f64; 2],
 ) -> usize
-    ensures { ReturnsMapCode (composeCall store.now places.now
-        (mapFromNumbers count mark offset scale) istore.now iplaces.now
-        (mapFromNumbers icount imark ioffset iscale) out.old slots.old) result out.old
+    ensures { ReturnsMapCode (compose_call store.now places.now
+        (map_from_numbers count mark offset scale) istore.now iplaces.now
+        (map_from_numbers icount imark ioffset iscale) out.old slots.old) result out.old
         out.new slots.old slots.new time.old time.new }
 {
     let map = ffi_values::map_from_numbers(count, mark, offset, scale);
@@ -94,7 +94,7 @@ pub extern "C" fn mudvizsor_map_from_pair(
     slots: &mut [usize],
     time: &mut [f64; 2],
 ) -> usize
-    ensures { ReturnsMapCode (fromPairCall source.now target.now out.old
+    ensures { ReturnsMapCode (from_pair_call source.now target.now out.old
         slots.old) result out.old out.new slots.old slots.new
         time.old time.new }
 {
@@ -110,7 +110,7 @@ pub extern "C" fn mudvizsor_map_from_pair_identity(
     slots: &mut [usize],
     time: &mut [f64; 2],
 ) -> usize
-    ensures { ReturnsMapCode (fromPairIdentityCall source.now target.now out.old
+    ensures { ReturnsMapCode (from_pair_identity_call source.now target.now out.old
         slots.old) result out.old out.new slots.old slots.new
         time.old time.new }
 {
@@ -133,8 +133,8 @@ pub extern "C" fn mudvizsor_map_inverse(
     slots: &mut [usize],
     time: &mut [f64; 2],
 ) -> usize
-    ensures { ReturnsMapCode (inverseCall store.now places.now
-        (mapFromNumbers count mark offset scale) out.old slots.old) result out.old
+    ensures { ReturnsMapCode (inverse_call store.now places.now
+        (map_from_numbers count mark offset scale) out.old slots.old) result out.old
         out.new slots.old slots.new time.old time.new }
 {
     let map = ffi_values::map_from_numbers(count, mark, offset, scale);
@@ -155,8 +155,8 @@ pub extern "C" fn mudvizsor_map_dropping_source(
     slots: &mut [usize],
     time: &mut [f64; 2],
 ) -> usize
-    ensures { ReturnsMapCode (droppingSourceCall store.now places.now
-        (mapFromNumbers count mark offset scale) source.now out.old slots.old) result
+    ensures { ReturnsMapCode (dropping_source_call store.now places.now
+        (map_from_numbers count mark offset scale) source.now out.old slots.old) result
         out.old out.new slots.old slots.new time.old
         time.new }
 {
@@ -182,8 +182,8 @@ pub extern "C" fn mudvizsor_map_rebase_target(
     slots: &mut [usize],
     time: &mut [f64; 2],
 ) -> usize
-    ensures { ReturnsMapCode (rebaseTargetCall store.now places.now
-        (mapFromNumbers count mark offset scale) from.now to.now out.old
+    ensures { ReturnsMapCode (rebase_target_call store.now places.now
+        (map_from_numbers count mark offset scale) from.now to.now out.old
         slots.old) result out.old out.new slots.old slots.new
         time.old time.new }
 {
@@ -208,8 +208,8 @@ pub extern "C" fn mudvizsor_map_deepen_to(
     slots: &mut [usize],
     time: &mut [f64; 2],
 ) -> usize
-    ensures { ReturnsMapCode (deepenToCall store.now places.now
-        (mapFromNumbers count mark offset scale) path.now out.old slots.old) result
+    ensures { ReturnsMapCode (deepen_to_call store.now places.now
+        (map_from_numbers count mark offset scale) path.now out.old slots.old) result
         out.old out.new slots.old slots.new time.old
         time.new }
 {
@@ -239,9 +239,9 @@ pub extern "C" fn mudvizsor_map_implied_class(
     slots: &mut [usize],
     time: &mut [f64; 2],
 ) -> usize
-    ensures { ReturnsMapCode (impliedClassCall store.now places.now
-        (mapFromNumbers count mark offset scale) istore.now iplaces.now
-        (mapFromNumbers icount imark ioffset iscale) out.old slots.old) result out.old
+    ensures { ReturnsMapCode (implied_class_call store.now places.now
+        (map_from_numbers count mark offset scale) istore.now iplaces.now
+        (map_from_numbers icount imark ioffset iscale) out.old slots.old) result out.old
         out.new slots.old slots.new time.old time.new }
 {
     let map = ffi_values::map_from_numbers(count, mark, offset, scale);
@@ -262,8 +262,8 @@ pub extern "C" fn mudvizsor_map_is_noop(
     offset: f64,
     scale: f64,
 ) -> usize
-    ensures { result ≡ testCode (isNoopCall store.now places.now
-        (mapFromNumbers count mark offset scale)) }
+    ensures { result ≡ test_code (is_noop_call store.now places.now
+        (map_from_numbers count mark offset scale)) }
 {
     let map = ffi_values::map_from_numbers(count, mark, offset, scale);
     ffi_values::test_code(map_derive::is_noop(store, places, map))

@@ -2,19 +2,19 @@
 // its time
 // offset. They are lent no list, and write no bytes and no places.
 ghost use Rattle.std.specs.Prelude.{◌≡◌};
-ghost use Rattle.layer_offset.specs.Offset.{layerOffset, identityOffset};
-ghost use Rattle.map_spec.specs.New.{identityMap, nullMap};
-ghost use Rattle.map_function.specs.MapOutcome.{mapFunction};
-ghost use Rattle.map_function.specs.MapFunction.{is_null, pathIsIdentity, isIdentityMap};
+ghost use Rattle.layer_offset.specs.Offset.{layer_offset, identity_offset};
+ghost use Rattle.map_spec.specs.New.{identity_map, null_map};
+ghost use Rattle.map_function.specs.MapOutcome.{map_function};
+ghost use Rattle.map_function.specs.MapFunction.{is_null, path_is_identity, is_identity_map};
 ghost use Rattle.map_function.specs.declared.MapReply.TheVariants.{Made};
-ghost use Rattle.ffi_values.specs.Time.{offsetNumbers};
-ghost use Rattle.ffi_values.specs.MapCode.{mapFromNumbers, mapCode, mapTime, withTimeOffsetCall};
+ghost use Rattle.ffi_values.specs.Time.{offset_numbers};
+ghost use Rattle.ffi_values.specs.MapCode.{map_from_numbers, map_code, map_time, with_time_offset_call};
 
 // Returns the identity map.
 #[unsafe(no_mangle)]
 pub extern "C" fn mudvizsor_map_identity(time: &mut [f64; 2]) -> usize
-    ensures value { result ≡ mapCode (Made (mapFunction identityMap identityOffset)) }
-    ensures time_after { time.new ≡ mapTime (Made (mapFunction identityMap identityOffset)) time.old }
+    ensures value { result ≡ map_code (Made (map_function identity_map identity_offset)) }
+    ensures time_after { time.new ≡ map_time (Made (map_function identity_map identity_offset)) time.old }
 {
     let map = map_function::MapFunction::identity();
     ffi_values::map_code(map_function::MapReply::Made(map), time)
@@ -23,8 +23,8 @@ pub extern "C" fn mudvizsor_map_identity(time: &mut [f64; 2]) -> usize
 // Returns the null map, which maps nothing.
 #[unsafe(no_mangle)]
 pub extern "C" fn mudvizsor_map_null(time: &mut [f64; 2]) -> usize
-    ensures value { result ≡ mapCode (Made (mapFunction nullMap identityOffset)) }
-    ensures time_after { time.new ≡ mapTime (Made (mapFunction nullMap identityOffset)) time.old }
+    ensures value { result ≡ map_code (Made (map_function null_map identity_offset)) }
+    ensures time_after { time.new ≡ map_time (Made (map_function null_map identity_offset)) time.old }
 {
     let map = map_function::MapFunction::null();
     ffi_values::map_code(map_function::MapReply::Made(map), time)
@@ -33,7 +33,7 @@ pub extern "C" fn mudvizsor_map_null(time: &mut [f64; 2]) -> usize
 // Returns whether the map maps nothing.
 #[unsafe(no_mangle)]
 pub extern "C" fn mudvizsor_map_is_null(count: usize, mark: bool, offset: f64, scale: f64) -> bool
-    ensures { result ≡ is_null (mapFromNumbers count mark offset scale) }
+    ensures { result ≡ is_null (map_from_numbers count mark offset scale) }
 {
     ffi_values::map_from_numbers(count, mark, offset, scale).is_null()
 }
@@ -46,7 +46,7 @@ pub extern "C" fn mudvizsor_map_path_is_identity(
     offset: f64,
     scale: f64,
 ) -> bool
-    ensures { result ≡ pathIsIdentity (mapFromNumbers count mark offset scale) }
+    ensures { result ≡ path_is_identity (map_from_numbers count mark offset scale) }
 {
     ffi_values::map_from_numbers(count, mark, offset, scale).path_is_identity()
 }
@@ -59,7 +59,7 @@ pub extern "C" fn mudvizsor_map_is_identity(
     offset: f64,
     scale: f64,
 ) -> bool
-    ensures { result ≡ isIdentityMap (mapFromNumbers count mark offset scale) }
+    ensures { result ≡ is_identity_map (map_from_numbers count mark offset scale) }
 {
     ffi_values::map_from_numbers(count, mark, offset, scale).is_identity()
 }
@@ -72,7 +72,7 @@ pub extern "C" fn mudvizsor_map_has_root_identity(
     offset: f64,
     scale: f64,
 ) -> bool
-    ensures { result ≡ (mapFromNumbers count mark offset scale).has_root_identity }
+    ensures { result ≡ (map_from_numbers count mark offset scale).has_root_identity }
 {
     ffi_values::map_from_numbers(count, mark, offset, scale).has_root_identity()
 }
@@ -86,7 +86,7 @@ pub extern "C" fn mudvizsor_map_time_offset(
     scale: f64,
     time: &mut [f64; 2],
 )
-    ensures { time.new ≡ offsetNumbers (mapFromNumbers count mark offset scale).time_offset }
+    ensures { time.new ≡ offset_numbers (map_from_numbers count mark offset scale).time_offset }
 {
     let map = ffi_values::map_from_numbers(count, mark, offset, scale);
     ffi_values::write_offset(map.time_offset(), time)
@@ -103,10 +103,10 @@ pub extern "C" fn mudvizsor_map_with_time_offset(
     new_scale: f64,
     time: &mut [f64; 2],
 ) -> usize
-    ensures value { result ≡ mapCode (withTimeOffsetCall (mapFromNumbers count mark offset scale)
-        (layerOffset new_offset new_scale)) }
-    ensures time_after { time.new ≡ mapTime
-        (withTimeOffsetCall (mapFromNumbers count mark offset scale) (layerOffset new_offset new_scale))
+    ensures value { result ≡ map_code (with_time_offset_call (map_from_numbers count mark offset scale)
+        (layer_offset new_offset new_scale)) }
+    ensures time_after { time.new ≡ map_time
+        (with_time_offset_call (map_from_numbers count mark offset scale) (layer_offset new_offset new_scale))
         time.old }
 {
     let map = ffi_values::map_from_numbers(count, mark, offset, scale);

@@ -1,11 +1,11 @@
 // The C interface of the functions on relocate lists. A list passes as its bytes, its places and its number
 // of pairs.
 ghost use Rattle.std.specs.Prelude.{◌≡◌, length};
-ghost use Rattle.validate.specs.Validate.{lentList};
-ghost use Rattle.relocate_chain.specs.Calls.{skippedSource, shiftCall, chainCall, chainReply, chainBuffer};
-ghost use Rattle.relocates.specs.Calls.{analyzeReply, analyzeBuffer};
-ghost use Rattle.ffi_values.specs.Code.{replyCode, ReturnsPathCode};
-ghost use Rattle.ffi_values.specs.MapCode.{chainCode};
+ghost use Rattle.validate.specs.Validate.{lent_list};
+ghost use Rattle.relocate_chain.specs.Calls.{skipped_source, shift_call, chain_call, chain_reply, chain_buffer};
+ghost use Rattle.relocates.specs.Calls.{analyze_reply, analyze_buffer};
+ghost use Rattle.ffi_values.specs.Code.{reply_code, ReturnsPathCode};
+ghost use Rattle.ffi_values.specs.MapCode.{chain_code};
 
 // Writes the status byte of each pair to out.
 #[unsafe(no_mangle)]
@@ -15,11 +15,11 @@ pub extern "C" fn mudvizsor_analyze_relocate_occurrences(
     count: usize,
     out: &mut [u8],
 ) -> usize
-    ensures value { result ≡ replyCode (analyzeReply (lentList store.now places.now count)
+    ensures value { result ≡ reply_code (analyze_reply (lent_list store.now places.now count)
         (length out.old)) }
-    ensures out_after { out.new ≡ analyzeBuffer
-        (analyzeReply (lentList store.now places.now count) (length out.old))
-        (lentList store.now places.now count) out.old }
+    ensures out_after { out.new ≡ analyze_buffer
+        (analyze_reply (lent_list store.now places.now count) (length out.old))
+        (lent_list store.now places.now count) out.old }
 {
     ffi_values::reply_code(relocates::analyze_relocate_occurrences(store, places, count, out))
 }
@@ -37,12 +37,12 @@ pub extern "C" fn mudvizsor_chain_through_relocates(
     path: &[u8],
     out: &mut [u8],
 ) -> usize
-    ensures value { result ≡ chainCode (chainReply
-        (chainCall (lentList store.now places.now count)
-        (skippedSource skips skipped.now) path.now (length out.old))) }
-    ensures out_after { out.new ≡ chainBuffer
-        (chainCall (lentList store.now places.now count)
-        (skippedSource skips skipped.now) path.now (length out.old))
+    ensures value { result ≡ chain_code (chain_reply
+        (chain_call (lent_list store.now places.now count)
+        (skipped_source skips skipped.now) path.now (length out.old))) }
+    ensures out_after { out.new ≡ chain_buffer
+        (chain_call (lent_list store.now places.now count)
+        (skipped_source skips skipped.now) path.now (length out.old))
         out.old }
 {
     ffi_values::chain_code(relocate_chain::chain_through_relocates(
@@ -59,7 +59,7 @@ pub extern "C" fn mudvizsor_shift_through_nearest_ancestor(
     endpoint: &[u8],
     out: &mut [u8],
 ) -> usize
-    ensures { ReturnsPathCode (shiftCall (lentList store.now places.now count)
+    ensures { ReturnsPathCode (shift_call (lent_list store.now places.now count)
         endpoint.now (length out.old)) result out.old out.new }
 {
     ffi_values::reply_code(relocate_chain::shift_through_nearest_ancestor(

@@ -4,9 +4,9 @@
 // of its first pair in the places; its number of pairs), and the number of legs.
 ghost use Rattle.std.specs.Prelude.{◌≡◌, true, false, length};
 ghost use Rattle.ffi_values.specs.Code.{ReturnsPathCode};
-ghost use Rattle.route_legs.specs.LentRoute.{lentRoute};
-ghost use Rattle.route.specs.Calls.{routeCall};
-ghost use Rattle.batch.specs.Batch.{routedAt, validateRouteAll, ReturnsBatchCode};
+ghost use Rattle.route_legs.specs.LentRoute.{lent_route};
+ghost use Rattle.route.specs.Calls.{route_call};
+ghost use Rattle.batch.specs.Batch.{routed_at, validate_route_all, ReturnsBatchCode};
 
 // Maps the path out over the legs and writes the result to out.
 #[unsafe(no_mangle)]
@@ -18,8 +18,8 @@ pub extern "C" fn mudvizsor_route_out(
     path: &[u8],
     out: &mut [u8],
 ) -> usize
-    ensures { ReturnsPathCode (routeCall false
-        (lentRoute store.now places.now legs.now count) path.now
+    ensures { ReturnsPathCode (route_call false
+        (lent_route store.now places.now legs.now count) path.now
         (length out.old)) result out.old out.new }
 {
     ffi_values::reply_code(route::route_out(store, places, legs, count, path, out))
@@ -35,8 +35,8 @@ pub extern "C" fn mudvizsor_route_home(
     path: &[u8],
     out: &mut [u8],
 ) -> usize
-    ensures { ReturnsPathCode (routeCall true
-        (lentRoute store.now places.now legs.now count) path.now
+    ensures { ReturnsPathCode (route_call true
+        (lent_route store.now places.now legs.now count) path.now
         (length out.old)) result out.old out.new }
 {
     ffi_values::reply_code(route::route_home(store, places, legs, count, path, out))
@@ -57,9 +57,9 @@ pub extern "C" fn mudvizsor_route_all(
     out: &mut [u8],
     replies: &mut [usize],
 ) -> usize
-    ensures { let route = lentRoute store.now places.now legs.now count
-        in ReturnsBatchCode (validateRouteAll route n spots.now out.old replies.old)
-        (routedAt home route texts.now spots.now) n result out.old out.new
+    ensures { let route = lent_route store.now places.now legs.now count
+        in ReturnsBatchCode (validate_route_all route n spots.now out.old replies.old)
+        (routed_at home route texts.now spots.now) n result out.old out.new
         replies.old replies.new }
 {
     ffi_values::validation_code(batch::route_all(

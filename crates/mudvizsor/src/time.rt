@@ -2,14 +2,14 @@
 // new
 // one is written to two lent floats.
 ghost use Rattle.std.specs.Prelude.{◌≡◌};
-ghost use Rattle.layer_offset.specs.Number.{plusZero};
-ghost use Rattle.layer_offset.specs.Offset.{layerOffset, isIdentity, isValid, isValidComposition, sanitized, applyOffset, concatenateOffsets, inverseOffset, offsetBits, isClose};
-ghost use Rattle.ffi_values.specs.Time.{offsetNumbers, offsetPatterns};
+ghost use Rattle.layer_offset.specs.Number.{plus_zero};
+ghost use Rattle.layer_offset.specs.Offset.{layer_offset, is_identity, is_valid, is_valid_composition, sanitized, apply_offset, concatenate_offsets, inverse_offset, offset_bits, is_close};
+ghost use Rattle.ffi_values.specs.Time.{offset_numbers, offset_patterns};
 
 // Writes the time offset of these two numbers.
 #[unsafe(no_mangle)]
 pub extern "C" fn mudvizsor_layer_offset_new(offset: f64, scale: f64, out: &mut [f64; 2])
-    ensures { out.new ≡ offsetNumbers (layerOffset offset scale) }
+    ensures { out.new ≡ offset_numbers (layer_offset offset scale) }
 {
     ffi_values::write_offset(layer_offset::LayerOffset::new(offset, scale), out)
 }
@@ -17,7 +17,7 @@ pub extern "C" fn mudvizsor_layer_offset_new(offset: f64, scale: f64, out: &mut 
 // Writes the time offset (0, scale).
 #[unsafe(no_mangle)]
 pub extern "C" fn mudvizsor_layer_offset_scale_only(scale: f64, out: &mut [f64; 2])
-    ensures { out.new ≡ offsetNumbers (layerOffset plusZero scale) }
+    ensures { out.new ≡ offset_numbers (layer_offset plus_zero scale) }
 {
     ffi_values::write_offset(layer_offset::LayerOffset::scale_only(scale), out)
 }
@@ -25,7 +25,7 @@ pub extern "C" fn mudvizsor_layer_offset_scale_only(scale: f64, out: &mut [f64; 
 // Returns whether both numbers are finite.
 #[unsafe(no_mangle)]
 pub extern "C" fn mudvizsor_layer_offset_is_valid(offset: f64, scale: f64) -> bool
-    ensures { result ≡ isValid (layerOffset offset scale) }
+    ensures { result ≡ is_valid (layer_offset offset scale) }
 {
     let given = layer_offset::LayerOffset { offset, scale };
     given.is_valid()
@@ -34,7 +34,7 @@ pub extern "C" fn mudvizsor_layer_offset_is_valid(offset: f64, scale: f64) -> bo
 // Returns whether the time offset is (0, 1).
 #[unsafe(no_mangle)]
 pub extern "C" fn mudvizsor_layer_offset_is_identity(offset: f64, scale: f64) -> bool
-    ensures { result ≡ isIdentity (layerOffset offset scale) }
+    ensures { result ≡ is_identity (layer_offset offset scale) }
 {
     let given = layer_offset::LayerOffset { offset, scale };
     given.is_identity()
@@ -49,7 +49,7 @@ pub extern "C" fn mudvizsor_layer_offset_is_close(
     other_offset: f64,
     other_scale: f64,
 ) -> bool
-    ensures { result ≡ isClose (layerOffset offset scale) (layerOffset other_offset other_scale) }
+    ensures { result ≡ is_close (layer_offset offset scale) (layer_offset other_offset other_scale) }
 {
     let other = layer_offset::LayerOffset {
         offset: other_offset,
@@ -62,7 +62,7 @@ pub extern "C" fn mudvizsor_layer_offset_is_close(
 // Writes the bit patterns of both numbers; for any NaN, 0x7ff8_0000_0000_0000.
 #[unsafe(no_mangle)]
 pub extern "C" fn mudvizsor_layer_offset_to_bits(offset: f64, scale: f64, out: &mut [u64; 2])
-    ensures { out.new ≡ offsetPatterns (offsetBits (layerOffset offset scale)) }
+    ensures { out.new ≡ offset_patterns (offset_bits (layer_offset offset scale)) }
 {
     let given = layer_offset::LayerOffset { offset, scale };
     ffi_values::write_bits(given.to_bits(), out)
@@ -71,7 +71,7 @@ pub extern "C" fn mudvizsor_layer_offset_to_bits(offset: f64, scale: f64, out: &
 // Returns the time to which `time` is mapped.
 #[unsafe(no_mangle)]
 pub extern "C" fn mudvizsor_layer_offset_apply(offset: f64, scale: f64, time: f64) -> f64
-    ensures { result ≡ applyOffset (layerOffset offset scale) time }
+    ensures { result ≡ apply_offset (layer_offset offset scale) time }
 {
     let given = layer_offset::LayerOffset { offset, scale };
     given.apply(time)
@@ -80,7 +80,7 @@ pub extern "C" fn mudvizsor_layer_offset_apply(offset: f64, scale: f64, time: f6
 // Writes the inverse; (0, 1) if the scale is zero.
 #[unsafe(no_mangle)]
 pub extern "C" fn mudvizsor_layer_offset_inverse(offset: f64, scale: f64, out: &mut [f64; 2])
-    ensures { out.new ≡ offsetNumbers (inverseOffset (layerOffset offset scale)) }
+    ensures { out.new ≡ offset_numbers (inverse_offset (layer_offset offset scale)) }
 {
     let given = layer_offset::LayerOffset { offset, scale };
     ffi_values::write_offset(given.inverse(), out)
@@ -89,7 +89,7 @@ pub extern "C" fn mudvizsor_layer_offset_inverse(offset: f64, scale: f64, out: &
 // Returns whether the time offset can be composed.
 #[unsafe(no_mangle)]
 pub extern "C" fn mudvizsor_layer_offset_is_valid_composition(offset: f64, scale: f64) -> bool
-    ensures { result ≡ isValidComposition (layerOffset offset scale) }
+    ensures { result ≡ is_valid_composition (layer_offset offset scale) }
 {
     let given = layer_offset::LayerOffset { offset, scale };
     given.is_valid_composition()
@@ -98,7 +98,7 @@ pub extern "C" fn mudvizsor_layer_offset_is_valid_composition(offset: f64, scale
 // Writes the time offset itself, or (0, 1) if it cannot be composed.
 #[unsafe(no_mangle)]
 pub extern "C" fn mudvizsor_layer_offset_sanitized(offset: f64, scale: f64, out: &mut [f64; 2])
-    ensures { out.new ≡ offsetNumbers (sanitized (layerOffset offset scale)) }
+    ensures { out.new ≡ offset_numbers (sanitized (layer_offset offset scale)) }
 {
     let given = layer_offset::LayerOffset { offset, scale };
     ffi_values::write_offset(given.sanitized(), out)
@@ -113,8 +113,8 @@ pub extern "C" fn mudvizsor_layer_offset_concatenate(
     inner_scale: f64,
     out: &mut [f64; 2],
 )
-    ensures { out.new ≡ offsetNumbers
-        (concatenateOffsets (layerOffset offset scale) (layerOffset inner_offset inner_scale)) }
+    ensures { out.new ≡ offset_numbers
+        (concatenate_offsets (layer_offset offset scale) (layer_offset inner_offset inner_scale)) }
 {
     let inner = layer_offset::LayerOffset {
         offset: inner_offset,

@@ -11,40 +11,40 @@ use Rattle.refusal.specs.declared.Refusal.{Refusal}
 use Rattle.refusal.specs.declared.Refusal.TheVariants.{TooMany, NoRoom}
 use Rattle.refusal.specs.declared.Validation.{Validation}
 use Rattle.refusal.specs.declared.Validation.TheVariants.{Passed, Refused as RefusedValidation}
-use Rattle.validate.specs.Validate.{validateCall}
+use Rattle.validate.specs.Validate.{validate_call}
 use Rattle.validate.proofs.RefusalLaws.{never}
 use Rattle.open_list.specs.declared.OpenList.{OpenList}
 use Rattle.open_list.specs.declared.Added.{Added}
 use Rattle.open_list.specs.declared.Added.TheVariants.{Done, Refused}
-use Rattle.open_list.specs.Add.{validateAdd, addReply, addBytes, addPlaces, AddFits}
+use Rattle.open_list.specs.Add.{validate_add, add_reply, add_bytes, add_places, AddFits}
 
 -- `validate_add`
-module _ (k : OpenList) (s t : Text) (room slots : ℕ) (q : Validation) (e : q ≡ validateCall [] (s ∷ t ∷ []) (s ∷ t ∷ [])) where
+module _ (k : OpenList) (s t : Text) (room slots : ℕ) (q : Validation) (e : q ≡ validate_call [] (s ∷ t ∷ []) (s ∷ t ∷ [])) where
   abbrev Answers : Validation → Type 0
-  Answers a = (a ≡ validateAdd k s t room slots) × AddFits a k (length s) (length t) room slots
+  Answers a = (a ≡ validate_add k s t room slots) × AddFits a k (length s) (length t) room slots
 
   -- A refusal implies nothing about the lengths.
-  refuses : (x : Refusal) → RefusedValidation x ≡ validateAdd k s t room slots → Answers (RefusedValidation x)
+  refuses : (x : Refusal) → RefusedValidation x ≡ validate_add k s t room slots → Answers (RefusedValidation x)
   unfolding AddFits
   refuses x h = (h, λ w. absurd (never x w))
 
-  pub add-refused : (x : Refusal) → q ≡ RefusedValidation x → Answers (RefusedValidation x)
-  unfolding validateAdd
-  add-refused x h = refuses x (rw (← e, h))
+  pub add_refused : (x : Refusal) → q ≡ RefusedValidation x → Answers (RefusedValidation x)
+  unfolding validate_add
+  add_refused x h = refuses x (rw (← e, h))
 
   module _ (h : q ≡ Passed) where
     pub add-many : 64 ≤ k.pairs → Answers (RefusedValidation TooMany)
-    unfolding validateAdd
+    unfolding validate_add
     add-many l = refuses TooMany (rw (← e, h, lt-leb (suc k.pairs) 64 (omega (arith, l))))
 
     module _ (l : k.pairs < 64) where
       pub add-beyond : slots / 4 ≤ k.pairs → Answers (RefusedValidation TooMany)
-      unfolding validateAdd
+      unfolding validate_add
       add-beyond m = refuses TooMany (rw (← e, h, le-leb (suc k.pairs) 64 (omega (arith, l)), lt-leb (4 * suc k.pairs) slots (omega (arith, m))))
 
       module _ (m : k.pairs < slots / 4) where
         full : room < k.bytes + (length s + length t) → Answers (RefusedValidation NoRoom)
-        unfolding validateAdd
+        unfolding validate_add
         full n =
             refuses NoRoom
             (rw (← e, h, le-leb (suc k.pairs) 64 (omega (arith, l)), le-leb (4 * suc k.pairs) slots (omega (arith, m)), lt-leb (k.bytes + (length s + length t)) room n))
@@ -61,7 +61,7 @@ module _ (k : OpenList) (s t : Text) (room slots : ℕ) (q : Validation) (e : q 
             add-target p = full (omega (arith, n, o, p))
 
             pub add-passed : length t ≤ room - k.bytes - length s → Answers Passed
-            unfolding validateAdd AddFits
+            unfolding validate_add AddFits
             add-passed p =
                 let fits : k.bytes + (length s + length t) ≤ room = omega (arith, n, o, p) in (
                   rw (← e, h, le-leb (suc k.pairs) 64 (omega (arith, l)), le-leb (4 * suc k.pairs) slots (omega (arith, m)), le-leb (k.bytes + (length s + length t)) room fits),
@@ -69,25 +69,25 @@ module _ (k : OpenList) (s t : Text) (room slots : ℕ) (q : Validation) (e : q 
                 )
 
 -- `add_pair`
-pub passed-fits : (q : Validation) (k : OpenList) (s t room slots : ℕ) → AddFits q k s t room slots → q ≡ Passed → (k.pairs < 64) × (4 * k.pairs + 4 ≤ slots) × (k.bytes + (s + t) ≤ room)
+pub passed_fits : (q : Validation) (k : OpenList) (s t room slots : ℕ) → AddFits q k s t room slots → q ≡ Passed → (k.pairs < 64) × (4 * k.pairs + 4 ≤ slots) × (k.bytes + (s + t) ≤ room)
 unfolding AddFits
-passed-fits q k s t room slots f e = f e
+passed_fits q k s t room slots f e = f e
 
 module _ (k : OpenList) (s t : Text) (bytes : Text) (places : List ℕ) (a q : Validation) (h : q ≡ a) where
   abbrev Adds : Added → Text → List ℕ → Type 0
-  Adds r bytes' places' = (r ≡ addReply a k s t) × ((bytes' ≡ addBytes a k s t bytes) × (places' ≡ addPlaces a k s t places))
+  Adds r bytes' places' = (r ≡ add_reply a k s t) × ((bytes' ≡ add_bytes a k s t bytes) × (places' ≡ add_places a k s t places))
 
-  pub pair-refused : (x : Refusal) → q ≡ RefusedValidation x → Adds (Refused x) bytes places
-  unfolding addReply addBytes addPlaces
-  pair-refused x e = rw (← h, e) (refl, (refl, refl))
+  pub pair_refused : (x : Refusal) → q ≡ RefusedValidation x → Adds (Refused x) bytes places
+  unfolding add_reply add_bytes add_places
+  pair_refused x e = rw (← h, e) (refl, (refl, refl))
 
   module _ (e : q ≡ Passed) (f : AddFits q k (length s) (length t) (length bytes) (length places)) where
     room : (k.pairs < 64) × (4 * k.pairs + 4 ≤ length places) × (k.bytes + (length s + length t) ≤ length bytes)
-    room = passed-fits q k (length s) (length t) (length bytes) (length places) f e
+    room = passed_fits q k (length s) (length t) (length bytes) (length places) f e
 
     pub pair-added : (end : ℕ) (bytes' : Text) (places' : List ℕ) → PushedPair s t k.pairs k.bytes bytes places end bytes' places'
         → Adds (Done (record { pairs = k.pairs + 1; bytes = end })) bytes' places'
-    unfolding addReply addBytes addPlaces
+    unfolding add_reply add_bytes add_places
     pair-added end bytes' places' w =
         let x = pair-there s t k.pairs k.bytes bytes places room.2 room.1 end bytes' places' w in
         rw (← h, e) (ap (λ (n : ℕ). Done (record { pairs = k.pairs + 1; bytes = n })) x.end, (x.text, x.places))

@@ -1,7 +1,7 @@
 // The open list of the program `frames` in lent memory: adding a pair. The buffers may hold anything; their
 // invariant is specs/OpenList.antt.
 ghost use Rattle.std.specs.Prelude.{◌≡◌, length};
-ghost use Rattle.open_list.specs.Add.{validateAdd, addReply, addBytes, addPlaces, AddFits};
+ghost use Rattle.open_list.specs.Add.{validate_add, add_reply, add_bytes, add_places, AddFits};
 
 // The size of the open list: its number of pairs, and the bytes of their ends.
 #[derive(Drop)]
@@ -19,7 +19,7 @@ pub enum Added {
 
 // Validates a pair to be added (questions 1 to 5).
 fn validate_add(k: OpenList, s: &[u8], t: &[u8], room: usize, slots: usize) -> refusal::Validation
-    ensures value { result ≡ validateAdd k s.now t.now room slots }
+    ensures value { result ≡ validate_add k s.now t.now room slots }
     ensures add_fits { AddFits result k (length s.now) (length t.now) room slots }
 {
     let pairs = k.pairs;
@@ -55,13 +55,13 @@ pub fn add_pair(
     bytes: &mut [u8],
     places: &mut [usize],
 ) -> Added
-    ensures value { result ≡ addReply (validateAdd k source.now target.now
+    ensures value { result ≡ add_reply (validate_add k source.now target.now
         (length bytes.old) (length places.old)) k source.now target.now }
-    ensures bytes_after { bytes.new ≡ addBytes
-        (validateAdd k source.now target.now (length bytes.old)
+    ensures bytes_after { bytes.new ≡ add_bytes
+        (validate_add k source.now target.now (length bytes.old)
         (length places.old)) k source.now target.now bytes.old }
-    ensures places_after { places.new ≡ addPlaces
-        (validateAdd k source.now target.now (length bytes.old)
+    ensures places_after { places.new ≡ add_places
+        (validate_add k source.now target.now (length bytes.old)
         (length places.old)) k source.now target.now places.old }
 {
     let q = validate_add(k, source, target, bytes.len(), places.len());

@@ -7,48 +7,48 @@ use native.Mathlib.Omega.{arith}
 use native.Mathlib.Decide.{ℕ_discrete}
 use native.Mathlib.Numerals.{add-one}
 use Rattle.text.specs.Text.{Text, equal}
-use Rattle.text.proofs.BoolLaws.{or_right, or-false, told}
+use Rattle.text.proofs.BoolLaws.{or_right, or_false, told}
 use Rattle.pair_list.specs.Pair.{Pair}
-use Rattle.pair_list.specs.Places.{key_at, pairIn, pairsIn}
-use Rattle.map_spec.specs.Compose.{hasSource}
+use Rattle.pair_list.specs.Places.{key_at, pair_in, pairs_in}
+use Rattle.map_spec.specs.Compose.{has_source}
 
-source-snoc : (l : List Pair) (x : Pair) (s : Text) → hasSource (l ++ x ∷ []) s ≡ (hasSource l s || equal x.source s)
-unfolding hasSource
-source-snoc [] x s = or-false (equal x.source s)
-source-snoc (y ∷ l) x s = go (equal y.source s) (source-snoc l x s)
+source_snoc : (l : List Pair) (x : Pair) (s : Text) → has_source (l ++ x ∷ []) s ≡ (has_source l s || equal x.source s)
+unfolding has_source
+source_snoc [] x s = or_false (equal x.source s)
+source_snoc (y ∷ l) x s = go (equal y.source s) (source_snoc l x s)
   where
-    go : (b : Bool) → hasSource (l ++ x ∷ []) s ≡ (hasSource l s || equal x.source s)
-        → (b || hasSource (l ++ x ∷ []) s) ≡ (b || hasSource l s || equal x.source s)
+    go : (b : Bool) → has_source (l ++ x ∷ []) s ≡ (has_source l s || equal x.source s)
+        → (b || has_source (l ++ x ∷ []) s) ≡ (b || has_source l s || equal x.source s)
     go true ih = refl
     go false ih = ih
 
 module _ (store : Text) (places : List ℕ) (s : Text) where
-  source-next : (i : ℕ) → hasSource (pairsIn store places (suc i)) s ≡ (hasSource (pairsIn store places i) s || equal (key_at store places false i) s)
-  unfolding pairsIn pairIn
-  source-next i =
+  source_next : (i : ℕ) → has_source (pairs_in store places (suc i)) s ≡ (has_source (pairs_in store places i) s || equal (key_at store places false i) s)
+  unfolding pairs_in pair_in
+  source_next i =
       let z : 2 * i + 0 ≡ 2 * i = omega arith in
-      rw z (source-snoc (pairsIn store places i) (pairIn store places i) s)
+      rw z (source_snoc (pairs_in store places i) (pair_in store places i) s)
 
-  grown : (n i : ℕ) → i < n → equal (key_at store places false i) s ≡ true → hasSource (pairsIn store places n) s ≡ true
+  grown : (n i : ℕ) → i < n → equal (key_at store places false i) s ≡ true → has_source (pairs_in store places n) s ≡ true
   grown zero i h e = absurd (omega arith)
   grown (suc n) i h e =
       elim (ℕ_discrete i n) [
-        | yes q ↦ source-next n ∙ or_right (hasSource (pairsIn store places n) s) (equal (key_at store places false n) s) (rw q at e)
-        | no d ↦ source-next n ∙ rw (grown n i (omega arith) e)
+        | yes q ↦ source_next n ∙ or_right (has_source (pairs_in store places n) s) (equal (key_at store places false n) s) (rw q at e)
+        | no d ↦ source_next n ∙ rw (grown n i (omega arith) e)
       ]
 
-  pub source-begin : hasSource (pairsIn store places 0) s ≡ false
-  unfolding pairsIn hasSource
-  source-begin = refl
+  pub source_begin : has_source (pairs_in store places 0) s ≡ false
+  unfolding pairs_in has_source
+  source_begin = refl
 
   module _ (i : ℕ) (k : Text) (e : k ≡ key_at store places false i) (b : Bool) (h : b ≡ equal k s) where
-    pub source-found : (n : ℕ) → i < n → b ≡ true → true ≡ hasSource (pairsIn store places n) s
+    pub source-found : (n : ℕ) → i < n → b ≡ true → true ≡ has_source (pairs_in store places n) s
     source-found n l t = sym (grown n i l (rw e at (told h t)))
 
-    pub source-on : b ≡ false → hasSource (pairsIn store places i) s ≡ false → hasSource (pairsIn store places (i + 1)) s ≡ false
-    source-on f g = rw (add-one i) (source-next i ∙ rw g (rw e at (told h f)))
+    pub source_on : b ≡ false → has_source (pairs_in store places i) s ≡ false → has_source (pairs_in store places (i + 1)) s ≡ false
+    source_on f g = rw (add-one i) (source_next i ∙ rw g (rw e at (told h f)))
 
-  pub source-end : (n i : ℕ) → n ≤ i → i ≤ n → hasSource (pairsIn store places i) s ≡ false → false ≡ hasSource (pairsIn store places n) s
-  source-end n i l m e = let z : n ≡ i = omega arith in rw z (sym e)
+  pub source_end : (n i : ℕ) → n ≤ i → i ≤ n → has_source (pairs_in store places i) s ≡ false → false ≡ has_source (pairs_in store places n) s
+  source_end n i l m e = let z : n ≡ i = omega arith in rw z (sym e)
 
-pub ruleset sources = (source-begin, source-found, source-on, source-end)
+pub ruleset sources = (source_begin, source-found, source_on, source_end)

@@ -1,20 +1,20 @@
 // The ends of a list of pairs that is built in a scratch buffer, and the construction of a map from such a list.
 ghost use Rattle.std.specs.Prelude.{◌≡◌};
-ghost use Rattle.text.specs.Text.{fitOf, writtenIfFits};
-ghost use Rattle.pair_list.specs.Pair.{everyEnd, allShort};
-ghost use Rattle.pair_list.specs.Places.{pairsIn};
-ghost use Rattle.validate.specs.Validate.{lentList};
-ghost use Rattle.map_spec.specs.Compose.{hasSource};
-ghost use Rattle.map_function.specs.MapOutcome.{ReturnsMap, countInSlice};
-ghost use Rattle.pair_buffer.specs.Ends.{at_most, replacedOrSame, writtenLength, fromEndsGiven, fromEnds};
+ghost use Rattle.text.specs.Text.{fit_of, written_if_fits};
+ghost use Rattle.pair_list.specs.Pair.{every_end, all_short};
+ghost use Rattle.pair_list.specs.Places.{pairs_in};
+ghost use Rattle.validate.specs.Validate.{lent_list};
+ghost use Rattle.map_spec.specs.Compose.{has_source};
+ghost use Rattle.map_function.specs.MapOutcome.{ReturnsMap, count_in_slice};
+ghost use Rattle.pair_buffer.specs.Ends.{at_most, replaced_or_same, written_length, from_ends_given, from_ends};
 
 // Writes the path with its prefix replaced, or the path itself if it does not have that prefix, and returns
 // its length; writes nothing and returns 0 if it does not fit.
 pub fn replace_into(path: &[u8], old: &[u8], new: &[u8], out: &mut [u8]) -> usize
-    ensures value { result ≡ writtenLength (fitOf (replacedOrSame path.now old.now new.now)
+    ensures value { result ≡ written_length (fit_of (replaced_or_same path.now old.now new.now)
         out.old) }
-    ensures out_after { out.new ≡ writtenIfFits 0
-        (replacedOrSame path.now old.now new.now) out.old }
+    ensures out_after { out.new ≡ written_if_fits 0
+        (replaced_or_same path.now old.now new.now) out.old }
 {
     if !path_prefix::has_prefix(path, old) {
         if out.len() < path.len() {
@@ -33,7 +33,7 @@ pub fn replace_into(path: &[u8], old: &[u8], new: &[u8], out: &mut [u8]) -> usiz
 
 // Returns whether one of the first n pairs has this source.
 pub fn has_source(store: &[u8], places: &[usize], n: usize, source: &[u8]) -> bool
-    ensures { result ≡ hasSource (pairsIn store.now places.now n) source.now }
+    ensures { result ≡ has_source (pairs_in store.now places.now n) source.now }
 {
     let mut i = 0;
     while i < n {
@@ -47,7 +47,7 @@ pub fn has_source(store: &[u8], places: &[usize], n: usize, source: &[u8]) -> bo
 
 // Returns whether every end of the first n pairs has at most `most` bytes.
 pub fn all_at_most(store: &[u8], places: &[usize], n: usize, most: usize) -> bool
-    ensures { result ≡ everyEnd (at_most most) (pairsIn store.now places.now n) }
+    ensures { result ≡ every_end (at_most most) (pairs_in store.now places.now n) }
 {
     let mut i = 0;
     while i < n {
@@ -64,7 +64,7 @@ pub fn all_at_most(store: &[u8], places: &[usize], n: usize, most: usize) -> boo
 
 // Checks question 7 for the first n pairs: every end has at most 255 bytes.
 pub fn all_short(store: &[u8], places: &[usize], n: usize) -> bool
-    ensures { result ≡ allShort (pairsIn store.now places.now n) }
+    ensures { result ≡ all_short (pairs_in store.now places.now n) }
 {
     all_at_most(store, places, n, 255)
 }
@@ -81,8 +81,8 @@ pub fn from_ends_given(
     out: &mut [u8],
     slots: &mut [usize],
 ) -> map_function::MapReply
-    ensures { ReturnsMap (countInSlice (lentList store.now places.now n)
-        (fromEndsGiven legal (pairsIn store.now places.now n) mark time out.old
+    ensures { ReturnsMap (count_in_slice (lent_list store.now places.now n)
+        (from_ends_given legal (pairs_in store.now places.now n) mark time out.old
         slots.old)) result out.old out.new slots.old slots.new }
 {
     if 64 < n {
@@ -117,8 +117,8 @@ pub fn from_ends(
     out: &mut [u8],
     slots: &mut [usize],
 ) -> map_function::MapReply
-    ensures { ReturnsMap (countInSlice (lentList store.now places.now n)
-        (fromEnds (pairsIn store.now places.now n) mark time out.old
+    ensures { ReturnsMap (count_in_slice (lent_list store.now places.now n)
+        (from_ends (pairs_in store.now places.now n) mark time out.old
         slots.old)) result out.old out.new slots.old slots.new }
 {
     if 64 < n {

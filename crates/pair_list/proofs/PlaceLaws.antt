@@ -12,99 +12,99 @@ use lib.ListN.{length, get_or, take, drop, length-append, length-take, get_or-ap
 use lib.Seq.{get_or-append_seam}
 use Rattle.text.specs.Text.{Text}
 use Rattle.text.proofs.BoolLaws.{and_l, and_r}
-use Rattle.path_grammar.specs.Legal.{atMost255}
-use Rattle.pair_list.specs.Pair.{Pair, pair, emptyPair, pair_at, sourceAt, targetAt, everyEnd, allShort}
-use Rattle.text_list.specs.Places.{start_at, length_at, inStore, textAt}
-use Rattle.pair_list.specs.Places.{pairIn, pairsIn, key_at, isShortAt, placesShort, placesAll}
-use Rattle.path_grammar.proofs.LegalLaws.{fits-short}
+use Rattle.path_grammar.specs.Legal.{at_most255}
+use Rattle.pair_list.specs.Pair.{Pair, pair, empty_pair, pair_at, source_at, target_at, every_end, all_short}
+use Rattle.text_list.specs.Places.{start_at, length_at, in_store, text_at}
+use Rattle.pair_list.specs.Places.{pair_in, pairs_in, key_at, is_short_at, places_short, places_all}
+use Rattle.path_grammar.proofs.LegalLaws.{fits_short}
 
 module _ (store : Text) (places : List ℕ) where
-  pub pairsIn-length : (n : ℕ) → length (pairsIn store places n) ≡ n
-  unfolding pairsIn
-  pairsIn-length zero = refl
-  pairsIn-length (suc n) = rw (length-append (pairsIn store places n) (pairIn store places n ∷ []), pairsIn-length n) (omega arith)
+  pub pairs_in_length : (n : ℕ) → length (pairs_in store places n) ≡ n
+  unfolding pairs_in
+  pairs_in_length zero = refl
+  pairs_in_length (suc n) = rw (length-append (pairs_in store places n) (pair_in store places n ∷ []), pairs_in_length n) (omega arith)
 
-  pub pairsIn-at : (n i : ℕ) → i < n → pair_at (pairsIn store places n) i ≡ pairIn store places i
-  unfolding pairsIn
-  pairsIn-at zero i h = absurd (omega arith)
-  pairsIn-at (suc n) i h = elim (ℕ_discrete i n) [ yes e ↦ last e | no d ↦ earlier (omega arith) (pairsIn-at n i) ]
+  pub pairs_in_at : (n i : ℕ) → i < n → pair_at (pairs_in store places n) i ≡ pair_in store places i
+  unfolding pairs_in
+  pairs_in_at zero i h = absurd (omega arith)
+  pairs_in_at (suc n) i h = elim (ℕ_discrete i n) [ yes e ↦ last e | no d ↦ earlier (omega arith) (pairs_in_at n i) ]
     where
       all : List Pair
-      all = pairsIn store places n
+      all = pairs_in store places n
 
-      last : i ≡ n → get_or (all ++ pairIn store places n ∷ []) i emptyPair ≡ pairIn store places i
-      last e = rw e (rw (pairsIn-length n) at (get_or-append_seam all (pairIn store places n) [] emptyPair))
+      last : i ≡ n → get_or (all ++ pair_in store places n ∷ []) i empty_pair ≡ pair_in store places i
+      last e = rw e (rw (pairs_in_length n) at (get_or-append_seam all (pair_in store places n) [] empty_pair))
 
-      earlier : i < n → (i < n → pair_at all i ≡ pairIn store places i) → get_or (all ++ pairIn store places n ∷ []) i emptyPair ≡ pairIn store places i
-      earlier l f = get_or-append all (pairIn store places n ∷ []) emptyPair i (rw (pairsIn-length n) l) ∙ f l
+      earlier : i < n → (i < n → pair_at all i ≡ pair_in store places i) → get_or (all ++ pair_in store places n ∷ []) i empty_pair ≡ pair_in store places i
+      earlier l f = get_or-append all (pair_in store places n ∷ []) empty_pair i (rw (pairs_in_length n) l) ∙ f l
 
   -- The sources and the targets, as keys.
-  pub pairsIn-source : (n i : ℕ) → i < n → sourceAt (pairsIn store places n) i ≡ key_at store places false i
-  unfolding pairIn
-  pairsIn-source n i h = let z : 2 * i ≡ 2 * i + 0 = omega arith in ap (λ (x : Pair). x.source) (pairsIn-at n i h) ∙ ap (λ (j : ℕ). textAt store places j) z
+  pub pairs_in_source : (n i : ℕ) → i < n → source_at (pairs_in store places n) i ≡ key_at store places false i
+  unfolding pair_in
+  pairs_in_source n i h = let z : 2 * i ≡ 2 * i + 0 = omega arith in ap (λ (x : Pair). x.source) (pairs_in_at n i h) ∙ ap (λ (j : ℕ). text_at store places j) z
 
-  pub pairsIn-target : (n i : ℕ) → i < n → targetAt (pairsIn store places n) i ≡ key_at store places true i
-  unfolding pairIn
-  pairsIn-target n i h = ap (λ (x : Pair). x.target) (pairsIn-at n i h)
+  pub pairs_in_target : (n i : ℕ) → i < n → target_at (pairs_in store places n) i ≡ key_at store places true i
+  unfolding pair_in
+  pairs_in_target n i h = ap (λ (x : Pair). x.target) (pairs_in_at n i h)
 
 -- What the questions imply for the list, once its places have passed them.
-pub every-snoc : (passes : Text → Bool) (l : List Pair) (x : Pair) → everyEnd passes l ≡ true → passes x.source ≡ true → passes x.target ≡ true
-    → everyEnd passes (l ++ x ∷ []) ≡ true
-unfolding everyEnd
-every-snoc passes [] x e s t = rw (s, t)
-every-snoc passes (y ∷ l) x e s t =
+pub every_snoc : (passes : Text → Bool) (l : List Pair) (x : Pair) → every_end passes l ≡ true → passes x.source ≡ true → passes x.target ≡ true
+    → every_end passes (l ++ x ∷ []) ≡ true
+unfolding every_end
+every_snoc passes [] x e s t = rw (s, t)
+every_snoc passes (y ∷ l) x e s t =
     let a : Bool = passes y.source && passes y.target in
-    rw (and_l a (everyEnd passes l) e) (every-snoc passes l x (and_r a (everyEnd passes l) e) s t)
+    rw (and_l a (every_end passes l) e) (every_snoc passes l x (and_r a (every_end passes l) e) s t)
 
 module _ (store : Text) (places : List ℕ) where
-  pub every-pairIn : (passes : Text → Bool) (n : ℕ) → placesAll passes store places (2 * n) ≡ true → everyEnd passes (pairsIn store places n) ≡ true
-  unfolding pairsIn placesAll pairIn everyEnd
-  every-pairIn passes zero h = refl
-  every-pairIn passes (suc n) h =
+  pub every_pair_in : (passes : Text → Bool) (n : ℕ) → places_all passes store places (2 * n) ≡ true → every_end passes (pairs_in store places n) ≡ true
+  unfolding pairs_in places_all pair_in every_end
+  every_pair_in passes zero h = refl
+  every_pair_in passes (suc n) h =
       let e : 2 * suc n ≡ suc (2 * n + 1) = omega arith in
-      let g : (placesAll passes store places (2 * n + 1) && passes (textAt store places (2 * n + 1))) ≡ true = rw e at h in
-      let k : (placesAll passes store places (2 * n) && passes (textAt store places (2 * n))) ≡ true
-      = rw add-one at (and_l (placesAll passes store places (2 * n + 1)) (passes (textAt store places (2 * n + 1))) g) in
-      every-snoc passes (pairsIn store places n) (pairIn store places n)
-      (every-pairIn passes n (and_l (placesAll passes store places (2 * n)) (passes (textAt store places (2 * n))) k))
-      (and_r (placesAll passes store places (2 * n)) (passes (textAt store places (2 * n))) k)
-      (and_r (placesAll passes store places (2 * n + 1)) (passes (textAt store places (2 * n + 1))) g)
+      let g : (places_all passes store places (2 * n + 1) && passes (text_at store places (2 * n + 1))) ≡ true = rw e at h in
+      let k : (places_all passes store places (2 * n) && passes (text_at store places (2 * n))) ≡ true
+      = rw add-one at (and_l (places_all passes store places (2 * n + 1)) (passes (text_at store places (2 * n + 1))) g) in
+      every_snoc passes (pairs_in store places n) (pair_in store places n)
+      (every_pair_in passes n (and_l (places_all passes store places (2 * n)) (passes (text_at store places (2 * n))) k))
+      (and_r (places_all passes store places (2 * n)) (passes (text_at store places (2 * n))) k)
+      (and_r (places_all passes store places (2 * n + 1)) (passes (text_at store places (2 * n + 1))) g)
 
   -- A place that passed question 1 holds a text of at most 255 bytes.
-  place_short : (j : ℕ) → isShortAt store places j ≡ true → length_at places j ≤ 255
-  unfolding isShortAt
+  place_short : (j : ℕ) → is_short_at store places j ≡ true → length_at places j ≤ 255
+  unfolding is_short_at
   place_short j h = go (leb (length places / 2) j) refl h
     where
-      go : (b : Bool) → leb (length places / 2) j ≡ b → (b || inStore store places j && leb (length_at places j) 255) ≡ true → length_at places j ≤ 255
+      go : (b : Bool) → leb (length places / 2) j ≡ b → (b || in_store store places j && leb (length_at places j) 255) ≡ true → length_at places j ≤ 255
       go true e g =
           let l : length places / 2 ≤ j = leb-true (length places / 2) j e in
           rw (get_or-eq_default places 0 {n = 2 * j + 1} (omega arith)) (omega arith)
-      go false e g = leb-true (length_at places j) 255 (and_r (inStore store places j) (leb (length_at places j) 255) g)
+      go false e g = leb-true (length_at places j) 255 (and_r (in_store store places j) (leb (length_at places j) 255) g)
 
-  fit-text : (j : ℕ) → isShortAt store places j ≡ true → atMost255 (textAt store places j) ≡ true
-  unfolding textAt atMost255
-  fit-text j h = go (inStore store places j) refl
+  fit_text : (j : ℕ) → is_short_at store places j ≡ true → at_most255 (text_at store places j) ≡ true
+  unfolding text_at at_most255
+  fit_text j h = go (in_store store places j) refl
     where
-      go : (b : Bool) → inStore store places j ≡ b → atMost255 (cond b (take (length_at places j) (drop (start_at places j) store)) []) ≡ true
+      go : (b : Bool) → in_store store places j ≡ b → at_most255 (cond b (take (length_at places j) (drop (start_at places j) store)) []) ≡ true
       go false e = refl
       go true e = le-leb (length (take (length_at places j) (drop (start_at places j) store))) 255 (simp length-take (omega (arith, place_short j h)))
 
-  pub fit-texts : (n : ℕ) → placesShort store places n ≡ true → placesAll atMost255 store places n ≡ true
-  unfolding placesShort placesAll
-  fit-texts zero h = refl
-  fit-texts (suc n) h =
-      rw (fit-texts n (and_l (placesShort store places n) (isShortAt store places n) h)) (fit-text n (and_r (placesShort store places n) (isShortAt store places n) h))
+  pub fit_texts : (n : ℕ) → places_short store places n ≡ true → places_all at_most255 store places n ≡ true
+  unfolding places_short places_all
+  fit_texts zero h = refl
+  fit_texts (suc n) h =
+      rw (fit_texts n (and_l (places_short store places n) (is_short_at store places n) h)) (fit_text n (and_r (places_short store places n) (is_short_at store places n) h))
 
 -- A pair, given its ends.
-pub pair_is : (store : Text) (places : List ℕ) (i : ℕ) (s t : Text) → s ≡ key_at store places false i → t ≡ key_at store places true i → pair s t ≡ pairIn store places i
-unfolding pairIn
+pub pair_is : (store : Text) (places : List ℕ) (i : ℕ) (s t : Text) → s ≡ key_at store places false i → t ≡ key_at store places true i → pair s t ≡ pair_in store places i
+unfolding pair_in
 pair_is store places i s t h k = let z : 2 * i + 0 ≡ 2 * i = omega arith in rw (h, k, z)
 
 -- The ends of pairs of at most 255 bytes each; beyond the list they are empty.
-pub short-at : (l : List Pair) → allShort l ≡ true → (i : ℕ) → (length (sourceAt l i) ≤ 255) × (length (targetAt l i) ≤ 255)
-unfolding allShort
-short-at [] e i = (omega arith, omega arith)
-short-at (x ∷ l) e zero =
-    let a : (atMost255 x.source && atMost255 x.target) ≡ true = and_l (atMost255 x.source && atMost255 x.target) (allShort l) e in
-    (fits-short x.source (and_l (atMost255 x.source) (atMost255 x.target) a), fits-short x.target (and_r (atMost255 x.source) (atMost255 x.target) a))
-short-at (x ∷ l) e (suc i) = short-at l (and_r (atMost255 x.source && atMost255 x.target) (allShort l) e) i
+pub short_at : (l : List Pair) → all_short l ≡ true → (i : ℕ) → (length (source_at l i) ≤ 255) × (length (target_at l i) ≤ 255)
+unfolding all_short
+short_at [] e i = (omega arith, omega arith)
+short_at (x ∷ l) e zero =
+    let a : (at_most255 x.source && at_most255 x.target) ≡ true = and_l (at_most255 x.source && at_most255 x.target) (all_short l) e in
+    (fits_short x.source (and_l (at_most255 x.source) (at_most255 x.target) a), fits_short x.target (and_r (at_most255 x.source) (at_most255 x.target) a))
+short_at (x ∷ l) e (suc i) = short_at l (and_r (at_most255 x.source && at_most255 x.target) (all_short l) e) i

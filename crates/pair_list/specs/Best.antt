@@ -4,11 +4,11 @@ use Rattle.std.specs.Prelude.{ℕ, zero, suc, Bool, true, cond, ◌&&◌, leb}
 use Rattle.std.proofs.Math.Option.{Option, none, some}
 
 -- Index n is at least as heavy as the index selected before it, if any.
-abbrev pub notLighter : (ℕ → ℕ) → Option ℕ → ℕ → Bool
-notLighter weight none n = true
-notLighter weight (some i) n = leb (weight i) (weight n)
+abbrev pub not_lighter : (ℕ → ℕ) → Option ℕ → ℕ → Bool
+not_lighter weight none n = true
+not_lighter weight (some i) n = leb (weight i) (weight n)
 
 -- Of the indices below n that pass a test, the one with the greatest weight, the later one on a tie.
-unfoldable pub bestIndex : (ℕ → Bool) → (ℕ → ℕ) → ℕ → Option ℕ
-bestIndex passes weight zero = none
-bestIndex passes weight (suc n) = cond (passes n && notLighter weight (bestIndex passes weight n) n) (some n) (bestIndex passes weight n)
+unfoldable pub best_index : (ℕ → Bool) → (ℕ → ℕ) → ℕ → Option ℕ
+best_index passes weight zero = none
+best_index passes weight (suc n) = cond (passes n && not_lighter weight (best_index passes weight n) n) (some n) (best_index passes weight n)

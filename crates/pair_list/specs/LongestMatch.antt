@@ -3,22 +3,22 @@
 -- match.
 use Rattle.std.specs.Prelude.{ℕ, Bool, not, ◌&&◌}
 use Rattle.std.proofs.Math.Option.{Option}
-use Rattle.text.specs.Text.{Text, isNil}
-use Rattle.path_prefix.specs.Prefix.{hasPrefix}
-use Rattle.path_prefix.specs.Elements.{countElements, elementCount}
-use Rattle.pair_list.specs.Best.{bestIndex}
+use Rattle.text.specs.Text.{Text, is_nil}
+use Rattle.path_prefix.specs.Prefix.{has_prefix}
+use Rattle.path_prefix.specs.Elements.{count_elements, element_count}
+use Rattle.pair_list.specs.Best.{best_index}
 
 -- Of the first n keys that pass a test, the index of the one with most elements, the later on a tie.
-unfoldable pub longestBy : (Text → Bool) → (ℕ → Text) → ℕ → Option ℕ
-unfolding bestIndex countElements
-longestBy passes key n = bestIndex (λ (i : ℕ). passes (key i)) (λ (i : ℕ). elementCount (key i)) n
+unfoldable pub longest_by : (Text → Bool) → (ℕ → Text) → ℕ → Option ℕ
+unfolding best_index count_elements
+longest_by passes key n = best_index (λ (i : ℕ). passes (key i)) (λ (i : ℕ). element_count (key i)) n
 
 -- The key k matches the path p: it is a nonempty prefix of it.
 unfoldable pub matches : Text → Text → Bool
-unfolding hasPrefix
-matches p k = not (isNil k) && hasPrefix p k
+unfolding has_prefix
+matches p k = not (is_nil k) && has_prefix p k
 
 -- The longest match for the path p among the first n keys, by its index.
-unfoldable pub longestMatch : Text → (ℕ → Text) → ℕ → Option ℕ
-unfolding longestBy matches
-longestMatch p key n = longestBy (matches p) key n
+unfoldable pub longest_match : Text → (ℕ → Text) → ℕ → Option ℕ
+unfolding longest_by matches
+longest_match p key n = longest_by (matches p) key n

@@ -1,8 +1,8 @@
 // Lists of (source, target) pairs in lent memory: reading them, and validating their ends (questions 1
 // to 3). A pair is two places of crates/text_list. Every public function is defined for any bytes and any numbers.
 ghost use Rattle.std.specs.Prelude.{◌≡◌};
-ghost use Rattle.path_grammar.specs.Legal.{legal, isEnd};
-ghost use Rattle.pair_list.specs.Places.{isShortAt, key_at, placesShort, placesAll};
+ghost use Rattle.path_grammar.specs.Legal.{legal, is_end};
+ghost use Rattle.pair_list.specs.Places.{is_short_at, key_at, places_short, places_all};
 
 // Returns the source of pair `i`, or its target if `invert` is set.
 pub fn key_at<'a>(store: &'a [u8], places: &[usize], i: usize, invert: bool) -> &'a [u8]
@@ -20,7 +20,7 @@ pub fn key_at<'a>(store: &'a [u8], places: &[usize], i: usize, invert: bool) -> 
 // Returns whether place `j` lies in the store and has at most 255 bytes; a place beyond the slice
 // passes.
 fn is_short_at(store: &[u8], places: &[usize], j: usize) -> bool
-    ensures { result ≡ isShortAt store.now places.now j }
+    ensures { result ≡ is_short_at store.now places.now j }
 {
     if places.len() / 2 <= j {
         return true;
@@ -38,7 +38,7 @@ fn is_short_at(store: &[u8], places: &[usize], j: usize) -> bool
 
 // Question 1 for the first n places: returns whether each text has at most 255 bytes.
 pub fn all_short(store: &[u8], places: &[usize], n: usize) -> bool
-    ensures { result ≡ placesShort store.now places.now n }
+    ensures { result ≡ places_short store.now places.now n }
 {
     let mut j = 0;
     while j < n {
@@ -52,7 +52,7 @@ pub fn all_short(store: &[u8], places: &[usize], n: usize) -> bool
 
 // Question 2 for the first n places: returns whether each text is a legal path.
 pub fn all_legal(store: &[u8], places: &[usize], n: usize) -> bool
-    ensures { result ≡ placesAll legal store.now places.now n }
+    ensures { result ≡ places_all legal store.now places.now n }
 {
     let mut j = 0;
     while j < n {
@@ -66,7 +66,7 @@ pub fn all_legal(store: &[u8], places: &[usize], n: usize) -> bool
 
 // Question 3 for the first n places: returns whether each text is a prim path, `/` or empty.
 pub fn all_ends(store: &[u8], places: &[usize], n: usize) -> bool
-    ensures { result ≡ placesAll isEnd store.now places.now n }
+    ensures { result ≡ places_all is_end store.now places.now n }
 {
     let mut j = 0;
     while j < n {

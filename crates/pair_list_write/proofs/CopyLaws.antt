@@ -6,20 +6,20 @@ use native.Mathlib.Omega.{arith}
 use borrow.Author.Tests.{le-leb, lt-leb}
 use lib.ListN.{length, get_or, take, drop, get_or-append}
 use lib.Seq.{get_or-append-add, get_or-take, length-take-le}
-use Rattle.text.specs.Text.{Text, writtenAt, writtenIfFits}
-use Rattle.text_list.specs.Places.{inStore, textAt}
-use Rattle.pair_list.specs.Places.{pairIn, pairsIn}
-use Rattle.pair_list_write.specs.Lists.{entry_at, copyEntry}
+use Rattle.text.specs.Text.{Text, written_at, written_if_fits}
+use Rattle.text_list.specs.Places.{in_store, text_at}
+use Rattle.pair_list.specs.Places.{pair_in, pairs_in}
+use Rattle.pair_list_write.specs.Lists.{entry_at, copy_entry}
 
 -- A text depends only on its own two numbers.
 pub text_same : (store : Text) (a b : List ℕ) (i j : ℕ) → get_or a (2 * i) 0 ≡ get_or b (2 * j) 0 → get_or a (2 * i + 1) 0 ≡ get_or b (2 * j + 1) 0
-    → textAt store a i ≡ textAt store b j
-unfolding textAt inStore
+    → text_at store a i ≡ text_at store b j
+unfolding text_at in_store
 text_same store a b i j s n = rw (s, n) refl
 
 -- A pair depends only on its own four numbers.
-pub pair_same : (store : Text) (a b : List ℕ) (i j : ℕ) → ((k : ℕ) → k < 4 → get_or a (4 * i + k) 0 ≡ get_or b (4 * j + k) 0) → pairIn store a i ≡ pairIn store b j
-unfolding pairIn
+pub pair_same : (store : Text) (a b : List ℕ) (i j : ℕ) → ((k : ℕ) → k < 4 → get_or a (4 * i + k) 0 ≡ get_or b (4 * j + k) 0) → pair_in store a i ≡ pair_in store b j
+unfolding pair_in
 pair_same store a b i j h =
     let e : 4 * i + 0 ≡ 2 * (2 * i) = omega arith in
     let e' : 4 * j + 0 ≡ 2 * (2 * j) = omega arith in
@@ -35,39 +35,39 @@ pair_same store a b i j h =
     ) refl
 
 -- A list depends only on the numbers of its pairs.
-pub list_same : (store : Text) (a b : List ℕ) (n : ℕ) → ((k : ℕ) → k < 4 * n → get_or a k 0 ≡ get_or b k 0) → pairsIn store a n ≡ pairsIn store b n
-unfolding pairsIn
+pub list_same : (store : Text) (a b : List ℕ) (n : ℕ) → ((k : ℕ) → k < 4 * n → get_or a k 0 ≡ get_or b k 0) → pairs_in store a n ≡ pairs_in store b n
+unfolding pairs_in
 list_same store a b zero h = refl
 list_same store a b (suc n) h =
     rw (list_same store a b n (λ k l. h k (omega arith)), pair_same store a b n n (λ k l. h (4 * n + k) (omega arith))) refl
 
-pub over_below : (at : ℕ) (v l : List ℕ) (k : ℕ) → at ≤ length l → k < at → get_or (writtenAt at v l) k 0 ≡ get_or l k 0
+pub over_below : (at : ℕ) (v l : List ℕ) (k : ℕ) → at ≤ length l → k < at → get_or (written_at at v l) k 0 ≡ get_or l k 0
 over_below at v l k h m =
     get_or-append (take at l) (v ++ drop (at + length v) l) 0 k (rw (length-take-le at l h) m) ∙ get_or-take at l k 0 m
 
-pub over-inside : (at : ℕ) (v l : List ℕ) (k : ℕ) → at ≤ length l → k < length v → get_or (writtenAt at v l) (at + k) 0 ≡ get_or v k 0
-over-inside at v l k h m =
+pub over_inside : (at : ℕ) (v l : List ℕ) (k : ℕ) → at ≤ length l → k < length v → get_or (written_at at v l) (at + k) 0 ≡ get_or v k 0
+over_inside at v l k h m =
     (rw (length-take-le at l h) at (get_or-append-add (take at l) (v ++ drop (at + length v) l) k 0)) ∙ get_or-append v (drop (at + length v) l) 0 k m
 
-pub entry-at : (places : List ℕ) (i k : ℕ) → k < 4 → get_or (entry_at places i) k 0 ≡ get_or places (4 * i + k) 0
-entry-at places i zero h = let z : 4 * i + 0 ≡ 4 * i = omega arith in rw z refl
-entry-at places i (suc zero) h = refl
-entry-at places i (suc (suc zero)) h = refl
-entry-at places i (suc (suc (suc zero))) h = refl
-entry-at places i (suc (suc (suc (suc k)))) h = absurd (omega arith)
+pub entry_at_lem : (places : List ℕ) (i k : ℕ) → k < 4 → get_or (entry_at places i) k 0 ≡ get_or places (4 * i + k) 0
+entry_at_lem places i zero h = let z : 4 * i + 0 ≡ 4 * i = omega arith in rw z refl
+entry_at_lem places i (suc zero) h = refl
+entry_at_lem places i (suc (suc zero)) h = refl
+entry_at_lem places i (suc (suc (suc zero))) h = refl
+entry_at_lem places i (suc (suc (suc (suc k)))) h = absurd (omega arith)
 
 pub pushed : (store : Text) (places : List ℕ) (i : ℕ) (kept : List ℕ) (w : ℕ) → 4 * w + 4 ≤ length kept
-    → pairsIn store (writtenAt (4 * w) (entry_at places i) kept) (suc w) ≡ pairsIn store kept w ++ pairIn store places i ∷ []
-unfolding pairsIn
+    → pairs_in store (written_at (4 * w) (entry_at places i) kept) (suc w) ≡ pairs_in store kept w ++ pair_in store places i ∷ []
+unfolding pairs_in
 pushed store places i kept w h =
     rw (
-      list_same store (writtenAt (4 * w) (entry_at places i) kept) kept w (λ k l. over_below (4 * w) (entry_at places i) kept k (omega arith) l),
-      pair_same store (writtenAt (4 * w) (entry_at places i) kept) places w i (λ k l. over-inside (4 * w) (entry_at places i) kept k (omega arith) l ∙ entry-at places i k l),
+      list_same store (written_at (4 * w) (entry_at places i) kept) kept w (λ k l. over_below (4 * w) (entry_at places i) kept k (omega arith) l),
+      pair_same store (written_at (4 * w) (entry_at places i) kept) places w i (λ k l. over_inside (4 * w) (entry_at places i) kept k (omega arith) l ∙ entry_at_lem places i k l),
     ) refl
 
 -- If both pairs lie in their slices, copying writes the four numbers.
-pub copied-over : (places : List ℕ) (i w : ℕ) (slots : List ℕ) → 4 * i + 4 ≤ length places → 4 * w + 4 ≤ length slots
-    → copyEntry places i w slots ≡ writtenAt (4 * w) (entry_at places i) slots
-unfolding copyEntry writtenIfFits
-copied-over places i w slots h k =
+pub copied_over : (places : List ℕ) (i w : ℕ) (slots : List ℕ) → 4 * i + 4 ≤ length places → 4 * w + 4 ≤ length slots
+    → copy_entry places i w slots ≡ written_at (4 * w) (entry_at places i) slots
+unfolding copy_entry written_if_fits
+copied_over places i w slots h k =
     rw (lt-leb (length places / 4) i (omega arith), le-leb (4 * w + 4) (length slots) k) refl

@@ -7,86 +7,86 @@ use native.Mathlib.Omega.{arith}
 use lib.Dec.{leb}
 use lib.ListN.{length}
 use borrow.Author.Tests.{le-leb, lt-leb}
-use Rattle.text.specs.Text.{Text, written, writtenAt, writtenIfFits}
+use Rattle.text.specs.Text.{Text, written, written_at, written_if_fits}
 use Rattle.text.proofs.BoolLaws.{and_no}
-use Rattle.text.proofs.WriteLaws.{over-length}
-use Rattle.text_list.specs.Packed.{textPlaces}
+use Rattle.text.proofs.WriteLaws.{over_length}
+use Rattle.text_list.specs.Packed.{text_places}
 use Rattle.text_list.proofs.PlaceBranches.{Pushed, push-there}
 use Rattle.pair_list.specs.Pair.{pair}
-use Rattle.pair_list.specs.Places.{key_at, pairsIn, pairEntry, listText, listPlaces, endBytes}
-use Rattle.pair_list_write.specs.Packed.{AppendedPair, pairFits, pairEnd, pairBytes, pairSlots}
-use Rattle.pair_list_write.proofs.WriteBranches.{over-next, over-over, list-room, list_at, list-text, list-slots}
+use Rattle.pair_list.specs.Places.{key_at, pairs_in, pair_entry, list_text, list_places, end_bytes}
+use Rattle.pair_list_write.specs.Packed.{AppendedPair, pair_fits, pair_end, pair_bytes, pair_slots}
+use Rattle.pair_list_write.proofs.WriteBranches.{over_next, over_over, list-room, list_at, list-text, list-slots}
 
 module _ (s t : Text) (n at : ℕ) (bytes : Text) (slots : List ℕ) where
   abbrev pub PushedPair : ℕ → Text → List ℕ → Type 0
-  PushedPair r bytes' slots' = (r ≡ pairEnd s t n at bytes slots) × ((bytes' ≡ pairBytes s t n at bytes slots) × (slots' ≡ pairSlots s t n at bytes slots))
+  PushedPair r bytes' slots' = (r ≡ pair_end s t n at bytes slots) × ((bytes' ≡ pair_bytes s t n at bytes slots) × (slots' ≡ pair_slots s t n at bytes slots))
 
-  kept : pairFits s t n at bytes slots ≡ false → PushedPair at bytes slots
-  unfolding pairEnd pairBytes pairSlots
+  kept : pair_fits s t n at bytes slots ≡ false → PushedPair at bytes slots
+  unfolding pair_end pair_bytes pair_slots
   kept e = rw e (refl, (refl, refl))
 
-  pub pair-long : length bytes < at + (length s + length t) → PushedPair at bytes slots
-  unfolding pairFits
-  pair-long h = kept (rw (lt-leb (at + (length s + length t)) (length bytes) h))
+  pub pair_long : length bytes < at + (length s + length t) → PushedPair at bytes slots
+  unfolding pair_fits
+  pair_long h = kept (rw (lt-leb (at + (length s + length t)) (length bytes) h))
 
-  pub pair-many : length slots < 4 * n + 4 → PushedPair at bytes slots
-  unfolding pairFits
-  pair-many h = kept (rw (lt-leb (4 * n + 4) (length slots) h) (and_no (leb (at + (length s + length t)) (length bytes))))
+  pub pair_many : length slots < 4 * n + 4 → PushedPair at bytes slots
+  unfolding pair_fits
+  pair_many h = kept (rw (lt-leb (4 * n + 4) (length slots) h) (and_no (leb (at + (length s + length t)) (length bytes))))
 
   module _ (h : at + (length s + length t) ≤ length bytes) (g : 4 * n + 4 ≤ length slots) where
-    fits : pairFits s t n at bytes slots ≡ true
-    unfolding pairFits
+    fits : pair_fits s t n at bytes slots ≡ true
+    unfolding pair_fits
     fits = rw (le-leb (at + (length s + length t)) (length bytes) h, le-leb (4 * n + 4) (length slots) g)
 
     pub pair-pushed : (m : ℕ) (b : Text) (p : List ℕ) → Pushed s (2 * n) at bytes slots m b p → (r : ℕ) (b' : Text) (p' : List ℕ) → Pushed t (2 * n + 1) m b p r b' p'
         → PushedPair r b' p'
-    unfolding pairEnd pairBytes pairSlots textPlaces
+    unfolding pair_end pair_bytes pair_slots text_places
     pair-pushed m b p w r b' p' v =
         let x = push-there s (2 * n) at bytes slots (omega arith) (omega arith) m b p w in
-        let lb : length b ≡ length bytes = ap length x.1.0 ∙ over-length at s bytes (omega arith) in
-        let lp : length p ≡ length slots = ap length x.1.1 ∙ over-length (2 * (2 * n)) (at ∷ length s ∷ []) slots (omega arith) in
+        let lb : length b ≡ length bytes = ap length x.1.0 ∙ over_length at s bytes (omega arith) in
+        let lp : length p ≡ length slots = ap length x.1.1 ∙ over_length (2 * (2 * n)) (at ∷ length s ∷ []) slots (omega arith) in
         let y = push-there t (2 * n + 1) m b p (omega (arith, x.0)) (omega arith) r b' p' v in
         let z : 2 * (2 * n + 1) ≡ 2 * (2 * n) + 2 = omega arith in
         let q : 4 * n ≡ 2 * (2 * n) = omega arith in
         rw fits (
           omega (arith, x.0, y.0),
           (
-            y.1.0 ∙ rw (x.0, x.1.0) (over-next at s t bytes h),
-            y.1.1 ∙ rw (x.0, x.1.1, z, q) (over-next (2 * (2 * n)) (at ∷ length s ∷ []) ((at + length s) ∷ length t ∷ []) slots (omega arith)),
+            y.1.0 ∙ rw (x.0, x.1.0) (over_next at s t bytes h),
+            y.1.1 ∙ rw (x.0, x.1.1, z, q) (over_next (2 * (2 * n)) (at ∷ length s ∷ []) ((at + length s) ∷ length t ∷ []) slots (omega arith)),
           ),
         )
 
     -- If the pair fits, it is appended.
     pub pair-there : (r : ℕ) (bytes' : Text) (slots' : List ℕ) → PushedPair r bytes' slots'
         → AppendedPair (pair s t) n at bytes slots r bytes' slots'
-    unfolding pairEnd pairBytes pairSlots
+    unfolding pair_end pair_bytes pair_slots
     pair-there r bytes' slots' w = go (rw fits at w)
       where
-        go : (r ≡ at + (length s + length t)) × ((bytes' ≡ writtenAt at (s ++ t) bytes) × (slots' ≡ writtenAt (4 * n) (pairEntry at s t) slots))
+        go : (r ≡ at + (length s + length t)) × ((bytes' ≡ written_at at (s ++ t) bytes) × (slots' ≡ written_at (4 * n) (pair_entry at s t) slots))
             → AppendedPair (pair s t) n at bytes slots r bytes' slots'
         go v = record { end = v.0; text = v.1.0; places = v.1.1 }
 
 -- Two texts that were made in the buffer, one after the other, and the four place entries of their pair.
-pub pair-done : (s t : Text) (at n k : ℕ) (out once twice : Text) (slots slots' : List ℕ) → at + (length s + length t) ≤ length out → 4 * n + 4 ≤ length slots
-    → k ≡ length t → once ≡ writtenIfFits at s out → twice ≡ writtenIfFits (at + length s) t once → slots' ≡ writtenIfFits (4 * n) (at ∷ length s ∷ (at + length s) ∷ k ∷ []) slots
+pub pair_done : (s t : Text) (at n k : ℕ) (out once twice : Text) (slots slots' : List ℕ) → at + (length s + length t) ≤ length out → 4 * n + 4 ≤ length slots
+    → k ≡ length t → once ≡ written_if_fits at s out → twice ≡ written_if_fits (at + length s) t once → slots' ≡ written_if_fits (4 * n) (at ∷ length s ∷ (at + length s) ∷ k ∷ []) slots
     → AppendedPair (pair s t) n at out slots (at + length s + k) twice slots'
-unfolding writtenIfFits
-pair-done s t at n k out once twice slots slots' h g e o w f = record {
+unfolding written_if_fits
+pair_done s t at n k out once twice slots slots' h g e o w f = record {
   end = omega arith;
-  text = w ∙ ap (λ (x : Text). writtenIfFits (at + length s) t x) o ∙ over-over at s t out h;
+  text = w ∙ ap (λ (x : Text). written_if_fits (at + length s) t x) o ∙ over_over at s t out h;
   places = f ∙ rw (le-leb (4 * n + 4) (length slots) g, e) refl;
 }
 
 -- `append_list`: the list that was written after `start` bytes of the buffers o and p, and the pair that is pushed next.
 module _ (store : Text) (places : List ℕ) (start : ℕ) (o : Text) (p : List ℕ) where
   abbrev pub Appended : ℕ → ℕ → Text → List ℕ → Type 0
-  Appended i end out slots = (end ≡ start + endBytes (pairsIn store places i))
-      × ((out ≡ writtenAt start (listText (pairsIn store places i)) o) × (slots ≡ written (listPlaces start (pairsIn store places i)) p))
+  Appended i end out slots = (end ≡ start + end_bytes (pairs_in store places i))
+      × ((out ≡ written_at start (list_text (pairs_in store places i)) o) × (slots ≡ written (list_places start (pairs_in store places i)) p))
 
-  pub append-next : (n i at : ℕ) (out : Text) (slots : List ℕ) → i < n → start + endBytes (pairsIn store places n) ≤ length o → length out ≡ length o → 4 * i + 4 ≤ length slots
+  pub append_next : (n i at : ℕ) (out : Text) (slots : List ℕ) → i < n → start + end_bytes (pairs_in store places n) ≤ length o → length out ≡ length o → 4 * i + 4 ≤ length slots
       → Appended i at out slots → (s t : Text) → s ≡ key_at store places false i → t ≡ key_at store places true i
       → (r : ℕ) (out' : Text) (slots' : List ℕ) → PushedPair s t i at out slots r out' slots' → Appended (i + 1) r out' slots'
-  append-next n i at out slots l f size g c s t es et r out' slots' w =
+  append_next n i at out slots l f size g c s t es et r out' slots' w =
       let ks : Text = key_at store places false i in
       let kt : Text = key_at store places true i in
       let room : at + (length ks + length kt) ≤ length out = list-room store places start i at c.0 n l (length o) (length out) f size in

@@ -1,10 +1,10 @@
 // Writes lists of pairs to lent memory: the bytes of all ends consecutively, and the places of each
 // pair. Every public function is defined for any bytes and any numbers.
 ghost use Rattle.std.specs.Prelude.{◌≡◌, [], ◌∷◌, ◌*◌, leb};
-ghost use Rattle.text.specs.Text.{writtenIfFits};
-ghost use Rattle.pair_list.specs.Places.{pairsIn, endBytes};
-ghost use Rattle.pair_list_write.specs.Packed.{pairEnd, pairBytes, pairSlots};
-ghost use Rattle.pair_list_write.specs.Lists.{copyEntry, remainingRoom, appendListReply, appendListBytes, appendListSlots, writeListReply, writeListBytes, writeListSlots};
+ghost use Rattle.text.specs.Text.{written_if_fits};
+ghost use Rattle.pair_list.specs.Places.{pairs_in, end_bytes};
+ghost use Rattle.pair_list_write.specs.Packed.{pair_end, pair_bytes, pair_slots};
+ghost use Rattle.pair_list_write.specs.Lists.{copy_entry, remaining_room, append_list_reply, append_list_bytes, append_list_slots, write_list_reply, write_list_bytes, write_list_slots};
 
 // The remaining capacity of a byte buffer.
 #[derive(Drop)]
@@ -17,7 +17,7 @@ pub enum Room {
 
 // The part of the capacity `room` that remains after the bytes of the first n pairs.
 pub fn remaining_room(store: &[u8], places: &[usize], n: usize, room: usize) -> Room
-    ensures { result ≡ remainingRoom (pairsIn store.now places.now n) room }
+    ensures { result ≡ remaining_room (pairs_in store.now places.now n) room }
 {
     let mut left = room;
     let mut i = 0;
@@ -39,7 +39,7 @@ pub fn remaining_room(store: &[u8], places: &[usize], n: usize, room: usize) -> 
 
 // Returns whether the capacity `room` is enough for the bytes of the first n pairs.
 pub fn list_fits(store: &[u8], places: &[usize], n: usize, room: usize) -> bool
-    ensures { result ≡ leb (endBytes (pairsIn store.now places.now n)) room }
+    ensures { result ≡ leb (end_bytes (pairs_in store.now places.now n)) room }
 {
     match remaining_room(store, places, n, room) {
         Room::Left(_) => true,
@@ -49,7 +49,7 @@ pub fn list_fits(store: &[u8], places: &[usize], n: usize, room: usize) -> bool
 
 // Writes the four numbers of pair `w` if the slice is long enough; otherwise writes nothing.
 pub fn write_entry(w: usize, a: usize, b: usize, c: usize, d: usize, slots: &mut [usize])
-    ensures { slots.new ≡ writtenIfFits (4 * w) (a ∷ b ∷ c ∷ d ∷ []) slots.old }
+    ensures { slots.new ≡ written_if_fits (4 * w) (a ∷ b ∷ c ∷ d ∷ []) slots.old }
 {
     if slots.len() / 4 <= w {
         return;
@@ -64,7 +64,7 @@ pub fn write_entry(w: usize, a: usize, b: usize, c: usize, d: usize, slots: &mut
 // Copies the four numbers of pair `i` over those of pair `w` in another slice, if both pairs lie in
 // their slices.
 pub fn copy_entry(places: &[usize], i: usize, w: usize, slots: &mut [usize])
-    ensures { slots.new ≡ copyEntry places.now i w slots.old }
+    ensures { slots.new ≡ copy_entry places.now i w slots.old }
 {
     if places.len() / 4 <= i {
         return;
@@ -90,10 +90,10 @@ pub fn push_pair(
     bytes: &mut [u8],
     slots: &mut [usize],
 ) -> usize
-    ensures value { result ≡ pairEnd s.now t.now n at bytes.old slots.old }
-    ensures bytes_after { bytes.new ≡ pairBytes s.now t.now n at bytes.old
+    ensures value { result ≡ pair_end s.now t.now n at bytes.old slots.old }
+    ensures bytes_after { bytes.new ≡ pair_bytes s.now t.now n at bytes.old
         slots.old }
-    ensures slots_after { slots.new ≡ pairSlots s.now t.now n at bytes.old
+    ensures slots_after { slots.new ≡ pair_slots s.now t.now n at bytes.old
         slots.old }
 {
     if bytes.len() < at {
@@ -123,11 +123,11 @@ pub fn append_list(
     out: &mut [u8],
     slots: &mut [usize],
 ) -> text::Fit
-    ensures value { result ≡ appendListReply at (pairsIn store.now places.now n) out.old
+    ensures value { result ≡ append_list_reply at (pairs_in store.now places.now n) out.old
         slots.old }
-    ensures out_after { out.new ≡ appendListBytes at (pairsIn store.now places.now n)
+    ensures out_after { out.new ≡ append_list_bytes at (pairs_in store.now places.now n)
         out.old slots.old }
-    ensures slots_after { slots.new ≡ appendListSlots at (pairsIn store.now places.now n)
+    ensures slots_after { slots.new ≡ append_list_slots at (pairs_in store.now places.now n)
         out.old slots.old }
 {
     if slots.len() / 4 < n {
@@ -158,11 +158,11 @@ pub fn write_list(
     out: &mut [u8],
     slots: &mut [usize],
 ) -> text::Fit
-    ensures value { result ≡ writeListReply (pairsIn store.now places.now n) out.old
+    ensures value { result ≡ write_list_reply (pairs_in store.now places.now n) out.old
         slots.old }
-    ensures out_after { out.new ≡ writeListBytes (pairsIn store.now places.now n)
+    ensures out_after { out.new ≡ write_list_bytes (pairs_in store.now places.now n)
         out.old slots.old }
-    ensures slots_after { slots.new ≡ writeListSlots (pairsIn store.now places.now n)
+    ensures slots_after { slots.new ≡ write_list_slots (pairs_in store.now places.now n)
         out.old slots.old }
 {
     append_list(store, places, n, 0, out, slots)

@@ -2,12 +2,12 @@
 use mathlib.Core.Path.{◌≡◌}
 use mathlib.Core.Bool.{true}
 use Rattle.text.specs.Text.{Text}
-use Rattle.path_grammar.specs.Legal.{atMost255, legal}
+use Rattle.path_grammar.specs.Legal.{at_most255, legal}
 use Rattle.refusal.specs.declared.Validation.TheVariants.{Passed}
-use Rattle.refusal.specs.Refusal.{allTextsShort, allTextsLegal, validateTexts}
-use Rattle.path.specs.Calls.{pathNewCall}
+use Rattle.refusal.specs.Refusal.{all_texts_short, all_texts_legal, validate_texts}
+use Rattle.path.specs.Calls.{path_new_call}
 
 -- A legal text of at most 255 bytes passes validation.
-pub new-passed : (p : Text) → atMost255 p ≡ true → legal p ≡ true → pathNewCall p ≡ Passed
-unfolding pathNewCall validateTexts allTextsShort allTextsLegal
-new-passed p h l = rw (h, l)
+pub new_passed : (p : Text) → at_most255 p ≡ true → legal p ≡ true → path_new_call p ≡ Passed
+unfolding path_new_call validate_texts all_texts_short all_texts_legal
+new_passed p h l = rw (h, l)

@@ -2,38 +2,38 @@
 use mathlib.Core.Path.{◌≡◌, refl}
 use mathlib.Core.List.{[], ◌∷◌}
 use Rattle.text.specs.Text.{Text}
-use Rattle.path_grammar.specs.Own.{ownPart, hasVariantSelection}
-use Rattle.path_grammar.specs.Legal.{isEnd}
-use Rattle.path_prefix.specs.Prefix.{hasPrefix}
-use Rattle.path_prefix.specs.Elements.{elementCount, primElementCount}
+use Rattle.path_grammar.specs.Own.{own_part, has_variant_selection}
+use Rattle.path_grammar.specs.Legal.{is_end}
+use Rattle.path_prefix.specs.Prefix.{has_prefix}
+use Rattle.path_prefix.specs.Elements.{element_count, prim_element_count}
 use Rattle.path.specs.declared.Test.TheVariants.{Holds, Refused as RefusedTest}
 use Rattle.path.specs.declared.Count.TheVariants.{Counted, Refused as RefusedCount}
-use Rattle.path_rest.specs.Rest.{restStart}
+use Rattle.path_rest.specs.Rest.{rest_start}
 use Rattle.path.specs.declared.RestTest.TheVariants.{Tested, Refused as RefusedRestTest}
-use Rattle.refusal.specs.Refusal.{validateTexts, refusedOr}
-use Rattle.path.specs.Calls.{isEndCall, hasVariantSelectionCall, elementCountCall, primElementCountCall, hasPrefixCall, restStartCall}
+use Rattle.refusal.specs.Refusal.{validate_texts, refused_or}
+use Rattle.path.specs.Calls.{is_end_call, has_variant_selection_call, element_count_call, prim_element_count_call, has_prefix_call, rest_start_call}
 
 module _ (p : Text) where
-  pub is-end-unfolded : isEndCall p ≡ refusedOr (validateTexts (p ∷ [])) RefusedTest (Holds (isEnd p))
-  unfolding isEndCall
-  is-end-unfolded = refl
+  pub is_end_unfolded : is_end_call p ≡ refused_or (validate_texts (p ∷ [])) RefusedTest (Holds (is_end p))
+  unfolding is_end_call
+  is_end_unfolded = refl
 
-  pub selection-unfolded : hasVariantSelectionCall p ≡ refusedOr (validateTexts (p ∷ [])) RefusedTest (Holds (hasVariantSelection p))
-  unfolding hasVariantSelectionCall
-  selection-unfolded = refl
+  pub selection_unfolded : has_variant_selection_call p ≡ refused_or (validate_texts (p ∷ [])) RefusedTest (Holds (has_variant_selection p))
+  unfolding has_variant_selection_call
+  selection_unfolded = refl
 
-  pub elements-unfolded : elementCountCall p ≡ refusedOr (validateTexts (p ∷ [])) RefusedCount (Counted (record { 0 = elementCount (ownPart p) }))
-  unfolding elementCountCall
-  elements-unfolded = refl
+  pub elements_unfolded : element_count_call p ≡ refused_or (validate_texts (p ∷ [])) RefusedCount (Counted (record { 0 = element_count (own_part p) }))
+  unfolding element_count_call
+  elements_unfolded = refl
 
-  pub names-unfolded : primElementCountCall p ≡ refusedOr (validateTexts (p ∷ [])) RefusedCount (Counted (record { 0 = primElementCount (ownPart p) }))
-  unfolding primElementCountCall
-  names-unfolded = refl
+  pub names_unfolded : prim_element_count_call p ≡ refused_or (validate_texts (p ∷ [])) RefusedCount (Counted (record { 0 = prim_element_count (own_part p) }))
+  unfolding prim_element_count_call
+  names_unfolded = refl
 
-  pub prefix-unfolded : (s : Text) → hasPrefixCall p s ≡ refusedOr (validateTexts (p ∷ s ∷ [])) RefusedTest (Holds (hasPrefix p s))
-  unfolding hasPrefixCall
-  prefix-unfolded s = refl
+  pub prefix_unfolded : (s : Text) → has_prefix_call p s ≡ refused_or (validate_texts (p ∷ s ∷ [])) RefusedTest (Holds (has_prefix p s))
+  unfolding has_prefix_call
+  prefix_unfolded s = refl
 
-  pub rest-unfolded : (s : Text) → restStartCall p s ≡ refusedOr (validateTexts (p ∷ s ∷ [])) RefusedRestTest (Tested (restStart p s))
-  unfolding restStartCall
-  rest-unfolded s = refl
+  pub rest_unfolded : (s : Text) → rest_start_call p s ≡ refused_or (validate_texts (p ∷ s ∷ [])) RefusedRestTest (Tested (rest_start p s))
+  unfolding rest_start_call
+  rest_unfolded s = refl

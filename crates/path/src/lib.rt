@@ -2,7 +2,7 @@
 // of the Rust sdf/path.rs; rest_start is has_prefix with the place where the rest begins. Each call validates
 // its texts first (questions 1 and 2); the first failed question decides the refusal.
 ghost use Rattle.std.specs.Prelude.{◌≡◌};
-ghost use Rattle.path.specs.Calls.{pathNewCall, isEndCall, hasVariantSelectionCall, elementCountCall, primElementCountCall, hasPrefixCall, restStartCall};
+ghost use Rattle.path.specs.Calls.{path_new_call, is_end_call, has_variant_selection_call, element_count_call, prim_element_count_call, has_prefix_call, rest_start_call};
 
 // The reply of a call that tests a path or a map.
 #[derive(Drop)]
@@ -27,14 +27,14 @@ pub enum RestTest {
 
 // Validates a path: a legal text of at most 255 bytes.
 pub fn new(path: &[u8]) -> refusal::Validation
-    ensures { result ≡ pathNewCall path.now }
+    ensures { result ≡ path_new_call path.now }
 {
     refusal::validate_text(path)
 }
 
 // Returns whether the path is a prim path, `/` or empty.
 pub fn is_end(path: &[u8]) -> Test
-    ensures { result ≡ isEndCall path.now }
+    ensures { result ≡ is_end_call path.now }
 {
     let q = refusal::validate_text(path);
     if let refusal::Validation::Refused(x) = q {
@@ -45,7 +45,7 @@ pub fn is_end(path: &[u8]) -> Test
 
 // Returns whether the path has a variant selection of its own, outside its brackets.
 pub fn has_variant_selection(path: &[u8]) -> Test
-    ensures { result ≡ hasVariantSelectionCall path.now }
+    ensures { result ≡ has_variant_selection_call path.now }
 {
     let q = refusal::validate_text(path);
     if let refusal::Validation::Refused(x) = q {
@@ -56,7 +56,7 @@ pub fn has_variant_selection(path: &[u8]) -> Test
 
 // Returns whether the path has the prefix.
 pub fn has_prefix(path: &[u8], prefix: &[u8]) -> Test
-    ensures { result ≡ hasPrefixCall path.now prefix.now }
+    ensures { result ≡ has_prefix_call path.now prefix.now }
 {
     let q = refusal::validate_two_texts(path, prefix);
     if let refusal::Validation::Refused(x) = q {
@@ -67,7 +67,7 @@ pub fn has_prefix(path: &[u8], prefix: &[u8]) -> Test
 
 // Returns where the rest of the path after the prefix begins; nothing if it is no prefix of the path.
 pub fn rest_start(path: &[u8], prefix: &[u8]) -> RestTest
-    ensures { result ≡ restStartCall path.now prefix.now }
+    ensures { result ≡ rest_start_call path.now prefix.now }
 {
     let q = refusal::validate_two_texts(path, prefix);
     if let refusal::Validation::Refused(x) = q {
@@ -78,7 +78,7 @@ pub fn rest_start(path: &[u8], prefix: &[u8]) -> RestTest
 
 // Returns the number of names and selections in the path, outside its brackets.
 pub fn element_count(path: &[u8]) -> Count
-    ensures { result ≡ elementCountCall path.now }
+    ensures { result ≡ element_count_call path.now }
 {
     let q = refusal::validate_text(path);
     if let refusal::Validation::Refused(x) = q {
@@ -90,7 +90,7 @@ pub fn element_count(path: &[u8]) -> Count
 
 // Returns the number of names in the path, outside its brackets.
 pub fn prim_element_count(path: &[u8]) -> Count
-    ensures { result ≡ primElementCountCall path.now }
+    ensures { result ≡ prim_element_count_call path.now }
 {
     let q = refusal::validate_text(path);
     if let refusal::Validation::Refused(x) = q {

@@ -5,35 +5,35 @@ use Prim.Native.Nat.{ℕ, ◌≤◌}
 use native.Mathlib.Omega.{arith}
 use lib.ListN.{length, take}
 use borrow.Author.Tests.{le-leb, lt-leb}
-use Rattle.text.specs.Text.{Text, writtenIfFits, fitOf}
+use Rattle.text.specs.Text.{Text, written_if_fits, fit_of}
 use Rattle.text.specs.declared.Fit.{Fit}
 use Rattle.text.specs.declared.Fit.TheVariants.{Written as WrittenFit, Over}
-use Rattle.text.proofs.BoolLaws.{known-false, known-true}
-use Rattle.text.proofs.WriteLaws.{placed_first, fit-room, fit-over, fit_is, fit-back}
-use Rattle.path_grammar.specs.Legal.{legal, atMost255}
-use Rattle.refusal.proofs.PassedLaws.{made-legal}
+use Rattle.text.proofs.BoolLaws.{known_false, known_true}
+use Rattle.text.proofs.WriteLaws.{placed_first, fit_room, fit_over, fit_is, fit-back}
+use Rattle.path_grammar.specs.Legal.{legal, at_most255}
+use Rattle.refusal.proofs.PassedLaws.{made_legal}
 use Rattle.refusal.specs.declared.Refusal.TheVariants.{MadeTooLong, MadeIllegal}
 use Rattle.refusal.specs.declared.Reply.TheVariants.{Written, Refused}
-use Rattle.refusal.specs.Outcome.{outcomeReply, outcomeBuffer, checked}
+use Rattle.refusal.specs.Outcome.{outcome_reply, outcome_buffer, checked}
 
-module _ (j buf : Text) (f : Fit) (h : f ≡ fitOf j buf) (l : length buf ≡ 255) where
-  pub made-over : f ≡ Over → (out : Text) → (Refused MadeTooLong ≡ outcomeReply (checked j)) × (out ≡ outcomeBuffer (checked j) out)
-  unfolding outcomeReply outcomeBuffer checked atMost255
-  made-over e out = rw (lt-leb (length j) 255 (omega (arith, fit-over j buf (sym h ∙ e)))) (refl, refl)
+module _ (j buf : Text) (f : Fit) (h : f ≡ fit_of j buf) (l : length buf ≡ 255) where
+  pub made_over : f ≡ Over → (out : Text) → (Refused MadeTooLong ≡ outcome_reply (checked j)) × (out ≡ outcome_buffer (checked j) out)
+  unfolding outcome_reply outcome_buffer checked at_most255
+  made_over e out = rw (lt-leb (length j) 255 (omega (arith, fit_over j buf (sym h ∙ e)))) (refl, refl)
 
   module _ (n : ℕ) (e : f ≡ WrittenFit n) where
-    made-short : length j ≤ 255
-    made-short = omega (arith, fit-room j buf n (sym h ∙ e))
+    made_short : length j ≤ 255
+    made_short = omega (arith, fit_room j buf n (sym h ∙ e))
 
-    module _ (mem : Text) (m : mem ≡ writtenIfFits 0 j buf) where
-      pub made-illegal : (x : Bool) → x ≡ legal (take n mem) → not x ≡ true → (out : Text) → (Refused MadeIllegal ≡ outcomeReply (checked j)) × (out ≡ outcomeBuffer (checked j) out)
-      unfolding outcomeReply outcomeBuffer checked atMost255
-      made-illegal x g k out =
-          let b : legal j ≡ false = rw (fit-back j buf f h n e mem m) at (known-false g k) in
-          rw (le-leb (length j) 255 made-short, b) (refl, refl)
+    module _ (mem : Text) (m : mem ≡ written_if_fits 0 j buf) where
+      pub made_illegal : (x : Bool) → x ≡ legal (take n mem) → not x ≡ true → (out : Text) → (Refused MadeIllegal ≡ outcome_reply (checked j)) × (out ≡ outcome_buffer (checked j) out)
+      unfolding outcome_reply outcome_buffer checked at_most255
+      made_illegal x g k out =
+          let b : legal j ≡ false = rw (fit-back j buf f h n e mem m) at (known_false g k) in
+          rw (le-leb (length j) 255 made_short, b) (refl, refl)
 
-      pub made-written : (x : Bool) → x ≡ legal (take n mem) → not x ≡ false → (out out' : Text) → 255 ≤ length out → out' ≡ writtenIfFits 0 (take n mem) out
-          → (Written n ≡ outcomeReply (checked j)) × (out' ≡ outcomeBuffer (checked j) out)
-      made-written x g k out out' r w =
-          let b : legal j ≡ true = rw (fit-back j buf f h n e mem m) at (known-true g k) in
-          rw (w, fit-back j buf f h n e mem m, fit_is j buf f h n e) (made-legal j made-short b out r)
+      pub made_written : (x : Bool) → x ≡ legal (take n mem) → not x ≡ false → (out out' : Text) → 255 ≤ length out → out' ≡ written_if_fits 0 (take n mem) out
+          → (Written n ≡ outcome_reply (checked j)) × (out' ≡ outcome_buffer (checked j) out)
+      made_written x g k out out' r w =
+          let b : legal j ≡ true = rw (fit-back j buf f h n e mem m) at (known_true g k) in
+          rw (w, fit-back j buf f h n e mem m, fit_is j buf f h n e) (made_legal j made_short b out r)

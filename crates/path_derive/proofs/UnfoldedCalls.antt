@@ -6,37 +6,37 @@ use Prim.Native.Nat.{ℕ}
 use lib.Dec.{leb}
 use lib.ListN.{length}
 use Rattle.text.specs.Text.{Text}
-use Rattle.path_join.specs.Join.{replacePrefix}
-use Rattle.path_parts.specs.Parent.{parent, primPath, splitProperty, ancestorLens}
+use Rattle.path_join.specs.Join.{replace_prefix}
+use Rattle.path_parts.specs.Parent.{parent, prim_path, split_property, ancestor_lens}
 use Rattle.path_parts.specs.Strip.{strip}
 use Rattle.refusal.specs.declared.Refusal.TheVariants.{NoRoom}
 use Rattle.refusal.specs.declared.Reply.TheVariants.{Written, Refused}
-use Rattle.refusal.specs.Refusal.{validateTexts, refusedOr}
-use Rattle.refusal.specs.Outcome.{afterChecks, checked, checkedOption}
-use Rattle.path_derive.specs.Calls.{replacePrefixCall, parentCall, primPathCall, splitPropertyCall, stripCall, ancestorsReply}
+use Rattle.refusal.specs.Refusal.{validate_texts, refused_or}
+use Rattle.refusal.specs.Outcome.{after_checks, checked, checked_option}
+use Rattle.path_derive.specs.Calls.{replace_prefix_call, parent_call, prim_path_call, split_property_call, strip_call, ancestors_reply}
 
 module _ (p : Text) (room : ℕ) where
-  pub replace-unfolded : (s t : Text) → replacePrefixCall p s t room ≡ afterChecks (validateTexts (p ∷ s ∷ t ∷ [])) room (checkedOption (replacePrefix p s t))
-  unfolding replacePrefixCall
-  replace-unfolded s t = refl
+  pub replace_unfolded : (s t : Text) → replace_prefix_call p s t room ≡ after_checks (validate_texts (p ∷ s ∷ t ∷ [])) room (checked_option (replace_prefix p s t))
+  unfolding replace_prefix_call
+  replace_unfolded s t = refl
 
-  pub parent-unfolded : parentCall p room ≡ afterChecks (validateTexts (p ∷ [])) room (checkedOption (parent p))
-  unfolding parentCall
-  parent-unfolded = refl
+  pub parent_unfolded : parent_call p room ≡ after_checks (validate_texts (p ∷ [])) room (checked_option (parent p))
+  unfolding parent_call
+  parent_unfolded = refl
 
-  pub prim-unfolded : primPathCall p room ≡ afterChecks (validateTexts (p ∷ [])) room (checked (primPath p))
-  unfolding primPathCall
-  prim-unfolded = refl
+  pub prim_unfolded : prim_path_call p room ≡ after_checks (validate_texts (p ∷ [])) room (checked (prim_path p))
+  unfolding prim_path_call
+  prim_unfolded = refl
 
-  pub split-unfolded : splitPropertyCall p room ≡ afterChecks (validateTexts (p ∷ [])) room (checkedOption (splitProperty p))
-  unfolding splitPropertyCall
-  split-unfolded = refl
+  pub split_unfolded : split_property_call p room ≡ after_checks (validate_texts (p ∷ [])) room (checked_option (split_property p))
+  unfolding split_property_call
+  split_unfolded = refl
 
-  pub strip-unfolded : stripCall p room ≡ afterChecks (validateTexts (p ∷ [])) room (checked (strip p))
-  unfolding stripCall
-  strip-unfolded = refl
+  pub strip_unfolded : strip_call p room ≡ after_checks (validate_texts (p ∷ [])) room (checked (strip p))
+  unfolding strip_call
+  strip_unfolded = refl
 
-  pub ancestors-unfolded : ancestorsReply p room
-      ≡ refusedOr (validateTexts (p ∷ [])) Refused (cond (leb (length (ancestorLens p)) room) (Written (length (ancestorLens p))) (Refused NoRoom))
-  unfolding ancestorsReply
-  ancestors-unfolded = refl
+  pub ancestors_unfolded : ancestors_reply p room
+      ≡ refused_or (validate_texts (p ∷ [])) Refused (cond (leb (length (ancestor_lens p)) room) (Written (length (ancestor_lens p))) (Refused NoRoom))
+  unfolding ancestors_reply
+  ancestors_unfolded = refl

@@ -3,9 +3,9 @@
 // the questions; the first failed question decides the refusal, and a refused call writes nothing.
 ghost use Rattle.std.specs.Prelude.{◌≡◌, ◌≤◌, length};
 ghost use Rattle.path_join.specs.Join.{join};
-ghost use Rattle.path_parts.specs.Parent.{ancestorLens};
-ghost use Rattle.refusal.specs.Outcome.{checked, ReturnsPath, writtenIfAccepted};
-ghost use Rattle.path_derive.specs.Calls.{replacePrefixCall, WrittenInParts, parentCall, primPathCall, splitPropertyCall, stripCall, ancestorsReply};
+ghost use Rattle.path_parts.specs.Parent.{ancestor_lens};
+ghost use Rattle.refusal.specs.Outcome.{checked, ReturnsPath, written_if_accepted};
+ghost use Rattle.path_derive.specs.Calls.{replace_prefix_call, WrittenInParts, parent_call, prim_path_call, split_property_call, strip_call, ancestors_reply};
 
 // Writes the new prefix followed by the remainder after the old prefix, with questions 7 and 8. The path
 // is built in a scratch buffer, so that a refused call writes nothing.
@@ -28,7 +28,7 @@ fn write_joined(old: &[u8], new: &[u8], remainder: &[u8], out: &mut [u8]) -> ref
 
 // Writes the path with its old prefix replaced by the new one.
 pub fn replace_prefix(path: &[u8], old: &[u8], new: &[u8], out: &mut [u8]) -> refusal::Reply
-    ensures returns_path { ReturnsPath (replacePrefixCall path.now old.now new.now
+    ensures returns_path { ReturnsPath (replace_prefix_call path.now old.now new.now
         (length out.old)) result out.old out.new }
     ensures written_in_parts { WrittenInParts path.now old.now new.now result out.new }
 {
@@ -48,7 +48,7 @@ pub fn replace_prefix(path: &[u8], old: &[u8], new: &[u8], out: &mut [u8]) -> re
 
 // Writes the path without its last part: the target in its brackets, its property or its last element.
 pub fn parent(path: &[u8], out: &mut [u8]) -> refusal::Reply
-    ensures { ReturnsPath (parentCall path.now (length out.old)) result out.old
+    ensures { ReturnsPath (parent_call path.now (length out.old)) result out.old
         out.new }
 {
     let q = refusal::validate_text(path);
@@ -71,7 +71,7 @@ pub fn parent(path: &[u8], out: &mut [u8]) -> refusal::Reply
 
 // Writes the own part of the path without its property, or without the last selection if it ends in one.
 pub fn prim_path(path: &[u8], out: &mut [u8]) -> refusal::Reply
-    ensures { ReturnsPath (primPathCall path.now (length out.old)) result out.old
+    ensures { ReturnsPath (prim_path_call path.now (length out.old)) result out.old
         out.new }
 {
     let q = refusal::validate_text(path);
@@ -89,7 +89,7 @@ pub fn prim_path(path: &[u8], out: &mut [u8]) -> refusal::Reply
 // Writes the prim path of a property path; the property's name is the text after the dot that follows
 // it. A path with a target in brackets is no property path.
 pub fn split_property(path: &[u8], out: &mut [u8]) -> refusal::Reply
-    ensures { ReturnsPath (splitPropertyCall path.now (length out.old)) result
+    ensures { ReturnsPath (split_property_call path.now (length out.old)) result
         out.old out.new }
 {
     let q = refusal::validate_text(path);
@@ -109,7 +109,7 @@ pub fn split_property(path: &[u8], out: &mut [u8]) -> refusal::Reply
 
 // Writes the path without its variant selections; those in its brackets are left.
 pub fn strip_variant_selections(path: &[u8], out: &mut [u8]) -> refusal::Reply
-    ensures { ReturnsPath (stripCall path.now (length out.old)) result out.old
+    ensures { ReturnsPath (strip_call path.now (length out.old)) result out.old
         out.new }
 {
     let q = refusal::validate_text(path);
@@ -127,8 +127,8 @@ pub fn strip_variant_selections(path: &[u8], out: &mut [u8]) -> refusal::Reply
 
 // Writes the lengths of the path and its ancestors; each of them is a prefix of the path.
 pub fn ancestors(path: &[u8], lengths: &mut [usize]) -> refusal::Reply
-    ensures value { result ≡ ancestorsReply path.now (length lengths.old) }
-    ensures lengths_after { lengths.new ≡ writtenIfAccepted result (ancestorLens path.now)
+    ensures value { result ≡ ancestors_reply path.now (length lengths.old) }
+    ensures lengths_after { lengths.new ≡ written_if_accepted result (ancestor_lens path.now)
         lengths.old }
 {
     let q = refusal::validate_text(path);

@@ -6,56 +6,56 @@ use Prim.Native.Nat.{ℕ, zero, suc, ◌+◌, ◌≤◌}
 use native.Mathlib.Omega.{arith}
 use lib.Dec.{eqb, leb}
 use borrow.Author.Tests.{eqb-true, leb-true, le-leb}
-use Rattle.text.specs.Text.{Text, isNil, endsWithByte, lacksByte, takeUntil, drop_last}
-use Rattle.text.proofs.BoolLaws.{and_l, and_r, and_no, and_yes, not-true}
-use Rattle.text.proofs.TextLaws.{last_snoc, last-after, lacks-last}
-use Rattle.text.proofs.UntilLaws.{last-split}
-use Rattle.path_grammar.specs.Legal.{ScanState, Slash, Name, Opened, Set, Equals, Sel, Closed, Dot, Prop, Dead, isAsciiStart, isAsciiDigit, isNameStartByte, isNameByte, isVariantByte, step, run, accept, isRoot, scanAccepts, legalOwn, isAbsolute, closesTarget, legalTarget, legalWithin, legal, isEnd, atMost255, LegalIsAllowed}
-use Rattle.path_grammar.specs.Own.{ownPart, targetPart, hasVariantSelection, hasProperty}
-use Rattle.path_grammar.proofs.RunLaws.{dead-refuses, Unread, run-lacks, open-unread, close-unread}
-use Rattle.path_grammar.proofs.OwnLaws.{own-parts, own-all, target_none, target-head, target-nil, no-property, selection-scan, property-scan, own-lacks-too, lacks-free}
-use Rattle.characters.specs.NameCharacter.{charactersAllowed}
-use Rattle.characters.proofs.AllowedLaws.{allowed-none, allowed-ascii, allowed-join}
+use Rattle.text.specs.Text.{Text, is_nil, ends_with_byte, lacks_byte, take_until, drop_last}
+use Rattle.text.proofs.BoolLaws.{and_l, and_r, and_no, and_yes, not_true}
+use Rattle.text.proofs.TextLaws.{last_snoc, last_after, lacks_last}
+use Rattle.text.proofs.UntilLaws.{last_split}
+use Rattle.path_grammar.specs.Legal.{ScanState, Slash, Name, Opened, Set, Equals, Sel, Closed, Dot, Prop, Dead, is_ascii_start, is_ascii_digit, is_name_start_byte, is_name_byte, is_variant_byte, step, run, accept, is_root, scan_accepts, legal_own, is_absolute, closes_target, legal_target, legal_within, legal, is_end, at_most255, LegalIsAllowed}
+use Rattle.path_grammar.specs.Own.{own_part, target_part, has_variant_selection, has_property}
+use Rattle.path_grammar.proofs.RunLaws.{dead_refuses, Unread, run_lacks, open_unread, close_unread}
+use Rattle.path_grammar.proofs.OwnLaws.{own_parts, own_all, target_none, target_head, target_nil, no_property, selection_scan, property_scan, own_lacks_too, lacks_free}
+use Rattle.characters.specs.NameCharacter.{characters_allowed}
+use Rattle.characters.proofs.AllowedLaws.{allowed_none, allowed_ascii, allowed_join}
 use lib.ListN.{length, length-append}
 
 -- A text is legal without brackets exactly if the automaton accepts it and its characters are allowed.
 module _ (p : Text) where
-  pub own-scan : legalOwn p ≡ true → scanAccepts p ≡ true
-  unfolding legalOwn
-  own-scan e = and_l (scanAccepts p) (charactersAllowed p) e
+  pub own_scan : legal_own p ≡ true → scan_accepts p ≡ true
+  unfolding legal_own
+  own_scan e = and_l (scan_accepts p) (characters_allowed p) e
 
-  pub own-allowed : legalOwn p ≡ true → charactersAllowed p ≡ true
-  unfolding legalOwn
-  own-allowed e = and_r (scanAccepts p) (charactersAllowed p) e
+  pub own_allowed : legal_own p ≡ true → characters_allowed p ≡ true
+  unfolding legal_own
+  own_allowed e = and_r (scan_accepts p) (characters_allowed p) e
 
   -- If its characters are allowed, the automaton decides.
-  pub own-by-scan : charactersAllowed p ≡ true → legalOwn p ≡ scanAccepts p
-  unfolding legalOwn
-  own-by-scan h = rw h (and_yes (scanAccepts p))
+  pub own_by_scan : characters_allowed p ≡ true → legal_own p ≡ scan_accepts p
+  unfolding legal_own
+  own_by_scan h = rw h (and_yes (scan_accepts p))
 
 -- A legal text without brackets, other than `/`, does not end in a slash.
-slash-ends : (s : ScanState) → accept (step s 47) ≡ false
+slash_ends : (s : ScanState) → accept (step s 47) ≡ false
 unfolding accept step
-slash-ends Slash = refl
-slash-ends Name = refl
-slash-ends Opened = refl
-slash-ends Set = refl
-slash-ends Equals = refl
-slash-ends Sel = refl
-slash-ends Closed = refl
-slash-ends Dot = refl
-slash-ends Prop = refl
-slash-ends Dead = refl
+slash_ends Slash = refl
+slash_ends Name = refl
+slash_ends Opened = refl
+slash_ends Set = refl
+slash_ends Equals = refl
+slash_ends Sel = refl
+slash_ends Closed = refl
+slash_ends Dot = refl
+slash_ends Prop = refl
+slash_ends Dead = refl
 
-run-last : (s : ScanState) (r : Text) → accept (run s r) ≡ true → endsWithByte 47 r ≡ false
-unfolding run endsWithByte
-run-last s [] e = refl
-run-last s (a ∷ []) e = go (eqb a 47) refl
+run_last : (s : ScanState) (r : Text) → accept (run s r) ≡ true → ends_with_byte 47 r ≡ false
+unfolding run ends_with_byte
+run_last s [] e = refl
+run_last s (a ∷ []) e = go (eqb a 47) refl
   where
     go : (t : Bool) → eqb a 47 ≡ t → eqb a 47 ≡ false
-    go true h = absurd (true≢false (sym e ∙ rw (eqb-true a 47 h) (slash-ends s)))
+    go true h = absurd (true≢false (sym e ∙ rw (eqb-true a 47 h) (slash_ends s)))
     go false h = h
-run-last s (a ∷ b ∷ r) e = run-last (step s a) (b ∷ r) e
+run_last s (a ∷ b ∷ r) e = run_last (step s a) (b ∷ r) e
 
 -- From a state outside a selection, a text without `{` contains no `}`.
 abbrev outside : ScanState → Bool
@@ -76,310 +76,310 @@ either false x y h k = k
 
 stays : (s : ScanState) (a : ℕ) → outside s ≡ true → eqb a 123 ≡ false → outside (step s a) ≡ true
 unfolding step
-stays Slash a o h = either (isNameStartByte a) Name Dead refl refl
-stays Name a o h = rw h (either (isNameByte a) Name _ refl (either (eqb a 47) Slash _ refl (either (eqb a 46) Dot Dead refl refl)))
+stays Slash a o h = either (is_name_start_byte a) Name Dead refl refl
+stays Name a o h = rw h (either (is_name_byte a) Name _ refl (either (eqb a 47) Slash _ refl (either (eqb a 46) Dot Dead refl refl)))
 stays Opened a o h = absurd (false≢true o)
 stays Set a o h = absurd (false≢true o)
 stays Equals a o h = absurd (false≢true o)
 stays Sel a o h = absurd (false≢true o)
 stays Closed a o h = absurd (false≢true o)
-stays Dot a o h = either (isNameStartByte a) Prop Dead refl refl
-stays Prop a o h = either (isNameByte a) Prop _ refl (either (eqb a 58) Dot Dead refl refl)
+stays Dot a o h = either (is_name_start_byte a) Prop Dead refl refl
+stays Prop a o h = either (is_name_byte a) Prop _ refl (either (eqb a 58) Dot Dead refl refl)
 stays Dead a o h = refl
 
-close-dead : (s : ScanState) → outside s ≡ true → accept (step s 125) ≡ false
+close_dead : (s : ScanState) → outside s ≡ true → accept (step s 125) ≡ false
 unfolding step accept
-close-dead Slash o = refl
-close-dead Name o = refl
-close-dead Opened o = refl
-close-dead Set o = refl
-close-dead Equals o = refl
-close-dead Sel o = absurd (false≢true o)
-close-dead Closed o = refl
-close-dead Dot o = refl
-close-dead Prop o = refl
-close-dead Dead o = refl
+close_dead Slash o = refl
+close_dead Name o = refl
+close_dead Opened o = refl
+close_dead Set o = refl
+close_dead Equals o = refl
+close_dead Sel o = absurd (false≢true o)
+close_dead Closed o = refl
+close_dead Dot o = refl
+close_dead Prop o = refl
+close_dead Dead o = refl
 
-run-close : (s : ScanState) (r : Text) → outside s ≡ true → lacksByte 123 r ≡ true → accept (run s r) ≡ true → endsWithByte 125 r ≡ false
-unfolding run endsWithByte lacksByte
-run-close s [] o f e = refl
-run-close s (a ∷ []) o f e = go (eqb a 125) refl
+run_close : (s : ScanState) (r : Text) → outside s ≡ true → lacks_byte 123 r ≡ true → accept (run s r) ≡ true → ends_with_byte 125 r ≡ false
+unfolding run ends_with_byte lacks_byte
+run_close s [] o f e = refl
+run_close s (a ∷ []) o f e = go (eqb a 125) refl
   where
     go : (t : Bool) → eqb a 125 ≡ t → eqb a 125 ≡ false
-    go true h = absurd (true≢false (sym e ∙ rw (eqb-true a 125 h) (close-dead s o)))
+    go true h = absurd (true≢false (sym e ∙ rw (eqb-true a 125 h) (close_dead s o)))
     go false h = h
-run-close s (a ∷ b ∷ r) o f e =
-    run-close (step s a) (b ∷ r) (stays s a o (not-true (eqb a 123) (and_l (not (eqb a 123)) (lacksByte 123 (b ∷ r)) f)))
-    (and_r (not (eqb a 123)) (lacksByte 123 (b ∷ r)) f) e
+run_close s (a ∷ b ∷ r) o f e =
+    run_close (step s a) (b ∷ r) (stays s a o (not_true (eqb a 123) (and_l (not (eqb a 123)) (lacks_byte 123 (b ∷ r)) f)))
+    (and_r (not (eqb a 123)) (lacks_byte 123 (b ∷ r)) f) e
 
 -- What a legal text without brackets cannot contain.
-pub scan-lacks-byte : {b : ℕ} → Unread b → eqb 47 b ≡ false → (p : Text) → scanAccepts p ≡ true → lacksByte b p ≡ true
-unfolding scanAccepts lacksByte
-scan-lacks-byte u n [] e = refl
-scan-lacks-byte u n (a ∷ []) e = rw (eqb-true a 47 (and_l (eqb a 47) true e), n)
-scan-lacks-byte u n (a ∷ b ∷ r) e =
+pub scan_lacks_byte : {b : ℕ} → Unread b → eqb 47 b ≡ false → (p : Text) → scan_accepts p ≡ true → lacks_byte b p ≡ true
+unfolding scan_accepts lacks_byte
+scan_lacks_byte u n [] e = refl
+scan_lacks_byte u n (a ∷ []) e = rw (eqb-true a 47 (and_l (eqb a 47) true e), n)
+scan_lacks_byte u n (a ∷ b ∷ r) e =
     let c : Bool = accept (run Slash (b ∷ r)) in
-    rw (eqb-true a 47 (and_l (eqb a 47) c e), n) (run-lacks u Slash (b ∷ r) (and_r (eqb a 47) c e))
+    rw (eqb-true a 47 (and_l (eqb a 47) c e), n) (run_lacks u Slash (b ∷ r) (and_r (eqb a 47) c e))
 
-pub own-unbracketed : (p : Text) → legalOwn p ≡ true → lacksByte 91 p ≡ true
-own-unbracketed p e = scan-lacks-byte open-unread refl p (own-scan p e)
+pub own_unbracketed : (p : Text) → legal_own p ≡ true → lacks_byte 91 p ≡ true
+own_unbracketed p e = scan_lacks_byte open_unread refl p (own_scan p e)
 
-pub own-unclosed : (p : Text) → legalOwn p ≡ true → lacksByte 93 p ≡ true
-own-unclosed p e = scan-lacks-byte close-unread refl p (own-scan p e)
+pub own_unclosed : (p : Text) → legal_own p ≡ true → lacks_byte 93 p ≡ true
+own_unclosed p e = scan_lacks_byte close_unread refl p (own_scan p e)
 
-pub scan-no-close-bracket : (p : Text) → scanAccepts p ≡ true → endsWithByte 93 p ≡ false
-scan-no-close-bracket p e = lacks-last 93 p (scan-lacks-byte close-unread refl p e)
+pub scan_no_close_bracket : (p : Text) → scan_accepts p ≡ true → ends_with_byte 93 p ≡ false
+scan_no_close_bracket p e = lacks_last 93 p (scan_lacks_byte close_unread refl p e)
 
-pub own-no-close-bracket : (p : Text) → legalOwn p ≡ true → endsWithByte 93 p ≡ false
-own-no-close-bracket p e = scan-no-close-bracket p (own-scan p e)
+pub own_no_close_bracket : (p : Text) → legal_own p ≡ true → ends_with_byte 93 p ≡ false
+own_no_close_bracket p e = scan_no_close_bracket p (own_scan p e)
 
-scan-last : (p : Text) → scanAccepts p ≡ true → isRoot p ≡ false → endsWithByte 47 p ≡ false
-unfolding scanAccepts endsWithByte
-scan-last [] e n = refl
-scan-last (a ∷ []) e n = absurd (true≢false (sym e ∙ n))
-scan-last (a ∷ b ∷ r) e n = run-last Slash (b ∷ r) (and_r (eqb a 47) (accept (run Slash (b ∷ r))) e)
+scan_last : (p : Text) → scan_accepts p ≡ true → is_root p ≡ false → ends_with_byte 47 p ≡ false
+unfolding scan_accepts ends_with_byte
+scan_last [] e n = refl
+scan_last (a ∷ []) e n = absurd (true≢false (sym e ∙ n))
+scan_last (a ∷ b ∷ r) e n = run_last Slash (b ∷ r) (and_r (eqb a 47) (accept (run Slash (b ∷ r))) e)
 
-pub own-last : (p : Text) → legalOwn p ≡ true → isRoot p ≡ false → endsWithByte 47 p ≡ false
-own-last p e n = scan-last p (own-scan p e) n
+pub own_last : (p : Text) → legal_own p ≡ true → is_root p ≡ false → ends_with_byte 47 p ≡ false
+own_last p e n = scan_last p (own_scan p e) n
 
 -- Legality by parts: that of the own part, and that of the target part.
 module _ (p : Text) where
-  pub legal-parts : legal p ≡ (legalOwn (ownPart p) && legalTarget (legalWithin 3) (hasProperty p) (targetPart p))
-  unfolding legal legalWithin
-  legal-parts = refl
+  pub legal_parts : legal p ≡ (legal_own (own_part p) && legal_target (legal_within 3) (has_property p) (target_part p))
+  unfolding legal legal_within
+  legal_parts = refl
 
-  pub legal-own-part : legal p ≡ true → legalOwn (ownPart p) ≡ true
-  legal-own-part e = and_l (legalOwn (ownPart p)) (legalTarget (legalWithin 3) (hasProperty p) (targetPart p)) (sym legal-parts ∙ e)
+  pub legal_own_part : legal p ≡ true → legal_own (own_part p) ≡ true
+  legal_own_part e = and_l (legal_own (own_part p)) (legal_target (legal_within 3) (has_property p) (target_part p)) (sym legal_parts ∙ e)
 
-  pub legal-target-part : legal p ≡ true → legalTarget (legalWithin 3) (hasProperty p) (targetPart p) ≡ true
-  legal-target-part e = and_r (legalOwn (ownPart p)) (legalTarget (legalWithin 3) (hasProperty p) (targetPart p)) (sym legal-parts ∙ e)
+  pub legal_target_part : legal p ≡ true → legal_target (legal_within 3) (has_property p) (target_part p) ≡ true
+  legal_target_part e = and_r (legal_own (own_part p)) (legal_target (legal_within 3) (has_property p) (target_part p)) (sym legal_parts ∙ e)
 
   -- A text without brackets is legal exactly if it is so by itself.
-  pub legal-without : lacksByte 91 p ≡ true → legal p ≡ legalOwn p
-  unfolding legalTarget
-  legal-without h = legal-parts ∙ rw (own-all p h, target_none p h) (and_yes (legalOwn p))
+  pub legal_without : lacks_byte 91 p ≡ true → legal p ≡ legal_own p
+  unfolding legal_target
+  legal_without h = legal_parts ∙ rw (own_all p h, target_none p h) (and_yes (legal_own p))
 
-  pub own-legal : legalOwn p ≡ true → legal p ≡ true
-  own-legal e = legal-without (own-unbracketed p e) ∙ e
+  pub own_legal : legal_own p ≡ true → legal p ≡ true
+  own_legal e = legal_without (own_unbracketed p e) ∙ e
 
   -- A path with a target has a property, and ends in a closing bracket.
-  pub target-property : legal p ≡ true → isNil (targetPart p) ≡ false → hasProperty p ≡ true
-  unfolding legalTarget
-  target-property e n = go (targetPart p) n (legal-target-part e)
+  pub target_property : legal p ≡ true → is_nil (target_part p) ≡ false → has_property p ≡ true
+  unfolding legal_target
+  target_property e n = go (target_part p) n (legal_target_part e)
     where
-      go : (t : Text) → isNil t ≡ false → legalTarget (legalWithin 3) (hasProperty p) t ≡ true → hasProperty p ≡ true
+      go : (t : Text) → is_nil t ≡ false → legal_target (legal_within 3) (has_property p) t ≡ true → has_property p ≡ true
       go [] n h = absurd (true≢false n)
-      go (a ∷ r) n h = and_l (hasProperty p) (closesTarget (legalWithin 3) r) h
+      go (a ∷ r) n h = and_l (has_property p) (closes_target (legal_within 3) r) h
 
 -- The empty path is legal.
-pub empty-own : legalOwn [] ≡ true
-unfolding scanAccepts
-empty-own = own-by-scan [] allowed-none
+pub empty_own : legal_own [] ≡ true
+unfolding scan_accepts
+empty_own = own_by_scan [] allowed_none
 
-pub empty-legal : legal [] ≡ true
-empty-legal = own-legal [] empty-own
+pub empty_legal : legal [] ≡ true
+empty_legal = own_legal [] empty_own
 
 -- A legal path that is not empty is absolute.
-pub own-absolute : (a : ℕ) (r : Text) → legalOwn (a ∷ r) ≡ true → eqb a 47 ≡ true
-unfolding scanAccepts
-own-absolute a r e = and_l (eqb a 47) (isNil r || accept (run Slash r)) (own-scan (a ∷ r) e)
+pub own_absolute : (a : ℕ) (r : Text) → legal_own (a ∷ r) ≡ true → eqb a 47 ≡ true
+unfolding scan_accepts
+own_absolute a r e = and_l (eqb a 47) (is_nil r || accept (run Slash r)) (own_scan (a ∷ r) e)
 
-pub within-absolute : (d : ℕ) (t : Text) → isNil t ≡ false → legalWithin d t ≡ true → isAbsolute t ≡ true
-unfolding legalWithin ownPart takeUntil
-within-absolute d [] n e = absurd (true≢false n)
-within-absolute zero (a ∷ r) n e = own-absolute a r e
-within-absolute (suc d) (a ∷ r) n e = go (eqb a 91) refl
+pub within_absolute : (d : ℕ) (t : Text) → is_nil t ≡ false → legal_within d t ≡ true → is_absolute t ≡ true
+unfolding legal_within own_part take_until
+within_absolute d [] n e = absurd (true≢false n)
+within_absolute zero (a ∷ r) n e = own_absolute a r e
+within_absolute (suc d) (a ∷ r) n e = go (eqb a 91) refl
   where
     go : (b : Bool) → eqb a 91 ≡ b → eqb a 47 ≡ true
     go true h = absurd (false≢true (rw h at e))
-    go false h = own-absolute a (ownPart r) (and_l (legalOwn (a ∷ ownPart r)) _ (rw h at e))
+    go false h = own_absolute a (own_part r) (and_l (legal_own (a ∷ own_part r)) _ (rw h at e))
 
-pub absolute-first : (a : ℕ) (r : Text) → legal (a ∷ r) ≡ true → eqb a 47 ≡ true
+pub absolute_first : (a : ℕ) (r : Text) → legal (a ∷ r) ≡ true → eqb a 47 ≡ true
 unfolding legal
-absolute-first a r e = within-absolute 4 (a ∷ r) refl e
+absolute_first a r e = within_absolute 4 (a ∷ r) refl e
 
 -- If two texts have the same target part and both or neither have a property, the one is legal as the other is, if its own part is.
-pub legal-as : (p q : Text) → legal p ≡ true → hasProperty q ≡ hasProperty p → targetPart q ≡ targetPart p → legal q ≡ legalOwn (ownPart q)
-legal-as p q e h t = legal-parts q ∙ rw (h, t, legal-target-part p e) (and_yes (legalOwn (ownPart q)))
+pub legal_as : (p q : Text) → legal p ≡ true → has_property q ≡ has_property p → target_part q ≡ target_part p → legal q ≡ legal_own (own_part q)
+legal_as p q e h t = legal_parts q ∙ rw (h, t, legal_target_part p e) (and_yes (legal_own (own_part q)))
 
-pub no-root-dot : (r : Text) → legal (47 ∷ 46 ∷ r) ≡ true → ⊥
-unfolding scanAccepts ownPart takeUntil run step isNameStartByte
-no-root-dot r e = dead-refuses (ownPart r) (own-scan (ownPart (47 ∷ 46 ∷ r)) (legal-own-part (47 ∷ 46 ∷ r) e))
+pub no_root_dot : (r : Text) → legal (47 ∷ 46 ∷ r) ≡ true → ⊥
+unfolding scan_accepts own_part take_until run step is_name_start_byte
+no_root_dot r e = dead_refuses (own_part r) (own_scan (own_part (47 ∷ 46 ∷ r)) (legal_own_part (47 ∷ 46 ∷ r) e))
 
 -- The target part of a legal path is a bracket, an absolute path and a closing bracket.
-module _ (p : Text) (e : legal p ≡ true) (a : ℕ) (r : Text) (h : targetPart p ≡ a ∷ r) where
-  closes : closesTarget (legalWithin 3) r ≡ true
-  unfolding legalTarget
-  closes = and_r (hasProperty p) (closesTarget (legalWithin 3) r) (rw h at (legal-target-part p e))
+module _ (p : Text) (e : legal p ≡ true) (a : ℕ) (r : Text) (h : target_part p ≡ a ∷ r) where
+  closes : closes_target (legal_within 3) r ≡ true
+  unfolding legal_target
+  closes = and_r (has_property p) (closes_target (legal_within 3) r) (rw h at (legal_target_part p e))
 
-  last-closes : endsWithByte 93 r ≡ true
-  unfolding closesTarget
-  last-closes = and_l (endsWithByte 93 r) (isAbsolute (drop_last r) && legalWithin 3 (drop_last r)) closes
+  last_closes : ends_with_byte 93 r ≡ true
+  unfolding closes_target
+  last_closes = and_l (ends_with_byte 93 r) (is_absolute (drop_last r) && legal_within 3 (drop_last r)) closes
 
-  inner-absolute : isAbsolute (drop_last r) ≡ true
-  unfolding closesTarget
-  inner-absolute =
-      and_l (isAbsolute (drop_last r)) (legalWithin 3 (drop_last r)) (and_r (endsWithByte 93 r) (isAbsolute (drop_last r) && legalWithin 3 (drop_last r)) closes)
+  inner_absolute : is_absolute (drop_last r) ≡ true
+  unfolding closes_target
+  inner_absolute =
+      and_l (is_absolute (drop_last r)) (legal_within 3 (drop_last r)) (and_r (ends_with_byte 93 r) (is_absolute (drop_last r) && legal_within 3 (drop_last r)) closes)
 
   -- So the path ends in that bracket, and the target part has at least three bytes.
-  pub target-closed : endsWithByte 93 p ≡ true
-  unfolding endsWithByte
-  target-closed =
-      let k : ownPart p ++ a ∷ r ≡ p = rw h at (own-parts p) in
-      rw (← k) (last-after 93 (ownPart p) a r ∙ go r last-closes)
+  pub target_closed : ends_with_byte 93 p ≡ true
+  unfolding ends_with_byte
+  target_closed =
+      let k : own_part p ++ a ∷ r ≡ p = rw h at (own_parts p) in
+      rw (← k) (last_after 93 (own_part p) a r ∙ go r last_closes)
     where
-      go : (r : Text) → endsWithByte 93 r ≡ true → endsWithByte 93 (a ∷ r) ≡ true
+      go : (r : Text) → ends_with_byte 93 r ≡ true → ends_with_byte 93 (a ∷ r) ≡ true
       go [] l = absurd (false≢true l)
       go (c ∷ r) l = l
 
-  pub target-long : 2 ≤ length r
-  target-long =
-      let k : length (drop_last r) + 1 ≡ length r = sym (length-append (drop_last r) (93 ∷ [])) ∙ ap length (last-split 93 r last-closes) in
-      omega (arith, go (drop_last r) inner-absolute)
+  pub target_long : 2 ≤ length r
+  target_long =
+      let k : length (drop_last r) + 1 ≡ length r = sym (length-append (drop_last r) (93 ∷ [])) ∙ ap length (last_split 93 r last_closes) in
+      omega (arith, go (drop_last r) inner_absolute)
     where
-      go : (t : Text) → isAbsolute t ≡ true → 1 ≤ length t
+      go : (t : Text) → is_absolute t ≡ true → 1 ≤ length t
       go [] l = absurd (false≢true l)
       go (c ∷ t) l = omega arith
 
-bracket-allowed : (test : Text → Bool) (property : Bool) (a : ℕ) (r : Text) → a ≡ 91 → legalTarget test property (a ∷ r) ≡ true
-    → (test (drop_last r) ≡ true → charactersAllowed (drop_last r) ≡ true) → charactersAllowed (a ∷ r) ≡ true
-unfolding legalTarget closesTarget
-bracket-allowed test property a r h f ih =
-    let c : (endsWithByte 93 r && (isAbsolute (drop_last r) && test (drop_last r))) ≡ true = and_r property _ f in
-    let l : endsWithByte 93 r ≡ true = and_l (endsWithByte 93 r) _ c in
-    let t : test (drop_last r) ≡ true = and_r (isAbsolute (drop_last r)) (test (drop_last r)) (and_r (endsWithByte 93 r) _ c) in
-    rw (h, ← last-split 93 r l) (allowed-ascii 91 refl (drop_last r ++ 93 ∷ []) ∙ allowed-join (drop_last r) (93 ∷ []) (ih t) (allowed-ascii 93 refl [] ∙ allowed-none))
+bracket_allowed : (test : Text → Bool) (property : Bool) (a : ℕ) (r : Text) → a ≡ 91 → legal_target test property (a ∷ r) ≡ true
+    → (test (drop_last r) ≡ true → characters_allowed (drop_last r) ≡ true) → characters_allowed (a ∷ r) ≡ true
+unfolding legal_target closes_target
+bracket_allowed test property a r h f ih =
+    let c : (ends_with_byte 93 r && (is_absolute (drop_last r) && test (drop_last r))) ≡ true = and_r property _ f in
+    let l : ends_with_byte 93 r ≡ true = and_l (ends_with_byte 93 r) _ c in
+    let t : test (drop_last r) ≡ true = and_r (is_absolute (drop_last r)) (test (drop_last r)) (and_r (ends_with_byte 93 r) _ c) in
+    rw (h, ← last_split 93 r l) (allowed_ascii 91 refl (drop_last r ++ 93 ∷ []) ∙ allowed_join (drop_last r) (93 ∷ []) (ih t) (allowed_ascii 93 refl [] ∙ allowed_none))
 
 -- The characters of a legal text are allowed: those of its own part, and those of the path in brackets.
-within-allowed : (d : ℕ) (p : Text) → legalWithin d p ≡ true → charactersAllowed p ≡ true
-unfolding legalWithin
-within-allowed zero p e = own-allowed p e
-within-allowed (suc d) p e =
-    rw (← own-parts p)
-    (allowed-join (ownPart p) (targetPart p) (own-allowed (ownPart p) (and_l (legalOwn (ownPart p)) tested e))
-    (target (targetPart p) refl (and_r (legalOwn (ownPart p)) tested e) (λ t. within-allowed d t)))
+within_allowed : (d : ℕ) (p : Text) → legal_within d p ≡ true → characters_allowed p ≡ true
+unfolding legal_within
+within_allowed zero p e = own_allowed p e
+within_allowed (suc d) p e =
+    rw (← own_parts p)
+    (allowed_join (own_part p) (target_part p) (own_allowed (own_part p) (and_l (legal_own (own_part p)) tested e))
+    (target (target_part p) refl (and_r (legal_own (own_part p)) tested e) (λ t. within_allowed d t)))
   where
     tested : Bool
-    tested = legalTarget (λ (t : Text). legalWithin d t) (hasProperty p) (targetPart p)
+    tested = legal_target (λ (t : Text). legal_within d t) (has_property p) (target_part p)
 
-    target : (t : Text) → targetPart p ≡ t → legalTarget (λ (t : Text). legalWithin d t) (hasProperty p) t ≡ true
-        → ((t : Text) → legalWithin d t ≡ true → charactersAllowed t ≡ true) → charactersAllowed t ≡ true
-    target [] h f ih = allowed-none
-    target (a ∷ r) h f ih = bracket-allowed (legalWithin d) (hasProperty p) a r (target-head p a r h) f (ih (drop_last r))
+    target : (t : Text) → target_part p ≡ t → legal_target (λ (t : Text). legal_within d t) (has_property p) t ≡ true
+        → ((t : Text) → legal_within d t ≡ true → characters_allowed t ≡ true) → characters_allowed t ≡ true
+    target [] h f ih = allowed_none
+    target (a ∷ r) h f ih = bracket_allowed (legal_within d) (has_property p) a r (target_head p a r h) f (ih (drop_last r))
 
-pub legal-is-allowed : LegalIsAllowed
+pub legal_is_allowed : LegalIsAllowed
 unfolding legal
-legal-is-allowed p e = within-allowed 4 p e
+legal_is_allowed p e = within_allowed 4 p e
 
 -- A legal path that does not end in a closing bracket has no target part.
-pub unclosed-own : (p : Text) → legal p ≡ true → endsWithByte 93 p ≡ false → targetPart p ≡ []
-unclosed-own p e n = go (targetPart p) refl
+pub unclosed_own : (p : Text) → legal p ≡ true → ends_with_byte 93 p ≡ false → target_part p ≡ []
+unclosed_own p e n = go (target_part p) refl
   where
-    go : (t : Text) → targetPart p ≡ t → t ≡ []
+    go : (t : Text) → target_part p ≡ t → t ≡ []
     go [] h = refl
-    go (a ∷ r) h = absurd (true≢false (sym (target-closed p e a r h) ∙ n))
+    go (a ∷ r) h = absurd (true≢false (sym (target_closed p e a r h) ∙ n))
 
 -- Without a target part, the path is its own part.
-pub own_is : (p : Text) → targetPart p ≡ [] → ownPart p ≡ p
-own_is p h = sym (append-nil (ownPart p)) ∙ rw h at (own-parts p)
+pub own_is : (p : Text) → target_part p ≡ [] → own_part p ≡ p
+own_is p h = sym (append-nil (own_part p)) ∙ rw h at (own_parts p)
 
-pub legal-last : (p : Text) → legal p ≡ true → isRoot p ≡ false → endsWithByte 47 p ≡ false
-legal-last p e n = go (targetPart p) refl
+pub legal_last : (p : Text) → legal p ≡ true → is_root p ≡ false → ends_with_byte 47 p ≡ false
+legal_last p e n = go (target_part p) refl
   where
-    go : (t : Text) → targetPart p ≡ t → endsWithByte 47 p ≡ false
-    go [] h = own-last p (rw (own_is p h) at (legal-own-part p e)) n
-    go (a ∷ r) h = rw (← last-split 93 p (target-closed p e a r h)) (last_snoc 47 (drop_last p) 93)
+    go : (t : Text) → target_part p ≡ t → ends_with_byte 47 p ≡ false
+    go [] h = own_last p (rw (own_is p h) at (legal_own_part p e)) n
+    go (a ∷ r) h = rw (← last_split 93 p (target_closed p e a r h)) (last_snoc 47 (drop_last p) 93)
 
 -- Lemmas about the ends of pairs. An end has no property, so it has no brackets, and the whole text decides.
-pub end-own : (s : Text) → isEnd s ≡ (legalOwn s && (lacksByte 123 s && lacksByte 46 s))
-unfolding isEnd
-end-own s = go (lacksByte 91 s) refl
+pub end_own : (s : Text) → is_end s ≡ (legal_own s && (lacks_byte 123 s && lacks_byte 46 s))
+unfolding is_end
+end_own s = go (lacks_byte 91 s) refl
   where
     free : (b : Bool) → b ≡ not (not b)
     free true = refl
     free false = refl
 
-    refuted : legalOwn s ≡ true → lacksByte 91 s ≡ false → ⊥
-    refuted e h = true≢false (sym (own-unbracketed s e) ∙ h)
+    refuted : legal_own s ≡ true → lacks_byte 91 s ≡ false → ⊥
+    refuted e h = true≢false (sym (own_unbracketed s e) ∙ h)
 
-    none : (b c : Bool) → legal s ≡ b → hasProperty s ≡ c → lacksByte 91 s ≡ false → (b && (not (hasVariantSelection s) && not c)) ≡ false
-    none true true e f h = and_no (not (hasVariantSelection s))
-    none true false e f h = absurd (true≢false (sym (target-property s e (target-nil s ∙ h)) ∙ f))
+    none : (b c : Bool) → legal s ≡ b → has_property s ≡ c → lacks_byte 91 s ≡ false → (b && (not (has_variant_selection s) && not c)) ≡ false
+    none true true e f h = and_no (not (has_variant_selection s))
+    none true false e f h = absurd (true≢false (sym (target_property s e (target_nil s ∙ h)) ∙ f))
     none false c e f h = refl
 
-    own-none : (b : Bool) → legalOwn s ≡ b → lacksByte 91 s ≡ false → (b && (lacksByte 123 s && lacksByte 46 s)) ≡ false
+    own-none : (b : Bool) → legal_own s ≡ b → lacks_byte 91 s ≡ false → (b && (lacks_byte 123 s && lacks_byte 46 s)) ≡ false
     own-none true e h = absurd (refuted e h)
     own-none false e h = refl
 
-    go : (b : Bool) → lacksByte 91 s ≡ b → (legal s && (not (hasVariantSelection s) && not (hasProperty s))) ≡ (legalOwn s && (lacksByte 123 s && lacksByte 46 s))
-    go true h = rw (legal-without s h, selection-scan s, property-scan s, own-all s h, ← free (lacksByte 123 s), ← free (lacksByte 46 s))
-    go false h = none (legal s) (hasProperty s) refl refl h ∙ sym (own-none (legalOwn s) refl h)
+    go : (b : Bool) → lacks_byte 91 s ≡ b → (legal s && (not (has_variant_selection s) && not (has_property s))) ≡ (legal_own s && (lacks_byte 123 s && lacks_byte 46 s))
+    go true h = rw (legal_without s h, selection_scan s, property_scan s, own_all s h, ← free (lacks_byte 123 s), ← free (lacks_byte 46 s))
+    go false h = none (legal s) (has_property s) refl refl h ∙ sym (own-none (legal_own s) refl h)
 
-pub end-scan : (s : Text) → isEnd s ≡ (legal s && (lacksByte 123 s && lacksByte 46 s))
-end-scan s = end-own s ∙ go (lacksByte 91 s) refl
+pub end_scan : (s : Text) → is_end s ≡ (legal s && (lacks_byte 123 s && lacks_byte 46 s))
+end_scan s = end_own s ∙ go (lacks_byte 91 s) refl
   where
-    go : (b : Bool) → lacksByte 91 s ≡ b → (legalOwn s && (lacksByte 123 s && lacksByte 46 s)) ≡ (legal s && (lacksByte 123 s && lacksByte 46 s))
-    go true h = rw (legal-without s h)
-    go false h = only (legalOwn s) (legal s) (lacksByte 46 s) refl refl refl
+    go : (b : Bool) → lacks_byte 91 s ≡ b → (legal_own s && (lacks_byte 123 s && lacks_byte 46 s)) ≡ (legal s && (lacks_byte 123 s && lacks_byte 46 s))
+    go true h = rw (legal_without s h)
+    go false h = only (legal_own s) (legal s) (lacks_byte 46 s) refl refl refl
       where
-        only : (b c d : Bool) → legalOwn s ≡ b → legal s ≡ c → lacksByte 46 s ≡ d → (b && (lacksByte 123 s && d)) ≡ (c && (lacksByte 123 s && d))
-        only true c d e f k = absurd (true≢false (sym (own-unbracketed s e) ∙ h))
-        only false true true e f k = absurd (true≢false (sym (target-property s f (target-nil s ∙ h)) ∙ (no-property s).1 (own-lacks-too s 46 k)))
-        only false true false e f k = sym (and_no (lacksByte 123 s))
+        only : (b c d : Bool) → legal_own s ≡ b → legal s ≡ c → lacks_byte 46 s ≡ d → (b && (lacks_byte 123 s && d)) ≡ (c && (lacks_byte 123 s && d))
+        only true c d e f k = absurd (true≢false (sym (own_unbracketed s e) ∙ h))
+        only false true true e f k = absurd (true≢false (sym (target_property s f (target_nil s ∙ h)) ∙ (no_property s).1 (own_lacks_too s 46 k)))
+        only false true false e f k = sym (and_no (lacks_byte 123 s))
         only false false d e f k = refl
 
-pub end-own-legal : (s : Text) → isEnd s ≡ true → legalOwn s ≡ true
-end-own-legal s e = and_l (legalOwn s) (lacksByte 123 s && lacksByte 46 s) (sym (end-own s) ∙ e)
+pub end_own_legal : (s : Text) → is_end s ≡ true → legal_own s ≡ true
+end_own_legal s e = and_l (legal_own s) (lacks_byte 123 s && lacks_byte 46 s) (sym (end_own s) ∙ e)
 
-pub end-unbracketed : (s : Text) → isEnd s ≡ true → lacksByte 91 s ≡ true
-end-unbracketed s e = own-unbracketed s (end-own-legal s e)
+pub end_unbracketed : (s : Text) → is_end s ≡ true → lacks_byte 91 s ≡ true
+end_unbracketed s e = own_unbracketed s (end_own_legal s e)
 
-pub end-legal : (s : Text) → isEnd s ≡ true → legal s ≡ true
-end-legal s e = and_l (legal s) (lacksByte 123 s && lacksByte 46 s) (sym (end-scan s) ∙ e)
+pub end_legal : (s : Text) → is_end s ≡ true → legal s ≡ true
+end_legal s e = and_l (legal s) (lacks_byte 123 s && lacks_byte 46 s) (sym (end_scan s) ∙ e)
 
 -- The whole text of an end lacks both bytes, so an end has neither a selection nor a property.
-end-free : (s : Text) → isEnd s ≡ true → (lacksByte 123 s && lacksByte 46 s) ≡ true
-end-free s e = and_r (legal s) (lacksByte 123 s && lacksByte 46 s) (sym (end-scan s) ∙ e)
+end_free : (s : Text) → is_end s ≡ true → (lacks_byte 123 s && lacks_byte 46 s) ≡ true
+end_free s e = and_r (legal s) (lacks_byte 123 s && lacks_byte 46 s) (sym (end_scan s) ∙ e)
 
-pub end-lacks : (s : Text) → isEnd s ≡ true → lacksByte 123 s ≡ true
-end-lacks s e = and_l (lacksByte 123 s) (lacksByte 46 s) (end-free s e)
+pub end_lacks : (s : Text) → is_end s ≡ true → lacks_byte 123 s ≡ true
+end_lacks s e = and_l (lacks_byte 123 s) (lacks_byte 46 s) (end_free s e)
 
-pub end-undotted : (s : Text) → isEnd s ≡ true → lacksByte 46 s ≡ true
-end-undotted s e = and_r (lacksByte 123 s) (lacksByte 46 s) (end-free s e)
+pub end_undotted : (s : Text) → is_end s ≡ true → lacks_byte 46 s ≡ true
+end_undotted s e = and_r (lacks_byte 123 s) (lacks_byte 46 s) (end_free s e)
 
-pub end-no-selection : (s : Text) → isEnd s ≡ true → hasVariantSelection s ≡ false
-end-no-selection s e = lacks-free s (end-lacks s e)
+pub end_no_selection : (s : Text) → is_end s ≡ true → has_variant_selection s ≡ false
+end_no_selection s e = lacks_free s (end_lacks s e)
 
-pub end-no-property : (s : Text) → isEnd s ≡ true → hasProperty s ≡ false
-end-no-property s e = (no-property s).1 (own-lacks-too s 46 (end-undotted s e))
+pub end_no_property : (s : Text) → is_end s ≡ true → has_property s ≡ false
+end_no_property s e = (no_property s).1 (own_lacks_too s 46 (end_undotted s e))
 
-free-close : (s : Text) → scanAccepts s ≡ true → lacksByte 123 s ≡ true → endsWithByte 125 s ≡ false
-unfolding scanAccepts endsWithByte lacksByte
-free-close [] e f = refl
-free-close (a ∷ []) e f = rw (eqb-true a 47 (and_l (eqb a 47) true e))
-free-close (a ∷ b ∷ r) e f =
-    run-close Slash (b ∷ r) refl (and_r (not (eqb a 123)) (lacksByte 123 (b ∷ r)) f) (and_r (eqb a 47) (accept (run Slash (b ∷ r))) e)
+free_close : (s : Text) → scan_accepts s ≡ true → lacks_byte 123 s ≡ true → ends_with_byte 125 s ≡ false
+unfolding scan_accepts ends_with_byte lacks_byte
+free_close [] e f = refl
+free_close (a ∷ []) e f = rw (eqb-true a 47 (and_l (eqb a 47) true e))
+free_close (a ∷ b ∷ r) e f =
+    run_close Slash (b ∷ r) refl (and_r (not (eqb a 123)) (lacks_byte 123 (b ∷ r)) f) (and_r (eqb a 47) (accept (run Slash (b ∷ r))) e)
 
-pub end-close : (s : Text) → isEnd s ≡ true → endsWithByte 125 s ≡ false
-end-close s e = free-close s (own-scan s (end-own-legal s e)) (end-lacks s e)
+pub end_close : (s : Text) → is_end s ≡ true → ends_with_byte 125 s ≡ false
+end_close s e = free_close s (own_scan s (end_own_legal s e)) (end_lacks s e)
 
 -- Texts of at most 255 bytes.
-pub fits-short : (p : Text) → atMost255 p ≡ true → length p ≤ 255
-unfolding atMost255
-fits-short p h = leb-true (length p) 255 h
+pub fits_short : (p : Text) → at_most255 p ≡ true → length p ≤ 255
+unfolding at_most255
+fits_short p h = leb-true (length p) 255 h
 
-pub short-fits : (p : Text) → length p ≤ 255 → atMost255 p ≡ true
-unfolding atMost255
-short-fits p h = le-leb (length p) 255 h
+pub short_fits : (p : Text) → length p ≤ 255 → at_most255 p ≡ true
+unfolding at_most255
+short_fits p h = le-leb (length p) 255 h
 
 -- A byte that may begin a name, or be part of a variant, may be part of a name.
-pub start-cont : (a : ℕ) → isNameStartByte a ≡ true → isNameByte a ≡ true
-unfolding isNameByte
-start-cont a h = rw h
+pub start_cont : (a : ℕ) → is_name_start_byte a ≡ true → is_name_byte a ≡ true
+unfolding is_name_byte
+start_cont a h = rw h
 
-pub variant-cont : (a : ℕ) → isVariantByte a ≡ true → isNameByte a ≡ true
-unfolding isNameByte isNameStartByte isVariantByte
-variant-cont a h = go (isAsciiStart a) (isAsciiDigit a) (leb 0x80 a) h
+pub variant_cont : (a : ℕ) → is_variant_byte a ≡ true → is_name_byte a ≡ true
+unfolding is_name_byte is_name_start_byte is_variant_byte
+variant_cont a h = go (is_ascii_start a) (is_ascii_digit a) (leb 0x80 a) h
   where
     go : (s d o : Bool) → (s || d) ≡ true → (s || o || d) ≡ true
     go true d o e = refl
@@ -387,7 +387,7 @@ variant-cont a h = go (isAsciiStart a) (isAsciiDigit a) (leb 0x80 a) h
     go false d false e = e
 
 -- Lemmas about `/`, and about concatenated texts.
-pub root_is : (s : Text) → isRoot s ≡ true → s ≡ 47 ∷ []
+pub root_is : (s : Text) → is_root s ≡ true → s ≡ 47 ∷ []
 root_is [] e = absurd (false≢true e)
 root_is (a ∷ []) e = let h : a ≡ 47 = eqb-true a 47 (and_l (eqb a 47) true e) in cc
 root_is (a ∷ b ∷ r) e = absurd (false≢true (and_r (eqb a 47) false e))

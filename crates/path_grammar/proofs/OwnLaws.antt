@@ -1,5 +1,5 @@
 -- The own part and the target part of a path. The code, and the proofs that follow it, read a text byte by byte, and get from there to
--- `hasVariantSelection` and `hasProperty` and back by these lemmas.
+-- `has_variant_selection` and `has_property` and back by these lemmas.
 use mathlib.Core.Path.{◌≡◌, refl, sym, ap, ◌∙◌}
 use mathlib.Core.Logic.{◌↔◌}
 use mathlib.Core.Bool.{Bool, true, false, not, cond, ◌&&◌}
@@ -7,106 +7,106 @@ use mathlib.Core.List.{[], ◌∷◌, ◌++◌, append-nil}
 use Prim.Native.Nat.{ℕ, ◌≤◌}
 use lib.Dec.{eqb}
 use lib.ListN.{length, take, drop}
-use Rattle.text.specs.Text.{Text, isNil, lacksByte, takeUntil, dropUntil}
-use Rattle.text.proofs.BoolLaws.{not-false}
-use Rattle.text.proofs.TextLaws.{lacks-append, lacks-before}
-use Rattle.text.proofs.UntilLaws.{until-parts, until-lacks, take-until-after, drop-until-after, take-until-all, drop-until-none, drop-until-lacks, take-until-slice, drop-until-slice, take-until-length, take-drop-until, drop-drop-until, drop-until-head}
-use Rattle.path_grammar.specs.Own.{ownPart, targetPart, hasVariantSelection, hasProperty}
+use Rattle.text.specs.Text.{Text, is_nil, lacks_byte, take_until, drop_until}
+use Rattle.text.proofs.BoolLaws.{not_false}
+use Rattle.text.proofs.TextLaws.{lacks_append, lacks_before}
+use Rattle.text.proofs.UntilLaws.{until_parts, until_lacks, take_until_after, drop_until_after, take_until_all, drop_until_none, drop_until_lacks, take_until_slice, drop_until_slice, take_until_length, take_drop_until, drop_drop_until, drop_until_head}
+use Rattle.path_grammar.specs.Own.{own_part, target_part, has_variant_selection, has_property}
 
 module _ (p : Text) where
   -- The two parts make up the path, and the own part has no bracket.
-  pub own-parts : ownPart p ++ targetPart p ≡ p
-  unfolding ownPart targetPart
-  own-parts = until-parts 91 p
+  pub own_parts : own_part p ++ target_part p ≡ p
+  unfolding own_part target_part
+  own_parts = until_parts 91 p
 
-  pub own-lacks : lacksByte 91 (ownPart p) ≡ true
-  unfolding ownPart
-  own-lacks = until-lacks 91 p
+  pub own_lacks : lacks_byte 91 (own_part p) ≡ true
+  unfolding own_part
+  own_lacks = until_lacks 91 p
 
   -- A text without brackets is its own part.
-  pub own-all : lacksByte 91 p ≡ true → ownPart p ≡ p
-  unfolding ownPart
-  own-all h = take-until-all 91 p h
+  pub own_all : lacks_byte 91 p ≡ true → own_part p ≡ p
+  unfolding own_part
+  own_all h = take_until_all 91 p h
 
-  pub target_none : lacksByte 91 p ≡ true → targetPart p ≡ []
-  unfolding targetPart
-  target_none h = drop-until-none 91 p h
+  pub target_none : lacks_byte 91 p ≡ true → target_part p ≡ []
+  unfolding target_part
+  target_none h = drop_until_none 91 p h
 
-  pub target-nil : isNil (targetPart p) ≡ lacksByte 91 p
-  unfolding targetPart
-  target-nil = drop-until-lacks 91 p
+  pub target_nil : is_nil (target_part p) ≡ lacks_byte 91 p
+  unfolding target_part
+  target_nil = drop_until_lacks 91 p
 
   -- The parts as slices of the text.
-  pub own-slice : take (length (ownPart p)) p ≡ ownPart p
-  unfolding ownPart
-  own-slice = take-until-slice 91 p
+  pub own_slice : take (length (own_part p)) p ≡ own_part p
+  unfolding own_part
+  own_slice = take_until_slice 91 p
 
-  pub target-slice : drop (length (ownPart p)) p ≡ targetPart p
-  unfolding ownPart targetPart
-  target-slice = drop-until-slice 91 p
+  pub target_slice : drop (length (own_part p)) p ≡ target_part p
+  unfolding own_part target_part
+  target_slice = drop_until_slice 91 p
 
-  pub own-length : length (ownPart p) ≤ length p
-  unfolding ownPart
-  own-length = take-until-length 91 p
+  pub own_length : length (own_part p) ≤ length p
+  unfolding own_part
+  own_length = take_until_length 91 p
 
   -- A path has no selection exactly if no byte of its own part is `{`, and no property exactly if none is a dot.
-  pub no-selection : (hasVariantSelection p ≡ false) ↔ (lacksByte 123 (ownPart p) ≡ true)
-  unfolding hasVariantSelection
-  no-selection = (λ e. not-false (lacksByte 123 (ownPart p)) e, λ e. ap not e)
+  pub no_selection : (has_variant_selection p ≡ false) ↔ (lacks_byte 123 (own_part p) ≡ true)
+  unfolding has_variant_selection
+  no_selection = (λ e. not_false (lacks_byte 123 (own_part p)) e, λ e. ap not e)
 
-  pub no-property : (hasProperty p ≡ false) ↔ (lacksByte 46 (ownPart p) ≡ true)
-  unfolding hasProperty
-  no-property = (λ e. not-false (lacksByte 46 (ownPart p)) e, λ e. ap not e)
+  pub no_property : (has_property p ≡ false) ↔ (lacks_byte 46 (own_part p) ≡ true)
+  unfolding has_property
+  no_property = (λ e. not_false (lacks_byte 46 (own_part p)) e, λ e. ap not e)
 
-  pub selection-scan : hasVariantSelection p ≡ not (lacksByte 123 (ownPart p))
-  unfolding hasVariantSelection
-  selection-scan = refl
+  pub selection_scan : has_variant_selection p ≡ not (lacks_byte 123 (own_part p))
+  unfolding has_variant_selection
+  selection_scan = refl
 
-  pub property-scan : hasProperty p ≡ not (lacksByte 46 (ownPart p))
-  unfolding hasProperty
-  property-scan = refl
+  pub property_scan : has_property p ≡ not (lacks_byte 46 (own_part p))
+  unfolding has_property
+  property_scan = refl
 
   -- What the whole text lacks, its own part lacks.
-  pub own-lacks-too : (b : ℕ) → lacksByte b p ≡ true → lacksByte b (ownPart p) ≡ true
-  own-lacks-too b h = lacks-before b (ownPart p) (targetPart p) (rw own-parts h)
+  pub own_lacks_too : (b : ℕ) → lacks_byte b p ≡ true → lacks_byte b (own_part p) ≡ true
+  own_lacks_too b h = lacks_before b (own_part p) (target_part p) (rw own_parts h)
 
-  pub lacks-free : lacksByte 123 p ≡ true → hasVariantSelection p ≡ false
-  lacks-free h = no-selection.1 (own-lacks-too 123 h)
+  pub lacks_free : lacks_byte 123 p ≡ true → has_variant_selection p ≡ false
+  lacks_free h = no_selection.1 (own_lacks_too 123 h)
 
 -- A text without brackets in front of a path belongs to its own part.
-module _ (x y : Text) (h : lacksByte 91 x ≡ true) where
-  pub own-after : ownPart (x ++ y) ≡ x ++ ownPart y
-  unfolding ownPart
-  own-after = take-until-after 91 x y h
+module _ (x y : Text) (h : lacks_byte 91 x ≡ true) where
+  pub own_after : own_part (x ++ y) ≡ x ++ own_part y
+  unfolding own_part
+  own_after = take_until_after 91 x y h
 
-  pub target-after : targetPart (x ++ y) ≡ targetPart y
-  unfolding targetPart
-  target-after = drop-until-after 91 x y h
+  pub target_after : target_part (x ++ y) ≡ target_part y
+  unfolding target_part
+  target_after = drop_until_after 91 x y h
 
-  pub lacks-own-after : (b : ℕ) → lacksByte b x ≡ true → lacksByte b (ownPart (x ++ y)) ≡ lacksByte b (ownPart y)
-  lacks-own-after b k = rw (own-after, lacks-append b x (ownPart y), k)
+  pub lacks_own_after : (b : ℕ) → lacks_byte b x ≡ true → lacks_byte b (own_part (x ++ y)) ≡ lacks_byte b (own_part y)
+  lacks_own_after b k = rw (own_after, lacks_append b x (own_part y), k)
 
 -- A text that begins with a bracket is a target part.
 module _ (r : Text) where
-  pub own_open : ownPart (91 ∷ r) ≡ []
-  unfolding ownPart takeUntil
+  pub own_open : own_part (91 ∷ r) ≡ []
+  unfolding own_part take_until
   own_open = refl
 
-  pub target-open : targetPart (91 ∷ r) ≡ 91 ∷ r
-  unfolding targetPart dropUntil
-  target-open = refl
+  pub target_open : target_part (91 ∷ r) ≡ 91 ∷ r
+  unfolding target_part drop_until
+  target_open = refl
 
 -- A target part begins with a bracket.
-pub target-head : (p : Text) (a : ℕ) (r : Text) → targetPart p ≡ a ∷ r → a ≡ 91
-unfolding targetPart
-target-head p a r h = drop-until-head 91 p a r h
+pub target_head : (p : Text) (a : ℕ) (r : Text) → target_part p ≡ a ∷ r → a ≡ 91
+unfolding target_part
+target_head p a r h = drop_until_head 91 p a r h
 
 -- Such a text followed by the target part of a path has these two parts.
-module _ (x p : Text) (h : lacksByte 91 x ≡ true) where
-  pub own_of : ownPart (x ++ targetPart p) ≡ x
-  unfolding ownPart targetPart
-  own_of = take-until-after 91 x (dropUntil 91 p) h ∙ ap (λ (y : Text). x ++ y) (take-drop-until 91 p) ∙ append-nil x
+module _ (x p : Text) (h : lacks_byte 91 x ≡ true) where
+  pub own_of : own_part (x ++ target_part p) ≡ x
+  unfolding own_part target_part
+  own_of = take_until_after 91 x (drop_until 91 p) h ∙ ap (λ (y : Text). x ++ y) (take_drop_until 91 p) ∙ append-nil x
 
-  pub target-of : targetPart (x ++ targetPart p) ≡ targetPart p
-  unfolding targetPart
-  target-of = drop-until-after 91 x (dropUntil 91 p) h ∙ drop-drop-until 91 p
+  pub target_of : target_part (x ++ target_part p) ≡ target_part p
+  unfolding target_part
+  target_of = drop_until_after 91 x (drop_until 91 p) h ∙ drop_drop_until 91 p

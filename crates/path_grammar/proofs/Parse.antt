@@ -10,24 +10,24 @@ use lib.Dec.{eqb, leb}
 use borrow.Author.Tests.{eqb-true, leb-true}
 use Rattle.text.specs.Text.{Text}
 use Rattle.text.proofs.BoolLaws.{and_l, and_r, or_right}
-use Rattle.path_grammar.specs.Legal.{ScanState, Slash, Name, Opened, Set, Equals, Sel, Closed, Dot, Prop, Dead, isAsciiStart, isAsciiDigit, isNameStartByte, isNameByte, isVariantByte, step, run, accept}
+use Rattle.path_grammar.specs.Legal.{ScanState, Slash, Name, Opened, Set, Equals, Sel, Closed, Dot, Prop, Dead, is_ascii_start, is_ascii_digit, is_name_start_byte, is_name_byte, is_variant_byte, step, run, accept}
 use Rattle.path_grammar.specs.Grammar as g
-use Rattle.path_grammar.specs.Grammar.{isIdentifierStart, isIdentifierCont, allCont, areVariantBytes, nameText, wordText, selectionText, selectionsText, primText, primSeparator, primsText, moreText, propertyText}
-use Rattle.path_grammar.proofs.RunLaws.{dead-refuses}
-use Rattle.path_grammar.proofs.NameLaws.{run-characters, variant-ascii}
-use Rattle.characters.specs.Utf8.{encode, encodeAll}
-use Rattle.characters.specs.NameCharacter.{isAllowed, isNameCharacter, areAllowed, charactersAllowed}
-use Rattle.characters.proofs.EncodeLaws.{encode-1}
-use Rattle.characters.proofs.Theorem.{allowed-characters}
+use Rattle.path_grammar.specs.Grammar.{is_identifier_start, is_identifier_cont, all_cont, are_variant_bytes, name_text, word_text, selection_text, selections_text, prim_text, prim_separator, prims_text, more_text, property_text}
+use Rattle.path_grammar.proofs.RunLaws.{dead_refuses}
+use Rattle.path_grammar.proofs.NameLaws.{run_characters, variant_ascii}
+use Rattle.characters.specs.Utf8.{encode, encode_all}
+use Rattle.characters.specs.NameCharacter.{is_allowed, is_name_character, are_allowed, characters_allowed}
+use Rattle.characters.proofs.EncodeLaws.{encode_1}
+use Rattle.characters.proofs.Theorem.{allowed_characters}
 
 -- The remaining characters of a name, and the remaining bytes of a variant.
 record Tail : Type 0 where
   characters : List ℕ
-  are : allCont characters ≡ true
+  are : all_cont characters ≡ true
 
 record WordTail : Type 0 where
   bytes : Text
-  are : areVariantBytes bytes ≡ true
+  are : are_variant_bytes bytes ≡ true
 
 -- What follows a name.
 pub record After : Type 0 where
@@ -37,16 +37,16 @@ pub record After : Type 0 where
 
 follow : Text → List g.Prim → Text
 follow j [] = []
-follow j (q ∷ r) = j ++ primsText q r
+follow j (q ∷ r) = j ++ prims_text q r
 
 -- Its text when it follows a name, and when it follows a selection.
-afterName : After → Text
+after_name : After → Text
 unfolding follow
-afterName x = selectionsText x.selections ++ (follow (primSeparator x.selections) x.rest ++ propertyText x.property)
+after_name x = selections_text x.selections ++ (follow (prim_separator x.selections) x.rest ++ property_text x.property)
 
-afterSelection : After → Text
+after_selection : After → Text
 unfolding follow
-afterSelection x = selectionsText x.selections ++ (follow [] x.rest ++ propertyText x.property)
+after_selection x = selections_text x.selections ++ (follow [] x.rest ++ property_text x.property)
 
 -- What may remain of a path in each state of the automaton.
 abbrev Left : ScanState → Type 0
@@ -63,216 +63,216 @@ Left Dead = ⊥
 
 -- The text of what remains.
 text : (s : ScanState) → Left s → Text
-unfolding afterName afterSelection
-text Slash l = nameText l.0 ++ afterName l.1
-text Name l = encodeAll l.0.characters ++ afterName l.1
-text Opened l = nameText l.0 ++ (61 ∷ (wordText l.1 ++ (125 ∷ afterSelection l.2)))
-text Set l = encodeAll l.0.characters ++ (61 ∷ (wordText l.1 ++ (125 ∷ afterSelection l.2)))
-text Equals l = wordText l.0 ++ (125 ∷ afterSelection l.1)
-text Sel l = l.0.bytes ++ (125 ∷ afterSelection l.1)
-text Closed l = afterSelection l
-text Dot l = nameText l.0 ++ moreText l.1
-text Prop l = encodeAll l.0.characters ++ moreText l.1
+unfolding after_name after_selection
+text Slash l = name_text l.0 ++ after_name l.1
+text Name l = encode_all l.0.characters ++ after_name l.1
+text Opened l = name_text l.0 ++ (61 ∷ (word_text l.1 ++ (125 ∷ after_selection l.2)))
+text Set l = encode_all l.0.characters ++ (61 ∷ (word_text l.1 ++ (125 ∷ after_selection l.2)))
+text Equals l = word_text l.0 ++ (125 ∷ after_selection l.1)
+text Sel l = l.0.bytes ++ (125 ∷ after_selection l.1)
+text Closed l = after_selection l
+text Dot l = name_text l.0 ++ more_text l.1
+text Prop l = encode_all l.0.characters ++ more_text l.1
 text Dead l = absurd l
 
 -- The characters r are the text of something that may remain in the state s.
 record Found (s : ScanState) (r : List ℕ) : Type 0 where
   what : Left s
-  same : text s what ≡ encodeAll r
+  same : text s what ≡ encode_all r
 
 -- Prims and a selection before a text.
-prims-text : (n : g.Name) (x : After) → primsText (record { name = n; selections = x.selections }) x.rest ++ propertyText x.property ≡ nameText n ++ afterName x
-unfolding afterName follow primsText primText
-prims-text n x = go x.rest
+prims_text_lem : (n : g.Name) (x : After) → prims_text (record { name = n; selections = x.selections }) x.rest ++ property_text x.property ≡ name_text n ++ after_name x
+unfolding after_name follow prims_text prim_text
+prims_text_lem n x = go x.rest
   where
-    go : (r : List g.Prim) → primsText (record { name = n; selections = x.selections }) r ++ propertyText x.property ≡ nameText n ++ (selectionsText x.selections ++ (follow (primSeparator x.selections) r ++ propertyText x.property))
-    go [] = append_assoc (nameText n) (selectionsText x.selections) (propertyText x.property)
+    go : (r : List g.Prim) → prims_text (record { name = n; selections = x.selections }) r ++ property_text x.property ≡ name_text n ++ (selections_text x.selections ++ (follow (prim_separator x.selections) r ++ property_text x.property))
+    go [] = append_assoc (name_text n) (selections_text x.selections) (property_text x.property)
     go (q ∷ r) =
-        append_assoc (nameText n ++ selectionsText x.selections) (primSeparator x.selections ++ primsText q r) (propertyText x.property)
-        ∙ append_assoc (nameText n) (selectionsText x.selections) ((primSeparator x.selections ++ primsText q r) ++ propertyText x.property)
+        append_assoc (name_text n ++ selections_text x.selections) (prim_separator x.selections ++ prims_text q r) (property_text x.property)
+        ∙ append_assoc (name_text n) (selections_text x.selections) ((prim_separator x.selections ++ prims_text q r) ++ property_text x.property)
 
-selection-text : (s : g.Selection) (y : Text) → selectionText s ++ y ≡ 123 ∷ (nameText s.variantSet ++ (61 ∷ (wordText s.variant ++ (125 ∷ y))))
-unfolding selectionText
-selection-text s y = simp append_assoc
+selection_text_lem : (s : g.Selection) (y : Text) → selection_text s ++ y ≡ 123 ∷ (name_text s.variant_set ++ (61 ∷ (word_text s.variant ++ (125 ∷ y))))
+unfolding selection_text
+selection_text_lem s y = simp append_assoc
 
 -- If the automaton accepts r from the state t, then r is the text of something that may remain there.
 abbrev Later : List ℕ → ScanState → Type 0
 Later r t = accept (run t r) ≡ true → Found t r
 
 no_more : Tail
-unfolding allCont
+unfolding all_cont
 no_more = record { characters = []; are = refl }
 
-one_more : (a : ℕ) → isIdentifierCont a ≡ true → Tail → Tail
-unfolding allCont
+one_more : (a : ℕ) → is_identifier_cont a ≡ true → Tail → Tail
+unfolding all_cont
 one_more a h t = record { characters = a ∷ t.characters; are = rw h t.are }
 
-head_of : (a : ℕ) → isIdentifierStart a ≡ true → Tail → g.Name
-head_of a h t = record { first = a; more = t.characters; first-is = h; more-are = t.are }
+head_of : (a : ℕ) → is_identifier_start a ≡ true → Tail → g.Name
+head_of a h t = record { first = a; more = t.characters; first_is = h; more_are = t.are }
 
 no_bytes : WordTail
-unfolding areVariantBytes
+unfolding are_variant_bytes
 no_bytes = record { bytes = []; are = refl }
 
-one_byte : (a : ℕ) → isVariantByte a ≡ true → WordTail → WordTail
-unfolding areVariantBytes
+one_byte : (a : ℕ) → is_variant_byte a ≡ true → WordTail → WordTail
+unfolding are_variant_bytes
 one_byte a h t = record { bytes = a ∷ t.bytes; are = rw h t.are }
 
-word_of : (a : ℕ) → isVariantByte a ≡ true → WordTail → g.Word
-word_of a h t = record { first = a; more = t.bytes; first-is = h; more-are = t.are }
+word_of : (a : ℕ) → is_variant_byte a ≡ true → WordTail → g.Word
+word_of a h t = record { first = a; more = t.bytes; first_is = h; more_are = t.are }
 
 -- An allowed character that the automaton reads as part of a name may be part of one.
-number-start : (c : ℕ) → isAllowed c ≡ true → isNameStartByte c ≡ true → isIdentifierStart c ≡ true
-unfolding isNameStartByte isIdentifierStart
-number-start c ok h = go (isAsciiStart c) (leb c 0x7F) refl ok h
+number_start : (c : ℕ) → is_allowed c ≡ true → is_name_start_byte c ≡ true → is_identifier_start c ≡ true
+unfolding is_name_start_byte is_identifier_start
+number_start c ok h = go (is_ascii_start c) (leb c 0x7F) refl ok h
   where
-    go : (a b : Bool) → leb c 0x7F ≡ b → (b || isNameCharacter c) ≡ true → (a || leb 0x80 c) ≡ true → (a || isNameCharacter c) ≡ true
+    go : (a b : Bool) → leb c 0x7F ≡ b → (b || is_name_character c) ≡ true → (a || leb 0x80 c) ≡ true → (a || is_name_character c) ≡ true
     go true b e f k = refl
     go false true e f k = absurd (omega (arith, leb-true c 0x7F e, leb-true 0x80 c k))
     go false false e f k = f
 
-number-cont : (c : ℕ) → isAllowed c ≡ true → isNameByte c ≡ true → isIdentifierCont c ≡ true
-unfolding isNameByte isIdentifierCont
-number-cont c ok h = go (isNameStartByte c) refl h
+number_cont : (c : ℕ) → is_allowed c ≡ true → is_name_byte c ≡ true → is_identifier_cont c ≡ true
+unfolding is_name_byte is_identifier_cont
+number_cont c ok h = go (is_name_start_byte c) refl h
   where
-    go : (b : Bool) → isNameStartByte c ≡ b → (b || isAsciiDigit c) ≡ true → (isIdentifierStart c || isAsciiDigit c) ≡ true
-    go true e k = rw (number-start c ok e)
-    go false e k = or_right (isIdentifierStart c) (isAsciiDigit c) k
+    go : (b : Bool) → is_name_start_byte c ≡ b → (b || is_ascii_digit c) ≡ true → (is_identifier_start c || is_ascii_digit c) ≡ true
+    go true e k = rw (number_start c ok e)
+    go false e k = or_right (is_identifier_start c) (is_ascii_digit c) k
 
 nothing : After
 nothing = record { selections = []; rest = []; property = none }
 
 -- A prim, a selection or a property added in front.
-with-prim : g.Name → After → After
-with-prim n x =
+with_prim : g.Name → After → After
+with_prim n x =
     record { selections = []; rest = (record { name = n; selections = x.selections }) ∷ x.rest; property = x.property }
 
-with-selection : g.Name → g.Word → After → After
-with-selection n w x =
-    record { selections = (record { variantSet = n; variant = w }) ∷ x.selections; rest = x.rest; property = x.property }
+with_selection : g.Name → g.Word → After → After
+with_selection n w x =
+    record { selections = (record { variant_set = n; variant = w }) ∷ x.selections; rest = x.rest; property = x.property }
 
-with-property : g.Name → List g.Name → After
-with-property n r = record { selections = []; rest = []; property = some (record { first = n; more = r }) }
+with_property : g.Name → List g.Name → After
+with_property n r = record { selections = []; rest = []; property = some (record { first = n; more = r }) }
 
 -- The texts of those.
-prim-name : (n : g.Name) (x : After) → afterName (with-prim n x) ≡ 47 ∷ (nameText n ++ afterName x)
-unfolding with-prim afterName follow primSeparator selectionsText
-prim-name n x = ap (λ (y : Text). 47 ∷ y) (prims-text n x)
+prim_name : (n : g.Name) (x : After) → after_name (with_prim n x) ≡ 47 ∷ (name_text n ++ after_name x)
+unfolding with_prim after_name follow prim_separator selections_text
+prim_name n x = ap (λ (y : Text). 47 ∷ y) (prims_text_lem n x)
 
-prim-selection : (n : g.Name) (x : After) → afterSelection (with-prim n x) ≡ nameText n ++ afterName x
-unfolding with-prim afterSelection follow selectionsText
-prim-selection n x = prims-text n x
+prim_selection : (n : g.Name) (x : After) → after_selection (with_prim n x) ≡ name_text n ++ after_name x
+unfolding with_prim after_selection follow selections_text
+prim_selection n x = prims_text_lem n x
 
-more-name : (n : g.Name) (w : g.Word) (x : After) → afterName (with-selection n w x) ≡ 123 ∷ (nameText n ++ (61 ∷ (wordText w ++ (125 ∷ afterSelection x))))
-unfolding with-selection afterName afterSelection selectionsText primSeparator
-more-name n w x =
-    append_assoc (selectionText (record { variantSet = n; variant = w })) (selectionsText x.selections) (follow [] x.rest ++ propertyText x.property)
-    ∙ selection-text (record { variantSet = n; variant = w }) (afterSelection x)
+more_name : (n : g.Name) (w : g.Word) (x : After) → after_name (with_selection n w x) ≡ 123 ∷ (name_text n ++ (61 ∷ (word_text w ++ (125 ∷ after_selection x))))
+unfolding with_selection after_name after_selection selections_text prim_separator
+more_name n w x =
+    append_assoc (selection_text (record { variant_set = n; variant = w })) (selections_text x.selections) (follow [] x.rest ++ property_text x.property)
+    ∙ selection_text_lem (record { variant_set = n; variant = w }) (after_selection x)
 
-more-selection : (n : g.Name) (w : g.Word) (x : After) → afterSelection (with-selection n w x) ≡ 123 ∷ (nameText n ++ (61 ∷ (wordText w ++ (125 ∷ afterSelection x))))
-unfolding with-selection afterSelection selectionsText
-more-selection n w x =
-    append_assoc (selectionText (record { variantSet = n; variant = w })) (selectionsText x.selections) (follow [] x.rest ++ propertyText x.property)
-    ∙ selection-text (record { variantSet = n; variant = w }) (afterSelection x)
+more_selection : (n : g.Name) (w : g.Word) (x : After) → after_selection (with_selection n w x) ≡ 123 ∷ (name_text n ++ (61 ∷ (word_text w ++ (125 ∷ after_selection x))))
+unfolding with_selection after_selection selections_text
+more_selection n w x =
+    append_assoc (selection_text (record { variant_set = n; variant = w })) (selections_text x.selections) (follow [] x.rest ++ property_text x.property)
+    ∙ selection_text_lem (record { variant_set = n; variant = w }) (after_selection x)
 
-property-name : (n : g.Name) (r : List g.Name) → afterName (with-property n r) ≡ 46 ∷ (nameText n ++ moreText r)
-unfolding with-property afterName follow selectionsText propertyText
-property-name n r = refl
+property_name_lem : (n : g.Name) (r : List g.Name) → after_name (with_property n r) ≡ 46 ∷ (name_text n ++ more_text r)
+unfolding with_property after_name follow selections_text property_text
+property_name_lem n r = refl
 
-property-selection : (n : g.Name) (r : List g.Name) → afterSelection (with-property n r) ≡ 46 ∷ (nameText n ++ moreText r)
-unfolding with-property afterSelection follow selectionsText propertyText
-property-selection n r = refl
+property_selection : (n : g.Name) (r : List g.Name) → after_selection (with_property n r) ≡ 46 ∷ (name_text n ++ more_text r)
+unfolding with_property after_selection follow selections_text property_text
+property_selection n r = refl
 
 -- One more character in front: one of a name, or one of ASCII, which is a byte.
-put : (a : ℕ) (t : List ℕ) (y : Text) (r : List ℕ) → encodeAll t ++ y ≡ encodeAll r → encodeAll (a ∷ t) ++ y ≡ encodeAll (a ∷ r)
-unfolding encodeAll
-put a t y r e = append_assoc (encode a) (encodeAll t) y ∙ ap (λ (z : Text). encode a ++ z) e
+put : (a : ℕ) (t : List ℕ) (y : Text) (r : List ℕ) → encode_all t ++ y ≡ encode_all r → encode_all (a ∷ t) ++ y ≡ encode_all (a ∷ r)
+unfolding encode_all
+put a t y r e = append_assoc (encode a) (encode_all t) y ∙ ap (λ (z : Text). encode a ++ z) e
 
-put_byte : (a : ℕ) (x : Text) (r : List ℕ) → leb a 0x7F ≡ true → x ≡ encodeAll r → a ∷ x ≡ encodeAll (a ∷ r)
-unfolding encodeAll
-put_byte a x r h e = rw (encode-1 a (leb-true a 0x7F h)) (ap (λ (z : Text). a ∷ z) e)
+put_byte : (a : ℕ) (x : Text) (r : List ℕ) → leb a 0x7F ≡ true → x ≡ encode_all r → a ∷ x ≡ encode_all (a ∷ r)
+unfolding encode_all
+put_byte a x r h e = rw (encode_1 a (leb-true a 0x7F h)) (ap (λ (z : Text). a ∷ z) e)
 
-put-at : (a b : ℕ) (x : Text) (r : List ℕ) → eqb a b ≡ true → leb b 0x7F ≡ true → x ≡ encodeAll r → b ∷ x ≡ encodeAll (a ∷ r)
-put-at a b x r h k e = rw (eqb-true a b h) (put_byte b x r k e)
+put_at : (a b : ℕ) (x : Text) (r : List ℕ) → eqb a b ≡ true → leb b 0x7F ≡ true → x ≡ encode_all r → b ∷ x ≡ encode_all (a ∷ r)
+put_at a b x r h k e = rw (eqb-true a b h) (put_byte b x r k e)
 
 -- One character, from each state.
-module _ (a : ℕ) (ok : isAllowed a ≡ true) (r : List ℕ) where
-  on-slash : (b : Bool) → isNameStartByte a ≡ b → Later r Name → accept (run (cond b Name Dead) r) ≡ true → Found Slash (a ∷ r)
-  unfolding text head_of nameText
-  on-slash true h f e = let w : Found Name r = f e in record { what = (head_of a (number-start a ok h) w.what.0, w.what.1); same = put a w.what.0.characters _ r w.same }
-  on-slash false h f e = absurd (dead-refuses r e)
+module _ (a : ℕ) (ok : is_allowed a ≡ true) (r : List ℕ) where
+  on_slash : (b : Bool) → is_name_start_byte a ≡ b → Later r Name → accept (run (cond b Name Dead) r) ≡ true → Found Slash (a ∷ r)
+  unfolding text head_of name_text
+  on_slash true h f e = let w : Found Name r = f e in record { what = (head_of a (number_start a ok h) w.what.0, w.what.1); same = put a w.what.0.characters _ r w.same }
+  on_slash false h f e = absurd (dead_refuses r e)
 
-  on-name : (b c d k : Bool) → isNameByte a ≡ b → eqb a 47 ≡ c → eqb a 123 ≡ d → eqb a 46 ≡ k → Later r Name → Later r Slash → Later r Opened → Later r Dot
+  on_name : (b c d k : Bool) → is_name_byte a ≡ b → eqb a 47 ≡ c → eqb a 123 ≡ d → eqb a 46 ≡ k → Later r Name → Later r Slash → Later r Opened → Later r Dot
       → accept (run (cond b Name (cond c Slash (cond d Opened (cond k Dot Dead)))) r) ≡ true → Found Name (a ∷ r)
-  unfolding text no_more one_more encodeAll
-  on-name true c d k h i j l name slash opened dot e =
-      let w : Found Name r = name e in record { what = (one_more a (number-cont a ok h) w.what.0, w.what.1); same = put a w.what.0.characters _ r w.same }
-  on-name false true d k h i j l name slash opened dot e =
+  unfolding text no_more one_more encode_all
+  on_name true c d k h i j l name slash opened dot e =
+      let w : Found Name r = name e in record { what = (one_more a (number_cont a ok h) w.what.0, w.what.1); same = put a w.what.0.characters _ r w.same }
+  on_name false true d k h i j l name slash opened dot e =
       let w : Found Slash r = slash e in
-      record { what = (no_more, with-prim w.what.0 w.what.1); same = prim-name w.what.0 w.what.1 ∙ put-at a 47 _ r i refl w.same }
-  on-name false false true k h i j l name slash opened dot e =
+      record { what = (no_more, with_prim w.what.0 w.what.1); same = prim_name w.what.0 w.what.1 ∙ put_at a 47 _ r i refl w.same }
+  on_name false false true k h i j l name slash opened dot e =
       let w : Found Opened r = opened e in
       record {
-        what = (no_more, with-selection w.what.0 w.what.1 w.what.2);
-        same = more-name w.what.0 w.what.1 w.what.2 ∙ put-at a 123 _ r j refl w.same;
+        what = (no_more, with_selection w.what.0 w.what.1 w.what.2);
+        same = more_name w.what.0 w.what.1 w.what.2 ∙ put_at a 123 _ r j refl w.same;
       }
-  on-name false false false true h i j l name slash opened dot e =
+  on_name false false false true h i j l name slash opened dot e =
       let w : Found Dot r = dot e in
-      record { what = (no_more, with-property w.what.0 w.what.1); same = property-name w.what.0 w.what.1 ∙ put-at a 46 _ r l refl w.same }
-  on-name false false false false h i j l name slash opened dot e = absurd (dead-refuses r e)
+      record { what = (no_more, with_property w.what.0 w.what.1); same = property_name_lem w.what.0 w.what.1 ∙ put_at a 46 _ r l refl w.same }
+  on_name false false false false h i j l name slash opened dot e = absurd (dead_refuses r e)
 
-  on-opened : (b : Bool) → isNameStartByte a ≡ b → Later r Set → accept (run (cond b Set Dead) r) ≡ true → Found Opened (a ∷ r)
-  unfolding text head_of nameText
-  on-opened true h f e = let w : Found Set r = f e in record { what = (head_of a (number-start a ok h) w.what.0, w.what.1, w.what.2); same = put a w.what.0.characters _ r w.same }
-  on-opened false h f e = absurd (dead-refuses r e)
+  on_opened : (b : Bool) → is_name_start_byte a ≡ b → Later r Set → accept (run (cond b Set Dead) r) ≡ true → Found Opened (a ∷ r)
+  unfolding text head_of name_text
+  on_opened true h f e = let w : Found Set r = f e in record { what = (head_of a (number_start a ok h) w.what.0, w.what.1, w.what.2); same = put a w.what.0.characters _ r w.same }
+  on_opened false h f e = absurd (dead_refuses r e)
 
-  on-set : (b c : Bool) → isNameByte a ≡ b → eqb a 61 ≡ c → Later r Set → Later r Equals → accept (run (cond b Set (cond c Equals Dead)) r) ≡ true → Found Set (a ∷ r)
-  unfolding text no_more one_more encodeAll
-  on-set true c h i f k e = let w : Found Set r = f e in record { what = (one_more a (number-cont a ok h) w.what.0, w.what.1, w.what.2); same = put a w.what.0.characters _ r w.same }
-  on-set false true h i f k e = let w : Found Equals r = k e in record { what = (no_more, w.what.0, w.what.1); same = put-at a 61 _ r i refl w.same }
-  on-set false false h i f k e = absurd (dead-refuses r e)
+  on_set : (b c : Bool) → is_name_byte a ≡ b → eqb a 61 ≡ c → Later r Set → Later r Equals → accept (run (cond b Set (cond c Equals Dead)) r) ≡ true → Found Set (a ∷ r)
+  unfolding text no_more one_more encode_all
+  on_set true c h i f k e = let w : Found Set r = f e in record { what = (one_more a (number_cont a ok h) w.what.0, w.what.1, w.what.2); same = put a w.what.0.characters _ r w.same }
+  on_set false true h i f k e = let w : Found Equals r = k e in record { what = (no_more, w.what.0, w.what.1); same = put_at a 61 _ r i refl w.same }
+  on_set false false h i f k e = absurd (dead_refuses r e)
 
-  on-equals : (b : Bool) → isVariantByte a ≡ b → Later r Sel → accept (run (cond b Sel Dead) r) ≡ true → Found Equals (a ∷ r)
-  unfolding text word_of wordText
-  on-equals true h f e = let w : Found Sel r = f e in record { what = (word_of a h w.what.0, w.what.1); same = put_byte a _ r (variant-ascii a h) w.same }
-  on-equals false h f e = absurd (dead-refuses r e)
+  on_equals : (b : Bool) → is_variant_byte a ≡ b → Later r Sel → accept (run (cond b Sel Dead) r) ≡ true → Found Equals (a ∷ r)
+  unfolding text word_of word_text
+  on_equals true h f e = let w : Found Sel r = f e in record { what = (word_of a h w.what.0, w.what.1); same = put_byte a _ r (variant_ascii a h) w.same }
+  on_equals false h f e = absurd (dead_refuses r e)
 
-  on-sel : (b c : Bool) → isVariantByte a ≡ b → eqb a 125 ≡ c → Later r Sel → Later r Closed → accept (run (cond b Sel (cond c Closed Dead)) r) ≡ true → Found Sel (a ∷ r)
+  on_sel : (b c : Bool) → is_variant_byte a ≡ b → eqb a 125 ≡ c → Later r Sel → Later r Closed → accept (run (cond b Sel (cond c Closed Dead)) r) ≡ true → Found Sel (a ∷ r)
   unfolding text no_bytes one_byte
-  on-sel true c h i f k e = let w : Found Sel r = f e in record { what = (one_byte a h w.what.0, w.what.1); same = put_byte a _ r (variant-ascii a h) w.same }
-  on-sel false true h i f k e = let w : Found Closed r = k e in record { what = (no_bytes, w.what); same = put-at a 125 _ r i refl w.same }
-  on-sel false false h i f k e = absurd (dead-refuses r e)
+  on_sel true c h i f k e = let w : Found Sel r = f e in record { what = (one_byte a h w.what.0, w.what.1); same = put_byte a _ r (variant_ascii a h) w.same }
+  on_sel false true h i f k e = let w : Found Closed r = k e in record { what = (no_bytes, w.what); same = put_at a 125 _ r i refl w.same }
+  on_sel false false h i f k e = absurd (dead_refuses r e)
 
-  on-closed : (b c d : Bool) → isNameStartByte a ≡ b → eqb a 123 ≡ c → eqb a 46 ≡ d → Later r Name → Later r Opened → Later r Dot
+  on_closed : (b c d : Bool) → is_name_start_byte a ≡ b → eqb a 123 ≡ c → eqb a 46 ≡ d → Later r Name → Later r Opened → Later r Dot
       → accept (run (cond b Name (cond c Opened (cond d Dot Dead))) r) ≡ true → Found Closed (a ∷ r)
-  unfolding text head_of nameText
-  on-closed true c d h i j name opened dot e =
+  unfolding text head_of name_text
+  on_closed true c d h i j name opened dot e =
       let w : Found Name r = name e in
-      record { what = with-prim (head_of a (number-start a ok h) w.what.0) w.what.1; same = prim-selection (head_of a (number-start a ok h) w.what.0) w.what.1 ∙ put a w.what.0.characters _ r w.same }
-  on-closed false true d h i j name opened dot e =
+      record { what = with_prim (head_of a (number_start a ok h) w.what.0) w.what.1; same = prim_selection (head_of a (number_start a ok h) w.what.0) w.what.1 ∙ put a w.what.0.characters _ r w.same }
+  on_closed false true d h i j name opened dot e =
       let w : Found Opened r = opened e in
       record {
-        what = with-selection w.what.0 w.what.1 w.what.2;
-        same = more-selection w.what.0 w.what.1 w.what.2 ∙ put-at a 123 _ r i refl w.same;
+        what = with_selection w.what.0 w.what.1 w.what.2;
+        same = more_selection w.what.0 w.what.1 w.what.2 ∙ put_at a 123 _ r i refl w.same;
       }
-  on-closed false false true h i j name opened dot e =
+  on_closed false false true h i j name opened dot e =
       let w : Found Dot r = dot e in
-      record { what = with-property w.what.0 w.what.1; same = property-selection w.what.0 w.what.1 ∙ put-at a 46 _ r j refl w.same }
-  on-closed false false false h i j name opened dot e = absurd (dead-refuses r e)
+      record { what = with_property w.what.0 w.what.1; same = property_selection w.what.0 w.what.1 ∙ put_at a 46 _ r j refl w.same }
+  on_closed false false false h i j name opened dot e = absurd (dead_refuses r e)
 
-  on-dot : (b : Bool) → isNameStartByte a ≡ b → Later r Prop → accept (run (cond b Prop Dead) r) ≡ true → Found Dot (a ∷ r)
-  unfolding text head_of nameText
-  on-dot true h f e = let w : Found Prop r = f e in record { what = (head_of a (number-start a ok h) w.what.0, w.what.1); same = put a w.what.0.characters _ r w.same }
-  on-dot false h f e = absurd (dead-refuses r e)
+  on_dot : (b : Bool) → is_name_start_byte a ≡ b → Later r Prop → accept (run (cond b Prop Dead) r) ≡ true → Found Dot (a ∷ r)
+  unfolding text head_of name_text
+  on_dot true h f e = let w : Found Prop r = f e in record { what = (head_of a (number_start a ok h) w.what.0, w.what.1); same = put a w.what.0.characters _ r w.same }
+  on_dot false h f e = absurd (dead_refuses r e)
 
-  on-prop : (b c : Bool) → isNameByte a ≡ b → eqb a 58 ≡ c → Later r Prop → Later r Dot → accept (run (cond b Prop (cond c Dot Dead)) r) ≡ true → Found Prop (a ∷ r)
-  unfolding text no_more one_more encodeAll moreText
-  on-prop true c h i f k e = let w : Found Prop r = f e in record { what = (one_more a (number-cont a ok h) w.what.0, w.what.1); same = put a w.what.0.characters _ r w.same }
-  on-prop false true h i f k e = let w : Found Dot r = k e in record { what = (no_more, w.what.0 ∷ w.what.1); same = put-at a 58 _ r i refl w.same }
-  on-prop false false h i f k e = absurd (dead-refuses r e)
+  on_prop : (b c : Bool) → is_name_byte a ≡ b → eqb a 58 ≡ c → Later r Prop → Later r Dot → accept (run (cond b Prop (cond c Dot Dead)) r) ≡ true → Found Prop (a ∷ r)
+  unfolding text no_more one_more encode_all more_text
+  on_prop true c h i f k e = let w : Found Prop r = f e in record { what = (one_more a (number_cont a ok h) w.what.0, w.what.1); same = put a w.what.0.characters _ r w.same }
+  on_prop false true h i f k e = let w : Found Dot r = k e in record { what = (no_more, w.what.0 ∷ w.what.1); same = put_at a 58 _ r i refl w.same }
+  on_prop false false h i f k e = absurd (dead_refuses r e)
 
-parse : (s : ScanState) (r : List ℕ) → areAllowed r ≡ true → accept (run s r) ≡ true → Found s r
-unfolding run step accept areAllowed encodeAll text afterName afterSelection follow no_more no_bytes nothing selectionsText propertyText moreText
+parse : (s : ScanState) (r : List ℕ) → are_allowed r ≡ true → accept (run s r) ≡ true → Found s r
+unfolding run step accept are_allowed encode_all text after_name after_selection follow no_more no_bytes nothing selections_text property_text more_text
 parse Slash [] ok e = absurd (false≢true e)
 parse Name [] ok e = record { what = (no_more, nothing); same = refl }
 parse Opened [] ok e = absurd (false≢true e)
@@ -283,37 +283,37 @@ parse Closed [] ok e = record { what = nothing; same = refl }
 parse Dot [] ok e = absurd (false≢true e)
 parse Prop [] ok e = record { what = (no_more, []); same = refl }
 parse Dead [] ok e = absurd (false≢true e)
-parse Slash (a ∷ r) ok e = on-slash a (and_l (isAllowed a) (areAllowed r) ok) r (isNameStartByte a) refl (λ h. parse Name r (and_r (isAllowed a) (areAllowed r) ok) h) e
+parse Slash (a ∷ r) ok e = on_slash a (and_l (is_allowed a) (are_allowed r) ok) r (is_name_start_byte a) refl (λ h. parse Name r (and_r (is_allowed a) (are_allowed r) ok) h) e
 parse Name (a ∷ r) ok e =
-    on-name a (and_l (isAllowed a) (areAllowed r) ok) r (isNameByte a) (eqb a 47) (eqb a 123) (eqb a 46) refl refl refl refl (λ h. parse Name r (and_r (isAllowed a) (areAllowed r) ok) h) (λ h. parse Slash r (and_r (isAllowed a) (areAllowed r) ok) h) (λ h. parse Opened r (and_r (isAllowed a) (areAllowed r) ok) h)
-    (λ h. parse Dot r (and_r (isAllowed a) (areAllowed r) ok) h) e
-parse Opened (a ∷ r) ok e = on-opened a (and_l (isAllowed a) (areAllowed r) ok) r (isNameStartByte a) refl (λ h. parse Set r (and_r (isAllowed a) (areAllowed r) ok) h) e
-parse Set (a ∷ r) ok e = on-set a (and_l (isAllowed a) (areAllowed r) ok) r (isNameByte a) (eqb a 61) refl refl (λ h. parse Set r (and_r (isAllowed a) (areAllowed r) ok) h) (λ h. parse Equals r (and_r (isAllowed a) (areAllowed r) ok) h) e
-parse Equals (a ∷ r) ok e = on-equals a (and_l (isAllowed a) (areAllowed r) ok) r (isVariantByte a) refl (λ h. parse Sel r (and_r (isAllowed a) (areAllowed r) ok) h) e
-parse Sel (a ∷ r) ok e = on-sel a (and_l (isAllowed a) (areAllowed r) ok) r (isVariantByte a) (eqb a 125) refl refl (λ h. parse Sel r (and_r (isAllowed a) (areAllowed r) ok) h) (λ h. parse Closed r (and_r (isAllowed a) (areAllowed r) ok) h) e
+    on_name a (and_l (is_allowed a) (are_allowed r) ok) r (is_name_byte a) (eqb a 47) (eqb a 123) (eqb a 46) refl refl refl refl (λ h. parse Name r (and_r (is_allowed a) (are_allowed r) ok) h) (λ h. parse Slash r (and_r (is_allowed a) (are_allowed r) ok) h) (λ h. parse Opened r (and_r (is_allowed a) (are_allowed r) ok) h)
+    (λ h. parse Dot r (and_r (is_allowed a) (are_allowed r) ok) h) e
+parse Opened (a ∷ r) ok e = on_opened a (and_l (is_allowed a) (are_allowed r) ok) r (is_name_start_byte a) refl (λ h. parse Set r (and_r (is_allowed a) (are_allowed r) ok) h) e
+parse Set (a ∷ r) ok e = on_set a (and_l (is_allowed a) (are_allowed r) ok) r (is_name_byte a) (eqb a 61) refl refl (λ h. parse Set r (and_r (is_allowed a) (are_allowed r) ok) h) (λ h. parse Equals r (and_r (is_allowed a) (are_allowed r) ok) h) e
+parse Equals (a ∷ r) ok e = on_equals a (and_l (is_allowed a) (are_allowed r) ok) r (is_variant_byte a) refl (λ h. parse Sel r (and_r (is_allowed a) (are_allowed r) ok) h) e
+parse Sel (a ∷ r) ok e = on_sel a (and_l (is_allowed a) (are_allowed r) ok) r (is_variant_byte a) (eqb a 125) refl refl (λ h. parse Sel r (and_r (is_allowed a) (are_allowed r) ok) h) (λ h. parse Closed r (and_r (is_allowed a) (are_allowed r) ok) h) e
 parse Closed (a ∷ r) ok e =
-    on-closed a (and_l (isAllowed a) (areAllowed r) ok) r (isNameStartByte a) (eqb a 123) (eqb a 46) refl refl refl (λ h. parse Name r (and_r (isAllowed a) (areAllowed r) ok) h) (λ h. parse Opened r (and_r (isAllowed a) (areAllowed r) ok) h) (λ h. parse Dot r (and_r (isAllowed a) (areAllowed r) ok) h) e
-parse Dot (a ∷ r) ok e = on-dot a (and_l (isAllowed a) (areAllowed r) ok) r (isNameStartByte a) refl (λ h. parse Prop r (and_r (isAllowed a) (areAllowed r) ok) h) e
-parse Prop (a ∷ r) ok e = on-prop a (and_l (isAllowed a) (areAllowed r) ok) r (isNameByte a) (eqb a 58) refl refl (λ h. parse Prop r (and_r (isAllowed a) (areAllowed r) ok) h) (λ h. parse Dot r (and_r (isAllowed a) (areAllowed r) ok) h) e
-parse Dead (a ∷ r) ok e = absurd (dead-refuses r e)
+    on_closed a (and_l (is_allowed a) (are_allowed r) ok) r (is_name_start_byte a) (eqb a 123) (eqb a 46) refl refl refl (λ h. parse Name r (and_r (is_allowed a) (are_allowed r) ok) h) (λ h. parse Opened r (and_r (is_allowed a) (are_allowed r) ok) h) (λ h. parse Dot r (and_r (is_allowed a) (are_allowed r) ok) h) e
+parse Dot (a ∷ r) ok e = on_dot a (and_l (is_allowed a) (are_allowed r) ok) r (is_name_start_byte a) refl (λ h. parse Prop r (and_r (is_allowed a) (are_allowed r) ok) h) e
+parse Prop (a ∷ r) ok e = on_prop a (and_l (is_allowed a) (are_allowed r) ok) r (is_name_byte a) (eqb a 58) refl refl (λ h. parse Prop r (and_r (is_allowed a) (are_allowed r) ok) h) (λ h. parse Dot r (and_r (is_allowed a) (are_allowed r) ok) h) e
+parse Dead (a ∷ r) ok e = absurd (dead_refuses r e)
 
 -- The text r is that of prims and perhaps a property, which follow the first slash.
 pub record RenderedPrims (r : Text) : Type 0 where
   pub prim : g.Prim
   pub more : List g.Prim
   pub property : Option g.Property
-  pub same : primsText prim more ++ propertyText property ≡ r
+  pub same : prims_text prim more ++ property_text property ≡ r
 
 -- The texts that are accepted after the first slash.
-pub body : (r : Text) → accept (run Slash r) ≡ true → charactersAllowed r ≡ true → RenderedPrims r
+pub body : (r : Text) → accept (run Slash r) ≡ true → characters_allowed r ≡ true → RenderedPrims r
 unfolding text
 body r e h =
-    let c = allowed-characters r h in
-    let read : run Slash c.characters ≡ run Slash r = sym (run-characters Slash c.characters) ∙ ap (run Slash) c.encoded.same in
+    let c = allowed_characters r h in
+    let read : run Slash c.characters ≡ run Slash r = sym (run_characters Slash c.characters) ∙ ap (run Slash) c.encoded.same in
     let w : Found Slash c.characters = parse Slash c.characters c.allowed (ap accept read ∙ e) in
     record {
       prim = record { name = w.what.0; selections = w.what.1.selections };
       more = w.what.1.rest;
       property = w.what.1.property;
-      same = prims-text w.what.0 w.what.1 ∙ w.same ∙ c.encoded.same;
+      same = prims_text_lem w.what.0 w.what.1 ∙ w.same ∙ c.encoded.same;
     }

@@ -5,73 +5,73 @@ use mathlib.Core.List.{List, [], ◌∷◌, ◌++◌}
 use Prim.Native.Nat.{ℕ}
 use lib.Dec.{eqb}
 use borrow.Author.Tests.{eqb-true}
-use Rattle.text.specs.Text.{Text, lacksByte}
+use Rattle.text.specs.Text.{Text, lacks_byte}
 use Rattle.text.proofs.BoolLaws.{and_l, and_r, and_no}
-use Rattle.text.proofs.TextLaws.{lacks-append, lacks-join}
-use Rattle.path_grammar.specs.Legal.{isNameStartByte, isNameByte}
+use Rattle.text.proofs.TextLaws.{lacks_append, lacks_join}
+use Rattle.path_grammar.specs.Legal.{is_name_start_byte, is_name_byte}
 use Rattle.path_grammar.specs.Grammar as g
-use Rattle.path_grammar.specs.Grammar.{nameText, wordText, selectionText, selectionsText, primText, primSeparator, primsText}
-use Rattle.path_grammar.proofs.NameLaws.{areNameBytes, name-bytes, word_bytes}
+use Rattle.path_grammar.specs.Grammar.{name_text, word_text, selection_text, selections_text, prim_text, prim_separator, prims_text}
+use Rattle.path_grammar.proofs.NameLaws.{are_name_bytes, name_bytes, word_bytes}
 
-pub not-name : (a k : ℕ) → isNameByte k ≡ false → isNameByte a ≡ true → eqb a k ≡ false
-not-name a k n h = go (eqb a k) refl
+pub not_name : (a k : ℕ) → is_name_byte k ≡ false → is_name_byte a ≡ true → eqb a k ≡ false
+not_name a k n h = go (eqb a k) refl
   where
     go : (t : Bool) → eqb a k ≡ t → t ≡ false
     go true e = absurd (true≢false (sym h ∙ rw (eqb-true a k e) n))
     go false e = refl
 
 -- A name and a variant lack every byte that no name contains.
-module _ (b : ℕ) (no : isNameByte b ≡ false) where
-  bytes-lack : (t : Text) → areNameBytes t ≡ true → lacksByte b t ≡ true
-  unfolding areNameBytes lacksByte
-  bytes-lack [] e = refl
-  bytes-lack (a ∷ t) e =
-      rw (not-name a b no (and_l (isNameByte a) (areNameBytes t) e)) (bytes-lack t (and_r (isNameByte a) (areNameBytes t) e))
+module _ (b : ℕ) (no : is_name_byte b ≡ false) where
+  bytes_lack : (t : Text) → are_name_bytes t ≡ true → lacks_byte b t ≡ true
+  unfolding are_name_bytes lacks_byte
+  bytes_lack [] e = refl
+  bytes_lack (a ∷ t) e =
+      rw (not_name a b no (and_l (is_name_byte a) (are_name_bytes t) e)) (bytes_lack t (and_r (is_name_byte a) (are_name_bytes t) e))
 
-  pub name-lacks : (n : g.Name) → lacksByte b (nameText n) ≡ true
-  name-lacks n = bytes-lack (nameText n) (name-bytes n)
+  pub name_lacks : (n : g.Name) → lacks_byte b (name_text n) ≡ true
+  name_lacks n = bytes_lack (name_text n) (name_bytes n)
 
-  pub word-lacks : (w : g.Word) → lacksByte b (wordText w) ≡ true
-  word-lacks w = bytes-lack (wordText w) (word_bytes w)
+  pub word_lacks : (w : g.Word) → lacks_byte b (word_text w) ≡ true
+  word_lacks w = bytes_lack (word_text w) (word_bytes w)
 
 -- Bytes that no name contains.
-pub dot-no-name : isNameByte 46 ≡ false
-unfolding isNameByte isNameStartByte
-dot-no-name = refl
+pub dot_no_name : is_name_byte 46 ≡ false
+unfolding is_name_byte is_name_start_byte
+dot_no_name = refl
 
-pub close-no-name : isNameByte 125 ≡ false
-unfolding isNameByte isNameStartByte
-close-no-name = refl
+pub close_no_name : is_name_byte 125 ≡ false
+unfolding is_name_byte is_name_start_byte
+close_no_name = refl
 
 -- Prims lack the dot.
-selection-dotless : (s : g.Selection) → lacksByte 46 (selectionText s) ≡ true
-unfolding selectionText lacksByte
-selection-dotless s =
-    lacks-join 46 (nameText s.variantSet) (61 ∷ (wordText s.variant ++ (125 ∷ []))) (name-lacks 46 dot-no-name s.variantSet)
-    (lacks-join 46 (wordText s.variant) (125 ∷ []) (word-lacks 46 dot-no-name s.variant) refl)
+selection_dotless : (s : g.Selection) → lacks_byte 46 (selection_text s) ≡ true
+unfolding selection_text lacks_byte
+selection_dotless s =
+    lacks_join 46 (name_text s.variant_set) (61 ∷ (word_text s.variant ++ (125 ∷ []))) (name_lacks 46 dot_no_name s.variant_set)
+    (lacks_join 46 (word_text s.variant) (125 ∷ []) (word_lacks 46 dot_no_name s.variant) refl)
 
-selections-dotless : (r : List g.Selection) → lacksByte 46 (selectionsText r) ≡ true
-unfolding selectionsText lacksByte
-selections-dotless [] = refl
-selections-dotless (s ∷ r) = lacks-join 46 (selectionText s) (selectionsText r) (selection-dotless s) (selections-dotless r)
+selections_dotless : (r : List g.Selection) → lacks_byte 46 (selections_text r) ≡ true
+unfolding selections_text lacks_byte
+selections_dotless [] = refl
+selections_dotless (s ∷ r) = lacks_join 46 (selection_text s) (selections_text r) (selection_dotless s) (selections_dotless r)
 
-prim-dotless : (p : g.Prim) → lacksByte 46 (primText p) ≡ true
-unfolding primText
-prim-dotless p = lacks-join 46 (nameText p.name) (selectionsText p.selections) (name-lacks 46 dot-no-name p.name) (selections-dotless p.selections)
+prim_dotless : (p : g.Prim) → lacks_byte 46 (prim_text p) ≡ true
+unfolding prim_text
+prim_dotless p = lacks_join 46 (name_text p.name) (selections_text p.selections) (name_lacks 46 dot_no_name p.name) (selections_dotless p.selections)
 
-separator-dotless : (r : List g.Selection) → lacksByte 46 (primSeparator r) ≡ true
-unfolding primSeparator lacksByte
-separator-dotless [] = refl
-separator-dotless (s ∷ r) = refl
+separator_dotless : (r : List g.Selection) → lacks_byte 46 (prim_separator r) ≡ true
+unfolding prim_separator lacks_byte
+separator_dotless [] = refl
+separator_dotless (s ∷ r) = refl
 
-pub prims-dotless : (p : g.Prim) (r : List g.Prim) → lacksByte 46 (primsText p r) ≡ true
-unfolding primsText
-prims-dotless p [] = prim-dotless p
-prims-dotless p (q ∷ r) =
-    lacks-join 46 (primText p) (primSeparator p.selections ++ primsText q r) (prim-dotless p)
-    (lacks-join 46 (primSeparator p.selections) (primsText q r) (separator-dotless p.selections) (prims-dotless q r))
+pub prims_dotless : (p : g.Prim) (r : List g.Prim) → lacks_byte 46 (prims_text p r) ≡ true
+unfolding prims_text
+prims_dotless p [] = prim_dotless p
+prims_dotless p (q ∷ r) =
+    lacks_join 46 (prim_text p) (prim_separator p.selections ++ prims_text q r) (prim_dotless p)
+    (lacks_join 46 (prim_separator p.selections) (prims_text q r) (separator_dotless p.selections) (prims_dotless q r))
 
 -- A text with a dot in it.
-pub dot-found : (x t : Text) → lacksByte 46 (x ++ (46 ∷ t)) ≡ false
-unfolding lacksByte
-dot-found x t = rw (lacks-append 46 x (46 ∷ t)) (and_no (lacksByte 46 x))
+pub dot_found : (x t : Text) → lacks_byte 46 (x ++ (46 ∷ t)) ≡ false
+unfolding lacks_byte
+dot_found x t = rw (lacks_append 46 x (46 ∷ t)) (and_no (lacks_byte 46 x))

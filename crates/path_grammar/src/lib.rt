@@ -3,11 +3,11 @@
 // the low six bits of a number. It reads a path's own part; the path in brackets is checked apart, and
 // so are the characters outside ASCII, whose bytes the scan takes for bytes of names.
 ghost use Rattle.std.specs.Prelude.{◌≡◌, ◌&&◌, not, map, ◌/◌, ◌%◌, ◌^◌, leb};
-ghost use Rattle.path_grammar.specs.Legal.{isNameStartByte, isNameByte, isRoot, legalOwn, legalWithin, legal, isEnd};
-ghost use Rattle.text.specs.Text.{lacksByte};
+ghost use Rattle.path_grammar.specs.Legal.{is_name_start_byte, is_name_byte, is_root, legal_own, legal_within, legal, is_end};
+ghost use Rattle.text.specs.Text.{lacks_byte};
 ghost use Rattle.text.specs.Bytes.{dot};
-ghost use Rattle.path_grammar.specs.InnerText.{innerText};
-ghost use Rattle.path_grammar.specs.PackedScan.{packedSteps, endByte, scanCode};
+ghost use Rattle.path_grammar.specs.InnerText.{inner_text};
+ghost use Rattle.path_grammar.specs.PackedScan.{packed_steps, end_byte, scan_code};
 
 // The transition table: the next state of every state at the byte `a`, six bits for each. A match whose
 // arms are single values compiles to a table in read-only memory, whereas a const array is built anew at
@@ -15,7 +15,7 @@ ghost use Rattle.path_grammar.specs.PackedScan.{packedSteps, endByte, scanCode};
 // arms. The letters are the default, so that the first and the last value of the table are listed: then
 // no test is needed whether a byte is in the table.
 fn row(a: u8) -> u64
-    ensures { result ≡ packedSteps a }
+    ensures { result ≡ packed_steps a }
 {
     match a {
         48 | 50 | 52 | 54 | 56 => 988164805558324608,
@@ -50,7 +50,7 @@ fn row(a: u8) -> u64
 
 // The state after state `s` and byte `a`; only the low six bits count.
 fn next(s: u64, a: u8) -> u64
-    ensures { result ≡ packedSteps a / 2 ^ (s % 64) }
+    ensures { result ≡ packed_steps a / 2 ^ (s % 64) }
 {
     row(a) >> (s % 64)
 }
@@ -58,7 +58,7 @@ fn next(s: u64, a: u8) -> u64
 // Returns 0 if the automaton refuses the text, 1 if it accepts it and every byte is one of ASCII, and
 // otherwise 2. This function passes its text to no other, so that it takes the text in registers.
 fn scan(p: &[u8]) -> u8
-    ensures { result ≡ scanCode p.now p.now }
+    ensures { result ≡ scan_code p.now p.now }
 {
     if p.len() == 0 {
         return 1;
@@ -88,7 +88,7 @@ fn scan(p: &[u8]) -> u8
 
 // Returns whether the text is a legal path without brackets.
 fn is_legal_own(p: &[u8]) -> bool
-    ensures { result ≡ legalOwn p.now }
+    ensures { result ≡ legal_own p.now }
 {
     let code = scan(p);
     if code == 1 {
@@ -103,7 +103,7 @@ fn is_legal_own(p: &[u8]) -> bool
 // Returns whether the text is a legal path without brackets that has a property, which a target may
 // follow.
 fn is_legal_property(p: &[u8]) -> bool
-    ensures { result ≡ (legalOwn p.now && not (lacksByte dot p.now)) }
+    ensures { result ≡ (legal_own p.now && not (lacks_byte dot p.now)) }
 {
     if !is_legal_own(p) {
         return false;
@@ -114,7 +114,7 @@ fn is_legal_property(p: &[u8]) -> bool
 // Returns the text in the brackets of a path whose own part is legal and has a property; empty if there is
 // no such text. Only a text that ends in `]` can have brackets, so the last byte is tested first.
 fn inner_text(p: &[u8]) -> &[u8]
-    ensures { result.now ≡ innerText p.now }
+    ensures { result.now ≡ inner_text p.now }
 {
     if !text::last_is(p, b']') {
         return &p[..0];
@@ -132,7 +132,7 @@ fn inner_text(p: &[u8]) -> &[u8]
 // Returns whether the text is a legal path with at most `depth` opening brackets: asks the same of the text in
 // the brackets, with the remaining depth falling.
 fn is_legal_within(p: &[u8], depth: usize) -> bool
-    ensures { result ≡ legalWithin depth p.now }
+    ensures { result ≡ legal_within depth p.now }
 {
     let inner = inner_text(p);
     if inner.len() == 0 {
@@ -167,7 +167,7 @@ pub fn is_legal(p: &[u8]) -> bool
 
 // Like `row`, but treats `.` and `{` as bytes that no path contains.
 fn end_row(a: u8) -> u64
-    ensures { result ≡ packedSteps (endByte a) }
+    ensures { result ≡ packed_steps (end_byte a) }
 {
     match a {
         48 | 50 | 52 | 54 | 56 => 988164805558324608,
@@ -204,14 +204,14 @@ fn end_row(a: u8) -> u64
 
 // Like `next`, with `end_row`.
 fn next_in_end(s: u64, a: u8) -> u64
-    ensures { result ≡ packedSteps (endByte a) / 2 ^ (s % 64) }
+    ensures { result ≡ packed_steps (end_byte a) / 2 ^ (s % 64) }
 {
     end_row(a) >> (s % 64)
 }
 
 // Like `scan`, with `end_row`.
 fn scan_end(p: &[u8]) -> u8
-    ensures { result ≡ scanCode (map endByte p.now) p.now }
+    ensures { result ≡ scan_code (map end_byte p.now) p.now }
 {
     if p.len() == 0 {
         return 1;
@@ -243,7 +243,7 @@ fn scan_end(p: &[u8]) -> u8
 // the text again keeps the compiler from merging `scan_end` into `is_end`, where it would take the text from
 // memory.
 fn is_end_wide(p: &[u8]) -> bool
-    ensures { result ≡ isEnd p.now }
+    ensures { result ≡ is_end p.now }
 {
     let code = scan_end(p);
     if code == 0 {
@@ -254,7 +254,7 @@ fn is_end_wide(p: &[u8]) -> bool
 
 // Returns whether the text is a prim path, `/` or empty, regardless of its length.
 pub fn is_end(p: &[u8]) -> bool
-    ensures { result ≡ isEnd p.now }
+    ensures { result ≡ is_end p.now }
 {
     let code = scan_end(p);
     if code == 1 {
@@ -265,7 +265,7 @@ pub fn is_end(p: &[u8]) -> bool
 
 // Returns whether the text is `/`.
 pub fn is_root(p: &[u8]) -> bool
-    ensures { result ≡ isRoot p.now }
+    ensures { result ≡ is_root p.now }
 {
     if p.len() != 1 {
         return false;
@@ -282,14 +282,14 @@ fn is_between(low: u8, a: u8, high: u8) -> bool
 
 // Returns whether the byte may begin a name.
 fn is_name_start_byte(a: u8) -> bool
-    ensures { result ≡ isNameStartByte a }
+    ensures { result ≡ is_name_start_byte a }
 {
     is_between(b'A', a, b'Z') | is_between(b'a', a, b'z') | (a == b'_') | (128 <= a)
 }
 
 // Returns whether the byte may be part of a name.
 pub fn is_name_byte(a: u8) -> bool
-    ensures { result ≡ isNameByte a }
+    ensures { result ≡ is_name_byte a }
 {
     is_name_start_byte(a) | is_between(b'0', a, b'9')
 }

@@ -10,13 +10,13 @@ use mir.Syntax.{w64}
 use mir.Facts.{Fits-below}
 use lib.ListN.{length, drop}
 use borrow.Author.Tests.{ne_eqb}
-use Rattle.text.specs.Text.{Text, endsWithByte}
+use Rattle.text.specs.Text.{Text, ends_with_byte}
 use Rattle.text.proofs.BoolLaws.{and_no, and_yes, and_assoc}
 use Rattle.text.proofs.TextLaws.{last_some}
-use Rattle.path_grammar.specs.Legal.{isRoot, isNameByte}
-use Rattle.path_join.specs.Join.{isChild, endsWithSeparator, separatorLen, body}
-use Rattle.path_join.specs.Layout.{as_number, firstByte, lastByte, separatorBy, LaysOut}
-use Rattle.path_join.proofs.SeparatorLaws.{separator-short}
+use Rattle.path_grammar.specs.Legal.{is_root, is_name_byte}
+use Rattle.path_join.specs.Join.{is_child, ends_with_separator, separator_len, body}
+use Rattle.path_join.specs.Layout.{as_number, first_byte, last_byte, separator_by, LaysOut}
+use Rattle.path_join.proofs.SeparatorLaws.{separator_short_lem}
 
 -- Tests as numbers: subtraction from 1 is negation, the product is conjunction, and the sum of two tests that exclude each other is their
 -- disjunction.
@@ -33,67 +33,67 @@ unfolding as_number
 number_is true = refl
 number_is false = refl
 
-pub number-not : (b : Bool) → 1 - as_number b ≡ as_number (not b)
+pub number_not : (b : Bool) → 1 - as_number b ≡ as_number (not b)
 unfolding as_number
-number-not true = refl
-number-not false = refl
+number_not true = refl
+number_not false = refl
 
-pub number-and : (b c : Bool) → as_number b * as_number c ≡ as_number (b && c)
+pub number_and : (b c : Bool) → as_number b * as_number c ≡ as_number (b && c)
 unfolding as_number
-number-and true true = refl
-number-and true false = refl
-number-and false true = refl
-number-and false false = refl
+number_and true true = refl
+number_and true false = refl
+number_and false true = refl
+number_and false false = refl
 
-pub number-choice : (o x y : Bool) → as_number (o && x) + as_number (not o && y) ≡ as_number (cond o x y)
+pub number_choice : (o x y : Bool) → as_number (o && x) + as_number (not o && y) ≡ as_number (cond o x y)
 unfolding as_number
-number-choice true true y = refl
-number-choice true false y = refl
-number-choice false x true = refl
-number-choice false x false = refl
+number_choice true true y = refl
+number_choice true false y = refl
+number_choice false x true = refl
+number_choice false x false = refl
 
 -- The length that `separator_len` computes, and its parts: the product for the old prefix `/`, the two for any other, and their sum.
-pub after-root : (o n : Bool) → as_number o * (1 - as_number n) ≡ as_number (o && not n)
-after-root o n = rw (number-not n) (number-and o (not n))
+pub after_root : (o n : Bool) → as_number o * (1 - as_number n) ≡ as_number (o && not n)
+after_root o n = rw (number_not n) (number_and o (not n))
 
-pub child-after-prim : (o c : Bool) → (1 - as_number o) * as_number c ≡ as_number (not o && c)
-child-after-prim o c = rw (number-not o) (number-and (not o) c)
+pub child_after_prim : (o c : Bool) → (1 - as_number o) * as_number c ≡ as_number (not o && c)
+child_after_prim o c = rw (number_not o) (number_and (not o) c)
 
-pub after-prim : (o c d : Bool) → (1 - as_number o) * as_number c * (1 - as_number d) ≡ as_number (not o && (c && not d))
-after-prim o c d = rw (child-after-prim o c, number-not d, number-and (not o && c) (not d), and_assoc (not o) c (not d))
+pub after_prim : (o c d : Bool) → (1 - as_number o) * as_number c * (1 - as_number d) ≡ as_number (not o && (c && not d))
+after_prim o c d = rw (child_after_prim o c, number_not d, number_and (not o && c) (not d), and_assoc (not o) c (not d))
 
-pub after-prefix : (o n c d : Bool)
+pub after_prefix : (o n c d : Bool)
     → as_number o * (1 - as_number n) + (1 - as_number o) * as_number c * (1 - as_number d) ≡ as_number (cond o (not n) (c && not d))
-after-prefix o n c d = rw (after-root o n, after-prim o c d) (number-choice o (not n) (c && not d))
+after_prefix o n c d = rw (after_root o n, after_prim o c d) (number_choice o (not n) (c && not d))
 
-pub separator-is : (f o n c d : Bool)
-    → as_number f * (as_number o * (1 - as_number n) + (1 - as_number o) * as_number c * (1 - as_number d)) ≡ separatorBy f o n c d
-unfolding separatorBy
-separator-is f o n c d = rw (after-prefix o n c d) (number-and f (cond o (not n) (c && not d)))
+pub separator_is_lem : (f o n c d : Bool)
+    → as_number f * (as_number o * (1 - as_number n) + (1 - as_number o) * as_number c * (1 - as_number d)) ≡ separator_by f o n c d
+unfolding separator_by
+separator_is_lem f o n c d = rw (after_prefix o n c d) (number_and f (cond o (not n) (c && not d)))
 
-pub separator-fits : (f o n c d : Bool) → Fits w64 (separatorBy f o n c d)
-unfolding separatorBy
-separator-fits f o n c d = number_fits (f && cond o (not n) (c && not d))
+pub separator_fits : (f o n c d : Bool) → Fits w64 (separator_by f o n c d)
+unfolding separator_by
+separator_fits f o n c d = number_fits (f && cond o (not n) (c && not d))
 
 -- The tests on a prefix, by its length and its last byte.
-pub root-by-last : (s : Text) → (eqb (length s) 1 && eqb (lastByte s) 47) ≡ isRoot s
-unfolding lastByte
-root-by-last [] = refl
-root-by-last (a ∷ []) = sym (and_yes (eqb a 47))
-root-by-last (a ∷ b ∷ s) = rw (ne_eqb (length (a ∷ b ∷ s)) 1 (λ z. omega arith)) (sym (and_no (eqb a 47)))
+pub root_by_last : (s : Text) → (eqb (length s) 1 && eqb (last_byte s) 47) ≡ is_root s
+unfolding last_byte
+root_by_last [] = refl
+root_by_last (a ∷ []) = sym (and_yes (eqb a 47))
+root_by_last (a ∷ b ∷ s) = rw (ne_eqb (length (a ∷ b ∷ s)) 1 (λ z. omega arith)) (sym (and_no (eqb a 47)))
 
-pub closed-by-last : (s : Text) → eqb (lastByte s) 125 ≡ endsWithByte 125 s
-unfolding endsWithByte lastByte
-closed-by-last [] = refl
-closed-by-last (a ∷ s) = last_some 125 (a ∷ s) (λ z. omega arith)
+pub closed_by_last : (s : Text) → eqb (last_byte s) 125 ≡ ends_with_byte 125 s
+unfolding ends_with_byte last_byte
+closed_by_last [] = refl
+closed_by_last (a ∷ s) = last_some 125 (a ∷ s) (λ z. omega arith)
 
 -- The layout, by the tests that decide it.
-separator-by-tests : (s t r : Text)
-    → separatorBy (not (eqb (length r) 0)) (isRoot s) (isRoot t) (isChild s (firstByte r)) (endsWithSeparator t) ≡ separatorLen s t r
-unfolding separatorBy separatorLen firstByte
-separator-by-tests s t [] = refl
-separator-by-tests s t (a ∷ r) =
-    rw (ne_eqb (length (a ∷ r)) 0 (λ z. omega arith)) (go (isRoot s) (isRoot t) (isChild s a) (endsWithSeparator t))
+separator_by_tests : (s t r : Text)
+    → separator_by (not (eqb (length r) 0)) (is_root s) (is_root t) (is_child s (first_byte r)) (ends_with_separator t) ≡ separator_len s t r
+unfolding separator_by separator_len first_byte
+separator_by_tests s t [] = refl
+separator_by_tests s t (a ∷ r) =
+    rw (ne_eqb (length (a ∷ r)) 0 (λ z. omega arith)) (go (is_root s) (is_root t) (is_child s a) (ends_with_separator t))
   where
     go : (o n c d : Bool) → as_number (cond o (not n) (c && not d)) ≡ cond o (cond n 0 1) (cond (not c) 0 (cond d 0 1))
     go true true c d = refl
@@ -102,59 +102,59 @@ separator-by-tests s t (a ∷ r) =
     go false n true true = refl
     go false n true false = refl
 
-body-by-tests : (s r : Text) → drop (as_number (not (isRoot s) && eqb (firstByte r) 47)) r ≡ body s r
-unfolding body as_number firstByte
-body-by-tests s [] = rw (and_no (not (isRoot s)))
-body-by-tests s (a ∷ r) = go (not (isRoot s) && eqb a 47)
+body_by_tests : (s r : Text) → drop (as_number (not (is_root s) && eqb (first_byte r) 47)) r ≡ body s r
+unfolding body as_number first_byte
+body_by_tests s [] = rw (and_no (not (is_root s)))
+body_by_tests s (a ∷ r) = go (not (is_root s) && eqb a 47)
   where
     go : (b : Bool) → drop (as_number b) (a ∷ r) ≡ cond b r (a ∷ r)
     go true = refl
     go false = refl
 
-body-inside : (b : Bool) (r : Text) → as_number (b && eqb (firstByte r) 47) ≤ length r
-unfolding as_number firstByte
-body-inside b [] = rw (and_no b) (omega arith)
-body-inside b (a ∷ r) = omega (arith, number_short (b && eqb a 47))
+body_inside_lem : (b : Bool) (r : Text) → as_number (b && eqb (first_byte r) 47) ≤ length r
+unfolding as_number first_byte
+body_inside_lem b [] = rw (and_no b) (omega arith)
+body_inside_lem b (a ∷ r) = omega (arith, number_short (b && eqb a 47))
 
 -- What `layout_of` returns: a is the first byte of the remainder, o and l are the last bytes of the old and the new prefix, and i tells whether a
 -- name may contain a.
-module _ (s t r : Text) (a o l : ℕ) (i : Bool) (ea : a ≡ firstByte r) (eo : o ≡ lastByte s) (el : l ≡ lastByte t) (ei : i ≡ isNameByte a) where
-  old-root : (eqb (length s) 1 && eqb o 47) ≡ isRoot s
-  old-root = rw eo (root-by-last s)
+module _ (s t r : Text) (a o l : ℕ) (i : Bool) (ea : a ≡ first_byte r) (eo : o ≡ last_byte s) (el : l ≡ last_byte t) (ei : i ≡ is_name_byte a) where
+  old_root : (eqb (length s) 1 && eqb o 47) ≡ is_root s
+  old_root = rw eo (root_by_last s)
 
-  new-root : (eqb (length t) 1 && eqb l 47) ≡ isRoot t
-  new-root = rw el (root-by-last t)
+  new_root : (eqb (length t) 1 && eqb l 47) ≡ is_root t
+  new_root = rw el (root_by_last t)
 
-  child : (eqb a 47 || eqb o 125 && i) ≡ isChild s (firstByte r)
-  unfolding isChild
-  child = rw (eo, closed-by-last s, ei, ea)
+  child : (eqb a 47 || eqb o 125 && i) ≡ is_child s (first_byte r)
+  unfolding is_child
+  child = rw (eo, closed_by_last s, ei, ea)
 
-  direct : (eqb (length t) 1 && eqb l 47 || eqb l 125) ≡ endsWithSeparator t
-  unfolding endsWithSeparator
-  direct = rw (new-root, el, closed-by-last t)
+  direct : (eqb (length t) 1 && eqb l 47 || eqb l 125) ≡ ends_with_separator t
+  unfolding ends_with_separator
+  direct = rw (new_root, el, closed_by_last t)
 
   pub laid_out : (k n : ℕ)
-      → k ≡ separatorBy (not (eqb (length r) 0)) (eqb (length s) 1 && eqb o 47) (eqb (length t) 1 && eqb l 47) (eqb a 47 || eqb o 125 && i)
+      → k ≡ separator_by (not (eqb (length r) 0)) (eqb (length s) 1 && eqb o 47) (eqb (length t) 1 && eqb l 47) (eqb a 47 || eqb o 125 && i)
       (eqb (length t) 1 && eqb l 47 || eqb l 125)
       → n ≡ as_number (not (eqb (length s) 1 && eqb o 47) && eqb a 47)
       → LaysOut s t r k n
   laid_out k n e f =
-      let separator : k ≡ separatorLen s t r = e ∙ rw (direct, old-root, new-root, child) (separator-by-tests s t r) in
-      let start : n ≡ as_number (not (isRoot s) && eqb (firstByte r) 47) = f ∙ rw (old-root, ea) in
+      let separator : k ≡ separator_len s t r = e ∙ rw (direct, old_root, new_root, child) (separator_by_tests s t r) in
+      let start : n ≡ as_number (not (is_root s) && eqb (first_byte r) 47) = f ∙ rw (old_root, ea) in
       record {
-        separatorIs = separator;
-        separatorShort = rw separator (separator-short s t r);
-        bodyIs = rw start (body-by-tests s r);
-        bodyInside = rw start (body-inside (not (isRoot s)) r);
+        separator_is = separator;
+        separator_short = rw separator (separator_short_lem s t r);
+        body_is = rw start (body_by_tests s r);
+        body_inside = rw start (body_inside_lem (not (is_root s)) r);
       }
 
--- The byte that `first_byte` or `last_byte` returns for the empty text.
-pub no-first-byte : (s : Text) → length s ≡ 0 → 0 ≡ firstByte s
-unfolding firstByte
-no-first-byte [] e = refl
-no-first-byte (a ∷ s) e = absurd (omega arith)
+-- The byte that `first_byte_lem` or `last_byte_lem` returns for the empty text.
+pub no_first_byte : (s : Text) → length s ≡ 0 → 0 ≡ first_byte s
+unfolding first_byte
+no_first_byte [] e = refl
+no_first_byte (a ∷ s) e = absurd (omega arith)
 
-pub no-last-byte : (s : Text) → length s ≡ 0 → 0 ≡ lastByte s
-unfolding lastByte
-no-last-byte [] e = refl
-no-last-byte (a ∷ s) e = absurd (omega arith)
+pub no_last_byte : (s : Text) → length s ≡ 0 → 0 ≡ last_byte s
+unfolding last_byte
+no_last_byte [] e = refl
+no_last_byte (a ∷ s) e = absurd (omega arith)

@@ -8,24 +8,24 @@ use lib.Dec.{eqb}
 use lib.ListN.{length, length-append}
 use lib.Seq.{length-take-le}
 use Rattle.text.specs.Text.{Text}
-use Rattle.path_grammar.specs.Legal.{isRoot}
-use Rattle.path_join.specs.Join.{isChild, endsWithSeparator, separatorLen, separator, body, join}
+use Rattle.path_grammar.specs.Legal.{is_root}
+use Rattle.path_join.specs.Join.{is_child, ends_with_separator, separator_len, separator, body, join}
 
 -- Two clauses of the definition: a remainder after `/`, and a remainder that is a property or a selection.
 module _ (s t : Text) (a : ℕ) (r : Text) where
-  pub separator-after-root : isRoot s ≡ true → separatorLen s t (a ∷ r) ≡ cond (isRoot t) 0 1
-  unfolding separatorLen
-  separator-after-root h = rw h
+  pub separator_after_root : is_root s ≡ true → separator_len s t (a ∷ r) ≡ cond (is_root t) 0 1
+  unfolding separator_len
+  separator_after_root h = rw h
 
-  pub separator-before-suffix : isRoot s ≡ false → isChild s a ≡ false → separatorLen s t (a ∷ r) ≡ 0
-  unfolding separatorLen
-  separator-before-suffix h k = rw (h, k)
+  pub separator_before_suffix : is_root s ≡ false → is_child s a ≡ false → separator_len s t (a ∷ r) ≡ 0
+  unfolding separator_len
+  separator_before_suffix h k = rw (h, k)
 
 -- The separator has at most one byte, so its text is as long as the number says.
-pub separator-short : (s t r : Text) → separatorLen s t r ≤ 1
-unfolding separatorLen
-separator-short s t [] = omega arith
-separator-short s t (a ∷ r) = go (isRoot s) (isRoot t) (not (isChild s a)) (endsWithSeparator t)
+pub separator_short_lem : (s t r : Text) → separator_len s t r ≤ 1
+unfolding separator_len
+separator_short_lem s t [] = omega arith
+separator_short_lem s t (a ∷ r) = go (is_root s) (is_root t) (not (is_child s a)) (ends_with_separator t)
   where
     zero-or-one : (b : Bool) → cond b 0 1 ≤ 1
     zero-or-one true = omega arith
@@ -36,18 +36,18 @@ separator-short s t (a ∷ r) = go (isRoot s) (isRoot t) (not (isChild s a)) (en
     go false c true e = omega arith
     go false c false e = zero-or-one e
 
-pub separator-length : (s t r : Text) → length (separator s t r) ≡ separatorLen s t r
+pub separator_length : (s t r : Text) → length (separator s t r) ≡ separator_len s t r
 unfolding separator
-separator-length s t r = length-take-le (separatorLen s t r) (47 ∷ []) (separator-short s t r)
+separator_length s t r = length-take-le (separator_len s t r) (47 ∷ []) (separator_short_lem s t r)
 
-pub join-length : (s t r : Text) → length (join s t r) ≡ length t + (separatorLen s t r + length (body s r))
+pub join_length : (s t r : Text) → length (join s t r) ≡ length t + (separator_len s t r + length (body s r))
 unfolding join
-join-length s t r = simp (length-append, separator-length)
+join_length s t r = simp (length-append, separator_length)
 
-pub body-short : (s r : Text) → length (body s r) ≤ length r
+pub body_short : (s r : Text) → length (body s r) ≤ length r
 unfolding body
-body-short s [] = omega arith
-body-short s (a ∷ r) = go (not (isRoot s) && eqb a 47)
+body_short s [] = omega arith
+body_short s (a ∷ r) = go (not (is_root s) && eqb a 47)
   where
     go : (b : Bool) → length (cond b r (a ∷ r)) ≤ length (a ∷ r)
     go true = omega arith

@@ -2,10 +2,10 @@
 // prefix. Ports the joining step of replace_prefix in the Rust sdf/path.rs. Every function is defined
 // for any bytes; none has a precondition.
 ghost use Rattle.std.specs.Prelude.{◌≡◌, ◌||◌, eqb, ◌≤◌, [], ◌∷◌, take, drop};
-ghost use Rattle.text.specs.Text.{equal, starts_with, fitOf, writtenIfFits};
-ghost use Rattle.text.specs.Bytes.{dot, openBrace, slash};
-ghost use Rattle.path_join.specs.Join.{join, joinIllegal};
-ghost use Rattle.path_join.specs.Layout.{as_number, firstByte, lastByte, separatorBy, LaysOut};
+ghost use Rattle.text.specs.Text.{equal, starts_with, fit_of, written_if_fits};
+ghost use Rattle.text.specs.Bytes.{dot, open_brace, slash};
+ghost use Rattle.path_join.specs.Join.{join, join_illegal};
+ghost use Rattle.path_join.specs.Layout.{as_number, first_byte, last_byte, separator_by, LaysOut};
 
 // Where the parts of a join are; each number is 0 or 1.
 #[derive(Drop)]
@@ -24,8 +24,8 @@ fn as_number(test: bool) -> usize
 }
 
 // The first byte of the text, or 0 if the text is empty.
-fn first_byte(text: &[u8]) -> u8
-    ensures { result ≡ firstByte text.now }
+fn first_byte_lem(text: &[u8]) -> u8
+    ensures { result ≡ first_byte text.now }
 {
     if text.len() == 0 {
         return 0;
@@ -34,8 +34,8 @@ fn first_byte(text: &[u8]) -> u8
 }
 
 // The last byte of the text, or 0 if the text is empty.
-fn last_byte(text: &[u8]) -> u8
-    ensures { result ≡ lastByte text.now }
+fn last_byte_lem(text: &[u8]) -> u8
+    ensures { result ≡ last_byte text.now }
 {
     let n = text.len();
     if n == 0 {
@@ -54,7 +54,7 @@ fn separator_len(
     child: bool,
     direct: bool,
 ) -> usize
-    ensures { result ≡ separatorBy follows old_is_root new_is_root child direct }
+    ensures { result ≡ separator_by follows old_is_root new_is_root child direct }
 {
     let root = as_number(old_is_root);
     let after_root = root * (1 - as_number(new_is_root));
@@ -66,9 +66,9 @@ fn separator_len(
 fn layout_of(old: &[u8], new: &[u8], remainder: &[u8]) -> Layout
     ensures { LaysOut old.now new.now remainder.now result.separator result.start }
 {
-    let first = first_byte(remainder);
-    let old_last = last_byte(old);
-    let new_last = last_byte(new);
+    let first = first_byte_lem(remainder);
+    let old_last = last_byte_lem(old);
+    let new_last = last_byte_lem(new);
     let old_is_root = (old.len() == 1) & (old_last == b'/');
     let new_is_root = (new.len() == 1) & (new_last == b'/');
     let child = (first == b'/') | ((old_last == b'}') & path_grammar::is_name_byte(first));
@@ -89,7 +89,7 @@ fn layout_of(old: &[u8], new: &[u8], remainder: &[u8]) -> Layout
 // slash or the old byte, by the number `k`, so that no branch depends on it.
 fn write_separator(k: usize, at: usize, out: &mut [u8])
     requires { k ≤ 1 }
-    ensures { out.new ≡ writtenIfFits at (take k (slash ∷ [])) out.old }
+    ensures { out.new ≡ written_if_fits at (take k (slash ∷ [])) out.old }
 {
     if out.len() <= at {
         return;
@@ -111,8 +111,8 @@ fn has_separator(k: usize, at: usize, text: &[u8]) -> bool
 // Writes the new prefix followed by the remainder after the old prefix if it fits; otherwise writes
 // nothing.
 pub fn join(old: &[u8], new: &[u8], remainder: &[u8], out: &mut [u8]) -> text::Fit
-    ensures value { result ≡ fitOf (join old.now new.now remainder.now) out.old }
-    ensures out_after { out.new ≡ writtenIfFits 0 (join old.now new.now remainder.now)
+    ensures value { result ≡ fit_of (join old.now new.now remainder.now) out.old }
+    ensures out_after { out.new ≡ written_if_fits 0 (join old.now new.now remainder.now)
         out.old }
 {
     let n = new.len();
@@ -154,7 +154,7 @@ pub fn is_join(old: &[u8], new: &[u8], remainder: &[u8], text: &[u8]) -> bool
 // Returns whether the joined path would be illegal: the new prefix is `/` or empty, and the remainder
 // begins with `.` or `{`, which cannot follow it.
 pub fn is_join_illegal(new: &[u8], remainder: &[u8]) -> bool
-    ensures { result ≡ joinIllegal new.now remainder.now }
+    ensures { result ≡ join_illegal new.now remainder.now }
 {
     if remainder.len() == 0 {
         return false;
@@ -170,7 +170,7 @@ pub fn is_join_illegal(new: &[u8], remainder: &[u8]) -> bool
 
 // Returns whether the byte is `.` or `{`, which begins a suffix that attaches without a slash.
 fn starts_suffix(a: u8) -> bool
-    ensures { result ≡ (eqb a dot || eqb a openBrace) }
+    ensures { result ≡ (eqb a dot || eqb a open_brace) }
 {
     if a == b'{' {
         return true;

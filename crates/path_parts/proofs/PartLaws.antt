@@ -12,140 +12,140 @@ use lib.Dec.{eqb, ltb}
 use lib.ListN.{length, get_or, drop, drop_of_length-le}
 use lib.Seq.{drop-cons, drop-length, drop-nil}
 use borrow.Author.Tests.{ne_eqb, ltb-true, ltb-false}
-use Rattle.text.specs.Text.{Text, isNil, endsWithByte, lacksByte}
-use Rattle.text.proofs.BoolLaws.{told, known-false, known-true, or-false, and_no, and_yes}
-use Rattle.path_grammar.specs.Own.{ownPart, hasProperty}
-use Rattle.path_grammar.specs.Legal.{isNameByte, startsName}
-use Rattle.path_grammar.proofs.OwnLaws.{target-nil, property-scan, own-all}
-use Rattle.path_parts.specs.Parent.{startsPart, startsNameAfter, partOffset, lastPartStart, ownParentLen, parentLen, isProperty, primLen}
+use Rattle.text.specs.Text.{Text, is_nil, ends_with_byte, lacks_byte}
+use Rattle.text.proofs.BoolLaws.{told, known_false, known_true, or_false, and_no, and_yes}
+use Rattle.path_grammar.specs.Own.{own_part, has_property}
+use Rattle.path_grammar.specs.Legal.{is_name_byte, starts_name}
+use Rattle.path_grammar.proofs.OwnLaws.{target_nil, property_scan, own_all}
+use Rattle.path_parts.specs.Parent.{starts_part, starts_name_after, part_offset, last_part_start, own_parent_len, parent_len, is_property, prim_len}
 use Rattle.path_parts.proofs.LastLaws.{no_part}
 
 -- Lemmas for `starts_name`.
-pub name-none : (p : Text) (i : ℕ) → length p ≤ i → false ≡ startsName (drop i p)
-name-none p i h = rw (drop_of_length-le p h)
+pub name_none : (p : Text) (i : ℕ) → length p ≤ i → false ≡ starts_name (drop i p)
+name_none p i h = rw (drop_of_length-le p h)
 
-pub name-some : (p : Text) (i : ℕ) (b : Bool) → i < length p → b ≡ isNameByte (get_or p i 0) → b ≡ startsName (drop i p)
-name-some p i b h e = rw (drop-cons p i 0 h) e
+pub name_some : (p : Text) (i : ℕ) (b : Bool) → i < length p → b ≡ is_name_byte (get_or p i 0) → b ≡ starts_name (drop i p)
+name_some p i b h e = rw (drop-cons p i 0 h) e
 
 -- Lemmas for `starts_part`.
-more-after : (p : Text) (i : ℕ) → ltb i (length p) ≡ not (isNil (drop i p))
-more-after p i = go (ltb i (length p)) refl
+more_after : (p : Text) (i : ℕ) → ltb i (length p) ≡ not (is_nil (drop i p))
+more_after p i = go (ltb i (length p)) refl
   where
-    go : (t : Bool) → ltb i (length p) ≡ t → t ≡ not (isNil (drop i p))
+    go : (t : Bool) → ltb i (length p) ≡ t → t ≡ not (is_nil (drop i p))
     go true h = rw (drop-cons p i 0 (ltb-true i (length p) h))
     go false h = rw (drop_of_length-le p (ltb-false i (length p) h))
 
-pub at-slash : (p : Text) (i a : ℕ) → a ≡ 47 → ltb i (length p) ≡ startsPart a (drop i p)
-unfolding startsPart
-at-slash p i a h = rw h (more-after p i ∙ sym (or-false _) ∙ sym (or-false _))
+pub at_slash : (p : Text) (i a : ℕ) → a ≡ 47 → ltb i (length p) ≡ starts_part a (drop i p)
+unfolding starts_part
+at_slash p i a h = rw h (more_after p i ∙ sym (or_false _) ∙ sym (or_false _))
 
-pub at-brace : (r : Text) (a : ℕ) → a ≢ 47 → a ≡ 123 → true ≡ startsPart a r
-unfolding startsPart
-at-brace r a d h = rw h
+pub at_brace : (r : Text) (a : ℕ) → a ≢ 47 → a ≡ 123 → true ≡ starts_part a r
+unfolding starts_part
+at_brace r a d h = rw h
 
-pub at_other : (r : Text) (a : ℕ) → a ≢ 47 → a ≢ 123 → eqb a 46 ≡ startsPart a r
-unfolding startsPart
+pub at_other : (r : Text) (a : ℕ) → a ≢ 47 → a ≢ 123 → eqb a 46 ≡ starts_part a r
+unfolding starts_part
 at_other r a d e = rw (ne_eqb a 47 d, ne_eqb a 123 e)
 
 -- Lemmas for `starts_name_after`.
-pub after-close : (r : Text) (a : ℕ) (b : Bool) → a ≡ 125 → b ≡ startsName r → b ≡ startsNameAfter a r
-unfolding startsNameAfter
-after-close r a b h e = rw h e
+pub after_close : (r : Text) (a : ℕ) (b : Bool) → a ≡ 125 → b ≡ starts_name r → b ≡ starts_name_after a r
+unfolding starts_name_after
+after_close r a b h e = rw h e
 
-pub after-other : (r : Text) (a : ℕ) → a ≢ 125 → false ≡ startsNameAfter a r
-unfolding startsNameAfter
-after-other r a d = rw (ne_eqb a 125 d)
+pub after_other : (r : Text) (a : ℕ) → a ≢ 125 → false ≡ starts_name_after a r
+unfolding starts_name_after
+after_other r a d = rw (ne_eqb a 125 d)
 
-pub ruleset places = (name-none, name-some, at-slash, at-brace, at_other, after-close, after-other)
+pub ruleset places = (name_none, name_some, at_slash, at_brace, at_other, after_close, after_other)
 
 -- Lemmas for `own_parent_len`. The loop invariant: no part begins after index i.
-pub last-after : (p : Text) (i k : ℕ) → lastPartStart (drop i p) ≡ some k → lastPartStart p ≡ some (k + i)
-unfolding lastPartStart
-last-after [] i k e = absurd (no_part (rw (drop-nil i) at e))
-last-after (a ∷ p) zero k e = rw (add-zero k) e
-last-after (a ∷ p) (suc i) k e = let q : k + suc i ≡ suc (k + i) = omega arith in rw (last-after p i k e, q)
+pub last_after : (p : Text) (i k : ℕ) → last_part_start (drop i p) ≡ some k → last_part_start p ≡ some (k + i)
+unfolding last_part_start
+last_after [] i k e = absurd (no_part (rw (drop-nil i) at e))
+last_after (a ∷ p) zero k e = rw (add-zero k) e
+last_after (a ∷ p) (suc i) k e = let q : k + suc i ≡ suc (k + i) = omega arith in rw (last_after p i k e, q)
 
-module _ (p : Text) (i : ℕ) (l : 0 < i) (h : i ≤ length p) (e : lastPartStart (drop i p) ≡ none) where
-  last-here : lastPartStart (drop (i - 1) p) ≡ partOffset (get_or p (i - 1) 0) (drop (i - 1 + 1) p)
-  unfolding lastPartStart
-  last-here =
+module _ (p : Text) (i : ℕ) (l : 0 < i) (h : i ≤ length p) (e : last_part_start (drop i p) ≡ none) where
+  last_here : last_part_start (drop (i - 1) p) ≡ part_offset (get_or p (i - 1) 0) (drop (i - 1 + 1) p)
+  unfolding last_part_start
+  last_here =
       let k : suc (i - 1) ≡ i = omega arith in
-      ap lastPartStart (rw k at (drop-cons p (i - 1) 0 (omega arith))) ∙ rw (add-one, k, e)
+      ap last_part_start (rw k at (drop-cons p (i - 1) 0 (omega arith))) ∙ rw (add-one, k, e)
 
-  module _ (b : Bool) (f : b ≡ startsPart (get_or p (i - 1) 0) (drop (i - 1 + 1) p)) where
-    last-at : b ≡ true → lastPartStart p ≡ some (i - 1)
-    unfolding partOffset
-    last-at t =
+  module _ (b : Bool) (f : b ≡ starts_part (get_or p (i - 1) 0) (drop (i - 1 + 1) p)) where
+    last_at : b ≡ true → last_part_start p ≡ some (i - 1)
+    unfolding part_offset
+    last_at t =
         let k : 0 + (i - 1) ≡ i - 1 = omega arith in
-        rw k at (last-after p (i - 1) 0 (last-here ∙ rw (told f t)))
+        rw k at (last_after p (i - 1) 0 (last_here ∙ rw (told f t)))
 
-    pub parent-first : b ≡ true → i - 1 ≡ 0 → 1 ≡ ownParentLen p
-    unfolding ownParentLen
-    parent-first t z = rw (last-at t, z)
+    pub parent-first : b ≡ true → i - 1 ≡ 0 → 1 ≡ own_parent_len p
+    unfolding own_parent_len
+    parent-first t z = rw (last_at t, z)
 
-    pub parent-at : b ≡ true → i - 1 ≢ 0 → i - 1 ≡ ownParentLen p
-    unfolding ownParentLen
-    parent-at t n = let k : suc (i - 2) ≡ i - 1 = omega arith in rw (last-at t, ← k)
+    pub parent-at : b ≡ true → i - 1 ≢ 0 → i - 1 ≡ own_parent_len p
+    unfolding own_parent_len
+    parent-at t n = let k : suc (i - 2) ≡ i - 1 = omega arith in rw (last_at t, ← k)
 
-    module _ (c : Bool) (g : c ≡ startsNameAfter (get_or p (i - 1) 0) (drop (i - 1 + 1) p)) where
-      pub parent-after : b ≡ false → c ≡ true → i - 1 + 1 ≡ ownParentLen p
-      unfolding ownParentLen partOffset
+    module _ (c : Bool) (g : c ≡ starts_name_after (get_or p (i - 1) 0) (drop (i - 1 + 1) p)) where
+      pub parent-after : b ≡ false → c ≡ true → i - 1 + 1 ≡ own_parent_len p
+      unfolding own_parent_len part_offset
       parent-after t u =
           let k : 1 + (i - 1) ≡ suc (i - 1) = omega arith in
-          rw (rw k at (last-after p (i - 1) 1 (last-here ∙ rw (told f t, told g u))), add-one)
+          rw (rw k at (last_after p (i - 1) 1 (last_here ∙ rw (told f t, told g u))), add-one)
 
-      pub parent-on : b ≡ false → c ≡ false → lastPartStart (drop (i - 1) p) ≡ none
-      unfolding partOffset
-      parent-on t u = last-here ∙ rw (told f t, told g u)
+      pub parent-on : b ≡ false → c ≡ false → last_part_start (drop (i - 1) p) ≡ none
+      unfolding part_offset
+      parent-on t u = last_here ∙ rw (told f t, told g u)
 
-pub parent-begin : (p : Text) → lastPartStart (drop (length p) p) ≡ none
-unfolding lastPartStart
-parent-begin p = rw (drop-length p)
+pub parent_begin : (p : Text) → last_part_start (drop (length p) p) ≡ none
+unfolding last_part_start
+parent_begin p = rw (drop-length p)
 
-pub parent-end : (p : Text) (i : ℕ) → i ≤ 0 → lastPartStart (drop i p) ≡ none → 0 ≡ ownParentLen p
-unfolding ownParentLen
-parent-end p i h e = let k : i ≡ 0 = omega arith in rw (rw k at e)
+pub parent_end_lem : (p : Text) (i : ℕ) → i ≤ 0 → last_part_start (drop i p) ≡ none → 0 ≡ own_parent_len p
+unfolding own_parent_len
+parent_end_lem p i h e = let k : i ≡ 0 = omega arith in rw (rw k at e)
 
-pub ruleset parents = (parent-first, parent-at, parent-after, parent-on, parent-begin, parent-end)
+pub ruleset parents = (parent-first, parent-at, parent-after, parent-on, parent_begin, parent_end_lem)
 
 -- Lemmas for `parent_len`.
-module _ (p : Text) (b : Bool) (f : b ≡ endsWithByte 93 p) where
-  pub parent-of-target : (o : Text) → o ≡ ownPart p → b ≡ true → length o ≡ parentLen p
-  unfolding parentLen
-  parent-of-target o e t = rw (told f t, e)
+module _ (p : Text) (b : Bool) (f : b ≡ ends_with_byte 93 p) where
+  pub parent_of_target : (o : Text) → o ≡ own_part p → b ≡ true → length o ≡ parent_len p
+  unfolding parent_len
+  parent_of_target o e t = rw (told f t, e)
 
-  pub parent-of-own : (n : ℕ) → b ≡ false → n ≡ ownParentLen p → n ≡ parentLen p
-  unfolding parentLen
-  parent-of-own n t e = rw (told f t) e
+  pub parent_of_own : (n : ℕ) → b ≡ false → n ≡ own_parent_len p → n ≡ parent_len p
+  unfolding parent_len
+  parent_of_own n t e = rw (told f t) e
 
-pub ruleset parent-cases = (parent-of-target, parent-of-own)
+pub ruleset parent_cases = (parent_of_target, parent_of_own)
 
 -- Lemmas for `is_property`.
-module _ (p : Text) (b : Bool) (f : b ≡ lacksByte 91 p) where
-  pub property-none : not b ≡ true → false ≡ isProperty p
-  unfolding isProperty
-  property-none t = rw (target-nil p, known-false f t) (sym (and_no (hasProperty p)))
+module _ (p : Text) (b : Bool) (f : b ≡ lacks_byte 91 p) where
+  pub property_none : not b ≡ true → false ≡ is_property p
+  unfolding is_property
+  property_none t = rw (target_nil p, known_false f t) (sym (and_no (has_property p)))
 
-  pub property-some : (c : Bool) → not b ≡ false → c ≡ lacksByte 46 p → not c ≡ isProperty p
-  unfolding isProperty
-  property-some c t g =
-      let h : lacksByte 91 p ≡ true = known-true f t in
-      rw (target-nil p, h, property-scan p, own-all p h, ← g) (sym (and_yes (not c)))
+  pub property_some : (c : Bool) → not b ≡ false → c ≡ lacks_byte 46 p → not c ≡ is_property p
+  unfolding is_property
+  property_some c t g =
+      let h : lacks_byte 91 p ≡ true = known_true f t in
+      rw (target_nil p, h, property_scan p, own_all p h, ← g) (sym (and_yes (not c)))
 
-pub ruleset properties = (property-none, property-some)
+pub ruleset properties = (property_none, property_some)
 
 -- Lemmas for `prim_len`.
-module _ (p o : Text) (w : o ≡ ownPart p) (b c : Bool) (f : b ≡ lacksByte 46 o) where
-  pub prim-property : (n : ℕ) → not b ≡ true → n ≡ ownParentLen o → n ≡ primLen p
-  unfolding primLen hasProperty
-  prim-property n t e = rw (← w, known-false f t) e
+module _ (p o : Text) (w : o ≡ own_part p) (b c : Bool) (f : b ≡ lacks_byte 46 o) where
+  pub prim_property : (n : ℕ) → not b ≡ true → n ≡ own_parent_len o → n ≡ prim_len p
+  unfolding prim_len has_property
+  prim_property n t e = rw (← w, known_false f t) e
 
-  pub prim-selection : (n : ℕ) → not b ≡ false → c ≡ endsWithByte 125 o → c ≡ true → n ≡ ownParentLen o → n ≡ primLen p
-  unfolding primLen hasProperty
-  prim-selection n t g u e = rw (← w, known-true f t, told g u) e
+  pub prim_selection : (n : ℕ) → not b ≡ false → c ≡ ends_with_byte 125 o → c ≡ true → n ≡ own_parent_len o → n ≡ prim_len p
+  unfolding prim_len has_property
+  prim_selection n t g u e = rw (← w, known_true f t, told g u) e
 
-  pub prim-other : not b ≡ false → c ≡ endsWithByte 125 o → c ≡ false → length o ≡ primLen p
-  unfolding primLen hasProperty
-  prim-other t g u = rw (← w, known-true f t, told g u)
+  pub prim_other : not b ≡ false → c ≡ ends_with_byte 125 o → c ≡ false → length o ≡ prim_len p
+  unfolding prim_len has_property
+  prim_other t g u = rw (← w, known_true f t, told g u)
 
-pub ruleset prims = (prim-property, prim-selection, prim-other)
+pub ruleset prims = (prim_property, prim_selection, prim_other)

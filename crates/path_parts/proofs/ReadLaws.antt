@@ -6,8 +6,8 @@ use lib.Dec.{eqb}
 use borrow.Author.Tests.{eqb-true}
 use Rattle.text.specs.Text.{Text}
 use Rattle.text.proofs.BoolLaws.{and_l, and_r}
-use Rattle.path_grammar.specs.Legal.{ScanState, Slash, Name, Opened, Set, Equals, Sel, Closed, Dot, Prop, Dead, step, run, accept, scanAccepts}
-use Rattle.path_grammar.proofs.RunLaws.{dead-refuses}
+use Rattle.path_grammar.specs.Legal.{ScanState, Slash, Name, Opened, Set, Equals, Sel, Closed, Dot, Prop, Dead, step, run, accept, scan_accepts}
+use Rattle.path_grammar.proofs.RunLaws.{dead_refuses}
 
 -- A text that the automaton accepts is empty, or `/`, or a slash before a text that the automaton accepts.
 pub data Shape : Text → Type 0 where
@@ -15,8 +15,8 @@ pub data Shape : Text → Type 0 where
   root : Shape (47 ∷ [])
   below : (r : Text) → accept (run Slash r) ≡ true → Shape (47 ∷ r)
 
-pub shape : (p : Text) → scanAccepts p ≡ true → Shape p
-unfolding scanAccepts
+pub shape : (p : Text) → scan_accepts p ≡ true → Shape p
+unfolding scan_accepts
 shape [] e = empty
 shape (a ∷ []) e = rw (eqb-true a 47 (and_l (eqb a 47) true e)) root
 shape (a ∷ b ∷ r) e =
@@ -29,7 +29,7 @@ choose true x y r f g e = f refl e
 choose false x y r f g e = g refl e
 
 pub dies : {G : Type 0} (r : Text) → accept (run Dead r) ≡ true → G
-dies r e = absurd (dead-refuses r e)
+dies r e = absurd (dead_refuses r e)
 
 -- A `}` is read only after the variant of a selection.
 pub closes : (s : ScanState) (r : Text) → accept (run (step s 125) r) ≡ true → step s 125 ≡ Closed

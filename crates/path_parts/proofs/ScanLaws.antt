@@ -9,121 +9,121 @@ use native.Mathlib.Nat.{sub-zero, zero-add}
 use lib.ListN.{length, get_or, set, take, drop, length-take, length-drop}
 use lib.Seq.{paste, take-take, take-length, length-take-le, drop-drop, drop-cons}
 use borrow.Author.Tests.{le-leb, lt-leb}
-use Rattle.text.specs.Text.{Text, fitOf, writtenIfFits}
+use Rattle.text.specs.Text.{Text, fit_of, written_if_fits}
 use Rattle.text.specs.declared.Fit.TheVariants.{Written, Over}
-use Rattle.text.proofs.WriteLaws.{put-begin, put_on, put-length, put-end, put-over}
-use Rattle.text.proofs.BoolLaws.{known-false, known-true}
-use Rattle.path_grammar.specs.Legal.{isRoot}
-use Rattle.path_parts.specs.Parent.{parentLen, hasParent, ancestorsWithin, ancestors, ancestorLens}
-use Rattle.path_parts.proofs.ParentLaws.{parent-len-le}
-use Rattle.path_parts.proofs.AncestorLaws.{lens-count, ancestors-none, ancestors-least, ancestors-some}
+use Rattle.text.proofs.WriteLaws.{put_begin, put_on, put_length, put_end, put_over}
+use Rattle.text.proofs.BoolLaws.{known_false, known_true}
+use Rattle.path_grammar.specs.Legal.{is_root}
+use Rattle.path_parts.specs.Parent.{parent_len, has_parent, ancestors_within, ancestors, ancestor_lens}
+use Rattle.path_parts.proofs.ParentLaws.{parent_len_le}
+use Rattle.path_parts.proofs.AncestorLaws.{lens_count, ancestors_none, ancestors_least, ancestors_some}
 
 -- Lemmas for `has_parent`.
-pub parent-of-nil : (p : Text) → length p ≡ 0 → false ≡ hasParent p
-parent-of-nil [] h = refl
-parent-of-nil (a ∷ p) h = absurd (omega arith)
+pub parent_of_nil : (p : Text) → length p ≡ 0 → false ≡ has_parent p
+parent_of_nil [] h = refl
+parent_of_nil (a ∷ p) h = absurd (omega arith)
 
-pub parent-of-text : (p : Text) (b : Bool) → length p ≢ 0 → b ≡ isRoot p → not b ≡ hasParent p
-parent-of-text [] b h e = absurd (h refl)
-parent-of-text (a ∷ p) b h e = ap not e
+pub parent_of_text : (p : Text) (b : Bool) → length p ≢ 0 → b ≡ is_root p → not b ≡ has_parent p
+parent_of_text [] b h e = absurd (h refl)
+parent_of_text (a ∷ p) b h e = ap not e
 
-pub ruleset having = (parent-of-nil, parent-of-text)
+pub ruleset having = (parent_of_nil, parent_of_text)
 
 -- The parent of a prefix of p is a prefix of p.
-take_parent : (p : Text) (n m : ℕ) → n ≤ length p → m ≡ parentLen (take n p) → take m p ≡ take (parentLen (take n p)) (take n p)
+take_parent : (p : Text) (n m : ℕ) → n ≤ length p → m ≡ parent_len (take n p) → take m p ≡ take (parent_len (take n p)) (take n p)
 take_parent p n m h e =
-    let l : parentLen (take n p) ≤ n = omega (arith, parent-len-le (take n p), length-take n p) in
-    rw (e, take-take (parentLen (take n p)) n p l)
+    let l : parent_len (take n p) ≤ n = omega (arith, parent_len_le (take n p), length-take n p) in
+    rw (e, take-take (parent_len (take n p)) n p l)
 
-pub parent-inside : (p : Text) (n m : ℕ) → n ≤ length p → m ≡ parentLen (take n p) → m ≤ length p
-parent-inside p n m h e = omega (arith, parent-len-le (take n p), length-take n p)
+pub parent_inside : (p : Text) (n m : ℕ) → n ≤ length p → m ≡ parent_len (take n p) → m ≤ length p
+parent_inside p n m h e = omega (arith, parent_len_le (take n p), length-take n p)
 
 -- The length of a prefix, as `&path[..n]` needs it.
-pub beginning-long : (p : Text) (n : ℕ) → n ≤ length p → n ≡ length (take n p)
-beginning-long p n h = sym (length-take-le n p h)
+pub beginning_long : (p : Text) (n : ℕ) → n ≤ length p → n ≡ length (take n p)
+beginning_long p n h = sym (length-take-le n p h)
 
 -- Lemmas for `ancestor_count`. The invariant: `count` paths were visited, and the last of them is the first n bytes.
-pub count-begin : (p : Text) → 1 + length (ancestors p) ≡ 1 + length (ancestorsWithin (length p - 1) (take (length p) p))
+pub count_begin : (p : Text) → 1 + length (ancestors p) ≡ 1 + length (ancestors_within (length p - 1) (take (length p) p))
 unfolding ancestors
-count-begin p = rw take-length
+count_begin p = rw take-length
 
-module _ (p : Text) (n count : ℕ) (i : 1 + length (ancestors p) ≡ count + length (ancestorsWithin (length p - count) (take n p))) where
-  pub count-done : (b : Bool) → b ≡ hasParent (take n p) → not b ≡ true → count ≡ length (ancestors p)
-  count-done b f t = omega (arith, rw (ancestors-none (length p - count) (take n p) (known-false f t)) at i)
+module _ (p : Text) (n count : ℕ) (i : 1 + length (ancestors p) ≡ count + length (ancestors_within (length p - count) (take n p))) where
+  pub count_done : (b : Bool) → b ≡ has_parent (take n p) → not b ≡ true → count ≡ length (ancestors p)
+  count_done b f t = omega (arith, rw (ancestors_none (length p - count) (take n p) (known_false f t)) at i)
 
-  pub count-end : length p ≤ count → count ≡ length (ancestors p)
-  unfolding ancestorsWithin
-  count-end h = let z : length p - count ≡ 0 = omega arith in omega (arith, rw z at i)
+  pub count_end : length p ≤ count → count ≡ length (ancestors p)
+  unfolding ancestors_within
+  count_end h = let z : length p - count ≡ 0 = omega arith in omega (arith, rw z at i)
 
-  pub count-on : (b : Bool) (m : ℕ) → n ≤ length p → count < length p → b ≡ hasParent (take n p) → not b ≡ false → m ≡ parentLen (take n p)
-      → 1 + length (ancestors p) ≡ count + 1 + length (ancestorsWithin (length p - (count + 1)) (take m p))
-  count-on b m h l f t e =
+  pub count_on : (b : Bool) (m : ℕ) → n ≤ length p → count < length p → b ≡ has_parent (take n p) → not b ≡ false → m ≡ parent_len (take n p)
+      → 1 + length (ancestors p) ≡ count + 1 + length (ancestors_within (length p - (count + 1)) (take m p))
+  count_on b m h l f t e =
       let z : length p - count ≡ suc (length p - (count + 1)) = omega arith in
-      rw (take_parent p n m h e) (omega (arith, rw (z, ancestors-some (length p - (count + 1)) (take n p) (known-true f t)) at i))
+      rw (take_parent p n m h e) (omega (arith, rw (z, ancestors_some (length p - (count + 1)) (take n p) (known_true f t)) at i))
 
-pub ruleset counts = (parent-inside, beginning-long, count-begin, count-done, count-end, count-on)
+pub ruleset counts = (parent_inside, beginning_long, count_begin, count_done, count_end, count_on)
 
 -- The invariant of `write_ancestors`: the lengths from index i are those of the first n bytes and their ancestors.
 pub record Ahead (p : Text) (i n : ℕ) : Type 0 where
-  pub rest : i < length (ancestorLens p) → drop i (ancestorLens p) ≡ map length (ancestorsWithin (length p - 1 - i) (take n p))
+  pub rest : i < length (ancestor_lens p) → drop i (ancestor_lens p) ≡ map length (ancestors_within (length p - 1 - i) (take n p))
 
-pub ahead-begin : (p : Text) → Ahead p 0 (length p)
-unfolding ancestorLens ancestors
-ahead-begin p = record { rest = λ h. rw (sub-zero, take-length) }
+pub ahead_begin : (p : Text) → Ahead p 0 (length p)
+unfolding ancestor_lens ancestors
+ahead_begin p = record { rest = λ h. rw (sub-zero, take-length) }
 
-pub ahead-on : (p : Text) (i n m : ℕ) → Ahead p i n → n ≤ length p → m ≡ parentLen (take n p) → Ahead p (i + 1) m
-ahead-on p i n m a l e = record { rest = λ h. go h (hasParent q) refl (length p - 1 - i) refl }
+pub ahead_on : (p : Text) (i n m : ℕ) → Ahead p i n → n ≤ length p → m ≡ parent_len (take n p) → Ahead p (i + 1) m
+ahead_on p i n m a l e = record { rest = λ h. go h (has_parent q) refl (length p - 1 - i) refl }
   where
     q : Text
     q = take n p
 
     lens : List ℕ
-    lens = ancestorLens p
+    lens = ancestor_lens p
 
-    next : i + 1 < length lens → drop (i + 1) lens ≡ drop 1 (map length (ancestorsWithin (length p - 1 - i) q))
+    next : i + 1 < length lens → drop (i + 1) lens ≡ drop 1 (map length (ancestors_within (length p - 1 - i) q))
     next h = sym (drop-drop 1 i lens) ∙ ap (λ (t : List ℕ). drop 1 t) (a.rest (omega arith))
 
     none_left : i + 1 < length lens → drop (i + 1) lens ≡ [] → ⊥
     none_left h f = omega (arith, length-drop (i + 1) lens, ap length f)
 
-    go : i + 1 < length lens → (b : Bool) → hasParent q ≡ b → (k : ℕ) → length p - 1 - i ≡ k
-        → drop (i + 1) lens ≡ map length (ancestorsWithin (length p - 1 - (i + 1)) (take m p))
-    go h false f k g = absurd (none_left h (rw (ancestors-none (length p - 1 - i) q f) at (next h)))
-    go h true f zero g = absurd (none_left h (rw (g, ancestors-least q) at (next h)))
+    go : i + 1 < length lens → (b : Bool) → has_parent q ≡ b → (k : ℕ) → length p - 1 - i ≡ k
+        → drop (i + 1) lens ≡ map length (ancestors_within (length p - 1 - (i + 1)) (take m p))
+    go h false f k g = absurd (none_left h (rw (ancestors_none (length p - 1 - i) q f) at (next h)))
+    go h true f zero g = absurd (none_left h (rw (g, ancestors_least q) at (next h)))
     go h true f (suc k) g =
         let z : length p - 1 - (i + 1) ≡ k = omega arith in
-        rw (z, take_parent p n m l e) (rw (g, ancestors-some k q f) at (next h))
+        rw (z, take_parent p n m l e) (rw (g, ancestors_some k q f) at (next h))
 
 -- The first ancestor is the path itself.
-first-is : (k : ℕ) (q : Text) (x : ℕ) (t : List ℕ) → x ∷ t ≡ map length (ancestorsWithin k q) → x ≡ length q
-unfolding ancestorsWithin
-first-is zero q x t f = cc
-first-is (suc k) q x t f = cc
+first_is : (k : ℕ) (q : Text) (x : ℕ) (t : List ℕ) → x ∷ t ≡ map length (ancestors_within k q) → x ≡ length q
+unfolding ancestors_within
+first_is zero q x t f = cc
+first_is (suc k) q x t f = cc
 
-ahead-first : (p : Text) (i n : ℕ) → Ahead p i n → n ≤ length p → i < length (ancestorLens p) → get_or (ancestorLens p) i 0 ≡ n
-ahead-first p i n a l h =
-    first-is (length p - 1 - i) (take n p) (get_or (ancestorLens p) i 0) (drop (suc i) (ancestorLens p)) (rw (drop-cons (ancestorLens p) i 0 h) at (a.rest h))
+ahead_first : (p : Text) (i n : ℕ) → Ahead p i n → n ≤ length p → i < length (ancestor_lens p) → get_or (ancestor_lens p) i 0 ≡ n
+ahead_first p i n a l h =
+    first_is (length p - 1 - i) (take n p) (get_or (ancestor_lens p) i 0) (drop (suc i) (ancestor_lens p)) (rw (drop-cons (ancestor_lens p) i 0 h) at (a.rest h))
     ∙ length-take-le n p l
 
 module _ (p d : Text) (count : ℕ) (c : count ≡ length (ancestors p)) where
-  pub lens-over : length d < count → Over ≡ fitOf (ancestorLens p) d
-  unfolding fitOf
-  lens-over h = rw (lens-count p, ← c, lt-leb count (length d) h)
+  pub lens_over : length d < count → Over ≡ fit_of (ancestor_lens p) d
+  unfolding fit_of
+  lens_over h = rw (lens_count p, ← c, lt-leb count (length d) h)
 
-  pub lens-kept : length d < count → d ≡ writtenIfFits 0 (ancestorLens p) d
-  lens-kept h = put-over d (ancestorLens p) 0 (omega arith) (rw (lens-count p, ← c, sub-zero) h)
+  pub lens_kept : length d < count → d ≡ written_if_fits 0 (ancestor_lens p) d
+  lens_kept h = put_over d (ancestor_lens p) 0 (omega arith) (rw (lens_count p, ← c, sub-zero) h)
 
-  module _ (now : Text) (i : ℕ) (g : count ≤ length d) (e : now ≡ paste d 0 (ancestorLens p) i) where
-    pub lens-on : (n : ℕ) → Ahead p i n → n ≤ length p → i < count → set now i n ≡ paste d 0 (ancestorLens p) (i + 1)
+  module _ (now : Text) (i : ℕ) (g : count ≤ length d) (e : now ≡ paste d 0 (ancestor_lens p) i) where
+    pub lens-on : (n : ℕ) → Ahead p i n → n ≤ length p → i < count → set now i n ≡ paste d 0 (ancestor_lens p) (i + 1)
     lens-on n a l h =
-        let k : i < length (ancestorLens p) = rw (lens-count p, ← c) h in
-        rw (zero-add i, ahead-first p i n a l k) at (put_on d (ancestorLens p) now 0 i (omega arith) (rw (lens-count p, ← c, sub-zero) g) k e)
+        let k : i < length (ancestor_lens p) = rw (lens_count p, ← c) h in
+        rw (zero-add i, ahead_first p i n a l k) at (put_on d (ancestor_lens p) now 0 i (omega arith) (rw (lens_count p, ← c, sub-zero) g) k e)
 
-    pub lens_end : count ≤ i → i ≤ count → now ≡ writtenIfFits 0 (ancestorLens p) d
-    lens_end h k = put-end d (ancestorLens p) now 0 i (omega arith) (rw (lens-count p, ← c, sub-zero) g) (rw (lens-count p, ← c) h) (rw (lens-count p, ← c) k) e
+    pub lens_end : count ≤ i → i ≤ count → now ≡ written_if_fits 0 (ancestor_lens p) d
+    lens_end h k = put_end d (ancestor_lens p) now 0 i (omega arith) (rw (lens_count p, ← c, sub-zero) g) (rw (lens_count p, ← c) h) (rw (lens_count p, ← c) k) e
 
-  pub lens-fit : count ≤ length d → Written count ≡ fitOf (ancestorLens p) d
-  unfolding fitOf
-  lens-fit g = rw (lens-count p, ← c, le-leb count (length d) g)
+  pub lens_fit : count ≤ length d → Written count ≡ fit_of (ancestor_lens p) d
+  unfolding fit_of
+  lens_fit g = rw (lens_count p, ← c, le-leb count (length d) g)
 
-pub ruleset writes = (parent-inside, beginning-long, ahead-begin, ahead-on, lens-over, lens-kept, lens-on, lens_end, lens-fit, put-begin, put-length)
+pub ruleset writes = (parent_inside, beginning_long, ahead_begin, ahead_on, lens_over, lens_kept, lens-on, lens_end, lens_fit, put_begin, put_length)

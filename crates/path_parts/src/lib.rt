@@ -2,14 +2,14 @@
 // prim_path, ancestors and strip_variant_selections of the Rust sdf/path.rs. Every public function is
 // defined for any bytes and has no precondition.
 ghost use Rattle.std.specs.Prelude.{◌≡◌, false, ◌+◌, ◌<◌, ◌≤◌, length, get_or, drop};
-ghost use Rattle.text.specs.Text.{written, writtenAt, fitOf, writtenIfFits};
-ghost use Rattle.path_grammar.specs.Legal.{startsName};
-ghost use Rattle.path_parts.specs.Parent.{startsPart, startsNameAfter, ownParentLen, parentLen, hasParent, isProperty, primLen, ancestors, ancestorLens};
-ghost use Rattle.path_parts.specs.Strip.{strippedByte, insideAfter, stripFrom, stripFit, stripBuffer};
+ghost use Rattle.text.specs.Text.{written, written_at, fit_of, written_if_fits};
+ghost use Rattle.path_grammar.specs.Legal.{starts_name};
+ghost use Rattle.path_parts.specs.Parent.{starts_part, starts_name_after, own_parent_len, parent_len, has_parent, is_property, prim_len, ancestors, ancestor_lens};
+ghost use Rattle.path_parts.specs.Strip.{stripped_byte, inside_after, strip_from, strip_fit, strip_buffer};
 
 // Returns whether there is a byte at index `i` and it may occur in a name.
 fn starts_name(path: &[u8], i: usize) -> bool
-    ensures { result ≡ startsName (drop i path.now) }
+    ensures { result ≡ starts_name (drop i path.now) }
 {
     if path.len() <= i {
         return false;
@@ -20,7 +20,7 @@ fn starts_name(path: &[u8], i: usize) -> bool
 // Returns whether a part (an element or the property) begins at byte `i`.
 fn starts_part(path: &[u8], i: usize) -> bool
     requires { i < length path.now }
-    ensures { result ≡ startsPart (get_or path.now i 0) (drop (i + 1) path.now) }
+    ensures { result ≡ starts_part (get_or path.now i 0) (drop (i + 1) path.now) }
 {
     if path[i] == b'/' {
         return i + 1 < path.len();
@@ -34,7 +34,7 @@ fn starts_part(path: &[u8], i: usize) -> bool
 // Returns whether a part begins directly after byte `i`: a name after a selection.
 fn starts_name_after(path: &[u8], i: usize) -> bool
     requires { i < length path.now }
-    ensures { result ≡ startsNameAfter (get_or path.now i 0) (drop (i + 1) path.now) }
+    ensures { result ≡ starts_name_after (get_or path.now i 0) (drop (i + 1) path.now) }
 {
     if path[i] == b'}' {
         return starts_name(path, i + 1);
@@ -44,7 +44,7 @@ fn starts_name_after(path: &[u8], i: usize) -> bool
 
 // The length of the parent of a path without brackets. Scans backwards to the beginning of the last part.
 fn own_parent_len(path: &[u8]) -> usize
-    ensures { result ≡ ownParentLen path.now }
+    ensures { result ≡ own_parent_len path.now }
 {
     let mut i = path.len();
     while 0 < i {
@@ -64,7 +64,7 @@ fn own_parent_len(path: &[u8]) -> usize
 
 // The length of the path's parent.
 pub fn parent_len(path: &[u8]) -> usize
-    ensures { result ≡ parentLen path.now }
+    ensures { result ≡ parent_len path.now }
 {
     if text::last_is(path, b']') {
         return path_own::own_part(path).len();
@@ -74,7 +74,7 @@ pub fn parent_len(path: &[u8]) -> usize
 
 // Returns whether the path ends in its property.
 pub fn is_property(path: &[u8]) -> bool
-    ensures { result ≡ isProperty path.now }
+    ensures { result ≡ is_property path.now }
 {
     if !text::lacks_byte(path, b'[') {
         return false;
@@ -84,7 +84,7 @@ pub fn is_property(path: &[u8]) -> bool
 
 // The length of the path's own part without its property, or without the last selection if it ends in one.
 pub fn prim_len(path: &[u8]) -> usize
-    ensures { result ≡ primLen path.now }
+    ensures { result ≡ prim_len path.now }
 {
     let own = path_own::own_part(path);
     if !text::lacks_byte(own, b'.') {
@@ -98,7 +98,7 @@ pub fn prim_len(path: &[u8]) -> usize
 
 // Returns whether the path is neither empty nor `/`.
 fn has_parent(path: &[u8]) -> bool
-    ensures { result ≡ hasParent path.now }
+    ensures { result ≡ has_parent path.now }
 {
     if path.len() == 0 {
         return false;
@@ -125,8 +125,8 @@ pub fn ancestor_count(path: &[u8]) -> usize
 // Writes the lengths of the path and its ancestors if the lent slice is long enough; otherwise writes
 // nothing.
 pub fn write_ancestors(path: &[u8], out: &mut [usize]) -> text::Fit
-    ensures value { result ≡ fitOf (ancestorLens path.now) out.old }
-    ensures out_after { out.new ≡ writtenIfFits 0 (ancestorLens path.now) out.old }
+    ensures value { result ≡ fit_of (ancestor_lens path.now) out.old }
+    ensures out_after { out.new ≡ written_if_fits 0 (ancestor_lens path.now) out.old }
 {
     let count = ancestor_count(path);
     if out.len() < count {
@@ -144,7 +144,7 @@ pub fn write_ancestors(path: &[u8], out: &mut [usize]) -> text::Fit
 
 // Returns whether the scan is inside a selection after byte `a`.
 fn inside_changes(inside: bool, a: u8) -> bool
-    ensures { result ≡ insideAfter inside a }
+    ensures { result ≡ inside_after inside a }
 {
     if inside {
         return a != b'}';
@@ -156,10 +156,10 @@ fn inside_changes(inside: bool, a: u8) -> bool
 fn emit(path: &[u8], i: usize, inside: bool, out: &mut [u8], j: usize) -> usize
     requires i_in_bounds { i < length path.now }
     requires j_in_bounds { j < length out.old }
-    ensures value { result ≡ j + length (strippedByte inside (get_or path.now i 0)
+    ensures value { result ≡ j + length (stripped_byte inside (get_or path.now i 0)
         (drop (i + 1) path.now)) }
-    ensures out_after { out.new ≡ writtenAt j
-        (strippedByte inside (get_or path.now i 0) (drop (i + 1) path.now)) out.old }
+    ensures out_after { out.new ≡ written_at j
+        (stripped_byte inside (get_or path.now i 0) (drop (i + 1) path.now)) out.old }
 {
     if inside {
         if starts_name_after(path, i) {
@@ -178,8 +178,8 @@ fn emit(path: &[u8], i: usize, inside: bool, out: &mut [u8], j: usize) -> usize
 // Writes the text, which has no brackets, without its selections, and returns the length written.
 fn strip_own(own: &[u8], out: &mut [u8]) -> usize
     requires { length own.now ≤ length out.old }
-    ensures value { result ≡ length (stripFrom false own.now) }
-    ensures out_after { out.new ≡ written (stripFrom false own.now) out.old }
+    ensures value { result ≡ length (strip_from false own.now) }
+    ensures out_after { out.new ≡ written (strip_from false own.now) out.old }
 {
     let mut inside = false;
     let mut i = 0;
@@ -195,8 +195,8 @@ fn strip_own(own: &[u8], out: &mut [u8]) -> usize
 // Writes the path without its selections if the buffer has capacity for the original path; otherwise
 // writes nothing. The text from the first `[` on is copied.
 pub fn strip_into(path: &[u8], out: &mut [u8]) -> text::Fit
-    ensures value { result ≡ stripFit path.now out.old }
-    ensures out_after { out.new ≡ stripBuffer path.now out.old }
+    ensures value { result ≡ strip_fit path.now out.old }
+    ensures out_after { out.new ≡ strip_buffer path.now out.old }
 {
     if out.len() < path.len() {
         return text::Fit::Over;

@@ -10,46 +10,46 @@ use lib.Dec.{ltb}
 use lib.ListN.{length, get_or, drop, drop_of_length-le}
 use lib.Seq.{drop-cons}
 use borrow.Author.Tests.{ne_eqb, ltb-true, ltb-false}
-use Rattle.text.specs.Text.{Text, isNil}
-use Rattle.text.proofs.BoolLaws.{or-false}
-use Rattle.path_grammar.specs.Legal.{isNameByte}
-use Rattle.path_prefix.specs.Elements.{startsElement, countElements}
+use Rattle.text.specs.Text.{Text, is_nil}
+use Rattle.text.proofs.BoolLaws.{or_false}
+use Rattle.path_grammar.specs.Legal.{is_name_byte}
+use Rattle.path_prefix.specs.Elements.{starts_element, count_elements}
 
 module _ (s : Text) (i : ℕ) (f : Bool) where
-  more : ltb (i + 1) (length s) ≡ not (isNil (drop (i + 1) s))
+  more : ltb (i + 1) (length s) ≡ not (is_nil (drop (i + 1) s))
   more = go (ltb (i + 1) (length s)) refl
     where
-      go : (b : Bool) → ltb (i + 1) (length s) ≡ b → b ≡ not (isNil (drop (i + 1) s))
+      go : (b : Bool) → ltb (i + 1) (length s) ≡ b → b ≡ not (is_nil (drop (i + 1) s))
       go true e = let h : i + 1 < length s = ltb-true (i + 1) (length s) e in rw (drop-cons s (i + 1) 0 h)
       go false e = let h : length s ≤ i + 1 = ltb-false (i + 1) (length s) e in rw (drop_of_length-le s h)
 
-  pub begins-slash : get_or s i 0 ≡ 47 → ltb (i + 1) (length s) ≡ startsElement f (get_or s i 0) (drop (i + 1) s)
-  begins-slash e = rw (e, more) (simp or-false)
+  pub begins_slash : get_or s i 0 ≡ 47 → ltb (i + 1) (length s) ≡ starts_element f (get_or s i 0) (drop (i + 1) s)
+  begins_slash e = rw (e, more) (simp or_false)
 
-  pub begins-open : get_or s i 0 ≢ 47 → get_or s i 0 ≡ 123 → f ≡ startsElement f (get_or s i 0) (drop (i + 1) s)
-  begins-open d e = rw (e, or-false f)
+  pub begins_open : get_or s i 0 ≢ 47 → get_or s i 0 ≡ 123 → f ≡ starts_element f (get_or s i 0) (drop (i + 1) s)
+  begins_open d e = rw (e, or_false f)
 
-  pub begins-other : get_or s i 0 ≢ 47 → get_or s i 0 ≢ 123 → get_or s i 0 ≢ 125 → false ≡ startsElement f (get_or s i 0) (drop (i + 1) s)
-  begins-other d e g = rw (ne_eqb (get_or s i 0) 47 d, ne_eqb (get_or s i 0) 123 e, ne_eqb (get_or s i 0) 125 g)
+  pub begins_other : get_or s i 0 ≢ 47 → get_or s i 0 ≢ 123 → get_or s i 0 ≢ 125 → false ≡ starts_element f (get_or s i 0) (drop (i + 1) s)
+  begins_other d e g = rw (ne_eqb (get_or s i 0) 47 d, ne_eqb (get_or s i 0) 123 e, ne_eqb (get_or s i 0) 125 g)
 
-  pub begins-last : get_or s i 0 ≢ 47 → get_or s i 0 ≢ 123 → get_or s i 0 ≡ 125 → length s ≤ i + 1 → false ≡ startsElement f (get_or s i 0) (drop (i + 1) s)
-  begins-last d e g l = rw (drop_of_length-le s l, g)
+  pub begins_last : get_or s i 0 ≢ 47 → get_or s i 0 ≢ 123 → get_or s i 0 ≡ 125 → length s ≤ i + 1 → false ≡ starts_element f (get_or s i 0) (drop (i + 1) s)
+  begins_last d e g l = rw (drop_of_length-le s l, g)
 
-  pub begins-name : (r : Bool) → get_or s i 0 ≢ 47 → get_or s i 0 ≢ 123 → get_or s i 0 ≡ 125 → i + 1 < length s → r ≡ isNameByte (get_or s (i + 1) 0)
-      → r ≡ startsElement f (get_or s i 0) (drop (i + 1) s)
-  begins-name r d e g l h = rw (drop-cons s (i + 1) 0 l, g) h
+  pub begins_name : (r : Bool) → get_or s i 0 ≢ 47 → get_or s i 0 ≢ 123 → get_or s i 0 ≡ 125 → i + 1 < length s → r ≡ is_name_byte (get_or s (i + 1) 0)
+      → r ≡ starts_element f (get_or s i 0) (drop (i + 1) s)
+  begins_name r d e g l h = rw (drop-cons s (i + 1) 0 l, g) h
 
-  pub count-on : (n m : ℕ) (g : Bool) → i < length s → m ≡ n + cond g 1 0 → g ≡ startsElement f (get_or s i 0) (drop (i + 1) s)
-      → countElements f s ≡ n + countElements f (drop i s) → countElements f s ≡ m + countElements f (drop (i + 1) s)
-  unfolding countElements
-  count-on n m g l h k e =
+  pub count_on : (n m : ℕ) (g : Bool) → i < length s → m ≡ n + cond g 1 0 → g ≡ starts_element f (get_or s i 0) (drop (i + 1) s)
+      → count_elements f s ≡ n + count_elements f (drop i s) → count_elements f s ≡ m + count_elements f (drop (i + 1) s)
+  unfolding count_elements
+  count_on n m g l h k e =
       let d : drop i s ≡ get_or s i 0 ∷ drop (i + 1) s = rw add-one (drop-cons s i 0 l) in
-      let q : countElements f s ≡ n + (cond g 1 0 + countElements f (drop (i + 1) s)) = rw k (rw d at e) in
+      let q : count_elements f s ≡ n + (cond g 1 0 + count_elements f (drop (i + 1) s)) = rw k (rw d at e) in
       omega arith
 
-  pub count-end : (n : ℕ) → length s ≤ i → countElements f s ≡ n + countElements f (drop i s) → n ≡ countElements f s
-  unfolding countElements
-  count-end n l e = let q : countElements f s ≡ n + 0 = rw (drop_of_length-le s l) at e in omega arith
+  pub count_end : (n : ℕ) → length s ≤ i → count_elements f s ≡ n + count_elements f (drop i s) → n ≡ count_elements f s
+  unfolding count_elements
+  count_end n l e = let q : count_elements f s ≡ n + 0 = rw (drop_of_length-le s l) at e in omega arith
 
 pub plus_one : (n : ℕ) (b : Bool) → b ≡ true → n + 1 ≡ n + cond b 1 0
 plus_one n b h = rw h
@@ -61,4 +61,4 @@ pub one_more : (n m i : ℕ) (g : Bool) → m ≡ n + cond g 1 0 → n ≤ i →
 one_more n m i true h l = omega arith
 one_more n m i false h l = omega arith
 
-pub ruleset counts = (begins-slash, begins-open, begins-other, begins-last, begins-name, count-on, count-end, plus_one, plus_none, one_more)
+pub ruleset counts = (begins_slash, begins_open, begins_other, begins_last, begins_name, count_on, count_end, plus_one, plus_none, one_more)

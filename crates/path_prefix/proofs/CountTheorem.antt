@@ -6,22 +6,22 @@ use mathlib.Core.Option.{Option, none, some}
 use Prim.Native.Nat.{ℕ, suc, ◌+◌}
 use native.Mathlib.Omega.{arith}
 use lib.Dec.{eqb}
-use Rattle.text.specs.Text.{Text, takeUntil}
-use Rattle.text.proofs.BoolLaws.{and_l, and_r, and_no, or-false}
-use Rattle.path_grammar.specs.Own.{ownPart}
-use Rattle.path_grammar.specs.Legal.{isNameByte, startsName}
+use Rattle.text.specs.Text.{Text, take_until}
+use Rattle.text.proofs.BoolLaws.{and_l, and_r, and_no, or_false}
+use Rattle.path_grammar.specs.Own.{own_part}
+use Rattle.path_grammar.specs.Legal.{is_name_byte, starts_name}
 use Rattle.path_grammar.specs.Grammar as g
-use Rattle.path_grammar.specs.Grammar.{nameText, wordText, selectionText, selectionsText, primSeparator, primsText, moreText, propertyText, ownText, absoluteText, render}
-use Rattle.path_prefix.specs.Elements.{countElements, selectionCount, primCount, absoluteCount, pathCount, CountsAgree}
-use Rattle.path_grammar.proofs.NameLaws.{areNameBytes, name-bytes, word_bytes}
-use Rattle.path_grammar.proofs.RenderLacks.{not-name}
-use Rattle.path_grammar.proofs.Render.{prims-named, own-prims, own-target}
+use Rattle.path_grammar.specs.Grammar.{name_text, word_text, selection_text, selections_text, prim_separator, prims_text, more_text, property_text, own_text, absolute_text, render}
+use Rattle.path_prefix.specs.Elements.{count_elements, selection_count, prim_count, absolute_count, path_count, CountsAgree}
+use Rattle.path_grammar.proofs.NameLaws.{are_name_bytes, name_bytes, word_bytes}
+use Rattle.path_grammar.proofs.RenderLacks.{not_name}
+use Rattle.path_grammar.proofs.Render.{prims_named, own_prims, own-target}
 
--- The text of prims begins with a name (`prims-named`); the text of a property does not.
-property-starts : (x : Option g.Property) → startsName (propertyText x) ≡ false
-unfolding propertyText isNameByte
-property-starts none = refl
-property-starts (some x) = refl
+-- The text of prims begins with a name (`prims_named`); the text of a property does not.
+property_starts : (x : Option g.Property) → starts_name (property_text x) ≡ false
+unfolding property_text is_name_byte
+property_starts none = refl
+property_starts (some x) = refl
 
 -- There are selections.
 abbrev any : List g.Selection → Bool
@@ -30,108 +30,108 @@ any (s ∷ r) = true
 
 module _ (f : Bool) where
   -- A byte other than `/`, `{` and `}` adds no element, so no byte of a name does.
-  other : (a : ℕ) (r : Text) → eqb a 47 ≡ false → eqb a 123 ≡ false → eqb a 125 ≡ false → countElements f (a ∷ r) ≡ countElements f r
-  unfolding countElements
+  other : (a : ℕ) (r : Text) → eqb a 47 ≡ false → eqb a 123 ≡ false → eqb a 125 ≡ false → count_elements f (a ∷ r) ≡ count_elements f r
+  unfolding count_elements
   other a r h k l = rw (h, k, l) (omega arith)
 
-  byte : (a : ℕ) (r : Text) → isNameByte a ≡ true → countElements f (a ∷ r) ≡ countElements f r
-  unfolding isNameByte
-  byte a r h = other a r (not-name a 47 refl h) (not-name a 123 refl h) (not-name a 125 refl h)
+  byte : (a : ℕ) (r : Text) → is_name_byte a ≡ true → count_elements f (a ∷ r) ≡ count_elements f r
+  unfolding is_name_byte
+  byte a r h = other a r (not_name a 47 refl h) (not_name a 123 refl h) (not_name a 125 refl h)
 
-  bytes : (t y : Text) → areNameBytes t ≡ true → countElements f (t ++ y) ≡ countElements f y
-  unfolding areNameBytes
+  bytes : (t y : Text) → are_name_bytes t ≡ true → count_elements f (t ++ y) ≡ count_elements f y
+  unfolding are_name_bytes
   bytes [] y e = refl
-  bytes (a ∷ t) y e = byte a (t ++ y) (and_l (isNameByte a) (areNameBytes t) e) ∙ bytes t y (and_r (isNameByte a) (areNameBytes t) e)
+  bytes (a ∷ t) y e = byte a (t ++ y) (and_l (is_name_byte a) (are_name_bytes t) e) ∙ bytes t y (and_r (is_name_byte a) (are_name_bytes t) e)
 
-  name : (n : g.Name) (y : Text) → countElements f (nameText n ++ y) ≡ countElements f y
-  name n y = bytes (nameText n) y (name-bytes n)
+  name : (n : g.Name) (y : Text) → count_elements f (name_text n ++ y) ≡ count_elements f y
+  name n y = bytes (name_text n) y (name_bytes n)
 
-  word : (w : g.Word) (y : Text) → countElements f (wordText w ++ y) ≡ countElements f y
-  word w y = bytes (wordText w) y (word_bytes w)
+  word : (w : g.Word) (y : Text) → count_elements f (word_text w ++ y) ≡ count_elements f y
+  word w y = bytes (word_text w) y (word_bytes w)
 
   -- What those three bytes add.
-  slash-adds : (y : Text) → startsName y ≡ true → countElements f (47 ∷ y) ≡ suc (countElements f y)
-  unfolding countElements
-  slash-adds [] h = absurd (false≢true h)
-  slash-adds (a ∷ y) h = omega arith
+  slash_adds : (y : Text) → starts_name y ≡ true → count_elements f (47 ∷ y) ≡ suc (count_elements f y)
+  unfolding count_elements
+  slash_adds [] h = absurd (false≢true h)
+  slash_adds (a ∷ y) h = omega arith
 
-  open-adds : (r : Text) → countElements f (123 ∷ r) ≡ cond f 1 0 + countElements f r
-  unfolding countElements
-  open-adds r = rw (or-false f)
+  open_adds : (r : Text) → count_elements f (123 ∷ r) ≡ cond f 1 0 + count_elements f r
+  unfolding count_elements
+  open_adds r = rw (or_false f)
 
-  close-adds : (r : Text) → countElements f (125 ∷ r) ≡ cond (startsName r) 1 0 + countElements f r
-  unfolding countElements
-  close-adds r = refl
+  close_adds : (r : Text) → count_elements f (125 ∷ r) ≡ cond (starts_name r) 1 0 + count_elements f r
+  unfolding count_elements
+  close_adds r = refl
 
-  selection : (s : g.Selection) (y : Text) → countElements f (selectionText s ++ y) ≡ cond f 1 0 + (cond (startsName y) 1 0 + countElements f y)
-  unfolding selectionText
+  selection : (s : g.Selection) (y : Text) → count_elements f (selection_text s ++ y) ≡ cond f 1 0 + (cond (starts_name y) 1 0 + count_elements f y)
+  unfolding selection_text
   selection s y =
-      rw (append_assoc (nameText s.variantSet) (61 ∷ (wordText s.variant ++ (125 ∷ []))) y, append_assoc (wordText s.variant) (125 ∷ []) y)
-      (open-adds _ ∙ ap (λ (n : ℕ). cond f 1 0 + n) (name s.variantSet _ ∙ other 61 _ refl refl refl ∙ word s.variant (125 ∷ y) ∙ close-adds y))
+      rw (append_assoc (name_text s.variant_set) (61 ∷ (word_text s.variant ++ (125 ∷ []))) y, append_assoc (word_text s.variant) (125 ∷ []) y)
+      (open_adds _ ∙ ap (λ (n : ℕ). cond f 1 0 + n) (name s.variant_set _ ∙ other 61 _ refl refl refl ∙ word s.variant (125 ∷ y) ∙ close_adds y))
 
   selections : (r : List g.Selection) (y : Text)
-      → countElements f (selectionsText r ++ y) ≡ selectionCount f r + (cond (any r && startsName y) 1 0 + countElements f y)
-  unfolding selectionsText selectionCount isNameByte
+      → count_elements f (selections_text r ++ y) ≡ selection_count f r + (cond (any r && starts_name y) 1 0 + count_elements f y)
+  unfolding selections_text selection_count is_name_byte
   selections [] y = omega arith
-  selections (s ∷ []) y = rw (append_assoc (selectionText s) [] y) (selection s y ∙ omega arith)
+  selections (s ∷ []) y = rw (append_assoc (selection_text s) [] y) (selection s y ∙ omega arith)
   selections (s ∷ u ∷ r) y =
-      rw (append_assoc (selectionText s) (selectionsText (u ∷ r)) y)
-      (selection s (selectionsText (u ∷ r) ++ y) ∙ omega (arith, selections (u ∷ r) y))
+      rw (append_assoc (selection_text s) (selections_text (u ∷ r)) y)
+      (selection s (selections_text (u ∷ r) ++ y) ∙ omega (arith, selections (u ∷ r) y))
 
   -- A property has no elements.
-  more : (r : List g.Name) → countElements f (moreText r) ≡ 0
-  unfolding moreText countElements
+  more : (r : List g.Name) → count_elements f (more_text r) ≡ 0
+  unfolding more_text count_elements
   more [] = refl
-  more (n ∷ r) = other 58 (nameText n ++ moreText r) refl refl refl ∙ name n (moreText r) ∙ more r
+  more (n ∷ r) = other 58 (name_text n ++ more_text r) refl refl refl ∙ name n (more_text r) ∙ more r
 
-  property : (x : Option g.Property) → countElements f (propertyText x) ≡ 0
-  unfolding propertyText countElements
+  property : (x : Option g.Property) → count_elements f (property_text x) ≡ 0
+  unfolding property_text count_elements
   property none = refl
-  property (some x) = other 46 (nameText x.first ++ moreText x.more) refl refl refl ∙ name x.first (moreText x.more) ∙ more x.more
+  property (some x) = other 46 (name_text x.first ++ more_text x.more) refl refl refl ∙ name x.first (more_text x.more) ∙ more x.more
 
   -- What lies between two prims, with the second one's name, adds one element.
-  next : (l : List g.Selection) (y : Text) → startsName y ≡ true
-      → cond (any l && startsName (primSeparator l ++ y)) 1 0 + countElements f (primSeparator l ++ y) ≡ suc (countElements f y)
-  unfolding primSeparator
-  next [] y h = rw (slash-adds y h) (omega arith)
+  next : (l : List g.Selection) (y : Text) → starts_name y ≡ true
+      → cond (any l && starts_name (prim_separator l ++ y)) 1 0 + count_elements f (prim_separator l ++ y) ≡ suc (count_elements f y)
+  unfolding prim_separator
+  next [] y h = rw (slash_adds y h) (omega arith)
   next (s ∷ l) y h = rw h (omega arith)
 
-  prims : (p : g.Prim) (r : List g.Prim) (x : Option g.Property) → suc (countElements f (primsText p r ++ propertyText x)) ≡ primCount f p r
-  unfolding primsText primCount
+  prims : (p : g.Prim) (r : List g.Prim) (x : Option g.Property) → suc (count_elements f (prims_text p r ++ property_text x)) ≡ prim_count f p r
+  unfolding prims_text prim_count
   prims p [] x =
       rw (
-        append_assoc (nameText p.name) (selectionsText p.selections) (propertyText x),
-        name p.name (selectionsText p.selections ++ propertyText x),
-        selections p.selections (propertyText x),
-        property-starts x,
+        append_assoc (name_text p.name) (selections_text p.selections) (property_text x),
+        name p.name (selections_text p.selections ++ property_text x),
+        selections p.selections (property_text x),
+        property_starts x,
         property x,
         and_no (any p.selections),
       )
       (omega arith)
   prims p (q ∷ r) x =
       rw (
-        append_assoc (nameText p.name ++ selectionsText p.selections) (primSeparator p.selections ++ primsText q r) (propertyText x),
-        append_assoc (nameText p.name) (selectionsText p.selections) ((primSeparator p.selections ++ primsText q r) ++ propertyText x),
-        name p.name (selectionsText p.selections ++ ((primSeparator p.selections ++ primsText q r) ++ propertyText x)),
-        append_assoc (primSeparator p.selections) (primsText q r) (propertyText x),
-        selections p.selections (primSeparator p.selections ++ (primsText q r ++ propertyText x)),
-        next p.selections (primsText q r ++ propertyText x) (prims-named q r (propertyText x)),
+        append_assoc (name_text p.name ++ selections_text p.selections) (prim_separator p.selections ++ prims_text q r) (property_text x),
+        append_assoc (name_text p.name) (selections_text p.selections) ((prim_separator p.selections ++ prims_text q r) ++ property_text x),
+        name p.name (selections_text p.selections ++ ((prim_separator p.selections ++ prims_text q r) ++ property_text x)),
+        append_assoc (prim_separator p.selections) (prims_text q r) (property_text x),
+        selections p.selections (prim_separator p.selections ++ (prims_text q r ++ property_text x)),
+        next p.selections (prims_text q r ++ property_text x) (prims_named q r (property_text x)),
         prims q r x,
       )
       (omega arith)
 
 -- The count of a path's own part is the count of the path.
-own-counted : (f : Bool) (p : g.Prim) (r : List g.Prim) (x : Option g.Property) → countElements f (ownText p r x) ≡ primCount f p r
-unfolding ownText
-own-counted f p r x = slash-adds f (primsText p r ++ propertyText x) (prims-named p r (propertyText x)) ∙ prims f p r x
+own_counted : (f : Bool) (p : g.Prim) (r : List g.Prim) (x : Option g.Property) → count_elements f (own_text p r x) ≡ prim_count f p r
+unfolding own_text
+own_counted f p r x = slash_adds f (prims_text p r ++ property_text x) (prims_named p r (property_text x)) ∙ prims f p r x
 
-absolute-counted : (f : Bool) {d : ℕ} (q : g.Absolute d) → countElements f (ownPart (absoluteText q)) ≡ absoluteCount f q
-unfolding absoluteText absoluteCount countElements ownPart takeUntil
-absolute-counted f g.root = refl
-absolute-counted f (g.prims p r x) = ap (countElements f) (own-prims p r x) ∙ own-counted f p r x
-absolute-counted f (g.target p r x q) = ap (countElements f) (own-target p r x (absoluteText q)) ∙ own-counted f p r (some x)
+absolute_counted : (f : Bool) {d : ℕ} (q : g.Absolute d) → count_elements f (own_part (absolute_text q)) ≡ absolute_count f q
+unfolding absolute_text absolute_count count_elements own_part take_until
+absolute_counted f g.root = refl
+absolute_counted f (g.prims p r x) = ap (count_elements f) (own_prims p r x) ∙ own_counted f p r x
+absolute_counted f (g.target p r x q) = ap (count_elements f) (own-target p r x (absolute_text q)) ∙ own_counted f p r (some x)
 
 pub counted : CountsAgree
-unfolding render pathCount countElements ownPart takeUntil
+unfolding render path_count count_elements own_part take_until
 counted f g.empty = refl
-counted f (g.absolute q) = absolute-counted f q
+counted f (g.absolute q) = absolute_counted f q

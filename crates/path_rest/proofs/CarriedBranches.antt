@@ -9,31 +9,31 @@ use Rattle.refusal.specs.declared.Reply.TheVariants.{Written as WrittenPath, Ref
 use Rattle.path_rest.specs.declared.Rest.{Rest}
 use Rattle.path_rest.specs.declared.Carried.{Carried}
 use Rattle.path_rest.specs.declared.Carried.TheVariants.{Written, Refused}
-use Rattle.path_rest.specs.Rest.{restText}
-use Rattle.path_rest.specs.Carried.{withRest, replyOf, carriedRest}
+use Rattle.path_rest.specs.Rest.{rest_text}
+use Rattle.path_rest.specs.Carried.{with_rest, reply_of, carried_rest}
 
 module _ (r : Reply) (rest : Rest) where
-  pub with-written : (n : ℕ) → r ≡ WrittenPath n → Written n rest ≡ withRest r rest
-  unfolding withRest
-  with-written n e = rw e
+  pub with_written : (n : ℕ) → r ≡ WrittenPath n → Written n rest ≡ with_rest r rest
+  unfolding with_rest
+  with_written n e = rw e
 
-  pub with-refused : (x : Refusal) → r ≡ RefusedPath x → Refused x ≡ withRest r rest
-  unfolding withRest
-  with-refused x e = rw e
+  pub with_refused : (x : Refusal) → r ≡ RefusedPath x → Refused x ≡ with_rest r rest
+  unfolding with_rest
+  with_refused x e = rw e
 
 module _ (c : Carried) where
-  pub reply-written : (n : ℕ) (rest : Rest) → c ≡ Written n rest → WrittenPath n ≡ replyOf c
-  unfolding replyOf
-  reply-written n rest e = rw e
+  pub reply_written : (n : ℕ) (rest : Rest) → c ≡ Written n rest → WrittenPath n ≡ reply_of c
+  unfolding reply_of
+  reply_written n rest e = rw e
 
-  pub reply-refused : (x : Refusal) → c ≡ Refused x → RefusedPath x ≡ replyOf c
-  unfolding replyOf
-  reply-refused x e = rw e
+  pub reply_refused : (x : Refusal) → c ≡ Refused x → RefusedPath x ≡ reply_of c
+  unfolding reply_of
+  reply_refused x e = rw e
 
-  pub carried-written : (p t : Text) (n : ℕ) (rest : Rest) → c ≡ Written n rest → t ≡ restText p rest → t ≡ restText p (carriedRest c)
-  unfolding carriedRest
-  carried-written p t n rest e k = rw e k
+  pub carried_written : (p t : Text) (n : ℕ) (rest : Rest) → c ≡ Written n rest → t ≡ rest_text p rest → t ≡ rest_text p (carried_rest c)
+  unfolding carried_rest
+  carried_written p t n rest e k = rw e k
 
-  pub carried-refused : (p : Text) (x : Refusal) → c ≡ Refused x → [] ≡ restText p (carriedRest c)
-  unfolding carriedRest restText
-  carried-refused p x e = rw e
+  pub carried_refused : (p : Text) (x : Refusal) → c ≡ Refused x → [] ≡ rest_text p (carried_rest c)
+  unfolding carried_rest rest_text
+  carried_refused p x e = rw e

@@ -1,8 +1,8 @@
 // The rest of a path: the part at its end that follows a prefix and is carried over unaltered when the prefix
 // is replaced. The Rust has no counterpart. Every public function is defined for any bytes and any numbers.
 ghost use Rattle.std.specs.Prelude.{◌≡◌};
-ghost use Rattle.path_rest.specs.Rest.{restIndex, restStart, restText};
-ghost use Rattle.path_rest.specs.Carried.{withRest, replyOf, carriedRest};
+ghost use Rattle.path_rest.specs.Rest.{rest_index, rest_start, rest_text};
+ghost use Rattle.path_rest.specs.Carried.{with_rest, reply_of, carried_rest};
 
 // Where the rest of a path begins.
 #[derive(Drop)]
@@ -23,7 +23,7 @@ pub enum Carried {
 
 // Returns the index at which the rest of the path begins, if `prefix` is a prefix of it.
 pub fn rest_index(path: &[u8], prefix: &[u8]) -> usize
-    ensures { result ≡ restIndex path.now prefix.now }
+    ensures { result ≡ rest_index path.now prefix.now }
 {
     if path_grammar::is_root(prefix) {
         if !path_grammar::is_root(path) {
@@ -35,7 +35,7 @@ pub fn rest_index(path: &[u8], prefix: &[u8]) -> usize
 
 // Returns where the rest of the path after the prefix begins; nothing if it is no prefix of the path.
 pub fn rest_start(path: &[u8], prefix: &[u8]) -> Rest
-    ensures { result ≡ restStart path.now prefix.now }
+    ensures { result ≡ rest_start path.now prefix.now }
 {
     if !path_prefix::has_prefix(path, prefix) {
         return Rest::Nothing;
@@ -45,7 +45,7 @@ pub fn rest_start(path: &[u8], prefix: &[u8]) -> Rest
 
 // Returns the rest as a part of the path; empty if there is none.
 pub fn rest_of(path: &[u8], rest: Rest) -> &[u8]
-    ensures { result.now ≡ restText path.now rest }
+    ensures { result.now ≡ rest_text path.now rest }
 {
     let Rest::From(n) = rest else {
         return &path[..0];
@@ -58,7 +58,7 @@ pub fn rest_of(path: &[u8], rest: Rest) -> &[u8]
 
 // Returns the reply with the rest beside it.
 pub fn with_rest(reply: refusal::Reply, rest: Rest) -> Carried
-    ensures { result ≡ withRest reply rest }
+    ensures { result ≡ with_rest reply rest }
 {
     match reply {
         refusal::Reply::Written(n) => Carried::Written(n, rest),
@@ -68,7 +68,7 @@ pub fn with_rest(reply: refusal::Reply, rest: Rest) -> Carried
 
 // Returns the reply without the rest.
 pub fn reply_of(carried: Carried) -> refusal::Reply
-    ensures { result ≡ replyOf carried }
+    ensures { result ≡ reply_of carried }
 {
     match carried {
         Carried::Written(n, rest) => refusal::Reply::Written(n),
@@ -78,7 +78,7 @@ pub fn reply_of(carried: Carried) -> refusal::Reply
 
 // Returns the rest of a reply: the part of the path given that was carried over unaltered.
 pub fn carried_rest(path: &[u8], carried: Carried) -> &[u8]
-    ensures { result.now ≡ restText path.now (carriedRest carried) }
+    ensures { result.now ≡ rest_text path.now (carried_rest carried) }
 {
     match carried {
         Carried::Written(n, rest) => rest_of(path, rest),

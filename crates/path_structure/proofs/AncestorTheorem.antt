@@ -10,61 +10,61 @@ use Rattle.text.specs.Text.{Text}
 use Rattle.path_grammar.specs.Legal.{legal}
 use Rattle.path_grammar.specs.Grammar as g
 use Rattle.path_grammar.specs.Grammar.{render}
-use Rattle.path_grammar.proofs.Theorem.{legal-is-rendered}
-use Rattle.path_parts.specs.Parent.{parentLen, hasParent, parent, ancestorsFrom, ancestorsWithin, ancestors}
-use Rattle.path_parts.proofs.ParentLaws.{parent-take, parent-less}
-use Rattle.path_parts.proofs.AncestorLaws.{ancestors-none, ancestors-some, legal-long}
-use Rattle.path_structure.specs.Structure.{parent_of, renderOption, ancestorsOfOption}
+use Rattle.path_grammar.proofs.Theorem.{legal_is_rendered}
+use Rattle.path_parts.specs.Parent.{parent_len, has_parent, parent, ancestors_from, ancestors_within, ancestors}
+use Rattle.path_parts.proofs.ParentLaws.{parent_take, parent_less}
+use Rattle.path_parts.proofs.AncestorLaws.{ancestors_none, ancestors_some, legal_long}
+use Rattle.path_structure.specs.Structure.{parent_of, render_option, ancestors_of_option}
 use Rattle.path_structure.proofs.ParentTheorem.{parents}
 
 -- A path that leaves no step has no parent.
-short_none : (p : Text) → legal p ≡ true → length p - 1 ≤ 0 → hasParent p ≡ false
-short_none p e h = go (hasParent p) refl
+short_none : (p : Text) → legal p ≡ true → length p - 1 ≤ 0 → has_parent p ≡ false
+short_none p e h = go (has_parent p) refl
   where
-    go : (t : Bool) → hasParent p ≡ t → t ≡ false
-    go true f = absurd (omega (arith, legal-long p e f))
+    go : (t : Bool) → has_parent p ≡ t → t ≡ false
+    go true f = absurd (omega (arith, legal_long p e f))
     go false f = refl
 
 -- With enough steps their number does not matter.
-enough : (m n : ℕ) (p : Text) → legal p ≡ true → length p - 1 ≤ m → length p - 1 ≤ n → ancestorsWithin m p ≡ ancestorsWithin n p
-enough zero n p e h k = ancestors-none zero p (short_none p e h) ∙ sym (ancestors-none n p (short_none p e h))
-enough (suc m) zero p e h k = ancestors-none (suc m) p (short_none p e k) ∙ sym (ancestors-none zero p (short_none p e k))
-enough (suc m) (suc n) p e h k = go (hasParent p) refl (enough m n (take (parentLen p) p) (parent-take p e))
+enough : (m n : ℕ) (p : Text) → legal p ≡ true → length p - 1 ≤ m → length p - 1 ≤ n → ancestors_within m p ≡ ancestors_within n p
+enough zero n p e h k = ancestors_none zero p (short_none p e h) ∙ sym (ancestors_none n p (short_none p e h))
+enough (suc m) zero p e h k = ancestors_none (suc m) p (short_none p e k) ∙ sym (ancestors_none zero p (short_none p e k))
+enough (suc m) (suc n) p e h k = go (has_parent p) refl (enough m n (take (parent_len p) p) (parent_take p e))
   where
     q : Text
-    q = take (parentLen p) p
+    q = take (parent_len p) p
 
-    go : (t : Bool) → hasParent p ≡ t → (length q - 1 ≤ m → length q - 1 ≤ n → ancestorsWithin m q ≡ ancestorsWithin n q)
-        → ancestorsWithin (suc m) p ≡ ancestorsWithin (suc n) p
-    go false f ih = ancestors-none (suc m) p f ∙ sym (ancestors-none (suc n) p f)
+    go : (t : Bool) → has_parent p ≡ t → (length q - 1 ≤ m → length q - 1 ≤ n → ancestors_within m q ≡ ancestors_within n q)
+        → ancestors_within (suc m) p ≡ ancestors_within (suc n) p
+    go false f ih = ancestors_none (suc m) p f ∙ sym (ancestors_none (suc n) p f)
     go true f ih =
-        ancestors-some m p f ∙ ap (λ (l : List Text). p ∷ l) (ih (omega (arith, parent-less p e f)) (omega (arith, parent-less p e f)))
-        ∙ sym (ancestors-some n p f)
+        ancestors_some m p f ∙ ap (λ (l : List Text). p ∷ l) (ih (omega (arith, parent_less p e f)) (omega (arith, parent_less p e f)))
+        ∙ sym (ancestors_some n p f)
 
 -- One step, for a legal text.
-ancestors-step : (p : Text) → legal p ≡ true → ancestors p ≡ p ∷ ancestorsFrom ancestors (parent p)
-unfolding ancestors ancestorsWithin parent
-ancestors-step p e = go (hasParent p) refl
+ancestors_step : (p : Text) → legal p ≡ true → ancestors p ≡ p ∷ ancestors_from ancestors (parent p)
+unfolding ancestors ancestors_within parent
+ancestors_step p e = go (has_parent p) refl
   where
     q : Text
-    q = take (parentLen p) p
+    q = take (parent_len p) p
 
-    go : (t : Bool) → hasParent p ≡ t → ancestorsWithin (length p - 1) p ≡ p ∷ ancestorsFrom ancestors (cond t (some q) none)
-    go false f = ancestors-none (length p - 1) p f
+    go : (t : Bool) → has_parent p ≡ t → ancestors_within (length p - 1) p ≡ p ∷ ancestors_from ancestors (cond t (some q) none)
+    go false f = ancestors_none (length p - 1) p f
     go true f =
-        let n : length p - 1 ≡ suc (length p - 2) = omega (arith, legal-long p e f) in
-        ap (λ (k : ℕ). ancestorsWithin k p) n ∙ ancestors-some (length p - 2) p f
-        ∙ ap (λ (l : List Text). p ∷ l) (enough (length p - 2) (length q - 1) q (parent-take p e) (omega (arith, parent-less p e f)) (omega arith))
+        let n : length p - 1 ≡ suc (length p - 2) = omega (arith, legal_long p e f) in
+        ap (λ (k : ℕ). ancestors_within k p) n ∙ ancestors_some (length p - 2) p f
+        ∙ ap (λ (l : List Text). p ∷ l) (enough (length p - 2) (length q - 1) q (parent_take p e) (omega (arith, parent_less p e f)) (omega arith))
 
-from-option : (o : Option g.Path) → ancestorsFrom ancestors (renderOption o) ≡ ancestorsOfOption o
-unfolding renderOption ancestorsOfOption
-from-option none = refl
-from-option (some p) = refl
+from_option : (o : Option g.Path) → ancestors_from ancestors (render_option o) ≡ ancestors_of_option o
+unfolding render_option ancestors_of_option
+from_option none = refl
+from_option (some p) = refl
 
-rendered-legal : (p : g.Path) → legal (render p) ≡ true
-rendered-legal p = (legal-is-rendered (render p)).1 (record { path = p; same = refl })
+rendered_legal : (p : g.Path) → legal (render p) ≡ true
+rendered_legal p = (legal_is_rendered (render p)).1 (record { path = p; same = refl })
 
-pub ancestors-are : (p : g.Path) → ancestors (render p) ≡ render p ∷ ancestorsOfOption (parent_of p)
-ancestors-are p =
-    ancestors-step (render p) (rendered-legal p) ∙ ap (λ (o : Option Text). render p ∷ ancestorsFrom ancestors o) (parents p)
-    ∙ ap (λ (l : List Text). render p ∷ l) (from-option (parent_of p))
+pub ancestors_are : (p : g.Path) → ancestors (render p) ≡ render p ∷ ancestors_of_option (parent_of p)
+ancestors_are p =
+    ancestors_step (render p) (rendered_legal p) ∙ ap (λ (o : Option Text). render p ∷ ancestors_from ancestors o) (parents p)
+    ∙ ap (λ (l : List Text). render p ∷ l) (from_option (parent_of p))

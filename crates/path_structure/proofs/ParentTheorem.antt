@@ -5,120 +5,120 @@ use mathlib.Core.List.{List, [], ◌∷◌, ◌++◌, append-nil}
 use mathlib.Core.Option.{Option, none, some}
 use Prim.Native.Nat.{ℕ}
 use lib.ListN.{take}
-use Rattle.text.specs.Text.{Text, endsWithByte}
-use Rattle.text.proofs.TextLaws.{last-after, last_snoc}
-use Rattle.path_grammar.specs.Own.{ownPart}
-use Rattle.path_grammar.specs.Legal.{startsName}
+use Rattle.text.specs.Text.{Text, ends_with_byte}
+use Rattle.text.proofs.TextLaws.{last_after, last_snoc}
+use Rattle.path_grammar.specs.Own.{own_part}
+use Rattle.path_grammar.specs.Legal.{starts_name}
 use Rattle.path_grammar.specs.Grammar as g
-use Rattle.path_grammar.specs.Grammar.{nameText, moreText, primsText, propertyText, ownText, bracketText, absoluteText, render}
-use Rattle.path_grammar.proofs.OwnLaws.{own-slice}
-use Rattle.path_grammar.proofs.LegalLaws.{own-no-close-bracket}
-use Rattle.path_grammar.proofs.Render.{prims-named, own-render, own-target}
-use Rattle.path_parts.specs.Parent.{startsPart, startsNameAfter, partOffset, lastPartStart, ownParentLen, parentLen, hasParent, parent}
-use Rattle.path_parts.proofs.LastLaws.{none-on, before}
-use Rattle.path_structure.specs.Structure.{dropLastPart, pathOfPrims, absoluteParent, absoluteOption, parent_of, renderOption}
-use Rattle.path_structure.proofs.PartLaws.{name_free, Before, before_here, PrimsBefore, prims-part}
+use Rattle.path_grammar.specs.Grammar.{name_text, more_text, prims_text, property_text, own_text, bracket_text, absolute_text, render}
+use Rattle.path_grammar.proofs.OwnLaws.{own_slice}
+use Rattle.path_grammar.proofs.LegalLaws.{own_no_close_bracket}
+use Rattle.path_grammar.proofs.Render.{prims_named, own_render, own-target}
+use Rattle.path_parts.specs.Parent.{starts_part, starts_name_after, part_offset, last_part_start, own_parent_len, parent_len, has_parent, parent}
+use Rattle.path_parts.proofs.LastLaws.{none_on, before}
+use Rattle.path_structure.specs.Structure.{drop_last_part, path_of_prims, absolute_parent, absolute_option, parent_of, render_option}
+use Rattle.path_structure.proofs.PartLaws.{name_free, Before, before_here, PrimsBefore, prims_part}
 
 -- The text before the last part, after a slash.
-pub before-slash : (t : Text) → startsName t ≡ true → take (ownParentLen (47 ∷ t)) (47 ∷ t) ≡ 47 ∷ take (before (lastPartStart t)) t
-unfolding ownParentLen lastPartStart partOffset startsPart
-before-slash [] n = absurd (false≢true n)
-before-slash (a ∷ t) n = go (lastPartStart (a ∷ t)) refl
+pub before_slash : (t : Text) → starts_name t ≡ true → take (own_parent_len (47 ∷ t)) (47 ∷ t) ≡ 47 ∷ take (before (last_part_start t)) t
+unfolding own_parent_len last_part_start part_offset starts_part
+before_slash [] n = absurd (false≢true n)
+before_slash (a ∷ t) n = go (last_part_start (a ∷ t)) refl
   where
-    go : (o : Option ℕ) → lastPartStart (a ∷ t) ≡ o → take (ownParentLen (47 ∷ a ∷ t)) (47 ∷ a ∷ t) ≡ 47 ∷ take (before o) (a ∷ t)
+    go : (o : Option ℕ) → last_part_start (a ∷ t) ≡ o → take (own_parent_len (47 ∷ a ∷ t)) (47 ∷ a ∷ t) ≡ 47 ∷ take (before o) (a ∷ t)
     go none h = rw h
     go (some k) h = rw h
 
-parent-slash : (t : Text) → startsName t ≡ true → endsWithByte 93 (47 ∷ t) ≡ false → parent (47 ∷ t) ≡ some (47 ∷ take (before (lastPartStart t)) t)
-unfolding parent parentLen
-parent-slash [] n c = absurd (false≢true n)
-parent-slash (a ∷ t) n c = rw c (ap some (before-slash (a ∷ t) n))
+parent_slash : (t : Text) → starts_name t ≡ true → ends_with_byte 93 (47 ∷ t) ≡ false → parent (47 ∷ t) ≡ some (47 ∷ take (before (last_part_start t)) t)
+unfolding parent parent_len
+parent_slash [] n c = absurd (false≢true n)
+parent_slash (a ∷ t) n c = rw c (ap some (before_slash (a ∷ t) n))
 
 -- The text before the last part of prims, after a slash, is the path without that part.
-pub prims-before : (d : ℕ) (t : Text) (ps : List g.Prim) → PrimsBefore t ps → 47 ∷ take (before (lastPartStart t)) t ≡ absoluteText (pathOfPrims {d = d} ps)
-unfolding absoluteText ownText pathOfPrims propertyText
-prims-before d t [] e = rw e
-prims-before d t (p ∷ r) b = ap (λ (o : Option ℕ). 47 ∷ take (before o) t) b.part ∙ ap (λ (s : Text). 47 ∷ s) (b.text ∙ sym (append-nil (primsText p r)))
+pub prims_before : (d : ℕ) (t : Text) (ps : List g.Prim) → PrimsBefore t ps → 47 ∷ take (before (last_part_start t)) t ≡ absolute_text (path_of_prims {d = d} ps)
+unfolding absolute_text own_text path_of_prims property_text
+prims_before d t [] e = rw e
+prims_before d t (p ∷ r) b = ap (λ (o : Option ℕ). 47 ∷ take (before o) t) b.part ∙ ap (λ (s : Text). 47 ∷ s) (b.text ∙ sym (append-nil (prims_text p r)))
 
 -- No part begins in the names of a property, so its last part begins at the dot.
-more-free : (r : List g.Name) → lastPartStart (moreText r) ≡ none
-unfolding moreText lastPartStart partOffset startsPart startsNameAfter
-more-free [] = refl
-more-free (n ∷ r) = none-on 58 (nameText n ++ moreText r) refl (name_free n (moreText r) (more-free r))
+more_free : (r : List g.Name) → last_part_start (more_text r) ≡ none
+unfolding more_text last_part_start part_offset starts_part starts_name_after
+more_free [] = refl
+more_free (n ∷ r) = none_on 58 (name_text n ++ more_text r) refl (name_free n (more_text r) (more_free r))
 
-property-part : (x : g.Property) → lastPartStart (propertyText (some x)) ≡ some 0
-unfolding propertyText lastPartStart partOffset startsPart
-property-part x = rw (name_free x.first (moreText x.more) (more-free x.more))
+property_part : (x : g.Property) → last_part_start (property_text (some x)) ≡ some 0
+unfolding property_text last_part_start part_offset starts_part
+property_part x = rw (name_free x.first (more_text x.more) (more_free x.more))
 
-pub property-before : (p : g.Prim) (r : List g.Prim) (x : g.Property)
-    → 47 ∷ take (before (lastPartStart (primsText p r ++ propertyText (some x)))) (primsText p r ++ propertyText (some x)) ≡ ownText p r none
-unfolding ownText propertyText
-property-before p r x =
-    let t : Text = primsText p r ++ propertyText (some x) in
-    let b : Before t (primsText p r) = before_here (primsText p r) (propertyText (some x)) (property-part x) in
-    ap (λ (o : Option ℕ). 47 ∷ take (before o) t) b.part ∙ ap (λ (s : Text). 47 ∷ s) (b.text ∙ sym (append-nil (primsText p r)))
+pub property_before : (p : g.Prim) (r : List g.Prim) (x : g.Property)
+    → 47 ∷ take (before (last_part_start (prims_text p r ++ property_text (some x)))) (prims_text p r ++ property_text (some x)) ≡ own_text p r none
+unfolding own_text property_text
+property_before p r x =
+    let t : Text = prims_text p r ++ property_text (some x) in
+    let b : Before t (prims_text p r) = before_here (prims_text p r) (property_text (some x)) (property_part x) in
+    ap (λ (o : Option ℕ). 47 ∷ take (before o) t) b.part ∙ ap (λ (s : Text). 47 ∷ s) (b.text ∙ sym (append-nil (prims_text p r)))
 
 -- The text of prims without a property.
-pub no-property-text : (p : g.Prim) (r : List g.Prim) → ownText p r none ≡ 47 ∷ primsText p r
-unfolding ownText propertyText
-no-property-text p r = ap (λ (t : Text). 47 ∷ t) (append-nil (primsText p r))
+pub no_property_text : (p : g.Prim) (r : List g.Prim) → own_text p r none ≡ 47 ∷ prims_text p r
+unfolding own_text property_text
+no_property_text p r = ap (λ (t : Text). 47 ∷ t) (append-nil (prims_text p r))
 
-pub prims-name : (p : g.Prim) (r : List g.Prim) → startsName (primsText p r) ≡ true
-prims-name p r = rw (append-nil (primsText p r)) at (prims-named p r [])
+pub prims_name : (p : g.Prim) (r : List g.Prim) → starts_name (prims_text p r) ≡ true
+prims_name p r = rw (append-nil (prims_text p r)) at (prims_named p r [])
 
 -- A text without brackets does not end in one.
-own-closed : (p : g.Prim) (r : List g.Prim) (x : Option g.Property) → endsWithByte 93 (ownText p r x) ≡ false
-own-closed p r x = own-no-close-bracket (ownText p r x) (own-render p r x)
+own_closed : (p : g.Prim) (r : List g.Prim) (x : Option g.Property) → ends_with_byte 93 (own_text p r x) ≡ false
+own_closed p r x = own_no_close_bracket (own_text p r x) (own_render p r x)
 
-property-parent : (p : g.Prim) (r : List g.Prim) (x : g.Property) → parent (ownText p r (some x)) ≡ some (ownText p r none)
-unfolding ownText
-property-parent p r x =
-    parent-slash (primsText p r ++ propertyText (some x)) (prims-named p r (propertyText (some x))) (own-closed p r (some x)) ∙ ap some (property-before p r x)
+property_parent : (p : g.Prim) (r : List g.Prim) (x : g.Property) → parent (own_text p r (some x)) ≡ some (own_text p r none)
+unfolding own_text
+property_parent p r x =
+    parent_slash (prims_text p r ++ property_text (some x)) (prims_named p r (property_text (some x))) (own_closed p r (some x)) ∙ ap some (property_before p r x)
 
 -- The parent of a path with a target is its own part.
-closed-parent : (w : Text) → endsWithByte 93 w ≡ true → take (parentLen w) w ≡ ownPart w
-unfolding parentLen
-closed-parent w h = rw h (own-slice w)
+closed_parent : (w : Text) → ends_with_byte 93 w ≡ true → take (parent_len w) w ≡ own_part w
+unfolding parent_len
+closed_parent w h = rw h (own_slice w)
 
-bracket-closed : (o t : Text) → endsWithByte 93 (o ++ bracketText t) ≡ true
-unfolding bracketText
-bracket-closed o t = last-after 93 o 91 (t ++ (93 ∷ [])) ∙ last_snoc 93 (91 ∷ t) 93
+bracket_closed : (o t : Text) → ends_with_byte 93 (o ++ bracket_text t) ≡ true
+unfolding bracket_text
+bracket_closed o t = last_after 93 o 91 (t ++ (93 ∷ [])) ∙ last_snoc 93 (91 ∷ t) 93
 
-has-parent : (p : g.Prim) (r : List g.Prim) (x : g.Property) (t : Text) → hasParent (ownText p r (some x) ++ bracketText t) ≡ true
-unfolding ownText bracketText
-has-parent p r x t = go (primsText p r ++ propertyText (some x))
+has_parent_lem : (p : g.Prim) (r : List g.Prim) (x : g.Property) (t : Text) → has_parent (own_text p r (some x) ++ bracket_text t) ≡ true
+unfolding own_text bracket_text
+has_parent_lem p r x t = go (prims_text p r ++ property_text (some x))
   where
-    go : (y : Text) → hasParent (47 ∷ (y ++ (91 ∷ (t ++ (93 ∷ []))))) ≡ true
+    go : (y : Text) → has_parent (47 ∷ (y ++ (91 ∷ (t ++ (93 ∷ []))))) ≡ true
     go [] = refl
     go (a ∷ y) = refl
 
-target-parent : (p : g.Prim) (r : List g.Prim) (x : g.Property) (t : Text) → parent (ownText p r (some x) ++ bracketText t) ≡ some (ownText p r (some x))
+target_parent : (p : g.Prim) (r : List g.Prim) (x : g.Property) (t : Text) → parent (own_text p r (some x) ++ bracket_text t) ≡ some (own_text p r (some x))
 unfolding parent
-target-parent p r x t =
-    let whole : Text = ownText p r (some x) ++ bracketText t in
-    ap (λ (b : Bool). cond b (some (take (parentLen whole) whole)) none) (has-parent p r x t)
-    ∙ ap some (closed-parent whole (bracket-closed (ownText p r (some x)) t) ∙ own-target p r x t)
+target_parent p r x t =
+    let whole : Text = own_text p r (some x) ++ bracket_text t in
+    ap (λ (b : Bool). cond b (some (take (parent_len whole) whole)) none) (has_parent_lem p r x t)
+    ∙ ap some (closed_parent whole (bracket_closed (own_text p r (some x)) t) ∙ own-target p r x t)
 
 -- The text of an absolute path, if there is one.
-unfoldable pub textOption : {d : ℕ} → Option (g.Absolute d) → Option Text
-textOption none = none
-textOption (some q) = some (absoluteText q)
+unfoldable pub text_option : {d : ℕ} → Option (g.Absolute d) → Option Text
+text_option none = none
+text_option (some q) = some (absolute_text q)
 
-absolute-parents : {d : ℕ} (q : g.Absolute d) → parent (absoluteText q) ≡ textOption (absoluteParent q)
-unfolding absoluteParent textOption absoluteText parent
-absolute-parents g.root = refl
-absolute-parents (g.prims {d} p r none) =
-    ap parent (no-property-text p r) ∙ parent-slash (primsText p r) (prims-name p r) (rw (no-property-text p r) at (own-closed p r none))
-    ∙ ap some (prims-before d (primsText p r) (dropLastPart p r) (prims-part p r))
-absolute-parents (g.prims p r (some x)) = property-parent p r x
-absolute-parents (g.target p r x q) = target-parent p r x (absoluteText q)
+absolute_parents : {d : ℕ} (q : g.Absolute d) → parent (absolute_text q) ≡ text_option (absolute_parent q)
+unfolding absolute_parent text_option absolute_text parent
+absolute_parents g.root = refl
+absolute_parents (g.prims {d} p r none) =
+    ap parent (no_property_text p r) ∙ parent_slash (prims_text p r) (prims_name p r) (rw (no_property_text p r) at (own_closed p r none))
+    ∙ ap some (prims_before d (prims_text p r) (drop_last_part p r) (prims_part p r))
+absolute_parents (g.prims p r (some x)) = property_parent p r x
+absolute_parents (g.target p r x q) = target_parent p r x (absolute_text q)
 
-pub option-texts : (o : Option (g.Absolute 4)) → textOption o ≡ renderOption (absoluteOption o)
-unfolding textOption renderOption absoluteOption render
-option-texts none = refl
-option-texts (some q) = refl
+pub option_texts : (o : Option (g.Absolute 4)) → text_option o ≡ render_option (absolute_option o)
+unfolding text_option render_option absolute_option render
+option_texts none = refl
+option_texts (some q) = refl
 
-pub parents : (p : g.Path) → parent (render p) ≡ renderOption (parent_of p)
-unfolding parent_of renderOption render parent
+pub parents : (p : g.Path) → parent (render p) ≡ render_option (parent_of p)
+unfolding parent_of render_option render parent
 parents g.empty = refl
-parents (g.absolute q) = absolute-parents q ∙ option-texts (absoluteParent q)
+parents (g.absolute q) = absolute_parents q ∙ option_texts (absolute_parent q)

@@ -4,157 +4,157 @@ use mathlib.Core.Bool.{Bool, true, false, cond}
 use mathlib.Core.List.{List, [], ◌∷◌, ◌++◌, map, append_assoc, append-nil}
 use mathlib.Core.Option.{Option, none, some}
 use Prim.Native.Nat.{ℕ}
-use Rattle.text.specs.Text.{Text, lacksByte, takeUntil, dropUntil}
-use Rattle.text.proofs.TextLaws.{lacks-first, lacks_rest, lacks-join}
-use Rattle.path_grammar.specs.Own.{ownPart, targetPart}
-use Rattle.path_grammar.specs.Legal.{isNameStartByte, isNameByte, startsName}
+use Rattle.text.specs.Text.{Text, lacks_byte, take_until, drop_until}
+use Rattle.text.proofs.TextLaws.{lacks_first, lacks_rest, lacks_join}
+use Rattle.path_grammar.specs.Own.{own_part, target_part}
+use Rattle.path_grammar.specs.Legal.{is_name_start_byte, is_name_byte, starts_name}
 use Rattle.path_grammar.specs.Grammar as g
-use Rattle.path_grammar.specs.Grammar.{nameText, wordText, selectionText, selectionsText, primText, primSeparator, primsText, moreText, propertyText, ownText, bracketText, absoluteText, render}
-use Rattle.path_grammar.proofs.RenderLacks.{name-lacks, word-lacks, close-no-name}
-use Rattle.path_grammar.proofs.Render.{prims-named, own-prims, target-prims, own-target, target-target}
-use Rattle.path_parts.specs.Parent.{startsNameAfter}
-use Rattle.path_parts.specs.Strip.{strippedByte, stripFrom, strip}
-use Rattle.path_structure.specs.Structure.{stripPrim, absoluteStrip, stripOf}
+use Rattle.path_grammar.specs.Grammar.{name_text, word_text, selection_text, selections_text, prim_text, prim_separator, prims_text, more_text, property_text, own_text, bracket_text, absolute_text, render}
+use Rattle.path_grammar.proofs.RenderLacks.{name_lacks, word_lacks, close_no_name}
+use Rattle.path_grammar.proofs.Render.{prims_named, own_prims, target_prims, own-target, target-target}
+use Rattle.path_parts.specs.Parent.{starts_name_after}
+use Rattle.path_parts.specs.Strip.{stripped_byte, strip_from, strip}
+use Rattle.path_structure.specs.Structure.{strip_prim, absolute_strip, strip_of}
 
 -- Outside selections a text without `{` is kept.
-outside : (t k : Text) → lacksByte 123 t ≡ true → stripFrom false (t ++ k) ≡ t ++ stripFrom false k
-unfolding stripFrom strippedByte
+outside : (t k : Text) → lacks_byte 123 t ≡ true → strip_from false (t ++ k) ≡ t ++ strip_from false k
+unfolding strip_from stripped_byte
 outside [] k e = refl
-outside (a ∷ t) k e = rw (lacks-first 123 a t e) (ap (λ (s : Text). a ∷ s) (outside t k (lacks_rest 123 a t e)))
+outside (a ∷ t) k e = rw (lacks_first 123 a t e) (ap (λ (s : Text). a ∷ s) (outside t k (lacks_rest 123 a t e)))
 
 -- Inside a selection a text without `}` is dropped.
-inside : (t k : Text) → lacksByte 125 t ≡ true → stripFrom true (t ++ k) ≡ stripFrom true k
-unfolding stripFrom strippedByte startsNameAfter
+inside : (t k : Text) → lacks_byte 125 t ≡ true → strip_from true (t ++ k) ≡ strip_from true k
+unfolding strip_from stripped_byte starts_name_after
 inside [] k e = refl
-inside (a ∷ t) k e = rw (lacks-first 125 a t e) (inside t k (lacks_rest 125 a t e))
+inside (a ∷ t) k e = rw (lacks_first 125 a t e) (inside t k (lacks_rest 125 a t e))
 
-open-no-name : isNameByte 123 ≡ false
-unfolding isNameByte isNameStartByte
-open-no-name = refl
+open_no_name : is_name_byte 123 ≡ false
+unfolding is_name_byte is_name_start_byte
+open_no_name = refl
 
-name-kept : (n : g.Name) (k : Text) → stripFrom false (nameText n ++ k) ≡ nameText n ++ stripFrom false k
-name-kept n k = outside (nameText n) k (name-lacks 123 open-no-name n)
+name_kept : (n : g.Name) (k : Text) → strip_from false (name_text n ++ k) ≡ name_text n ++ strip_from false k
+name_kept n k = outside (name_text n) k (name_lacks 123 open_no_name n)
 
 -- A slash if a name follows.
 abbrev gap : Text → Text
-gap k = cond (startsName k) (47 ∷ []) []
+gap k = cond (starts_name k) (47 ∷ []) []
 
-close-gap : (k : Text) → stripFrom true (125 ∷ k) ≡ gap k ++ stripFrom false k
-unfolding stripFrom strippedByte startsNameAfter
-close-gap k = refl
+close_gap : (k : Text) → strip_from true (125 ∷ k) ≡ gap k ++ strip_from false k
+unfolding strip_from stripped_byte starts_name_after
+close_gap k = refl
 
-selection-inside : (s : g.Selection) (k : Text)
-    → (nameText s.variantSet ++ (61 ∷ (wordText s.variant ++ (125 ∷ [])))) ++ k ≡ (nameText s.variantSet ++ (61 ∷ wordText s.variant)) ++ (125 ∷ k)
-selection-inside s k =
-    append_assoc (nameText s.variantSet) (61 ∷ (wordText s.variant ++ (125 ∷ []))) k
-    ∙ ap (λ (t : Text). nameText s.variantSet ++ (61 ∷ t)) (append_assoc (wordText s.variant) (125 ∷ []) k)
-    ∙ sym (append_assoc (nameText s.variantSet) (61 ∷ wordText s.variant) (125 ∷ k))
+selection_inside : (s : g.Selection) (k : Text)
+    → (name_text s.variant_set ++ (61 ∷ (word_text s.variant ++ (125 ∷ [])))) ++ k ≡ (name_text s.variant_set ++ (61 ∷ word_text s.variant)) ++ (125 ∷ k)
+selection_inside s k =
+    append_assoc (name_text s.variant_set) (61 ∷ (word_text s.variant ++ (125 ∷ []))) k
+    ∙ ap (λ (t : Text). name_text s.variant_set ++ (61 ∷ t)) (append_assoc (word_text s.variant) (125 ∷ []) k)
+    ∙ sym (append_assoc (name_text s.variant_set) (61 ∷ word_text s.variant) (125 ∷ k))
 
-inside-lacks : (s : g.Selection) → lacksByte 125 (nameText s.variantSet ++ (61 ∷ wordText s.variant)) ≡ true
-unfolding lacksByte
-inside-lacks s =
-    lacks-join 125 (nameText s.variantSet) (61 ∷ wordText s.variant) (name-lacks 125 close-no-name s.variantSet)
-    (word-lacks 125 close-no-name s.variant)
+inside_lacks : (s : g.Selection) → lacks_byte 125 (name_text s.variant_set ++ (61 ∷ word_text s.variant)) ≡ true
+unfolding lacks_byte
+inside_lacks s =
+    lacks_join 125 (name_text s.variant_set) (61 ∷ word_text s.variant) (name_lacks 125 close_no_name s.variant_set)
+    (word_lacks 125 close_no_name s.variant)
 
-selection-dropped : (s : g.Selection) (k : Text) → stripFrom false (selectionText s ++ k) ≡ gap k ++ stripFrom false k
-unfolding selectionText stripFrom strippedByte
-selection-dropped s k =
-    ap (stripFrom true) (selection-inside s k)
-    ∙ inside (nameText s.variantSet ++ (61 ∷ wordText s.variant)) (125 ∷ k) (inside-lacks s) ∙ close-gap k
+selection_dropped : (s : g.Selection) (k : Text) → strip_from false (selection_text s ++ k) ≡ gap k ++ strip_from false k
+unfolding selection_text strip_from stripped_byte
+selection_dropped s k =
+    ap (strip_from true) (selection_inside s k)
+    ∙ inside (name_text s.variant_set ++ (61 ∷ word_text s.variant)) (125 ∷ k) (inside_lacks s) ∙ close_gap k
 
 -- No name follows a selection that another one follows.
-selection-no-gap : (s : g.Selection) (k : Text) → gap (selectionText s ++ k) ≡ []
-unfolding selectionText isNameByte isNameStartByte
-selection-no-gap s k = refl
+selection_no_gap : (s : g.Selection) (k : Text) → gap (selection_text s ++ k) ≡ []
+unfolding selection_text is_name_byte is_name_start_byte
+selection_no_gap s k = refl
 
-selections-dropped : (s : g.Selection) (r : List g.Selection) (k : Text) → stripFrom false (selectionsText (s ∷ r) ++ k) ≡ gap k ++ stripFrom false k
-unfolding selectionsText
-selections-dropped s [] k = ap (λ (t : Text). stripFrom false (t ++ k)) (append-nil (selectionText s)) ∙ selection-dropped s k
-selections-dropped s (t ∷ r) k =
-    let rest : Text = selectionsText (t ∷ r) ++ k in
-    let none : gap rest ≡ [] = ap gap (append_assoc (selectionText t) (selectionsText r) k) ∙ selection-no-gap t (selectionsText r ++ k) in
-    ap (stripFrom false) (append_assoc (selectionText s) (selectionsText (t ∷ r)) k) ∙ selection-dropped s rest
-    ∙ ap (λ (x : Text). x ++ stripFrom false rest) none ∙ selections-dropped t r k
+selections_dropped : (s : g.Selection) (r : List g.Selection) (k : Text) → strip_from false (selections_text (s ∷ r) ++ k) ≡ gap k ++ strip_from false k
+unfolding selections_text
+selections_dropped s [] k = ap (λ (t : Text). strip_from false (t ++ k)) (append-nil (selection_text s)) ∙ selection_dropped s k
+selections_dropped s (t ∷ r) k =
+    let rest : Text = selections_text (t ∷ r) ++ k in
+    let none : gap rest ≡ [] = ap gap (append_assoc (selection_text t) (selections_text r) k) ∙ selection_no_gap t (selections_text r ++ k) in
+    ap (strip_from false) (append_assoc (selection_text s) (selections_text (t ∷ r)) k) ∙ selection_dropped s rest
+    ∙ ap (λ (x : Text). x ++ strip_from false rest) none ∙ selections_dropped t r k
 
 -- The last prim, and what follows it: no name.
-prim-last : (n : g.Name) (ss : List g.Selection) (k : Text) → gap k ≡ [] → stripFrom false ((nameText n ++ selectionsText ss) ++ k) ≡ nameText n ++ stripFrom false k
-unfolding selectionsText
-prim-last n [] k e = ap (λ (t : Text). stripFrom false (t ++ k)) (append-nil (nameText n)) ∙ name-kept n k
-prim-last n (s ∷ r) k e =
-    ap (stripFrom false) (append_assoc (nameText n) (selectionsText (s ∷ r)) k) ∙ name-kept n (selectionsText (s ∷ r) ++ k)
-    ∙ ap (λ (t : Text). nameText n ++ t) (selections-dropped s r k ∙ ap (λ (x : Text). x ++ stripFrom false k) e)
+prim_last : (n : g.Name) (ss : List g.Selection) (k : Text) → gap k ≡ [] → strip_from false ((name_text n ++ selections_text ss) ++ k) ≡ name_text n ++ strip_from false k
+unfolding selections_text
+prim_last n [] k e = ap (λ (t : Text). strip_from false (t ++ k)) (append-nil (name_text n)) ∙ name_kept n k
+prim_last n (s ∷ r) k e =
+    ap (strip_from false) (append_assoc (name_text n) (selections_text (s ∷ r)) k) ∙ name_kept n (selections_text (s ∷ r) ++ k)
+    ∙ ap (λ (t : Text). name_text n ++ t) (selections_dropped s r k ∙ ap (λ (x : Text). x ++ strip_from false k) e)
 
 -- A prim before another: a slash is between them, kept or written for the selections.
-slash-kept : (k : Text) → stripFrom false (47 ∷ k) ≡ 47 ∷ stripFrom false k
-unfolding stripFrom strippedByte
-slash-kept k = refl
+slash_kept : (k : Text) → strip_from false (47 ∷ k) ≡ 47 ∷ strip_from false k
+unfolding strip_from stripped_byte
+slash_kept k = refl
 
-prim-then : (n : g.Name) (ss : List g.Selection) (k : Text) → startsName k ≡ true
-    → stripFrom false ((nameText n ++ selectionsText ss) ++ (primSeparator ss ++ k)) ≡ nameText n ++ (47 ∷ stripFrom false k)
-unfolding selectionsText primSeparator
-prim-then n [] k e =
-    ap (λ (t : Text). stripFrom false (t ++ (47 ∷ k))) (append-nil (nameText n)) ∙ name-kept n (47 ∷ k) ∙ ap (λ (t : Text). nameText n ++ t) (slash-kept k)
-prim-then n (s ∷ r) k e =
-    ap (stripFrom false) (append_assoc (nameText n) (selectionsText (s ∷ r)) k) ∙ name-kept n (selectionsText (s ∷ r) ++ k)
-    ∙ ap (λ (t : Text). nameText n ++ t) (selections-dropped s r k ∙ ap (λ (b : Bool). cond b (47 ∷ []) [] ++ stripFrom false k) e)
+prim_then : (n : g.Name) (ss : List g.Selection) (k : Text) → starts_name k ≡ true
+    → strip_from false ((name_text n ++ selections_text ss) ++ (prim_separator ss ++ k)) ≡ name_text n ++ (47 ∷ strip_from false k)
+unfolding selections_text prim_separator
+prim_then n [] k e =
+    ap (λ (t : Text). strip_from false (t ++ (47 ∷ k))) (append-nil (name_text n)) ∙ name_kept n (47 ∷ k) ∙ ap (λ (t : Text). name_text n ++ t) (slash_kept k)
+prim_then n (s ∷ r) k e =
+    ap (strip_from false) (append_assoc (name_text n) (selections_text (s ∷ r)) k) ∙ name_kept n (selections_text (s ∷ r) ++ k)
+    ∙ ap (λ (t : Text). name_text n ++ t) (selections_dropped s r k ∙ ap (λ (b : Bool). cond b (47 ∷ []) [] ++ strip_from false k) e)
 
-prims-stripped : (p : g.Prim) (r : List g.Prim) (k : Text) → gap k ≡ []
-    → stripFrom false (primsText p r ++ k) ≡ primsText (stripPrim p) (map stripPrim r) ++ stripFrom false k
-unfolding primsText primText stripPrim selectionsText primSeparator
-prims-stripped p [] k e =
-    prim-last p.name p.selections k e ∙ ap (λ (t : Text). t ++ stripFrom false k) (sym (append-nil (nameText p.name)))
-prims-stripped p (q ∷ r) k e =
-    let rest : Text = primsText q r ++ k in
-    let kept : Text = primsText (stripPrim q) (map stripPrim r) in
-    let split : (primText p ++ (primSeparator p.selections ++ primsText q r)) ++ k ≡ primText p ++ (primSeparator p.selections ++ rest)
-    = append_assoc (primText p) (primSeparator p.selections ++ primsText q r) k
-    ∙ ap (λ (t : Text). primText p ++ t) (append_assoc (primSeparator p.selections) (primsText q r) k) in
-    ap (stripFrom false) split ∙ prim-then p.name p.selections rest (prims-named q r k)
-    ∙ ap (λ (t : Text). nameText p.name ++ (47 ∷ t)) (prims-stripped q r k e)
-    ∙ sym (append_assoc (nameText p.name) (47 ∷ kept) (stripFrom false k))
-    ∙ ap (λ (t : Text). (t ++ (47 ∷ kept)) ++ stripFrom false k) (sym (append-nil (nameText p.name)))
+prims_stripped : (p : g.Prim) (r : List g.Prim) (k : Text) → gap k ≡ []
+    → strip_from false (prims_text p r ++ k) ≡ prims_text (strip_prim p) (map strip_prim r) ++ strip_from false k
+unfolding prims_text prim_text strip_prim selections_text prim_separator
+prims_stripped p [] k e =
+    prim_last p.name p.selections k e ∙ ap (λ (t : Text). t ++ strip_from false k) (sym (append-nil (name_text p.name)))
+prims_stripped p (q ∷ r) k e =
+    let rest : Text = prims_text q r ++ k in
+    let kept : Text = prims_text (strip_prim q) (map strip_prim r) in
+    let split : (prim_text p ++ (prim_separator p.selections ++ prims_text q r)) ++ k ≡ prim_text p ++ (prim_separator p.selections ++ rest)
+    = append_assoc (prim_text p) (prim_separator p.selections ++ prims_text q r) k
+    ∙ ap (λ (t : Text). prim_text p ++ t) (append_assoc (prim_separator p.selections) (prims_text q r) k) in
+    ap (strip_from false) split ∙ prim_then p.name p.selections rest (prims_named q r k)
+    ∙ ap (λ (t : Text). name_text p.name ++ (47 ∷ t)) (prims_stripped q r k e)
+    ∙ sym (append_assoc (name_text p.name) (47 ∷ kept) (strip_from false k))
+    ∙ ap (λ (t : Text). (t ++ (47 ∷ kept)) ++ strip_from false k) (sym (append-nil (name_text p.name)))
 
 -- A property has no selection, and is no name after one.
-more-lacks : (r : List g.Name) → lacksByte 123 (moreText r) ≡ true
-unfolding moreText lacksByte
-more-lacks [] = refl
-more-lacks (n ∷ r) = lacks-join 123 (nameText n) (moreText r) (name-lacks 123 open-no-name n) (more-lacks r)
+more_lacks : (r : List g.Name) → lacks_byte 123 (more_text r) ≡ true
+unfolding more_text lacks_byte
+more_lacks [] = refl
+more_lacks (n ∷ r) = lacks_join 123 (name_text n) (more_text r) (name_lacks 123 open_no_name n) (more_lacks r)
 
-property-lacks : (x : Option g.Property) → lacksByte 123 (propertyText x) ≡ true
-unfolding propertyText lacksByte
-property-lacks none = refl
-property-lacks (some x) = lacks-join 123 (nameText x.first) (moreText x.more) (name-lacks 123 open-no-name x.first) (more-lacks x.more)
+property_lacks : (x : Option g.Property) → lacks_byte 123 (property_text x) ≡ true
+unfolding property_text lacks_byte
+property_lacks none = refl
+property_lacks (some x) = lacks_join 123 (name_text x.first) (more_text x.more) (name_lacks 123 open_no_name x.first) (more_lacks x.more)
 
-property-no-gap : (x : Option g.Property) → gap (propertyText x) ≡ []
-unfolding propertyText isNameByte isNameStartByte
-property-no-gap none = refl
-property-no-gap (some x) = refl
+property_no_gap : (x : Option g.Property) → gap (property_text x) ≡ []
+unfolding property_text is_name_byte is_name_start_byte
+property_no_gap none = refl
+property_no_gap (some x) = refl
 
-property-kept : (x : Option g.Property) → stripFrom false (propertyText x) ≡ propertyText x
-unfolding stripFrom
-property-kept x =
-    ap (stripFrom false) (sym (append-nil (propertyText x))) ∙ outside (propertyText x) [] (property-lacks x) ∙ append-nil (propertyText x)
+property_kept : (x : Option g.Property) → strip_from false (property_text x) ≡ property_text x
+unfolding strip_from
+property_kept x =
+    ap (strip_from false) (sym (append-nil (property_text x))) ∙ outside (property_text x) [] (property_lacks x) ∙ append-nil (property_text x)
 
-own-stripped : (p : g.Prim) (r : List g.Prim) (x : Option g.Property) → stripFrom false (ownText p r x) ≡ ownText (stripPrim p) (map stripPrim r) x
-unfolding stripFrom strippedByte ownText
-own-stripped p r x =
+own_stripped : (p : g.Prim) (r : List g.Prim) (x : Option g.Property) → strip_from false (own_text p r x) ≡ own_text (strip_prim p) (map strip_prim r) x
+unfolding strip_from stripped_byte own_text
+own_stripped p r x =
     ap (λ (t : Text). 47 ∷ t)
-    (prims-stripped p r (propertyText x) (property-no-gap x)
-    ∙ ap (λ (t : Text). primsText (stripPrim p) (map stripPrim r) ++ t) (property-kept x))
+    (prims_stripped p r (property_text x) (property_no_gap x)
+    ∙ ap (λ (t : Text). prims_text (strip_prim p) (map strip_prim r) ++ t) (property_kept x))
 
-absolute-strips : {d : ℕ} (q : g.Absolute d) → strip (absoluteText q) ≡ absoluteText (absoluteStrip q)
-unfolding strip stripFrom strippedByte absoluteStrip absoluteText ownPart targetPart takeUntil dropUntil
-absolute-strips g.root = refl
-absolute-strips (g.prims p r x) =
-    ap (λ (t : Text). stripFrom false t ++ targetPart (ownText p r x)) (own-prims p r x)
-    ∙ ap (λ (t : Text). stripFrom false (ownText p r x) ++ t) (target-prims p r x) ∙ append-nil (stripFrom false (ownText p r x)) ∙ own-stripped p r x
-absolute-strips (g.target p r x q) =
-    let t : Text = absoluteText q in
-    let w : Text = ownText p r (some x) ++ bracketText t in
-    ap (λ (y : Text). stripFrom false y ++ targetPart w) (own-target p r x t)
-    ∙ ap (λ (y : Text). stripFrom false (ownText p r (some x)) ++ y) (target-target p r x t) ∙ ap (λ (y : Text). y ++ bracketText t) (own-stripped p r (some x))
+absolute_strips : {d : ℕ} (q : g.Absolute d) → strip (absolute_text q) ≡ absolute_text (absolute_strip q)
+unfolding strip strip_from stripped_byte absolute_strip absolute_text own_part target_part take_until drop_until
+absolute_strips g.root = refl
+absolute_strips (g.prims p r x) =
+    ap (λ (t : Text). strip_from false t ++ target_part (own_text p r x)) (own_prims p r x)
+    ∙ ap (λ (t : Text). strip_from false (own_text p r x) ++ t) (target_prims p r x) ∙ append-nil (strip_from false (own_text p r x)) ∙ own_stripped p r x
+absolute_strips (g.target p r x q) =
+    let t : Text = absolute_text q in
+    let w : Text = own_text p r (some x) ++ bracket_text t in
+    ap (λ (y : Text). strip_from false y ++ target_part w) (own-target p r x t)
+    ∙ ap (λ (y : Text). strip_from false (own_text p r (some x)) ++ y) (target-target p r x t) ∙ ap (λ (y : Text). y ++ bracket_text t) (own_stripped p r (some x))
 
-pub strips : (p : g.Path) → strip (render p) ≡ render (stripOf p)
-unfolding strip stripFrom render stripOf ownPart targetPart takeUntil dropUntil
+pub strips : (p : g.Path) → strip (render p) ≡ render (strip_of p)
+unfolding strip strip_from render strip_of own_part target_part take_until drop_until
 strips g.empty = refl
-strips (g.absolute q) = absolute-strips q
+strips (g.absolute q) = absolute_strips q

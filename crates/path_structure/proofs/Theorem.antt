@@ -4,23 +4,23 @@ use mathlib.Core.List.{List, ◌∷◌, ◌++◌}
 use mathlib.Core.Option.{none, some}
 use Rattle.text.specs.Text.{Text}
 use Rattle.path_grammar.specs.Grammar as g
-use Rattle.path_grammar.specs.Grammar.{propertyText, ownText}
-use Rattle.path_structure.specs.Structure.{propertyName, StructureTheorems}
-use Rattle.path_structure.proofs.ParentTheorem.{parents, no-property-text}
-use Rattle.path_structure.proofs.PrimTheorem.{prim-paths, properties}
+use Rattle.path_grammar.specs.Grammar.{property_text, own_text}
+use Rattle.path_structure.specs.Structure.{property_name, StructureTheorems}
+use Rattle.path_structure.proofs.ParentTheorem.{parents, no_property_text}
+use Rattle.path_structure.proofs.PrimTheorem.{prim_paths, properties}
 use Rattle.path_structure.proofs.StripTheorem.{strips}
-use Rattle.path_structure.proofs.AncestorTheorem.{ancestors-are}
+use Rattle.path_structure.proofs.AncestorTheorem.{ancestors_are}
 
-property-names : (p : g.Prim) (r : List g.Prim) (x : g.Property) → ownText p r (some x) ≡ ownText p r none ++ (46 ∷ propertyName x)
-unfolding ownText propertyText propertyName
-property-names p r x = ap (λ (t : Text). t ++ (46 ∷ propertyName x)) (sym (no-property-text p r))
+property_names : (p : g.Prim) (r : List g.Prim) (x : g.Property) → own_text p r (some x) ≡ own_text p r none ++ (46 ∷ property_name x)
+unfolding own_text property_text property_name
+property_names p r x = ap (λ (t : Text). t ++ (46 ∷ property_name x)) (sym (no_property_text p r))
 
-pub structure-theorems : StructureTheorems
-structure-theorems = record {
+pub structure_theorems : StructureTheorems
+structure_theorems = record {
   parents = parents;
-  prim-paths = prim-paths;
+  prim_paths = prim_paths;
   properties = properties;
-  property-names = property-names;
+  property_names = property_names;
   strips = strips;
-  ancestors-are = ancestors-are;
+  ancestors_are = ancestors_are;
 }

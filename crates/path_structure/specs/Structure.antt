@@ -5,137 +5,137 @@ use Rattle.std.proofs.Math.Option.{Option, none, some}
 use Rattle.text.specs.Text.{Text}
 use Rattle.text.specs.Bytes.{dot}
 use Rattle.path_grammar.specs.Grammar as g
-use Rattle.path_grammar.specs.Grammar.{nameText, moreText, ownText, render}
-use Rattle.path_parts.specs.Parent.{parent, primPath, splitProperty, ancestors}
+use Rattle.path_grammar.specs.Grammar.{name_text, more_text, own_text, render}
+use Rattle.path_parts.specs.Parent.{parent, prim_path, split_property, ancestors}
 use Rattle.path_parts.specs.Strip.{strip}
 
 -- Selections without the last one.
-unfoldable pub dropLastSelection : List g.Selection → List g.Selection
-dropLastSelection [] = []
-dropLastSelection (s ∷ []) = []
-dropLastSelection (s ∷ t ∷ r) = s ∷ dropLastSelection (t ∷ r)
+unfoldable pub drop_last_selection : List g.Selection → List g.Selection
+drop_last_selection [] = []
+drop_last_selection (s ∷ []) = []
+drop_last_selection (s ∷ t ∷ r) = s ∷ drop_last_selection (t ∷ r)
 
 -- A prim of this name with these selections, without its last part: without its last selection, or no prim if it has none.
-unfoldable pub dropPrimPart : g.Name → List g.Selection → List g.Prim
-unfolding dropLastSelection
-dropPrimPart n [] = []
-dropPrimPart n (s ∷ r) = record { name = n; selections = dropLastSelection (s ∷ r) } ∷ []
+unfoldable pub drop_prim_part : g.Name → List g.Selection → List g.Prim
+unfolding drop_last_selection
+drop_prim_part n [] = []
+drop_prim_part n (s ∷ r) = record { name = n; selections = drop_last_selection (s ∷ r) } ∷ []
 
 -- A prim and the prims after it, without the last part: the last selection of the last prim, or that prim if it has none.
-unfoldable pub dropLastPart : g.Prim → List g.Prim → List g.Prim
-unfolding dropPrimPart
-dropLastPart p [] = dropPrimPart p.name p.selections
-dropLastPart p (q ∷ r) = p ∷ dropLastPart q r
+unfoldable pub drop_last_part : g.Prim → List g.Prim → List g.Prim
+unfolding drop_prim_part
+drop_last_part p [] = drop_prim_part p.name p.selections
+drop_last_part p (q ∷ r) = p ∷ drop_last_part q r
 
 -- The path of these prims, without a property: `/` if there are none.
-unfoldable pub pathOfPrims : {d : ℕ} → List g.Prim → g.Absolute d
-pathOfPrims [] = g.root
-pathOfPrims (p ∷ r) = g.prims p r none
+unfoldable pub path_of_prims : {d : ℕ} → List g.Prim → g.Absolute d
+path_of_prims [] = g.root
+path_of_prims (p ∷ r) = g.prims p r none
 
 -- The absolute path as a path, if there is one.
-unfoldable pub absoluteOption : Option (g.Absolute 4) → Option g.Path
-absoluteOption none = none
-absoluteOption (some q) = some (g.absolute q)
+unfoldable pub absolute_option : Option (g.Absolute 4) → Option g.Path
+absolute_option none = none
+absolute_option (some q) = some (g.absolute q)
 
 -- The parent of an absolute path: the path without its last part, which is the target in brackets, or its property, or else its last selection or
 -- name. Requirements: "The parent of `/A.b` is `/A`, of `/A{v=p}B` is `/A{v=p}`, of `/A` is `/`. `/` and the empty path have none."
-unfoldable pub absoluteParent : {d : ℕ} → g.Absolute d → Option (g.Absolute d)
-unfolding dropLastPart pathOfPrims
-absoluteParent g.root = none
-absoluteParent (g.prims p r none) = some (pathOfPrims (dropLastPart p r))
-absoluteParent (g.prims p r (some x)) = some (g.prims p r none)
-absoluteParent (g.target p r x q) = some (g.prims p r (some x))
+unfoldable pub absolute_parent : {d : ℕ} → g.Absolute d → Option (g.Absolute d)
+unfolding drop_last_part path_of_prims
+absolute_parent g.root = none
+absolute_parent (g.prims p r none) = some (path_of_prims (drop_last_part p r))
+absolute_parent (g.prims p r (some x)) = some (g.prims p r none)
+absolute_parent (g.target p r x q) = some (g.prims p r (some x))
 
 -- The parent.
 unfoldable pub parent_of : g.Path → Option g.Path
-unfolding absoluteParent absoluteOption
+unfolding absolute_parent absolute_option
 parent_of g.empty = none
-parent_of (g.absolute q) = absoluteOption (absoluteParent q)
+parent_of (g.absolute q) = absolute_option (absolute_parent q)
 
 -- There is a selection.
-unfoldable pub anySelection : List g.Selection → Bool
-anySelection [] = false
-anySelection (s ∷ r) = true
+unfoldable pub any_selection : List g.Selection → Bool
+any_selection [] = false
+any_selection (s ∷ r) = true
 
 -- The last prim has a selection.
-unfoldable pub endsInSelection : g.Prim → List g.Prim → Bool
-unfolding anySelection
-endsInSelection p [] = anySelection p.selections
-endsInSelection p (q ∷ r) = endsInSelection q r
+unfoldable pub ends_in_selection : g.Prim → List g.Prim → Bool
+unfolding any_selection
+ends_in_selection p [] = any_selection p.selections
+ends_in_selection p (q ∷ r) = ends_in_selection q r
 
 -- The prim path of an absolute path (Rust: prim_path): the path without its target and its property, or without its last selection if it ends
 -- in one.
-unfoldable pub absolutePrimPath : {d : ℕ} → g.Absolute d → g.Absolute d
-unfolding endsInSelection pathOfPrims dropLastPart
-absolutePrimPath g.root = g.root
-absolutePrimPath (g.prims p r none) = cond (endsInSelection p r) (pathOfPrims (dropLastPart p r)) (g.prims p r none)
-absolutePrimPath (g.prims p r (some x)) = g.prims p r none
-absolutePrimPath (g.target p r x q) = g.prims p r none
+unfoldable pub absolute_prim_path : {d : ℕ} → g.Absolute d → g.Absolute d
+unfolding ends_in_selection path_of_prims drop_last_part
+absolute_prim_path g.root = g.root
+absolute_prim_path (g.prims p r none) = cond (ends_in_selection p r) (path_of_prims (drop_last_part p r)) (g.prims p r none)
+absolute_prim_path (g.prims p r (some x)) = g.prims p r none
+absolute_prim_path (g.target p r x q) = g.prims p r none
 
 -- The prim path.
-unfoldable pub primPathOf : g.Path → g.Path
-unfolding absolutePrimPath
-primPathOf g.empty = g.empty
-primPathOf (g.absolute q) = g.absolute (absolutePrimPath q)
+unfoldable pub prim_path_of : g.Path → g.Path
+unfolding absolute_prim_path
+prim_path_of g.empty = g.empty
+prim_path_of (g.absolute q) = g.absolute (absolute_prim_path q)
 
 -- The prim path of an absolute path that ends in its property; no path without a property, or with a target after it.
-unfoldable pub absoluteSplit : {d : ℕ} → g.Absolute d → Option (g.Absolute d)
-absoluteSplit g.root = none
-absoluteSplit (g.prims p r none) = none
-absoluteSplit (g.prims p r (some x)) = some (g.prims p r none)
-absoluteSplit (g.target p r x q) = none
+unfoldable pub absolute_split : {d : ℕ} → g.Absolute d → Option (g.Absolute d)
+absolute_split g.root = none
+absolute_split (g.prims p r none) = none
+absolute_split (g.prims p r (some x)) = some (g.prims p r none)
+absolute_split (g.target p r x q) = none
 
 -- The prim path of a property path.
-unfoldable pub splitPropertyOf : g.Path → Option g.Path
-unfolding absoluteSplit absoluteOption
-splitPropertyOf g.empty = none
-splitPropertyOf (g.absolute q) = absoluteOption (absoluteSplit q)
+unfoldable pub split_property_of : g.Path → Option g.Path
+unfolding absolute_split absolute_option
+split_property_of g.empty = none
+split_property_of (g.absolute q) = absolute_option (absolute_split q)
 
 -- The name of a property: its names, joined by `:`.
-unfoldable pub propertyName : g.Property → Text
-unfolding nameText moreText
-propertyName x = nameText x.first ++ moreText x.more
+unfoldable pub property_name : g.Property → Text
+unfolding name_text more_text
+property_name x = name_text x.first ++ more_text x.more
 
 -- A prim without its selections.
-unfoldable pub stripPrim : g.Prim → g.Prim
-stripPrim p = record { name = p.name; selections = [] }
+unfoldable pub strip_prim : g.Prim → g.Prim
+strip_prim p = record { name = p.name; selections = [] }
 
 -- An absolute path without its selections (Rust: strip_variant_selections); those of the target are left.
-unfoldable pub absoluteStrip : {d : ℕ} → g.Absolute d → g.Absolute d
-unfolding stripPrim
-absoluteStrip g.root = g.root
-absoluteStrip (g.prims p r x) = g.prims (stripPrim p) (map stripPrim r) x
-absoluteStrip (g.target p r x q) = g.target (stripPrim p) (map stripPrim r) x q
+unfoldable pub absolute_strip : {d : ℕ} → g.Absolute d → g.Absolute d
+unfolding strip_prim
+absolute_strip g.root = g.root
+absolute_strip (g.prims p r x) = g.prims (strip_prim p) (map strip_prim r) x
+absolute_strip (g.target p r x q) = g.target (strip_prim p) (map strip_prim r) x q
 
 -- The path without its selections.
-unfoldable pub stripOf : g.Path → g.Path
-unfolding absoluteStrip
-stripOf g.empty = g.empty
-stripOf (g.absolute q) = g.absolute (absoluteStrip q)
+unfoldable pub strip_of : g.Path → g.Path
+unfolding absolute_strip
+strip_of g.empty = g.empty
+strip_of (g.absolute q) = g.absolute (absolute_strip q)
 
 -- The text of a path, if there is one.
-unfoldable pub renderOption : Option g.Path → Option Text
+unfoldable pub render_option : Option g.Path → Option Text
 unfolding render
-renderOption none = none
-renderOption (some p) = some (render p)
+render_option none = none
+render_option (some p) = some (render p)
 
 -- The ancestors of a path's text, or none if there is no path.
-unfoldable pub ancestorsOfOption : Option g.Path → List Text
+unfoldable pub ancestors_of_option : Option g.Path → List Text
 unfolding render ancestors
-ancestorsOfOption none = []
-ancestorsOfOption (some p) = ancestors (render p)
+ancestors_of_option none = []
+ancestors_of_option (some p) = ancestors (render p)
 
 -- The theorems (proofs/Theorem.antt). Every legal text is the text of a path, so they determine the five on every legal text.
 pub record StructureTheorems : Type 0 where
   -- The parent of a path's text is the text of its parent.
-  pub parents : (p : g.Path) → parent (render p) ≡ renderOption (parent_of p)
+  pub parents : (p : g.Path) → parent (render p) ≡ render_option (parent_of p)
   -- So is the prim path.
-  pub prim-paths : (p : g.Path) → primPath (render p) ≡ render (primPathOf p)
+  pub prim_paths : (p : g.Path) → prim_path (render p) ≡ render (prim_path_of p)
   -- So is the prim path of a property.
-  pub properties : (p : g.Path) → splitProperty (render p) ≡ renderOption (splitPropertyOf p)
+  pub properties : (p : g.Path) → split_property (render p) ≡ render_option (split_property_of p)
   -- The text of a property path is its prim path, a dot and the property's name.
-  pub property-names : (p : g.Prim) (r : List g.Prim) (x : g.Property) → ownText p r (some x) ≡ ownText p r none ++ (dot ∷ propertyName x)
+  pub property_names : (p : g.Prim) (r : List g.Prim) (x : g.Property) → own_text p r (some x) ≡ own_text p r none ++ (dot ∷ property_name x)
   -- Stripping a path's text gives the text of the path without its selections.
-  pub strips : (p : g.Path) → strip (render p) ≡ render (stripOf p)
+  pub strips : (p : g.Path) → strip (render p) ≡ render (strip_of p)
   -- The ancestors are the path itself and then the ancestors of its parent.
-  pub ancestors-are : (p : g.Path) → ancestors (render p) ≡ render p ∷ ancestorsOfOption (parent_of p)
+  pub ancestors_are : (p : g.Path) → ancestors (render p) ≡ render p ∷ ancestors_of_option (parent_of p)

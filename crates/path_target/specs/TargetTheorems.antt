@@ -5,39 +5,39 @@ use Prim.Native.String.{String}
 use Rattle.text.specs.Text.{Text, bytes}
 use Rattle.path_grammar.specs.Legal.{legal}
 use Rattle.path_grammar.specs.Grammar as g
-use Rattle.path_grammar.specs.Grammar.{ownText, bracketText, absoluteText}
-use Rattle.path_target.specs.Target.{embeddedTarget, replaceEmbeddedTarget}
+use Rattle.path_grammar.specs.Grammar.{own_text, bracket_text, absolute_text}
+use Rattle.path_target.specs.Target.{embedded_target, replace_embedded_target}
 
 -- Theorems (proofs/Theorem.antt). p is the first prim of a path, r are the others, and x is its property.
 pub record TargetTheorems : Type 0 where
   -- The target of a path with a target is the text of the path in its brackets, which may have brackets of its own.
   pub embedded : {d : ℕ} (p : g.Prim) (r : List g.Prim) (x : g.Property) (q : g.Absolute d)
-      → embeddedTarget (absoluteText (g.target p r x q)) ≡ some (absoluteText q)
+      → embedded_target (absolute_text (g.target p r x q)) ≡ some (absolute_text q)
   -- No other path has a target.
-  pub noneInRoot : (d : ℕ) → embeddedTarget (absoluteText (g.root {d = d})) ≡ none
-  pub noneInPrims : (d : ℕ) (p : g.Prim) (r : List g.Prim) (x : Option g.Property) → embeddedTarget (absoluteText (g.prims {d = d} p r x)) ≡ none
+  pub none_in_root : (d : ℕ) → embedded_target (absolute_text (g.root {d = d})) ≡ none
+  pub none_in_prims : (d : ℕ) (p : g.Prim) (r : List g.Prim) (x : Option g.Property) → embedded_target (absolute_text (g.prims {d = d} p r x)) ≡ none
   -- Another target takes the place of the path in the brackets; the own part of the path stays.
   pub replaced : {d : ℕ} (p : g.Prim) (r : List g.Prim) (x : g.Property) (q : g.Absolute d) (t : Text)
-      → replaceEmbeddedTarget (absoluteText (g.target p r x q)) t ≡ some (ownText p r (some x) ++ bracketText t)
+      → replace_embedded_target (absolute_text (g.target p r x q)) t ≡ some (own_text p r (some x) ++ bracket_text t)
   -- So the result is the path with the other target, if that is the text of a path.
   pub retargeted : {d e : ℕ} (p : g.Prim) (r : List g.Prim) (x : g.Property) (q : g.Absolute d) (t : g.Absolute e)
-      → replaceEmbeddedTarget (absoluteText (g.target p r x q)) (absoluteText t) ≡ some (absoluteText (g.target p r x t))
+      → replace_embedded_target (absolute_text (g.target p r x q)) (absolute_text t) ≡ some (absolute_text (g.target p r x t))
   -- No other path has a target that could be replaced.
-  pub keptRoot : (d : ℕ) (t : Text) → replaceEmbeddedTarget (absoluteText (g.root {d = d})) t ≡ none
-  pub keptPrims : (d : ℕ) (p : g.Prim) (r : List g.Prim) (x : Option g.Property) (t : Text)
-      → replaceEmbeddedTarget (absoluteText (g.prims {d = d} p r x)) t ≡ none
+  pub kept_root : (d : ℕ) (t : Text) → replace_embedded_target (absolute_text (g.root {d = d})) t ≡ none
+  pub kept_prims : (d : ℕ) (p : g.Prim) (r : List g.Prim) (x : Option g.Property) (t : Text)
+      → replace_embedded_target (absolute_text (g.prims {d = d} p r x)) t ≡ none
   -- The two are inverse: if the target is replaced by itself, the path is as before. This holds for any bytes.
-  pub inverse : (p t : Text) → embeddedTarget p ≡ some t → replaceEmbeddedTarget p t ≡ some p
+  pub inverse : (p t : Text) → embedded_target p ≡ some t → replace_embedded_target p t ≡ some p
   -- The target of a legal path is legal.
-  pub lawful : (p t : Text) → legal p ≡ true → embeddedTarget p ≡ some t → legal t ≡ true
+  pub lawful : (p t : Text) → legal p ≡ true → embedded_target p ≡ some t → legal t ≡ true
 
 -- The path p has the target t.
 abbrev pub Embeds : String → String → Type 0
-Embeds p t = embeddedTarget (bytes p) ≡ some (bytes t)
+Embeds p t = embedded_target (bytes p) ≡ some (bytes t)
 
 -- The path p with its target replaced by t is q.
 abbrev pub Retargets : String → String → String → Type 0
-Retargets p t q = replaceEmbeddedTarget (bytes p) (bytes t) ≡ some (bytes q)
+Retargets p t q = replace_embedded_target (bytes p) (bytes t) ≡ some (bytes q)
 
 -- Worked examples (proofs/Theorem.antt), among them those of the Rust's comments; some are no legal paths here.
 pub record TargetExamples : Type 0 where
@@ -48,9 +48,9 @@ pub record TargetExamples : Type 0 where
   -- What follows the brackets does not count; nor do other brackets after them.
   pub attribute : Embeds "/A.rel[/T].attr" "/T"
   pub second : Embeds "/A.rel[/T].mapper[/U]" "/T"
-  pub without : embeddedTarget (bytes "/A/B") ≡ none
-  pub unclosed : embeddedTarget (bytes "/A.rel[/T[/U]") ≡ none
+  pub without : embedded_target (bytes "/A/B") ≡ none
+  pub unclosed : embedded_target (bytes "/A.rel[/T[/U]") ≡ none
   pub other : Retargets "/A.rel[/T]" "/U/V" "/A.rel[/U/V]"
-  pub otherOfNested : Retargets "/A.rel[/B.rel2[/C]]" "/U" "/A.rel[/U]"
-  pub otherOfAttribute : Retargets "/A.rel[/T].attr" "/U" "/A.rel[/U].attr"
-  pub noOther : replaceEmbeddedTarget (bytes "/A/B") (bytes "/U") ≡ none
+  pub other_of_nested : Retargets "/A.rel[/B.rel2[/C]]" "/U" "/A.rel[/U]"
+  pub other_of_attribute : Retargets "/A.rel[/T].attr" "/U" "/A.rel[/U].attr"
+  pub no_other : replace_embedded_target (bytes "/A/B") (bytes "/U") ≡ none

@@ -2,9 +2,9 @@
 // and target_brackets of the Rust sdf/path.rs. First the functions on any bytes, then the calls, each of
 // which validates in the order of the questions; a refused call writes nothing.
 ghost use Rattle.std.specs.Prelude.{◌≡◌, ◌≤◌, ◌<◌, length};
-ghost use Rattle.refusal.specs.Outcome.{checked, checkedOption, ReturnsPath};
-ghost use Rattle.path_target.specs.Target.{bracketDepth, closeLen, targetBrackets, embeddedTarget, orEmpty, replaceEmbeddedTarget, replacedReply, replacedBuffer};
-ghost use Rattle.path_target.specs.Calls.{embeddedTargetCall, replaceEmbeddedTargetCall};
+ghost use Rattle.refusal.specs.Outcome.{checked, checked_option, ReturnsPath};
+ghost use Rattle.path_target.specs.Target.{bracket_depth, close_len, target_brackets, embedded_target, or_empty, replace_embedded_target, replaced_reply, replaced_buffer};
+ghost use Rattle.path_target.specs.Calls.{embedded_target_call, replace_embedded_target_call};
 
 // The indices of the brackets of a path.
 #[derive(Drop)]
@@ -29,7 +29,7 @@ pub enum Replaced {
 // The number of brackets that are open after the byte `a`, if `depth` are open before it.
 fn depth_after(depth: usize, a: u8) -> usize
     requires { depth < 18446744073709551615 }
-    ensures { result ≡ bracketDepth depth a }
+    ensures { result ≡ bracket_depth depth a }
 {
     if a == b'[' {
         return depth + 1;
@@ -45,7 +45,7 @@ fn depth_after(depth: usize, a: u8) -> usize
 // Returns the index of the first byte after which no bracket is open, or the length of the text if there is
 // none.
 fn close_len(text: &[u8]) -> usize
-    ensures { result ≡ closeLen 0 text.now }
+    ensures { result ≡ close_len 0 text.now }
 {
     let mut depth = 0;
     let mut i = 0;
@@ -61,7 +61,7 @@ fn close_len(text: &[u8]) -> usize
 
 // Returns the indices of the first `[` and of the `]` that is balanced with it.
 pub fn target_brackets(path: &[u8]) -> Brackets
-    ensures { result ≡ targetBrackets path.now }
+    ensures { result ≡ target_brackets path.now }
 {
     let open = text::find_byte(path, b'[');
     let n = close_len(&path[open..]);
@@ -73,7 +73,7 @@ pub fn target_brackets(path: &[u8]) -> Brackets
 
 // Returns the target as a part of the path; empty if there is none.
 pub fn target_text(path: &[u8]) -> &[u8]
-    ensures { result.now ≡ orEmpty (embeddedTarget path.now) }
+    ensures { result.now ≡ or_empty (embedded_target path.now) }
 {
     let brackets = target_brackets(path);
     let Brackets::Between(open, close) = brackets else {
@@ -85,9 +85,9 @@ pub fn target_text(path: &[u8]) -> &[u8]
 // Writes the path with its target replaced by `target` if it has one and the path that results fits;
 // otherwise writes nothing.
 pub fn replace_target_into(path: &[u8], target: &[u8], out: &mut [u8]) -> Replaced
-    ensures value { result ≡ replacedReply (replaceEmbeddedTarget path.now target.now)
+    ensures value { result ≡ replaced_reply (replace_embedded_target path.now target.now)
         out.old }
-    ensures out_after { out.new ≡ replacedBuffer (replaceEmbeddedTarget path.now target.now)
+    ensures out_after { out.new ≡ replaced_buffer (replace_embedded_target path.now target.now)
         out.old }
 {
     let brackets = target_brackets(path);
@@ -108,7 +108,7 @@ pub fn replace_target_into(path: &[u8], target: &[u8], out: &mut [u8]) -> Replac
 
 // Writes the target of the path. The target of a legal path is a shorter legal path, so it is not scanned.
 pub fn embedded_target(path: &[u8], out: &mut [u8]) -> refusal::Reply
-    ensures { ReturnsPath (embeddedTargetCall path.now (length out.old)) result
+    ensures { ReturnsPath (embedded_target_call path.now (length out.old)) result
         out.old out.new }
 {
     let q = refusal::validate_text(path);
@@ -143,7 +143,7 @@ fn write_if_legal(made: &[u8], out: &mut [u8]) -> refusal::Reply
 // so that a refused call writes nothing.
 fn write_replaced(path: &[u8], target: &[u8], out: &mut [u8]) -> refusal::Reply
     requires { 255 ≤ length out.old }
-    ensures { ReturnsPath (checkedOption (replaceEmbeddedTarget path.now target.now)) result
+    ensures { ReturnsPath (checked_option (replace_embedded_target path.now target.now)) result
         out.old out.new }
 {
     let mut made = [0u8; 255];
@@ -156,7 +156,7 @@ fn write_replaced(path: &[u8], target: &[u8], out: &mut [u8]) -> refusal::Reply
 
 // Writes the path with its target replaced by another one.
 pub fn replace_embedded_target(path: &[u8], target: &[u8], out: &mut [u8]) -> refusal::Reply
-    ensures { ReturnsPath (replaceEmbeddedTargetCall path.now target.now
+    ensures { ReturnsPath (replace_embedded_target_call path.now target.now
         (length out.old)) result out.old out.new }
 {
     let q = refusal::validate_two_texts(path, target);

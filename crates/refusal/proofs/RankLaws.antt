@@ -5,26 +5,26 @@ use Prim.Native.Nat.{ℕ}
 use lib.Dec.{eqb}
 use Rattle.refusal.specs.declared.Refusal.{Refusal}
 use Rattle.refusal.specs.declared.Refusal.TheVariants.{TooLong, Illegal, NotAnEnd, TooMany, NoRoom, NoPath, MadeTooLong, MadeIllegal}
-use Rattle.refusal.specs.Refusal.{refusalRank}
+use Rattle.refusal.specs.Refusal.{refusal_rank}
 
 -- The refusal x if n is its rank, otherwise y.
-abbrev atRank : Refusal → ℕ → Refusal → Refusal
-atRank x n y = cond (eqb n (refusalRank x)) x y
+abbrev at_rank : Refusal → ℕ → Refusal → Refusal
+at_rank x n y = cond (eqb n (refusal_rank x)) x y
 
 -- The refusal with a given rank; the last one for a number that is no rank.
-abbrev refusalOf : ℕ → Refusal
-refusalOf n = atRank TooLong n (atRank Illegal n (atRank NotAnEnd n (atRank TooMany n (atRank NoRoom n (atRank NoPath n (atRank MadeTooLong n MadeIllegal))))))
+abbrev refusal_of : ℕ → Refusal
+refusal_of n = at_rank TooLong n (at_rank Illegal n (at_rank NotAnEnd n (at_rank TooMany n (at_rank NoRoom n (at_rank NoPath n (at_rank MadeTooLong n MadeIllegal))))))
 
-rank-known : (x : Refusal) → refusalOf (refusalRank x) ≡ x
-rank-known TooLong = refl
-rank-known Illegal = refl
-rank-known NotAnEnd = refl
-rank-known TooMany = refl
-rank-known NoRoom = refl
-rank-known NoPath = refl
-rank-known MadeTooLong = refl
-rank-known MadeIllegal = refl
+rank_known : (x : Refusal) → refusal_of (refusal_rank x) ≡ x
+rank_known TooLong = refl
+rank_known Illegal = refl
+rank_known NotAnEnd = refl
+rank_known TooMany = refl
+rank_known NoRoom = refl
+rank_known NoPath = refl
+rank_known MadeTooLong = refl
+rank_known MadeIllegal = refl
 
 -- A refusal can be read off its rank, so no two have the same.
-pub rank-distinct : (x y : Refusal) → refusalRank x ≡ refusalRank y → x ≡ y
-rank-distinct x y e = sym (rank-known x) ∙ ap (λ (n : ℕ). refusalOf n) e ∙ rank-known y
+pub rank_distinct : (x y : Refusal) → refusal_rank x ≡ refusal_rank y → x ≡ y
+rank_distinct x y e = sym (rank_known x) ∙ ap (λ (n : ℕ). refusal_of n) e ∙ rank_known y

@@ -1,54 +1,54 @@
 -- Meaning: Refusals, their numbers and their order, and the validation of texts (questions 1 and 2). Requirements: "The first 'no' gives its number".
 use Rattle.std.specs.Prelude.{ℕ, Bool, true, cond, ◌&&◌, List, [], ◌∷◌}
 use Rattle.text.specs.Text.{Text}
-use Rattle.path_grammar.specs.Legal.{legal, atMost255}
+use Rattle.path_grammar.specs.Legal.{legal, at_most255}
 use Rattle.refusal.specs.declared.Refusal.{Refusal}
 use Rattle.refusal.specs.declared.Refusal.TheVariants.{TooLong, Illegal, NotAnEnd, TooMany, NoRoom, NoPath, MadeTooLong, MadeIllegal}
 use Rattle.refusal.specs.declared.Validation.{Validation}
 use Rattle.refusal.specs.declared.Validation.TheVariants.{Passed, Refused}
 
 -- The number of a refusal: that of the question that failed.
-abbrev pub refusalNumber : Refusal → ℕ
-refusalNumber TooLong = 1
-refusalNumber Illegal = 2
-refusalNumber NotAnEnd = 3
-refusalNumber TooMany = 4
-refusalNumber NoRoom = 5
-refusalNumber NoPath = 6
-refusalNumber MadeTooLong = 7
-refusalNumber MadeIllegal = 8
+abbrev pub refusal_number : Refusal → ℕ
+refusal_number TooLong = 1
+refusal_number Illegal = 2
+refusal_number NotAnEnd = 3
+refusal_number TooMany = 4
+refusal_number NoRoom = 5
+refusal_number NoPath = 6
+refusal_number MadeTooLong = 7
+refusal_number MadeIllegal = 8
 
 -- The rank of a refusal: the position of its question in the order in which the questions are put. Of two failed questions the one with the
 -- lower rank decides. The order need not be that of the numbers, so it has this table of its own; ranks are ten apart, so that a question
 -- that is added between two others leaves theirs unchanged.
-abbrev pub refusalRank : Refusal → ℕ
-refusalRank TooLong = 10
-refusalRank Illegal = 20
-refusalRank NotAnEnd = 30
-refusalRank TooMany = 40
-refusalRank NoRoom = 50
-refusalRank NoPath = 60
-refusalRank MadeTooLong = 70
-refusalRank MadeIllegal = 80
+abbrev pub refusal_rank : Refusal → ℕ
+refusal_rank TooLong = 10
+refusal_rank Illegal = 20
+refusal_rank NotAnEnd = 30
+refusal_rank TooMany = 40
+refusal_rank NoRoom = 50
+refusal_rank NoPath = 60
+refusal_rank MadeTooLong = 70
+refusal_rank MadeIllegal = 80
 
 -- Question 1. Requirements: "Is every path text at most 255 bytes?"
-unfoldable pub allTextsShort : List Text → Bool
-unfolding atMost255
-allTextsShort [] = true
-allTextsShort (t ∷ r) = atMost255 t && allTextsShort r
+unfoldable pub all_texts_short : List Text → Bool
+unfolding at_most255
+all_texts_short [] = true
+all_texts_short (t ∷ r) = at_most255 t && all_texts_short r
 
 -- Question 2. Requirements: "Is every text legal?"
-unfoldable pub allTextsLegal : List Text → Bool
+unfoldable pub all_texts_legal : List Text → Bool
 unfolding legal
-allTextsLegal [] = true
-allTextsLegal (t ∷ r) = legal t && allTextsLegal r
+all_texts_legal [] = true
+all_texts_legal (t ∷ r) = legal t && all_texts_legal r
 
 -- Validates the texts of a call: question 1 for all of them, then question 2 for all of them.
-unfoldable pub validateTexts : List Text → Validation
-unfolding allTextsShort allTextsLegal
-validateTexts ts = cond (allTextsShort ts) (cond (allTextsLegal ts) Passed (Refused Illegal)) (Refused TooLong)
+unfoldable pub validate_texts : List Text → Validation
+unfolding all_texts_short all_texts_legal
+validate_texts ts = cond (all_texts_short ts) (cond (all_texts_legal ts) Passed (Refused Illegal)) (Refused TooLong)
 
 -- The refusal if there is one, otherwise the answer.
-abbrev pub refusedOr : {A : Type 0} → Validation → (Refusal → A) → A → A
-refusedOr Passed refuse answer = answer
-refusedOr (Refused x) refuse answer = refuse x
+abbrev pub refused_or : {A : Type 0} → Validation → (Refusal → A) → A → A
+refused_or Passed refuse answer = answer
+refused_or (Refused x) refuse answer = refuse x

@@ -1,9 +1,9 @@
 // Refusals: why a call is refused, the numbers that docs/REQUIREMENTS.md gives them, their order, and the reply of
 // a call that writes a path. Validates the texts of a call: questions 1 (at most 255 bytes) and 2 (a legal path).
 ghost use Rattle.std.specs.Prelude.{◌≡◌, [], ◌∷◌};
-ghost use Rattle.refusal.specs.Refusal.{refusalNumber, refusalRank, allTextsShort, allTextsLegal, validateTexts};
+ghost use Rattle.refusal.specs.Refusal.{refusal_number, refusal_rank, all_texts_short, all_texts_legal, validate_texts};
 
-// Why a call is refused; specs/Refusal.antt defines the number (`refusalNumber`) and the rank (`refusalRank`) of each.
+// Why a call is refused; specs/Refusal.antt defines the number (`refusal_number`) and the rank (`refusal_rank`) of each.
 #[derive(Drop)]
 pub enum Refusal {
     // 1: a text has more than 255 bytes.
@@ -43,7 +43,7 @@ pub enum Reply {
 
 // The number of a refusal: that of the question that failed.
 pub fn number_of(x: Refusal) -> usize
-    ensures { result ≡ refusalNumber x }
+    ensures { result ≡ refusal_number x }
 {
     match x {
         Refusal::TooLong => 1,
@@ -59,7 +59,7 @@ pub fn number_of(x: Refusal) -> usize
 
 // The rank of a refusal: the position of its question in the order in which the questions are put.
 pub fn rank_of(x: Refusal) -> usize
-    ensures { result ≡ refusalRank x }
+    ensures { result ≡ refusal_rank x }
 {
     match x {
         Refusal::TooLong => 10,
@@ -75,7 +75,7 @@ pub fn rank_of(x: Refusal) -> usize
 
 // Validates one text (questions 1 and 2).
 pub fn validate_text(text: &[u8]) -> Validation
-    ensures { result ≡ validateTexts (text.now ∷ []) }
+    ensures { result ≡ validate_texts (text.now ∷ []) }
 {
     if 255 < text.len() {
         return Validation::Refused(Refusal::TooLong);
@@ -88,7 +88,7 @@ pub fn validate_text(text: &[u8]) -> Validation
 
 // Validates two texts (questions 1 and 2).
 pub fn validate_two_texts(first: &[u8], second: &[u8]) -> Validation
-    ensures { result ≡ validateTexts (first.now ∷ second.now ∷ []) }
+    ensures { result ≡ validate_texts (first.now ∷ second.now ∷ []) }
 {
     if 255 < first.len() {
         return Validation::Refused(Refusal::TooLong);
@@ -107,7 +107,7 @@ pub fn validate_two_texts(first: &[u8], second: &[u8]) -> Validation
 
 // Question 1: returns whether each of the three texts has at most 255 bytes.
 fn all_texts_short(a: &[u8], b: &[u8], c: &[u8]) -> bool
-    ensures { result ≡ allTextsShort (a.now ∷ b.now ∷ c.now ∷ []) }
+    ensures { result ≡ all_texts_short (a.now ∷ b.now ∷ c.now ∷ []) }
 {
     if 255 < a.len() {
         return false;
@@ -120,7 +120,7 @@ fn all_texts_short(a: &[u8], b: &[u8], c: &[u8]) -> bool
 
 // Question 2: returns whether each of the three texts is a legal path.
 fn all_texts_legal(a: &[u8], b: &[u8], c: &[u8]) -> bool
-    ensures { result ≡ allTextsLegal (a.now ∷ b.now ∷ c.now ∷ []) }
+    ensures { result ≡ all_texts_legal (a.now ∷ b.now ∷ c.now ∷ []) }
 {
     if !path_grammar::is_legal(a) {
         return false;
@@ -133,7 +133,7 @@ fn all_texts_legal(a: &[u8], b: &[u8], c: &[u8]) -> bool
 
 // Validates three texts (questions 1 and 2).
 pub fn validate_three_texts(a: &[u8], b: &[u8], c: &[u8]) -> Validation
-    ensures { result ≡ validateTexts (a.now ∷ b.now ∷ c.now ∷ []) }
+    ensures { result ≡ validate_texts (a.now ∷ b.now ∷ c.now ∷ []) }
 {
     if !all_texts_short(a, b, c) {
         return Validation::Refused(Refusal::TooLong);

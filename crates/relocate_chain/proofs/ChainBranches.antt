@@ -7,41 +7,41 @@ use Prim.Native.Nat.{ℕ, suc, ◌+◌, ◌-◌, ◌≤◌, ◌<◌}
 use native.Mathlib.Omega.{arith}
 use native.Mathlib.Numerals.{add-one}
 use lib.ListN.{length, take, length-take}
-use Rattle.text.specs.Text.{Text, writtenIfFits}
+use Rattle.text.specs.Text.{Text, written_if_fits}
 use Rattle.text.proofs.WriteLaws.{placed_first, read_back}
-use Rattle.path_grammar.specs.Legal.{legal, atMost255}
+use Rattle.path_grammar.specs.Legal.{legal, at_most255}
 use Rattle.pair_list.specs.Pair.{Pair}
-use Rattle.pair_list.specs.Places.{pairsIn}
-use Rattle.pair_list.proofs.PlaceLaws.{pairsIn-length}
+use Rattle.pair_list.specs.Places.{pairs_in}
+use Rattle.pair_list.proofs.PlaceLaws.{pairs_in_length}
 use Rattle.refusal.specs.declared.Refusal.{Refusal}
 use Rattle.refusal.specs.declared.Refusal.TheVariants.{MadeTooLong}
 use Rattle.refusal.specs.Outcome.{Outcome, path, refused, checked}
 use Rattle.relocate_chain.specs.declared.steps.Step.{Step}
 use Rattle.relocate_chain.specs.declared.steps.Step.TheVariants.{Still, Made, Refused}
-use Rattle.relocate_chain.specs.Chain.{longestReplacement, replacement, nextReplacement, Chained, chained, stopped, chainStep, chainFrom, chain}
-use Rattle.relocate_chain.specs.ChainStep.{stepReply, stepBuffer}
-use Rattle.path_grammar.proofs.LegalLaws.{fits-short}
+use Rattle.relocate_chain.specs.Chain.{longest_replacement, replacement, next_replacement, Chained, chained, stopped, chain_step, chain_from, chain}
+use Rattle.relocate_chain.specs.ChainStep.{step_reply, step_buffer}
+use Rattle.path_grammar.proofs.LegalLaws.{fits_short}
 
 -- A text written to the beginning of a buffer is read back.
-pub first_back : (t out : Text) → length t ≤ length out → take (length t) (writtenIfFits 0 t out) ≡ t
+pub first_back : (t out : Text) → length t ≤ length out → take (length t) (written_if_fits 0 t out) ≡ t
 first_back t out h = rw (placed_first t out h) (read_back t out)
 
-pub made-passed : (q : Text) → atMost255 q ≡ true → legal q ≡ true → checked q ≡ path q
+pub made_passed : (q : Text) → at_most255 q ≡ true → legal q ≡ true → checked q ≡ path q
 unfolding checked
-made-passed q a b = rw (a, b)
+made_passed q a b = rw (a, b)
 
-pub made-short : (q : Text) → checked q ≡ path q → length q ≤ 255
+pub made_short : (q : Text) → checked q ≡ path q → length q ≤ 255
 unfolding checked
-made-short q e = go (atMost255 q) refl
+made_short q e = go (at_most255 q) refl
   where
-    go : (b : Bool) → atMost255 q ≡ b → length q ≤ 255
-    go true h = fits-short q h
+    go : (b : Bool) → at_most255 q ≡ b → length q ≤ 255
+    go true h = fits_short q h
     go false h = absurd (let z : ◌≡◌ {A = Outcome} (refused MadeTooLong) (path q) = rw h at e in let y : ◌≡◌ {A = ℕ} 0 1 = cc in omega arith)
 
 -- The properties of a replacement that follow from its result.
 pub record Went (o : Option Text) (m : ℕ) : Type 0 where
   pub text : Text
-  pub made-it : o ≡ some text
+  pub made_it : o ≡ some text
   pub passed : checked text ≡ path text
   pub long : m ≡ length text
   pub short : m ≤ 255
@@ -51,21 +51,21 @@ kind Still = 0
 kind (Made n) = 1
 kind (Refused x) = 2
 
-pub went : (o : Option Text) (m : ℕ) → stepReply o ≡ Made m → Went o m
-unfolding stepReply
+pub went : (o : Option Text) (m : ℕ) → step_reply o ≡ Made m → Went o m
+unfolding step_reply
 went none m e = absurd (let z : ◌≡◌ {A = ℕ} 0 1 = ap kind e in omega arith)
-went (some q) m e = go (atMost255 q) (legal q) refl refl
+went (some q) m e = go (at_most255 q) (legal q) refl refl
   where
-    go : (a b : Bool) → atMost255 q ≡ a → legal q ≡ b → Went (some q) m
+    go : (a b : Bool) → at_most255 q ≡ a → legal q ≡ b → Went (some q) m
     go true true ha hb =
         let z : Made (length q) ≡ Made m = rw (ha, hb) at e in
         let y : m ≡ length q = cc in
-        record { text = q; made-it = refl; passed = made-passed q ha hb; long = y; short = omega (arith, fits-short q ha) }
+        record { text = q; made_it = refl; passed = made_passed q ha hb; long = y; short = omega (arith, fits_short q ha) }
     go true false ha hb = absurd (let z : ◌≡◌ {A = ℕ} 2 1 = ap kind (rw (ha, hb) at e) in omega arith)
     go false b ha hb = absurd (let z : ◌≡◌ {A = ℕ} 2 1 = ap kind (rw ha at e) in omega arith)
 
-pub still : (o : Option Text) → stepReply o ≡ Still → o ≡ none
-unfolding stepReply
+pub still : (o : Option Text) → step_reply o ≡ Still → o ≡ none
+unfolding step_reply
 still none e = refl
 still (some q) e = go (checked q) refl
   where
@@ -73,17 +73,17 @@ still (some q) e = go (checked q) refl
     go (path t) h = absurd (let z : ◌≡◌ {A = ℕ} 1 0 = ap kind (rw h at e) in omega arith)
     go (refused x) h = absurd (let z : ◌≡◌ {A = ℕ} 2 0 = ap kind (rw h at e) in omega arith)
 
-ended : (on : Text → ℕ → Chained) (p : Text) (k : ℕ) (o : Option Text) (x : Refusal) → stepReply o ≡ Refused x → chainStep on p k o ≡ stopped x
-unfolding stepReply chainStep
+ended : (on : Text → ℕ → Chained) (p : Text) (k : ℕ) (o : Option Text) (x : Refusal) → step_reply o ≡ Refused x → chain_step on p k o ≡ stopped x
+unfolding step_reply chain_step
 ended on p k none x e = absurd (let z : ◌≡◌ {A = ℕ} 0 2 = ap kind e in omega arith)
 ended on p k (some q) x e = go (checked q) refl
   where
-    go : (r : Outcome) → checked q ≡ r → chainStep on p k (some q) ≡ stopped x
+    go : (r : Outcome) → checked q ≡ r → chain_step on p k (some q) ≡ stopped x
     go (path t) h = absurd (let z : ◌≡◌ {A = ℕ} 1 2 = ap kind (rw h at e) in omega arith)
     go (refused y) h = let z : Refused y ≡ Refused x = rw h at e in let w : y ≡ x = cc in rw (h, w)
 
-pub blocked : (o : Option Text) (p : Text) (x : Refusal) → stepReply o ≡ Refused x → checked (get_or o p) ≡ refused x
-unfolding stepReply
+pub blocked : (o : Option Text) (p : Text) (x : Refusal) → step_reply o ≡ Refused x → checked (get_or o p) ≡ refused x
+unfolding step_reply
 blocked none p x e = absurd (let z : ◌≡◌ {A = ℕ} 0 2 = ap kind e in omega arith)
 blocked (some q) p x e = go (checked q) refl
   where
@@ -91,72 +91,72 @@ blocked (some q) p x e = go (checked q) refl
     go (path t) h = absurd (let z : ◌≡◌ {A = ℕ} 1 2 = ap kind (rw h at e) in omega arith)
     go (refused y) h = let z : Refused y ≡ Refused x = rw h at e in let w : y ≡ x = cc in rw (h, w)
 
-went_on : (on : Text → ℕ → Chained) (p : Text) (k : ℕ) (o : Option Text) (m : ℕ) (w : Went o m) → chainStep on p k o ≡ on w.text (suc k)
-unfolding chainStep
-went_on on p k o m w = rw (w.made-it, w.passed)
+went_on : (on : Text → ℕ → Chained) (p : Text) (k : ℕ) (o : Option Text) (m : ℕ) (w : Went o m) → chain_step on p k o ≡ on w.text (suc k)
+unfolding chain_step
+went_on on p k o m w = rw (w.made_it, w.passed)
 
 -- The text made is read back.
-pub back : (q : Text) (m : ℕ) (o : Option Text) (mem mem₀ : Text) → o ≡ some q → m ≡ length q → m ≤ 255 → length mem₀ ≡ 255 → mem ≡ stepBuffer o mem₀ → take m mem ≡ q
-unfolding stepBuffer
+pub back : (q : Text) (m : ℕ) (o : Option Text) (mem mem₀ : Text) → o ≡ some q → m ≡ length q → m ≤ 255 → length mem₀ ≡ 255 → mem ≡ step_buffer o mem₀ → take m mem ≡ q
+unfolding step_buffer
 back q m o mem mem₀ e l h r a = rw (a, e, l) (first_back q mem₀ (omega arith))
 
-module _ (o : Option Text) (m : ℕ) (w : Went o m) (mem mem₀ : Text) (r : length mem₀ ≡ 255) (a : mem ≡ stepBuffer o mem₀) where
-  pub back-text : take m mem ≡ w.text
-  back-text = back w.text m o mem mem₀ w.made-it w.long w.short r a
+module _ (o : Option Text) (m : ℕ) (w : Went o m) (mem mem₀ : Text) (r : length mem₀ ≡ 255) (a : mem ≡ step_buffer o mem₀) where
+  pub back_text : take m mem ≡ w.text
+  back_text = back w.text m o mem mem₀ w.made_it w.long w.short r a
 
-  pub back-part : m ≡ length (take m mem)
-  back-part = w.long ∙ ap length (sym back-text)
+  pub back_part : m ≡ length (take m mem)
+  back_part = w.long ∙ ap length (sym back_text)
 
   pub back_inside : m ≤ length mem
-  back_inside = omega (arith, back-part, length-take m mem)
+  back_inside = omega (arith, back_part, length-take m mem)
 
-back-again : (q : Text) (m : ℕ) (part cur cur' : Text) → part ≡ q → m ≡ length q → m ≤ 255 → length cur ≡ 255 → cur' ≡ writtenIfFits 0 part cur → take m cur' ≡ q
-back-again q m part cur cur' e l h r b = rw (b, e, l) (first_back q cur (omega arith))
+back_again : (q : Text) (m : ℕ) (part cur cur' : Text) → part ≡ q → m ≡ length q → m ≤ 255 → length cur ≡ 255 → cur' ≡ written_if_fits 0 part cur → take m cur' ≡ q
+back_again q m part cur cur' e l h r b = rw (b, e, l) (first_back q cur (omega arith))
 
 -- One iteration of the loop.
-module _ (sk : Option Text) (l : List Pair) (p : Text) (n k len : ℕ) (cur : Text) (inv : chain sk l p ≡ chainFrom sk l (n - k) (take len cur) k) where
-  pub chain-end : n ≤ k → chained (take len cur) k ≡ chain sk l p
-  unfolding chainFrom
-  chain-end h = let z : n - k ≡ 0 = omega arith in sym (inv ∙ ap (λ (m : ℕ). chainFrom sk l m (take len cur) k) z)
+module _ (sk : Option Text) (l : List Pair) (p : Text) (n k len : ℕ) (cur : Text) (inv : chain sk l p ≡ chain_from sk l (n - k) (take len cur) k) where
+  pub chain_end : n ≤ k → chained (take len cur) k ≡ chain sk l p
+  unfolding chain_from
+  chain_end h = let z : n - k ≡ 0 = omega arith in sym (inv ∙ ap (λ (m : ℕ). chain_from sk l m (take len cur) k) z)
 
-  module _ (h : k < n) (s : Step) (e : s ≡ stepReply (longestReplacement (replacement true sk (take len cur)) l)) where
-    turn : chain sk l p ≡ chainStep (chainFrom sk l (n - (k + 1))) (take len cur) k (longestReplacement (replacement true sk (take len cur)) l)
-    unfolding chainFrom nextReplacement
-    turn = let z : n - k ≡ suc (n - (k + 1)) = omega arith in inv ∙ ap (λ (m : ℕ). chainFrom sk l m (take len cur) k) z
+  module _ (h : k < n) (s : Step) (e : s ≡ step_reply (longest_replacement (replacement true sk (take len cur)) l)) where
+    turn : chain sk l p ≡ chain_step (chain_from sk l (n - (k + 1))) (take len cur) k (longest_replacement (replacement true sk (take len cur)) l)
+    unfolding chain_from next_replacement
+    turn = let z : n - k ≡ suc (n - (k + 1)) = omega arith in inv ∙ ap (λ (m : ℕ). chain_from sk l m (take len cur) k) z
 
     pub chain-still : s ≡ Still → chained (take len cur) k ≡ chain sk l p
-    unfolding chainStep
-    chain-still g = sym (turn ∙ rw (still (longestReplacement (replacement true sk (take len cur)) l) (sym e ∙ g)))
+    unfolding chain_step
+    chain-still g = sym (turn ∙ rw (still (longest_replacement (replacement true sk (take len cur)) l) (sym e ∙ g)))
 
     pub chain-stopped : (x : Refusal) → s ≡ Refused x → stopped x ≡ chain sk l p
     chain-stopped x g =
-        sym (turn ∙ ended (chainFrom sk l (n - (k + 1))) (take len cur) k (longestReplacement (replacement true sk (take len cur)) l) x (sym e ∙ g))
+        sym (turn ∙ ended (chain_from sk l (n - (k + 1))) (take len cur) k (longest_replacement (replacement true sk (take len cur)) l) x (sym e ∙ g))
 
     module _ (m : ℕ) (g : s ≡ Made m) where
-      w : Went (longestReplacement (replacement true sk (take len cur)) l) m
-      w = went (longestReplacement (replacement true sk (take len cur)) l) m (sym e ∙ g)
+      w : Went (longest_replacement (replacement true sk (take len cur)) l) m
+      w = went (longest_replacement (replacement true sk (take len cur)) l) m (sym e ∙ g)
 
       pub chain-short : m ≤ 255
       chain-short = w.short
 
-      module _ (mem mem₀ : Text) (a : mem ≡ stepBuffer (longestReplacement (replacement true sk (take len cur)) l) mem₀) (r : length mem₀ ≡ 255) where
+      module _ (mem mem₀ : Text) (a : mem ≡ step_buffer (longest_replacement (replacement true sk (take len cur)) l) mem₀) (r : length mem₀ ≡ 255) where
         pub chain-part : m ≡ length (take m mem)
-        chain-part = back-part (longestReplacement (replacement true sk (take len cur)) l) m w mem mem₀ r a
+        chain-part = back_part (longest_replacement (replacement true sk (take len cur)) l) m w mem mem₀ r a
 
         pub chain-inside : m ≤ length mem
-        chain-inside = back_inside (longestReplacement (replacement true sk (take len cur)) l) m w mem mem₀ r a
+        chain-inside = back_inside (longest_replacement (replacement true sk (take len cur)) l) m w mem mem₀ r a
 
-        pub chain-on : (cur' : Text) → cur' ≡ writtenIfFits 0 (take m mem) cur → length cur ≡ 255 → chain sk l p ≡ chainFrom sk l (n - (k + 1)) (take m cur') (k + 1)
+        pub chain-on : (cur' : Text) → cur' ≡ written_if_fits 0 (take m mem) cur → length cur ≡ 255 → chain sk l p ≡ chain_from sk l (n - (k + 1)) (take m cur') (k + 1)
         chain-on cur' b f =
-            let t : take m cur' ≡ w.text = back-again w.text m (take m mem) cur cur' (back-text (longestReplacement (replacement true sk (take len cur)) l) m w mem mem₀ r a) w.long w.short f b in
+            let t : take m cur' ≡ w.text = back_again w.text m (take m mem) cur cur' (back_text (longest_replacement (replacement true sk (take len cur)) l) m w mem mem₀ r a) w.long w.short f b in
             turn
-            ∙ went_on (chainFrom sk l (n - (k + 1))) (take len cur) k (longestReplacement (replacement true sk (take len cur)) l) m w
-            ∙ sym (ap (λ (q : Text). chainFrom sk l (n - (k + 1)) q (suc k)) t)
-            ∙ sym (ap (λ (i : ℕ). chainFrom sk l (n - (k + 1)) (take m cur') i) (add-one k))
+            ∙ went_on (chain_from sk l (n - (k + 1))) (take len cur) k (longest_replacement (replacement true sk (take len cur)) l) m w
+            ∙ sym (ap (λ (q : Text). chain_from sk l (n - (k + 1)) q (suc k)) t)
+            ∙ sym (ap (λ (i : ℕ). chain_from sk l (n - (k + 1)) (take m cur') i) (add-one k))
 
-pub chain-begin : (sk : Option Text) (store : Text) (places : List ℕ) (n : ℕ) (p cur cur₀ : Text) → cur ≡ writtenIfFits 0 p cur₀ → length p ≤ 255 → length cur₀ ≡ 255
-    → chain sk (pairsIn store places n) p ≡ chainFrom sk (pairsIn store places n) (n - 0) (take (length p) cur) 0
+pub chain_begin : (sk : Option Text) (store : Text) (places : List ℕ) (n : ℕ) (p cur cur₀ : Text) → cur ≡ written_if_fits 0 p cur₀ → length p ≤ 255 → length cur₀ ≡ 255
+    → chain sk (pairs_in store places n) p ≡ chain_from sk (pairs_in store places n) (n - 0) (take (length p) cur) 0
 unfolding chain
-chain-begin sk store places n p cur cur₀ e h l =
+chain_begin sk store places n p cur cur₀ e h l =
     let z : n - 0 ≡ n = omega arith in
-    rw (z, e, first_back p cur₀ (omega arith)) (ap (λ (m : ℕ). chainFrom sk (pairsIn store places n) m p 0) (pairsIn-length store places n))
+    rw (z, e, first_back p cur₀ (omega arith)) (ap (λ (m : ℕ). chain_from sk (pairs_in store places n) m p 0) (pairs_in_length store places n))

@@ -7,26 +7,26 @@ use Prim.Native.Nat.{ℕ, ◌-◌, ◌≤◌}
 use native.Mathlib.Omega.{arith}
 use lib.ListN.{length, take, drop}
 use borrow.Author.Tests.{le-leb, lt-leb}
-use Rattle.text.specs.Text.{Text, isNil, is_some, equal, writtenIfFits, fitOf}
+use Rattle.text.specs.Text.{Text, is_nil, is_some, equal, written_if_fits, fit_of}
 use Rattle.text.specs.declared.Fit.{Fit}
 use Rattle.text.specs.declared.Fit.TheVariants.{Written, Over}
-use Rattle.text.proofs.BoolLaws.{known-false, known-true, not-true, not-false}
-use Rattle.text.proofs.WriteLaws.{rest-whole, fit-room, fit-over, fit_is, fit-back}
-use Rattle.path_grammar.specs.Legal.{legal, atMost255}
-use Rattle.path_prefix.specs.Prefix.{hasPrefix}
-use Rattle.path_join.specs.Join.{join, replacePrefix}
-use Rattle.path_prefix.proofs.PrefixLaws.{prefix-long}
-use Rattle.path_join.proofs.ReplaceLaws.{replace-prefix, replace-other}
-use Rattle.pair_list.specs.Pair.{Pair, pair, pair_at, sourceAt}
-use Rattle.pair_list.specs.Places.{pairsIn, key_at}
-use Rattle.pair_list.proofs.BestLaws.{Best, best-chosen}
-use Rattle.pair_list.proofs.PlaceLaws.{pairsIn-at, pairsIn-length, pair_is}
+use Rattle.text.proofs.BoolLaws.{known_false, known_true, not_true, not_false}
+use Rattle.text.proofs.WriteLaws.{rest_whole, fit_room, fit_over, fit_is, fit-back}
+use Rattle.path_grammar.specs.Legal.{legal, at_most255}
+use Rattle.path_prefix.specs.Prefix.{has_prefix}
+use Rattle.path_join.specs.Join.{join, replace_prefix}
+use Rattle.path_prefix.proofs.PrefixLaws.{prefix_long}
+use Rattle.path_join.proofs.ReplaceLaws.{replace_prefix_lem, replace_other}
+use Rattle.pair_list.specs.Pair.{Pair, pair, pair_at, source_at}
+use Rattle.pair_list.specs.Places.{pairs_in, key_at}
+use Rattle.pair_list.proofs.BestLaws.{Best, best_chosen}
+use Rattle.pair_list.proofs.PlaceLaws.{pairs_in_at, pairs_in_length, pair_is}
 use Rattle.refusal.specs.declared.Refusal.TheVariants.{MadeTooLong, MadeIllegal}
 use Rattle.refusal.specs.Outcome.{checked}
 use Rattle.relocate_chain.specs.declared.steps.Longest.{Longest}
 use Rattle.relocate_chain.specs.declared.steps.Step.TheVariants.{Still, Made, Refused}
-use Rattle.relocate_chain.specs.Chain.{longestSource, replacementAt, longestReplacement, isSkipped, ifAltered, replacement}
-use Rattle.relocate_chain.specs.ChainStep.{longestIndex, stepReply, stepBuffer}
+use Rattle.relocate_chain.specs.Chain.{longest_source, replacement_at, longest_replacement, is_skipped, if_altered, replacement}
+use Rattle.relocate_chain.specs.ChainStep.{longest_index, step_reply, step_buffer}
 
 -- A pair that yields a path replaces a prefix.
 all_none : (a b c : Bool) → is_some (cond a none (cond b none (cond c none none))) ≡ true → ⊥
@@ -35,85 +35,85 @@ all_none false true c h = false≢true h
 all_none false false true h = false≢true h
 all_none false false false h = false≢true h
 
-all-some : (a b c d : Bool) (j : Text) → is_some (cond a none (cond b none (cond c (cond d none (some j)) (some j)))) ≡ true
+all_some : (a b c d : Bool) (j : Text) → is_some (cond a none (cond b none (cond c (cond d none (some j)) (some j)))) ≡ true
     → cond a none (cond b none (cond c (cond d none (some j)) (some j))) ≡ some j
-all-some true b c d j h = absurd (false≢true h)
-all-some false true c d j h = absurd (false≢true h)
-all-some false false true true j h = absurd (false≢true h)
-all-some false false true false j h = refl
-all-some false false false d j h = refl
+all_some true b c d j h = absurd (false≢true h)
+all_some false true c d j h = absurd (false≢true h)
+all_some false false true true j h = absurd (false≢true h)
+all_some false false true false j h = refl
+all_some false false false d j h = refl
 
 module _ (alters : Bool) (skip : Option Text) (p s t : Text) (h : is_some (replacement alters skip p (pair s t)) ≡ true) where
-  replaced-prefix : hasPrefix p s ≡ true
-  unfolding replacement ifAltered
-  replaced-prefix = go (hasPrefix p s) refl
+  replaced_prefix : has_prefix p s ≡ true
+  unfolding replacement if_altered
+  replaced_prefix = go (has_prefix p s) refl
     where
-      go : (b : Bool) → hasPrefix p s ≡ b → b ≡ true
+      go : (b : Bool) → has_prefix p s ≡ b → b ≡ true
       go true e = refl
-      go false e = absurd (all_none (isNil t) (isSkipped skip s) alters (rw (replace-other p s t e) at h))
+      go false e = absurd (all_none (is_nil t) (is_skipped skip s) alters (rw (replace_other p s t e) at h))
 
-  replaced-is : replacement alters skip p (pair s t) ≡ some (join s t (take (length p - length s) (drop (length s) p)))
-  unfolding replacement ifAltered
-  replaced-is =
+  replaced_is : replacement alters skip p (pair s t) ≡ some (join s t (take (length p - length s) (drop (length s) p)))
+  unfolding replacement if_altered
+  replaced_is =
       let j : Text = join s t (take (length p - length s) (drop (length s) p)) in
-      let e : replacePrefix p s t ≡ some j = rw (rest-whole p (length s)) (replace-prefix p s t replaced-prefix) in
-      rw e (all-some (isNil t) (isSkipped skip s) alters (equal j p) j (rw e at h))
+      let e : replace_prefix p s t ≡ some j = rw (rest_whole p (length s)) (replace_prefix_lem p s t replaced_prefix) in
+      rw e (all_some (is_nil t) (is_skipped skip s) alters (equal j p) j (rw e at h))
 
 -- `replace_once`
 module _ (alters : Bool) (skip : Option Text) (p store : Text) (places : List ℕ) (n : ℕ) (f : Longest)
-    (h : longestIndex f ≡ longestSource (replacement alters skip p) (pairsIn store places n) n) where
-  nearest-is : longestReplacement (replacement alters skip p) (pairsIn store places n) ≡ replacementAt (replacement alters skip p) (pairsIn store places n) (longestIndex f)
-  unfolding longestReplacement
-  nearest-is =
-      let l : List Pair = pairsIn store places n in
-      ap (λ (k : ℕ). replacementAt (replacement alters skip p) l (longestSource (replacement alters skip p) l k)) (pairsIn-length store places n)
-      ∙ ap (λ (o : Option ℕ). replacementAt (replacement alters skip p) l o) (sym h)
+    (h : longest_index f ≡ longest_source (replacement alters skip p) (pairs_in store places n) n) where
+  nearest_is : longest_replacement (replacement alters skip p) (pairs_in store places n) ≡ replacement_at (replacement alters skip p) (pairs_in store places n) (longest_index f)
+  unfolding longest_replacement
+  nearest_is =
+      let l : List Pair = pairs_in store places n in
+      ap (λ (k : ℕ). replacement_at (replacement alters skip p) l (longest_source (replacement alters skip p) l k)) (pairs_in_length store places n)
+      ∙ ap (λ (o : Option ℕ). replacement_at (replacement alters skip p) l o) (sym h)
 
-  pub once-still : not f.found ≡ true → (mem : Text)
-      → (Still ≡ stepReply (longestReplacement (replacement alters skip p) (pairsIn store places n))) × (mem ≡ stepBuffer (longestReplacement (replacement alters skip p) (pairsIn store places n)) mem)
-  unfolding stepReply stepBuffer
-  once-still g mem = rw (nearest-is, not-true f.found g) (refl, refl)
+  pub once_still : not f.found ≡ true → (mem : Text)
+      → (Still ≡ step_reply (longest_replacement (replacement alters skip p) (pairs_in store places n))) × (mem ≡ step_buffer (longest_replacement (replacement alters skip p) (pairs_in store places n)) mem)
+  unfolding step_reply step_buffer
+  once_still g mem = rw (nearest_is, not_true f.found g) (refl, refl)
 
   module _ (g : not f.found ≡ false) (s t : Text) (hs : s ≡ key_at store places false f.at) (ht : t ≡ key_at store places true f.at) where
     -- The selected pair is a pair of the list, and yields a path.
-    chosen : Best (λ (i : ℕ). is_some (replacement alters skip p (pair_at (pairsIn store places n) i))) (λ (i : ℕ). length (sourceAt (pairsIn store places n) i)) n f.at
-    unfolding longestSource
-    chosen = best-chosen _ _ n f.at (sym h ∙ rw (not-false f.found g))
+    chosen : Best (λ (i : ℕ). is_some (replacement alters skip p (pair_at (pairs_in store places n) i))) (λ (i : ℕ). length (source_at (pairs_in store places n) i)) n f.at
+    unfolding longest_source
+    chosen = best_chosen _ _ n f.at (sym h ∙ rw (not_false f.found g))
 
-    pair-here : pair_at (pairsIn store places n) f.at ≡ pair s t
-    pair-here = pairsIn-at store places n f.at chosen.in-range ∙ sym (pair_is store places f.at s t hs ht)
+    pair-here : pair_at (pairs_in store places n) f.at ≡ pair s t
+    pair-here = pairs_in_at store places n f.at chosen.in_range_lem ∙ sym (pair_is store places f.at s t hs ht)
 
     gives : is_some (replacement alters skip p (pair s t)) ≡ true
-    gives = rw pair-here at chosen.does-pass
+    gives = rw pair-here at chosen.does_pass
 
     pub once-long : length s ≤ length p
-    once-long = prefix-long p s (replaced-prefix alters skip p s t gives)
+    once-long = prefix_long p s (replaced_prefix alters skip p s t gives)
 
-    pub once-text : longestReplacement (replacement alters skip p) (pairsIn store places n) ≡ some (join s t (take (length p - length s) (drop (length s) p)))
-    once-text = nearest-is ∙ rw (not-false f.found g, pair-here) (replaced-is alters skip p s t gives)
+    pub once-text : longest_replacement (replacement alters skip p) (pairs_in store places n) ≡ some (join s t (take (length p - length s) (drop (length s) p)))
+    once-text = nearest_is ∙ rw (not_false f.found g, pair-here) (replaced_is alters skip p s t gives)
 
 -- Questions 7 and 8 for the text j written to a buffer of 255 bytes.
-module _ (o : Option Text) (j : Text) (e : o ≡ some j) (buf : Text) (l : length buf ≡ 255) (f : Fit) (h : f ≡ fitOf j buf) (mem : Text) (m : mem ≡ writtenIfFits 0 j buf) where
-  kept : mem ≡ stepBuffer o buf
-  unfolding stepBuffer
+module _ (o : Option Text) (j : Text) (e : o ≡ some j) (buf : Text) (l : length buf ≡ 255) (f : Fit) (h : f ≡ fit_of j buf) (mem : Text) (m : mem ≡ written_if_fits 0 j buf) where
+  kept : mem ≡ step_buffer o buf
+  unfolding step_buffer
   kept = rw e m
 
-  pub once-over : f ≡ Over → (Refused MadeTooLong ≡ stepReply o) × (mem ≡ stepBuffer o buf)
-  unfolding stepReply checked atMost255
-  once-over k = (rw (e, lt-leb (length j) 255 (omega (arith, fit-over j buf (sym h ∙ k)))) refl, kept)
+  pub once_over : f ≡ Over → (Refused MadeTooLong ≡ step_reply o) × (mem ≡ step_buffer o buf)
+  unfolding step_reply checked at_most255
+  once_over k = (rw (e, lt-leb (length j) 255 (omega (arith, fit_over j buf (sym h ∙ k)))) refl, kept)
 
   module _ (n : ℕ) (w : f ≡ Written n) where
     short : length j ≤ 255
-    short = omega (arith, fit-room j buf n (sym h ∙ w))
+    short = omega (arith, fit_room j buf n (sym h ∙ w))
 
-    pub once-illegal : (x : Bool) → x ≡ legal (take n mem) → not x ≡ true → (Refused MadeIllegal ≡ stepReply o) × (mem ≡ stepBuffer o buf)
-    unfolding stepReply checked atMost255
+    pub once-illegal : (x : Bool) → x ≡ legal (take n mem) → not x ≡ true → (Refused MadeIllegal ≡ step_reply o) × (mem ≡ step_buffer o buf)
+    unfolding step_reply checked at_most255
     once-illegal x g k =
-        let b : legal j ≡ false = rw (fit-back j buf f h n w mem m) at (known-false g k) in
+        let b : legal j ≡ false = rw (fit-back j buf f h n w mem m) at (known_false g k) in
         (rw (e, le-leb (length j) 255 short, b) refl, kept)
 
-    pub once-made : (x : Bool) → x ≡ legal (take n mem) → not x ≡ false → (Made n ≡ stepReply o) × (mem ≡ stepBuffer o buf)
-    unfolding stepReply checked atMost255
+    pub once-made : (x : Bool) → x ≡ legal (take n mem) → not x ≡ false → (Made n ≡ step_reply o) × (mem ≡ step_buffer o buf)
+    unfolding step_reply checked at_most255
     once-made x g k =
-        let b : legal j ≡ true = rw (fit-back j buf f h n w mem m) at (known-true g k) in
+        let b : legal j ≡ true = rw (fit-back j buf f h n w mem m) at (known_true g k) in
         (rw (e, le-leb (length j) 255 short, b, fit_is j buf f h n w) refl, kept)

@@ -4,11 +4,11 @@
 mod steps;
 
 ghost use Rattle.std.specs.Prelude.{◌≡◌, cond, [], ◌≤◌, length};
-ghost use Rattle.pair_list.specs.Places.{pairsIn};
+ghost use Rattle.pair_list.specs.Places.{pairs_in};
 ghost use Rattle.refusal.specs.Outcome.{path, checked, ReturnsPath};
-ghost use Rattle.validate.specs.Validate.{lentList};
-ghost use Rattle.relocate_chain.specs.Chain.{chain, shiftThroughNearestAncestor};
-ghost use Rattle.relocate_chain.specs.Calls.{skippedSource, shiftCall, chainCall, chainReply, chainBuffer};
+ghost use Rattle.validate.specs.Validate.{lent_list};
+ghost use Rattle.relocate_chain.specs.Chain.{chain, shift_through_nearest_ancestor};
+ghost use Rattle.relocate_chain.specs.Calls.{skipped_source, shift_call, chain_call, chain_reply, chain_buffer};
 
 // The reply of a chaining call.
 #[derive(Drop)]
@@ -29,7 +29,7 @@ fn shift_and_copy(
 ) -> refusal::Reply
     requires { (checked endpoint.now ≡ path endpoint.now) × (255 ≤ length out.old) }
     ensures { ReturnsPath (checked
-        (shiftThroughNearestAncestor (pairsIn store.now places.now n) endpoint.now)) result
+        (shift_through_nearest_ancestor (pairs_in store.now places.now n) endpoint.now)) result
         out.old out.new }
 {
     let mut made = [0u8; 255];
@@ -56,7 +56,7 @@ pub fn shift_through_nearest_ancestor(
     endpoint: &[u8],
     out: &mut [u8],
 ) -> refusal::Reply
-    ensures { ReturnsPath (shiftCall (lentList store.now places.now count)
+    ensures { ReturnsPath (shift_call (lent_list store.now places.now count)
         endpoint.now (length out.old)) result out.old out.new }
 {
     let q = validate::validate_list_and_path(store, places, count, endpoint);
@@ -90,10 +90,10 @@ fn chain_and_copy(
     out: &mut [u8],
 ) -> Chain
     requires { (length path.now ≤ 255) × (255 ≤ length out.old) }
-    ensures value { result ≡ chainReply (chain (skippedSource skips skipped.now)
-        (pairsIn store.now places.now n) path.now) }
-    ensures out_after { out.new ≡ chainBuffer
-        (chain (skippedSource skips skipped.now) (pairsIn store.now places.now n)
+    ensures value { result ≡ chain_reply (chain (skipped_source skips skipped.now)
+        (pairs_in store.now places.now n) path.now) }
+    ensures out_after { out.new ≡ chain_buffer
+        (chain (skipped_source skips skipped.now) (pairs_in store.now places.now n)
         path.now) out.old }
 {
     let mut current = [0u8; 255];
@@ -119,11 +119,11 @@ pub fn chain_through_relocates(
     path: &[u8],
     out: &mut [u8],
 ) -> Chain
-    ensures value { result ≡ chainReply (chainCall (lentList store.now places.now count)
-        (skippedSource skips skipped.now) path.now (length out.old)) }
-    ensures out_after { out.new ≡ chainBuffer
-        (chainCall (lentList store.now places.now count)
-        (skippedSource skips skipped.now) path.now (length out.old))
+    ensures value { result ≡ chain_reply (chain_call (lent_list store.now places.now count)
+        (skipped_source skips skipped.now) path.now (length out.old)) }
+    ensures out_after { out.new ≡ chain_buffer
+        (chain_call (lent_list store.now places.now count)
+        (skipped_source skips skipped.now) path.now (length out.old))
         out.old }
 {
     let e = &path[..0];

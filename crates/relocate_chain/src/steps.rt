@@ -2,13 +2,13 @@
 // in elements.
 ghost use Rattle.std.specs.Prelude.{◌≡◌, cond, ◌≤◌, length};
 ghost use Rattle.text.specs.Text.{is_some};
-ghost use Rattle.path_join.specs.Join.{replacePrefix};
-ghost use Rattle.pair_list.specs.Places.{pairsIn};
-ghost use Rattle.relocate_chain.specs.Chain.{isSkipped, ifAltered, replacement, longestSource, longestReplacement, chain};
-ghost use Rattle.relocate_chain.specs.ChainStep.{sourceKept, longestIndex, stepReply, stepBuffer, chainInBuffer, chainWithin};
-ghost use Rattle.relocate_chain.specs.Calls.{skippedSource};
+ghost use Rattle.path_join.specs.Join.{replace_prefix};
+ghost use Rattle.pair_list.specs.Places.{pairs_in};
+ghost use Rattle.relocate_chain.specs.Chain.{is_skipped, if_altered, replacement, longest_source, longest_replacement, chain};
+ghost use Rattle.relocate_chain.specs.ChainStep.{source_kept, longest_index, step_reply, step_buffer, chain_in_buffer, chain_within};
+ghost use Rattle.relocate_chain.specs.Calls.{skipped_source};
 ghost use Rattle.pair_list.specs.Pair.{pair};
-ghost use Rattle.pair_list.specs.BestStep.{considerIndex};
+ghost use Rattle.pair_list.specs.BestStep.{consider_index};
 
 // A number of bytes: the measure of a key in chaining.
 #[derive(Drop)]
@@ -34,7 +34,7 @@ pub enum Step {
 
 // Returns whether pairs with this source are skipped.
 fn is_skipped(skips: bool, skipped: &[u8], source: &[u8]) -> bool
-    ensures { result ≡ isSkipped (skippedSource skips skipped.now) source.now }
+    ensures { result ≡ is_skipped (skipped_source skips skipped.now) source.now }
 {
     if !skips {
         return false;
@@ -46,8 +46,8 @@ fn is_skipped(skips: bool, skipped: &[u8], source: &[u8]) -> bool
 // the path.
 fn replaces(alters: bool, path: &[u8], old: &[u8], new: &[u8]) -> bool
     ensures { result ≡ is_some (cond alters
-        (ifAltered path.now (replacePrefix path.now old.now new.now))
-        (replacePrefix path.now old.now new.now)) }
+        (if_altered path.now (replace_prefix path.now old.now new.now))
+        (replace_prefix path.now old.now new.now)) }
 {
     if !path_prefix::has_prefix(path, old) {
         return false;
@@ -68,7 +68,7 @@ fn is_candidate(
     old: &[u8],
     new: &[u8],
 ) -> bool
-    ensures { result ≡ is_some (replacement alters (skippedSource skips skipped.now) path.now
+    ensures { result ≡ is_some (replacement alters (skipped_source skips skipped.now) path.now
         (pair old.now new.now)) }
 {
     if new.len() == 0 {
@@ -83,7 +83,7 @@ fn is_candidate(
 // The search result after the key at i: that key if it yields a path and is at least as long as the one found
 // so far.
 fn consider_source(f: Longest, tries: bool, key: &[u8], i: usize) -> Longest
-    ensures { sourceKept result ≡ considerIndex (sourceKept f) tries i (length key.now) }
+    ensures { source_kept result ≡ consider_index (source_kept f) tries i (length key.now) }
 {
     if !tries {
         return f;
@@ -111,9 +111,9 @@ fn longest_source(
     skipped: &[u8],
     path: &[u8],
 ) -> Longest
-    ensures { longestIndex result ≡ longestSource
-        (replacement alters (skippedSource skips skipped.now) path.now)
-        (pairsIn store.now places.now n) n }
+    ensures { longest_index result ≡ longest_source
+        (replacement alters (skipped_source skips skipped.now) path.now)
+        (pairs_in store.now places.now n) n }
 {
     let mut f = Longest {
         found: false,
@@ -148,12 +148,12 @@ pub(crate) fn replace_once(
     made: &mut [u8],
 ) -> Step
     requires { length made.old ≡ 255 }
-    ensures value { result ≡ stepReply (longestReplacement
-        (replacement alters (skippedSource skips skipped.now) path.now)
-        (pairsIn store.now places.now n)) }
-    ensures made_after { made.new ≡ stepBuffer
-        (longestReplacement (replacement alters (skippedSource skips skipped.now) path.now)
-        (pairsIn store.now places.now n)) made.old }
+    ensures value { result ≡ step_reply (longest_replacement
+        (replacement alters (skipped_source skips skipped.now) path.now)
+        (pairs_in store.now places.now n)) }
+    ensures made_after { made.new ≡ step_buffer
+        (longest_replacement (replacement alters (skipped_source skips skipped.now) path.now)
+        (pairs_in store.now places.now n)) made.old }
 {
     let f = longest_source(store, places, n, alters, skips, skipped, path);
     if !f.found {
@@ -183,9 +183,9 @@ pub(crate) fn chain_into(
     current: &mut [u8],
 ) -> crate::Chain
     requires { (length path.now ≤ 255) × (length current.old ≡ 255) }
-    ensures current_after { chainInBuffer result current.new ≡ chain (skippedSource skips skipped.now)
-        (pairsIn store.now places.now n) path.now }
-    ensures chain_within { chainWithin result 255 }
+    ensures current_after { chain_in_buffer result current.new ≡ chain (skipped_source skips skipped.now)
+        (pairs_in store.now places.now n) path.now }
+    ensures chain_within { chain_within result 255 }
 {
     let mut made = [0u8; 255];
     let mut len = path.len();

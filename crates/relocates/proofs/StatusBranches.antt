@@ -10,177 +10,177 @@ use native.Mathlib.Decide.{ℕ_discrete}
 use lib.Dec.{eqb}
 use lib.ListN.{length}
 use borrow.Author.Tests.{eq-eqb, ne_eqb}
-use Rattle.text.specs.Text.{Text, isNil, equal}
-use Rattle.text.proofs.TextLaws.{nil-length, nil_not}
-use Rattle.text.proofs.BoolLaws.{told, known-false, known-true, or_right, and_no, and_yes}
-use Rattle.path_prefix.specs.Prefix.{hasPrefix}
-use Rattle.path_prefix.specs.Elements.{primElementCount}
+use Rattle.text.specs.Text.{Text, is_nil, equal}
+use Rattle.text.proofs.TextLaws.{nil_length, nil_not}
+use Rattle.text.proofs.BoolLaws.{told, known_false, known_true, or_right, and_no, and_yes}
+use Rattle.path_prefix.specs.Prefix.{has_prefix}
+use Rattle.path_prefix.specs.Elements.{prim_element_count}
 use Rattle.pair_list.specs.Pair.{Pair, pair, pair_at}
-use Rattle.pair_list.specs.Places.{pairIn, pairsIn, key_at}
-use Rattle.pair_list.proofs.PlaceLaws.{pairsIn-at, pair_is}
-use Rattle.relocates.specs.Status.{anyBelow, isStructural, claimsSource, isDuplicateAmong, isDuplicate, equalNonEmpty, pairConflicts, conflictsWith}
+use Rattle.pair_list.specs.Places.{pair_in, pairs_in, key_at}
+use Rattle.pair_list.proofs.PlaceLaws.{pairs_in_at, pair_is}
+use Rattle.relocates.specs.Status.{any_below, is_structural, claims_source, is_duplicate_among, is_duplicate, equal_non_empty, pair_conflicts, conflicts_with}
 
 -- `is_structural`
 module _ (s t : Text) where
-  pub structural-deletes : length t ≡ 0 → false ≡ isStructural (pair s t)
-  unfolding isStructural
-  structural-deletes h = rw (nil-length t h)
+  pub structural_deletes : length t ≡ 0 → false ≡ is_structural (pair s t)
+  unfolding is_structural
+  structural_deletes h = rw (nil_length t h)
 
-  module _ (n : ℕ) (h : length t ≢ 0) (k : n ≡ primElementCount s) where
-    pub structural-root : n ≡ 1 → true ≡ isStructural (pair s t)
-    unfolding isStructural
+  module _ (n : ℕ) (h : length t ≢ 0) (k : n ≡ prim_element_count s) where
+    pub structural-root : n ≡ 1 → true ≡ is_structural (pair s t)
+    unfolding is_structural
     structural-root e = rw (nil_not t h, ← k, eq-eqb n 1 e)
 
     module _ (e : n ≢ 1) (a : Bool) (ha : a ≡ equal s t) where
-      pub structural-equal : a ≡ true → true ≡ isStructural (pair s t)
-      unfolding isStructural
+      pub structural-equal : a ≡ true → true ≡ is_structural (pair s t)
+      unfolding is_structural
       structural-equal l = rw (nil_not t h, ← k, ne_eqb n 1 e, told ha l)
 
-      module _ (la : a ≡ false) (b : Bool) (hb : b ≡ hasPrefix s t) where
-        pub structural-above : b ≡ true → true ≡ isStructural (pair s t)
-        unfolding isStructural
+      module _ (la : a ≡ false) (b : Bool) (hb : b ≡ has_prefix s t) where
+        pub structural-above : b ≡ true → true ≡ is_structural (pair s t)
+        unfolding is_structural
         structural-above l = rw (nil_not t h, ← k, ne_eqb n 1 e, told ha la, told hb l)
 
-        pub structural-below : b ≡ false → (c : Bool) → c ≡ hasPrefix t s → c ≡ isStructural (pair s t)
-        unfolding isStructural
+        pub structural-below : b ≡ false → (c : Bool) → c ≡ has_prefix t s → c ≡ is_structural (pair s t)
+        unfolding is_structural
         structural-below l c hc = rw (nil_not t h, ← k, ne_eqb n 1 e, told ha la, told hb l) hc
 
-pub ruleset structure = (structural-deletes, structural-root, structural-equal, structural-above, structural-below)
+pub ruleset structure = (structural_deletes, structural-root, structural-equal, structural-above, structural-below)
 
 -- `claims_source`
 module _ (store : Text) (places : List ℕ) (k : ℕ) (u s : Text) (h : s ≡ key_at store places false k) (a : Bool) (ha : a ≡ equal s u) where
-  pub claims-other : not a ≡ true → false ≡ claimsSource (pairIn store places k) u
-  unfolding claimsSource
-  claims-other l =
+  pub claims_other : not a ≡ true → false ≡ claims_source (pair_in store places k) u
+  unfolding claims_source
+  claims_other l =
       let t : Text = key_at store places true k in
-      rw (← (pair_is store places k s t h refl), known-false ha l) (sym (and_no (not (isStructural (pair s t)))))
+      rw (← (pair_is store places k s t h refl), known_false ha l) (sym (and_no (not (is_structural (pair s t)))))
 
-  pub claims-same : not a ≡ false → (t : Text) → t ≡ key_at store places true k → (b : Bool) → b ≡ isStructural (pair s t) → not b ≡ claimsSource (pairIn store places k) u
-  unfolding claimsSource
-  claims-same l t g b hb = rw (← (pair_is store places k s t h g), known-true ha l, ← hb) (sym (and_yes (not b)))
+  pub claims_same : not a ≡ false → (t : Text) → t ≡ key_at store places true k → (b : Bool) → b ≡ is_structural (pair s t) → not b ≡ claims_source (pair_in store places k) u
+  unfolding claims_source
+  claims_same l t g b hb = rw (← (pair_is store places k s t h g), known_true ha l, ← hb) (sym (and_yes (not b)))
 
-pub ruleset reserving = (claims-other, claims-same)
+pub ruleset reserving = (claims_other, claims_same)
 
 -- Lemmas about a test of each index below n.
-pub some_same : (f g : ℕ → Bool) (n : ℕ) → ((k : ℕ) → k < n → f k ≡ g k) → anyBelow n f ≡ anyBelow n g
-unfolding anyBelow
+pub some_same : (f g : ℕ → Bool) (n : ℕ) → ((k : ℕ) → k < n → f k ≡ g k) → any_below n f ≡ any_below n g
+unfolding any_below
 some_same f g zero h = refl
 some_same f g (suc n) h = rw (some_same f g n (λ k l. h k (omega arith)), h n (omega arith))
 
-pub some-hit : (f : ℕ → Bool) (n k : ℕ) → k < n → f k ≡ true → anyBelow n f ≡ true
-unfolding anyBelow
-some-hit f zero k h e = absurd (omega arith)
-some-hit f (suc n) k h e =
-    elim (ℕ_discrete k n) [ yes q ↦ or_right (anyBelow n f) (f n) (rw q at e) | no d ↦ rw (some-hit f n k (omega arith) e) ]
+pub some_hit : (f : ℕ → Bool) (n k : ℕ) → k < n → f k ≡ true → any_below n f ≡ true
+unfolding any_below
+some_hit f zero k h e = absurd (omega arith)
+some_hit f (suc n) k h e =
+    elim (ℕ_discrete k n) [ yes q ↦ or_right (any_below n f) (f n) (rw q at e) | no d ↦ rw (some_hit f n k (omega arith) e) ]
 
-pub some-none : (f : ℕ → Bool) → anyBelow 0 f ≡ false
-unfolding anyBelow
-some-none f = refl
+pub some_none : (f : ℕ → Bool) → any_below 0 f ≡ false
+unfolding any_below
+some_none f = refl
 
-pub some-on : (f : ℕ → Bool) (k : ℕ) → anyBelow k f ≡ false → f k ≡ false → anyBelow (k + 1) f ≡ false
-unfolding anyBelow
-some-on f k h e = rw (add-one k, h, e)
+pub some_on : (f : ℕ → Bool) (k : ℕ) → any_below k f ≡ false → f k ≡ false → any_below (k + 1) f ≡ false
+unfolding any_below
+some_on f k h e = rw (add-one k, h, e)
 
 -- `is_duplicate`: the sources are those of the list in lent memory.
 module _ (store : Text) (places : List ℕ) (n i : ℕ) (h : i < n) where
   -- For any two predicates that agree on the earlier pairs.
-  duplicate-among : (counts counts' : ℕ → Bool) → ((k : ℕ) → k < i → counts k ≡ counts' k)
-      → isDuplicateAmong counts (pairsIn store places n) i ≡ anyBelow i (λ (k : ℕ). counts' k && equal (pairIn store places k).source (pairIn store places i).source)
-  unfolding isDuplicateAmong
-  duplicate-among counts counts' same =
-      some_same (λ (k : ℕ). counts k && equal (pair_at (pairsIn store places n) k).source (pair_at (pairsIn store places n) i).source)
-      (λ (k : ℕ). counts' k && equal (pairIn store places k).source (pairIn store places i).source) i
-      (λ k l. rw (pairsIn-at store places n k (omega arith), pairsIn-at store places n i h, same k l))
+  duplicate_among : (counts counts' : ℕ → Bool) → ((k : ℕ) → k < i → counts k ≡ counts' k)
+      → is_duplicate_among counts (pairs_in store places n) i ≡ any_below i (λ (k : ℕ). counts' k && equal (pair_in store places k).source (pair_in store places i).source)
+  unfolding is_duplicate_among
+  duplicate_among counts counts' same =
+      some_same (λ (k : ℕ). counts k && equal (pair_at (pairs_in store places n) k).source (pair_at (pairs_in store places n) i).source)
+      (λ (k : ℕ). counts' k && equal (pair_in store places k).source (pair_in store places i).source) i
+      (λ k l. rw (pairs_in_at store places n k (omega arith), pairs_in_at store places n i h, same k l))
 
-  pub duplicate-in : isDuplicate (pairsIn store places n) i ≡ anyBelow i (λ (k : ℕ). claimsSource (pairIn store places k) (pairIn store places i).source)
-  unfolding isDuplicate claimsSource
-  duplicate-in =
-      duplicate-among (λ (k : ℕ). not (isStructural (pair_at (pairsIn store places n) k))) (λ (k : ℕ). not (isStructural (pairIn store places k)))
-      (λ k l. ap (λ (x : Pair). not (isStructural x)) (pairsIn-at store places n k (omega arith)))
+  pub duplicate_in : is_duplicate (pairs_in store places n) i ≡ any_below i (λ (k : ℕ). claims_source (pair_in store places k) (pair_in store places i).source)
+  unfolding is_duplicate claims_source
+  duplicate_in =
+      duplicate_among (λ (k : ℕ). not (is_structural (pair_at (pairs_in store places n) k))) (λ (k : ℕ). not (is_structural (pair_in store places k)))
+      (λ k l. ap (λ (x : Pair). not (is_structural x)) (pairs_in_at store places n k (omega arith)))
 
 -- No pair before k reserves the source of pair i.
 abbrev pub NoneBefore : Text → List ℕ → ℕ → Text → ℕ → Type 0
-NoneBefore store places i s k = anyBelow k (λ (j : ℕ). claimsSource (pairIn store places j) s) ≡ false
+NoneBefore store places i s k = any_below k (λ (j : ℕ). claims_source (pair_in store places j) s) ≡ false
 
 module _ (store : Text) (places : List ℕ) (i : ℕ) (s : Text) where
-  pub none-begin : NoneBefore store places i s 0
-  none-begin = some-none (λ (j : ℕ). claimsSource (pairIn store places j) s)
+  pub none_begin : NoneBefore store places i s 0
+  none_begin = some_none (λ (j : ℕ). claims_source (pair_in store places j) s)
 
-  pub none-on : (k : ℕ) → NoneBefore store places i s k → (b : Bool) → b ≡ claimsSource (pairIn store places k) s → b ≡ false → NoneBefore store places i s (k + 1)
-  none-on k h b e l = some-on (λ (j : ℕ). claimsSource (pairIn store places j) s) k h (told e l)
+  pub none_on : (k : ℕ) → NoneBefore store places i s k → (b : Bool) → b ≡ claims_source (pair_in store places k) s → b ≡ false → NoneBefore store places i s (k + 1)
+  none_on k h b e l = some_on (λ (j : ℕ). claims_source (pair_in store places j) s) k h (told e l)
 
   module _ (g : s ≡ key_at store places false i) where
-    here : isDuplicate (pairsIn store places (i + 1)) i ≡ anyBelow i (λ (k : ℕ). claimsSource (pairIn store places k) s)
+    here : is_duplicate (pairs_in store places (i + 1)) i ≡ any_below i (λ (k : ℕ). claims_source (pair_in store places k) s)
     here =
-        duplicate-in store places (i + 1) i (omega arith)
-        ∙ ap (λ (u : Text). anyBelow i (λ (k : ℕ). claimsSource (pairIn store places k) u)) (sym (ap (λ (x : Pair). x.source) (pair_is store places i s (key_at store places true i) g refl)))
+        duplicate_in store places (i + 1) i (omega arith)
+        ∙ ap (λ (u : Text). any_below i (λ (k : ℕ). claims_source (pair_in store places k) u)) (sym (ap (λ (x : Pair). x.source) (pair_is store places i s (key_at store places true i) g refl)))
 
-    pub none-hit : (k : ℕ) → k < i → (b : Bool) → b ≡ claimsSource (pairIn store places k) s → b ≡ true → true ≡ isDuplicate (pairsIn store places (i + 1)) i
-    none-hit k h b e l = sym (here ∙ some-hit (λ (j : ℕ). claimsSource (pairIn store places j) s) i k h (told e l))
+    pub none-hit : (k : ℕ) → k < i → (b : Bool) → b ≡ claims_source (pair_in store places k) s → b ≡ true → true ≡ is_duplicate (pairs_in store places (i + 1)) i
+    none-hit k h b e l = sym (here ∙ some_hit (λ (j : ℕ). claims_source (pair_in store places j) s) i k h (told e l))
 
-    pub none_end : (k : ℕ) → i ≤ k → k ≤ i → NoneBefore store places i s k → false ≡ isDuplicate (pairsIn store places (i + 1)) i
+    pub none_end : (k : ℕ) → i ≤ k → k ≤ i → NoneBefore store places i s k → false ≡ is_duplicate (pairs_in store places (i + 1)) i
     none_end k h l e = let z : k ≡ i = omega arith in sym (here ∙ rw z at e)
 
-pub ruleset duplicates = (none-begin, none-on, none-hit, none_end)
+pub ruleset duplicates = (none_begin, none_on, none-hit, none_end)
 
 -- `equal_non_empty`, `is_target_below`, `is_source_below`, `relocate_pair_conflicts`
 module _ (a b : Text) where
-  pub equal-empty : length b ≡ 0 → false ≡ equalNonEmpty a b
-  unfolding equalNonEmpty
-  equal-empty h = rw (nil-length b h)
+  pub equal_empty : length b ≡ 0 → false ≡ equal_non_empty a b
+  unfolding equal_non_empty
+  equal_empty h = rw (nil_length b h)
 
-  pub equal-equal : length b ≢ 0 → (r : Bool) → r ≡ equal a b → r ≡ equalNonEmpty a b
-  unfolding equalNonEmpty
-  equal-equal h r e = rw (nil_not b h) e
+  pub equal_equal : length b ≢ 0 → (r : Bool) → r ≡ equal a b → r ≡ equal_non_empty a b
+  unfolding equal_non_empty
+  equal_equal h r e = rw (nil_not b h) e
 
-  pub target-empty : length a ≡ 0 → false ≡ (not (isNil a) && hasPrefix a b)
-  target-empty h = rw (nil-length a h)
+  pub target_empty : length a ≡ 0 → false ≡ (not (is_nil a) && has_prefix a b)
+  target_empty h = rw (nil_length a h)
 
-  pub target-prefix : length a ≢ 0 → (r : Bool) → r ≡ hasPrefix a b → r ≡ (not (isNil a) && hasPrefix a b)
-  target-prefix h r e = rw (nil_not a h) e
+  pub target_prefix : length a ≢ 0 → (r : Bool) → r ≡ has_prefix a b → r ≡ (not (is_nil a) && has_prefix a b)
+  target_prefix h r e = rw (nil_not a h) e
 
-  pub source-equal : (x : Bool) → x ≡ equal a b → x ≡ true → false ≡ (not (equal a b) && hasPrefix a b)
-  source-equal x h l = rw (told h l)
+  pub source_equal : (x : Bool) → x ≡ equal a b → x ≡ true → false ≡ (not (equal a b) && has_prefix a b)
+  source_equal x h l = rw (told h l)
 
-  pub source-prefix : (x : Bool) → x ≡ equal a b → x ≡ false → (r : Bool) → r ≡ hasPrefix a b → r ≡ (not (equal a b) && hasPrefix a b)
-  source-prefix x h l r e = rw (told h l) e
+  pub source_prefix : (x : Bool) → x ≡ equal a b → x ≡ false → (r : Bool) → r ≡ has_prefix a b → r ≡ (not (equal a b) && has_prefix a b)
+  source_prefix x h l r e = rw (told h l) e
 
-module _ (sa ta sb tb : Text) (x : Bool) (hx : x ≡ (not (isNil ta) && hasPrefix ta sb)) where
-  pub conflict-target : x ≡ true → true ≡ pairConflicts (pair sa ta) (pair sb tb)
-  unfolding pairConflicts
-  conflict-target l = rw (told hx l)
+module _ (sa ta sb tb : Text) (x : Bool) (hx : x ≡ (not (is_nil ta) && has_prefix ta sb)) where
+  pub conflict_target : x ≡ true → true ≡ pair_conflicts (pair sa ta) (pair sb tb)
+  unfolding pair_conflicts
+  conflict_target l = rw (told hx l)
 
-  module _ (lx : x ≡ false) (y : Bool) (hy : y ≡ equalNonEmpty sa tb) where
-    pub conflict-equal : y ≡ true → true ≡ pairConflicts (pair sa ta) (pair sb tb)
-    unfolding pairConflicts
+  module _ (lx : x ≡ false) (y : Bool) (hy : y ≡ equal_non_empty sa tb) where
+    pub conflict-equal : y ≡ true → true ≡ pair_conflicts (pair sa ta) (pair sb tb)
+    unfolding pair_conflicts
     conflict-equal l = rw (told hx lx, told hy l)
 
-    pub conflict-source : y ≡ false → (z : Bool) → z ≡ (not (equal sa sb) && hasPrefix sa sb) → z ≡ pairConflicts (pair sa ta) (pair sb tb)
-    unfolding pairConflicts
+    pub conflict-source : y ≡ false → (z : Bool) → z ≡ (not (equal sa sb) && has_prefix sa sb) → z ≡ pair_conflicts (pair sa ta) (pair sb tb)
+    unfolding pair_conflicts
     conflict-source l z hz = rw (told hx lx, told hy l) hz
 
-pub ruleset reasons = (equal-empty, equal-equal, target-empty, target-prefix, source-equal, source-prefix, conflict-target, conflict-equal, conflict-source)
+pub ruleset reasons = (equal_empty, equal_equal, target_empty, target_prefix, source_equal, source_prefix, conflict_target, conflict-equal, conflict-source)
 
 -- `conflicts_with`
 module _ (store : Text) (places : List ℕ) (i j first : ℕ) where
-  pub with_itself : i ≡ j → false ≡ (not (eqb i j) && eqb first 0 && conflictsWith (pairIn store places i) (pairIn store places j))
+  pub with_itself : i ≡ j → false ≡ (not (eqb i j) && eqb first 0 && conflicts_with (pair_in store places i) (pair_in store places j))
   with_itself h = rw (eq-eqb i j h)
 
-  pub with-dropped : i ≢ j → first ≢ 0 → false ≡ (not (eqb i j) && eqb first 0 && conflictsWith (pairIn store places i) (pairIn store places j))
-  with-dropped h k = rw (ne_eqb i j h, ne_eqb first 0 k)
+  pub with_dropped : i ≢ j → first ≢ 0 → false ≡ (not (eqb i j) && eqb first 0 && conflicts_with (pair_in store places i) (pair_in store places j))
+  with_dropped h k = rw (ne_eqb i j h, ne_eqb first 0 k)
 
   module _ (h : i ≢ j) (k : first ≡ 0) (sa ta sb tb : Text)
       (hsa : sa ≡ key_at store places false i) (hta : ta ≡ key_at store places true i)
-      (hsb : sb ≡ key_at store places false j) (htb : tb ≡ key_at store places true j) (x : Bool) (hx : x ≡ equalNonEmpty ta tb) where
-    pub with-target : x ≡ true → true ≡ (not (eqb i j) && eqb first 0 && conflictsWith (pairIn store places i) (pairIn store places j))
-    unfolding conflictsWith
-    with-target l =
+      (hsb : sb ≡ key_at store places false j) (htb : tb ≡ key_at store places true j) (x : Bool) (hx : x ≡ equal_non_empty ta tb) where
+    pub with_target_lem : x ≡ true → true ≡ (not (eqb i j) && eqb first 0 && conflicts_with (pair_in store places i) (pair_in store places j))
+    unfolding conflicts_with
+    with_target_lem l =
         rw (ne_eqb i j h, eq-eqb first 0 k, ← (pair_is store places i sa ta hsa hta), ← (pair_is store places j sb tb hsb htb), told hx l)
 
-    pub with-reason : x ≡ false → (y : Bool) → y ≡ pairConflicts (pair sa ta) (pair sb tb)
-        → y ≡ (not (eqb i j) && eqb first 0 && conflictsWith (pairIn store places i) (pairIn store places j))
-    unfolding conflictsWith
+    pub with-reason : x ≡ false → (y : Bool) → y ≡ pair_conflicts (pair sa ta) (pair sb tb)
+        → y ≡ (not (eqb i j) && eqb first 0 && conflicts_with (pair_in store places i) (pair_in store places j))
+    unfolding conflicts_with
     with-reason l y hy =
         rw (ne_eqb i j h, eq-eqb first 0 k, ← (pair_is store places i sa ta hsa hta), ← (pair_is store places j sb tb hsb htb), told hx l) hy
 
-pub ruleset conflicting = (with_itself, with-dropped, with-target, with-reason)
+pub ruleset conflicting = (with_itself, with_dropped, with_target_lem, with-reason)

@@ -4,17 +4,17 @@ use Rattle.text.specs.Text.{Text}
 use Rattle.refusal.specs.declared.Refusal.TheVariants.{NoRoom}
 use Rattle.refusal.specs.declared.Reply.{Reply}
 use Rattle.refusal.specs.declared.Reply.TheVariants.{Written, Refused as RefusedReply}
-use Rattle.refusal.specs.Refusal.{refusedOr}
-use Rattle.refusal.specs.Outcome.{writtenIfAccepted}
-use Rattle.validate.specs.Validate.{LentList, pairsOf, validateCall}
-use Rattle.relocates.specs.Status.{statusList}
+use Rattle.refusal.specs.Refusal.{refused_or}
+use Rattle.refusal.specs.Outcome.{written_if_accepted}
+use Rattle.validate.specs.Validate.{LentList, pairs_of, validate_call}
+use Rattle.relocates.specs.Status.{status_list}
 
 -- The reply of the call. Requirements: "`analyze_relocate_occurrences` gives a status byte" for each pair. Question 5: the lent buffer
 -- holds "a byte per status".
-unfoldable pub analyzeReply : LentList → ℕ → Reply
-unfolding validateCall
-analyzeReply l room = refusedOr (validateCall (l ∷ []) [] []) RefusedReply (cond (leb l.count room) (Written l.count) (RefusedReply NoRoom))
+unfoldable pub analyze_reply : LentList → ℕ → Reply
+unfolding validate_call
+analyze_reply l room = refused_or (validate_call (l ∷ []) [] []) RefusedReply (cond (leb l.count room) (Written l.count) (RefusedReply NoRoom))
 
 -- The lent buffer after the call: the status bytes over its beginning, or, if the call was refused, unchanged.
-abbrev pub analyzeBuffer : Reply → LentList → Text → Text
-analyzeBuffer r l out = writtenIfAccepted r (statusList (pairsOf l) l.count) out
+abbrev pub analyze_buffer : Reply → LentList → Text → Text
+analyze_buffer r l out = written_if_accepted r (status_list (pairs_of l) l.count) out

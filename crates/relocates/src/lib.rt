@@ -4,8 +4,8 @@
 pub mod status;
 
 ghost use Rattle.std.specs.Prelude.{◌≡◌, length};
-ghost use Rattle.validate.specs.Validate.{lentList};
-ghost use Rattle.relocates.specs.Calls.{analyzeReply, analyzeBuffer};
+ghost use Rattle.validate.specs.Validate.{lent_list};
+ghost use Rattle.relocates.specs.Calls.{analyze_reply, analyze_buffer};
 
 // Whether a pair of a relocate list takes part, or why it is dropped; specs/Status.antt defines the status
 // byte of each case.
@@ -24,9 +24,9 @@ pub fn analyze_relocate_occurrences(
     count: usize,
     out: &mut [u8],
 ) -> refusal::Reply
-    ensures value { result ≡ analyzeReply (lentList store.now places.now count)
+    ensures value { result ≡ analyze_reply (lent_list store.now places.now count)
         (length out.old) }
-    ensures out_after { out.new ≡ analyzeBuffer result (lentList store.now places.now count)
+    ensures out_after { out.new ≡ analyze_buffer result (lent_list store.now places.now count)
         out.old }
 {
     let q = validate::validate_list_and_path(store, places, count, b"");

@@ -1,21 +1,21 @@
 // The analysis of a relocate list. Every public function is defined for all byte slices and all indices.
 ghost use Rattle.std.specs.Prelude.{◌≡◌, not, cond, ◌&&◌, ◌+◌, ◌≤◌, ◌<◌, eqb, length};
-ghost use Rattle.text.specs.Text.{isNil, equal, written};
-ghost use Rattle.path_prefix.specs.Prefix.{hasPrefix};
-ghost use Rattle.pair_list.specs.Places.{pairIn, pairsIn};
-ghost use Rattle.pair_list_write.specs.Lists.{copyEntry};
-ghost use Rattle.pair_list_write.specs.Select.{writtenEntries};
+ghost use Rattle.text.specs.Text.{is_nil, equal, written};
+ghost use Rattle.path_prefix.specs.Prefix.{has_prefix};
+ghost use Rattle.pair_list.specs.Places.{pair_in, pairs_in};
+ghost use Rattle.pair_list_write.specs.Lists.{copy_entry};
+ghost use Rattle.pair_list_write.specs.Select.{written_entries};
 ghost use Rattle.pair_list.specs.Pair.{pair};
-ghost use Rattle.validate.specs.Validate.{lentList};
+ghost use Rattle.validate.specs.Validate.{lent_list};
 ghost use Rattle.relocates.specs.declared.RelocateOccurrence.TheVariants.{Active};
-ghost use Rattle.relocates.specs.Status.{isStructural, claimsSource, isDuplicate, equalNonEmpty, pairConflicts, conflictsWith, occurrenceOr, statusByte, statusList};
-ghost use Rattle.relocates.specs.Initial.{initialStatuses, HoldsInitialStatuses};
-ghost use Rattle.relocates.specs.Select.{activeSelection};
+ghost use Rattle.relocates.specs.Status.{is_structural, claims_source, is_duplicate, equal_non_empty, pair_conflicts, conflicts_with, occurrence_or, status_byte, status_list};
+ghost use Rattle.relocates.specs.Initial.{initial_statuses, HoldsInitialStatuses};
+ghost use Rattle.relocates.specs.Select.{active_selection};
 
 // Returns whether the pair is structurally invalid, and so dropped whatever the other pairs are. (Rust:
 // relocate_invalid_reason)
 pub fn is_structural(source: &[u8], target: &[u8]) -> bool
-    ensures { result ≡ isStructural (pair source.now target.now) }
+    ensures { result ≡ is_structural (pair source.now target.now) }
 {
     if target.len() == 0 {
         return false;
@@ -35,7 +35,7 @@ pub fn is_structural(source: &[u8], target: &[u8]) -> bool
 
 // Returns whether pair k has this source and is not structural.
 fn claims_source(store: &[u8], places: &[usize], k: usize, source: &[u8]) -> bool
-    ensures { result ≡ claimsSource (pairIn store.now places.now k) source.now }
+    ensures { result ≡ claims_source (pair_in store.now places.now k) source.now }
 {
     let s = pair_list::key_at(store, places, k, false);
     if !text::is_equal(s, source) {
@@ -47,7 +47,7 @@ fn claims_source(store: &[u8], places: &[usize], k: usize, source: &[u8]) -> boo
 
 // Returns whether an earlier non-structural pair has the source of pair i. (Rust: duplicate_source_mask)
 pub fn is_duplicate(store: &[u8], places: &[usize], i: usize) -> bool
-    ensures { result ≡ isDuplicate (pairsIn store.now places.now (i + 1)) i }
+    ensures { result ≡ is_duplicate (pairs_in store.now places.now (i + 1)) i }
 {
     let source = pair_list::key_at(store, places, i, false);
     let mut k = 0;
@@ -62,7 +62,7 @@ pub fn is_duplicate(store: &[u8], places: &[usize], i: usize) -> bool
 
 // Returns whether the texts are equal and not empty.
 fn equal_non_empty(a: &[u8], b: &[u8]) -> bool
-    ensures { result ≡ equalNonEmpty a.now b.now }
+    ensures { result ≡ equal_non_empty a.now b.now }
 {
     if b.len() == 0 {
         return false;
@@ -72,7 +72,7 @@ fn equal_non_empty(a: &[u8], b: &[u8]) -> bool
 
 // Returns whether the target is not empty and is the other source or lies below it.
 fn is_target_below(target: &[u8], other: &[u8]) -> bool
-    ensures { result ≡ (not (isNil target.now) && hasPrefix target.now other.now) }
+    ensures { result ≡ (not (is_nil target.now) && has_prefix target.now other.now) }
 {
     if target.len() == 0 {
         return false;
@@ -82,7 +82,7 @@ fn is_target_below(target: &[u8], other: &[u8]) -> bool
 
 // Returns whether the source lies strictly below the other source.
 fn is_source_below(source: &[u8], other: &[u8]) -> bool
-    ensures { result ≡ (not (equal source.now other.now) && hasPrefix source.now
+    ensures { result ≡ (not (equal source.now other.now) && has_prefix source.now
         other.now) }
 {
     if text::is_equal(source, other) {
@@ -93,7 +93,7 @@ fn is_source_below(source: &[u8], other: &[u8]) -> bool
 
 // Returns whether the pair (sa, ta) conflicts with the pair (sb, tb).
 pub fn relocate_pair_conflicts(sa: &[u8], ta: &[u8], sb: &[u8], tb: &[u8]) -> bool
-    ensures { result ≡ pairConflicts (pair sa.now ta.now)
+    ensures { result ≡ pair_conflicts (pair sa.now ta.now)
         (pair sb.now tb.now) }
 {
     if is_target_below(ta, sb) {
@@ -108,8 +108,8 @@ pub fn relocate_pair_conflicts(sa: &[u8], ta: &[u8], sb: &[u8], tb: &[u8]) -> bo
 // Returns whether pair i conflicts with another pair j, or has the same non-empty target. `first` is the
 // status of pair j before the search for conflicts: 0 if j is neither structural nor a duplicate.
 fn conflicts_with(store: &[u8], places: &[usize], i: usize, j: usize, first: u8) -> bool
-    ensures { result ≡ (not (eqb i j) && eqb first 0 && conflictsWith
-        (pairIn store.now places.now i) (pairIn store.now places.now j)) }
+    ensures { result ≡ (not (eqb i j) && eqb first 0 && conflicts_with
+        (pair_in store.now places.now i) (pair_in store.now places.now j)) }
 {
     if i == j {
         return false;
@@ -129,7 +129,7 @@ fn conflicts_with(store: &[u8], places: &[usize], i: usize, j: usize, first: u8)
 
 // The status of pair i before the search for conflicts.
 fn initial_occurrence(store: &[u8], places: &[usize], i: usize) -> crate::RelocateOccurrence
-    ensures { result ≡ occurrenceOr Active (pairsIn store.now places.now (i + 1)) i }
+    ensures { result ≡ occurrence_or Active (pairs_in store.now places.now (i + 1)) i }
 {
     let s = pair_list::key_at(store, places, i, false);
     let t = pair_list::key_at(store, places, i, true);
@@ -144,7 +144,7 @@ fn initial_occurrence(store: &[u8], places: &[usize], i: usize) -> crate::Reloca
 
 // The status byte of an occurrence: 0 Active, 1 structural, 2 duplicate source, 3 conflict.
 pub fn status_byte(o: crate::RelocateOccurrence) -> u8
-    ensures { result ≡ statusByte o }
+    ensures { result ≡ status_byte o }
 {
     match o {
         crate::RelocateOccurrence::Active => 0,
@@ -158,7 +158,7 @@ pub fn status_byte(o: crate::RelocateOccurrence) -> u8
 fn write_initial(store: &[u8], places: &[usize], n: usize, out: &mut [u8])
     requires { n ≤ length out.old }
     ensures { out.new ≡ written
-        (initialStatuses (pairsIn store.now places.now n) n) out.old }
+        (initial_statuses (pairs_in store.now places.now n) n) out.old }
 {
     let mut i = 0;
     while i < n {
@@ -171,8 +171,8 @@ fn write_initial(store: &[u8], places: &[usize], n: usize, out: &mut [u8])
 // conflict found.
 fn write_conflicts(store: &[u8], places: &[usize], n: usize, first: &[u8; 64], out: &mut [u8])
     requires n_bound { (n ≤ 64) × (n ≤ length out.old) }
-    requires holds_initial_statuses { HoldsInitialStatuses (pairsIn store.now places.now n) first.now }
-    ensures { out.new ≡ written (statusList (pairsIn store.now places.now n) n)
+    requires holds_initial_statuses { HoldsInitialStatuses (pairs_in store.now places.now n) first.now }
+    ensures { out.new ≡ written (status_list (pairs_in store.now places.now n) n)
         out.old }
 {
     let mut i = 0;
@@ -200,7 +200,7 @@ fn write_conflicts(store: &[u8], places: &[usize], n: usize, first: &[u8; 64], o
 // Writes the status bytes of the first n pairs. Requires n ≤ 64.
 pub(crate) fn write_statuses(store: &[u8], places: &[usize], n: usize, out: &mut [u8])
     requires { (n ≤ 64) × (n ≤ length out.old) }
-    ensures { out.new ≡ written (statusList (pairsIn store.now places.now n) n)
+    ensures { out.new ≡ written (status_list (pairs_in store.now places.now n) n)
         out.old }
 {
     let mut first = [0u8; 64];
@@ -213,7 +213,7 @@ pub(crate) fn write_statuses(store: &[u8], places: &[usize], n: usize, out: &mut
 fn keep_active(places: &[usize], i: usize, status: u8, kept: &mut [usize], w: usize) -> usize
     requires { w < length kept.old }
     ensures value { result ≡ cond (eqb status 0) (w + 1) w }
-    ensures kept_after { kept.new ≡ cond (eqb status 0) (copyEntry places.now i w kept.old)
+    ensures kept_after { kept.new ≡ cond (eqb status 0) (copy_entry places.now i w kept.old)
         kept.old }
 {
     if status != 0 {
@@ -226,10 +226,10 @@ fn keep_active(places: &[usize], i: usize, status: u8, kept: &mut [usize], w: us
 // Writes the places of the Active pairs among the first n and returns their number; 0, with nothing written,
 // if question 4 refuses the list or `kept` cannot hold 64 pairs.
 pub fn active_pairs(store: &[u8], places: &[usize], n: usize, kept: &mut [usize]) -> usize
-    ensures value { result ≡ length (activeSelection (lentList store.now places.now n)
+    ensures value { result ≡ length (active_selection (lent_list store.now places.now n)
         (length kept.old)) }
-    ensures kept_after { kept.new ≡ writtenEntries places.now
-        (activeSelection (lentList store.now places.now n) (length kept.old))
+    ensures kept_after { kept.new ≡ written_entries places.now
+        (active_selection (lent_list store.now places.now n) (length kept.old))
         kept.old }
 {
     if !validate::can_select(places, n, kept.len()) {

@@ -7,39 +7,39 @@ use Rattle.refusal.specs.declared.Validation.{Validation}
 use Rattle.refusal.specs.declared.Validation.TheVariants.{Passed, Refused as RefusedValidation}
 use Rattle.refusal.specs.declared.Reply.{Reply}
 use Rattle.refusal.specs.declared.Reply.TheVariants.{Written, Refused}
-use Rattle.refusal.specs.Outcome.{Outcome, path, refused, afterChecks}
-use Rattle.path.specs.Calls.{pathNewCall}
+use Rattle.refusal.specs.Outcome.{Outcome, path, refused, after_checks}
+use Rattle.path.specs.Calls.{path_new_call}
 use Rattle.map_spec.specs.Map.{Map}
-use Rattle.map_apply.specs.Fast.{mapFast, translateFast}
-use Rattle.validate.specs.Validate.{firstRefusal}
-use Rattle.route_spec.specs.Route.{foldLegs}
-use Rattle.route_legs.specs.LentRoute.{LentRoute, mapAt}
-use Rattle.route_maps.specs.Prepared.{hasRelocates}
+use Rattle.map_apply.specs.Fast.{map_fast, translate_fast}
+use Rattle.validate.specs.Validate.{first_refusal}
+use Rattle.route_spec.specs.Route.{fold_legs}
+use Rattle.route_legs.specs.LentRoute.{LentRoute, map_at}
+use Rattle.route_maps.specs.Prepared.{has_relocates}
 
 -- One leg; in the direction out for a path without selections.
-unfoldable pub legFast : Bool → Map → Text → Outcome
-unfolding mapFast translateFast
-legFast false m p = translateFast m p
-legFast true m p = mapFast true m p
+unfoldable pub leg_fast : Bool → Map → Text → Outcome
+unfolding map_fast translate_fast
+leg_fast false m p = translate_fast m p
+leg_fast true m p = map_fast true m p
 
 -- The maps of the first n legs.
-unfoldable pub mapsIn : LentRoute → ℕ → List Map
-unfolding mapAt
-mapsIn s zero = []
-mapsIn s (suc n) = mapsIn s n ++ mapAt s n ∷ []
+unfoldable pub maps_in : LentRoute → ℕ → List Map
+unfolding map_at
+maps_in s zero = []
+maps_in s (suc n) = maps_in s n ++ map_at s n ∷ []
 
 -- The route over the first n legs in one direction.
-unfoldable pub runRouteFast : Bool → LentRoute → ℕ → Text → Outcome
-unfolding foldLegs legFast mapsIn
-runRouteFast false s n p = foldLegs (legFast false) (mapsIn s n) p
-runRouteFast true s n p = foldLegs (legFast true) (reverse (mapsIn s n)) p
+unfoldable pub run_route_fast : Bool → LentRoute → ℕ → Text → Outcome
+unfolding fold_legs leg_fast maps_in
+run_route_fast false s n p = fold_legs (leg_fast false) (maps_in s n) p
+run_route_fast true s n p = fold_legs (leg_fast true) (reverse (maps_in s n)) p
 
 -- The path as the first leg receives it: on the way out, if there is a leg, without its selections.
-unfoldable pub enteringPath : Bool → ℕ → Text → Text
+unfoldable pub entering_path : Bool → ℕ → Text → Text
 unfolding strip
-enteringPath false zero p = p
-enteringPath false (suc n) p = strip p
-enteringPath true n p = p
+entering_path false zero p = p
+entering_path false (suc n) p = strip p
+entering_path true n p = p
 
 -- The first k bytes of the buffer are the text t of at most 255 bytes.
 unfoldable pub HoldsPath : Text → ℕ → Text → Type 0
@@ -51,12 +51,12 @@ HoldsOutcome (path q) r mem = (r ≡ Written (length q)) × (take (length q) mem
 HoldsOutcome (refused x) r mem = r ≡ Refused x
 
 -- Whether the legs' maps must be prepared: the route passed validation and has a relocate list.
-unfoldable pub needsMaps : Validation → List ℕ → ℕ → Bool
-unfolding hasRelocates
-needsMaps Passed legs n = hasRelocates legs n
-needsMaps (RefusedValidation x) legs n = false
+unfoldable pub needs_maps : Validation → List ℕ → ℕ → Bool
+unfolding has_relocates
+needs_maps Passed legs n = has_relocates legs n
+needs_maps (RefusedValidation x) legs n = false
 
 -- The outcome for a path over a route that was validated before, with the result `list`: only the path remains to be validated.
-unfoldable pub afterRouteValidated : Validation → Bool → LentRoute → Text → ℕ → Outcome
-unfolding firstRefusal pathNewCall afterChecks runRouteFast enteringPath
-afterRouteValidated list home s p room = afterChecks (firstRefusal list (pathNewCall p)) room (runRouteFast home s s.count (enteringPath home s.count p))
+unfoldable pub after_route_validated : Validation → Bool → LentRoute → Text → ℕ → Outcome
+unfolding first_refusal path_new_call after_checks run_route_fast entering_path
+after_route_validated list home s p room = after_checks (first_refusal list (path_new_call p)) room (run_route_fast home s s.count (entering_path home s.count p))

@@ -5,35 +5,35 @@ use Rattle.refusal.specs.declared.Reply.TheVariants.{Written}
 use Rattle.refusal.specs.Outcome.{Outcome}
 use Rattle.path_rest.specs.declared.Rest.{Rest}
 use Rattle.path_rest.specs.declared.Rest.TheVariants.{From, Nothing}
-use Rattle.path_rest.specs.Rest.{restText}
+use Rattle.path_rest.specs.Rest.{rest_text}
 use Rattle.map_spec.specs.Map.{Map}
-use Rattle.map_apply.specs.Fast.{plainRest}
-use Rattle.route_spec.specs.Rest.{isStripped, unalteredLength}
+use Rattle.map_apply.specs.Fast.{plain_rest}
+use Rattle.route_spec.specs.Rest.{is_stripped, unaltered_length}
 use Rattle.route_legs.specs.LentRoute.{LentRoute}
 use Rattle.route.specs.declared.Run.{Run}
-use Rattle.route.specs.Fast.{legFast, mapsIn, HoldsOutcome}
+use Rattle.route.specs.Fast.{leg_fast, maps_in, HoldsOutcome}
 
 -- The length of the rest that a leg with the map m leaves of the path p.
-unfoldable pub restLength : Bool → Map → Text → ℕ
-unfolding plainRest restText
-restLength home m p = length (restText p (plainRest home m p))
+unfoldable pub rest_length : Bool → Map → Text → ℕ
+unfolding plain_rest rest_text
+rest_length home m p = length (rest_text p (plain_rest home m p))
 
 -- The number of unaltered bytes after the first n legs in one direction, of `start` bytes before them.
-unfoldable pub unalteredFast : Bool → LentRoute → ℕ → ℕ → Text → ℕ
-unfolding unalteredLength legFast plainRest mapsIn
-unalteredFast false s n start p = unalteredLength (legFast false) (plainRest false) (mapsIn s n) start p
-unalteredFast true s n start p = unalteredLength (legFast true) (plainRest true) (reverse (mapsIn s n)) start p
+unfoldable pub unaltered_fast : Bool → LentRoute → ℕ → ℕ → Text → ℕ
+unfolding unaltered_length leg_fast plain_rest maps_in
+unaltered_fast false s n start p = unaltered_length (leg_fast false) (plain_rest false) (maps_in s n) start p
+unaltered_fast true s n start p = unaltered_length (leg_fast true) (plain_rest true) (reverse (maps_in s n)) start p
 
 -- The rest of a path of n bytes of which k bytes at the end are unaltered; none if selections were stripped.
-unfoldable pub restFast : Bool → ℕ → ℕ → Rest
-restFast stripped n k = cond stripped Nothing (From (n - k))
+unfoldable pub rest_fast : Bool → ℕ → ℕ → Rest
+rest_fast stripped n k = cond stripped Nothing (From (n - k))
 
 -- The rest of the path p over the first n legs.
-unfoldable pub routeRestFast : Bool → LentRoute → ℕ → Text → Rest
-unfolding restFast isStripped unalteredFast
-routeRestFast home s n p = restFast (isStripped home n p) (length p) (unalteredFast home s n (length p) p)
+unfoldable pub route_rest_fast : Bool → LentRoute → ℕ → Text → Rest
+unfolding rest_fast is_stripped unaltered_fast
+route_rest_fast home s n p = rest_fast (is_stripped home n p) (length p) (unaltered_fast home s n (length p) p)
 
 -- The buffer holds the outcome of some legs, and if that is a path, the run states that n bytes are unaltered.
 pub record HoldsRun (o : Outcome) (n : ℕ) (r : Run) (mem : Text) : Type 0 where
   pub outcome : HoldsOutcome o r.reply mem
-  pub unalteredIs : (m : ℕ) → r.reply ≡ Written m → r.unaltered ≡ n
+  pub unaltered_is : (m : ℕ) → r.reply ≡ Written m → r.unaltered ≡ n

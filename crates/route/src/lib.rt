@@ -5,12 +5,12 @@ ghost use Rattle.std.specs.Prelude.{◌≡◌, true, false, cond, ◌≤◌, min
 ghost use Rattle.path_parts.specs.Strip.{strip};
 ghost use Rattle.refusal.specs.Outcome.{ReturnsPath};
 ghost use Rattle.path_rest.specs.Carried.{ReturnsCarried};
-ghost use Rattle.map_apply.specs.Fast.{plainRest};
-ghost use Rattle.route_spec.specs.Rest.{isStripped, routeRest};
-ghost use Rattle.route_legs.specs.LentRoute.{lentRoute, mapAt, legsIn};
-ghost use Rattle.route.specs.Calls.{routeCall};
-ghost use Rattle.route.specs.Fast.{legFast, runRouteFast, enteringPath, HoldsPath, needsMaps, afterRouteValidated};
-ghost use Rattle.route.specs.Unaltered.{restLength, unalteredFast, restFast, routeRestFast, HoldsRun};
+ghost use Rattle.map_apply.specs.Fast.{plain_rest};
+ghost use Rattle.route_spec.specs.Rest.{is_stripped, route_rest};
+ghost use Rattle.route_legs.specs.LentRoute.{lent_route, map_at, legs_in};
+ghost use Rattle.route.specs.Calls.{route_call};
+ghost use Rattle.route.specs.Fast.{leg_fast, run_route_fast, entering_path, HoldsPath, needs_maps, after_route_validated};
+ghost use Rattle.route.specs.Unaltered.{rest_length, unaltered_fast, rest_fast, route_rest_fast, HoldsRun};
 
 // The reply of some legs, and how many bytes at the end of the path that reached them they carried over
 // unaltered.
@@ -30,8 +30,8 @@ fn map_leg(
     path: &[u8],
     made: &mut [u8; 255],
 ) -> path_rest::Carried
-    ensures { let m = mapAt (lentRoute store.now places.now legs.now k) k in
-        ReturnsCarried (legFast home m path.now) (plainRest home m path.now) result
+    ensures { let m = map_at (lent_route store.now places.now legs.now k) k in
+        ReturnsCarried (leg_fast home m path.now) (plain_rest home m path.now) result
         made.old made.new }
 {
     let list = route_legs::leg_places(places, legs, k);
@@ -54,9 +54,9 @@ fn run_legs(
     len: usize,
 ) -> Run
     requires { (len ≤ 255) × (length here.old ≡ 255) }
-    ensures { let m = mapAt (lentRoute store.now places.now legs.now k) k in
+    ensures { let m = map_at (lent_route store.now places.now legs.now k) k in
         let p = take len here.old in
-        HoldsRun (legFast home m p) (restLength home m p) result here.new }
+        HoldsRun (leg_fast home m p) (rest_length home m p) result here.new }
 {
     let mut made = [0u8; 255];
     let c = map_leg(store, places, legs, k, home, &here[..len], &mut made);
@@ -89,9 +89,9 @@ fn run_out(
     len: usize,
 ) -> Run
     requires { (len ≤ 255) × (length here.old ≡ 255) }
-    ensures { let s = lentRoute store.now places.now legs.now n in
+    ensures { let s = lent_route store.now places.now legs.now n in
         let p = take len here.old in
-        HoldsRun (runRouteFast false s n p) (unalteredFast false s n len p) result here.new }
+        HoldsRun (run_route_fast false s n p) (unaltered_fast false s n len p) result here.new }
 {
     let mut at = len;
     let mut unaltered = len;
@@ -122,9 +122,9 @@ fn run_home(
     len: usize,
 ) -> Run
     requires { (len ≤ 255) × (length here.old ≡ 255) }
-    ensures { let s = lentRoute store.now places.now legs.now n in
+    ensures { let s = lent_route store.now places.now legs.now n in
         let p = take len here.old in
-        HoldsRun (runRouteFast true s n p) (unalteredFast true s n len p) result here.new }
+        HoldsRun (run_route_fast true s n p) (unaltered_fast true s n len p) result here.new }
 {
     let mut at = len;
     let mut unaltered = len;
@@ -156,9 +156,9 @@ fn run_direction(
     len: usize,
 ) -> Run
     requires { (len ≤ 255) × (length here.old ≡ 255) }
-    ensures { let s = lentRoute store.now places.now legs.now n in
+    ensures { let s = lent_route store.now places.now legs.now n in
         let p = take len here.old in
-        HoldsRun (runRouteFast home s n p) (unalteredFast home s n len p) result here.new }
+        HoldsRun (run_route_fast home s n p) (unaltered_fast home s n len p) result here.new }
 {
     if home {
         return run_home(store, places, legs, n, here, len);
@@ -169,7 +169,7 @@ fn run_direction(
 // Returns whether the path enters the first leg without its selections: only the first leg of a way out strips
 // them.
 fn enters_stripped(home: bool, n: usize, path: &[u8]) -> bool
-    ensures { result ≡ isStripped home n path.now }
+    ensures { result ≡ is_stripped home n path.now }
 {
     if home {
         return false;
@@ -201,7 +201,7 @@ fn enter_route(stripped: bool, path: &[u8], here: &mut [u8]) -> usize
 // there is none if its selections were stripped.
 fn rest_at_end(stripped: bool, n: usize, unaltered: usize) -> path_rest::Rest
     requires { stripped ≡ false → unaltered ≤ n }
-    ensures { result ≡ restFast stripped n unaltered }
+    ensures { result ≡ rest_fast stripped n unaltered }
 {
     if stripped {
         return path_rest::Rest::Nothing;
@@ -220,9 +220,9 @@ fn run_path(
     out: &mut [u8],
 ) -> path_rest::Carried
     requires { (length path.now ≤ 255) × (255 ≤ length out.old) }
-    ensures { let s = lentRoute store.now places.now legs.now n in
+    ensures { let s = lent_route store.now places.now legs.now n in
         let p = path.now in
-        ReturnsCarried (runRouteFast home s n (enteringPath home n p)) (routeRestFast home s n p) result
+        ReturnsCarried (run_route_fast home s n (entering_path home n p)) (route_rest_fast home s n p) result
         out.old out.new }
 {
     let stripped = enters_stripped(home, n, path);
@@ -249,9 +249,9 @@ fn route_after_carried(
     path: &[u8],
     out: &mut [u8],
 ) -> path_rest::Carried
-    ensures { let s = lentRoute store.now places.now legs.now n in
-        ReturnsCarried (afterRouteValidated list home s path.now (length out.old))
-        (routeRestFast home s n path.now) result out.old out.new }
+    ensures { let s = lent_route store.now places.now legs.now n in
+        ReturnsCarried (after_route_validated list home s path.now (length out.old))
+        (route_rest_fast home s n path.now) result out.old out.new }
 {
     let q = validate::first_refusal(list, path::new(path));
     if let refusal::Validation::Refused(x) = q {
@@ -275,8 +275,8 @@ pub fn route_after(
     path: &[u8],
     out: &mut [u8],
 ) -> refusal::Reply
-    ensures { ReturnsPath (afterRouteValidated list home
-        (lentRoute store.now places.now legs.now n) path.now
+    ensures { ReturnsPath (after_route_validated list home
+        (lent_route store.now places.now legs.now n) path.now
         (length out.old)) result out.old out.new }
 {
     path_rest::reply_of(route_after_carried(list, store, places, legs, n, home, path, out))
@@ -285,7 +285,7 @@ pub fn route_after(
 // Returns whether the route passed validation and has a relocate list, so that the legs' maps must be
 // prepared first.
 pub fn needs_maps(list: refusal::Validation, legs: &[usize], n: usize) -> bool
-    ensures { result ≡ needsMaps list legs.now n }
+    ensures { result ≡ needs_maps list legs.now n }
 {
     if let refusal::Validation::Refused(x) = list {
         return false;
@@ -303,9 +303,9 @@ fn route_call(
     path: &[u8],
     out: &mut [u8],
 ) -> path_rest::Carried
-    ensures { let s = lentRoute store.now places.now legs.now n in
-        ReturnsCarried (routeCall home s path.now (length out.old))
-        (routeRest home (legsIn s n) path.now) result out.old out.new }
+    ensures { let s = lent_route store.now places.now legs.now n in
+        ReturnsCarried (route_call home s path.now (length out.old))
+        (route_rest home (legs_in s n) path.now) result out.old out.new }
 {
     let list = route_legs::validate_legs(store, places, legs, n);
     if !needs_maps(list, legs, n) {
@@ -326,8 +326,8 @@ pub fn route_out(
     path: &[u8],
     out: &mut [u8],
 ) -> refusal::Reply
-    ensures { ReturnsPath (routeCall false
-        (lentRoute store.now places.now legs.now n) path.now
+    ensures { ReturnsPath (route_call false
+        (lent_route store.now places.now legs.now n) path.now
         (length out.old)) result out.old out.new }
 {
     path_rest::reply_of(route_call(store, places, legs, n, false, path, out))
@@ -342,8 +342,8 @@ pub fn route_home(
     path: &[u8],
     out: &mut [u8],
 ) -> refusal::Reply
-    ensures { ReturnsPath (routeCall true
-        (lentRoute store.now places.now legs.now n) path.now
+    ensures { ReturnsPath (route_call true
+        (lent_route store.now places.now legs.now n) path.now
         (length out.old)) result out.old out.new }
 {
     path_rest::reply_of(route_call(store, places, legs, n, true, path, out))
@@ -358,9 +358,9 @@ pub fn route_out_carried(
     path: &[u8],
     out: &mut [u8],
 ) -> path_rest::Carried
-    ensures { let s = lentRoute store.now places.now legs.now n in
-        ReturnsCarried (routeCall false s path.now (length out.old))
-        (routeRest false (legsIn s n) path.now) result out.old out.new }
+    ensures { let s = lent_route store.now places.now legs.now n in
+        ReturnsCarried (route_call false s path.now (length out.old))
+        (route_rest false (legs_in s n) path.now) result out.old out.new }
 {
     route_call(store, places, legs, n, false, path, out)
 }
@@ -374,9 +374,9 @@ pub fn route_home_carried(
     path: &[u8],
     out: &mut [u8],
 ) -> path_rest::Carried
-    ensures { let s = lentRoute store.now places.now legs.now n in
-        ReturnsCarried (routeCall true s path.now (length out.old))
-        (routeRest true (legsIn s n) path.now) result out.old out.new }
+    ensures { let s = lent_route store.now places.now legs.now n in
+        ReturnsCarried (route_call true s path.now (length out.old))
+        (route_rest true (legs_in s n) path.now) result out.old out.new }
 {
     route_call(store, places, legs, n, true, path, out)
 }

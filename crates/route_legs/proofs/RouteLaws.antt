@@ -10,107 +10,107 @@ use lib.ListN.{length}
 use borrow.Author.Tests.{le-leb, leb-true}
 use Rattle.text.specs.Text.{Text}
 use Rattle.text.proofs.BoolLaws.{and_l, and_r}
-use Rattle.path_grammar.specs.Legal.{legal, atMost255, isEnd}
-use Rattle.pair_list.specs.Pair.{Pair, allEnds}
+use Rattle.path_grammar.specs.Legal.{legal, at_most255, is_end}
+use Rattle.pair_list.specs.Pair.{Pair, all_ends}
 use Rattle.refusal.specs.declared.Refusal.TheVariants.{TooMany}
 use Rattle.refusal.specs.declared.Validation.{Validation}
 use Rattle.refusal.specs.declared.Validation.TheVariants.{Passed, Refused}
-use Rattle.refusal.specs.Refusal.{refusedOr, allTextsShort, allTextsLegal, validateTexts}
-use Rattle.path.specs.Calls.{pathNewCall}
-use Rattle.validate.specs.Validate.{LentList, pairsOf, listShort, listAll, countWithinLimit, every, firstFailed, validateCall, firstRefusal, ValidList}
-use Rattle.validate.proofs.RefusalLaws.{never, none-earlier, each, list-more}
-use Rattle.validate.proofs.PassedLaws.{lists-pass, first-sound, text-short, text-legal}
-use Rattle.route_spec.specs.Leg.{legEnds}
-use Rattle.route_spec.specs.Route.{routeEnds}
-use Rattle.route_legs.specs.LentRoute.{LentRoute, kind_at, listAt, legOf, legAt, legsIn, listsIn, presentLegs, legCountWithinLimit, validateRoute}
-use Rattle.route_spec.proofs.RouteLaws.{legs-more}
+use Rattle.refusal.specs.Refusal.{refused_or, all_texts_short, all_texts_legal, validate_texts}
+use Rattle.path.specs.Calls.{path_new_call}
+use Rattle.validate.specs.Validate.{LentList, pairs_of, list_short, list_all, count_within_limit, every, first_failed, validate_call, first_refusal, ValidList}
+use Rattle.validate.proofs.RefusalLaws.{never, none_earlier, each, list_more}
+use Rattle.validate.proofs.PassedLaws.{lists_pass, first_sound, text_short, text_legal}
+use Rattle.route_spec.specs.Leg.{leg_ends}
+use Rattle.route_spec.specs.Route.{route_ends}
+use Rattle.route_legs.specs.LentRoute.{LentRoute, kind_at, list_at, leg_of, leg_at, legs_in, lists_in, present_legs, leg_count_within_limit, validate_route}
+use Rattle.route_spec.proofs.RouteLaws.{legs_more}
 
 -- The number of legs is checked last, like the number of pairs.
-counted-last : (a b c d t : Bool) → refusedOr (firstFailed a b c d) Refused (cond t Passed (Refused TooMany)) ≡ firstFailed a b c (t && d)
-unfolding firstFailed
-counted-last true true true true true = refl
-counted-last true true true true false = refl
-counted-last true true true false true = refl
-counted-last true true true false false = refl
-counted-last true true false d t = refl
-counted-last true false c d t = refl
-counted-last false b c d t = refl
+counted_last : (a b c d t : Bool) → refused_or (first_failed a b c d) Refused (cond t Passed (Refused TooMany)) ≡ first_failed a b c (t && d)
+unfolding first_failed
+counted_last true true true true true = refl
+counted_last true true true true false = refl
+counted_last true true true false true = refl
+counted_last true true true false false = refl
+counted_last true true false d t = refl
+counted_last true false c d t = refl
+counted_last false b c d t = refl
 
 -- The result of validating a route is the earlier refusal of its lists and of its number of legs.
-pub lists-then-count : (r : LentRoute) → firstRefusal (validateCall (listsIn r (presentLegs r)) [] []) (cond (legCountWithinLimit r) Passed (Refused TooMany)) ≡ validateRoute r []
-unfolding validateRoute validateCall every firstFailed
-lists-then-count r =
-    let ls : List LentList = listsIn r (presentLegs r) in
-    each true true true (legCountWithinLimit r) (every listShort ls) (every (listAll legal) ls) (every (listAll isEnd) ls) (every countWithinLimit ls)
-    ∙ sym (counted-last (every listShort ls) (every (listAll legal) ls) (every (listAll isEnd) ls) (every countWithinLimit ls) (legCountWithinLimit r))
+pub lists_then_count : (r : LentRoute) → first_refusal (validate_call (lists_in r (present_legs r)) [] []) (cond (leg_count_within_limit r) Passed (Refused TooMany)) ≡ validate_route r []
+unfolding validate_route validate_call every first_failed
+lists_then_count r =
+    let ls : List LentList = lists_in r (present_legs r) in
+    each true true true (leg_count_within_limit r) (every list_short ls) (every (list_all legal) ls) (every (list_all is_end) ls) (every count_within_limit ls)
+    ∙ sym (counted_last (every list_short ls) (every (list_all legal) ls) (every (list_all is_end) ls) (every count_within_limit ls) (leg_count_within_limit r))
 
 -- A path given beside the route may be validated separately.
-pub route-one-by-one : (r : LentRoute) (p : Text) → firstRefusal (validateRoute r []) (pathNewCall p) ≡ validateRoute r (p ∷ [])
-unfolding validateRoute validateCall pathNewCall validateTexts allTextsShort allTextsLegal every firstFailed
-route-one-by-one r p =
-    let ls : List LentList = listsIn r (presentLegs r) in
-    let f : Bool = every listShort ls in
-    let l : Bool = every (listAll legal) ls in
-    let e : Bool = every (listAll isEnd) ls in
-    let c : Bool = every countWithinLimit ls in
-    ap (λ (q : Validation). firstRefusal q (pathNewCall p)) (counted-last f l e c (legCountWithinLimit r))
-    ∙ each (atMost255 p && true) (legal p && true) true true f l e (legCountWithinLimit r && c)
-    ∙ sym (counted-last (atMost255 p && true && f) (legal p && true && l) e c (legCountWithinLimit r))
+pub route_one_by_one : (r : LentRoute) (p : Text) → first_refusal (validate_route r []) (path_new_call p) ≡ validate_route r (p ∷ [])
+unfolding validate_route validate_call path_new_call validate_texts all_texts_short all_texts_legal every first_failed
+route_one_by_one r p =
+    let ls : List LentList = lists_in r (present_legs r) in
+    let f : Bool = every list_short ls in
+    let l : Bool = every (list_all legal) ls in
+    let e : Bool = every (list_all is_end) ls in
+    let c : Bool = every count_within_limit ls in
+    ap (λ (q : Validation). first_refusal q (path_new_call p)) (counted_last f l e c (leg_count_within_limit r))
+    ∙ each (at_most255 p && true) (legal p && true) true true f l e (leg_count_within_limit r && c)
+    ∙ sym (counted_last (at_most255 p && true && f) (legal p && true && l) e c (leg_count_within_limit r))
 
 -- A route that passed.
-both-passed : (q : Validation) (t : Bool) → refusedOr q Refused (cond t Passed (Refused TooMany)) ≡ Passed → (q ≡ Passed) × (t ≡ true)
-both-passed Passed true h = (refl, refl)
-both-passed Passed false h = absurd (never TooMany h)
-both-passed (Refused x) t h = absurd (never x h)
+both_passed : (q : Validation) (t : Bool) → refused_or q Refused (cond t Passed (Refused TooMany)) ≡ Passed → (q ≡ Passed) × (t ≡ true)
+both_passed Passed true h = (refl, refl)
+both_passed Passed false h = absurd (never TooMany h)
+both_passed (Refused x) t h = absurd (never x h)
 
-lists-sound : (r : LentRoute) (n : ℕ) → validateCall (listsIn r n) [] [] ≡ Passed → (k : ℕ) → k < n → ValidList (listAt r k)
-unfolding listsIn
-lists-sound r zero h k l = absurd (omega arith)
-lists-sound r (suc n) h k l =
-    let p = none-earlier (validateCall (listsIn r n) [] []) (validateCall (listAt r n ∷ []) [] []) (sym (list-more (listsIn r n) (listAt r n)) ∙ h) in
-    elim (ℕ_discrete k n) [ yes e ↦ rw e (first-sound (listAt r n) [] [] [] p.1) | no d ↦ lists-sound r n p.0 k (omega arith) ]
+lists_sound : (r : LentRoute) (n : ℕ) → validate_call (lists_in r n) [] [] ≡ Passed → (k : ℕ) → k < n → ValidList (list_at r k)
+unfolding lists_in
+lists_sound r zero h k l = absurd (omega arith)
+lists_sound r (suc n) h k l =
+    let p = none_earlier (validate_call (lists_in r n) [] []) (validate_call (list_at r n ∷ []) [] []) (sym (list_more (lists_in r n) (list_at r n)) ∙ h) in
+    elim (ℕ_discrete k n) [ yes e ↦ rw e (first_sound (list_at r n) [] [] [] p.1) | no d ↦ lists_sound r n p.0 k (omega arith) ]
 
-module _ (r : LentRoute) (ts : List Text) (h : validateRoute r ts ≡ Passed) where
-  passed : (validateCall (listsIn r (presentLegs r)) ts [] ≡ Passed) × (legCountWithinLimit r ≡ true)
-  unfolding validateRoute
-  passed = both-passed (validateCall (listsIn r (presentLegs r)) ts []) (legCountWithinLimit r) h
+module _ (r : LentRoute) (ts : List Text) (h : validate_route r ts ≡ Passed) where
+  passed : (validate_call (lists_in r (present_legs r)) ts [] ≡ Passed) × (leg_count_within_limit r ≡ true)
+  unfolding validate_route
+  passed = both_passed (validate_call (lists_in r (present_legs r)) ts []) (leg_count_within_limit r) h
 
-  pub route-few : r.count ≤ 16
-  unfolding legCountWithinLimit
-  route-few = leb-true r.count 16 (and_l (leb r.count 16) (leb r.count (length r.legs / 3)) passed.1)
+  pub route_few : r.count ≤ 16
+  unfolding leg_count_within_limit
+  route_few = leb-true r.count 16 (and_l (leb r.count 16) (leb r.count (length r.legs / 3)) passed.1)
 
-  pub route-held : r.count ≤ length r.legs / 3
-  unfolding legCountWithinLimit
-  route-held = leb-true r.count (length r.legs / 3) (and_r (leb r.count 16) (leb r.count (length r.legs / 3)) passed.1)
+  pub route_held : r.count ≤ length r.legs / 3
+  unfolding leg_count_within_limit
+  route_held = leb-true r.count (length r.legs / 3) (and_r (leb r.count 16) (leb r.count (length r.legs / 3)) passed.1)
 
-  all-present : presentLegs r ≡ r.count
-  unfolding presentLegs
-  all-present = rw (le-leb r.count (length r.legs / 3) route-held)
+  all_present : present_legs r ≡ r.count
+  unfolding present_legs
+  all_present = rw (le-leb r.count (length r.legs / 3) route_held)
 
-  pub route-sound : (k : ℕ) → k < r.count → ValidList (listAt r k)
-  route-sound = lists-sound r r.count (rw all-present at (lists-pass (listsIn r (presentLegs r)) ts [] passed.0))
+  pub route_sound : (k : ℕ) → k < r.count → ValidList (list_at r k)
+  route_sound = lists_sound r r.count (rw all_present at (lists_pass (lists_in r (present_legs r)) ts [] passed.0))
 
 -- The ends of its legs are prim paths, `/` or empty.
-leg-ends : (kind : ℕ) (l : List Pair) → allEnds l ≡ true → legEnds (legOf kind l) ≡ true
-unfolding legOf legEnds
-leg-ends zero l h = h
-leg-ends (suc zero) l h = h
-leg-ends (suc (suc k)) l h = h
+leg_ends_lem : (kind : ℕ) (l : List Pair) → all_ends l ≡ true → leg_ends (leg_of kind l) ≡ true
+unfolding leg_of leg_ends
+leg_ends_lem zero l h = h
+leg_ends_lem (suc zero) l h = h
+leg_ends_lem (suc (suc k)) l h = h
 
-legs-end : (r : LentRoute) (n : ℕ) → ((k : ℕ) → k < n → ValidList (listAt r k)) → routeEnds (legsIn r n) ≡ true
-unfolding legsIn legAt routeEnds
-legs-end r zero s = refl
-legs-end r (suc n) s =
-    legs-more (legsIn r n) (legAt r n) (legs-end r n (λ k h. s k (omega arith)))
-    (leg-ends (kind_at r.legs n) (pairsOf (listAt r n)) (s n (omega arith)).ends)
+legs_end : (r : LentRoute) (n : ℕ) → ((k : ℕ) → k < n → ValidList (list_at r k)) → route_ends (legs_in r n) ≡ true
+unfolding legs_in leg_at route_ends
+legs_end r zero s = refl
+legs_end r (suc n) s =
+    legs_more (legs_in r n) (leg_at r n) (legs_end r n (λ k h. s k (omega arith)))
+    (leg_ends_lem (kind_at r.legs n) (pairs_of (list_at r n)) (s n (omega arith)).ends)
 
-pub route-ends : (r : LentRoute) (ts : List Text) → validateRoute r ts ≡ Passed → routeEnds (legsIn r r.count) ≡ true
-route-ends r ts h = legs-end r r.count (route-sound r ts h)
+pub route_ends_lem : (r : LentRoute) (ts : List Text) → validate_route r ts ≡ Passed → route_ends (legs_in r r.count) ≡ true
+route_ends_lem r ts h = legs_end r r.count (route_sound r ts h)
 
 -- The path beside it is legal and has at most 255 bytes.
-module _ (r : LentRoute) (p : Text) (h : validateRoute r (p ∷ []) ≡ Passed) where
-  pub route-short : length p ≤ 255
-  route-short = text-short (listsIn r (presentLegs r)) p [] [] (passed r (p ∷ []) h).0
+module _ (r : LentRoute) (p : Text) (h : validate_route r (p ∷ []) ≡ Passed) where
+  pub route_short : length p ≤ 255
+  route_short = text_short (lists_in r (present_legs r)) p [] [] (passed r (p ∷ []) h).0
 
-  pub route-legal : legal p ≡ true
-  route-legal = text-legal (listsIn r (presentLegs r)) p [] [] (passed r (p ∷ []) h).0
+  pub route_legal : legal p ≡ true
+  route_legal = text_legal (lists_in r (present_legs r)) p [] [] (passed r (p ∷ []) h).0

@@ -7,10 +7,10 @@ use Rattle.pair_list.specs.Pair.{Pair}
 use Rattle.refusal.specs.declared.Refusal.TheVariants.{TooMany}
 use Rattle.refusal.specs.declared.Validation.{Validation}
 use Rattle.refusal.specs.declared.Validation.TheVariants.{Passed, Refused}
-use Rattle.refusal.specs.Refusal.{refusedOr}
+use Rattle.refusal.specs.Refusal.{refused_or}
 use Rattle.map_spec.specs.Map.{Map}
-use Rattle.validate.specs.Validate.{LentList, lentList, pairsOf, validateCall}
-use Rattle.route_spec.specs.Leg.{Leg, by_map, by-relocates}
+use Rattle.validate.specs.Validate.{LentList, lent_list, pairs_of, validate_call}
+use Rattle.route_spec.specs.Leg.{Leg, by_map, by_relocates}
 
 -- A lent route: the store, the places, the three numbers of each leg, and the number of legs.
 pub record LentRoute : Type 0 where
@@ -20,8 +20,8 @@ pub record LentRoute : Type 0 where
   pub count : ℕ
 
 -- A lent route from its parts.
-abbrev pub lentRoute : Text → List ℕ → List ℕ → ℕ → LentRoute
-lentRoute store places legs n = record { store = store; places = places; legs = legs; count = n }
+abbrev pub lent_route : Text → List ℕ → List ℕ → ℕ → LentRoute
+lent_route store places legs n = record { store = store; places = places; legs = legs; count = n }
 
 -- The kind of leg k.
 abbrev pub kind_at : List ℕ → ℕ → ℕ
@@ -36,53 +36,53 @@ abbrev pub size_at : List ℕ → ℕ → ℕ
 size_at legs k = get_or legs (3 * k + 2) 0
 
 -- The list of pairs of leg k.
-unfoldable pub listAt : LentRoute → ℕ → LentList
-listAt r k = lentList r.store (drop (4 * first_at r.legs k) r.places) (size_at r.legs k)
+unfoldable pub list_at : LentRoute → ℕ → LentList
+list_at r k = lent_list r.store (drop (4 * first_at r.legs k) r.places) (size_at r.legs k)
 
 -- The leg of the given kind and pairs.
-unfoldable pub legOf : ℕ → List Pair → Leg
-legOf zero l = by_map (record { pairs = l; mark = false })
-legOf (suc zero) l = by_map (record { pairs = l; mark = true })
-legOf (suc (suc k)) l = by-relocates l
+unfoldable pub leg_of : ℕ → List Pair → Leg
+leg_of zero l = by_map (record { pairs = l; mark = false })
+leg_of (suc zero) l = by_map (record { pairs = l; mark = true })
+leg_of (suc (suc k)) l = by_relocates l
 
 -- Leg k of the route.
-unfoldable pub legAt : LentRoute → ℕ → Leg
-unfolding legOf listAt
-legAt r k = legOf (kind_at r.legs k) (pairsOf (listAt r k))
+unfoldable pub leg_at : LentRoute → ℕ → Leg
+unfolding leg_of list_at
+leg_at r k = leg_of (kind_at r.legs k) (pairs_of (list_at r k))
 
 -- Leg k read as a map, with the mark if its kind is 1. Where each relocate list has been replaced by the map that it stands for, every leg is
 -- read like this.
-unfoldable pub mapAt : LentRoute → ℕ → Map
-unfolding listAt
-mapAt r k = record { pairs = pairsOf (listAt r k); mark = eqb (kind_at r.legs k) 1 }
+unfoldable pub map_at : LentRoute → ℕ → Map
+unfolding list_at
+map_at r k = record { pairs = pairs_of (list_at r k); mark = eqb (kind_at r.legs k) 1 }
 
 -- The first n legs, each read as a map.
-unfoldable pub mapLegs : LentRoute → ℕ → List Leg
-unfolding mapAt
-mapLegs r zero = []
-mapLegs r (suc n) = mapLegs r n ++ by_map (mapAt r n) ∷ []
+unfoldable pub map_legs : LentRoute → ℕ → List Leg
+unfolding map_at
+map_legs r zero = []
+map_legs r (suc n) = map_legs r n ++ by_map (map_at r n) ∷ []
 
 -- The first n legs.
-unfoldable pub legsIn : LentRoute → ℕ → List Leg
-unfolding legAt
-legsIn r zero = []
-legsIn r (suc n) = legsIn r n ++ legAt r n ∷ []
+unfoldable pub legs_in : LentRoute → ℕ → List Leg
+unfolding leg_at
+legs_in r zero = []
+legs_in r (suc n) = legs_in r n ++ leg_at r n ∷ []
 
 -- The lists of the first n legs.
-unfoldable pub listsIn : LentRoute → ℕ → List LentList
-unfolding listAt
-listsIn r zero = []
-listsIn r (suc n) = listsIn r n ++ listAt r n ∷ []
+unfoldable pub lists_in : LentRoute → ℕ → List LentList
+unfolding list_at
+lists_in r zero = []
+lists_in r (suc n) = lists_in r n ++ list_at r n ∷ []
 
 -- The number of legs whose three numbers lie within the slice: questions 1 to 3 check the lists of these legs.
-unfoldable pub presentLegs : LentRoute → ℕ
-presentLegs r = cond (leb r.count (length r.legs / 3)) r.count (length r.legs / 3)
+unfoldable pub present_legs : LentRoute → ℕ
+present_legs r = cond (leb r.count (length r.legs / 3)) r.count (length r.legs / 3)
 
 -- Question 4: "and the route at most 16 legs?" A count beyond its slice counts as over the limit.
-unfoldable pub legCountWithinLimit : LentRoute → Bool
-legCountWithinLimit r = leb r.count 16 && leb r.count (length r.legs / 3)
+unfoldable pub leg_count_within_limit : LentRoute → Bool
+leg_count_within_limit r = leb r.count 16 && leb r.count (length r.legs / 3)
 
 -- Questions 1 to 4 for a route and further texts.
-unfoldable pub validateRoute : LentRoute → List Text → Validation
-unfolding validateCall listsIn presentLegs legCountWithinLimit
-validateRoute r texts = refusedOr (validateCall (listsIn r (presentLegs r)) texts []) Refused (cond (legCountWithinLimit r) Passed (Refused TooMany))
+unfoldable pub validate_route : LentRoute → List Text → Validation
+unfolding validate_call lists_in present_legs leg_count_within_limit
+validate_route r texts = refused_or (validate_call (lists_in r (present_legs r)) texts []) Refused (cond (leg_count_within_limit r) Passed (Refused TooMany))

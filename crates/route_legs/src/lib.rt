@@ -1,11 +1,11 @@
 // The legs of a route in lent memory: reading and writing a leg's kind, pairs and number of pairs, and validating the
 // route (questions 1 to 4). Every public function is defined for all byte slices and all numbers.
 ghost use Rattle.std.specs.Prelude.{◌≡◌, cond, [], ◌∷◌, ◌+◌, ◌*◌, ◌<◌, get_or, drop};
-ghost use Rattle.text.specs.Text.{writtenIfFits};
+ghost use Rattle.text.specs.Text.{written_if_fits};
 ghost use Rattle.refusal.specs.declared.Validation.TheVariants.{Passed, Refused};
 ghost use Rattle.refusal.specs.declared.Refusal.TheVariants.{TooMany};
-ghost use Rattle.validate.specs.Validate.{validateCall};
-ghost use Rattle.route_legs.specs.LentRoute.{lentRoute, kind_at, first_at, size_at, listAt, listsIn, presentLegs, legCountWithinLimit, validateRoute};
+ghost use Rattle.validate.specs.Validate.{validate_call};
+ghost use Rattle.route_legs.specs.LentRoute.{lent_route, kind_at, first_at, size_at, list_at, lists_in, present_legs, leg_count_within_limit, validate_route};
 
 // Entry j of the three numbers of leg k; 0 outside the slice.
 fn entry_at(legs: &[usize], k: usize, j: usize) -> usize
@@ -39,7 +39,7 @@ pub fn size_at(legs: &[usize], k: usize) -> usize
 // Writes the three numbers of leg k, its kind, the index of its first pair and its number of pairs, if the slice
 // is long enough; otherwise writes nothing.
 pub fn write_leg(k: usize, kind: usize, first: usize, size: usize, legs: &mut [usize])
-    ensures { legs.new ≡ writtenIfFits (3 * k) (kind ∷ first ∷ size ∷ []) legs.old }
+    ensures { legs.new ≡ written_if_fits (3 * k) (kind ∷ first ∷ size ∷ []) legs.old }
 {
     if legs.len() / 3 <= k {
         return;
@@ -64,7 +64,7 @@ pub fn leg_places<'a>(places: &'a [usize], legs: &[usize], k: usize) -> &'a [usi
 
 // The number of the counted legs whose numbers lie within the slice.
 fn present_legs(legs: &[usize], count: usize) -> usize
-    ensures { result ≡ presentLegs (lentRoute [] [] legs.now count) }
+    ensures { result ≡ present_legs (lent_route [] [] legs.now count) }
 {
     let present = legs.len() / 3;
     if count <= present {
@@ -75,7 +75,7 @@ fn present_legs(legs: &[usize], count: usize) -> usize
 
 // Validates the number of legs (question 4).
 fn validate_count(legs: &[usize], count: usize) -> refusal::Validation
-    ensures { result ≡ cond (legCountWithinLimit (lentRoute [] [] legs.now count)) Passed
+    ensures { result ≡ cond (leg_count_within_limit (lent_route [] [] legs.now count)) Passed
         (Refused TooMany) }
 {
     if 16 < count {
@@ -89,8 +89,8 @@ fn validate_count(legs: &[usize], count: usize) -> refusal::Validation
 
 // Validates the list of leg k (questions 1 to 4).
 fn validate_leg(store: &[u8], places: &[usize], legs: &[usize], k: usize) -> refusal::Validation
-    ensures { result ≡ validateCall (listAt
-        (lentRoute store.now places.now legs.now k) k ∷ []) [] [] }
+    ensures { result ≡ validate_call (list_at
+        (lent_route store.now places.now legs.now k) k ∷ []) [] [] }
 {
     validate::validate_list(store, leg_places(places, legs, k), size_at(legs, k))
 }
@@ -102,8 +102,8 @@ fn validate_leg_lists(
     legs: &[usize],
     n: usize,
 ) -> refusal::Validation
-    ensures { result ≡ validateCall (listsIn
-        (lentRoute store.now places.now legs.now n) n) [] [] }
+    ensures { result ≡ validate_call (lists_in
+        (lent_route store.now places.now legs.now n) n) [] [] }
 {
     let mut q = refusal::Validation::Passed;
     let mut k = 0;
@@ -121,7 +121,7 @@ pub fn validate_legs(
     legs: &[usize],
     count: usize,
 ) -> refusal::Validation
-    ensures { result ≡ validateRoute (lentRoute store.now places.now legs.now count)
+    ensures { result ≡ validate_route (lent_route store.now places.now legs.now count)
         [] }
 {
     let q = validate_leg_lists(store, places, legs, present_legs(legs, count));

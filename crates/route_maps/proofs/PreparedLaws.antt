@@ -7,45 +7,45 @@ use native.Mathlib.Omega.{arith}
 use lib.Dec.{eqb, leb}
 use borrow.Author.Tests.{le-leb, lt-leb, leb-false}
 use Rattle.pair_list.specs.Pair.{Pair}
-use Rattle.validate.specs.Validate.{pairsOf}
-use Rattle.relocates.proofs.StatusBranches.{some-hit, some-none, some-on}
-use Rattle.route_spec.specs.Leg.{legMap}
-use Rattle.route_legs.specs.LentRoute.{LentRoute, kind_at, listAt, legOf, legAt, mapAt}
-use Rattle.route_maps.specs.Prepared.{hasRelocates, Prepared}
+use Rattle.validate.specs.Validate.{pairs_of}
+use Rattle.relocates.proofs.StatusBranches.{some_hit, some_none, some_on}
+use Rattle.route_spec.specs.Leg.{leg_map}
+use Rattle.route_legs.specs.LentRoute.{LentRoute, kind_at, list_at, leg_of, leg_at, map_at}
+use Rattle.route_maps.specs.Prepared.{has_relocates, Prepared}
 
 abbrev relocating : List ℕ → ℕ → Bool
 relocating legs k = leb 2 (kind_at legs k)
 
 -- `has_relocates`
 module _ (legs : List ℕ) where
-  pub relocates-none : hasRelocates legs 0 ≡ false
-  unfolding hasRelocates
-  relocates-none = some-none (relocating legs)
+  pub relocates_none : has_relocates legs 0 ≡ false
+  unfolding has_relocates
+  relocates_none = some_none (relocating legs)
 
   module _ (k v : ℕ) (e : v ≡ kind_at legs k) where
-    pub relocates-found : (n : ℕ) → k < n → 2 ≤ v → true ≡ hasRelocates legs n
-    unfolding hasRelocates
-    relocates-found n h l = sym (some-hit (relocating legs) n k h (rw (← e) (le-leb 2 v l)))
+    pub relocates-found : (n : ℕ) → k < n → 2 ≤ v → true ≡ has_relocates legs n
+    unfolding has_relocates
+    relocates-found n h l = sym (some_hit (relocating legs) n k h (rw (← e) (le-leb 2 v l)))
 
-    pub relocates-on : hasRelocates legs k ≡ false → v < 2 → hasRelocates legs (k + 1) ≡ false
-    unfolding hasRelocates
-    relocates-on h l = some-on (relocating legs) k h (rw (← e) (lt-leb 2 v l))
+    pub relocates-on : has_relocates legs k ≡ false → v < 2 → has_relocates legs (k + 1) ≡ false
+    unfolding has_relocates
+    relocates-on h l = some_on (relocating legs) k h (rw (← e) (lt-leb 2 v l))
 
-  pub relocates-end : (n k : ℕ) → n ≤ k → k ≤ n → hasRelocates legs k ≡ false → false ≡ hasRelocates legs n
-  relocates-end n k h l e = let z : k ≡ n = omega arith in sym (rw z at e)
+  pub relocates_end : (n k : ℕ) → n ≤ k → k ≤ n → has_relocates legs k ≡ false → false ≡ has_relocates legs n
+  relocates_end n k h l e = let z : k ≡ n = omega arith in sym (rw z at e)
 
 -- The map of a leg that is a map is that map.
-pub plain-leg : (kind : ℕ) (l : List Pair) → kind < 2 → record { pairs = l; mark = eqb kind 1 } ≡ legMap (legOf kind l)
-unfolding legMap legOf
-plain-leg zero l h = refl
-plain-leg (suc zero) l h = refl
-plain-leg (suc (suc k)) l h = absurd (omega arith)
+pub plain_leg : (kind : ℕ) (l : List Pair) → kind < 2 → record { pairs = l; mark = eqb kind 1 } ≡ leg_map (leg_of kind l)
+unfolding leg_map leg_of
+plain_leg zero l h = refl
+plain_leg (suc zero) l h = refl
+plain_leg (suc (suc k)) l h = absurd (omega arith)
 
 -- A route without relocate lists is its own prepared route.
-pub prepared-itself : (r : LentRoute) (n : ℕ) → hasRelocates r.legs n ≡ false → Prepared r r n
-unfolding Prepared mapAt legAt hasRelocates
-prepared-itself r n h k l = go (leb 2 (kind_at r.legs k)) refl
+pub prepared_itself : (r : LentRoute) (n : ℕ) → has_relocates r.legs n ≡ false → Prepared r r n
+unfolding Prepared map_at leg_at has_relocates
+prepared_itself r n h k l = go (leb 2 (kind_at r.legs k)) refl
   where
-    go : (b : Bool) → leb 2 (kind_at r.legs k) ≡ b → record { pairs = pairsOf (listAt r k); mark = eqb (kind_at r.legs k) 1 } ≡ legMap (legOf (kind_at r.legs k) (pairsOf (listAt r k)))
-    go true e = absurd (false≢true (sym h ∙ some-hit (relocating r.legs) n k l e))
-    go false e = plain-leg (kind_at r.legs k) (pairsOf (listAt r k)) (leb-false 2 (kind_at r.legs k) e)
+    go : (b : Bool) → leb 2 (kind_at r.legs k) ≡ b → record { pairs = pairs_of (list_at r k); mark = eqb (kind_at r.legs k) 1 } ≡ leg_map (leg_of (kind_at r.legs k) (pairs_of (list_at r k)))
+    go true e = absurd (false≢true (sym h ∙ some_hit (relocating r.legs) n k l e))
+    go false e = plain_leg (kind_at r.legs k) (pairs_of (list_at r k)) (leb-false 2 (kind_at r.legs k) e)

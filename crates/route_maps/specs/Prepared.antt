@@ -2,22 +2,22 @@
 -- lists.
 use Rattle.std.specs.Prelude.{◌≡◌, ℕ, ◌<◌, Bool, List, [], leb, length}
 use Rattle.refusal.specs.declared.Validation.TheVariants.{Passed}
-use Rattle.relocates.specs.Status.{anyBelow}
-use Rattle.route_spec.specs.Leg.{legMap}
-use Rattle.route_legs.specs.LentRoute.{LentRoute, kind_at, legAt, mapAt, validateRoute}
+use Rattle.relocates.specs.Status.{any_below}
+use Rattle.route_spec.specs.Leg.{leg_map}
+use Rattle.route_legs.specs.LentRoute.{LentRoute, kind_at, leg_at, map_at, validate_route}
 
 -- Whether one of the first n legs is a relocate list.
-unfoldable pub hasRelocates : List ℕ → ℕ → Bool
-unfolding anyBelow
-hasRelocates legs n = anyBelow n (λ (k : ℕ). leb 2 (kind_at legs k))
+unfoldable pub has_relocates : List ℕ → ℕ → Bool
+unfolding any_below
+has_relocates legs n = any_below n (λ (k : ℕ). leb 2 (kind_at legs k))
 
 -- The first n maps of `s` are the maps of the legs of `r`.
 unfoldable pub Prepared : LentRoute → LentRoute → ℕ → Type 0
-unfolding mapAt legAt legMap
-Prepared r s n = (k : ℕ) → k < n → mapAt s k ≡ legMap (legAt r k)
+unfolding map_at leg_at leg_map
+Prepared r s n = (k : ℕ) → k < n → map_at s k ≡ leg_map (leg_at r k)
 
 -- The same, provided that the route `r` passed validation and the buffers have their size: 256 entries for the pairs of each leg, three
 -- numbers for the leg (proofs/ReadLaws.antt proves that `prepare_legs` establishes this).
 unfoldable pub PreparedIfPassed : LentRoute → LentRoute → ℕ → Type 0
-unfolding Prepared validateRoute
-PreparedIfPassed r s n = validateRoute r [] ≡ Passed → length s.places ≡ 4096 → length s.legs ≡ 48 → Prepared r s n
+unfolding Prepared validate_route
+PreparedIfPassed r s n = validate_route r [] ≡ Passed → length s.places ≡ 4096 → length s.legs ≡ 48 → Prepared r s n

@@ -1,17 +1,17 @@
 // Prepares the map of each leg of a route once, before any path is mapped, so that a relocate list is
 // analysed once for many paths. Every public function is defined for all byte slices and all numbers.
 ghost use Rattle.std.specs.Prelude.{◌≡◌, true, ℕ, ◌*◌, ◌≤◌, ◌<◌, length, take, drop};
-ghost use Rattle.text.specs.Text.{writtenAt};
-ghost use Rattle.pair_list_write.specs.Select.{indicesWhere, writtenEntries};
-ghost use Rattle.validate.specs.Validate.{lentList};
-ghost use Rattle.map_canonical.specs.Canonical.{canonicalSelection};
-ghost use Rattle.route_legs.specs.LentRoute.{lentRoute, kind_at, listAt};
-ghost use Rattle.route_maps.specs.Prepared.{hasRelocates};
-ghost use Rattle.route_maps.specs.Prepare.{activeList, legSelection, legBlock, mapKind, preparedEntry, placesAfterPrepare, tableAfterPrepare};
+ghost use Rattle.text.specs.Text.{written_at};
+ghost use Rattle.pair_list_write.specs.Select.{indices_where, written_entries};
+ghost use Rattle.validate.specs.Validate.{lent_list};
+ghost use Rattle.map_canonical.specs.Canonical.{canonical_selection};
+ghost use Rattle.route_legs.specs.LentRoute.{lent_route, kind_at, list_at};
+ghost use Rattle.route_maps.specs.Prepared.{has_relocates};
+ghost use Rattle.route_maps.specs.Prepare.{active_list, leg_selection, leg_block, map_kind, prepared_entry, places_after_prepare, table_after_prepare};
 
 // Returns whether one of the first n legs is a relocate list.
 pub fn has_relocates(legs: &[usize], n: usize) -> bool
-    ensures { result ≡ hasRelocates legs.now n }
+    ensures { result ≡ has_relocates legs.now n }
 {
     let mut k = 0;
     while k < n {
@@ -26,7 +26,7 @@ pub fn has_relocates(legs: &[usize], n: usize) -> bool
 // Copies the places of the first n pairs.
 fn copy_pairs(places: &[usize], n: usize, block: &mut [usize])
     requires { (4 * n ≤ length places.now) × (4 * n ≤ length block.old) }
-    ensures { block.new ≡ writtenEntries places.now (indicesWhere (λ (i : ℕ). true) n)
+    ensures { block.new ≡ written_entries places.now (indices_where (λ (i : ℕ). true) n)
         block.old }
 {
     let mut i = 0;
@@ -38,11 +38,11 @@ fn copy_pairs(places: &[usize], n: usize, block: &mut [usize])
 
 // Writes the places of the pairs of a relocate list's map and returns their number.
 fn prepare_relocates(store: &[u8], places: &[usize], n: usize, block: &mut [usize]) -> usize
-    ensures value { result ≡ length (canonicalSelection (activeList (lentList store.now places.now n))
+    ensures value { result ≡ length (canonical_selection (active_list (lent_list store.now places.now n))
         true (length block.old)) }
-    ensures block_after { block.new ≡ writtenEntries
-        (activeList (lentList store.now places.now n)).places
-        (canonicalSelection (activeList (lentList store.now places.now n)) true
+    ensures block_after { block.new ≡ written_entries
+        (active_list (lent_list store.now places.now n)).places
+        (canonical_selection (active_list (lent_list store.now places.now n)) true
         (length block.old)) block.old }
 {
     let mut active = [0usize; 256];
@@ -58,9 +58,9 @@ fn prepare_pairs(
     n: usize,
     block: &mut [usize],
 ) -> usize
-    ensures value { result ≡ length (legSelection kind (lentList store.now places.now n)
+    ensures value { result ≡ length (leg_selection kind (lent_list store.now places.now n)
         (length block.old)) }
-    ensures block_after { block.new ≡ legBlock kind (lentList store.now places.now n)
+    ensures block_after { block.new ≡ leg_block kind (lent_list store.now places.now n)
         block.old }
 {
     if 2 <= kind {
@@ -76,7 +76,7 @@ fn prepare_pairs(
 // The kind of the prepared leg: 0 for a map without the mark; 1 otherwise, since a relocate list's map has
 // the mark.
 fn map_kind(kind: usize) -> usize
-    ensures { result ≡ mapKind kind }
+    ensures { result ≡ map_kind kind }
 {
     if kind == 0 {
         return 0;
@@ -95,12 +95,12 @@ fn prepare_leg(
 )
     requires k_bound { k < 16 }
     requires made_len { (length made.old ≡ 4096) × (length table.old ≡ 48) }
-    ensures made_after { made.new ≡ writtenAt (256 * k)
-        (legBlock (kind_at legs.now k)
-        (listAt (lentRoute store.now places.now legs.now 0) k)
+    ensures made_after { made.new ≡ written_at (256 * k)
+        (leg_block (kind_at legs.now k)
+        (list_at (lent_route store.now places.now legs.now 0) k)
         (take 256 (drop (256 * k) made.old))) made.old }
-    ensures table_after { table.new ≡ writtenAt (3 * k)
-        (preparedEntry (lentRoute store.now places.now legs.now 0) k)
+    ensures table_after { table.new ≡ written_at (3 * k)
+        (prepared_entry (lent_route store.now places.now legs.now 0) k)
         table.old }
 {
     let kind = route_legs::kind_at(legs, k);
@@ -127,11 +127,11 @@ pub fn prepare_legs(
     made: &mut [usize],
     table: &mut [usize],
 )
-    ensures made_after { made.new ≡ placesAfterPrepare
-        (lentRoute store.now places.now legs.now n) made.old
+    ensures made_after { made.new ≡ places_after_prepare
+        (lent_route store.now places.now legs.now n) made.old
         table.old }
-    ensures table_after { table.new ≡ tableAfterPrepare
-        (lentRoute store.now places.now legs.now n) made.old
+    ensures table_after { table.new ≡ table_after_prepare
+        (lent_route store.now places.now legs.now n) made.old
         table.old }
 {
     if 16 < n {

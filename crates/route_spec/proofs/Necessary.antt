@@ -8,32 +8,32 @@ use mathlib.Core.Option.{some}
 use Prim.Native.Nat.{ℕ}
 use lib.ListN.{get_elem?}
 use Rattle.text.specs.Text.{Text}
-use Rattle.pair_list.specs.Pair.{allEnds}
+use Rattle.pair_list.specs.Pair.{all_ends}
 use Rattle.refusal.specs.Outcome.{path}
 use Rattle.map_spec.specs.Map.{Map}
-use Rattle.map_spec.specs.Leg.{translateChecked, SelectionFreePath, PlainRoundTrip}
-use Rattle.map_spec.proofs.Necessary.{full-needed}
-use Rattle.route_spec.specs.Leg.{Leg, by_map, legMap, legEnds, outward}
-use Rattle.route_spec.specs.Route.{routeEnds, trace}
+use Rattle.map_spec.specs.Leg.{translate_checked, SelectionFreePath, PlainRoundTrip}
+use Rattle.map_spec.proofs.Necessary.{full_needed}
+use Rattle.route_spec.specs.Leg.{Leg, by_map, leg_map, leg_ends, outward}
+use Rattle.route_spec.specs.Route.{route_ends, trace}
 
 -- The second half without the condition that the leg's map has no empty source.
 abbrev Unguarded : Type 0
 Unguarded =
-    (legs : List Leg) (p : Text) → routeEnds legs ≡ true → SelectionFreePath p
+    (legs : List Leg) (p : Text) → route_ends legs ≡ true → SelectionFreePath p
     → (k : ℕ) (x : Leg) (r : Text) → get_elem? legs k ≡ some x → get_elem? (trace outward legs p) k ≡ some r
-    → (q : Text) → (outward x r ≡ path q) ↔ PlainRoundTrip (legMap x) r q
+    → (q : Text) → (outward x r ≡ path q) ↔ PlainRoundTrip (leg_map x) r q
 
-one-leg : (m : Map) → allEnds m.pairs ≡ true → routeEnds (by_map m ∷ []) ≡ true
-unfolding routeEnds legEnds
-one-leg m e = rw e
+one_leg : (m : Map) → all_ends m.pairs ≡ true → route_ends (by_map m ∷ []) ≡ true
+unfolding route_ends leg_ends
+one_leg m e = rw e
 
 reaches : (m : Map) (p : Text) → get_elem? (trace outward (by_map m ∷ []) p) 0 ≡ some p
 unfolding trace
 reaches m p = refl
 
-comes : (m : Map) (p q : Text) → PlainRoundTrip m p q → Unguarded → allEnds m.pairs ≡ true → SelectionFreePath p → translateChecked m p ≡ path q
-unfolding outward legMap
-comes m p q o f e c = (f (by_map m ∷ []) p (one-leg m e) c 0 (by_map m) p refl (reaches m p) q).1 o
+comes : (m : Map) (p q : Text) → PlainRoundTrip m p q → Unguarded → all_ends m.pairs ≡ true → SelectionFreePath p → translate_checked m p ≡ path q
+unfolding outward leg_map
+comes m p q o f e c = (f (by_map m ∷ []) p (one_leg m e) c 0 (by_map m) p refl (reaches m p) q).1 o
 
-pub guard-needed : Unguarded → ⊥
-guard-needed f = full-needed (λ m e p q c o. comes m p q o f e c)
+pub guard_needed : Unguarded → ⊥
+guard_needed f = full_needed (λ m e p q c o. comes m p q o f e c)

@@ -10,151 +10,151 @@ use lib.ListN.{get_elem?}
 use Rattle.text.specs.Text.{Text}
 use Rattle.text.proofs.BoolLaws.{and_l, and_r}
 use Rattle.text.proofs.TextLaws.{no_text}
-use Rattle.pair_list.specs.Pair.{allEnds, noEmptySource}
+use Rattle.pair_list.specs.Pair.{all_ends, no_empty_source}
 use Rattle.refusal.specs.declared.Refusal.{Refusal}
 use Rattle.refusal.specs.Outcome.{Outcome, path, refused}
 use Rattle.map_spec.specs.Leg.{SelectionFreePath, PlainRoundTrip}
-use Rattle.map_spec.proofs.OutcomeLaws.{no-path}
-use Rattle.map_spec.proofs.LegLaws.{leg-next, leg-home, leg-exact}
-use Rattle.route_spec.specs.Leg.{Leg, by_map, by-relocates, legMap, legEnds, outward, homeward}
-use Rattle.route_spec.specs.Route.{routeEnds, foldLegs, trace, RoundTrip, RelocatesExact, runRoute}
-use Rattle.route_spec.proofs.RelocateLaws.{relocate-ends, relocate-full}
+use Rattle.map_spec.proofs.OutcomeLaws.{no_path_lem}
+use Rattle.map_spec.proofs.LegLaws.{leg_next, leg_home, leg_exact}
+use Rattle.route_spec.specs.Leg.{Leg, by_map, by_relocates, leg_map, leg_ends, outward, homeward}
+use Rattle.route_spec.specs.Route.{route_ends, fold_legs, trace, RoundTrip, RelocatesExact, run_route}
+use Rattle.route_spec.proofs.RelocateLaws.{relocate_ends, relocate_full}
 
 -- The ends of a leg's map are prim paths, `/` or empty if those of the leg are.
-pub map-ends : (x : Leg) → legEnds x ≡ true → allEnds (legMap x).pairs ≡ true
-unfolding legEnds legMap
-map-ends (by_map m) e = e
-map-ends (by-relocates l) e = relocate-ends l e
+pub map_ends : (x : Leg) → leg_ends x ≡ true → all_ends (leg_map x).pairs ≡ true
+unfolding leg_ends leg_map
+map_ends (by_map m) e = e
+map_ends (by_relocates l) e = relocate_ends l e
 
 -- One leg.
-module _ (x : Leg) (e : legEnds x ≡ true) (p q : Text) (c : SelectionFreePath p) where
-  pub step-next : outward x p ≡ path q → SelectionFreePath q
+module _ (x : Leg) (e : leg_ends x ≡ true) (p q : Text) (c : SelectionFreePath p) where
+  pub step_next : outward x p ≡ path q → SelectionFreePath q
   unfolding outward
-  step-next = leg-next (legMap x) (map-ends x e) p q c
+  step_next = leg_next (leg_map x) (map_ends x e) p q c
 
-  step-home : outward x p ≡ path q → homeward x q ≡ path p
+  step_home : outward x p ≡ path q → homeward x q ≡ path p
   unfolding outward homeward
-  step-home = leg-home (legMap x) (map-ends x e) p q c
+  step_home = leg_home (leg_map x) (map_ends x e) p q c
 
-  pub step-exact : noEmptySource (legMap x).pairs ≡ true → (outward x p ≡ path q) ↔ PlainRoundTrip (legMap x) p q
+  pub step_exact : no_empty_source (leg_map x).pairs ≡ true → (outward x p ≡ path q) ↔ PlainRoundTrip (leg_map x) p q
   unfolding outward
-  step-exact = leg-exact (legMap x) (map-ends x e) p q c
+  step_exact = leg_exact (leg_map x) (map_ends x e) p q c
 
 -- The steps of a route.
 module _ (go : Leg → Text → Outcome) (p : Text) where
-  pub fold-nil : foldLegs go [] p ≡ path p
-  unfolding foldLegs
-  fold-nil = refl
+  pub fold_nil : fold_legs go [] p ≡ path p
+  unfolding fold_legs
+  fold_nil = refl
 
-  trace-nil : trace go [] p ≡ p ∷ []
+  trace_nil : trace go [] p ≡ p ∷ []
   unfolding trace
-  trace-nil = refl
+  trace_nil = refl
 
 module _ (go : Leg → Text → Outcome) (x : Leg) (xs : List Leg) (p : Text) where
-  pub fold-path : (q : Text) → go x p ≡ path q → foldLegs go (x ∷ xs) p ≡ foldLegs go xs q
-  unfolding foldLegs
-  fold-path q h = rw h
+  pub fold_path : (q : Text) → go x p ≡ path q → fold_legs go (x ∷ xs) p ≡ fold_legs go xs q
+  unfolding fold_legs
+  fold_path q h = rw h
 
-  pub fold-refused : (n : Refusal) → go x p ≡ refused n → foldLegs go (x ∷ xs) p ≡ refused n
-  unfolding foldLegs
-  fold-refused n h = rw h
+  pub fold_refused : (n : Refusal) → go x p ≡ refused n → fold_legs go (x ∷ xs) p ≡ refused n
+  unfolding fold_legs
+  fold_refused n h = rw h
 
-  trace-path : (q : Text) → go x p ≡ path q → trace go (x ∷ xs) p ≡ p ∷ trace go xs q
+  trace_path : (q : Text) → go x p ≡ path q → trace go (x ∷ xs) p ≡ p ∷ trace go xs q
   unfolding trace
-  trace-path q h = rw h
+  trace_path q h = rw h
 
-  trace-refused : (n : Refusal) → go x p ≡ refused n → trace go (x ∷ xs) p ≡ p ∷ []
+  trace_refused : (n : Refusal) → go x p ≡ refused n → trace go (x ∷ xs) p ≡ p ∷ []
   unfolding trace
-  trace-refused n h = rw h
+  trace_refused n h = rw h
 
-  trace-first : get_elem? (trace go (x ∷ xs) p) 0 ≡ some p
+  trace_first : get_elem? (trace go (x ∷ xs) p) 0 ≡ some p
   unfolding trace
-  trace-first = refl
+  trace_first = refl
 
-no-leg : {x : Leg} → none ≡ some x → ⊥
-no-leg {x} e = let z : ◌≡◌ {A = ℕ} 0 1 = cc in omega arith
+no_leg : {x : Leg} → none ≡ some x → ⊥
+no_leg {x} e = let z : ◌≡◌ {A = ℕ} 0 1 = cc in omega arith
 
 -- One more leg at the end of a route.
-one_more : (go : Leg → Text → Outcome) (xs : List Leg) (x : Leg) (q p1 p0 : Text) → foldLegs go xs q ≡ path p1 → go x p1 ≡ path p0
-    → (foldLegs go (xs ++ x ∷ []) q ≡ path p0) × (trace go (xs ++ x ∷ []) q ≡ trace go xs q ++ p0 ∷ [])
+one_more : (go : Leg → Text → Outcome) (xs : List Leg) (x : Leg) (q p1 p0 : Text) → fold_legs go xs q ≡ path p1 → go x p1 ≡ path p0
+    → (fold_legs go (xs ++ x ∷ []) q ≡ path p0) × (trace go (xs ++ x ∷ []) q ≡ trace go xs q ++ p0 ∷ [])
 one_more go [] x q p1 p0 e h =
-    let k : go x q ≡ path p0 = let z : q ≡ p1 = cc (fold-nil go q) in rw z h in
-    (fold-path go x [] q p0 k ∙ fold-nil go p0, trace-path go x [] q p0 k ∙ simp trace-nil)
+    let k : go x q ≡ path p0 = let z : q ≡ p1 = cc (fold_nil go q) in rw z h in
+    (fold_path go x [] q p0 k ∙ fold_nil go p0, trace_path go x [] q p0 k ∙ simp trace_nil)
 one_more go (y ∷ ys) x q p1 p0 e h = by (go y q) refl (λ r. one_more go ys x r p1 p0)
   where
     by : (o : Outcome) → go y q ≡ o
-        → ((r : Text) → foldLegs go ys r ≡ path p1 → go x p1 ≡ path p0
-        → (foldLegs go (ys ++ x ∷ []) r ≡ path p0) × (trace go (ys ++ x ∷ []) r ≡ trace go ys r ++ p0 ∷ []))
-        → (foldLegs go (y ∷ ys ++ x ∷ []) q ≡ path p0) × (trace go (y ∷ ys ++ x ∷ []) q ≡ trace go (y ∷ ys) q ++ p0 ∷ [])
+        → ((r : Text) → fold_legs go ys r ≡ path p1 → go x p1 ≡ path p0
+        → (fold_legs go (ys ++ x ∷ []) r ≡ path p0) × (trace go (ys ++ x ∷ []) r ≡ trace go ys r ++ p0 ∷ []))
+        → (fold_legs go (y ∷ ys ++ x ∷ []) q ≡ path p0) × (trace go (y ∷ ys ++ x ∷ []) q ≡ trace go (y ∷ ys) q ++ p0 ∷ [])
     by (path r) k ih =
-        let z = ih r (sym (fold-path go y ys q r k) ∙ e) h in
-        (fold-path go y (ys ++ x ∷ []) q r k ∙ z.0, rw (trace-path go y (ys ++ x ∷ []) q r k, trace-path go y ys q r k, z.1))
-    by (refused n) k ih = absurd (no-path (sym (fold-refused go y ys q n k) ∙ e))
+        let z = ih r (sym (fold_path go y ys q r k) ∙ e) h in
+        (fold_path go y (ys ++ x ∷ []) q r k ∙ z.0, rw (trace_path go y (ys ++ x ∷ []) q r k, trace_path go y ys q r k, z.1))
+    by (refused n) k ih = absurd (no_path_lem (sym (fold_refused go y ys q n k) ∙ e))
 
 -- The ends of a route's first leg, and of the other legs.
-pub first_ends : (x : Leg) (xs : List Leg) → routeEnds (x ∷ xs) ≡ true → legEnds x ≡ true
-unfolding routeEnds
-first_ends x xs e = and_l (legEnds x) (routeEnds xs) e
+pub first_ends : (x : Leg) (xs : List Leg) → route_ends (x ∷ xs) ≡ true → leg_ends x ≡ true
+unfolding route_ends
+first_ends x xs e = and_l (leg_ends x) (route_ends xs) e
 
-pub rest-ends : (x : Leg) (xs : List Leg) → routeEnds (x ∷ xs) ≡ true → routeEnds xs ≡ true
-unfolding routeEnds
-rest-ends x xs e = and_r (legEnds x) (routeEnds xs) e
+pub rest_ends : (x : Leg) (xs : List Leg) → route_ends (x ∷ xs) ≡ true → route_ends xs ≡ true
+unfolding route_ends
+rest_ends x xs e = and_r (leg_ends x) (route_ends xs) e
 
 -- The whole route home.
-run_home : (xs : List Leg) (p q : Text) → routeEnds xs ≡ true → SelectionFreePath p → foldLegs outward xs p ≡ path q
-    → (foldLegs homeward (reverse xs) q ≡ path p) × (trace homeward (reverse xs) q ≡ reverse (trace outward xs p))
-run_home [] p q ends c e = let z : p ≡ q = cc (fold-nil outward p) in rw z (fold-nil homeward q, simp trace-nil)
-run_home (x ∷ xs) p q ends c e = by (outward x p) refl (λ y. run_home xs y q (rest-ends x xs ends))
+run_home : (xs : List Leg) (p q : Text) → route_ends xs ≡ true → SelectionFreePath p → fold_legs outward xs p ≡ path q
+    → (fold_legs homeward (reverse xs) q ≡ path p) × (trace homeward (reverse xs) q ≡ reverse (trace outward xs p))
+run_home [] p q ends c e = let z : p ≡ q = cc (fold_nil outward p) in rw z (fold_nil homeward q, simp trace_nil)
+run_home (x ∷ xs) p q ends c e = by (outward x p) refl (λ y. run_home xs y q (rest_ends x xs ends))
   where
     by : (o : Outcome) → outward x p ≡ o
-        → ((y : Text) → SelectionFreePath y → foldLegs outward xs y ≡ path q
-        → (foldLegs homeward (reverse xs) q ≡ path y) × (trace homeward (reverse xs) q ≡ reverse (trace outward xs y)))
-        → (foldLegs homeward (reverse (x ∷ xs)) q ≡ path p) × (trace homeward (reverse (x ∷ xs)) q ≡ reverse (trace outward (x ∷ xs) p))
+        → ((y : Text) → SelectionFreePath y → fold_legs outward xs y ≡ path q
+        → (fold_legs homeward (reverse xs) q ≡ path y) × (trace homeward (reverse xs) q ≡ reverse (trace outward xs y)))
+        → (fold_legs homeward (reverse (x ∷ xs)) q ≡ path p) × (trace homeward (reverse (x ∷ xs)) q ≡ reverse (trace outward (x ∷ xs) p))
     by (path y) k ih =
-        let z = ih y (step-next x (first_ends x xs ends) p y c k) (sym (fold-path outward x xs p y k) ∙ e) in
-        let s = one_more homeward (reverse xs) x q y p z.0 (step-home x (first_ends x xs ends) p y c k) in
-        rw (reverse-cons x xs, trace-path outward x xs p y k, reverse-cons p (trace outward xs y), ← z.1) s
-    by (refused n) k ih = absurd (no-path (sym (fold-refused outward x xs p n k) ∙ e))
+        let z = ih y (step_next x (first_ends x xs ends) p y c k) (sym (fold_path outward x xs p y k) ∙ e) in
+        let s = one_more homeward (reverse xs) x q y p z.0 (step_home x (first_ends x xs ends) p y c k) in
+        rw (reverse-cons x xs, trace_path outward x xs p y k, reverse-cons p (trace outward xs y), ← z.1) s
+    by (refused n) k ih = absurd (no_path_lem (sym (fold_refused outward x xs p n k) ∙ e))
 
 -- The result of the whole route out has the properties of its starting path.
-pub run-next : (xs : List Leg) (p q : Text) → routeEnds xs ≡ true → SelectionFreePath p → foldLegs outward xs p ≡ path q → SelectionFreePath q
-run-next [] p q ends c e = let z : p ≡ q = cc (fold-nil outward p) in rw z at c
-run-next (x ∷ xs) p q ends c e = by (outward x p) refl (λ y. run-next xs y q (rest-ends x xs ends))
+pub run_next : (xs : List Leg) (p q : Text) → route_ends xs ≡ true → SelectionFreePath p → fold_legs outward xs p ≡ path q → SelectionFreePath q
+run_next [] p q ends c e = let z : p ≡ q = cc (fold_nil outward p) in rw z at c
+run_next (x ∷ xs) p q ends c e = by (outward x p) refl (λ y. run_next xs y q (rest_ends x xs ends))
   where
-    by : (o : Outcome) → outward x p ≡ o → ((y : Text) → SelectionFreePath y → foldLegs outward xs y ≡ path q → SelectionFreePath q) → SelectionFreePath q
-    by (path y) k ih = ih y (step-next x (first_ends x xs ends) p y c k) (sym (fold-path outward x xs p y k) ∙ e)
-    by (refused n) k ih = absurd (no-path (sym (fold-refused outward x xs p n k) ∙ e))
+    by : (o : Outcome) → outward x p ≡ o → ((y : Text) → SelectionFreePath y → fold_legs outward xs y ≡ path q → SelectionFreePath q) → SelectionFreePath q
+    by (path y) k ih = ih y (step_next x (first_ends x xs ends) p y c k) (sym (fold_path outward x xs p y k) ∙ e)
+    by (refused n) k ih = absurd (no_path_lem (sym (fold_refused outward x xs p n k) ∙ e))
 
 -- The path that reaches a leg has these properties, whether or not a later leg refuses.
-reached : (xs : List Leg) (p : Text) → routeEnds xs ≡ true → SelectionFreePath p → (k : ℕ) (x : Leg) (r : Text) → get_elem? xs k ≡ some x
-    → get_elem? (trace outward xs p) k ≡ some r → (legEnds x ≡ true) × SelectionFreePath r
-reached [] p ends c k x r h g = absurd (no-leg h)
+reached : (xs : List Leg) (p : Text) → route_ends xs ≡ true → SelectionFreePath p → (k : ℕ) (x : Leg) (r : Text) → get_elem? xs k ≡ some x
+    → get_elem? (trace outward xs p) k ≡ some r → (leg_ends x ≡ true) × SelectionFreePath r
+reached [] p ends c k x r h g = absurd (no_leg h)
 reached (y ∷ ys) p ends c zero x r h g =
     let s : y ≡ x = cc in
-    let t : p ≡ r = cc (trace-first outward y ys p) in
+    let t : p ≡ r = cc (trace_first outward y ys p) in
     (rw s at (first_ends y ys ends), rw t at c)
-reached (y ∷ ys) p ends c (suc k) x r h g = by (outward y p) refl (λ q d. reached ys q (rest-ends y ys ends) d k x r h)
+reached (y ∷ ys) p ends c (suc k) x r h g = by (outward y p) refl (λ q d. reached ys q (rest_ends y ys ends) d k x r h)
   where
     by : (o : Outcome) → outward y p ≡ o
-        → ((q : Text) → SelectionFreePath q → get_elem? (trace outward ys q) k ≡ some r → (legEnds x ≡ true) × SelectionFreePath r)
-        → (legEnds x ≡ true) × SelectionFreePath r
-    by (path q) e ih = ih q (step-next y (first_ends y ys ends) p q c e) (rw (trace-path outward y ys p q e) at g)
-    by (refused n) e ih = absurd (no_text (rw (trace-refused outward y ys p n e) at g))
+        → ((q : Text) → SelectionFreePath q → get_elem? (trace outward ys q) k ≡ some r → (leg_ends x ≡ true) × SelectionFreePath r)
+        → (leg_ends x ≡ true) × SelectionFreePath r
+    by (path q) e ih = ih q (step_next y (first_ends y ys ends) p q c e) (rw (trace_path outward y ys p q e) at g)
+    by (refused n) e ih = absurd (no_text (rw (trace_refused outward y ys p n e) at g))
 
 pub round_trip : RoundTrip
 round_trip legs p ends c = record {
-  home-again = λ q e. run_home legs p q ends c e;
-  exact = λ k x r h g full q. let d = reached legs p ends c k x r h g in step-exact x d.0 r q d.1 full;
+  home_again = λ q e. run_home legs p q ends c e;
+  exact = λ k x r h g full q. let d = reached legs p ends c k x r h g in step_exact x d.0 r q d.1 full;
 }
 
 -- A path that a route takes out is taken home by it.
-pub run-returns : (legs : List Leg) (p q : Text) → routeEnds legs ≡ true → SelectionFreePath p → runRoute false legs p ≡ path q → runRoute true legs q ≡ path p
-unfolding runRoute
-run-returns legs p q ends c e = ((round_trip legs p ends c).home-again q e).0
+pub run_returns : (legs : List Leg) (p q : Text) → route_ends legs ≡ true → SelectionFreePath p → run_route false legs p ≡ path q → run_route true legs q ≡ path p
+unfolding run_route
+run_returns legs p q ends c e = ((round_trip legs p ends c).home_again q e).0
 
 -- For a relocate list the second half holds without a hypothesis: its map has no empty source.
-pub relocates-exact : RelocatesExact
-unfolding legEnds legMap
-relocates-exact legs p ends c k l r h g q =
-    let d = reached legs p ends c k (by-relocates l) r h g in
-    (round_trip legs p ends c).exact k (by-relocates l) r h g (relocate-full l d.0) q
+pub relocates_exact : RelocatesExact
+unfolding leg_ends leg_map
+relocates_exact legs p ends c k l r h g q =
+    let d = reached legs p ends c k (by_relocates l) r h g in
+    (round_trip legs p ends c).exact k (by_relocates l) r h g (relocate_full l d.0) q

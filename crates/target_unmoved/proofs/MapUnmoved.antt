@@ -4,107 +4,107 @@ use mathlib.Core.Bool.{Bool, true, false, cond, ◌&&◌, not}
 use mathlib.Core.List.{List, [], ◌∷◌, ◌++◌, append-nil}
 use mathlib.Core.Option.{Option, none, some}
 use Prim.Native.Nat.{ℕ}
-use Rattle.text.specs.Text.{Text, isNil, lacksByte}
+use Rattle.text.specs.Text.{Text, is_nil, lacks_byte}
 use Rattle.text.proofs.TextLaws.{no_text}
-use Rattle.path_grammar.specs.Own.{ownPart, targetPart}
-use Rattle.path_grammar.specs.Legal.{legal, isEnd}
-use Rattle.path_grammar.proofs.OwnLaws.{own-lacks, own-all, target_none}
-use Rattle.path_prefix.specs.Prefix.{hasPrefix}
-use Rattle.path_prefix.specs.Elements.{elementCount}
-use Rattle.path_join.specs.Join.{replacePrefix}
-use Rattle.path_join.specs.Tail.{followedByTarget}
-use Rattle.path_join.proofs.TailLaws.{appended, prefix-before, replace-before, replaced-lacks, leaves-target}
-use Rattle.path_parts.specs.Strip.{stripFrom, strip}
-use Rattle.path_parts.proofs.StripLaws.{strip-own, strip-target, strip-legal}
-use Rattle.pair_list.specs.Pair.{Pair, allEnds}
-use Rattle.pair_list.specs.LongestMatch.{matches, longestMatch}
-use Rattle.pair_list.proofs.BestLaws.{best-agree}
-use Rattle.map_spec.specs.Map.{Map, mapSource, mapTarget, mapSize, matchSource, matchTarget, mapBy, mapSourceToTarget, mapTargetToSource, eqIndex, requireInvertible, translateToTarget}
-use Rattle.map_spec.proofs.EndLaws.{ends-source, ends-target}
-use Rattle.target_unmoved.specs.Unmoved.{LeavesTarget, LeavesTargetChecked, outcomeWithTarget}
-use Rattle.target_unmoved.proofs.MadeLaws.{KeepsByte, NotInEnds, dot-not, leaves-checked}
+use Rattle.path_grammar.specs.Own.{own_part, target_part}
+use Rattle.path_grammar.specs.Legal.{legal, is_end}
+use Rattle.path_grammar.proofs.OwnLaws.{own_lacks, own_all, target_none}
+use Rattle.path_prefix.specs.Prefix.{has_prefix}
+use Rattle.path_prefix.specs.Elements.{element_count}
+use Rattle.path_join.specs.Join.{replace_prefix}
+use Rattle.path_join.specs.Tail.{followed_by_target}
+use Rattle.path_join.proofs.TailLaws.{appended, prefix_before, replace_before, replaced_lacks, leaves_target}
+use Rattle.path_parts.specs.Strip.{strip_from, strip}
+use Rattle.path_parts.proofs.StripLaws.{strip_own, strip_target, strip_legal}
+use Rattle.pair_list.specs.Pair.{Pair, all_ends}
+use Rattle.pair_list.specs.LongestMatch.{matches, longest_match}
+use Rattle.pair_list.proofs.BestLaws.{best_agree}
+use Rattle.map_spec.specs.Map.{Map, map_source, map_target, map_size, match_source, match_target, map_by, map_source_to_target, map_target_to_source, eq_index, require_invertible, translate_to_target}
+use Rattle.map_spec.proofs.EndLaws.{ends_source, ends_target}
+use Rattle.target_unmoved.specs.Unmoved.{LeavesTarget, LeavesTargetChecked, outcome_with_target}
+use Rattle.target_unmoved.proofs.MadeLaws.{KeepsByte, NotInEnds, dot_not, leaves_checked}
 
 -- The longest match among ends is the same for a text with a dot and for that text with a bracket after it.
-match-before : (o z : Text) → lacksByte 46 o ≡ false → (key : ℕ → Text) → ((i : ℕ) → isEnd (key i) ≡ true) → (n : ℕ)
-    → longestMatch (o ++ 91 ∷ z) key n ≡ longestMatch o key n
-unfolding longestMatch matches
-match-before o z dotted key ends n =
-    best-agree (λ i. matches (o ++ 91 ∷ z) (key i)) (λ i. matches o (key i)) (λ i. elementCount (key i)) (λ i. elementCount (key i)) n
-    (λ i h. ap (λ (b : Bool). not (isNil (key i)) && b) (prefix-before o z (key i) dotted (ends i))) (λ i h. refl)
+match_before : (o z : Text) → lacks_byte 46 o ≡ false → (key : ℕ → Text) → ((i : ℕ) → is_end (key i) ≡ true) → (n : ℕ)
+    → longest_match (o ++ 91 ∷ z) key n ≡ longest_match o key n
+unfolding longest_match matches
+match_before o z dotted key ends n =
+    best_agree (λ i. matches (o ++ 91 ∷ z) (key i)) (λ i. matches o (key i)) (λ i. element_count (key i)) (λ i. element_count (key i)) n
+    (λ i h. ap (λ (b : Bool). not (is_nil (key i)) && b) (prefix_before o z (key i) dotted (ends i))) (λ i h. refl)
 
 -- Plain mapping from the ends a to the ends b.
-module _ (m : Map) (a b : ℕ → Text) (sources : (i : ℕ) → isEnd (a i) ≡ true) (targets : (i : ℕ) → isEnd (b i) ≡ true) where
-  map-before : (o z : Text) → lacksByte 46 o ≡ false → (i : Option ℕ) → mapBy m a b (o ++ 91 ∷ z) i ≡ appended (91 ∷ z) (mapBy m a b o i)
+module _ (m : Map) (a b : ℕ → Text) (sources : (i : ℕ) → is_end (a i) ≡ true) (targets : (i : ℕ) → is_end (b i) ≡ true) where
+  map_before : (o z : Text) → lacks_byte 46 o ≡ false → (i : Option ℕ) → map_by m a b (o ++ 91 ∷ z) i ≡ appended (91 ∷ z) (map_by m a b o i)
   unfolding appended
-  map-before o z dotted none = go m.mark
+  map_before o z dotted none = go m.mark
     where
       go : (c : Bool) → cond c (some (o ++ 91 ∷ z)) none ≡ appended (91 ∷ z) (cond c (some o) none)
       go true = refl
       go false = refl
-  map-before o z dotted (some i) = go (isNil (mapTarget m i))
+  map_before o z dotted (some i) = go (is_nil (map_target m i))
     where
-      go : (c : Bool) → cond c none (replacePrefix (o ++ 91 ∷ z) (a i) (b i)) ≡ appended (91 ∷ z) (cond c none (replacePrefix o (a i) (b i)))
+      go : (c : Bool) → cond c none (replace_prefix (o ++ 91 ∷ z) (a i) (b i)) ≡ appended (91 ∷ z) (cond c none (replace_prefix o (a i) (b i)))
       go true = refl
-      go false = replace-before o z (a i) dotted (sources i) (b i)
+      go false = replace_before o z (a i) dotted (sources i) (b i)
 
   -- A byte that no end has is in the path made exactly if it was in the path before.
-  map-keeps : (x : ℕ) → NotInEnds x → (i : Option ℕ) → KeepsByte x (λ (o : Text). mapBy m a b o i)
-  map-keeps x n none o q e = go m.mark e
+  map_keeps : (x : ℕ) → NotInEnds x → (i : Option ℕ) → KeepsByte x (λ (o : Text). map_by m a b o i)
+  map_keeps x n none o q e = go m.mark e
     where
-      go : (c : Bool) → cond c (some o) none ≡ some q → lacksByte x q ≡ lacksByte x o
-      go true h = let k : o ≡ q = cc in ap (lacksByte x) (sym k)
+      go : (c : Bool) → cond c (some o) none ≡ some q → lacks_byte x q ≡ lacks_byte x o
+      go true h = let k : o ≡ q = cc in ap (lacks_byte x) (sym k)
       go false h = absurd (no_text h)
-  map-keeps x n (some i) o q e = go (isNil (mapTarget m i)) e
+  map_keeps x n (some i) o q e = go (is_nil (map_target m i)) e
     where
-      go : (c : Bool) → cond c none (replacePrefix o (a i) (b i)) ≡ some q → lacksByte x q ≡ lacksByte x o
+      go : (c : Bool) → cond c none (replace_prefix o (a i) (b i)) ≡ some q → lacks_byte x q ≡ lacks_byte x o
       go true h = absurd (no_text h)
-      go false h = replaced-lacks x n.no_slash o (a i) (b i) q (n.no_end (a i) (sources i)) (n.no_end (b i) (targets i)) h
+      go false h = replaced_lacks x n.no_slash o (a i) (b i) q (n.no_end (a i) (sources i)) (n.no_end (b i) (targets i)) h
 
   plain : ℕ → Text → Option Text
-  plain n p = mapBy m a b p (longestMatch p a n)
+  plain n p = map_by m a b p (longest_match p a n)
 
-  plain-before : (n : ℕ) (o z : Text) → lacksByte 46 o ≡ false → plain n (o ++ 91 ∷ z) ≡ appended (91 ∷ z) (plain n o)
+  plain_before : (n : ℕ) (o z : Text) → lacks_byte 46 o ≡ false → plain n (o ++ 91 ∷ z) ≡ appended (91 ∷ z) (plain n o)
   unfolding plain
-  plain-before n o z dotted = ap (mapBy m a b (o ++ 91 ∷ z)) (match-before o z dotted a sources n) ∙ map-before o z dotted (longestMatch o a n)
+  plain_before n o z dotted = ap (map_by m a b (o ++ 91 ∷ z)) (match_before o z dotted a sources n) ∙ map_before o z dotted (longest_match o a n)
 
-  plain-leaves : (n : ℕ) → LeavesTarget (plain n)
-  plain-leaves n = leaves-target (plain n) (plain-before n)
+  plain_leaves : (n : ℕ) → LeavesTarget (plain n)
+  plain_leaves n = leaves_target (plain n) (plain_before n)
 
-  plain-checked : (n : ℕ) → LeavesTargetChecked (plain n)
+  plain_checked : (n : ℕ) → LeavesTargetChecked (plain n)
   unfolding plain
-  plain-checked n = leaves-checked (plain n) (plain-leaves n) (λ x h o q. map-keeps x h (longestMatch o a n) o q)
+  plain_checked n = leaves_checked (plain n) (plain_leaves n) (λ x h o q. map_keeps x h (longest_match o a n) o q)
 
-module _ (m : Map) (em : allEnds m.pairs ≡ true) where
-  sources : (i : ℕ) → isEnd (mapSource m i) ≡ true
-  sources = ends-source m.pairs em
+module _ (m : Map) (em : all_ends m.pairs ≡ true) where
+  sources : (i : ℕ) → is_end (map_source m i) ≡ true
+  sources = ends_source m.pairs em
 
-  targets : (i : ℕ) → isEnd (mapTarget m i) ≡ true
-  targets = ends-target m.pairs em
+  targets : (i : ℕ) → is_end (map_target m i) ≡ true
+  targets = ends_target m.pairs em
 
-  pub out-leaves : LeavesTarget (mapSourceToTarget m)
-  unfolding mapSourceToTarget matchSource plain
-  out-leaves = plain-leaves m (mapSource m) (mapTarget m) sources targets (mapSize m)
+  pub out_leaves : LeavesTarget (map_source_to_target m)
+  unfolding map_source_to_target match_source plain
+  out_leaves = plain_leaves m (map_source m) (map_target m) sources targets (map_size m)
 
-  pub home-leaves : LeavesTarget (mapTargetToSource m)
-  unfolding mapTargetToSource matchTarget plain
-  home-leaves = plain-leaves m (mapTarget m) (mapSource m) targets sources (mapSize m)
+  pub home_leaves : LeavesTarget (map_target_to_source m)
+  unfolding map_target_to_source match_target plain
+  home_leaves = plain_leaves m (map_target m) (map_source m) targets sources (map_size m)
 
-  pub out-checks : LeavesTargetChecked (mapSourceToTarget m)
-  unfolding mapSourceToTarget matchSource plain
-  out-checks = plain-checked m (mapSource m) (mapTarget m) sources targets (mapSize m)
+  pub out_checks : LeavesTargetChecked (map_source_to_target m)
+  unfolding map_source_to_target match_source plain
+  out_checks = plain_checked m (map_source m) (map_target m) sources targets (map_size m)
 
-  pub home-checks : LeavesTargetChecked (mapTargetToSource m)
-  unfolding mapTargetToSource matchTarget plain
-  home-checks = plain-checked m (mapTarget m) (mapSource m) targets sources (mapSize m)
+  pub home_checks : LeavesTargetChecked (map_target_to_source m)
+  unfolding map_target_to_source match_target plain
+  home_checks = plain_checked m (map_target m) (map_source m) targets sources (map_size m)
 
   -- The invertibility check of a text with a dot is the same with and without the bracket.
-  invertible-before : (z : Text) (i : Option ℕ) (x : Option Text) → ((q : Text) → x ≡ some q → lacksByte 46 q ≡ false)
-      → requireInvertible m i (appended (91 ∷ z) x) ≡ appended (91 ∷ z) (requireInvertible m i x)
-  unfolding requireInvertible matchTarget appended
-  invertible-before z i none d = refl
-  invertible-before z i (some q) d =
-      ap (λ (j : Option ℕ). cond (eqIndex i j) (some (q ++ 91 ∷ z)) none) (match-before q z (d q refl) (mapTarget m) targets (mapSize m))
-      ∙ go (eqIndex i (longestMatch q (mapTarget m) (mapSize m)))
+  invertible_before : (z : Text) (i : Option ℕ) (x : Option Text) → ((q : Text) → x ≡ some q → lacks_byte 46 q ≡ false)
+      → require_invertible m i (appended (91 ∷ z) x) ≡ appended (91 ∷ z) (require_invertible m i x)
+  unfolding require_invertible match_target appended
+  invertible_before z i none d = refl
+  invertible_before z i (some q) d =
+      ap (λ (j : Option ℕ). cond (eq_index i j) (some (q ++ 91 ∷ z)) none) (match_before q z (d q refl) (map_target m) targets (map_size m))
+      ∙ go (eq_index i (longest_match q (map_target m) (map_size m)))
     where
       go : (c : Bool) → cond c (some (q ++ 91 ∷ z)) none ≡ appended (91 ∷ z) (cond c (some q) none)
       go true = refl
@@ -112,67 +112,67 @@ module _ (m : Map) (em : allEnds m.pairs ≡ true) where
 
   -- The translation of a path without selections.
   carry : Text → Option Text
-  carry x = requireInvertible m (matchSource m x) (mapSourceToTarget m x)
+  carry x = require_invertible m (match_source m x) (map_source_to_target m x)
 
-  out-keeps : (x : ℕ) → NotInEnds x → KeepsByte x (mapSourceToTarget m)
-  unfolding mapSourceToTarget
-  out-keeps x n o q = map-keeps m (mapSource m) (mapTarget m) sources targets x n (matchSource m o) o q
+  out_keeps : (x : ℕ) → NotInEnds x → KeepsByte x (map_source_to_target m)
+  unfolding map_source_to_target
+  out_keeps x n o q = map_keeps m (map_source m) (map_target m) sources targets x n (match_source m o) o q
 
-  carry-before : (o z : Text) → lacksByte 46 o ≡ false → carry (o ++ 91 ∷ z) ≡ appended (91 ∷ z) (carry o)
-  unfolding carry matchSource mapSourceToTarget
-  carry-before o z d =
-      let i : Option ℕ = longestMatch o (mapSource m) (mapSize m) in
-      ap (λ (j : Option ℕ). requireInvertible m j (mapBy m (mapSource m) (mapTarget m) (o ++ 91 ∷ z) j)) (match-before o z d (mapSource m) sources (mapSize m))
-      ∙ ap (requireInvertible m i) (map-before m (mapSource m) (mapTarget m) sources targets o z d i)
-      ∙ invertible-before z i (mapBy m (mapSource m) (mapTarget m) o i) (λ q e. out-keeps 46 dot-not o q e ∙ d)
+  carry_before : (o z : Text) → lacks_byte 46 o ≡ false → carry (o ++ 91 ∷ z) ≡ appended (91 ∷ z) (carry o)
+  unfolding carry match_source map_source_to_target
+  carry_before o z d =
+      let i : Option ℕ = longest_match o (map_source m) (map_size m) in
+      ap (λ (j : Option ℕ). require_invertible m j (map_by m (map_source m) (map_target m) (o ++ 91 ∷ z) j)) (match_before o z d (map_source m) sources (map_size m))
+      ∙ ap (require_invertible m i) (map_before m (map_source m) (map_target m) sources targets o z d i)
+      ∙ invertible_before z i (map_by m (map_source m) (map_target m) o i) (λ q e. out_keeps 46 dot_not o q e ∙ d)
 
-  carry-keeps : (x : ℕ) → NotInEnds x → KeepsByte x carry
-  unfolding carry requireInvertible
-  carry-keeps x n o q e = go (mapSourceToTarget m o) refl e
+  carry_keeps : (x : ℕ) → NotInEnds x → KeepsByte x carry
+  unfolding carry require_invertible
+  carry_keeps x n o q e = go (map_source_to_target m o) refl e
     where
-      go : (r : Option Text) → mapSourceToTarget m o ≡ r → requireInvertible m (matchSource m o) r ≡ some q → lacksByte x q ≡ lacksByte x o
+      go : (r : Option Text) → map_source_to_target m o ≡ r → require_invertible m (match_source m o) r ≡ some q → lacks_byte x q ≡ lacks_byte x o
       go none h k = absurd (no_text k)
-      go (some r) h k = kept (eqIndex (matchSource m o) (matchTarget m r)) k
+      go (some r) h k = kept (eq_index (match_source m o) (match_target m r)) k
         where
-          kept : (c : Bool) → cond c (some r) none ≡ some q → lacksByte x q ≡ lacksByte x o
-          kept true k = let w : r ≡ q = cc in rw (← w) (out-keeps x n o r h)
+          kept : (c : Bool) → cond c (some r) none ≡ some q → lacks_byte x q ≡ lacks_byte x o
+          kept true k = let w : r ≡ q = cc in rw (← w) (out_keeps x n o r h)
           kept false k = absurd (no_text k)
 
-  carry-leaves : LeavesTarget carry
-  carry-leaves = leaves-target carry carry-before
+  carry_leaves : LeavesTarget carry
+  carry_leaves = leaves_target carry carry_before
 
-  carry-checks : LeavesTargetChecked carry
-  carry-checks = leaves-checked carry carry-leaves carry-keeps
+  carry_checks : LeavesTargetChecked carry
+  carry_checks = leaves_checked carry carry_leaves carry_keeps
 
 -- Stripping the own part is the own part of the stripped path.
-strip-of-own : (p : Text) → ownPart (strip p) ≡ strip (ownPart p)
+strip_of_own : (p : Text) → own_part (strip p) ≡ strip (own_part p)
 unfolding strip
-strip-of-own p =
-    sym (ap (λ (x : Text). stripFrom false x ++ targetPart (ownPart p)) (own-all (ownPart p) (own-lacks p))
-    ∙ ap (λ (x : Text). stripFrom false (ownPart p) ++ x) (target_none (ownPart p) (own-lacks p)) ∙ append-nil (stripFrom false (ownPart p)) ∙ sym (strip-own p))
+strip_of_own p =
+    sym (ap (λ (x : Text). strip_from false x ++ target_part (own_part p)) (own_all (own_part p) (own_lacks p))
+    ∙ ap (λ (x : Text). strip_from false (own_part p) ++ x) (target_none (own_part p) (own_lacks p)) ∙ append-nil (strip_from false (own_part p)) ∙ sym (strip_own p))
 
 -- Of a path only the target part counts for what follows an answer.
-module _ (s p : Text) (t : targetPart s ≡ targetPart p) where
-  followed_same : (o : Option Text) → followedByTarget s o ≡ followedByTarget p o
-  unfolding followedByTarget
+module _ (s p : Text) (t : target_part s ≡ target_part p) where
+  followed_same : (o : Option Text) → followed_by_target s o ≡ followed_by_target p o
+  unfolding followed_by_target
   followed_same none = refl
   followed_same (some q) = rw t
 
-  outcome-same : (o : Option Text) → outcomeWithTarget s o ≡ outcomeWithTarget p o
-  unfolding outcomeWithTarget
-  outcome-same none = refl
-  outcome-same (some q) = rw t
+  outcome_same : (o : Option Text) → outcome_with_target s o ≡ outcome_with_target p o
+  unfolding outcome_with_target
+  outcome_same none = refl
+  outcome_same (some q) = rw t
 
 -- Translation is that of the stripped path, which has the same target part.
-module _ (m : Map) (em : allEnds m.pairs ≡ true) where
-  pub translation-leaves : LeavesTarget (translateToTarget m)
-  unfolding translateToTarget carry
-  translation-leaves p l =
-      carry-leaves m em (strip p) (strip-legal p l) ∙ followed_same (strip p) p (strip-target p) (carry m em (ownPart (strip p)))
-      ∙ ap (λ (x : Text). followedByTarget p (carry m em x)) (strip-of-own p)
+module _ (m : Map) (em : all_ends m.pairs ≡ true) where
+  pub translation_leaves : LeavesTarget (translate_to_target m)
+  unfolding translate_to_target carry
+  translation_leaves p l =
+      carry_leaves m em (strip p) (strip_legal p l) ∙ followed_same (strip p) p (strip_target p) (carry m em (own_part (strip p)))
+      ∙ ap (λ (x : Text). followed_by_target p (carry m em x)) (strip_of_own p)
 
-  pub translation-checks : LeavesTargetChecked (translateToTarget m)
-  unfolding translateToTarget carry
-  translation-checks p l =
-      carry-checks m em (strip p) (strip-legal p l) ∙ outcome-same (strip p) p (strip-target p) (carry m em (ownPart (strip p)))
-      ∙ ap (λ (x : Text). outcomeWithTarget p (carry m em x)) (strip-of-own p)
+  pub translation_checks : LeavesTargetChecked (translate_to_target m)
+  unfolding translate_to_target carry
+  translation_checks p l =
+      carry_checks m em (strip p) (strip_legal p l) ∙ outcome_same (strip p) p (strip_target p) (carry m em (own_part (strip p)))
+      ∙ ap (λ (x : Text). outcome_with_target p (carry m em x)) (strip_of_own p)

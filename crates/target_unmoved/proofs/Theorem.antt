@@ -1,19 +1,19 @@
 -- The theorems of specs/Unmoved.antt.
 use Rattle.target_unmoved.specs.Unmoved.{TargetUnmoved}
-use Rattle.target_unmoved.proofs.MapUnmoved.{out-leaves, home-leaves, translation-leaves, out-checks, home-checks, translation-checks}
-use Rattle.target_unmoved.proofs.ChainUnmoved.{next-leaves, shift-leaves, chain-leaves, next-checks, shift-checks}
+use Rattle.target_unmoved.proofs.MapUnmoved.{out_leaves, home_leaves, translation_leaves, out_checks, home_checks, translation_checks}
+use Rattle.target_unmoved.proofs.ChainUnmoved.{next_leaves, shift_leaves, chain_leaves, next_checks, shift_checks}
 
-pub target-unmoved : TargetUnmoved
-target-unmoved = record {
-  out = out-leaves;
-  home = home-leaves;
-  translation = translation-leaves;
-  shifting = shift-leaves;
-  replacing = λ skip l ends. next-leaves l ends skip;
-  chaining = λ skip l ends. chain-leaves l ends skip;
-  out-checked = out-checks;
-  home-checked = home-checks;
-  translation-checked = translation-checks;
-  shifting-checked = shift-checks;
-  replacing-checked = λ skip l ends. next-checks l ends skip;
+pub target_unmoved : TargetUnmoved
+target_unmoved = record {
+  out = out_leaves;
+  home = home_leaves;
+  translation = translation_leaves;
+  shifting = shift_leaves;
+  replacing = λ skip l ends. next_leaves l ends skip;
+  chaining = λ skip l ends. chain_leaves l ends skip;
+  out_checked = out_checks;
+  home_checked = home_checks;
+  translation_checked = translation_checks;
+  shifting_checked = shift_checks;
+  replacing_checked = λ skip l ends. next_checks l ends skip;
 }

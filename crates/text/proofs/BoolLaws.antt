@@ -31,30 +31,30 @@ pub or_right : (a b : Bool) → b ≡ true → (a || b) ≡ true
 or_right true b e = refl
 or_right false b e = e
 
-pub or-false : (a : Bool) → (a || false) ≡ a
-or-false true = refl
-or-false false = refl
+pub or_false : (a : Bool) → (a || false) ≡ a
+or_false true = refl
+or_false false = refl
 
-pub not-true : (a : Bool) → not a ≡ true → a ≡ false
-not-true true e = sym e
-not-true false e = refl
+pub not_true : (a : Bool) → not a ≡ true → a ≡ false
+not_true true e = sym e
+not_true false e = refl
 
-pub not-false : (a : Bool) → not a ≡ false → a ≡ true
-not-false true e = refl
-not-false false e = sym e
+pub not_false : (a : Bool) → not a ≡ false → a ≡ true
+not_false true e = refl
+not_false false e = sym e
 
-pub eqb-self : (a : ℕ) → eqb a a ≡ true
-eqb-self a = eq-eqb a a refl
+pub eqb_self : (a : ℕ) → eqb a a ≡ true
+eqb_self a = eq-eqb a a refl
 
 -- If the result r of a test is v, and r was found to be t, then v is t.
 pub told : {r v t : Bool} → r ≡ v → r ≡ t → v ≡ t
 told h k = sym h ∙ k
 
-pub known-false : {r v : Bool} → r ≡ v → not r ≡ true → v ≡ false
-known-false {r} h k = sym h ∙ not-true r k
+pub known_false : {r v : Bool} → r ≡ v → not r ≡ true → v ≡ false
+known_false {r} h k = sym h ∙ not_true r k
 
-pub known-true : {r v : Bool} → r ≡ v → not r ≡ false → v ≡ true
-known-true {r} {v} h k = go r h k
+pub known_true : {r v : Bool} → r ≡ v → not r ≡ false → v ≡ true
+known_true {r} {v} h k = go r h k
   where
     go : (b : Bool) → b ≡ v → not b ≡ false → v ≡ true
     go true h k = sym h

@@ -8,7 +8,7 @@ use Prim.Native.Nat.{ℕ, ◌/◌, ◌^◌, ◌<◌}
 use lib.Dec.{eqb}
 use borrow.Author.Tests.{eqb-true}
 use types.Run.{OneOf}
-use Rattle.text.proofs.BoolLaws.{and_l, and_r, or-false, up_to, at_each}
+use Rattle.text.proofs.BoolLaws.{and_l, and_r, or_false, up_to, at_each}
 
 -- The function f has the same result x at each value of an arm.
 abbrev pub same : (ℕ → ℕ) → ℕ → List ℕ → Bool
@@ -32,7 +32,7 @@ one_of (k ∷ ks) a = eqb a k || one_of ks a
 
 one : (ks : List ℕ) (a : ℕ) → one_of ks a ≡ true → OneOf ks a
 one [] a e = absurd (false≢true e)
-one (k ∷ []) a e = eqb-true a k (sym (or-false (eqb a k)) ∙ e)
+one (k ∷ []) a e = eqb-true a k (sym (or_false (eqb a k)) ∙ e)
 one (k ∷ l ∷ ks) a e = go (eqb a k) refl (one (l ∷ ks) a)
   where
     go : (b : Bool) → eqb a k ≡ b → (one_of (l ∷ ks) a ≡ true → OneOf (l ∷ ks) a) → OneOf (k ∷ l ∷ ks) a

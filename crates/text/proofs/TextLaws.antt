@@ -11,115 +11,115 @@ use lib.Dec.{eqb}
 use lib.ListN.{length, get_or, drop, drop_of_length-le, length-append, get_or-append}
 use lib.Seq.{drop-cons, drop-append_seam}
 use borrow.Author.Tests.{eqb-true}
-use Rattle.text.specs.Text.{Text, isNil, is_some, equal, stripPrefix, starts_with, endsWithByte, lacksByte}
-use Rattle.text.proofs.BoolLaws.{and_l, and_r, and_yes, and_assoc, eqb-self, not-true}
+use Rattle.text.specs.Text.{Text, is_nil, is_some, equal, strip_prefix, starts_with, ends_with_byte, lacks_byte}
+use Rattle.text.proofs.BoolLaws.{and_l, and_r, and_yes, and_assoc, eqb_self, not_true}
 
 -- `none` is not `some`
 pub no_text : {q : Text} → none ≡ some q → ⊥
 no_text {q} e = let z : ◌≡◌ {A = ℕ} 0 1 = cc in omega arith
 
 -- The remainder after a prefix, and the whole text.
-pub after-up : (s p r : Text) → stripPrefix s p ≡ some r → p ≡ s ++ r
-unfolding stripPrefix
-after-up [] p r e = cc
-after-up (a ∷ s) [] r e = cc
-after-up (a ∷ s) (b ∷ p) r e = go (eqb a b) refl (after-up s p r)
+pub after_up : (s p r : Text) → strip_prefix s p ≡ some r → p ≡ s ++ r
+unfolding strip_prefix
+after_up [] p r e = cc
+after_up (a ∷ s) [] r e = cc
+after_up (a ∷ s) (b ∷ p) r e = go (eqb a b) refl (after_up s p r)
   where
-    go : (t : Bool) → eqb a b ≡ t → (stripPrefix s p ≡ some r → p ≡ s ++ r) → b ∷ p ≡ a ∷ (s ++ r)
+    go : (t : Bool) → eqb a b ≡ t → (strip_prefix s p ≡ some r → p ≡ s ++ r) → b ∷ p ≡ a ∷ (s ++ r)
     go true h ih = let q : a ≡ b = eqb-true a b h in let k : p ≡ s ++ r = ih (rw h at e) in cc
     go false h ih = absurd (no_text (rw h at e))
 
-pub after-down : (s r : Text) → stripPrefix s (s ++ r) ≡ some r
-unfolding stripPrefix
-after-down [] r = refl
-after-down (a ∷ s) r = rw (eqb-self a) (after-down s r)
+pub after_down : (s r : Text) → strip_prefix s (s ++ r) ≡ some r
+unfolding strip_prefix
+after_down [] r = refl
+after_down (a ∷ s) r = rw (eqb_self a) (after_down s r)
 
-pub starts-rest : (s p : Text) → starts_with s p ≡ true → stripPrefix s p ≡ some (drop (length s) p)
+pub starts_rest : (s p : Text) → starts_with s p ≡ true → strip_prefix s p ≡ some (drop (length s) p)
 unfolding starts_with
-starts-rest s p h = go (stripPrefix s p) refl
+starts_rest s p h = go (strip_prefix s p) refl
   where
-    go : (o : Option Text) → stripPrefix s p ≡ o → stripPrefix s p ≡ some (drop (length s) p)
+    go : (o : Option Text) → strip_prefix s p ≡ o → strip_prefix s p ≡ some (drop (length s) p)
     go none e = absurd (true≢false (sym h ∙ ap is_some e))
-    go (some r) e = rw (e, after-up s p r e, drop-append_seam s r)
+    go (some r) e = rw (e, after_up s p r e, drop-append_seam s r)
 
-pub starts-long : (s p : Text) → starts_with s p ≡ true → length s ≤ length p
+pub starts_long : (s p : Text) → starts_with s p ≡ true → length s ≤ length p
 unfolding starts_with
-starts-long s p h = go (stripPrefix s p) refl
+starts_long s p h = go (strip_prefix s p) refl
   where
-    go : (o : Option Text) → stripPrefix s p ≡ o → length s ≤ length p
+    go : (o : Option Text) → strip_prefix s p ≡ o → length s ≤ length p
     go none e = absurd (true≢false (sym h ∙ ap is_some e))
-    go (some r) e = rw (after-up s p r e, length-append s r) (omega arith)
+    go (some r) e = rw (after_up s p r e, length-append s r) (omega arith)
 
 -- Lemmas for `starts_with`.
-pub starts-shorter : (s p : Text) → length p < length s → false ≡ starts_with s p
-starts-shorter s p h = go (starts_with s p) refl
+pub starts_shorter : (s p : Text) → length p < length s → false ≡ starts_with s p
+starts_shorter s p h = go (starts_with s p) refl
   where
     go : (b : Bool) → starts_with s p ≡ b → false ≡ b
-    go true e = absurd (omega (arith, starts-long s p e))
+    go true e = absurd (omega (arith, starts_long s p e))
     go false e = refl
 
 pub starts_none : (s p : Text) → length s ≡ 0 → true ≡ starts_with s p
-unfolding starts_with stripPrefix
+unfolding starts_with strip_prefix
 starts_none [] p h = refl
 starts_none (a ∷ s) p h = absurd (omega arith)
 
 -- A text that begins with s has the bytes of s at the indices of s.
-pub starts-at : (s p : Text) (i : ℕ) → i < length s → starts_with s p ≡ true → get_or p i 0 ≡ get_or s i 0
+pub starts_at : (s p : Text) (i : ℕ) → i < length s → starts_with s p ≡ true → get_or p i 0 ≡ get_or s i 0
 unfolding starts_with
-starts-at s p i h e = rw (after-up s p (drop (length s) p) (starts-rest s p e)) (get_or-append s (drop (length s) p) 0 i h)
+starts_at s p i h e = rw (after_up s p (drop (length s) p) (starts_rest s p e)) (get_or-append s (drop (length s) p) 0 i h)
 
-pub starts-differ : (s p : Text) → length s ≢ 0 → get_or p (length s - 1) 0 ≢ get_or s (length s - 1) 0 → false ≡ starts_with s p
-starts-differ s p n d = go (starts_with s p) refl
+pub starts_differ : (s p : Text) → length s ≢ 0 → get_or p (length s - 1) 0 ≢ get_or s (length s - 1) 0 → false ≡ starts_with s p
+starts_differ s p n d = go (starts_with s p) refl
   where
     go : (b : Bool) → starts_with s p ≡ b → false ≡ b
-    go true e = absurd (d (starts-at s p (length s - 1) (omega (arith, n)) e))
+    go true e = absurd (d (starts_at s p (length s - 1) (omega (arith, n)) e))
     go false e = refl
 
-starts-cons : (a : ℕ) (s : Text) (b : ℕ) (p : Text) → starts_with (a ∷ s) (b ∷ p) ≡ (eqb a b && starts_with s p)
-unfolding starts_with stripPrefix
-starts-cons a s b p = go (eqb a b)
+starts_cons : (a : ℕ) (s : Text) (b : ℕ) (p : Text) → starts_with (a ∷ s) (b ∷ p) ≡ (eqb a b && starts_with s p)
+unfolding starts_with strip_prefix
+starts_cons a s b p = go (eqb a b)
   where
-    go : (t : Bool) → is_some (cond t (stripPrefix s p) none) ≡ (t && is_some (stripPrefix s p))
+    go : (t : Bool) → is_some (cond t (strip_prefix s p) none) ≡ (t && is_some (strip_prefix s p))
     go true = refl
     go false = refl
 
-pub starts-on : (s p : Text) (i : ℕ) (same : Bool) → length s ≤ length p → i < length s → starts_with s p ≡ (same && starts_with (drop i s) (drop i p))
+pub starts_on : (s p : Text) (i : ℕ) (same : Bool) → length s ≤ length p → i < length s → starts_with s p ≡ (same && starts_with (drop i s) (drop i p))
     → starts_with s p ≡ (same && eqb (get_or s i 0) (get_or p i 0) && starts_with (drop (i + 1) s) (drop (i + 1) p))
-starts-on s p i same m h e =
+starts_on s p i same m h e =
     let l : i < length p = omega arith in
     let t : Bool = eqb (get_or s i 0) (get_or p i 0) in
-    rw (add-one i, and_assoc same t (starts_with (drop (suc i) s) (drop (suc i) p)), ← starts-cons (get_or s i 0) (drop (suc i) s) (get_or p i 0) (drop (suc i) p))
+    rw (add-one i, and_assoc same t (starts_with (drop (suc i) s) (drop (suc i) p)), ← starts_cons (get_or s i 0) (drop (suc i) s) (get_or p i 0) (drop (suc i) p))
     (rw (drop-cons p i 0 l, drop-cons s i 0 h) at e)
 
-pub starts-end : (s p : Text) (i : ℕ) (same : Bool) → length s ≤ i → starts_with s p ≡ (same && starts_with (drop i s) (drop i p)) → same ≡ starts_with s p
-unfolding starts_with stripPrefix
-starts-end s p i same l e = rw (e, drop_of_length-le s l) (sym (and_yes same))
+pub starts_end : (s p : Text) (i : ℕ) (same : Bool) → length s ≤ i → starts_with s p ≡ (same && starts_with (drop i s) (drop i p)) → same ≡ starts_with s p
+unfolding starts_with strip_prefix
+starts_end s p i same l e = rw (e, drop_of_length-le s l) (sym (and_yes same))
 
 -- Lemmas for `is_equal`.
-pub equal-lengths : (a b : Text) → length a ≢ length b → false ≡ equal a b
+pub equal_lengths : (a b : Text) → length a ≢ length b → false ≡ equal a b
 unfolding equal
-equal-lengths [] [] d = absurd (d refl)
-equal-lengths [] (y ∷ b) d = refl
-equal-lengths (x ∷ a) [] d = refl
-equal-lengths (x ∷ a) (y ∷ b) d = go (eqb x y) (equal-lengths a b (λ e. d (ap suc e)))
+equal_lengths [] [] d = absurd (d refl)
+equal_lengths [] (y ∷ b) d = refl
+equal_lengths (x ∷ a) [] d = refl
+equal_lengths (x ∷ a) (y ∷ b) d = go (eqb x y) (equal_lengths a b (λ e. d (ap suc e)))
   where
     go : (t : Bool) → false ≡ equal a b → false ≡ (t && equal a b)
     go true ih = ih
     go false ih = refl
 
-equal-as-starts : (a b : Text) → length a ≡ length b → starts_with a b ≡ equal a b
-unfolding equal starts_with stripPrefix
-equal-as-starts [] [] l = refl
-equal-as-starts [] (y ∷ b) l = absurd (omega arith)
-equal-as-starts (x ∷ a) [] l = absurd (omega arith)
-equal-as-starts (x ∷ a) (y ∷ b) l = go (eqb x y) refl (equal-as-starts a b (omega arith))
+equal_as_starts : (a b : Text) → length a ≡ length b → starts_with a b ≡ equal a b
+unfolding equal starts_with strip_prefix
+equal_as_starts [] [] l = refl
+equal_as_starts [] (y ∷ b) l = absurd (omega arith)
+equal_as_starts (x ∷ a) [] l = absurd (omega arith)
+equal_as_starts (x ∷ a) (y ∷ b) l = go (eqb x y) refl (equal_as_starts a b (omega arith))
   where
     go : (t : Bool) → eqb x y ≡ t → starts_with a b ≡ equal a b → starts_with (x ∷ a) (y ∷ b) ≡ equal (x ∷ a) (y ∷ b)
     go true h ih = rw h ih
     go false h ih = rw h
 
-pub equal-starts : (a b : Text) (r : Bool) → length a ≡ length b → r ≡ starts_with a b → r ≡ equal a b
-equal-starts a b r l h = h ∙ equal-as-starts a b l
+pub equal_starts : (a b : Text) (r : Bool) → length a ≡ length b → r ≡ starts_with a b → r ≡ equal a b
+equal_starts a b r l h = h ∙ equal_as_starts a b l
 
 -- Texts that `equal` accepts are equal.
 pub equal_is : (a b : Text) → equal a b ≡ true → a ≡ b
@@ -132,100 +132,100 @@ equal_is (x ∷ a) (y ∷ b) e =
     let k : a ≡ b = equal_is a b (and_r (eqb x y) (equal a b) e) in
     cc
 
-pub equal-self : (a : Text) → equal a a ≡ true
+pub equal_self : (a : Text) → equal a a ≡ true
 unfolding equal
-equal-self [] = refl
-equal-self (x ∷ a) = rw (eqb-self x) (equal-self a)
+equal_self [] = refl
+equal_self (x ∷ a) = rw (eqb_self x) (equal_self a)
 
 -- A text equals s ++ r exactly if it begins with s and the remainder equals r.
-pub equal-append : (s r t : Text) → equal (s ++ r) t ≡ (starts_with s t && equal r (drop (length s) t))
-unfolding equal starts_with stripPrefix
-equal-append [] r t = refl
-equal-append (a ∷ s) r [] = refl
-equal-append (a ∷ s) r (b ∷ t) = go (eqb a b) (equal-append s r t)
+pub equal_append : (s r t : Text) → equal (s ++ r) t ≡ (starts_with s t && equal r (drop (length s) t))
+unfolding equal starts_with strip_prefix
+equal_append [] r t = refl
+equal_append (a ∷ s) r [] = refl
+equal_append (a ∷ s) r (b ∷ t) = go (eqb a b) (equal_append s r t)
   where
-    go : (e : Bool) → equal (s ++ r) t ≡ (is_some (stripPrefix s t) && equal r (drop (length s) t))
-        → (e && equal (s ++ r) t) ≡ (is_some (cond e (stripPrefix s t) none) && equal r (drop (length s) t))
+    go : (e : Bool) → equal (s ++ r) t ≡ (is_some (strip_prefix s t) && equal r (drop (length s) t))
+        → (e && equal (s ++ r) t) ≡ (is_some (cond e (strip_prefix s t) none) && equal r (drop (length s) t))
     go true h = h
     go false h = refl
 
 -- Lemmas for `last_is`.
-pub last_none : (b : ℕ) (s : Text) → length s ≡ 0 → false ≡ endsWithByte b s
-unfolding endsWithByte
+pub last_none : (b : ℕ) (s : Text) → length s ≡ 0 → false ≡ ends_with_byte b s
+unfolding ends_with_byte
 last_none b [] l = refl
 last_none b (a ∷ s) l = absurd (omega arith)
 
-last-at : (b : ℕ) (s : Text) (a : ℕ) → eqb (get_or (a ∷ s) (length s) 0) b ≡ endsWithByte b (a ∷ s)
-unfolding endsWithByte
-last-at b [] a = refl
-last-at b (c ∷ s) a = last-at b s c
+last_at : (b : ℕ) (s : Text) (a : ℕ) → eqb (get_or (a ∷ s) (length s) 0) b ≡ ends_with_byte b (a ∷ s)
+unfolding ends_with_byte
+last_at b [] a = refl
+last_at b (c ∷ s) a = last_at b s c
 
-pub last_some : (b : ℕ) (s : Text) → length s ≢ 0 → eqb (get_or s (length s - 1) 0) b ≡ endsWithByte b s
+pub last_some : (b : ℕ) (s : Text) → length s ≢ 0 → eqb (get_or s (length s - 1) 0) b ≡ ends_with_byte b s
 last_some b [] l = absurd (l refl)
-last_some b (a ∷ s) l = let k : suc (length s) - 1 ≡ length s = omega arith in rw k (last-at b s a)
+last_some b (a ∷ s) l = let k : suc (length s) - 1 ≡ length s = omega arith in rw k (last_at b s a)
 
-pub last_snoc : (b : ℕ) (s : Text) (c : ℕ) → endsWithByte b (s ++ c ∷ []) ≡ eqb c b
-unfolding endsWithByte
+pub last_snoc : (b : ℕ) (s : Text) (c : ℕ) → ends_with_byte b (s ++ c ∷ []) ≡ eqb c b
+unfolding ends_with_byte
 last_snoc b [] c = refl
 last_snoc b (a ∷ []) c = refl
 last_snoc b (a ∷ d ∷ s) c = last_snoc b (d ∷ s) c
 
-pub last-after : (b : ℕ) (s : Text) (a : ℕ) (r : Text) → endsWithByte b (s ++ a ∷ r) ≡ endsWithByte b (a ∷ r)
-unfolding endsWithByte
-last-after b [] a r = refl
-last-after b (c ∷ []) a r = refl
-last-after b (c ∷ d ∷ s) a r = last-after b (d ∷ s) a r
+pub last_after : (b : ℕ) (s : Text) (a : ℕ) (r : Text) → ends_with_byte b (s ++ a ∷ r) ≡ ends_with_byte b (a ∷ r)
+unfolding ends_with_byte
+last_after b [] a r = refl
+last_after b (c ∷ []) a r = refl
+last_after b (c ∷ d ∷ s) a r = last_after b (d ∷ s) a r
 
 -- Lemmas for `lacks_byte`. The loop invariant is the test of the bytes read so far and of the remaining bytes.
-pub lacks-on : (b : ℕ) (s : Text) (i : ℕ) (free : Bool) → i < length s → lacksByte b s ≡ (free && lacksByte b (drop i s))
-    → lacksByte b s ≡ (free && not (eqb (get_or s i 0) b) && lacksByte b (drop (i + 1) s))
-unfolding lacksByte
-lacks-on b s i free h e =
-    rw (add-one i, and_assoc free (not (eqb (get_or s i 0) b)) (lacksByte b (drop (suc i) s))) (rw (drop-cons s i 0 h) at e)
+pub lacks_on : (b : ℕ) (s : Text) (i : ℕ) (free : Bool) → i < length s → lacks_byte b s ≡ (free && lacks_byte b (drop i s))
+    → lacks_byte b s ≡ (free && not (eqb (get_or s i 0) b) && lacks_byte b (drop (i + 1) s))
+unfolding lacks_byte
+lacks_on b s i free h e =
+    rw (add-one i, and_assoc free (not (eqb (get_or s i 0) b)) (lacks_byte b (drop (suc i) s))) (rw (drop-cons s i 0 h) at e)
 
-pub lacks-end : (b : ℕ) (s : Text) (i : ℕ) (free : Bool) → length s ≤ i → lacksByte b s ≡ (free && lacksByte b (drop i s)) → free ≡ lacksByte b s
-unfolding lacksByte
-lacks-end b s i free h e = rw (e, drop_of_length-le s h) (sym (and_yes free))
+pub lacks_end : (b : ℕ) (s : Text) (i : ℕ) (free : Bool) → length s ≤ i → lacks_byte b s ≡ (free && lacks_byte b (drop i s)) → free ≡ lacks_byte b s
+unfolding lacks_byte
+lacks_end b s i free h e = rw (e, drop_of_length-le s h) (sym (and_yes free))
 
-pub lacks-first : (b a : ℕ) (r : Text) → lacksByte b (a ∷ r) ≡ true → eqb a b ≡ false
-unfolding lacksByte
-lacks-first b a r f = not-true (eqb a b) (and_l (not (eqb a b)) (lacksByte b r) f)
+pub lacks_first : (b a : ℕ) (r : Text) → lacks_byte b (a ∷ r) ≡ true → eqb a b ≡ false
+unfolding lacks_byte
+lacks_first b a r f = not_true (eqb a b) (and_l (not (eqb a b)) (lacks_byte b r) f)
 
-pub lacks_rest : (b a : ℕ) (r : Text) → lacksByte b (a ∷ r) ≡ true → lacksByte b r ≡ true
-unfolding lacksByte
-lacks_rest b a r f = and_r (not (eqb a b)) (lacksByte b r) f
+pub lacks_rest : (b a : ℕ) (r : Text) → lacks_byte b (a ∷ r) ≡ true → lacks_byte b r ≡ true
+unfolding lacks_byte
+lacks_rest b a r f = and_r (not (eqb a b)) (lacks_byte b r) f
 
-pub lacks-after : (b : ℕ) (s r : Text) → lacksByte b (s ++ r) ≡ true → lacksByte b r ≡ true
-unfolding lacksByte
-lacks-after b [] r e = e
-lacks-after b (a ∷ s) r e = lacks-after b s r (and_r (not (eqb a b)) (lacksByte b (s ++ r)) e)
+pub lacks_after : (b : ℕ) (s r : Text) → lacks_byte b (s ++ r) ≡ true → lacks_byte b r ≡ true
+unfolding lacks_byte
+lacks_after b [] r e = e
+lacks_after b (a ∷ s) r e = lacks_after b s r (and_r (not (eqb a b)) (lacks_byte b (s ++ r)) e)
 
-pub lacks-last : (b : ℕ) (r : Text) → lacksByte b r ≡ true → endsWithByte b r ≡ false
-unfolding endsWithByte
-lacks-last b [] e = refl
-lacks-last b (a ∷ []) e = lacks-first b a [] e
-lacks-last b (a ∷ c ∷ r) e = lacks-last b (c ∷ r) (lacks_rest b a (c ∷ r) e)
+pub lacks_last : (b : ℕ) (r : Text) → lacks_byte b r ≡ true → ends_with_byte b r ≡ false
+unfolding ends_with_byte
+lacks_last b [] e = refl
+lacks_last b (a ∷ []) e = lacks_first b a [] e
+lacks_last b (a ∷ c ∷ r) e = lacks_last b (c ∷ r) (lacks_rest b a (c ∷ r) e)
 
-pub lacks-append : (b : ℕ) (s r : Text) → lacksByte b (s ++ r) ≡ (lacksByte b s && lacksByte b r)
-unfolding lacksByte
-lacks-append b [] r = refl
-lacks-append b (a ∷ s) r = rw (lacks-append b s r) (sym (and_assoc (not (eqb a b)) (lacksByte b s) (lacksByte b r)))
+pub lacks_append : (b : ℕ) (s r : Text) → lacks_byte b (s ++ r) ≡ (lacks_byte b s && lacks_byte b r)
+unfolding lacks_byte
+lacks_append b [] r = refl
+lacks_append b (a ∷ s) r = rw (lacks_append b s r) (sym (and_assoc (not (eqb a b)) (lacks_byte b s) (lacks_byte b r)))
 
-pub lacks-before : (b : ℕ) (s r : Text) → lacksByte b (s ++ r) ≡ true → lacksByte b s ≡ true
-lacks-before b s r e = and_l (lacksByte b s) (lacksByte b r) (sym (lacks-append b s r) ∙ e)
+pub lacks_before : (b : ℕ) (s r : Text) → lacks_byte b (s ++ r) ≡ true → lacks_byte b s ≡ true
+lacks_before b s r e = and_l (lacks_byte b s) (lacks_byte b r) (sym (lacks_append b s r) ∙ e)
 
-pub lacks-join : (b : ℕ) (s r : Text) → lacksByte b s ≡ true → lacksByte b r ≡ true → lacksByte b (s ++ r) ≡ true
-unfolding lacksByte
-lacks-join b [] r e f = f
-lacks-join b (a ∷ s) r e f = rw (and_l (not (eqb a b)) (lacksByte b s) e) (lacks-join b s r (and_r (not (eqb a b)) (lacksByte b s) e) f)
+pub lacks_join : (b : ℕ) (s r : Text) → lacks_byte b s ≡ true → lacks_byte b r ≡ true → lacks_byte b (s ++ r) ≡ true
+unfolding lacks_byte
+lacks_join b [] r e f = f
+lacks_join b (a ∷ s) r e f = rw (and_l (not (eqb a b)) (lacks_byte b s) e) (lacks_join b s r (and_r (not (eqb a b)) (lacks_byte b s) e) f)
 
-pub ruleset texts = (starts-shorter, starts_none, starts-differ, starts-on, starts-end, equal-lengths, equal-starts, last_none, last_some, lacks-on, lacks-end)
+pub ruleset texts = (starts_shorter, starts_none, starts_differ, starts_on, starts_end, equal_lengths, equal_starts, last_none, last_some, lacks_on, lacks_end)
 
 -- A text is empty exactly if its length is 0.
-pub nil-length : (t : Text) → length t ≡ 0 → isNil t ≡ true
-nil-length [] h = refl
-nil-length (a ∷ t) h = absurd (omega arith)
+pub nil_length : (t : Text) → length t ≡ 0 → is_nil t ≡ true
+nil_length [] h = refl
+nil_length (a ∷ t) h = absurd (omega arith)
 
-pub nil_not : (t : Text) → length t ≢ 0 → isNil t ≡ false
+pub nil_not : (t : Text) → length t ≢ 0 → is_nil t ≡ false
 nil_not [] h = absurd (h refl)
 nil_not (a ∷ t) h = refl

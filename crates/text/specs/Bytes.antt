@@ -14,28 +14,28 @@ abbrev pub colon : ℕ
 colon = 58
 
 -- `=`
-abbrev pub equalsSign : ℕ
-equalsSign = 61
+abbrev pub equals_sign : ℕ
+equals_sign = 61
 
 -- `_`
 abbrev pub underscore : ℕ
 underscore = 95
 
 -- `{`
-abbrev pub openBrace : ℕ
-openBrace = 123
+abbrev pub open_brace : ℕ
+open_brace = 123
 
 -- `}`
-abbrev pub closeBrace : ℕ
-closeBrace = 125
+abbrev pub close_brace : ℕ
+close_brace = 125
 
 -- `[`
-abbrev pub openBracket : ℕ
-openBracket = 91
+abbrev pub open_bracket : ℕ
+open_bracket = 91
 
 -- `]`
-abbrev pub closeBracket : ℕ
-closeBracket = 93
+abbrev pub close_bracket : ℕ
+close_bracket = 93
 
 -- the newline
 abbrev pub newline : ℕ
@@ -50,25 +50,25 @@ abbrev pub digit9 : ℕ
 digit9 = 57
 
 -- `A`
-abbrev pub upperA : ℕ
-upperA = 65
+abbrev pub upper_a : ℕ
+upper_a = 65
 
 -- `F`
-abbrev pub upperF : ℕ
-upperF = 70
+abbrev pub upper_f : ℕ
+upper_f = 70
 
 -- `Z`
-abbrev pub upperZ : ℕ
-upperZ = 90
+abbrev pub upper_z : ℕ
+upper_z = 90
 
 -- `a`
-abbrev pub lowerA : ℕ
-lowerA = 97
+abbrev pub lower_a : ℕ
+lower_a = 97
 
 -- `f`
-abbrev pub lowerF : ℕ
-lowerF = 102
+abbrev pub lower_f : ℕ
+lower_f = 102
 
 -- `z`
-abbrev pub lowerZ : ℕ
-lowerZ = 122
+abbrev pub lower_z : ℕ
+lower_z = 122

@@ -16,9 +16,9 @@ bytes []ˢ = []
 bytes (c ∷ˢ s) = code c ∷ bytes s
 
 -- The text is empty.
-abbrev pub isNil : Text → Bool
-isNil [] = true
-isNil (a ∷ r) = false
+abbrev pub is_nil : Text → Bool
+is_nil [] = true
+is_nil (a ∷ r) = false
 
 -- The two texts are equal, byte for byte.
 unfoldable pub equal : Text → Text → Bool
@@ -28,10 +28,10 @@ equal (a ∷ s) [] = false
 equal (a ∷ s) (b ∷ t) = eqb a b && equal s t
 
 -- The remainder of the text p after the prefix s; none if p does not begin with s.
-unfoldable pub stripPrefix : Text → Text → Option Text
-stripPrefix [] p = some p
-stripPrefix (a ∷ s) [] = none
-stripPrefix (a ∷ s) (b ∷ p) = cond (eqb a b) (stripPrefix s p) none
+unfoldable pub strip_prefix : Text → Text → Option Text
+strip_prefix [] p = some p
+strip_prefix (a ∷ s) [] = none
+strip_prefix (a ∷ s) (b ∷ p) = cond (eqb a b) (strip_prefix s p) none
 
 -- The option has a value.
 abbrev pub is_some : Option Text → Bool
@@ -40,29 +40,29 @@ is_some (some q) = true
 
 -- The text p begins with the prefix s.
 unfoldable pub starts_with : Text → Text → Bool
-unfolding stripPrefix
-starts_with s p = is_some (stripPrefix s p)
+unfolding strip_prefix
+starts_with s p = is_some (strip_prefix s p)
 
 -- The last byte is b; false for the empty text.
-unfoldable pub endsWithByte : ℕ → Text → Bool
-endsWithByte b [] = false
-endsWithByte b (a ∷ []) = eqb a b
-endsWithByte b (a ∷ c ∷ r) = endsWithByte b (c ∷ r)
+unfoldable pub ends_with_byte : ℕ → Text → Bool
+ends_with_byte b [] = false
+ends_with_byte b (a ∷ []) = eqb a b
+ends_with_byte b (a ∷ c ∷ r) = ends_with_byte b (c ∷ r)
 
 -- No byte of the text is b.
-unfoldable pub lacksByte : ℕ → Text → Bool
-lacksByte b [] = true
-lacksByte b (a ∷ r) = not (eqb a b) && lacksByte b r
+unfoldable pub lacks_byte : ℕ → Text → Bool
+lacks_byte b [] = true
+lacks_byte b (a ∷ r) = not (eqb a b) && lacks_byte b r
 
 -- The bytes before the first byte b; the whole text if there is none.
-unfoldable pub takeUntil : ℕ → Text → Text
-takeUntil b [] = []
-takeUntil b (a ∷ r) = cond (eqb a b) [] (a ∷ takeUntil b r)
+unfoldable pub take_until : ℕ → Text → Text
+take_until b [] = []
+take_until b (a ∷ r) = cond (eqb a b) [] (a ∷ take_until b r)
 
 -- The text from the first byte b on; empty if there is none.
-unfoldable pub dropUntil : ℕ → Text → Text
-dropUntil b [] = []
-dropUntil b (a ∷ r) = cond (eqb a b) (a ∷ r) (dropUntil b r)
+unfoldable pub drop_until : ℕ → Text → Text
+drop_until b [] = []
+drop_until b (a ∷ r) = cond (eqb a b) (a ∷ r) (drop_until b r)
 
 -- The text without its last byte.
 unfoldable pub drop_last : Text → Text
@@ -75,13 +75,13 @@ abbrev pub written : Text → Text → Text
 written t out = t ++ drop (length t) out
 
 -- The buffer `out` with the text t written over it from index `at`.
-abbrev pub writtenAt : ℕ → Text → Text → Text
-writtenAt at t out = take at out ++ (t ++ drop (at + length t) out)
+abbrev pub written_at : ℕ → Text → Text → Text
+written_at at t out = take at out ++ (t ++ drop (at + length t) out)
 
 -- The result of writing a text over the beginning of a buffer: the length written, or `Over` if the text does not fit.
-unfoldable pub fitOf : Text → Text → Fit
-fitOf t out = cond (leb (length t) (length out)) (Written (length t)) Over
+unfoldable pub fit_of : Text → Text → Fit
+fit_of t out = cond (leb (length t) (length out)) (Written (length t)) Over
 
 -- The buffer `out` with the text t written over it from index `at` if it fits there; otherwise the buffer unchanged.
-unfoldable pub writtenIfFits : ℕ → Text → Text → Text
-writtenIfFits at t out = cond (leb (at + length t) (length out)) (writtenAt at t out) out
+unfoldable pub written_if_fits : ℕ → Text → Text → Text
+written_if_fits at t out = cond (leb (at + length t) (length out)) (written_at at t out) out

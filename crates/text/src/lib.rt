@@ -1,7 +1,7 @@
 // Byte-string primitives: comparison, search for a byte, and copying into a caller's buffer. Every
 // function is total: none has a precondition.
 ghost use Rattle.std.specs.Prelude.{◌≡◌, length};
-ghost use Rattle.text.specs.Text.{equal, starts_with, endsWithByte, lacksByte, takeUntil, writtenIfFits};
+ghost use Rattle.text.specs.Text.{equal, starts_with, ends_with_byte, lacks_byte, take_until, written_if_fits};
 
 // The result of writing to a lent buffer.
 #[derive(Drop)]
@@ -48,7 +48,7 @@ pub fn is_equal(a: &[u8], b: &[u8]) -> bool
 
 // Returns whether the last byte is `b`; false for an empty text.
 pub fn last_is(text: &[u8], b: u8) -> bool
-    ensures { result ≡ endsWithByte b text.now }
+    ensures { result ≡ ends_with_byte b text.now }
 {
     let n = text.len();
     if n == 0 {
@@ -59,7 +59,7 @@ pub fn last_is(text: &[u8], b: u8) -> bool
 
 // Returns whether no byte of the text is `b`. As in `starts_with`, the loop has no early exit.
 pub fn lacks_byte(text: &[u8], b: u8) -> bool
-    ensures { result ≡ lacksByte b text.now }
+    ensures { result ≡ lacks_byte b text.now }
 {
     let mut lacks = true;
     let mut i = 0;
@@ -73,7 +73,7 @@ pub fn lacks_byte(text: &[u8], b: u8) -> bool
 // Returns the index of the first byte `b`, or the length of the text if there is none. Most texts that are
 // asked have none, and `lacks_byte` finds that out faster than the loop.
 pub fn find_byte(text: &[u8], b: u8) -> usize
-    ensures { result ≡ length (takeUntil b text.now) }
+    ensures { result ≡ length (take_until b text.now) }
 {
     if lacks_byte(text, b) {
         return text.len();
@@ -90,7 +90,7 @@ pub fn find_byte(text: &[u8], b: u8) -> usize
 
 // Copies the text into the buffer from index `at` if it fits; otherwise writes nothing.
 pub fn write_at(text: &[u8], at: usize, out: &mut [u8])
-    ensures { out.new ≡ writtenIfFits at text.now out.old }
+    ensures { out.new ≡ written_if_fits at text.now out.old }
 {
     if out.len() < at {
         return;

@@ -8,10 +8,10 @@ use lib.Dec.{leb}
 use lib.ListN.{length, get_or, set, take, drop, get_or-eq_default}
 use lib.Seq.{sets-eq}
 use borrow.Author.Tests.{le-leb, lt-leb}
-use Rattle.text.specs.Text.{Text, writtenAt, writtenIfFits}
+use Rattle.text.specs.Text.{Text, written_at, written_if_fits}
 use Rattle.text.proofs.BoolLaws.{and_no}
-use Rattle.text_list.specs.Places.{inStore, textAt}
-use Rattle.text_list.specs.Packed.{textPlaces, textFits, textEnd, bytesWithText, placesWithText}
+use Rattle.text_list.specs.Places.{in_store, text_at}
+use Rattle.text_list.specs.Packed.{text_places, text_fits, text_end, bytes_with_text, places_with_text}
 
 no_length : (places : List ℕ) (j : ℕ) → length places / 2 ≤ j → get_or places (2 * j + 1) 0 ≡ 0
 no_length places j h = get_or-eq_default places 0 (omega arith)
@@ -23,48 +23,48 @@ either false s = refl
 
 -- `text_at`
 module _ (store : Text) (places : List ℕ) (j : ℕ) where
-  pub text-missing : length places / 2 ≤ j → [] ≡ textAt store places j
-  unfolding textAt
-  text-missing h = rw (no_length places j h) (either (leb (get_or places (2 * j) 0 + 0) (length store)) (drop (get_or places (2 * j) 0) store))
+  pub text_missing : length places / 2 ≤ j → [] ≡ text_at store places j
+  unfolding text_at
+  text_missing h = rw (no_length places j h) (either (leb (get_or places (2 * j) 0 + 0) (length store)) (drop (get_or places (2 * j) 0) store))
 
-  pub outside-start : length store < get_or places (2 * j) 0 → inStore store places j ≡ false
-  unfolding inStore
-  outside-start h = lt-leb (get_or places (2 * j) 0 + get_or places (2 * j + 1) 0) (length store) (omega arith)
+  pub outside_start : length store < get_or places (2 * j) 0 → in_store store places j ≡ false
+  unfolding in_store
+  outside_start h = lt-leb (get_or places (2 * j) 0 + get_or places (2 * j + 1) 0) (length store) (omega arith)
 
-  pub outside-end : length store - get_or places (2 * j) 0 < get_or places (2 * j + 1) 0 → inStore store places j ≡ false
-  unfolding inStore
-  outside-end h = lt-leb (get_or places (2 * j) 0 + get_or places (2 * j + 1) 0) (length store) (omega arith)
+  pub outside_end : length store - get_or places (2 * j) 0 < get_or places (2 * j + 1) 0 → in_store store places j ≡ false
+  unfolding in_store
+  outside_end h = lt-leb (get_or places (2 * j) 0 + get_or places (2 * j + 1) 0) (length store) (omega arith)
 
-  pub is-inside : get_or places (2 * j) 0 ≤ length store → get_or places (2 * j + 1) 0 ≤ length store - get_or places (2 * j) 0 → inStore store places j ≡ true
-  unfolding inStore
-  is-inside h k = le-leb (get_or places (2 * j) 0 + get_or places (2 * j + 1) 0) (length store) (omega arith)
+  pub is_inside : get_or places (2 * j) 0 ≤ length store → get_or places (2 * j + 1) 0 ≤ length store - get_or places (2 * j) 0 → in_store store places j ≡ true
+  unfolding in_store
+  is_inside h k = le-leb (get_or places (2 * j) 0 + get_or places (2 * j + 1) 0) (length store) (omega arith)
 
-  pub text-start : length store < get_or places (2 * j) 0 → [] ≡ textAt store places j
-  unfolding textAt
-  text-start h = rw (outside-start h)
+  pub text_start : length store < get_or places (2 * j) 0 → [] ≡ text_at store places j
+  unfolding text_at
+  text_start h = rw (outside_start h)
 
-  pub text-end : length store - get_or places (2 * j) 0 < get_or places (2 * j + 1) 0 → [] ≡ textAt store places j
-  unfolding textAt
-  text-end h = rw (outside-end h)
+  pub text_end_lem : length store - get_or places (2 * j) 0 < get_or places (2 * j + 1) 0 → [] ≡ text_at store places j
+  unfolding text_at
+  text_end_lem h = rw (outside_end h)
 
-  pub text-part : get_or places (2 * j) 0 ≤ length store → get_or places (2 * j + 1) 0 ≤ length store - get_or places (2 * j) 0
-      → take (get_or places (2 * j) 0 + get_or places (2 * j + 1) 0 - get_or places (2 * j) 0) (drop (get_or places (2 * j) 0) store) ≡ textAt store places j
-  unfolding textAt
-  text-part h k =
+  pub text_part : get_or places (2 * j) 0 ≤ length store → get_or places (2 * j + 1) 0 ≤ length store - get_or places (2 * j) 0
+      → take (get_or places (2 * j) 0 + get_or places (2 * j + 1) 0 - get_or places (2 * j) 0) (drop (get_or places (2 * j) 0) store) ≡ text_at store places j
+  unfolding text_at
+  text_part h k =
       let z : get_or places (2 * j) 0 + get_or places (2 * j + 1) 0 - get_or places (2 * j) 0 ≡ get_or places (2 * j + 1) 0 = omega arith in
-      rw (z, is-inside h k)
+      rw (z, is_inside h k)
 
-pub ruleset reading = (text-missing, text-start, text-end, text-part)
+pub ruleset reading = (text_missing, text_start, text_end_lem, text_part)
 
 -- `write_place`
 module _ (j a b : ℕ) (slots : List ℕ) where
-  pub place-over : length slots / 2 ≤ j → slots ≡ writtenIfFits (2 * j) (a ∷ b ∷ []) slots
-  unfolding writtenIfFits
-  place-over h = rw (lt-leb (2 * j + 2) (length slots) (omega arith)) refl
+  pub place_over : length slots / 2 ≤ j → slots ≡ written_if_fits (2 * j) (a ∷ b ∷ []) slots
+  unfolding written_if_fits
+  place_over h = rw (lt-leb (2 * j + 2) (length slots) (omega arith)) refl
 
-  pub place-stored : j < length slots / 2 → set (set slots (2 * j) a) (2 * j + 1) b ≡ writtenIfFits (2 * j) (a ∷ b ∷ []) slots
-  unfolding writtenIfFits
-  place-stored h =
+  pub place_stored : j < length slots / 2 → set (set slots (2 * j) a) (2 * j + 1) b ≡ written_if_fits (2 * j) (a ∷ b ∷ []) slots
+  unfolding written_if_fits
+  place_stored h =
       let v : List ℕ = a ∷ b ∷ [] in
       let e : 2 * j + 1 ≡ suc (2 * j) = omega arith in
       rw (le-leb (2 * j + 2) (length slots) (omega arith), e) (sets-eq v slots (2 * j) (omega arith) ∙ append_assoc (take (2 * j) slots) v (drop (2 * j + 2) slots))
@@ -72,28 +72,28 @@ module _ (j a b : ℕ) (slots : List ℕ) where
 -- `push_text`
 module _ (t : Text) (n at : ℕ) (bytes : Text) (slots : List ℕ) where
   abbrev pub Pushed : ℕ → Text → List ℕ → Type 0
-  Pushed r bytes' slots' = (r ≡ textEnd t n at bytes slots) × ((bytes' ≡ bytesWithText t n at bytes slots) × (slots' ≡ placesWithText t n at bytes slots))
+  Pushed r bytes' slots' = (r ≡ text_end t n at bytes slots) × ((bytes' ≡ bytes_with_text t n at bytes slots) × (slots' ≡ places_with_text t n at bytes slots))
 
-  kept : textFits t n at bytes slots ≡ false → Pushed at bytes slots
-  unfolding textEnd bytesWithText placesWithText
+  kept : text_fits t n at bytes slots ≡ false → Pushed at bytes slots
+  unfolding text_end bytes_with_text places_with_text
   kept e = rw e (refl, (refl, refl))
 
-  pub push-long : length bytes < at + length t → Pushed at bytes slots
-  unfolding textFits
-  push-long h = kept (rw (lt-leb (at + length t) (length bytes) h))
+  pub push_long : length bytes < at + length t → Pushed at bytes slots
+  unfolding text_fits
+  push_long h = kept (rw (lt-leb (at + length t) (length bytes) h))
 
-  pub push-many : length slots < 2 * n + 2 → Pushed at bytes slots
-  unfolding textFits
-  push-many h = kept (rw (lt-leb (2 * n + 2) (length slots) h) (and_no (leb (at + length t) (length bytes))))
+  pub push_many : length slots < 2 * n + 2 → Pushed at bytes slots
+  unfolding text_fits
+  push_many h = kept (rw (lt-leb (2 * n + 2) (length slots) h) (and_no (leb (at + length t) (length bytes))))
 
   module _ (h : at + length t ≤ length bytes) (g : 2 * n + 2 ≤ length slots) where
-    fits : textFits t n at bytes slots ≡ true
-    unfolding textFits
+    fits : text_fits t n at bytes slots ≡ true
+    unfolding text_fits
     fits = rw (le-leb (at + length t) (length bytes) h, le-leb (2 * n + 2) (length slots) g)
 
-    pub push-done : (bytes' : Text) (slots' : List ℕ) → bytes' ≡ writtenIfFits at t bytes → slots' ≡ writtenIfFits (2 * n) (at ∷ length t ∷ []) slots
+    pub push-done : (bytes' : Text) (slots' : List ℕ) → bytes' ≡ written_if_fits at t bytes → slots' ≡ written_if_fits (2 * n) (at ∷ length t ∷ []) slots
         → Pushed (at + length t) bytes' slots'
-    unfolding textEnd bytesWithText placesWithText writtenIfFits textPlaces
+    unfolding text_end bytes_with_text places_with_text written_if_fits text_places
     push-done bytes' slots' e f =
         rw fits (
           refl,
@@ -102,6 +102,6 @@ module _ (t : Text) (n at : ℕ) (bytes : Text) (slots : List ℕ) where
 
     -- If the text fits, it is appended.
     pub push-there : (r : ℕ) (bytes' : Text) (slots' : List ℕ) → Pushed r bytes' slots'
-        → (r ≡ at + length t) × ((bytes' ≡ writtenAt at t bytes) × (slots' ≡ writtenAt (2 * n) (textPlaces at (t ∷ [])) slots))
-    unfolding textEnd bytesWithText placesWithText
+        → (r ≡ at + length t) × ((bytes' ≡ written_at at t bytes) × (slots' ≡ written_at (2 * n) (text_places at (t ∷ [])) slots))
+    unfolding text_end bytes_with_text places_with_text
     push-there r bytes' slots' w = rw fits at w

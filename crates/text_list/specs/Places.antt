@@ -12,16 +12,16 @@ abbrev pub length_at : List ℕ → ℕ → ℕ
 length_at places j = get_or places (2 * j + 1) 0
 
 -- Place j lies in the store.
-unfoldable pub inStore : Text → List ℕ → ℕ → Bool
-inStore store places j = leb (start_at places j + length_at places j) (length store)
+unfoldable pub in_store : Text → List ℕ → ℕ → Bool
+in_store store places j = leb (start_at places j + length_at places j) (length store)
 
 -- The text at place j; empty if the place reaches outside the store.
-unfoldable pub textAt : Text → List ℕ → ℕ → Text
-unfolding inStore
-textAt store places j = cond (inStore store places j) (take (length_at places j) (drop (start_at places j) store)) []
+unfoldable pub text_at : Text → List ℕ → ℕ → Text
+unfolding in_store
+text_at store places j = cond (in_store store places j) (take (length_at places j) (drop (start_at places j) store)) []
 
 -- The texts at the first n places.
-unfoldable pub textsIn : Text → List ℕ → ℕ → List Text
-unfolding textAt
-textsIn store places zero = []
-textsIn store places (suc n) = textsIn store places n ++ textAt store places n ∷ []
+unfoldable pub texts_in : Text → List ℕ → ℕ → List Text
+unfolding text_at
+texts_in store places zero = []
+texts_in store places (suc n) = texts_in store places n ++ text_at store places n ∷ []

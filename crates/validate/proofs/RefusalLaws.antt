@@ -8,32 +8,32 @@ use lib.Dec.{leb}
 use borrow.Author.Tests.{le-leb, lt-leb}
 use Rattle.text.specs.Text.{Text}
 use Rattle.text.proofs.BoolLaws.{and_yes}
-use Rattle.path_grammar.specs.Legal.{legal, atMost255, isEnd}
+use Rattle.path_grammar.specs.Legal.{legal, at_most255, is_end}
 use Rattle.refusal.specs.declared.Refusal.{Refusal}
 use Rattle.refusal.specs.declared.Validation.{Validation}
 use Rattle.refusal.specs.declared.Validation.TheVariants.{Passed, Refused}
-use Rattle.refusal.specs.Refusal.{refusalRank, allTextsShort, allTextsLegal, validateTexts}
-use Rattle.path.specs.Calls.{pathNewCall}
-use Rattle.validate.specs.Validate.{LentList, listShort, listAll, countWithinLimit, every, firstFailed, validateCall, firstRefusal}
+use Rattle.refusal.specs.Refusal.{refusal_rank, all_texts_short, all_texts_legal, validate_texts}
+use Rattle.path.specs.Calls.{path_new_call}
+use Rattle.validate.specs.Validate.{LentList, list_short, list_all, count_within_limit, every, first_failed, validate_call, first_refusal}
 
 -- Lemmas for `first_refusal`.
 module _ (a b : Validation) where
-  pub earlier-passed : a ≡ Passed → b ≡ firstRefusal a b
-  unfolding firstRefusal
-  earlier-passed h = rw h
+  pub earlier_passed : a ≡ Passed → b ≡ first_refusal a b
+  unfolding first_refusal
+  earlier_passed h = rw h
 
   module _ (x : Refusal) (h : a ≡ Refused x) where
-    pub earlier-only : b ≡ Passed → Refused x ≡ firstRefusal a b
-    unfolding firstRefusal
+    pub earlier-only : b ≡ Passed → Refused x ≡ first_refusal a b
+    unfolding first_refusal
     earlier-only k = rw (h, k)
 
-    module _ (y : Refusal) (k : b ≡ Refused y) (m n : ℕ) (e : m ≡ refusalRank x) (f : n ≡ refusalRank y) where
-      pub earlier-first : m ≤ n → Refused x ≡ firstRefusal a b
-      unfolding firstRefusal
+    module _ (y : Refusal) (k : b ≡ Refused y) (m n : ℕ) (e : m ≡ refusal_rank x) (f : n ≡ refusal_rank y) where
+      pub earlier-first : m ≤ n → Refused x ≡ first_refusal a b
+      unfolding first_refusal
       earlier-first l = rw (h, k, ← e, ← f, le-leb m n l)
 
-      pub earlier-second : n < m → Refused y ≡ firstRefusal a b
-      unfolding firstRefusal
+      pub earlier-second : n < m → Refused y ≡ first_refusal a b
+      unfolding first_refusal
       earlier-second l = rw (h, k, ← e, ← f, lt-leb m n l)
 
 -- A refusal differs from a passed validation.
@@ -41,26 +41,26 @@ pub never : (x : Refusal) → Refused x ≡ Passed → ⊥
 never x h = let z : ◌≡◌ {A = ℕ} 0 1 = cc in omega arith
 
 -- If the combined result is no refusal, both results passed.
-pub none-earlier : (a b : Validation) → firstRefusal a b ≡ Passed → (a ≡ Passed) × (b ≡ Passed)
-unfolding firstRefusal
-none-earlier Passed b h = (refl, h)
-none-earlier (Refused x) Passed h = absurd (never x h)
-none-earlier (Refused x) (Refused y) h = absurd (go (leb (refusalRank x) (refusalRank y)) h)
+pub none_earlier : (a b : Validation) → first_refusal a b ≡ Passed → (a ≡ Passed) × (b ≡ Passed)
+unfolding first_refusal
+none_earlier Passed b h = (refl, h)
+none_earlier (Refused x) Passed h = absurd (never x h)
+none_earlier (Refused x) (Refused y) h = absurd (go (leb (refusal_rank x) (refusal_rank y)) h)
   where
     go : (t : Bool) → cond t (Refused x) (Refused y) ≡ Passed → ⊥
     go true k = never x k
     go false k = never y k
 
 -- Combining a result with one that passed leaves it unchanged.
-one-passed : (a : Validation) → firstRefusal a Passed ≡ a
-unfolding firstRefusal
-one-passed Passed = refl
-one-passed (Refused x) = refl
+one_passed : (a : Validation) → first_refusal a Passed ≡ a
+unfolding first_refusal
+one_passed Passed = refl
+one_passed (Refused x) = refl
 
 -- Validating two things yields, of the two results, the refusal whose question is put first.
-pub each : (a b c d f l e k : Bool) → firstRefusal (firstFailed f l e k) (firstFailed a b c d) ≡ firstFailed (a && f) (b && l) (c && e) (d && k)
-unfolding firstRefusal firstFailed
-each true true true true f l e k = one-passed (firstFailed f l e k)
+pub each : (a b c d f l e k : Bool) → first_refusal (first_failed f l e k) (first_failed a b c d) ≡ first_failed (a && f) (b && l) (c && e) (d && k)
+unfolding first_refusal first_failed
+each true true true true f l e k = one_passed (first_failed f l e k)
 each true true true false true true true true = refl
 each true true true false true true true false = refl
 each true true true false true true false k = refl
@@ -83,10 +83,10 @@ each false b c d true false e k = refl
 each false b c d false l e k = refl
 
 -- A text together with lists.
-pub one_by_one : (ls : List LentList) (p : Text) → firstRefusal (validateCall ls [] []) (pathNewCall p) ≡ validateCall ls (p ∷ []) []
-unfolding validateCall pathNewCall validateTexts allTextsShort allTextsLegal every firstFailed
+pub one_by_one : (ls : List LentList) (p : Text) → first_refusal (validate_call ls [] []) (path_new_call p) ≡ validate_call ls (p ∷ []) []
+unfolding validate_call path_new_call validate_texts all_texts_short all_texts_legal every first_failed
 one_by_one ls p =
-    each (atMost255 p && true) (legal p && true) true true (every listShort ls) (every (listAll legal) ls) (every (listAll isEnd) ls) (every countWithinLimit ls)
+    each (at_most255 p && true) (legal p && true) true true (every list_short ls) (every (list_all legal) ls) (every (list_all is_end) ls) (every count_within_limit ls)
 
 -- One more list.
 every_more : {A : Type 0} (f : A → Bool) (xs : List A) (x : A) → every f (xs ++ x ∷ []) ≡ (every f (x ∷ []) && every f xs)
@@ -99,8 +99,8 @@ every_more f (y ∷ xs) x = ap (λ (b : Bool). f y && b) (every_more f xs x) ∙
     swap false true c = refl
     swap false false c = refl
 
-pub list-more : (ls : List LentList) (l : LentList) → validateCall (ls ++ l ∷ []) [] [] ≡ firstRefusal (validateCall ls [] []) (validateCall (l ∷ []) [] [])
-unfolding validateCall
-list-more ls l =
-    rw (every_more listShort ls l, every_more (listAll legal) ls l, every_more (listAll isEnd) ls l, every_more countWithinLimit ls l)
-    (sym (each (every listShort (l ∷ [])) (every (listAll legal) (l ∷ [])) (every (listAll isEnd) (l ∷ [])) (every countWithinLimit (l ∷ [])) (every listShort ls) (every (listAll legal) ls) (every (listAll isEnd) ls) (every countWithinLimit ls)))
+pub list_more : (ls : List LentList) (l : LentList) → validate_call (ls ++ l ∷ []) [] [] ≡ first_refusal (validate_call ls [] []) (validate_call (l ∷ []) [] [])
+unfolding validate_call
+list_more ls l =
+    rw (every_more list_short ls l, every_more (list_all legal) ls l, every_more (list_all is_end) ls l, every_more count_within_limit ls l)
+    (sym (each (every list_short (l ∷ [])) (every (list_all legal) (l ∷ [])) (every (list_all is_end) (l ∷ [])) (every count_within_limit (l ∷ [])) (every list_short ls) (every (list_all legal) ls) (every (list_all is_end) ls) (every count_within_limit ls)))

@@ -2,13 +2,13 @@
 // is checked for the whole call before the next; the first failed question decides. An empty text passes
 // every question, so it is passed for a text that a call does not have.
 ghost use Rattle.std.specs.Prelude.{◌≡◌, true, not, ◌&&◌, ◌||◌, [], ◌∷◌};
-ghost use Rattle.path_grammar.specs.Legal.{legal, atMost255, isEnd};
-ghost use Rattle.validate.specs.Validate.{lentList, presentPlaces, listShort, listAll, countWithinLimit, every, firstFailed, validateCall, firstRefusal};
-ghost use Rattle.validate.specs.Select.{canSelect};
+ghost use Rattle.path_grammar.specs.Legal.{legal, at_most255, is_end};
+ghost use Rattle.validate.specs.Validate.{lent_list, present_places, list_short, list_all, count_within_limit, every, first_failed, validate_call, first_refusal};
+ghost use Rattle.validate.specs.Select.{can_select};
 
 // The number of places that the slice holds for the first `count` pairs.
 fn present_places(places: &[usize], count: usize) -> usize
-    ensures { result ≡ presentPlaces (lentList [] places.now count) }
+    ensures { result ≡ present_places (lent_list [] places.now count) }
 {
     let present = places.len() / 4;
     if count <= present {
@@ -19,8 +19,8 @@ fn present_places(places: &[usize], count: usize) -> usize
 
 // Question 1 for a list and two texts: returns whether each text has at most 255 bytes.
 fn are_short(store: &[u8], places: &[usize], count: usize, p: &[u8], q: &[u8]) -> bool
-    ensures { result ≡ (every atMost255 (p.now ∷ q.now ∷ []) && listShort
-        (lentList store.now places.now count)) }
+    ensures { result ≡ (every at_most255 (p.now ∷ q.now ∷ []) && list_short
+        (lent_list store.now places.now count)) }
 {
     if 255 < p.len() {
         return false;
@@ -34,8 +34,8 @@ fn are_short(store: &[u8], places: &[usize], count: usize, p: &[u8], q: &[u8]) -
 // Question 2 for a list: returns whether each text is legal. If the list is known to contain only ends, which
 // are legal, it is not scanned again.
 fn list_is_legal(ends: bool, store: &[u8], places: &[usize], count: usize) -> bool
-    requires { (not ends || listAll legal (lentList store.now places.now count)) ≡ true }
-    ensures { result ≡ listAll legal (lentList store.now places.now count) }
+    requires { (not ends || list_all legal (lent_list store.now places.now count)) ≡ true }
+    ensures { result ≡ list_all legal (lent_list store.now places.now count) }
 {
     if ends {
         return true;
@@ -45,9 +45,9 @@ fn list_is_legal(ends: bool, store: &[u8], places: &[usize], count: usize) -> bo
 
 // Question 2 for a list and two texts: returns whether each text is legal.
 fn are_legal(ends: bool, store: &[u8], places: &[usize], count: usize, p: &[u8], q: &[u8]) -> bool
-    requires { (not ends || listAll legal (lentList store.now places.now count)) ≡ true }
-    ensures { result ≡ (every legal (p.now ∷ q.now ∷ []) && listAll legal
-        (lentList store.now places.now count)) }
+    requires { (not ends || list_all legal (lent_list store.now places.now count)) ≡ true }
+    ensures { result ≡ (every legal (p.now ∷ q.now ∷ []) && list_all legal
+        (lent_list store.now places.now count)) }
 {
     if !path_grammar::is_legal(p) {
         return false;
@@ -60,8 +60,8 @@ fn are_legal(ends: bool, store: &[u8], places: &[usize], count: usize, p: &[u8],
 
 // Question 3 for a list and two texts: returns whether each is a prim path, `/` or empty.
 fn are_ends(store: &[u8], places: &[usize], count: usize, e: &[u8], f: &[u8]) -> bool
-    ensures { result ≡ (every isEnd (e.now ∷ f.now ∷ []) && listAll isEnd
-        (lentList store.now places.now count)) }
+    ensures { result ≡ (every is_end (e.now ∷ f.now ∷ []) && list_all is_end
+        (lent_list store.now places.now count)) }
 {
     if !path_grammar::is_end(e) {
         return false;
@@ -74,7 +74,7 @@ fn are_ends(store: &[u8], places: &[usize], count: usize, e: &[u8], f: &[u8]) ->
 
 // Question 4 for a list: returns whether it has at most 64 pairs and the slice holds them.
 fn count_within_limit(places: &[usize], count: usize) -> bool
-    ensures { result ≡ countWithinLimit (lentList [] places.now count) }
+    ensures { result ≡ count_within_limit (lent_list [] places.now count) }
 {
     if 64 < count {
         return false;
@@ -84,7 +84,7 @@ fn count_within_limit(places: &[usize], count: usize) -> bool
 
 // Returns whether the list passes question 4 and a buffer of `room` numbers has capacity for 64 pairs.
 pub fn can_select(places: &[usize], count: usize, room: usize) -> bool
-    ensures { result ≡ canSelect (lentList [] places.now count) room }
+    ensures { result ≡ can_select (lent_list [] places.now count) room }
 {
     if room < 256 {
         return false;
@@ -94,7 +94,7 @@ pub fn can_select(places: &[usize], count: usize, room: usize) -> bool
 
 // The refusal of the first failed question of four, given the results.
 fn first_failed(short: bool, legal: bool, ends: bool, counted: bool) -> refusal::Validation
-    ensures { result ≡ firstFailed short legal ends counted }
+    ensures { result ≡ first_failed short legal ends counted }
 {
     if !short {
         return refusal::Validation::Refused(refusal::Refusal::TooLong);
@@ -123,7 +123,7 @@ pub fn both(a: bool, b: bool) -> bool
 
 // Of two results, the refusal whose question is put first.
 pub fn first_refusal(a: refusal::Validation, b: refusal::Validation) -> refusal::Validation
-    ensures { result ≡ firstRefusal a b }
+    ensures { result ≡ first_refusal a b }
 {
     let refusal::Validation::Refused(x) = a else {
         return b;
@@ -147,7 +147,7 @@ pub fn validate_call(
     e: &[u8],
     f: &[u8],
 ) -> refusal::Validation
-    ensures { result ≡ validateCall (lentList store.now places.now count ∷ [])
+    ensures { result ≡ validate_call (lent_list store.now places.now count ∷ [])
         (p.now ∷ q.now ∷ []) (e.now ∷ f.now ∷ []) }
 {
     let short = are_short(store, places, count, p, q);
@@ -163,7 +163,7 @@ pub fn validate_list_and_path(
     count: usize,
     p: &[u8],
 ) -> refusal::Validation
-    ensures { result ≡ validateCall (lentList store.now places.now count ∷ [])
+    ensures { result ≡ validate_call (lent_list store.now places.now count ∷ [])
         (p.now ∷ []) [] }
 {
     let e = &p[..0];
@@ -172,7 +172,7 @@ pub fn validate_list_and_path(
 
 // Validates a list (questions 1 to 4).
 pub fn validate_list(store: &[u8], places: &[usize], count: usize) -> refusal::Validation
-    ensures { result ≡ validateCall (lentList store.now places.now count ∷ []) [] [] }
+    ensures { result ≡ validate_call (lent_list store.now places.now count ∷ []) [] [] }
 {
     let e = &store[..0];
     validate_call(store, places, count, e, e, e, e)
@@ -180,7 +180,7 @@ pub fn validate_list(store: &[u8], places: &[usize], count: usize) -> refusal::V
 
 // Validates two ends (questions 1 to 3).
 pub fn validate_ends(e: &[u8], f: &[u8]) -> refusal::Validation
-    ensures { result ≡ validateCall [] (e.now ∷ f.now ∷ [])
+    ensures { result ≡ validate_call [] (e.now ∷ f.now ∷ [])
         (e.now ∷ f.now ∷ []) }
 {
     let none = [0usize; 1];
@@ -196,7 +196,7 @@ pub fn validate_lists(
     places2: &[usize],
     count2: usize,
 ) -> refusal::Validation
-    ensures { result ≡ validateCall (lentList store.now places.now count ∷ lentList
+    ensures { result ≡ validate_call (lent_list store.now places.now count ∷ lent_list
         store2.now places2.now count2 ∷ []) [] [] }
 {
     let e = &store[..0];

@@ -1,4 +1,4 @@
-use Rattle.batch.proofs.BatchLaws.{inside-start, inside-rest}
+use Rattle.batch.proofs.BatchLaws.{inside_start, inside_rest}
 use borrow.Author.Rules.{rules}
 use Rattle.batch.proofs.is_inside.Statement.{statement}
 use Rattle.batch.proofs.is_inside.Tie as tie
@@ -25,13 +25,13 @@ shared-slice-read-n : tie.Need-shared-slice-read-n
 shared-slice-read-n c = search rules
 
 returns : tie.Need-returns
-returns c = inside-start _ _ _ c.if1.true
+returns c = inside_start _ _ _ c.if1.true
 
 sub-result : tie.Need-overflow-sub-result
 sub-result c = search rules
 
 returns-2 : tie.Need-returns-2
-returns-2 c = inside-rest _ _ _ c.if1.false
+returns-2 c = inside_rest _ _ _ c.if1.false
 
 pub is-inside-spec : {M : Type 1} → statement M
 is-inside-spec =

@@ -1,5 +1,5 @@
--- The questions of the list and of the buffers are those of `validateMapAll`; then each path is the single call.
-use Rattle.batch.proofs.BatchLaws.{batch-has-room, all_same, all-refused, all_done, map-validated, map-step}
+-- The questions of the list and of the buffers are those of `validate_map_all`; then each path is the single call.
+use Rattle.batch.proofs.BatchLaws.{batch_has_room, all_same, all_refused, all_done, map_validated, map_step}
 use mathlib.Core.Path.{sym, ◌∙◌}
 use borrow.Author.Rules.{rules}
 use Rattle.batch.proofs.map_all.Statement.{statement}
@@ -19,7 +19,7 @@ returns c =
     let at-q = c.before in
     let at-validate-batch = at-q.before.before in
     let at-validate-list = at-validate-batch.before in
-    all-refused _ _ _ _ (map-validated _ _ _ _ _ _ _ _ _ at-validate-list.validate-list.ensures at-validate-batch.validate-batch.ensures ∙ at-q.q.given.1) _ _
+    all_refused _ _ _ _ (map_validated _ _ _ _ _ _ _ _ _ at-validate-list.validate-list.ensures at-validate-batch.validate-batch.ensures ∙ at-q.q.given.1) _ _
 
 enum_told : tie.Need-enum-told
 enum_told c = search rules
@@ -28,7 +28,7 @@ map-each-requires : tie.Need-map-each-requires
 map-each-requires c κs =
     let at-enum-told = c.before.before in
     let at-validate-batch = at-enum-told.before.before in
-    batch-has-room _ _ _ _ _ (sym at-validate-batch.validate-batch.ensures ∙ at-enum-told.enum_told.given.1)
+    batch_has_room _ _ _ _ _ (sym at-validate-batch.validate-batch.ensures ∙ at-enum-told.enum_told.given.1)
 
 same_length : tie.Need-same-length
 same_length c = search rules
@@ -42,8 +42,8 @@ returns-2 c =
     let at-enum-told = at-map-each.before.before.before in
     let at-validate-batch = at-enum-told.before.before in
     let at-validate-list = at-validate-batch.before in
-    all_done _ _ _ (map-validated _ _ _ _ _ _ _ _ _ at-validate-list.validate-list.ensures at-validate-batch.validate-batch.ensures ∙ at-enum-told.enum_told.given.1) _ _ _ _
-    (all_same _ _ (map-step _ _ _ _ _ _ _ _ at-validate-list.validate-list.ensures) _ _ _ _ _ at-map-each.map-Each.ensures)
+    all_done _ _ _ (map_validated _ _ _ _ _ _ _ _ _ at-validate-list.validate-list.ensures at-validate-batch.validate-batch.ensures ∙ at-enum-told.enum_told.given.1) _ _ _ _
+    (all_same _ _ (map_step _ _ _ _ _ _ _ _ at-validate-list.validate-list.ensures) _ _ _ _ _ at-map-each.map-Each.ensures)
 
 pub map-all-spec : {M : Type 1} → statement M
 map-all-spec =

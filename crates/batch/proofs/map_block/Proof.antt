@@ -1,4 +1,4 @@
-use Rattle.batch.proofs.BatchLaws.{block-bytes, block-reply}
+use Rattle.batch.proofs.BatchLaws.{block_bytes, block_reply}
 use lib.ListN.{set}
 use Prim.Native.Nat.{ℕ}
 use mathlib.Core.Path.{ap}
@@ -43,9 +43,9 @@ returns : tie.Need-returns
 returns c =
     let at-map-spot = c.before.before.before in
     let at-start = at-map-spot.before.before.before.before.before.before.before.before.before in (
-      block-bytes _ _ _ _ _ _ _ _ _ at-start.requires.1.0 _ at-map-spot.map-spot.ensures.1,
+      block_bytes _ _ _ _ _ _ _ _ _ at-start.requires.1.0 _ at-map-spot.map-spot.ensures.1,
       ap (λ (x : ℕ). set at-start.args.replies.now at-start.args.i x)
-          (block-reply _ _ _ _ _ _ _ _ _ at-start.requires.1.0 _ _ at-map-spot.map-spot.ensures.0 c.reply-code.ensures),
+          (block_reply _ _ _ _ _ _ _ _ _ at-start.requires.1.0 _ _ at-map-spot.map-spot.ensures.0 c.reply-code.ensures),
     )
 
 pub map-block-spec : {M : Type 1} → statement M

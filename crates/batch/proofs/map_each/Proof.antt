@@ -1,8 +1,8 @@
 -- The loop. After i iterations the first i paths have the blocks and the replies of the single calls, and the rest of both buffers is as
 -- it was.
-use Rattle.batch.proofs.BatchLaws.{room-spot, room-block, room-number, step-bytes, step-numbers, steps-end}
-use Rattle.batch.specs.BatchStep.{mapSpotBy}
-use Rattle.batch.specs.Batch.{pathBuffers, replyNumbers}
+use Rattle.batch.proofs.BatchLaws.{room-spot, room-block, room-number, step_bytes, step_numbers, steps_end}
+use Rattle.batch.specs.BatchStep.{map_spot_by}
+use Rattle.batch.specs.Batch.{path_buffers, reply_numbers}
 use borrow.Author.Rules.{rules}
 use lib.ListN.{length}
 use native.Mathlib.Omega.{arith}
@@ -12,13 +12,13 @@ use Rattle.batch.proofs.map_each.Statement.{statement}
 use Rattle.batch.proofs.map_each.Tie as tie
 
 abbrev invariant-loop : tie.invariant-loop
-invariant-loop list by store places legs texts spots n out₀ replies₀ i₀ out replies i = (i ≤ n) × (out ≡ pathBuffers (mapSpotBy list by store places legs texts spots 255) 0 i out₀) × (replies ≡ replyNumbers (mapSpotBy list by store places legs texts spots 255) 0 i replies₀) × (length out ≡ length out₀) × (length replies ≡ length replies₀)
+invariant-loop list by store places legs texts spots n out₀ replies₀ i₀ out replies i = (i ≤ n) × (out ≡ path_buffers (map_spot_by list by store places legs texts spots 255) 0 i out₀) × (replies ≡ reply_numbers (map_spot_by list by store places legs texts spots 255) 0 i replies₀) × (length out ≡ length out₀) × (length replies ≡ length replies₀)
 
 abbrev decreases-loop : tie.decreases-loop
 decreases-loop list by store places legs texts spots n out₀ replies₀ i₀ out replies i = n - i
 
 loop-holds : tie.Need-loop-init invariant-loop decreases-loop
-unfolding pathBuffers replyNumbers
+unfolding path_buffers reply_numbers
 loop-holds c = (search rules, refl, refl, refl, refl)
 
 map-block-requires : tie.Need-map-block-requires invariant-loop decreases-loop
@@ -47,13 +47,13 @@ loop-again c = (
       let at-loop-test = at-map-block.before.before.before in
       let at-loop = at-loop-test.before in
       let at-start = at-loop.before.before.before.before.before.before.before.before in
-      step-bytes _ _ _ _ _ _ _ _ _ _ _ (room-block _ _ _ _ at-start.requires _ at-loop-test.loop-test.true) at-loop.loop.invariant.1
+      step_bytes _ _ _ _ _ _ _ _ _ _ _ (room-block _ _ _ _ at-start.requires _ at-loop-test.loop-test.true) at-loop.loop.invariant.1
       at-map-block.map-block.ensures.0),
   (let at-map-block = c.before.before.before.before in
       let at-loop-test = at-map-block.before.before.before in
       let at-loop = at-loop-test.before in
       let at-start = at-loop.before.before.before.before.before.before.before.before in
-      step-numbers _ _ _ _ _ _ _ _ _ _ _ (room-number _ _ _ _ at-start.requires _ at-loop-test.loop-test.true) at-loop.loop.invariant.2
+      step_numbers _ _ _ _ _ _ _ _ _ _ _ (room-number _ _ _ _ at-start.requires _ at-loop-test.loop-test.true) at-loop.loop.invariant.2
       at-map-block.map-block.ensures.1),
   search rules,
   search rules,
@@ -66,7 +66,7 @@ same-length-2 : tie.Need-same-length-2 invariant-loop decreases-loop
 same-length-2 c = search rules
 
 returns : tie.Need-returns invariant-loop decreases-loop
-returns c = steps-end _ _ _ _ _ _ _ c.loop-test.false c.before.loop.invariant.0 c.before.loop.invariant.1 c.before.loop.invariant.2
+returns c = steps_end _ _ _ _ _ _ _ c.loop-test.false c.before.loop.invariant.0 c.before.loop.invariant.1 c.before.loop.invariant.2
 
 pub map-each-spec : {M : Type 1} → statement M
 map-each-spec =

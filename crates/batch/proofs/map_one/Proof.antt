@@ -1,4 +1,4 @@
-use Rattle.batch.proofs.BatchLaws.{by_map, by-route}
+use Rattle.batch.proofs.BatchLaws.{by_map, by_route}
 use Rattle.refusal.proofs.CallBranches.{answering}
 use borrow.Author.Rules.{rules}
 use Rattle.batch.proofs.map_one.Statement.{statement}
@@ -26,7 +26,7 @@ same-length-2 : tie.Need-same-length-2
 same-length-2 c = search rules
 
 returns-2 : tie.Need-returns-2
-returns-2 c = answering _ _ (by-route _ _ _ _ _ _ _ _ _ c.before.before.before.before.before.by2.given.1) _ _ _ c.before.before.route-after.ensures
+returns-2 c = answering _ _ (by_route _ _ _ _ _ _ _ _ _ c.before.before.before.before.before.by2.given.1) _ _ _ c.before.before.route-after.ensures
 
 pub map-one-spec : {M : Type 1} → statement M
 map-one-spec =

@@ -1,5 +1,5 @@
--- The questions of the list and of the buffers are those of `validateRouteAll`; then each path is the single call.
-use Rattle.batch.proofs.BatchLaws.{batch-has-room, all-refused, all_done, route-validated}
+-- The questions of the list and of the buffers are those of `validate_route_all`; then each path is the single call.
+use Rattle.batch.proofs.BatchLaws.{batch_has_room, all_refused, all_done, route_validated}
 use mathlib.Core.Path.{sym, ◌∙◌}
 use borrow.Author.Rules.{rules}
 use Rattle.batch.proofs.route_all.Statement.{statement}
@@ -19,7 +19,7 @@ returns c =
     let at-q = c.before in
     let at-validate-batch = at-q.before.before in
     let at-validate-legs = at-validate-batch.before in
-    all-refused _ _ _ _ (route-validated _ _ _ _ _ _ _ at-validate-legs.validate-legs.ensures at-validate-batch.validate-batch.ensures ∙ at-q.q.given.1) _ _
+    all_refused _ _ _ _ (route_validated _ _ _ _ _ _ _ at-validate-legs.validate-legs.ensures at-validate-batch.validate-batch.ensures ∙ at-q.q.given.1) _ _
 
 enum_told : tie.Need-enum-told
 enum_told c = search rules
@@ -29,7 +29,7 @@ route-each-requires c κs =
     let at-enum-told = c.before.before in
     let at-validate-batch = at-enum-told.before.before in
     let at-validate-legs = at-validate-batch.before in
-    (batch-has-room _ _ _ _ _ (sym at-validate-batch.validate-batch.ensures ∙ at-enum-told.enum_told.given.1), at-validate-legs.validate-legs.ensures)
+    (batch_has_room _ _ _ _ _ (sym at-validate-batch.validate-batch.ensures ∙ at-enum-told.enum_told.given.1), at-validate-legs.validate-legs.ensures)
 
 same_length : tie.Need-same-length
 same_length c = search rules
@@ -43,7 +43,7 @@ returns-2 c =
     let at-enum-told = at-route-each.before.before.before in
     let at-validate-batch = at-enum-told.before.before in
     let at-validate-legs = at-validate-batch.before in
-    all_done _ _ _ (route-validated _ _ _ _ _ _ _ at-validate-legs.validate-legs.ensures at-validate-batch.validate-batch.ensures ∙ at-enum-told.enum_told.given.1) _ _ _ _
+    all_done _ _ _ (route_validated _ _ _ _ _ _ _ at-validate-legs.validate-legs.ensures at-validate-batch.validate-batch.ensures ∙ at-enum-told.enum_told.given.1) _ _ _ _
     at-route-each.route-each.ensures
 
 pub route-all-spec : {M : Type 1} → statement M

@@ -1,4 +1,4 @@
-use Rattle.batch.proofs.BatchLaws.{all_same, route-step}
+use Rattle.batch.proofs.BatchLaws.{all_same, route_step}
 use borrow.Author.Rules.{rules}
 use Rattle.batch.proofs.route_each.Statement.{statement}
 use Rattle.batch.proofs.route_each.Tie as tie
@@ -21,7 +21,7 @@ returns c =
     let at-if1 = at-map-each.before.before.before in
     let at-needs-maps = at-if1.before in
     let at-start = at-needs-maps.before.before.before.before.before.before.before.before in
-    all_same _ _ (route-step _ _ _ _ _ at-start.requires.1 _ at-needs-maps.needs-maps.ensures at-if1.if1.true) _ _ _ _ _
+    all_same _ _ (route_step _ _ _ _ _ at-start.requires.1 _ at-needs-maps.needs-maps.ensures at-if1.if1.true) _ _ _ _ _
     at-map-each.map-Each.ensures
 
 route-prepared-requires : tie.Need-route-prepared-requires

@@ -1,5 +1,5 @@
-use Rattle.route_maps.proofs.ReadLaws.{prepared-read}
-use Rattle.batch.proofs.BatchLaws.{all_same, prepared-step}
+use Rattle.route_maps.proofs.ReadLaws.{prepared_read}
+use Rattle.batch.proofs.BatchLaws.{all_same, prepared_step}
 use borrow.Author.Rules.{rules}
 use Rattle.batch.proofs.route_prepared.Statement.{statement}
 use Rattle.batch.proofs.route_prepared.Tie as tie
@@ -31,10 +31,10 @@ same-length-2 c = search rules
 returns : tie.Need-returns
 returns c =
     all_same _ _
-    (prepared-step _ _ _ _ _
+    (prepared_step _ _ _ _ _
     c.before.before.before.before.before.before.before.before.before.before.before.before.before.before.before.before.before.before.before.before.before.requires.1
     _ _ (search rules) (search rules)
-    (prepared-read _ _ _ _ _ c.before.before.before.before.before.before.before.before.before.before.before.prepare-legs.ensures.0
+    (prepared_read _ _ _ _ _ c.before.before.before.before.before.before.before.before.before.before.before.prepare-legs.ensures.0
     c.before.before.before.before.before.before.before.before.before.before.before.prepare-legs.ensures.1))
     _ _ _ _ _ c.before.before.before.before.map-Each.ensures
 

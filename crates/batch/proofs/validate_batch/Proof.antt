@@ -1,5 +1,5 @@
 -- The list's own refusal first, then the count of paths, then the sizes of the buffers: each branch is one lemma.
-use Rattle.batch.proofs.BatchLaws.{batch-refused, batch-beyond, batch-short, batch-passed}
+use Rattle.batch.proofs.BatchLaws.{batch_refused, batch_beyond, batch-short, batch-passed}
 use borrow.Author.Rules.{rules}
 use Rattle.batch.proofs.validate_batch.Statement.{statement}
 use Rattle.batch.proofs.validate_batch.Tie as tie
@@ -8,13 +8,13 @@ enum-known-list : tie.Need-enum-known-list
 enum-known-list c = search rules
 
 returns : tie.Need-returns
-returns c = batch-refused _ _ _ _ _ _ c.before.list.given.1
+returns c = batch_refused _ _ _ _ _ _ c.before.list.given.1
 
 enum_told : tie.Need-enum-told
 enum_told c = search rules
 
 returns-2 : tie.Need-returns-2
-returns-2 c = batch-beyond _ _ _ _ _ c.before.enum_told.given.1 c.if1.true
+returns-2 c = batch_beyond _ _ _ _ _ c.before.enum_told.given.1 c.if1.true
 
 batch-fits-requires : tie.Need-batch-fits-requires
 batch-fits-requires c κs = search rules

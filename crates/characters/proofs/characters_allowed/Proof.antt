@@ -1,5 +1,5 @@
 use borrow.Author.Rules.{rules}
-use Rattle.characters.proofs.FastTableLaws.{fast-yes}
+use Rattle.characters.proofs.FastTableLaws.{fast_yes}
 use Rattle.characters.proofs.characters_allowed.Statement.{statement}
 use Rattle.characters.proofs.characters_allowed.Tie as tie
 
@@ -7,7 +7,7 @@ fast-accepts-requires : tie.Need-fast-accepts-requires
 fast-accepts-requires c κs = search rules
 
 returns : tie.Need-returns
-returns c = search (rules, fast-yes)
+returns c = search (rules, fast_yes)
 
 decodes-allowed-requires : tie.Need-decodes-allowed-requires
 decodes-allowed-requires c κs = search rules

@@ -1,7 +1,7 @@
 use native.Mathlib.Omega.{arith}
 use mathlib.Core.Path.{refl}
-use Rattle.map_canonical.proofs.KeptLaws.{canonical-read}
-use Rattle.close_leg.proofs.CloseBranches.{list-refused, list-fits, list-closed}
+use Rattle.map_canonical.proofs.KeptLaws.{canonical_read}
+use Rattle.close_leg.proofs.CloseBranches.{list_refused, list_fits, list-closed}
 use borrow.Author.Rules.{rules}
 use Rattle.close_leg.proofs.close_list.Statement.{statement}
 use Rattle.close_leg.proofs.close_list.Tie as tie
@@ -22,7 +22,7 @@ same-length-3 : tie.Need-same-length-3
 same-length-3 c = search rules
 
 returns : tie.Need-returns
-returns c = list-refused _ _ _ _ _ _ _ c.before.before.before.validate-close.ensures _ c.before.r.given.1
+returns c = list_refused _ _ _ _ _ _ _ c.before.before.before.validate-close.ensures _ c.before.r.given.1
 
 enum_told : tie.Need-enum-told
 enum_told c = search rules
@@ -41,7 +41,7 @@ mul_at c =
     let at-enum-told = c.before.before.before.before.before in
     let at-validate-close = at-enum-told.before.before in
     let at-start = at-validate-close.before.before.before.before.before.before.before.before.before in
-    let f = list-fits at-start.args.mark _ _ _ _ _ _ at-validate-close.validate-close.ensures _ at-enum-told.enum_told.given.1 in
+    let f = list_fits at-start.args.mark _ _ _ _ _ _ at-validate-close.validate-close.ensures _ at-enum-told.enum_told.given.1 in
     omega (arith, f.0)
 
 add-end : tie.Need-overflow-add-end
@@ -49,7 +49,7 @@ add-end c =
     let at-enum-told = c.before.before.before.before.before in
     let at-validate-close = at-enum-told.before.before in
     let at-start = at-validate-close.before.before.before.before.before.before.before.before.before in
-    let f = list-fits at-start.args.mark _ _ _ _ _ _ at-validate-close.validate-close.ensures _ at-enum-told.enum_told.given.1 in
+    let f = list_fits at-start.args.mark _ _ _ _ _ _ at-validate-close.validate-close.ensures _ at-enum-told.enum_told.given.1 in
     omega (arith, f.0)
 
 slice-aggregate-append-list : tie.Need-slice-aggregate-append-list
@@ -60,7 +60,7 @@ mul-append-list c =
     let at-enum-told = c.before.before.before.before.before.before.before in
     let at-validate-close = at-enum-told.before.before in
     let at-start = at-validate-close.before.before.before.before.before.before.before.before.before in
-    let f = list-fits at-start.args.mark _ _ _ _ _ _ at-validate-close.validate-close.ensures _ at-enum-told.enum_told.given.1 in
+    let f = list_fits at-start.args.mark _ _ _ _ _ _ at-validate-close.validate-close.ensures _ at-enum-told.enum_told.given.1 in
     omega (arith, f.0)
 
 sub-append-list : tie.Need-overflow-sub-append-list
@@ -74,7 +74,7 @@ part-append-list-end c =
     let at-enum-told = c.before.before.before.before.before.before.before in
     let at-validate-close = at-enum-told.before.before in
     let at-start = at-validate-close.before.before.before.before.before.before.before.before.before in
-    let f = list-fits at-start.args.mark _ _ _ _ _ _ at-validate-close.validate-close.ensures _ at-enum-told.enum_told.given.1 in
+    let f = list_fits at-start.args.mark _ _ _ _ _ _ at-validate-close.validate-close.ensures _ at-enum-told.enum_told.given.1 in
     omega (arith, f.1)
 
 append-list-requires : tie.Need-append-list-requires
@@ -85,7 +85,7 @@ write-leg-entry-requires c κs =
     let at-enum-told = c.before.before.before.before.before.before.before.before.before.before.before.before.before.before in
     let at-validate-close = at-enum-told.before.before in
     let at-start = at-validate-close.before.before.before.before.before.before.before.before.before in
-    let f = list-fits at-start.args.mark _ _ _ _ _ _ at-validate-close.validate-close.ensures _ at-enum-told.enum_told.given.1 in
+    let f = list_fits at-start.args.mark _ _ _ _ _ _ at-validate-close.validate-close.ensures _ at-enum-told.enum_told.given.1 in
     (f.0, f.2)
 
 same-length-4 : tie.Need-same-length-4
@@ -109,7 +109,7 @@ returns-2 c =
     _
     c.before.before.before.before.before.before.before.before.before.before.before.before.before.before.before.before.is-marked.ensures
     _ (search rules) _ _
-    (canonical-read _ _ _ _ _ _ _ _
+    (canonical_read _ _ _ _ _ _ _ _
     c.before.before.before.before.before.before.before.before.before.before.before.before.before.before.canonical-places.ensures)
     _ _ _ c.before.before.before.before.before.before.before.before.append-list.ensures.1.0
     c.before.before.before.before.before.before.before.before.append-list.ensures.1.1 c.before.before.write-leg-entry.ensures

@@ -1,12 +1,12 @@
-use Rattle.close_leg.proofs.CloseBranches.{leg-many, leg-beyond, leg-short, leg-more}
+use Rattle.close_leg.proofs.CloseBranches.{leg_many, leg_beyond, leg-short, leg-more}
 use Rattle.close_leg.proofs.has_leg_room.Statement.{statement}
 use Rattle.close_leg.proofs.has_leg_room.Tie as tie
 
 returns : tie.Need-returns
-returns c = leg-many c.before.args.v c.before.args.slots.now c.before.args.table.now c.if1.true
+returns c = leg_many c.before.args.v c.before.args.slots.now c.before.args.table.now c.if1.true
 
 returns-2 : tie.Need-returns-2
-returns-2 c = leg-beyond c.before.before.args.v c.before.before.args.slots.now c.before.before.args.table.now c.before.if1.false c.if2.true
+returns-2 c = leg_beyond c.before.before.args.v c.before.before.args.slots.now c.before.before.args.table.now c.before.if1.false c.if2.true
 
 returns-3 : tie.Need-returns-3
 returns-3 c =

@@ -1,6 +1,6 @@
-use Rattle.pair_list_write.proofs.RoomBranches.{left-fits}
+use Rattle.pair_list_write.proofs.RoomBranches.{left_fits}
 use native.Mathlib.Omega.{arith}
-use Rattle.close_leg.proofs.CloseBranches.{leg-few, validate-many, validate-start, validate-over, validate-short, validate-done}
+use Rattle.close_leg.proofs.CloseBranches.{leg_few, validate_many, validate-start, validate-over, validate-short, validate-done}
 use borrow.Author.Rules.{rules}
 use Rattle.close_leg.proofs.validate_close.Statement.{statement}
 use Rattle.close_leg.proofs.validate_close.Tie as tie
@@ -9,7 +9,7 @@ has-leg-room-requires : tie.Need-has-leg-room-requires
 has-leg-room-requires c κs = search rules
 
 returns : tie.Need-returns
-returns c = validate-many _ _ _ _ _ _ c.before.has-leg-room.ensures c.if1.true
+returns c = validate_many _ _ _ _ _ _ c.before.has-leg-room.ensures c.if1.true
 
 returns-2 : tie.Need-returns-2
 returns-2 c = validate-start _ _ _ _ _ _ c.before.before.has-leg-room.ensures c.before.if1.false c.if2.true
@@ -33,7 +33,7 @@ returns-3 c =
     at-remaining-room.remaining-room.ensures c.enum_told.given.1
 
 sub-total : tie.Need-overflow-sub-total
-sub-total c = omega (arith, left-fits _ _ _ c.before.before.before.remaining-room.ensures _ c.before.room.given.1)
+sub-total c = omega (arith, left_fits _ _ _ c.before.before.before.remaining-room.ensures _ c.before.room.given.1)
 
 returns-4 : tie.Need-returns-4
 returns-4 c =
@@ -51,7 +51,7 @@ add-t16 c =
     let at-has-leg-room = at-if1.before in
     let at-start = at-has-leg-room.before.before.before.before.before.before in
     let args = at-start.args in
-    omega (arith, leg-few args.v args.slots.now args.table.now _ at-has-leg-room.has-leg-room.ensures at-if1.if1.false)
+    omega (arith, leg_few args.v args.slots.now args.table.now _ at-has-leg-room.has-leg-room.ensures at-if1.if1.false)
 
 returns-5 : tie.Need-returns-5
 returns-5 c =

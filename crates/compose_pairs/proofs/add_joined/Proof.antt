@@ -1,6 +1,6 @@
 use Rattle.path_join.specs.Join.{join}
-use Rattle.pair_list.specs.Places.{pairsIn}
-use Rattle.compose_pairs.proofs.PullBackBranches.{add-there, add-new}
+use Rattle.pair_list.specs.Places.{pairs_in}
+use Rattle.compose_pairs.proofs.PullBackBranches.{add_there, add_new}
 use borrow.Author.Rules.{rules}
 use Rattle.compose_pairs.proofs.add_joined.Statement.{statement}
 use Rattle.compose_pairs.proofs.add_joined.Tie as tie
@@ -19,7 +19,7 @@ returns c =
     let at-has-joined = c.before in
     let at-start = at-has-joined.before.before.before.before.before.before.before.before.before in
     let args = at-start.args in
-    add-there (pairsIn args.bytes.now args.slots.now args.b.n) args.b.n args.b.at args.bytes.now args.slots.now
+    add_there (pairs_in args.bytes.now args.slots.now args.b.n) args.b.n args.b.at args.bytes.now args.slots.now
     at-start.requires.0 args.t.now (join args.old.now args.new.now args.remainder.now) _ at-has-joined.has-joined.ensures
     c.if1.true
 
@@ -57,7 +57,7 @@ returns-2 c =
     let at-start = at-has-joined.before.before.before.before.before.before.before.before.before in
     let args = at-start.args in
     let pre = at-start.requires in
-    add-new (pairsIn args.bytes.now args.slots.now args.b.n) args.b.n args.b.at args.bytes.now args.slots.now pre.0
+    add_new (pairs_in args.bytes.now args.slots.now args.b.n) args.b.n args.b.at args.bytes.now args.slots.now pre.0
     args.t.now (join args.old.now args.new.now args.remainder.now) _ at-has-joined.has-joined.ensures at-if1.if1.false pre.1.0
     pre.1.1 _ at-join-at.join-at.ensures.0 _ _ _ at-join-at.join-at.ensures.1 at-write-at.write-at.ensures
     at-write-entry.write-entry.ensures

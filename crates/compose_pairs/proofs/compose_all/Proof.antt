@@ -4,17 +4,17 @@ use mathlib.Core.List.{map}
 use Prim.Native.Nat.{◌*◌, ◌≤◌, ◌-◌}
 use native.Mathlib.Omega.{arith}
 use lib.ListN.{length}
-use Rattle.pair_list.specs.Places.{pairsIn}
-use Rattle.map_spec.specs.Compose.{composedPair}
-use Rattle.map_spec.specs.Map.{lentMap}
+use Rattle.pair_list.specs.Places.{pairs_in}
+use Rattle.map_spec.specs.Compose.{composed_pair}
+use Rattle.map_spec.specs.Map.{lent_map}
 use Rattle.pair_list_write.specs.Packed.{PackedList}
-use Rattle.compose_pairs.proofs.ComposeBranches.{compose-begin, compose-room, compose-bound, compose-next, compose-end}
+use Rattle.compose_pairs.proofs.ComposeBranches.{compose_begin, compose_room, compose_bound, compose_next, compose_end}
 use borrow.Author.Rules.{rules}
 use Rattle.compose_pairs.proofs.compose_all.Statement.{statement}
 use Rattle.compose_pairs.proofs.compose_all.Tie as tie
 
 abbrev invariant-loop : tie.invariant-loop
-invariant-loop store places count mark istore iplaces inner bytes₀ slots₀ at₀ i₀ bytes slots at i = (i ≤ inner) × (at ≤ 1534 * i) × PackedList (map (composedPair (lentMap store places count mark)) (pairsIn istore iplaces i)) i at bytes₀ slots₀ bytes slots × (length bytes ≡ length bytes₀) × (length slots ≡ length slots₀)
+invariant-loop store places count mark istore iplaces inner bytes₀ slots₀ at₀ i₀ bytes slots at i = (i ≤ inner) × (at ≤ 1534 * i) × PackedList (map (composed_pair (lent_map store places count mark)) (pairs_in istore iplaces i)) i at bytes₀ slots₀ bytes slots × (length bytes ≡ length bytes₀) × (length slots ≡ length slots₀)
 
 abbrev decreases-loop : tie.decreases-loop
 decreases-loop store places count mark istore iplaces inner bytes₀ slots₀ at₀ i₀ bytes slots at i = inner - i
@@ -25,7 +25,7 @@ loop-holds c = (
   search rules,
   (let at-start = c.before.before.before.before.before.before in
       let args = at-start.args in
-      compose-begin (lentMap args.store.now args.places.now args.count args.mark) args.istore.now args.iplaces.now _ _),
+      compose_begin (lent_map args.store.now args.places.now args.count args.mark) args.istore.now args.iplaces.now _ _),
   refl,
   refl,
 )
@@ -45,8 +45,8 @@ compose-pair-requires c κs =
     let at-start = at-loop.before.before.before.before.before.before.before in
     let args = at-start.args in
     let pre = at-start.requires in (
-      compose-room (lentMap args.store.now args.places.now args.count args.mark) pre.outerEnds args.istore.now args.iplaces.now
-          args.inner pre.innerEnds at-loop.loop.i at-loop.loop.at at-loop-test.loop-test.true at-loop.loop.invariant.1 _ _
+      compose_room (lent_map args.store.now args.places.now args.count args.mark) pre.outer_ends args.istore.now args.iplaces.now
+          args.inner pre.inner_ends at-loop.loop.i at-loop.loop.at at-loop-test.loop-test.true at-loop.loop.invariant.1 _ _
           at-key-at.key-at.ensures at-key-at2.key-at2.ensures _ (omega (arith, pre.scratch.room, at-loop.loop.invariant.3)),
       omega (arith, pre.scratch.entries, at-loop.loop.invariant.4, at-loop-test.loop-test.true),
     )
@@ -67,8 +67,8 @@ loop-again c = (
       let at-loop = at-loop-test.before in
       let at-start = at-loop.before.before.before.before.before.before.before in
       let args = at-start.args in
-      compose-bound (lentMap args.store.now args.places.now args.count args.mark) at-start.requires.outerEnds args.istore.now
-      args.iplaces.now args.inner at-start.requires.innerEnds at-loop.loop.i at-loop.loop.at at-loop-test.loop-test.true
+      compose_bound (lent_map args.store.now args.places.now args.count args.mark) at-start.requires.outer_ends args.istore.now
+      args.iplaces.now args.inner at-start.requires.inner_ends at-loop.loop.i at-loop.loop.at at-loop-test.loop-test.true
       at-loop.loop.invariant.1 _ _ at-key-at.key-at.ensures at-key-at2.key-at2.ensures _ at-compose-pair.compose-pair.ensures.end),
   (let at-compose-pair = c.before.before.before.before in
       let at-key-at2 = at-compose-pair.before.before.before in
@@ -77,8 +77,8 @@ loop-again c = (
       let at-loop = at-loop-test.before in
       let at-start = at-loop.before.before.before.before.before.before.before in
       let args = at-start.args in
-      compose-next (lentMap args.store.now args.places.now args.count args.mark) at-start.requires.outerEnds args.istore.now
-      args.iplaces.now args.inner at-start.requires.innerEnds at-loop.loop.i at-loop.loop.at at-loop-test.loop-test.true
+      compose_next (lent_map args.store.now args.places.now args.count args.mark) at-start.requires.outer_ends args.istore.now
+      args.iplaces.now args.inner at-start.requires.inner_ends at-loop.loop.i at-loop.loop.at at-loop-test.loop-test.true
       at-loop.loop.invariant.1 _ _ at-key-at.key-at.ensures at-key-at2.key-at2.ensures _ _ _ _ _ _ _ at-loop.loop.invariant.2
       at-compose-pair.compose-pair.ensures),
   search rules,
@@ -96,7 +96,7 @@ returns c =
     let at-loop = c.before in
     let at-start = at-loop.before.before.before.before.before.before.before in
     let args = at-start.args in
-    compose-end (lentMap args.store.now args.places.now args.count args.mark) args.istore.now args.iplaces.now _ _ _ _ _ _ _
+    compose_end (lent_map args.store.now args.places.now args.count args.mark) args.istore.now args.iplaces.now _ _ _ _ _ _ _
     c.loop-test.false at-loop.loop.invariant.0 at-loop.loop.invariant.2 at-loop.loop.invariant.1
 
 pub compose-all-spec : {M : Type 1} → statement M

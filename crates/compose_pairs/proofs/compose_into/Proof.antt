@@ -1,7 +1,7 @@
-use Rattle.text.proofs.BoolLaws.{known-true, known-false}
-use Rattle.map_spec.specs.Map.{lentMap}
-use Rattle.compose_pairs.proofs.ComposeFitsBranches.{enough-back}
-use Rattle.compose_pairs.proofs.PackLaws.{into-none, into-packed}
+use Rattle.text.proofs.BoolLaws.{known_true, known_false}
+use Rattle.map_spec.specs.Map.{lent_map}
+use Rattle.compose_pairs.proofs.ComposeFitsBranches.{enough_back}
+use Rattle.compose_pairs.proofs.PackLaws.{into_none, into-packed}
 use borrow.Author.Rules.{rules}
 use Rattle.compose_pairs.proofs.compose_into.Statement.{statement}
 use Rattle.compose_pairs.proofs.compose_into.Tie as tie
@@ -14,9 +14,9 @@ returns c =
     let at-compose-fits = c.before in
     let at-start = at-compose-fits.before.before.before.before.before.before.before in
     let args = at-start.args in
-    into-none (lentMap args.store.now args.places.now args.count args.mark)
-    (lentMap args.istore.now args.iplaces.now args.inner args.imark) args.bytes.now args.slots.now
-    (known-false at-compose-fits.compose-fits.ensures c.if1.true)
+    into_none (lent_map args.store.now args.places.now args.count args.mark)
+    (lent_map args.istore.now args.iplaces.now args.inner args.imark) args.bytes.now args.slots.now
+    (known_false at-compose-fits.compose_fits_lem.ensures c.if1.true)
 
 compose-both-requires : tie.Need-compose-both-requires
 compose-both-requires c κs =
@@ -24,8 +24,8 @@ compose-both-requires c κs =
     let at-compose-fits = at-if1.before in
     let at-start = at-compose-fits.before.before.before.before.before.before.before in
     let args = at-start.args in
-    enough-back args.store.now args.places.now args.count args.istore.now args.iplaces.now args.inner _ _
-    (known-true at-compose-fits.compose-fits.ensures at-if1.if1.false)
+    enough_back args.store.now args.places.now args.count args.istore.now args.iplaces.now args.inner _ _
+    (known_true at-compose-fits.compose_fits_lem.ensures at-if1.if1.false)
 
 same_length : tie.Need-same-length
 same_length c = search rules
@@ -40,9 +40,9 @@ returns-2 c =
     let at-compose-fits = at-if1.before in
     let at-start = at-compose-fits.before.before.before.before.before.before.before in
     let args = at-start.args in
-    into-packed (lentMap args.store.now args.places.now args.count args.mark)
-    (lentMap args.istore.now args.iplaces.now args.inner args.imark) args.bytes.now args.slots.now
-    (known-true at-compose-fits.compose-fits.ensures at-if1.if1.false) _ _ _ at-compose-both.compose-both.ensures
+    into-packed (lent_map args.store.now args.places.now args.count args.mark)
+    (lent_map args.istore.now args.iplaces.now args.inner args.imark) args.bytes.now args.slots.now
+    (known_true at-compose-fits.compose_fits_lem.ensures at-if1.if1.false) _ _ _ at-compose-both.compose-both.ensures
 
 pub compose-into-spec : {M : Type 1} → statement M
 compose-into-spec =

@@ -1,4 +1,4 @@
-use Rattle.pair_list_write.proofs.PushBranches.{pair-done}
+use Rattle.pair_list_write.proofs.PushBranches.{pair_done}
 use borrow.Author.Rules.{rules}
 use Rattle.compose_pairs.proofs.compose_pair.Statement.{statement}
 use Rattle.compose_pairs.proofs.compose_pair.Tie as tie
@@ -31,7 +31,7 @@ returns c =
     let at-write-at = at-composed-target-at.before.before.before.before in
     let at-start = at-write-at.before.before.before.before.before.before.before.before in
     let args = at-start.args in
-    pair-done args.s.now _ args.at args.n _ args.bytes.now _ _ args.slots.now _ at-start.requires.0 at-start.requires.1
+    pair_done args.s.now _ args.at args.n _ args.bytes.now _ _ args.slots.now _ at-start.requires.0 at-start.requires.1
     at-composed-target-at.composed-target-at.ensures.0 at-write-at.write-at.ensures at-composed-target-at.composed-target-at.ensures.1
     at-write-entry.write-entry.ensures
 

@@ -1,16 +1,16 @@
-use Rattle.compose_pairs.proofs.PlainMappingBranches.{composed-empty, composed-room, composed-none, composed-made}
+use Rattle.compose_pairs.proofs.PlainMappingBranches.{composed_empty, composed_room, composed-none, composed_made}
 use borrow.Author.Rules.{rules}
 use Rattle.compose_pairs.proofs.composed_target_at.Statement.{statement}
 use Rattle.compose_pairs.proofs.composed_target_at.Tie as tie
 
 returns : tie.Need-returns
-returns c = composed-empty _ _ _ _ c.if1.true
+returns c = composed_empty _ _ _ _ c.if1.true
 
 map-at-requires : tie.Need-map-at-requires
 map-at-requires c κs =
     let at-if1 = c.before in
     let at-start = at-if1.before.before.before.before.before in
-    composed-room _ _ _ at-start.args.bytes.now at-if1.if1.false at-start.requires
+    composed_room _ _ _ at-start.args.bytes.now at-if1.if1.false at-start.requires
 
 enum_told : tie.Need-enum-told
 enum_told c = search rules
@@ -35,7 +35,7 @@ returns-3 c =
     let at_a = c.before in
     let at-map-at = at_a.before.before.before.before in
     let at-if1 = at-map-at.before.before in
-    composed-made _ _ _ _ at-if1.if1.false _ _ at-map-at.map_at.ensures.0 at-map-at.map_at.ensures.1 _ at_a.a.given.1
+    composed_made _ _ _ _ at-if1.if1.false _ _ at-map-at.map_at.ensures.0 at-map-at.map_at.ensures.1 _ at_a.a.given.1
 
 pub composed-target-at-spec : {M : Type 1} → statement M
 composed-target-at-spec =

@@ -3,15 +3,15 @@ use mathlib.Core.Path.{◌≡◌}
 use mathlib.Core.Bool.{false}
 use Prim.Native.Nat.{◌≤◌, ◌-◌}
 use Rattle.path_join.specs.Join.{join}
-use Rattle.pair_list.specs.Places.{pairsIn}
-use Rattle.map_spec.specs.Compose.{hasSource}
+use Rattle.pair_list.specs.Places.{pairs_in}
+use Rattle.map_spec.specs.Compose.{has_source}
 use Rattle.compose_pairs.proofs.PullBackBranches.{joins}
 use borrow.Author.Rules.{rules}
 use Rattle.compose_pairs.proofs.has_joined.Statement.{statement}
 use Rattle.compose_pairs.proofs.has_joined.Tie as tie
 
 abbrev invariant-loop : tie.invariant-loop
-invariant-loop bytes slots n old new remainder i₀ i = (i ≤ n) × (hasSource (pairsIn bytes slots i) (join old new remainder) ≡ false)
+invariant-loop bytes slots n old new remainder i₀ i = (i ≤ n) × (has_source (pairs_in bytes slots i) (join old new remainder) ≡ false)
 
 abbrev decreases-loop : tie.decreases-loop
 decreases-loop bytes slots n old new remainder i₀ i = n - i

@@ -1,4 +1,4 @@
-use Rattle.compose_pairs.proofs.PlainMappingBranches.{part_length, part-over, part-put}
+use Rattle.compose_pairs.proofs.PlainMappingBranches.{part_length, part_over, part_put}
 use borrow.Author.Rules.{rules}
 use Rattle.compose_pairs.proofs.join_at.Statement.{statement}
 use Rattle.compose_pairs.proofs.join_at.Tie as tie
@@ -30,7 +30,7 @@ returns c =
     let at_join = at-fit.before.before.before.before in
     let at-start = at_join.before.before.before.before.before.before in (
       part_length _ at-start.args.bytes.now _ at-start.requires _ at_join.join.ensures.0 _ at-fit.fit.given.1,
-      part-put _ at-start.args.bytes.now _ at-start.requires _ at_join.join.ensures.0 _ at_join.join.ensures.1,
+      part_put _ at-start.args.bytes.now _ at-start.requires _ at_join.join.ensures.0 _ at_join.join.ensures.1,
     )
 
 same-length-2 : tie.Need-same-length-2
@@ -40,7 +40,7 @@ returns-2 : tie.Need-returns-2
 returns-2 c =
     let at_join = c.before.before.before.before in
     let at-start = at_join.before.before.before.before.before.before in
-    absurd (part-over _ at-start.args.bytes.now _ at-start.requires _ at_join.join.ensures.0 c.enum_told.given.1)
+    absurd (part_over _ at-start.args.bytes.now _ at-start.requires _ at_join.join.ensures.0 c.enum_told.given.1)
 
 pub join-at-spec : {M : Type 1} → statement M
 join-at-spec =

@@ -1,4 +1,4 @@
-use Rattle.compose_pairs.proofs.PlainMappingBranches.{keep-none, keep_some}
+use Rattle.compose_pairs.proofs.PlainMappingBranches.{keep_none, keep_some}
 use borrow.Author.Rules.{rules}
 use Rattle.compose_pairs.proofs.keep_at.Statement.{statement}
 use Rattle.compose_pairs.proofs.keep_at.Tie as tie
@@ -7,7 +7,7 @@ returns : tie.Need-returns
 returns c =
     let at-start = c.before.before.before in
     let args = at-start.args in
-    keep-none args.mark args.path.now args.at _ c.if1.true
+    keep_none args.mark args.path.now args.at _ c.if1.true
 
 write-at-requires : tie.Need-write-at-requires
 write-at-requires c κs = search rules

@@ -1,7 +1,7 @@
 use Rattle.compose_pairs.specs.declared.Image.TheVariants.{Made}
 use mathlib.Core.Path.{refl, ap}
 use mathlib.Core.Bool.{false}
-use Rattle.compose_pairs.proofs.PlainMappingBranches.{map-none, map-block, map-join, room_of, answer-of}
+use Rattle.compose_pairs.proofs.PlainMappingBranches.{map-none, map-block, map-join, room_of, answer_of}
 use Rattle.map_apply.proofs.MapBranches.{map-inside}
 use borrow.Author.Rules.{rules}
 use Rattle.compose_pairs.proofs.map_at.Statement.{statement}
@@ -23,7 +23,7 @@ returns c =
     let at-best-prefix = at-if1.before.before in
     let at-start = at-best-prefix.before.before.before.before.before in
     let args = at-start.args in
-    answer-of _ _
+    answer_of _ _
     (map-none args.store.now args.places.now args.n args.mark args.path.now false at-best-prefix.best-prefix.result
     at-best-prefix.best-prefix.ensures at-if1.if1.true)
     _ _ _ _ at-keep-at.keep_at.ensures
@@ -38,7 +38,7 @@ returns-2 c =
     let at-best-prefix = at-if1.before.before in
     let at-start = at-best-prefix.before.before.before.before.before in
     let args = at-start.args in
-    answer-of _ _
+    answer_of _ _
     (map-block args.store.now args.places.now args.n args.mark args.path.now false at-best-prefix.best-prefix.result
     at-best-prefix.best-prefix.ensures at-if1.if1.false _ at-key-at.key-at.ensures c.if2.true)
     _ _ _ _ (refl, refl)
@@ -95,7 +95,7 @@ returns-3 c =
     let at-best-prefix = at-if1.before.before in
     let at-start = at-best-prefix.before.before.before.before.before in
     let args = at-start.args in
-    answer-of _ _
+    answer_of _ _
     (map-join args.store.now args.places.now args.n args.mark args.path.now false at-best-prefix.best-prefix.result
     at-best-prefix.best-prefix.ensures at-if1.if1.false _ _ _ at-key-at.key-at.ensures at-if2.if2.false at-key-at2.key-at2.ensures
     at-key-at.key-at.ensures)

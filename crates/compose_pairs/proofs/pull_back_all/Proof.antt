@@ -3,18 +3,18 @@ use mathlib.Core.Path.{◌≡◌, refl}
 use Prim.Native.Nat.{◌+◌, ◌*◌, ◌≤◌, ◌-◌}
 use native.Mathlib.Omega.{arith}
 use lib.ListN.{length}
-use Rattle.pair_list.specs.Places.{pairsIn}
-use Rattle.map_spec.specs.Compose.{pulledBack}
-use Rattle.map_spec.specs.Map.{lentMap}
+use Rattle.pair_list.specs.Places.{pairs_in}
+use Rattle.map_spec.specs.Compose.{pulled_back}
+use Rattle.map_spec.specs.Map.{lent_map}
 use Rattle.pair_list_write.specs.Packed.{PackedList}
-use Rattle.pair_list_write.proofs.PackedLaws.{packed-stored}
-use Rattle.compose_pairs.proofs.ComposeBranches.{pull-begin, pull-room, pull-slot, pull-number, pull-bound, pull-next, pull-end}
+use Rattle.pair_list_write.proofs.PackedLaws.{packed_stored}
+use Rattle.compose_pairs.proofs.ComposeBranches.{pull_begin, pull_room, pull_slot, pull-number, pull-bound, pull-next, pull_end}
 use borrow.Author.Rules.{rules}
 use Rattle.compose_pairs.proofs.pull_back_all.Statement.{statement}
 use Rattle.compose_pairs.proofs.pull_back_all.Tie as tie
 
 abbrev invariant-loop : tie.invariant-loop
-invariant-loop store places count istore iplaces inner mark at bytes₀ slots₀ b₀ i₀ bytes slots b i = (i ≤ count) × (b.n ≤ inner + i) × (b.at ≤ 1534 * (inner + i)) × PackedList (pulledBack (lentMap istore iplaces inner mark) (pairsIn bytes₀ slots₀ inner) (pairsIn store places i)) b.n b.at bytes₀ slots₀ bytes slots × (length bytes ≡ length bytes₀) × (length slots ≡ length slots₀)
+invariant-loop store places count istore iplaces inner mark at bytes₀ slots₀ b₀ i₀ bytes slots b i = (i ≤ count) × (b.n ≤ inner + i) × (b.at ≤ 1534 * (inner + i)) × PackedList (pulled_back (lent_map istore iplaces inner mark) (pairs_in bytes₀ slots₀ inner) (pairs_in store places i)) b.n b.at bytes₀ slots₀ bytes slots × (length bytes ≡ length bytes₀) × (length slots ≡ length slots₀)
 
 abbrev decreases-loop : tie.decreases-loop
 decreases-loop store places count istore iplaces inner mark at bytes₀ slots₀ b₀ i₀ bytes slots b i = count - i
@@ -26,8 +26,8 @@ loop-holds c = (
   omega (arith, c.before.before.before.before.before.before.requires.1.1),
   (let at-start = c.before.before.before.before.before.before in
       let args = at-start.args in
-      pull-begin (lentMap args.istore.now args.iplaces.now args.inner args.mark)
-      (pairsIn args.bytes.now args.slots.now args.inner) args.store.now args.places.now _ _ _ _ _ _ at-start.requires.1.0),
+      pull_begin (lent_map args.istore.now args.iplaces.now args.inner args.mark)
+      (pairs_in args.bytes.now args.slots.now args.inner) args.store.now args.places.now _ _ _ _ _ _ at-start.requires.1.0),
   refl,
   refl,
 )
@@ -47,14 +47,14 @@ pull-back-pair-requires c κs =
     let at-start = at-loop.before.before.before.before.before.before.before in
     let args = at-start.args in
     let pre = at-start.requires in
-    let its-lentMap = lentMap args.istore.now args.iplaces.now args.inner args.mark in
-    let its-pairsIn = pairsIn args.bytes.now args.slots.now args.inner in (
-      packed-stored _ _ _ _ _ _ _ at-loop.loop.invariant.3,
+    let its-lentMap = lent_map args.istore.now args.iplaces.now args.inner args.mark in
+    let its-pairsIn = pairs_in args.bytes.now args.slots.now args.inner in (
+      packed_stored _ _ _ _ _ _ _ at-loop.loop.invariant.3,
       (
-        pull-room its-lentMap pre.0.innerEnds its-pairsIn args.store.now args.places.now args.count pre.0.outerEnds args.inner at-loop.loop.i
+        pull_room its-lentMap pre.0.inner_ends its-pairsIn args.store.now args.places.now args.count pre.0.outer_ends args.inner at-loop.loop.i
             at-loop-test.loop-test.true at-loop.loop.b.n at-loop.loop.b.at at-loop.loop.invariant.1 at-loop.loop.invariant.2 _ _
             at-key-at.key-at.ensures at-key-at2.key-at2.ensures _ (omega (arith, pre.0.scratch.room, at-loop.loop.invariant.4)),
-        pull-slot its-lentMap pre.0.innerEnds its-pairsIn args.store.now args.places.now args.count pre.0.outerEnds args.inner at-loop.loop.i
+        pull_slot its-lentMap pre.0.inner_ends its-pairsIn args.store.now args.places.now args.count pre.0.outer_ends args.inner at-loop.loop.i
             at-loop-test.loop-test.true at-loop.loop.b.n at-loop.loop.b.at at-loop.loop.invariant.1 at-loop.loop.invariant.2 _ _
             at-key-at.key-at.ensures at-key-at2.key-at2.ensures _ (omega (arith, pre.0.scratch.entries, at-loop.loop.invariant.5)),
       ),
@@ -76,8 +76,8 @@ loop-again c = (
       let at-loop = at-loop-test.before in
       let at-start = at-loop.before.before.before.before.before.before.before in
       let args = at-start.args in
-      pull-number (lentMap args.istore.now args.iplaces.now args.inner args.mark) at-start.requires.0.innerEnds
-      (pairsIn args.bytes.now args.slots.now args.inner) args.store.now args.places.now args.count at-start.requires.0.outerEnds
+      pull-number (lent_map args.istore.now args.iplaces.now args.inner args.mark) at-start.requires.0.inner_ends
+      (pairs_in args.bytes.now args.slots.now args.inner) args.store.now args.places.now args.count at-start.requires.0.outer_ends
       args.inner at-loop.loop.i at-loop-test.loop-test.true at-loop.loop.b.n at-loop.loop.b.at at-loop.loop.invariant.1
       at-loop.loop.invariant.2 _ _ at-key-at.key-at.ensures at-key-at2.key-at2.ensures _ _ _ _ at-loop.loop.invariant.3 _ _ _ _
       at-pull-back-pair.pull-back-pair.ensures),
@@ -88,8 +88,8 @@ loop-again c = (
       let at-loop = at-loop-test.before in
       let at-start = at-loop.before.before.before.before.before.before.before in
       let args = at-start.args in
-      pull-bound (lentMap args.istore.now args.iplaces.now args.inner args.mark) at-start.requires.0.innerEnds
-      (pairsIn args.bytes.now args.slots.now args.inner) args.store.now args.places.now args.count at-start.requires.0.outerEnds
+      pull-bound (lent_map args.istore.now args.iplaces.now args.inner args.mark) at-start.requires.0.inner_ends
+      (pairs_in args.bytes.now args.slots.now args.inner) args.store.now args.places.now args.count at-start.requires.0.outer_ends
       args.inner at-loop.loop.i at-loop-test.loop-test.true at-loop.loop.b.n at-loop.loop.b.at at-loop.loop.invariant.1
       at-loop.loop.invariant.2 _ _ at-key-at.key-at.ensures at-key-at2.key-at2.ensures _ _ _ _ at-loop.loop.invariant.3 _ _ _ _
       at-pull-back-pair.pull-back-pair.ensures),
@@ -100,8 +100,8 @@ loop-again c = (
       let at-loop = at-loop-test.before in
       let at-start = at-loop.before.before.before.before.before.before.before in
       let args = at-start.args in
-      pull-next (lentMap args.istore.now args.iplaces.now args.inner args.mark) at-start.requires.0.innerEnds
-      (pairsIn args.bytes.now args.slots.now args.inner) args.store.now args.places.now args.count at-start.requires.0.outerEnds
+      pull-next (lent_map args.istore.now args.iplaces.now args.inner args.mark) at-start.requires.0.inner_ends
+      (pairs_in args.bytes.now args.slots.now args.inner) args.store.now args.places.now args.count at-start.requires.0.outer_ends
       args.inner at-loop.loop.i at-loop-test.loop-test.true at-loop.loop.b.n at-loop.loop.b.at at-loop.loop.invariant.1
       at-loop.loop.invariant.2 _ _ at-key-at.key-at.ensures at-key-at2.key-at2.ensures _ _ _ _ at-loop.loop.invariant.3 _ _ _ _
       at-pull-back-pair.pull-back-pair.ensures),
@@ -120,8 +120,8 @@ returns c =
     let at-loop = c.before in
     let at-start = at-loop.before.before.before.before.before.before.before in
     let args = at-start.args in
-    pull-end (lentMap args.istore.now args.iplaces.now args.inner args.mark)
-    (pairsIn args.bytes.now args.slots.now args.inner) args.store.now args.places.now _ _ _ _ _ _ _ _ c.loop-test.false
+    pull_end (lent_map args.istore.now args.iplaces.now args.inner args.mark)
+    (pairs_in args.bytes.now args.slots.now args.inner) args.store.now args.places.now _ _ _ _ _ _ _ _ c.loop-test.false
     at-loop.loop.invariant.0 at-loop.loop.invariant.3
 
 pub pull-back-all-spec : {M : Type 1} → statement M

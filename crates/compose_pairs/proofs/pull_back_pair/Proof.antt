@@ -1,11 +1,11 @@
 use mathlib.Core.Path.{refl}
 use mathlib.Core.Bool.{true}
-use Rattle.pair_list.specs.Places.{pairsIn}
-use Rattle.map_spec.specs.Map.{lentMap}
+use Rattle.pair_list.specs.Places.{pairs_in}
+use Rattle.map_spec.specs.Map.{lent_map}
 use Rattle.map_apply.proofs.MapBranches.{map-inside}
-use Rattle.compose_pairs.specs.ComposePairs.{mapPlainly}
+use Rattle.compose_pairs.specs.ComposePairs.{map_plainly}
 use Rattle.compose_pairs.proofs.PlainMappingBranches.{map-none, home-join}
-use Rattle.compose_pairs.proofs.PullBackBranches.{pull-unmarked, pull-marked, pull-none, pull-fits, pull-some}
+use Rattle.compose_pairs.proofs.PullBackBranches.{pull_unmarked, pull_marked, pull_none, pull-fits, pull-some}
 use borrow.Author.Rules.{rules}
 use Rattle.compose_pairs.proofs.pull_back_pair.Statement.{statement}
 use Rattle.compose_pairs.proofs.pull_back_pair.Tie as tie
@@ -19,10 +19,10 @@ returns c =
     let at-best-prefix = at-if1.before.before in
     let at-start = at-best-prefix.before.before.before.before.before.before.before in
     let args = at-start.args in
-    let its-mapPlainly = mapPlainly true (lentMap args.store.now args.places.now args.count args.mark) args.s.now in
-    pull-none (pairsIn args.bytes.now args.slots.now args.b.n) args.t.now its-mapPlainly args.b.n args.b.at args.bytes.now
+    let its-mapPlainly = map_plainly true (lent_map args.store.now args.places.now args.count args.mark) args.s.now in
+    pull_none (pairs_in args.bytes.now args.slots.now args.b.n) args.t.now its-mapPlainly args.b.n args.b.at args.bytes.now
     args.slots.now
-    (pull-unmarked args.s.now its-mapPlainly args.mark
+    (pull_unmarked args.s.now its-mapPlainly args.mark
     (map-none args.store.now args.places.now args.count args.mark args.s.now true at-best-prefix.best-prefix.result
     at-best-prefix.best-prefix.ensures at-if1.if1.true)
     c.if2.true)
@@ -42,12 +42,12 @@ add-joined-requires c κs =
     let at-start = at-best-prefix.before.before.before.before.before.before.before in
     let args = at-start.args in
     let pre = at-start.requires in
-    let its-mapPlainly = mapPlainly true (lentMap args.store.now args.places.now args.count args.mark) args.s.now in (
+    let its-mapPlainly = map_plainly true (lent_map args.store.now args.places.now args.count args.mark) args.s.now in (
       pre.0,
       (
-        pull-fits (pairsIn args.bytes.now args.slots.now args.b.n) args.t.now its-mapPlainly args.b.n args.b.at
+        pull-fits (pairs_in args.bytes.now args.slots.now args.b.n) args.t.now its-mapPlainly args.b.n args.b.at
             args.bytes.now args.slots.now _
-            (pull-marked args.s.now its-mapPlainly args.mark
+            (pull_marked args.s.now its-mapPlainly args.mark
             (map-none args.store.now args.places.now args.count args.mark args.s.now true at-best-prefix.best-prefix.result
             at-best-prefix.best-prefix.ensures at-if1.if1.true)
             at-if2.if2.false)
@@ -70,10 +70,10 @@ returns-2 c =
     let at-best-prefix = at-if1.before.before in
     let at-start = at-best-prefix.before.before.before.before.before.before.before in
     let args = at-start.args in
-    let its-mapPlainly = mapPlainly true (lentMap args.store.now args.places.now args.count args.mark) args.s.now in
-    pull-some (pairsIn args.bytes.now args.slots.now args.b.n) args.t.now its-mapPlainly args.b.n args.b.at args.bytes.now
+    let its-mapPlainly = map_plainly true (lent_map args.store.now args.places.now args.count args.mark) args.s.now in
+    pull-some (pairs_in args.bytes.now args.slots.now args.b.n) args.t.now its-mapPlainly args.b.n args.b.at args.bytes.now
     args.slots.now _
-    (pull-marked args.s.now its-mapPlainly args.mark
+    (pull_marked args.s.now its-mapPlainly args.mark
     (map-none args.store.now args.places.now args.count args.mark args.s.now true at-best-prefix.best-prefix.result
     at-best-prefix.best-prefix.ensures at-if1.if1.true)
     at-if2.if2.false)
@@ -119,8 +119,8 @@ add-joined-requires-2 c κs =
     let pre = at-start.requires in (
       pre.0,
       (
-        pull-fits (pairsIn args.bytes.now args.slots.now args.b.n) args.t.now
-            (mapPlainly true (lentMap args.store.now args.places.now args.count args.mark) args.s.now) args.b.n args.b.at
+        pull-fits (pairs_in args.bytes.now args.slots.now args.b.n) args.t.now
+            (map_plainly true (lent_map args.store.now args.places.now args.count args.mark) args.s.now) args.b.n args.b.at
             args.bytes.now args.slots.now _
             (home-join args.store.now args.places.now args.count args.mark args.s.now true at-best-prefix.best-prefix.result
             at-best-prefix.best-prefix.ensures at-if1.if1.false refl _ _ at-key-at.key-at.ensures at-key-at2.key-at2.ensures)
@@ -144,8 +144,8 @@ returns-3 c =
     let at-best-prefix = at-if1.before.before in
     let at-start = at-best-prefix.before.before.before.before.before.before.before in
     let args = at-start.args in
-    pull-some (pairsIn args.bytes.now args.slots.now args.b.n) args.t.now
-    (mapPlainly true (lentMap args.store.now args.places.now args.count args.mark) args.s.now) args.b.n args.b.at
+    pull-some (pairs_in args.bytes.now args.slots.now args.b.n) args.t.now
+    (map_plainly true (lent_map args.store.now args.places.now args.count args.mark) args.s.now) args.b.n args.b.at
     args.bytes.now args.slots.now _
     (home-join args.store.now args.places.now args.count args.mark args.s.now true at-best-prefix.best-prefix.result
     at-best-prefix.best-prefix.ensures at-if1.if1.false refl _ _ at-key-at.key-at.ensures at-key-at2.key-at2.ensures)

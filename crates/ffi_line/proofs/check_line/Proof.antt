@@ -1,11 +1,11 @@
--- The bytes decoded from the line encode its frame; the branches are those of `lineCheck`.
+-- The bytes decoded from the line encode its frame; the branches are those of `line_check`.
 use mathlib.Core.Path.{refl}
 use native.Mathlib.Omega.{arith}
-use Rattle.text.proofs.WriteLaws.{part-size}
-use Rattle.frame_decode.proofs.HeaderLaws.{kind-few}
-use Rattle.frame_decode.proofs.LineLaws.{line-within}
-use Rattle.ffi_line.specs.LineCall.{lentMemory}
-use Rattle.ffi_line.proofs.CallBranches.{roomy-kept, whole-parsed, check-bad, check-full, check-refused, check-open, counted-use}
+use Rattle.text.proofs.WriteLaws.{part_size}
+use Rattle.frame_decode.proofs.HeaderLaws.{kind_few}
+use Rattle.frame_decode.proofs.LineLaws.{line_within}
+use Rattle.ffi_line.specs.LineCall.{lent_memory}
+use Rattle.ffi_line.proofs.CallBranches.{roomy_kept, whole_parsed, check_bad, check-full, check-refused, check-open, counted_use}
 use borrow.Author.Rules.{rules}
 use Rattle.ffi_line.proofs.check_line.Statement.{statement}
 use Rattle.ffi_line.proofs.check_line.Tie as tie
@@ -17,10 +17,10 @@ decode-line-requires : tie.Need-decode-line-requires
 decode-line-requires c κs = search rules
 
 array-share-prefix-frame : tie.Need-array-share-prefix-frame
-array-share-prefix-frame c = line-within _ _ _ _ _ refl c.before.decode-line.ensures
+array-share-prefix-frame c = line_within _ _ _ _ _ refl c.before.decode-line.ensures
 
 slice-aggregate-decode-frame : tie.Need-slice-aggregate-decode-frame
-slice-aggregate-decode-frame c = part-size _ _ (line-within _ _ _ _ _ refl c.before.before.decode-line.ensures)
+slice-aggregate-decode-frame c = part_size _ _ (line_within _ _ _ _ _ refl c.before.before.decode-line.ensures)
 
 decode-frame-requires : tie.Need-decode-frame-requires
 decode-frame-requires c κs = search rules
@@ -37,8 +37,8 @@ returns c =
     let at-decode-line = at-decode-frame.before.before.before in
     let at-start = at-decode-line.before.before.before.before.before.before.before.before.before in
     let args = at-start.args in
-    let m = lentMemory args.kept.now args.bytes.now args.places.now args.store.now args.slots.now args.table.now in
-    check-bad _ _ at-decode-frame.decode-frame.ensures _ (whole-parsed args.line.now _ _ _ refl at-decode-line.decode-line.ensures) args.kept.now m args.room c.enum_told.given.1
+    let m = lent_memory args.kept.now args.bytes.now args.places.now args.store.now args.slots.now args.table.now in
+    check_bad _ _ at-decode-frame.decode-frame.ensures _ (whole_parsed args.line.now _ _ _ refl at-decode-line.decode-line.ensures) args.kept.now m args.room c.enum_told.given.1
 
 has-line-room-requires : tie.Need-has-line-room-requires
 has-line-room-requires c κs = search rules
@@ -51,8 +51,8 @@ returns-2 c =
     let at-decode-line = at-decode-frame.before.before.before in
     let at-start = at-decode-line.before.before.before.before.before.before.before.before.before in
     let args = at-start.args in
-    let m = lentMemory args.kept.now args.bytes.now args.places.now args.store.now args.slots.now args.table.now in
-    check-full _ _ at-decode-frame.decode-frame.ensures _ (whole-parsed args.line.now _ _ _ refl at-decode-line.decode-line.ensures) args.kept.now m args.room _ _ at-d.d.given.1 _ at-has-line-room.has-line-room.ensures c.if1.true
+    let m = lent_memory args.kept.now args.bytes.now args.places.now args.store.now args.slots.now args.table.now in
+    check-full _ _ at-decode-frame.decode-frame.ensures _ (whole_parsed args.line.now _ _ _ refl at-decode-line.decode-line.ensures) args.kept.now m args.room _ _ at-d.d.given.1 _ at-has-line-room.has-line-room.ensures c.if1.true
 
 counters-of-requires : tie.Need-counters-of-requires
 counters-of-requires c κs =
@@ -60,17 +60,17 @@ counters-of-requires c κs =
     let at-start =
     at-has-line-room.before.before.before.before.before.before.before.before.before.before.before.before.before.before.before.before
     in
-    roomy-kept at-start.args.kept.now at-start.args.room _ at-has-line-room.has-line-room.ensures c.if1.false
+    roomy_kept at-start.args.kept.now at-start.args.room _ at-has-line-room.has-line-room.ensures c.if1.false
 
 array-share-prefix-frame-2 : tie.Need-array-share-prefix-frame-2
 array-share-prefix-frame-2 c =
     let at-decode-line = c.before.before.before.before.before.before.before.before.before in
-    line-within _ _ _ _ _ refl at-decode-line.decode-line.ensures
+    line_within _ _ _ _ _ refl at-decode-line.decode-line.ensures
 
 slice-aggregate-validate-use : tie.Need-slice-aggregate-validate-use
 slice-aggregate-validate-use c =
     let at-decode-line = c.before.before.before.before.before.before.before.before.before.before in
-    part-size _ _ (line-within _ _ _ _ _ refl at-decode-line.decode-line.ensures)
+    part_size _ _ (line_within _ _ _ _ _ refl at-decode-line.decode-line.ensures)
 
 validate-use-requires : tie.Need-validate-use-requires
 validate-use-requires c κs = search rules
@@ -82,7 +82,7 @@ add-t26 : tie.Need-overflow-add-t26
 add-t26 c =
     let at-d = c.before.before.before.before.before.before.before.before.before in
     let at-decode-frame = at-d.before.before in
-    omega (arith, kind-few _ _ _ _ at-decode-frame.decode-frame.ensures at-d.d.given.1)
+    omega (arith, kind_few _ _ _ _ at-decode-frame.decode-frame.ensures at-d.d.given.1)
 
 number-byte-requires : tie.Need-number-byte-requires
 number-byte-requires c κs = search rules
@@ -99,11 +99,11 @@ returns-3 c =
     let at-decode-line = at-decode-frame.before.before.before in
     let at-start = at-decode-line.before.before.before.before.before.before.before.before.before in
     let args = at-start.args in
-    let m = lentMemory args.kept.now args.bytes.now args.places.now args.store.now args.slots.now args.table.now in
+    let m = lent_memory args.kept.now args.bytes.now args.places.now args.store.now args.slots.now args.table.now in
     let used =
-    counted-use args.kept.now args.bytes.now args.places.now args.store.now args.slots.now args.table.now _
+    counted_use args.kept.now args.bytes.now args.places.now args.store.now args.slots.now args.table.now _
     at-counters-of.counters-of.ensures _ _ at-validate-use.validate-use.ensures in
-    check-refused _ _ at-decode-frame.decode-frame.ensures _ (whole-parsed args.line.now _ _ _ refl at-decode-line.decode-line.ensures) args.kept.now m args.room _ _ at-d.d.given.1 _ at-has-line-room.has-line-room.ensures at-if1.if1.false _ used _ at-q.q.given.1
+    check-refused _ _ at-decode-frame.decode-frame.ensures _ (whole_parsed args.line.now _ _ _ refl at-decode-line.decode-line.ensures) args.kept.now m args.room _ _ at-d.d.given.1 _ at-has-line-room.has-line-room.ensures at-if1.if1.false _ used _ at-q.q.given.1
     _ c.number-byte.ensures
 
 enum-told-2 : tie.Need-enum-told-2
@@ -120,11 +120,11 @@ returns-4 c =
     let at-decode-line = at-decode-frame.before.before.before in
     let at-start = at-decode-line.before.before.before.before.before.before.before.before.before in
     let args = at-start.args in
-    let m = lentMemory args.kept.now args.bytes.now args.places.now args.store.now args.slots.now args.table.now in
+    let m = lent_memory args.kept.now args.bytes.now args.places.now args.store.now args.slots.now args.table.now in
     let used =
-    counted-use args.kept.now args.bytes.now args.places.now args.store.now args.slots.now args.table.now _
+    counted_use args.kept.now args.bytes.now args.places.now args.store.now args.slots.now args.table.now _
     at-counters-of.counters-of.ensures _ _ at-validate-use.validate-use.ensures in
-    check-open _ _ at-decode-frame.decode-frame.ensures _ (whole-parsed args.line.now _ _ _ refl at-decode-line.decode-line.ensures) args.kept.now m args.room _ _ at-d.d.given.1 _ at-has-line-room.has-line-room.ensures at-if1.if1.false _ used
+    check-open _ _ at-decode-frame.decode-frame.ensures _ (whole_parsed args.line.now _ _ _ refl at-decode-line.decode-line.ensures) args.kept.now m args.room _ _ at-d.d.given.1 _ at-has-line-room.has-line-room.ensures at-if1.if1.false _ used
     c.enum-told2.given.1
 
 pub check-line-spec : {M : Type 1} → statement M

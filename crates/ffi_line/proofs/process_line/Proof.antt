@@ -1,6 +1,6 @@
 -- The counters are read, the line is answered at offset 0, and the counters are written back.
-use Rattle.ffi_line.specs.LineCall.{wholeLine}
-use Rattle.ffi_line.proofs.CallBranches.{line-processed}
+use Rattle.ffi_line.specs.LineCall.{whole_line}
+use Rattle.ffi_line.proofs.CallBranches.{line_processed}
 use borrow.Author.Rules.{rules}
 use Rattle.ffi_line.proofs.process_line.Statement.{statement}
 use Rattle.ffi_line.proofs.process_line.Tie as tie
@@ -38,14 +38,14 @@ same-length-7 : tie.Need-same-length-7
 same-length-7 c = search rules
 
 returns : tie.Need-returns
-unfolding wholeLine
+unfolding whole_line
 returns c =
     let at-write-counters = c.before.before in
     let at-answer-line = at-write-counters.before.before.before.before.before.before.before.before.before.before.before.before.before.before.before in
     let at-counters-of = at-answer-line.before.before.before.before.before.before.before in
     let at-start = at-counters-of.before.before.before.before.before.before.before.before.before.before in
     let args = at-start.args in
-    line-processed (wholeLine args.line.now) args.kept.now args.bytes.now args.places.now args.store.now args.slots.now
+    line_processed (whole_line args.line.now) args.kept.now args.bytes.now args.places.now args.store.now args.slots.now
     args.table.now args.out.now at-start.requires.1 _ at-counters-of.counters-of.ensures _ _ _ _ _ _ _ _ _
     at-answer-line.answer-line.ensures.0 at-answer-line.answer-line.ensures.1.0 at-answer-line.answer-line.ensures.1.1
     at-write-counters.write-counters.ensures

@@ -1,6 +1,6 @@
 use native.Mathlib.Omega.{arith}
 use lib.ListN.{length-set}
-use Rattle.ffi_line.proofs.CallBranches.{counters-stored}
+use Rattle.ffi_line.proofs.CallBranches.{counters_stored}
 use borrow.Author.Rules.{rules}
 use Rattle.ffi_line.proofs.write_counters.Statement.{statement}
 use Rattle.ffi_line.proofs.write_counters.Tie as tie
@@ -24,7 +24,7 @@ same_length : tie.Need-same-length
 same_length c = search rules
 
 returns : tie.Need-returns
-returns c = counters-stored c.before.before.args.kept.now _ _ _ _ _ c.before.before.requires
+returns c = counters_stored c.before.before.args.kept.now _ _ _ _ _ c.before.before.requires
 
 pub write-counters-spec : {M : Type 1} → statement M
 write-counters-spec =

@@ -1,11 +1,11 @@
 -- The digits of the two bytes and the newline are written one after the other.
-use Rattle.ffi_line.proofs.CallBranches.{short-refused, short-written}
+use Rattle.ffi_line.proofs.CallBranches.{short_refused, short_written}
 use borrow.Author.Rules.{rules}
 use Rattle.ffi_line.proofs.write_short.Statement.{statement}
 use Rattle.ffi_line.proofs.write_short.Tie as tie
 
 returns : tie.Need-returns
-returns c = short-refused _ _ _ c.if1.true
+returns c = short_refused _ _ _ c.if1.true
 
 array-write-first : tie.Need-array-write-first
 array-write-first c = search rules
@@ -34,7 +34,7 @@ returns-2 c =
     let at-encode = at-write-at.before.before.before.before.before in
     let at-if1 = at-encode.before.before.before in
     let at-start = at-if1.before.before in
-    short-written at-start.args.head at-start.args.answer at-start.args.out.now at-if1.if1.false _ _ at-encode.encode.ensures at-write-at.write-at.ensures
+    short_written at-start.args.head at-start.args.answer at-start.args.out.now at-if1.if1.false _ _ at-encode.encode.ensures at-write-at.write-at.ensures
 
 pub write-short-spec : {M : Type 1} → statement M
 write-short-spec =

@@ -1,4 +1,4 @@
-use Rattle.ffi_rest.proofs.RestCodeBranches.{carried-written, carried-refused}
+use Rattle.ffi_rest.proofs.RestCodeBranches.{carried_written, carried_refused}
 use borrow.Author.Rules.{rules}
 use Rattle.ffi_rest.proofs.carried_code.Statement.{statement}
 use Rattle.ffi_rest.proofs.carried_code.Tie as tie
@@ -22,10 +22,10 @@ number-of-requires : tie.Need-number-of-requires
 number-of-requires c κs = search rules
 
 returns : tie.Need-returns
-returns c = search (rules, carried-written)
+returns c = search (rules, carried_written)
 
 returns-2 : tie.Need-returns-2
-returns-2 c = search (rules, carried-refused)
+returns-2 c = search (rules, carried_refused)
 
 pub carried-code-spec : {M : Type 1} → statement M
 carried-code-spec =

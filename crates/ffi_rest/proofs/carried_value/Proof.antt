@@ -1,4 +1,4 @@
-use Rattle.ffi_rest.specs.RestCode.{carriedValue}
+use Rattle.ffi_rest.specs.RestCode.{carried_value}
 use borrow.Author.Rules.{rules}
 use Rattle.ffi_rest.proofs.carried_value.Statement.{statement}
 use Rattle.ffi_rest.proofs.carried_value.Tie as tie
@@ -19,7 +19,7 @@ add-result-2 : tie.Need-overflow-add-result-2
 add-result-2 c = search rules
 
 returns : tie.Need-returns
-unfolding carriedValue
+unfolding carried_value
 returns c = search rules
 
 pub carried-value-spec : {M : Type 1} → statement M

@@ -1,4 +1,4 @@
-use Rattle.ffi_rest.proofs.RestCodeBranches.{code-from, code-nothing}
+use Rattle.ffi_rest.proofs.RestCodeBranches.{code_from, code_nothing}
 use borrow.Author.Rules.{rules}
 use Rattle.ffi_rest.proofs.rest_code.Statement.{statement}
 use Rattle.ffi_rest.proofs.rest_code.Tie as tie
@@ -16,10 +16,10 @@ enum_told : tie.Need-enum-told
 enum_told c = search rules
 
 returns : tie.Need-returns
-returns c = search (rules, code-from)
+returns c = search (rules, code_from)
 
 returns-2 : tie.Need-returns-2
-returns-2 c = search (rules, code-nothing)
+returns-2 c = search (rules, code_nothing)
 
 pub rest-code-spec : {M : Type 1} → statement M
 rest-code-spec =

@@ -1,4 +1,4 @@
-use Rattle.ffi_rest.proofs.RestCodeBranches.{test-tested, test-refused}
+use Rattle.ffi_rest.proofs.RestCodeBranches.{test_tested, test_refused}
 use borrow.Author.Rules.{rules}
 use Rattle.ffi_rest.proofs.rest_test_code.Statement.{statement}
 use Rattle.ffi_rest.proofs.rest_test_code.Tie as tie
@@ -16,10 +16,10 @@ number-of-requires : tie.Need-number-of-requires
 number-of-requires c κs = search rules
 
 returns : tie.Need-returns
-returns c = search (rules, test-tested)
+returns c = search (rules, test_tested)
 
 returns-2 : tie.Need-returns-2
-returns-2 c = search (rules, test-refused)
+returns-2 c = search (rules, test_refused)
 
 pub rest-test-code-spec : {M : Type 1} → statement M
 rest-test-code-spec =

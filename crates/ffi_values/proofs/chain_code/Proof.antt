@@ -1,4 +1,4 @@
-use Rattle.ffi_values.specs.MapCode.{chainCode}
+use Rattle.ffi_values.specs.MapCode.{chain_code}
 use borrow.Author.Rules.{rules}
 use Rattle.ffi_values.proofs.chain_code.Statement.{statement}
 use Rattle.ffi_values.proofs.chain_code.Tie as tie
@@ -16,11 +16,11 @@ number-of-requires : tie.Need-number-of-requires
 number-of-requires c κs = search rules
 
 returns : tie.Need-returns
-unfolding chainCode
+unfolding chain_code
 returns c = rw c.before.before.c.given.1 c.chain-value.ensures
 
 returns-2 : tie.Need-returns-2
-unfolding chainCode
+unfolding chain_code
 returns-2 c = search rules
 
 pub chain-code-spec : {M : Type 1} → statement M

@@ -1,4 +1,4 @@
-use Rattle.ffi_values.specs.MapCode.{chainValue}
+use Rattle.ffi_values.specs.MapCode.{chain_value}
 use borrow.Author.Rules.{rules}
 use Rattle.ffi_values.proofs.chain_value.Statement.{statement}
 use Rattle.ffi_values.proofs.chain_value.Tie as tie
@@ -13,7 +13,7 @@ add-result : tie.Need-overflow-add-result
 add-result c = search rules
 
 returns : tie.Need-returns
-unfolding chainValue
+unfolding chain_value
 returns c = search rules
 
 pub chain-value-spec : {M : Type 1} → statement M

@@ -1,4 +1,4 @@
-use Rattle.ffi_values.specs.Code.{countCode}
+use Rattle.ffi_values.specs.Code.{count_code}
 use borrow.Author.Rules.{rules}
 use Rattle.ffi_values.proofs.count_code.Statement.{statement}
 use Rattle.ffi_values.proofs.count_code.Tie as tie
@@ -16,11 +16,11 @@ number-of-requires : tie.Need-number-of-requires
 number-of-requires c κs = search rules
 
 returns : tie.Need-returns
-unfolding countCode
+unfolding count_code
 returns c = rw c.before.before.n.given.1 c.value-code.ensures
 
 returns-2 : tie.Need-returns-2
-unfolding countCode
+unfolding count_code
 returns-2 c = search rules
 
 pub count-code-spec : {M : Type 1} → statement M

@@ -1,5 +1,5 @@
 use mathlib.Core.Path.{refl}
-use Rattle.ffi_values.specs.MapCode.{mapCode, mapTime}
+use Rattle.ffi_values.specs.MapCode.{map_code, map_time}
 use borrow.Author.Rules.{rules}
 use Rattle.ffi_values.proofs.map_code.Statement.{statement}
 use Rattle.ffi_values.proofs.map_code.Tie as tie
@@ -20,11 +20,11 @@ number-of-requires : tie.Need-number-of-requires
 number-of-requires c κs = search rules
 
 returns : tie.Need-returns
-unfolding mapCode mapTime
+unfolding map_code map_time
 returns c = rw c.before.before.before.before.made.given.1 (c.map-value.ensures, c.before.write-offset.ensures)
 
 returns-2 : tie.Need-returns-2
-unfolding mapCode mapTime
+unfolding map_code map_time
 returns-2 c = rw c.before.before.made2.given.1 (c.number_of_lem.ensures, refl)
 
 pub map-code-spec : {M : Type 1} → statement M

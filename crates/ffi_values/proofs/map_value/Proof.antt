@@ -1,4 +1,4 @@
-use Rattle.ffi_values.specs.MapCode.{mapValue}
+use Rattle.ffi_values.specs.MapCode.{map_value}
 use borrow.Author.Rules.{rules}
 use Rattle.ffi_values.proofs.map_value.Statement.{statement}
 use Rattle.ffi_values.proofs.map_value.Tie as tie
@@ -10,14 +10,14 @@ add-result : tie.Need-overflow-add-result
 add-result c = search rules
 
 returns : tie.Need-returns
-unfolding mapValue
+unfolding map_value
 returns c = rw c.if1.true
 
 mul-result-2 : tie.Need-overflow-mul-result-2
 mul-result-2 c = search rules
 
 returns-2 : tie.Need-returns-2
-unfolding mapValue
+unfolding map_value
 returns-2 c = rw c.if1.false
 
 pub map-value-spec : {M : Type 1} → statement M

@@ -1,4 +1,4 @@
-use Rattle.ffi_values.specs.Code.{validationCode}
+use Rattle.ffi_values.specs.Code.{validation_code}
 use borrow.Author.Rules.{rules}
 use Rattle.ffi_values.proofs.validation_code.Statement.{statement}
 use Rattle.ffi_values.proofs.validation_code.Tie as tie
@@ -13,11 +13,11 @@ number-of-requires : tie.Need-number-of-requires
 number-of-requires c κs = search rules
 
 returns : tie.Need-returns
-unfolding validationCode
+unfolding validation_code
 returns c = search rules
 
 returns-2 : tie.Need-returns-2
-unfolding validationCode
+unfolding validation_code
 returns-2 c = search rules
 
 pub validation-code-spec : {M : Type 1} → statement M

@@ -1,10 +1,10 @@
 use mathlib.Core.Path.{refl}
-use Rattle.ffi_values.specs.Time.{offsetPatterns}
+use Rattle.ffi_values.specs.Time.{offset_patterns}
 use Rattle.ffi_values.proofs.write_bits.Statement.{statement}
 use Rattle.ffi_values.proofs.write_bits.Tie as tie
 
 returns : tie.Need-returns
-unfolding offsetPatterns
+unfolding offset_patterns
 returns c = refl
 
 pub write-bits-spec : {M : Type 1} → statement M

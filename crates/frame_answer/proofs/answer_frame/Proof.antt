@@ -1,8 +1,8 @@
 -- The parse result denotes the frame, so the step that its header asks for is the step of the frame.
 use mathlib.Core.List.{[]}
 use native.Mathlib.Omega.{arith}
-use Rattle.frame_decode.proofs.HeaderLaws.{header-within, kind-few}
-use Rattle.frame_answer.proofs.FrameBranches.{frame-bad, frame-acted, frame-fits}
+use Rattle.frame_decode.proofs.HeaderLaws.{header_within, kind_few}
+use Rattle.frame_answer.proofs.FrameBranches.{frame_bad, frame-acted, frame-fits}
 use borrow.Author.Rules.{rules}
 use Rattle.frame_answer.proofs.answer_frame.Statement.{statement}
 use Rattle.frame_answer.proofs.answer_frame.Tie as tie
@@ -30,7 +30,7 @@ returns c =
     let at-write-line = c.before.before in
     let at-enum-told = at-write-line.before.before.before in
     let at-decode-frame = at-enum-told.before.before in
-    frame-bad _ _ at-decode-frame.decode-frame.ensures _ _ _ _ _ at-enum-told.enum_told.given.1 at-write-line.write-line.ensures
+    frame_bad _ _ at-decode-frame.decode-frame.ensures _ _ _ _ _ at-enum-told.enum_told.given.1 at-write-line.write-line.ensures
 
 slice-aggregate-apply-frame : tie.Need-slice-aggregate-apply-frame
 slice-aggregate-apply-frame c = search rules
@@ -40,7 +40,7 @@ apply-frame-requires c κs = (
   search rules,
   (let at-d = c.before.before.before.before.before.before.before in
       let at-decode-frame = at-d.before.before in
-      header-within _ _ _ _ at-decode-frame.decode-frame.ensures at-d.d.given.1),
+      header_within _ _ _ _ at-decode-frame.decode-frame.ensures at-d.d.given.1),
 )
 
 add-write-reply : tie.Need-overflow-add-write-reply
@@ -50,7 +50,7 @@ add-write-reply c =
     in
     let at-decode-frame = at-d.before.before in
     let at-start = at-decode-frame.before.before.before.before.before.before.before.before in
-    omega (arith, kind-few at-start.args.frame.now _ _ _ at-decode-frame.decode-frame.ensures at-d.d.given.1)
+    omega (arith, kind_few at-start.args.frame.now _ _ _ at-decode-frame.decode-frame.ensures at-d.d.given.1)
 
 slice-aggregate-write-reply : tie.Need-slice-aggregate-write-reply
 slice-aggregate-write-reply c = search rules

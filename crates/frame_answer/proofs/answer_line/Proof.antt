@@ -1,10 +1,10 @@
 use mathlib.Core.Path.{refl}
-use Rattle.frame_decode.proofs.LineLaws.{line-within, line-parsed}
-use Rattle.frame_answer.proofs.FrameBranches.{line_refused, line-room, line-answered}
+use Rattle.frame_decode.proofs.LineLaws.{line_within, line_parsed}
+use Rattle.frame_answer.proofs.FrameBranches.{line_refused, line_room, line_answered}
 use borrow.Author.Rules.{rules}
 use Rattle.frame_answer.proofs.answer_line.Statement.{statement}
 use Rattle.frame_answer.proofs.answer_line.Tie as tie
-use Rattle.text.proofs.WriteLaws.{part-size}
+use Rattle.text.proofs.WriteLaws.{part_size}
 
 has-room-requires : tie.Need-has-room-requires
 has-room-requires c κs = search rules
@@ -19,17 +19,17 @@ decode-line-requires : tie.Need-decode-line-requires
 decode-line-requires c κs = search rules
 
 array-share-prefix-frame : tie.Need-array-share-prefix-frame
-array-share-prefix-frame c = line-within _ _ _ _ _ refl c.before.decode-line.ensures
+array-share-prefix-frame c = line_within _ _ _ _ _ refl c.before.decode-line.ensures
 
 slice-aggregate-answer-frame : tie.Need-slice-aggregate-answer-frame
-slice-aggregate-answer-frame c = part-size _ _ (line-within _ _ _ _ _ refl c.before.before.decode-line.ensures)
+slice-aggregate-answer-frame c = part_size _ _ (line_within _ _ _ _ _ refl c.before.before.decode-line.ensures)
 
 answer-frame-requires : tie.Need-answer-frame-requires
 answer-frame-requires c κs =
     let at-if1 = c.before.before.before.before.before.before.before.before.before.before in
     let at-has-room = at-if1.before in
     let at-start = at-has-room.before.before.before.before.before.before.before.before in
-    line-room _ at-start.args.out.now _ at-has-room.has_room.ensures at-if1.if1.false
+    line_room _ at-start.args.out.now _ at-has-room.has_room.ensures at-if1.if1.false
 
 same_length : tie.Need-same-length
 same_length c = search rules
@@ -55,7 +55,7 @@ returns-2 c =
     let at-decode-line = at-answer-frame.before.before.before.before.before.before.before.before.before in
     let at-if1 = at-decode-line.before.before in
     let at-has-room = at-if1.before in
-    line-answered _ _ _ _ _ at-has-room.has_room.ensures at-if1.if1.false _ (line-parsed _ _ _ _ _ refl at-decode-line.decode-line.ensures) _ _ _
+    line_answered _ _ _ _ _ at-has-room.has_room.ensures at-if1.if1.false _ (line_parsed _ _ _ _ _ refl at-decode-line.decode-line.ensures) _ _ _
     at-answer-frame.answer-frame.ensures
 
 pub answer-line-spec : {M : Type 1} → statement M

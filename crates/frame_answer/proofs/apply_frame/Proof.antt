@@ -1,5 +1,5 @@
 -- Each arm performs the step of the action that the header denotes.
-use Rattle.frame_answer.proofs.ApplyBranches.{reach-known, as-pair, as-statuses, as-close, as-route, as-count}
+use Rattle.frame_answer.proofs.ApplyBranches.{reach_known, as_pair, as_statuses, as_close, as_route, as_count}
 use borrow.Author.Rules.{rules}
 use Rattle.frame_answer.proofs.apply_frame.Statement.{statement}
 use Rattle.frame_answer.proofs.apply_frame.Tie as tie
@@ -11,7 +11,7 @@ apply-pair-in-requires : tie.Need-apply-pair-in-requires
 apply-pair-in-requires c κs =
     let at-header = c.before.before.before in
     let at-start = at-header.before.before.before.before.before.before.before.before.before in
-    reach-known _ _ _ at-header.header.given.1 at-start.requires.1
+    reach_known _ _ _ at-header.header.given.1 at-start.requires.1
 
 enum_told : tie.Need-enum-told
 enum_told c = search rules
@@ -32,7 +32,7 @@ apply-route-requires : tie.Need-apply-route-requires
 apply-route-requires c κs =
     let at-header3 = c.before.before.before.before.before in
     let at-start = at-header3.before.before.before.before.before.before.before.before.before in
-    (at-start.requires.0, reach-known _ _ _ at-header3.header3.given.1 at-start.requires.1)
+    (at-start.requires.0, reach_known _ _ _ at-header3.header3.given.1 at-start.requires.1)
 
 count-out-requires : tie.Need-count-out-requires
 count-out-requires c κs = search rules
@@ -57,7 +57,7 @@ returns c =
     let at-apply-pair-in = c.before.before.before.before in
     let at-header = at-apply-pair-in.before.before.before.before in
     let at-start = at-header.before.before.before.before.before.before.before.before.before in
-    as-pair _ _ _ _ _ _ _ _ _ at-start.args.payload.now _ _ at-header.header.given.1 _ _ _ _ at-apply-pair-in.apply-pair-in.ensures
+    as_pair _ _ _ _ _ _ _ _ _ at-start.args.payload.now _ _ at-header.header.given.1 _ _ _ _ at-apply-pair-in.apply-pair-in.ensures
 
 same-length-3 : tie.Need-same-length-3
 same-length-3 c = search rules
@@ -72,7 +72,7 @@ returns-2 : tie.Need-returns-2
 returns-2 c =
     let at-apply-statuses = c.before.before in
     let at-enum-told = at-apply-statuses.before.before.before.before in
-    as-statuses _ _ _ _ _ _ _ _ _ _ at-enum-told.enum_told.given.1 _ at-apply-statuses.apply-statuses.ensures
+    as_statuses _ _ _ _ _ _ _ _ _ _ at-enum-told.enum_told.given.1 _ at-apply-statuses.apply-statuses.ensures
 
 same-length-6 : tie.Need-same-length-6
 same-length-6 c = search rules
@@ -94,7 +94,7 @@ returns-3 c =
     let at-apply-close = c.before.before.before.before.before.before in
     let at-header2 = at-apply-close.before.before.before.before.before.before.before in
     let at-start = at-header2.before.before.before.before.before.before.before.before.before in
-    as-close _ _ _ _ _ _ _ _ _ at-start.args.payload.now _ at-header2.header2.given.1 _ _ at-apply-close.apply-close.ensures
+    as_close _ _ _ _ _ _ _ _ _ at-start.args.payload.now _ at-header2.header2.given.1 _ _ at-apply-close.apply-close.ensures
 
 same-length-11 : tie.Need-same-length-11
 same-length-11 c = search rules
@@ -112,7 +112,7 @@ returns-4 : tie.Need-returns-4
 returns-4 c =
     let at-apply-route = c.before.before.before in
     let at-header3 = at-apply-route.before.before.before.before.before.before in
-    as-route _ _ _ _ _ _ _ _ _ _ _ _ at-header3.header3.given.1 _ at-apply-route.apply-route.ensures _ c.count-out.ensures
+    as_route _ _ _ _ _ _ _ _ _ _ _ _ at-header3.header3.given.1 _ at-apply-route.apply-route.ensures _ c.count-out.ensures
 
 same-length-15 : tie.Need-same-length-15
 same-length-15 c = search rules
@@ -122,7 +122,7 @@ returns-5 c =
     let at-write-count = c.before.before in
     let at-held-count = at-write-count.before.before in
     let at-enum-told2 = at-held-count.before in
-    as-count _ _ _ _ _ _ _ _ _ _ at-enum-told2.enum-told2.given.1 _ at-held-count.held-count.ensures at-write-count.write-count.ensures
+    as_count _ _ _ _ _ _ _ _ _ _ at-enum-told2.enum-told2.given.1 _ at-held-count.held-count.ensures at-write-count.write-count.ensures
 
 pub apply-frame-spec : {M : Type 1} → statement M
 apply-frame-spec =

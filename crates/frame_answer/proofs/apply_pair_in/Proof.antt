@@ -3,8 +3,8 @@ use mathlib.Core.Path.{◌≡◌, ap}
 use Prim.Native.Nat.{ℕ, ◌+◌, ◌-◌}
 use native.Mathlib.Omega.{arith}
 use lib.ListN.{length, take, drop}
-use Rattle.text.proofs.WriteLaws.{rest-whole}
-use Rattle.frame_answer.proofs.ApplyBranches.{pair-cut}
+use Rattle.text.proofs.WriteLaws.{rest_whole}
+use Rattle.frame_answer.proofs.ApplyBranches.{pair_cut}
 use borrow.Author.Rules.{rules}
 use Rattle.frame_answer.proofs.apply_pair_in.Statement.{statement}
 use Rattle.frame_answer.proofs.apply_pair_in.Tie as tie
@@ -59,7 +59,7 @@ returns c =
     let b = args.frame.now in
     let start : ℕ = length b - (args.n + 2 + args.m) in
     let part : start + args.n - start ≡ args.n = omega arith in
-    pair-cut _ _ _ _ _ _ _ _ _ _ _ (ap (λ (j : ℕ). take j (drop start b)) part) (rest-whole b (length b - args.m)) at-apply-pair.apply-pair.ensures
+    pair_cut _ _ _ _ _ _ _ _ _ _ _ (ap (λ (j : ℕ). take j (drop start b)) part) (rest_whole b (length b - args.m)) at-apply-pair.apply-pair.ensures
 
 pub apply-pair-in-spec : {M : Type 1} → statement M
 apply-pair-in-spec =

@@ -1,7 +1,7 @@
 use Prim.Native.Nat.{◌-◌}
 use lib.ListN.{length}
-use Rattle.text.proofs.WriteLaws.{rest-whole}
-use Rattle.frame_answer.proofs.ApplyBranches.{way-given}
+use Rattle.text.proofs.WriteLaws.{rest_whole}
+use Rattle.frame_answer.proofs.ApplyBranches.{way_given}
 use borrow.Author.Rules.{rules}
 use Rattle.frame_answer.proofs.apply_route.Statement.{statement}
 use Rattle.frame_answer.proofs.apply_route.Tie as tie
@@ -29,7 +29,7 @@ returns c =
     let at-route-after = c.before.before in
     let at-start = at-route-after.before.before.before.before.before.before.before.before.before in
     let b = at-start.args.frame.now in
-    way-given _ _ _ _ _ _ _ _ _ _ at-start.requires.0 (rest-whole b (length b - at-start.args.n)) at-route-after.route-after.ensures.0
+    way_given _ _ _ _ _ _ _ _ _ _ at-start.requires.0 (rest_whole b (length b - at-start.args.n)) at-route-after.route-after.ensures.0
     at-route-after.route-after.ensures.1
 
 pub apply-route-spec : {M : Type 1} → statement M

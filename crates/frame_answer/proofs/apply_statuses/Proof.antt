@@ -1,4 +1,4 @@
-use Rattle.frame_answer.proofs.ApplyBranches.{statuses-given}
+use Rattle.frame_answer.proofs.ApplyBranches.{statuses_given}
 use borrow.Author.Rules.{rules}
 use Rattle.frame_answer.proofs.apply_statuses.Statement.{statement}
 use Rattle.frame_answer.proofs.apply_statuses.Tie as tie
@@ -13,7 +13,7 @@ returns : tie.Need-returns
 returns c =
     let at-analyze-relocate-occurrences = c.before.before in
     let at-start = at-analyze-relocate-occurrences.before.before.before.before.before.before in
-    statuses-given _ _ _ _ _ at-start.requires _ at-analyze-relocate-occurrences.analyze-relocate-occurrences.ensures.0
+    statuses_given _ _ _ _ _ at-start.requires _ at-analyze-relocate-occurrences.analyze-relocate-occurrences.ensures.0
     at-analyze-relocate-occurrences.analyze-relocate-occurrences.ensures.1
 
 pub apply-statuses-spec : {M : Type 1} → statement M

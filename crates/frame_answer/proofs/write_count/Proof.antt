@@ -1,4 +1,4 @@
-use Rattle.frame_apply.proofs.ApplyBranches.{count-written}
+use Rattle.frame_apply.proofs.ApplyBranches.{count_written}
 use borrow.Author.Rules.{rules}
 use Rattle.frame_answer.proofs.write_count.Statement.{statement}
 use Rattle.frame_answer.proofs.write_count.Tie as tie
@@ -37,7 +37,7 @@ same_length : tie.Need-same-length
 same_length c = search rules
 
 returns : tie.Need-returns
-returns c = count-written _ _ _ c.before.before.before.before.before.before.requires c.before.before.write-at.ensures
+returns c = count_written _ _ _ c.before.before.before.before.before.before.requires c.before.before.write-at.ensures
 
 pub write-count-spec : {M : Type 1} → statement M
 write-count-spec =

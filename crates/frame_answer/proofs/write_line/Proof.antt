@@ -1,4 +1,4 @@
-use Rattle.frame_answer.proofs.LineBranches.{line-written}
+use Rattle.frame_answer.proofs.LineBranches.{line_written}
 use borrow.Author.Rules.{rules}
 use Rattle.frame_answer.proofs.write_line.Statement.{statement}
 use Rattle.frame_answer.proofs.write_line.Tie as tie
@@ -45,7 +45,7 @@ returns c =
     let at-encode2 = at-write-at.before.before.before.before.before in
     let at-encode = at-encode2.before.before.before.before in
     let at-start = at-encode.before.before.before.before.before in
-    line-written _ _ _ _ _ at-start.requires _ _ _ at-encode.encode.ensures at-encode2.encode2.ensures at-write-at.write-at.ensures
+    line_written _ _ _ _ _ at-start.requires _ _ _ at-encode.encode.ensures at-encode2.encode2.ensures at-write-at.write-at.ensures
 
 pub write-line-spec : {M : Type 1} → statement M
 write-line-spec =

@@ -1,5 +1,5 @@
-use Rattle.frames_memory.specs.Memory.{framesMemory}
-use Rattle.frame_apply.proofs.ApplyBranches.{close-done, close-refused}
+use Rattle.frames_memory.specs.Memory.{frames_memory}
+use Rattle.frame_apply.proofs.ApplyBranches.{close_done, close_refused}
 use borrow.Author.Rules.{rules}
 use Rattle.frame_apply.proofs.apply_close.Statement.{statement}
 use Rattle.frame_apply.proofs.apply_close.Tie as tie
@@ -28,7 +28,7 @@ returns c =
     let at-close = at_c.before.before.before.before.before.before.before.before in
     let at-start = at-close.before.before.before.before.before.before.before.before.before.before.before in
     let args = at-start.args in
-    close-done _ (framesMemory args.k args.bytes.now args.places.now args.store.now args.slots.now args.table.now) _
+    close_done _ (frames_memory args.k args.bytes.now args.places.now args.store.now args.slots.now args.table.now) _
     at-close.close.ensures.0 _ at-close.close.ensures.1.0 _ at-close.close.ensures.1.1.0 _ at-close.close.ensures.1.1.1 _
     at_c.c.given.1
 
@@ -47,7 +47,7 @@ returns-2 c =
     let at-close = at-c2.before.before.before.before.before.before.before.before in
     let at-start = at-close.before.before.before.before.before.before.before.before.before.before.before in
     let args = at-start.args in
-    close-refused _ (framesMemory args.k args.bytes.now args.places.now args.store.now args.slots.now args.table.now) _
+    close_refused _ (frames_memory args.k args.bytes.now args.places.now args.store.now args.slots.now args.table.now) _
     at-close.close.ensures.0 _ at-close.close.ensures.1.0 _ at-close.close.ensures.1.1.0 _ at-close.close.ensures.1.1.1 _
     at-c2.c2.given.1
 

@@ -1,4 +1,4 @@
-use Rattle.frame_apply.proofs.ApplyBranches.{pair-done, pair-refused}
+use Rattle.frame_apply.proofs.ApplyBranches.{pair_done, pair_refused}
 use borrow.Author.Rules.{rules}
 use Rattle.frame_apply.proofs.apply_pair.Statement.{statement}
 use Rattle.frame_apply.proofs.apply_pair.Tie as tie
@@ -22,7 +22,7 @@ returns : tie.Need-returns
 returns c =
     let at_a = c.before in
     let at-add-pair = at_a.before.before.before.before.before.before in
-    pair-done _ _ _ _ _ _ at-add-pair.add-pair.ensures.0 _ at-add-pair.add-pair.ensures.1.0 _ at-add-pair.add-pair.ensures.1.1 _
+    pair_done _ _ _ _ _ _ at-add-pair.add_one_pair.ensures.0 _ at-add-pair.add_one_pair.ensures.1.0 _ at-add-pair.add_one_pair.ensures.1.1 _
     at_a.a.given.1
 
 same-length-3 : tie.Need-same-length-3
@@ -35,7 +35,7 @@ returns-2 : tie.Need-returns-2
 returns-2 c =
     let at-a2 = c.before in
     let at-add-pair = at-a2.before.before.before.before.before.before in
-    pair-refused _ _ _ _ _ _ at-add-pair.add-pair.ensures.0 _ at-add-pair.add-pair.ensures.1.0 _ at-add-pair.add-pair.ensures.1.1 _
+    pair_refused _ _ _ _ _ _ at-add-pair.add_one_pair.ensures.0 _ at-add-pair.add_one_pair.ensures.1.0 _ at-add-pair.add_one_pair.ensures.1.1 _
     at-a2.a2.given.1
 
 pub apply-pair-spec : {M : Type 1} → statement M

@@ -1,11 +1,11 @@
 -- A path home and a refused path leave the count; a path out adds one below FFFFFFFF.
-use Rattle.frame_apply.proofs.ApplyBranches.{count-home, count-refused, count_held, count-more}
+use Rattle.frame_apply.proofs.ApplyBranches.{count_home, count-refused, count_held, count_more}
 use borrow.Author.Rules.{rules}
 use Rattle.frame_apply.proofs.count_out.Statement.{statement}
 use Rattle.frame_apply.proofs.count_out.Tie as tie
 
 returns : tie.Need-returns
-returns c = count-home _ _ _ c.if1.true
+returns c = count_home _ _ _ c.if1.true
 
 enum-known-r : tie.Need-enum-known-r
 enum-known-r c = search rules
@@ -33,7 +33,7 @@ returns-4 c =
     let at-if2 = c.before.before.before in
     let at-enum-told = at-if2.before.before in
     let at-if1 = at-enum-told.before.before in
-    count-more _ _ _ at-if1.if1.false _ at-enum-told.enum_told.given.1 at-if2.if2.false
+    count_more _ _ _ at-if1.if1.false _ at-enum-told.enum_told.given.1 at-if2.if2.false
 
 pub count-out-spec : {M : Type 1} → statement M
 count-out-spec =

@@ -1,12 +1,12 @@
 -- The first byte is the kind, and the part after it the payload.
-use Rattle.text.proofs.WriteLaws.{rest-whole}
-use Rattle.frame_decode.proofs.DecodeBranches.{frame-empty, frame-kind}
+use Rattle.text.proofs.WriteLaws.{rest_whole}
+use Rattle.frame_decode.proofs.DecodeBranches.{frame_empty, frame_kind}
 use borrow.Author.Rules.{rules}
 use Rattle.frame_decode.proofs.decode_frame.Statement.{statement}
 use Rattle.frame_decode.proofs.decode_frame.Tie as tie
 
 returns : tie.Need-returns
-returns c = frame-empty _ c.if1.true
+returns c = frame_empty _ c.if1.true
 
 shared-slice-read-decode-kind : tie.Need-shared-slice-read-decode-kind
 shared-slice-read-decode-kind c = search rules
@@ -28,7 +28,7 @@ returns-2 c =
     let at-kind = c.before.before in
     let at-if1 = at-kind.before in
     let b = at-if1.before.before.args.bytes.now in
-    frame-kind b at-if1.if1.false _ (rest-whole b 1) _ c.decode-kind.ensures
+    frame_kind b at-if1.if1.false _ (rest_whole b 1) _ c.decode-kind.ensures
 
 pub decode-frame-spec : {M : Type 1} → statement M
 decode-frame-spec =

@@ -1,8 +1,8 @@
 -- Each arm of the match is a line of the table of kinds: the arm's result is what the form of that line makes of the payload.
 use mathlib.Core.Path.{refl}
 use mathlib.Core.Bool.{true, false}
-use Rattle.frames_spec.specs.Frame.{add-pair, statuses, close, route, count, pair-payload, path-payload}
-use Rattle.frame_decode.proofs.DecodeBranches.{of-kind, of-kind-alone, kind-other}
+use Rattle.frames_spec.specs.Frame.{add_one_pair, statuses, close, route, count, pair_payload, path_payload}
+use Rattle.frame_decode.proofs.DecodeBranches.{of_kind, of_kind_alone, kind_other}
 use borrow.Author.Rules.{rules}
 use Rattle.frame_decode.proofs.decode_kind.Statement.{statement}
 use Rattle.frame_decode.proofs.decode_kind.Tie as tie
@@ -23,28 +23,28 @@ decode-nothing-requires-4 : tie.Need-decode-nothing-requires-4
 decode-nothing-requires-4 c κs = search rules
 
 returns : tie.Need-returns
-returns c = of-kind _ 1 _ c.before.match.keys1 (pair-payload add-pair) refl _ c.decode-pair.ensures
+returns c = of_kind _ 1 _ c.before.match.keys1 (pair_payload add_one_pair) refl _ c.decode-pair.ensures
 
 returns-2 : tie.Need-returns-2
-returns-2 c = of-kind-alone _ 2 _ c.before.match.keys2 statuses refl _ c.decode-nothing.ensures
+returns-2 c = of_kind_alone _ 2 _ c.before.match.keys2 statuses refl _ c.decode-nothing.ensures
 
 returns-3 : tie.Need-returns-3
-returns-3 c = of-kind-alone _ 3 _ c.before.match.keys3 (close false) refl _ c.decode-nothing2.ensures
+returns-3 c = of_kind_alone _ 3 _ c.before.match.keys3 (close false) refl _ c.decode-nothing2.ensures
 
 returns-4 : tie.Need-returns-4
-returns-4 c = of-kind-alone _ 4 _ c.before.match.keys4 (close true) refl _ c.decode-nothing3.ensures
+returns-4 c = of_kind_alone _ 4 _ c.before.match.keys4 (close true) refl _ c.decode-nothing3.ensures
 
 returns-5 : tie.Need-returns-5
-returns-5 c = of-kind _ 5 _ c.match.keys5 (path-payload (route false)) refl _ refl
+returns-5 c = of_kind _ 5 _ c.match.keys5 (path_payload (route false)) refl _ refl
 
 returns-6 : tie.Need-returns-6
-returns-6 c = of-kind _ 6 _ c.match.keys6 (path-payload (route true)) refl _ refl
+returns-6 c = of_kind _ 6 _ c.match.keys6 (path_payload (route true)) refl _ refl
 
 returns-7 : tie.Need-returns-7
-returns-7 c = of-kind-alone _ 7 _ c.before.match.keys7 count refl _ c.decode-nothing4.ensures
+returns-7 c = of_kind_alone _ 7 _ c.before.match.keys7 count refl _ c.decode-nothing4.ensures
 
 returns-8 : tie.Need-returns-8
-returns-8 c = search (rules, kind-other)
+returns-8 c = search (rules, kind_other)
 
 pub decode-kind-spec : {M : Type 1} → statement M
 decode-kind-spec =

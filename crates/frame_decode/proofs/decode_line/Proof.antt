@@ -1,18 +1,18 @@
 -- An overlong line has no bytes; otherwise the bytes are those that the digits decode to.
-use Rattle.frame_decode.proofs.LineLaws.{line-long, line-beyond, line-bytes, line-bad, line-over}
+use Rattle.frame_decode.proofs.LineLaws.{line_long, line_beyond, line-bytes, line-bad, line-over}
 use borrow.Author.Rules.{rules}
 use Rattle.frame_decode.proofs.decode_line.Statement.{statement}
 use Rattle.frame_decode.proofs.decode_line.Tie as tie
-use Rattle.text.proofs.WriteLaws.{part-size}
+use Rattle.text.proofs.WriteLaws.{part_size}
 
 returns : tie.Need-returns
-returns c = line-long _ _ _ c.if1.true
+returns c = line_long _ _ _ c.if1.true
 
 returns-2 : tie.Need-returns-2
-returns-2 c = line-beyond _ _ _ c.if2.true
+returns-2 c = line_beyond _ _ _ c.if2.true
 
 slice-aggregate-decode : tie.Need-slice-aggregate-decode
-slice-aggregate-decode c = part-size _ _ c.before.if2.false
+slice-aggregate-decode c = part_size _ _ c.before.if2.false
 
 decode-requires : tie.Need-decode-requires
 decode-requires c κs = search rules

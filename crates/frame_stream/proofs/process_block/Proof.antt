@@ -4,16 +4,16 @@ use native.Mathlib.Omega.{arith}
 use lib.ListN.{length}
 use borrow.Author.Rules.{rules}
 use borrow.Author.Tests.{leb-true, leb-false}
-use Rattle.frame_stream.specs.Stream.{streamState, streamStart, processBlock}
-use Rattle.frame_stream.proofs.StreamLaws.{process-step, process-used, process-full}
+use Rattle.frame_stream.specs.Stream.{stream_state, stream_start, process_block}
+use Rattle.frame_stream.proofs.StreamLaws.{process_step, process_used, process_full}
 use Rattle.frame_stream.proofs.process_block.Statement.{statement}
 use Rattle.frame_stream.proofs.process_block.Tie as tie
 
 abbrev invariant-loop : tie.invariant-loop
 invariant-loop block line₀ len bytes₀ places₀ store₀ slots₀ table₀ out₀ used₀ n₀ kept₀ end₀ line bytes places store slots table out used n kept end =
     (used ≤ length block) × (end ≤ length out₀) ×
-    (processBlock block (streamState (record { used = used; len = n; kept = kept; end = end }) line bytes places store slots table out) ≡
-    processBlock block (streamState (streamStart n₀ kept₀ 0) line₀ bytes₀ places₀ store₀ slots₀ table₀ out₀))
+    (process_block block (stream_state (record { used = used; len = n; kept = kept; end = end }) line bytes places store slots table out) ≡
+    process_block block (stream_state (stream_start n₀ kept₀ 0) line₀ bytes₀ places₀ store₀ slots₀ table₀ out₀))
     × (length line ≡ length line₀) × (length bytes ≡ length bytes₀) × (length places ≡ length places₀) × (length store ≡ length store₀) ×
     (length slots ≡ length slots₀) × (length table ≡ length table₀) × (length out ≡ length out₀)
 
@@ -51,8 +51,8 @@ add-used c =
     let at-loop = at-loop-test.before in
     let at-start = at-loop.before.before.before.before.before.before.before.before.before in
     let l = at-loop.loop in let t = at-stream-step.stream-step in let q : 515 ≤ length l.out - l.end = leb-true 515 (length l.out - l.end)
-    at-if1.if1.true in let m = process-step at-start.args.block.now
-    (streamState (record { used = l.used; len = l.n; kept = l.auto; end = l.end }) l.line l.bytes l.places l.store l.slots
+    at-if1.if1.true in let m = process_step at-start.args.block.now
+    (stream_state (record { used = l.used; len = l.n; kept = l.auto; end = l.end }) l.line l.bytes l.places l.store l.slots
     l.table l.out)
     _ (omega (arith, at-loop-test.loop-test.true)) (omega (arith, q, l.invariant.1, l.invariant.9)) t.ensures in omega
     (arith, m.inside, at-start.well-formed)
@@ -66,8 +66,8 @@ loop-less c =
     let at-loop = at-loop-test.before in
     let at-start = at-loop.before.before.before.before.before.before.before.before.before in
     let l = at-loop.loop in let t = at-stream-step.stream-step in let q : 515 ≤ length l.out - l.end = leb-true 515 (length l.out - l.end)
-    at-if1.if1.taken in let m = process-step at-start.args.block.now
-    (streamState (record { used = l.used; len = l.n; kept = l.kept; end = l.end }) l.line l.bytes l.places l.store l.slots
+    at-if1.if1.taken in let m = process_step at-start.args.block.now
+    (stream_state (record { used = l.used; len = l.n; kept = l.kept; end = l.end }) l.line l.bytes l.places l.store l.slots
     l.table l.out)
     _ (omega (arith, at-loop-test.loop-test.taken)) (omega (arith, q, l.inv.1, l.inv.9)) t.ensures in omega (arith, m.inside, m.further)
 
@@ -80,8 +80,8 @@ loop-again c =
     let at-loop = at-loop-test.before in
     let at-start = at-loop.before.before.before.before.before.before.before.before.before in
     let l = at-loop.loop in let t = at-stream-step.stream-step in let q : 515 ≤ length l.out - l.end = leb-true 515 (length l.out - l.end)
-    at-if1.if1.taken in let m = process-step at-start.args.block.now
-    (streamState (record { used = l.used; len = l.n; kept = l.kept; end = l.end }) l.line l.bytes l.places l.store l.slots
+    at-if1.if1.taken in let m = process_step at-start.args.block.now
+    (stream_state (record { used = l.used; len = l.n; kept = l.kept; end = l.end }) l.line l.bytes l.places l.store l.slots
     l.table l.out)
     _ (omega (arith, at-loop-test.loop-test.taken)) (omega (arith, q, l.inv.1, l.inv.9)) t.ensures in (
       m.inside,
@@ -123,8 +123,8 @@ returns c =
     let at-start = at-loop.before.before.before.before.before.before.before.before.before in
     let l = at-loop.loop in
     sym
-    (process-full at-start.args.block.now
-    (streamState (record { used = l.used; len = l.n; kept = l.auto; end = l.end }) l.line l.bytes l.places l.store l.slots
+    (process_full at-start.args.block.now
+    (stream_state (record { used = l.used; len = l.n; kept = l.auto; end = l.end }) l.line l.bytes l.places l.store l.slots
     l.table l.out)
     (omega (arith, leb-false 515 (length l.out - l.end) c.if1.false, l.invariant.1, l.invariant.9)))
     ∙ l.invariant.2
@@ -156,8 +156,8 @@ returns-2 c =
     let at-start = at-loop.before.before.before.before.before.before.before.before.before in
     let l = at-loop.loop in
     sym
-    (process-used at-start.args.block.now
-    (streamState (record { used = l.used; len = l.n; kept = l.auto; end = l.end }) l.line l.bytes l.places l.store l.slots
+    (process_used at-start.args.block.now
+    (stream_state (record { used = l.used; len = l.n; kept = l.auto; end = l.end }) l.line l.bytes l.places l.store l.slots
     l.table l.out)
     (omega (arith, c.loop-test.false)))
     ∙ l.invariant.2

@@ -1,5 +1,5 @@
-use Rattle.text.proofs.BoolLaws.{not-true, not-false}
-use Rattle.frames_memory.specs.Memory.{framesMemory}
+use Rattle.text.proofs.BoolLaws.{not_true, not_false}
+use Rattle.frames_memory.specs.Memory.{frames_memory}
 use Rattle.frame_stream.proofs.StepBranches.{step_part, step_line}
 use borrow.Author.Rules.{rules}
 use Rattle.frame_stream.proofs.stream_step.Statement.{statement}
@@ -18,8 +18,8 @@ returns c =
     let args = at-start.args in
     let t = at-take-line.take-line in
     step_part args.block.now args.line.now t.new.1.0 args.len args.end args.out.now
-    (framesMemory args.k args.bytes.now args.places.now args.store.now args.slots.now args.table.now) t.result
-    t.ensures.0 t.ensures.1 (not-true t.result.done c.if1.true)
+    (frames_memory args.k args.bytes.now args.places.now args.store.now args.slots.now args.table.now) t.result
+    t.ensures.0 t.ensures.1 (not_true t.result.done c.if1.true)
 
 answer-line-requires : tie.Need-answer-line-requires
 answer-line-requires c κs = search rules
@@ -55,8 +55,8 @@ returns-2 c =
     let t = at-take-line.take-line in
     let r = at-answer-line.answer-line in
     step_line args.block.now args.line.now t.new.1.0 args.len args.end args.out.now
-    (framesMemory args.k args.bytes.now args.places.now args.store.now args.slots.now args.table.now) t.result
-    t.ensures.0 t.ensures.1 at-start.requires (not-false t.result.done at-if1.if1.false) _ r.result.end
+    (frames_memory args.k args.bytes.now args.places.now args.store.now args.slots.now args.table.now) t.result
+    t.ensures.0 t.ensures.1 at-start.requires (not_false t.result.done at-if1.if1.false) _ r.result.end
     r.new.1.1.1.1.1.1.1.1.1.0 r.ensures.0 r.ensures.1.0 r.ensures.1.1
 
 pub stream-step-spec : {M : Type 1} → statement M

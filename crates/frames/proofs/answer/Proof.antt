@@ -4,9 +4,9 @@ use Prim.Native.Nat.{◌≤◌}
 use native.Mathlib.Omega.{arith}
 use lib.ListN.{length}
 use lib.Seq.{length-take-le}
-use Rattle.frame_stream.specs.Progress.{stateBetween}
-use Rattle.frame_stream.proofs.StreamLaws.{process-bounds}
-use Rattle.frame_stream.proofs.ProgressLaws.{next-replies}
+use Rattle.frame_stream.specs.Progress.{state_between}
+use Rattle.frame_stream.proofs.StreamLaws.{process_bounds}
+use Rattle.frame_stream.proofs.ProgressLaws.{next_replies}
 use borrow.Author.Rules.{rules}
 use Rattle.frames.proofs.answer.Statement.{statement}
 use Rattle.frames.proofs.answer.Tie as tie
@@ -21,8 +21,8 @@ slice-aggregate-write-replies c =
     let args = at-start.args in
     let f = at-process-block.process-block in
     let out = f.new.1.1.1.1.1.1.1.1.1.0 in
-    let bounds = process-bounds args.part.now
-    (stateBetween args.len args.k args.line.now args.bytes.now args.places.now args.store.now args.slots.now args.table.now
+    let bounds = process_bounds args.part.now
+    (state_between args.len args.k args.line.now args.bytes.now args.places.now args.store.now args.slots.now args.table.now
     args.out.now)
     _ f.ensures in
     let h : f.result.end ≤ length out = omega (arith, bounds.1, f.auto.1.1.1.1.1.1.1.1.1.0) in
@@ -33,8 +33,8 @@ write-replies-requires c κs =
     let at-process-block = c.before.before.before in
     let at-start = at-process-block.before.before.before.before.before.before.before.before.before in
     let args = at-start.args in
-    next-replies args.part.now
-    (stateBetween args.len args.k args.line.now args.bytes.now args.places.now args.store.now args.slots.now args.table.now
+    next_replies args.part.now
+    (state_between args.len args.k args.line.now args.bytes.now args.places.now args.store.now args.slots.now args.table.now
     args.out.now)
     _ at-start.requires at-process-block.process-block.ensures
 

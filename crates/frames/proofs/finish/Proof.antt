@@ -2,8 +2,8 @@
 use mathlib.Core.Path.{refl}
 use mathlib.Core.List.{[], ◌∷◌}
 use Rattle.text.specs.Bytes.{newline}
-use Rattle.frame_stream.specs.Progress.{stateBetween}
-use Rattle.frame_stream.proofs.ProgressLaws.{reached-read, input-ends, line-ends}
+use Rattle.frame_stream.specs.Progress.{state_between}
+use Rattle.frame_stream.proofs.ProgressLaws.{reached_read, input_ends, line_ends_lem}
 use borrow.Author.Rules.{rules}
 use Rattle.frames.proofs.finish.Statement.{statement}
 use Rattle.frames.proofs.finish.Tie as tie
@@ -12,8 +12,8 @@ returns : tie.Need-returns
 returns c =
     let at-start = c.before in
     let args = at-start.args in (
-      input-ends
-          (stateBetween args.len args.k args.line.now args.bytes.now args.places.now args.store.now args.slots.now args.table.now
+      input_ends
+          (state_between args.len args.k args.line.now args.bytes.now args.places.now args.store.now args.slots.now args.table.now
           args.out.now)
           c.if1.true,
       (refl, refl),
@@ -27,8 +27,8 @@ answer-requires c κs =
     let at-if1 = c.before.before.before.before.before.before.before.before in
     let at-start = at-if1.before in
     let args = at-start.args in
-    reached-read
-    (stateBetween args.len args.k args.line.now args.bytes.now args.places.now args.store.now args.slots.now args.table.now
+    reached_read
+    (state_between args.len args.k args.line.now args.bytes.now args.places.now args.store.now args.slots.now args.table.now
     args.out.now)
     at-start.requires (newline ∷ [])
 
@@ -38,8 +38,8 @@ returns-2 c =
     let at-if1 = at-answer.before.before.before.before.before.before.before.before.before in
     let at-start = at-if1.before in
     let args = at-start.args in (
-      line-ends
-          (stateBetween args.len args.k args.line.now args.bytes.now args.places.now args.store.now args.slots.now args.table.now
+      line_ends_lem
+          (state_between args.len args.k args.line.now args.bytes.now args.places.now args.store.now args.slots.now args.table.now
           args.out.now)
           _ at-if1.if1.false at-answer.answer.ensures,
       (refl, refl),

@@ -1,6 +1,6 @@
 -- The buffers are zeros, and large enough.
 use native.Mathlib.Omega.{arith}
-use Rattle.frame_stream.proofs.ProgressLaws.{start-zeros}
+use Rattle.frame_stream.proofs.ProgressLaws.{start_zeros}
 use borrow.Author.Rules.{rules}
 use Rattle.frames.proofs.main.Statement.{statement}
 use Rattle.frames.proofs.main.Tie as tie
@@ -16,7 +16,7 @@ returns c = search rules
 
 run-requires : tie.Need-run-requires
 run-requires c κs =
-    start-zeros 4096 32640 256 32768 4096 48 65536 (omega arith) (omega arith) (omega arith) (omega arith) (omega arith) (omega arith) (omega arith)
+    start_zeros 4096 32640 256 32768 4096 48 65536 (omega arith) (omega arith) (omega arith) (omega arith) (omega arith) (omega arith) (omega arith)
 
 returns-2 : tie.Need-returns-2
 returns-2 c = search rules

@@ -4,8 +4,8 @@ use mathlib.Core.Bool.{true, false≢true}
 use Prim.Native.Nat.{◌≤◌}
 use native.Mathlib.Omega.{arith}
 use Rattle.frames_memory.specs.declared.Counters.{Counters}
-use Rattle.frame_stream.specs.Progress.{stateBetween, StartState, unconsumed, Reached, Finished}
-use Rattle.frame_stream.proofs.ProgressLaws.{reached-start, reached-next}
+use Rattle.frame_stream.specs.Progress.{state_between, StartState, unconsumed, Reached, Finished}
+use Rattle.frame_stream.proofs.ProgressLaws.{reached_start, reached_next}
 use borrow.Author.Rules.{rules}
 use Rattle.frames.proofs.run.Statement.{statement}
 use Rattle.frames.proofs.run.Tie as tie
@@ -13,8 +13,8 @@ use Rattle.frames.proofs.run.Tie as tie
 abbrev invariant-loop : tie.invariant-loop
 invariant-loop block₀ line₀ bytes₀ places₀ store₀ slots₀ table₀ out₀ now₀ steps₀ block line bytes places store slots table out now steps =
     (now.end ≤ 65536) ×
-    (now.more ≡ true → Reached (unconsumed block now.at now.end) (stateBetween now.len now.kept line bytes places store slots table out)) ×
-    (now.done ≡ true → Finished (stateBetween now.len now.kept line bytes places store slots table out))
+    (now.more ≡ true → Reached (unconsumed block now.at now.end) (state_between now.len now.kept line bytes places store slots table out)) ×
+    (now.done ≡ true → Finished (state_between now.len now.kept line bytes places store slots table out))
 
 abbrev decreases-loop : tie.decreases-loop
 decreases-loop block₀ line₀ bytes₀ places₀ store₀ slots₀ table₀ out₀ now₀ steps₀ block line bytes places store slots table out now steps = steps
@@ -27,10 +27,10 @@ loop-holds c =
     let at-start = c.before in
     let args = at-start.args in (
       omega arith,
-      (λ e. reached-start
-          (stateBetween 0 c.initial-counters.result args.line.now args.bytes.now args.places.now args.store.now args.slots.now
+      (λ e. reached_start
+          (state_between 0 c.initial-counters.result args.line.now args.bytes.now args.places.now args.store.now args.slots.now
           args.table.now args.out.now)
-          (subst (λ (k : Counters). StartState (stateBetween 0 k args.line.now args.bytes.now args.places.now args.store.now
+          (subst (λ (k : Counters). StartState (state_between 0 k args.line.now args.bytes.now args.places.now args.store.now
           args.slots.now args.table.now args.out.now)) (sym c.initial-counters.ensures) at-start.requires)),
       (λ e. absurd (false≢true e)),
     )
@@ -53,10 +53,10 @@ loop-again c =
     let l = at-if1.before.before.loop in
     let r = l.invariant.1 at-if1.if1.true in
     let rest = unconsumed l.block l.now.at l.now.end in
-    let state = stateBetween l.now.len l.now.kept l.line l.bytes l.places l.store l.slots l.table l.out in
+    let state = state_between l.now.len l.now.kept l.line l.bytes l.places l.store l.slots l.table l.out in
     let s = c.step.ensures in (
       s.0,
-      (λ e. reached-next rest state _ _ r (s.1.0 e)),
+      (λ e. reached_next rest state _ _ r (s.1.0 e)),
       λ e. record { rest = rest; state = state; reached = r; last = s.1.1 e },
     )
 

@@ -1,8 +1,8 @@
 -- The bytes that are not consumed are those from `at` to `end`; when there are none, a block is read, or the input has ended.
 use Rattle.stdio.specs.Reading.{ReadAtMost}
-use Rattle.frame_stream.specs.Progress.{stateBetween, unconsumed, Reached, by_read}
-use Rattle.frame_stream.proofs.StreamLaws.{process-bounds}
-use Rattle.frame_stream.proofs.ProgressLaws.{next-called, consumed}
+use Rattle.frame_stream.specs.Progress.{state_between, unconsumed, Reached, by_read}
+use Rattle.frame_stream.proofs.StreamLaws.{process_bounds}
+use Rattle.frame_stream.proofs.ProgressLaws.{next_called, consumed}
 use mathlib.Core.Path.{◌≡◌, refl, sym, subst, ◌∙◌}
 use mathlib.Core.Bool.{false≢true}
 use mathlib.Core.List.{[]}
@@ -35,8 +35,8 @@ add-t23 c =
     let at-if1 = at-answer.before.before.before.before.before.before.before.before.before.before.before in
     let at-start = at-if1.before in
     let args = at-start.args in
-    let bounds = process-bounds (unconsumed args.block.now args.at args.end)
-    (stateBetween args.len args.k args.line.now args.bytes.now args.places.now args.store.now args.slots.now args.table.now
+    let bounds = process_bounds (unconsumed args.block.now args.at args.end)
+    (state_between args.len args.k args.line.now args.bytes.now args.places.now args.store.now args.slots.now args.table.now
     args.out.now)
     _ at-answer.answer.ensures in
     omega (arith, at-if1.if1.true, at-start.requires.0, bounds.0, length-take (args.end - args.at) (drop args.at args.block.now))
@@ -47,9 +47,9 @@ returns c =
     let at-if1 = at-answer.before.before.before.before.before.before.before.before.before.before.before in
     let at-start = at-if1.before in
     let args = at-start.args in
-    let state = (stateBetween args.len args.k args.line.now args.bytes.now args.places.now args.store.now args.slots.now args.table.now
+    let state = (state_between args.len args.k args.line.now args.bytes.now args.places.now args.store.now args.slots.now args.table.now
     args.out.now) in
-    (at-start.requires.0, ((λ e. next-called args.block.now args.at args.end state _ at-answer.answer.ensures), λ e. absurd (false≢true e)))
+    (at-start.requires.0, ((λ e. next_called args.block.now args.at args.end state _ at-answer.answer.ensures), λ e. absurd (false≢true e)))
 
 read-requires : tie.Need-read-requires
 read-requires c κs = search rules
@@ -75,7 +75,7 @@ finish-requires c κs =
     let at-if1 = at-if2.before.before.before.before.before.before in
     let at-start = at-if1.before in
     let args = at-start.args in
-    let state = (stateBetween args.len args.k args.line.now args.bytes.now args.places.now args.store.now args.slots.now args.table.now
+    let state = (state_between args.len args.k args.line.now args.bytes.now args.places.now args.store.now args.slots.now args.table.now
     args.out.now) in
     subst (λ (t : Text). Reached t state) (consumed args.block.now args.at args.end at-if1.if1.false) at-start.requires.1
 

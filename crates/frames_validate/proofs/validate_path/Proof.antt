@@ -1,5 +1,5 @@
 -- The refusal of the legs and that of the path, whichever question is put first, is the refusal of both together.
-use Rattle.frames_validate.proofs.UseBranches.{path-validated}
+use Rattle.frames_validate.proofs.UseBranches.{path_validated}
 use borrow.Author.Rules.{rules}
 use Rattle.frames_validate.proofs.validate_path.Statement.{statement}
 use Rattle.frames_validate.proofs.validate_path.Tie as tie
@@ -21,7 +21,7 @@ returns c =
     let at_new = c.before in
     let at-last-bytes = at_new.before in
     let at-validate-legs = at-last-bytes.before in
-    path-validated _ _ _ _ _ _ at-validate-legs.validate-legs.ensures at-last-bytes.last-bytes.ensures at_new.new.ensures
+    path_validated _ _ _ _ _ _ at-validate-legs.validate-legs.ensures at-last-bytes.last-bytes.ensures at_new.new.ensures
     c.first-refusal.ensures
 
 pub validate-path-spec : {M : Type 1} → statement M

@@ -1,6 +1,6 @@
 -- Each arm validates what the action of its header uses.
-use Rattle.frames_memory.specs.Memory.{framesMemory}
-use Rattle.frames_validate.proofs.UseBranches.{use-pair, use-statuses, use-close, use-route, use-count}
+use Rattle.frames_memory.specs.Memory.{frames_memory}
+use Rattle.frames_validate.proofs.UseBranches.{use_pair, use_statuses, use_close, use_route, use_count}
 use borrow.Author.Rules.{rules}
 use Rattle.frames_validate.proofs.validate_use.Statement.{statement}
 use Rattle.frames_validate.proofs.validate_use.Tie as tie
@@ -31,40 +31,40 @@ returns c =
     let at-header = c.before in
     let at-start = at-header.before.before.before.before.before.before.before.before.before.before in
     let args = at-start.args in
-    let m = framesMemory args.k args.bytes.now args.places.now args.store.now args.slots.now args.table.now in
-    use-pair m args.frame.now _ _ _ at-header.header.given.1
+    let m = frames_memory args.k args.bytes.now args.places.now args.store.now args.slots.now args.table.now in
+    use_pair m args.frame.now _ _ _ at-header.header.given.1
 
 returns-2 : tie.Need-returns-2
 returns-2 c =
     let at-header = c in
     let at-start = at-header.before.before.before.before.before.before.before.before.before.before in
     let args = at-start.args in
-    let m = framesMemory args.k args.bytes.now args.places.now args.store.now args.slots.now args.table.now in
-    use-statuses m args.frame.now _ at-header.enum_told.given.1
+    let m = frames_memory args.k args.bytes.now args.places.now args.store.now args.slots.now args.table.now in
+    use_statuses m args.frame.now _ at-header.enum_told.given.1
 
 returns-3 : tie.Need-returns-3
 returns-3 c =
     let at-header = c.before.before in
     let at-start = at-header.before.before.before.before.before.before.before.before.before.before in
     let args = at-start.args in
-    let m = framesMemory args.k args.bytes.now args.places.now args.store.now args.slots.now args.table.now in
-    use-close m args.frame.now _ _ at-header.header2.given.1 _ c.validate-list.ensures
+    let m = frames_memory args.k args.bytes.now args.places.now args.store.now args.slots.now args.table.now in
+    use_close m args.frame.now _ _ at-header.header2.given.1 _ c.validate-list.ensures
 
 returns-4 : tie.Need-returns-4
 returns-4 c =
     let at-header = c.before.before in
     let at-start = at-header.before.before.before.before.before.before.before.before.before.before in
     let args = at-start.args in
-    let m = framesMemory args.k args.bytes.now args.places.now args.store.now args.slots.now args.table.now in
-    use-route m args.frame.now _ _ _ at-header.header3.given.1 _ c.validate-path.ensures
+    let m = frames_memory args.k args.bytes.now args.places.now args.store.now args.slots.now args.table.now in
+    use_route m args.frame.now _ _ _ at-header.header3.given.1 _ c.validate-path.ensures
 
 returns-5 : tie.Need-returns-5
 returns-5 c =
     let at-header = c in
     let at-start = at-header.before.before.before.before.before.before.before.before.before.before in
     let args = at-start.args in
-    let m = framesMemory args.k args.bytes.now args.places.now args.store.now args.slots.now args.table.now in
-    use-count m args.frame.now _ at-header.enum-told2.given.1
+    let m = frames_memory args.k args.bytes.now args.places.now args.store.now args.slots.now args.table.now in
+    use_count m args.frame.now _ at-header.enum-told2.given.1
 
 pub validate-use-spec : {M : Type 1} → statement M
 validate-use-spec =

@@ -4,12 +4,12 @@ use borrow.Author.Rules.{rules}
 use mathlib.Core.Path.{◌≡◌}
 use Prim.Native.Nat.{◌-◌, ◌≤◌}
 use lib.ListN.{length, drop}
-use Rattle.hex.specs.Calls.{allDigits}
+use Rattle.hex.specs.Calls.{all_digits}
 use Rattle.hex.proofs.all_digits.Statement.{statement}
 use Rattle.hex.proofs.all_digits.Tie as tie
 
 abbrev invariant-loop : tie.invariant-loop
-invariant-loop text i₀ i = (i ≤ length text) × (allDigits text ≡ allDigits (drop i text))
+invariant-loop text i₀ i = (i ≤ length text) × (all_digits text ≡ all_digits (drop i text))
 
 abbrev decreases-loop : tie.decreases-loop
 decreases-loop text i₀ i = length text - i

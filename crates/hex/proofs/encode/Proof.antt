@@ -5,12 +5,12 @@ use mathlib.Core.Path.{◌≡◌}
 use Prim.Native.Nat.{◌-◌, ◌*◌, ◌≤◌}
 use lib.ListN.{length}
 use lib.Seq.{paste}
-use Rattle.hex.specs.Hex.{encodeHex}
+use Rattle.hex.specs.Hex.{encode_hex}
 use Rattle.hex.proofs.encode.Statement.{statement}
 use Rattle.hex.proofs.encode.Tie as tie
 
 abbrev invariant-loop : tie.invariant-loop
-invariant-loop bytes at out₀ i₀ out i = (i ≤ length bytes) × (length out ≡ length out₀) × (out ≡ paste out₀ at (encodeHex bytes) (2 * i))
+invariant-loop bytes at out₀ i₀ out i = (i ≤ length bytes) × (length out ≡ length out₀) × (out ≡ paste out₀ at (encode_hex bytes) (2 * i))
 
 abbrev decreases-loop : tie.decreases-loop
 decreases-loop bytes at out₀ i₀ out i = length bytes - i

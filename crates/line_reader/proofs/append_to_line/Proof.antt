@@ -1,5 +1,5 @@
 use lib.ListN.{length}
-use Rattle.line_reader.proofs.TakeLaws.{adds, most-small}
+use Rattle.line_reader.proofs.TakeLaws.{adds, most_small}
 use borrow.Author.Rules.{rules}
 use native.Mathlib.Omega.{arith}
 use Rattle.line_reader.proofs.append_to_line.Statement.{statement}
@@ -15,7 +15,7 @@ returns : tie.Need-returns
 returns c = search (rules, adds)
 
 add-result-2 : tie.Need-overflow-add-result-2
-add-result-2 c = omega (arith, most-small (length c.before.before.before.before.before.args.line.now), c.before.before.line-capacity.ensures)
+add-result-2 c = omega (arith, most_small (length c.before.before.before.before.before.args.line.now), c.before.before.line-capacity.ensures)
 
 returns-2 : tie.Need-returns-2
 returns-2 c = search (rules, adds)

@@ -4,12 +4,12 @@ use borrow.Author.Rules.{rules}
 use mathlib.Core.Path.{◌≡◌}
 use Prim.Native.Nat.{◌+◌, ◌-◌, ◌≤◌}
 use lib.ListN.{length, drop}
-use Rattle.line_reader.specs.TakeLine.{newlineIndex}
+use Rattle.line_reader.specs.TakeLine.{newline_index}
 use Rattle.line_reader.proofs.newline_index.Statement.{statement}
 use Rattle.line_reader.proofs.newline_index.Tie as tie
 
 abbrev invariant-loop : tie.invariant-loop
-invariant-loop block i₀ i = (i ≤ length block) × (newlineIndex block ≡ i + newlineIndex (drop i block))
+invariant-loop block i₀ i = (i ≤ length block) × (newline_index block ≡ i + newline_index (drop i block))
 
 abbrev decreases-loop : tie.decreases-loop
 decreases-loop block i₀ i = length block - i

@@ -1,4 +1,4 @@
-use Rattle.path_rest.proofs.CarriedLaws.{refusing-carried, answering-carried}
+use Rattle.path_rest.proofs.CarriedLaws.{refusing_carried, answering_carried}
 use Rattle.map_apply.proofs.MapBranches.{map-none, map-block, map_apply, map-inside, rest-none, rest-found}
 use borrow.Author.Rules.{rules}
 use Rattle.map_apply.proofs.map_text_carried.Statement.{statement}
@@ -21,7 +21,7 @@ returns c =
     let args = at-best-prefix.before.before.before.before.args in
     let found = at-best-prefix.best-prefix.result in
     let is_found = at-best-prefix.best-prefix.ensures in
-    answering-carried _ _ _ _ (map-none _ _ _ args.mark _ args.invert found is_found at-if1.if1.true)
+    answering_carried _ _ _ _ (map-none _ _ _ args.mark _ args.invert found is_found at-if1.if1.true)
     (rest-none _ _ _ args.mark _ args.invert found is_found at-if1.if1.true) _ _ _ _ c.with_rest.ensures at-keep-path.keep-path.ensures
 
 key-at-requires : tie.Need-key-at-requires
@@ -33,7 +33,7 @@ returns-2 c =
     let at-if1 = at-key-at.before in
     let at-best-prefix = at-if1.before.before in
     let args = at-best-prefix.before.before.before.before.args in
-    refusing-carried _ _ _
+    refusing_carried _ _ _
     (map-block _ _ _ args.mark _ args.invert at-best-prefix.best-prefix.result at-best-prefix.best-prefix.ensures at-if1.if1.false _
     at-key-at.key-at.ensures c.if2.true)
     _
@@ -72,7 +72,7 @@ returns-3 c =
     let args = at-best-prefix.before.before.before.before.args in
     let found = at-best-prefix.best-prefix.result in
     let is_found = at-best-prefix.best-prefix.ensures in
-    answering-carried _ _ _ _
+    answering_carried _ _ _ _
     (map_apply _ _ _ args.mark _ args.invert found is_found at-if1.if1.false _ _ _ at-key-at.key-at.ensures at-if2.if2.false
     at-key-at2.key-at2.ensures at-key-at3.key-at3.ensures)
     (rest-found _ _ _ args.mark _ args.invert found is_found at-if1.if1.false _ _ at-key-at2.key-at2.ensures at-rest-index.rest-index.ensures)

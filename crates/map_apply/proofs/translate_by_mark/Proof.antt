@@ -1,11 +1,11 @@
 use Rattle.refusal.proofs.CallBranches.{refusing, answering}
-use Rattle.map_apply.proofs.TranslateBranches.{marked-none, marked-shadowed, marked-kept}
+use Rattle.map_apply.proofs.TranslateBranches.{marked_none, marked-shadowed, marked-kept}
 use borrow.Author.Rules.{rules}
 use Rattle.map_apply.proofs.translate_by_mark.Statement.{statement}
 use Rattle.map_apply.proofs.translate_by_mark.Tie as tie
 
 returns : tie.Need-returns
-returns c = refusing _ _ (marked-none _ _ _ _ _ c.if1.true) _
+returns c = refusing _ _ (marked_none _ _ _ _ _ c.if1.true) _
 
 best-prefix-requires : tie.Need-best-prefix-requires
 best-prefix-requires c κs = search rules

@@ -1,7 +1,7 @@
 use mathlib.Core.Path.{refl}
 use Rattle.text.proofs.WriteLaws.{fit-part, fit-inside}
 use Rattle.refusal.proofs.CallBranches.{refusing, answering}
-use Rattle.map_apply.proofs.TranslateBranches.{pair-over, pair-other, pair_same}
+use Rattle.map_apply.proofs.TranslateBranches.{pair_over, pair_other, pair_same}
 use borrow.Author.Rules.{rules}
 use borrow.Author.Rules.{rules}
 use Rattle.map_apply.proofs.translate_by_pair.Statement.{statement}
@@ -20,7 +20,7 @@ enum_told : tie.Need-enum-told
 enum_told c = search rules
 
 returns : tie.Need-returns
-returns c = refusing _ _ (pair-over _ _ _ _ _ _ _ _ _ _ c.before.before.before.join.ensures.0 refl c.enum_told.given.1) _
+returns c = refusing _ _ (pair_over _ _ _ _ _ _ _ _ _ _ c.before.before.before.join.ensures.0 refl c.enum_told.given.1) _
 
 array-share-prefix-made : tie.Need-array-share-prefix-made
 array-share-prefix-made c =
@@ -43,7 +43,7 @@ returns-2 c =
     let at-fit = at-is-longest-match.before.before.before in
     let at_join = at-fit.before.before.before in
     refusing _ _
-    (pair-other _ _ _ _ _ _ _ _ _ _ at_join.join.ensures.0 refl _ at-fit.fit.given.1 _ at_join.join.ensures.1 _
+    (pair_other _ _ _ _ _ _ _ _ _ _ at_join.join.ensures.0 refl _ at-fit.fit.given.1 _ at_join.join.ensures.1 _
     at-is-longest-match.is-longest-match.ensures c.if1.true)
     _
 

@@ -2,15 +2,15 @@
 use mathlib.Core.Path.{◌≡◌}
 use mathlib.Core.Bool.{false}
 use Prim.Native.Nat.{◌≤◌, ◌-◌}
-use Rattle.pair_list.specs.Places.{pairsIn}
-use Rattle.map_spec.specs.New.{anyRootPair}
+use Rattle.pair_list.specs.Places.{pairs_in}
+use Rattle.map_spec.specs.New.{any_root_pair}
 use Rattle.map_canonical.proofs.KeepBranches.{rooting}
 use borrow.Author.Rules.{rules}
 use Rattle.map_canonical.proofs.any_root_pair.Statement.{statement}
 use Rattle.map_canonical.proofs.any_root_pair.Tie as tie
 
 abbrev invariant-loop : tie.invariant-loop
-invariant-loop store places n i₀ i = (i ≤ n) × (false ≡ anyRootPair (pairsIn store places i))
+invariant-loop store places n i₀ i = (i ≤ n) × (false ≡ any_root_pair (pairs_in store places i))
 
 abbrev decreases-loop : tie.decreases-loop
 decreases-loop store places n i₀ i = n - i

@@ -4,15 +4,15 @@ use native.Mathlib.Omega.{arith}
 use Prim.Native.Nat.{◌≤◌, ◌-◌}
 use lib.ListN.{length}
 use Rattle.pair_list_write.specs.Select.{HoldsEntries}
-use Rattle.map_spec.specs.New.{isRedundant}
-use Rattle.map_canonical.specs.Canonical.{maxElements, HoldsElementCounts}
-use Rattle.map_canonical.proofs.LevelBranches.{below, levels-none, levels-on, levels-room, levels-end, top-room}
+use Rattle.map_spec.specs.New.{is_redundant}
+use Rattle.map_canonical.specs.Canonical.{max_elements, HoldsElementCounts}
+use Rattle.map_canonical.proofs.LevelBranches.{below, levels_none, levels-on, levels-room, levels-end, top-room}
 use borrow.Author.Rules.{rules}
 use Rattle.map_canonical.proofs.canonicalize.Statement.{statement}
 use Rattle.map_canonical.proofs.canonicalize.Tie as tie
 
 abbrev invariant-loop : tie.invariant-loop
-invariant-loop store places n mark kept₀ keys top w₀ e₀ kept w e = (e.0 ≤ top.0) × HoldsEntries places (below store places n isRedundant mark kept₀ e.0) kept₀ kept w × HoldsElementCounts store places n keys × (top.0 ≡ maxElements store places n) × (256 ≤ length kept) × (length kept ≡ length kept₀)
+invariant-loop store places n mark kept₀ keys top w₀ e₀ kept w e = (e.0 ≤ top.0) × HoldsEntries places (below store places n is_redundant mark kept₀ e.0) kept₀ kept w × HoldsElementCounts store places n keys × (top.0 ≡ max_elements store places n) × (256 ≤ length kept) × (length kept ≡ length kept₀)
 
 abbrev decreases-loop : tie.decreases-loop
 decreases-loop store places n mark kept₀ keys top w₀ e₀ kept w e = top.0 - e.0
@@ -24,7 +24,7 @@ fill-element-counts-requires : tie.Need-fill-element-counts-requires invariant-l
 fill-element-counts-requires c κs = omega (arith, c.before.before.before.before.requires.0.0)
 
 loop-holds : tie.Need-loop-init invariant-loop decreases-loop
-loop-holds c = (search rules, levels-none _ _ _ isRedundant _ _, c.before.fill-element-counts.ensures.0, c.before.fill-element-counts.ensures.1, c.before.before.before.before.before.before.requires.1, refl)
+loop-holds c = (search rules, levels_none _ _ _ is_redundant _ _, c.before.fill-element-counts.ensures.0, c.before.fill-element-counts.ensures.1, c.before.before.before.before.before.before.requires.1, refl)
 
 slice-aggregate-keep-level : tie.Need-slice-aggregate-keep-level invariant-loop decreases-loop
 slice-aggregate-keep-level c = search rules
@@ -36,7 +36,7 @@ keep-level-requires c κs =
     let at-start = at-loop.before.before.before.before.before.before.before in
     let pre = at-start.requires in
     let l = at-loop.loop in
-    ((pre.0.1, omega (arith, pre.0.0)), (l.invariant.2, levels-room _ _ _ isRedundant _ _ _ _ _ l.invariant.1 pre.0.0 l.invariant.4))
+    ((pre.0.1, omega (arith, pre.0.0)), (l.invariant.2, levels-room _ _ _ is_redundant _ _ _ _ _ l.invariant.1 pre.0.0 l.invariant.4))
 
 add-t17 : tie.Need-overflow-add-t17 invariant-loop decreases-loop
 add-t17 c = search rules
@@ -49,7 +49,7 @@ loop-again c =
     let at-keep-level = c.before.before.before in
     let at-loop-test = c.before.before.before.before.before.before in
     let l = at-loop-test.before.before.before.loop in
-    (search rules, levels-on _ _ _ isRedundant _ _ _ _ _ l.invariant.1 _ _ at-keep-level.keep-level.ensures, l.invariant.2, l.invariant.3, search rules, search rules)
+    (search rules, levels-on _ _ _ is_redundant _ _ _ _ _ l.invariant.1 _ _ at-keep-level.keep-level.ensures, l.invariant.2, l.invariant.3, search rules, search rules)
 
 slice-aggregate-keep-level-2 : tie.Need-slice-aggregate-keep-level-2 invariant-loop decreases-loop
 slice-aggregate-keep-level-2 c = search rules
@@ -62,7 +62,7 @@ keep-level-requires-2 c κs =
     let pre = at-start.requires in
     let l = at-loop.loop in (
       (pre.0.1, omega (arith, pre.0.0)),
-      (l.invariant.2, top-room _ _ _ isRedundant _ _ _ _ _ l.invariant.1 _ at-loop-test.if1.false l.invariant.0 pre.0.0 l.invariant.4),
+      (l.invariant.2, top-room _ _ _ is_redundant _ _ _ _ _ l.invariant.1 _ at-loop-test.if1.false l.invariant.0 pre.0.0 l.invariant.4),
     )
 
 same_length : tie.Need-same-length invariant-loop decreases-loop
@@ -73,7 +73,7 @@ returns c =
     let at-keep-level2 = c.before.before in
     let at-loop-test = at-keep-level2.before.before.before in
     let at-loop = at-loop-test.before.before.before in
-    levels-end _ _ _ isRedundant _ _ _ _ _ at-loop.loop.invariant.1 _ at-loop.loop.invariant.3 at-loop-test.if1.false at-loop.loop.invariant.0 _
+    levels-end _ _ _ is_redundant _ _ _ _ _ at-loop.loop.invariant.1 _ at-loop.loop.invariant.3 at-loop-test.if1.false at-loop.loop.invariant.0 _
     _ at-keep-level2.keep-level2.ensures
 
 pub canonicalize-spec : {M : Type 1} → statement M

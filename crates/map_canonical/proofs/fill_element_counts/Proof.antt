@@ -3,20 +3,20 @@ use mathlib.Core.Path.{◌≡◌, refl}
 use native.Mathlib.Omega.{arith}
 use Prim.Native.Nat.{◌≤◌, ◌-◌}
 use lib.ListN.{length, length-set}
-use Rattle.map_canonical.specs.Canonical.{maxElements, HoldsElementCounts}
-use Rattle.map_canonical.proofs.KeepBranches.{counted_none, most-none, counted-on, most-on, counted-end, most-end}
+use Rattle.map_canonical.specs.Canonical.{max_elements, HoldsElementCounts}
+use Rattle.map_canonical.proofs.KeepBranches.{counted_none, most_none, counted_on, most_on, counted_end, most_end}
 use borrow.Author.Rules.{rules}
 use Rattle.map_canonical.proofs.fill_element_counts.Statement.{statement}
 use Rattle.map_canonical.proofs.fill_element_counts.Tie as tie
 
 abbrev invariant-loop : tie.invariant-loop
-invariant-loop store places n keys₀ top₀ i₀ keys top i = (i ≤ n) × (n ≤ length keys) × HoldsElementCounts store places i keys × (top.0 ≡ maxElements store places i) × (length keys ≡ length keys₀)
+invariant-loop store places n keys₀ top₀ i₀ keys top i = (i ≤ n) × (n ≤ length keys) × HoldsElementCounts store places i keys × (top.0 ≡ max_elements store places i) × (length keys ≡ length keys₀)
 
 abbrev decreases-loop : tie.decreases-loop
 decreases-loop store places n keys₀ top₀ i₀ keys top i = n - i
 
 loop-holds : tie.Need-loop-init invariant-loop decreases-loop
-loop-holds c = (search rules, c.before.before.before.requires, counted_none _ _ _, most-none _ _, refl)
+loop-holds c = (search rules, c.before.before.before.requires, counted_none _ _ _, most_none _ _, refl)
 
 key-at-requires : tie.Need-key-at-requires invariant-loop decreases-loop
 key-at-requires c κs = search rules
@@ -47,9 +47,9 @@ loop-again c = (
       let at-key-at = at-element-count.before in
       let at-loop-test = at-key-at.before in
       let at-loop = at-loop-test.before in
-      counted-on _ _ _ _ _ _ (omega (arith, at-loop-test.loop-test.true, at-loop.loop.invariant.1)) at-key-at.key-at.ensures
+      counted_on _ _ _ _ _ _ (omega (arith, at-loop-test.loop-test.true, at-loop.loop.invariant.1)) at-key-at.key-at.ensures
       at-element-count.element-count.ensures at-loop.loop.invariant.2),
-  most-on _ _ _ _ _ _ _ c.before.before.key-at.ensures c.before.element-count.ensures c.max.ensures
+  most_on _ _ _ _ _ _ _ c.before.before.key-at.ensures c.before.element-count.ensures c.max.ensures
       c.before.before.before.before.loop.invariant.3,
   simp length-set c.before.before.before.before.loop.invariant.4,
 )
@@ -58,7 +58,7 @@ same_length : tie.Need-same-length invariant-loop decreases-loop
 same_length c = search rules
 
 returns : tie.Need-returns invariant-loop decreases-loop
-returns c = (counted-end _ _ _ _ _ c.loop-test.false c.before.loop.invariant.2, most-end _ _ _ _ _ c.loop-test.false c.before.loop.invariant.0 c.before.loop.invariant.3)
+returns c = (counted_end _ _ _ _ _ c.loop-test.false c.before.loop.invariant.2, most_end _ _ _ _ _ c.loop-test.false c.before.loop.invariant.0 c.before.loop.invariant.3)
 
 pub fill-element-counts-spec : {M : Type 1} → statement M
 fill-element-counts-spec =

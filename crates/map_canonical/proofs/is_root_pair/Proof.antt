@@ -1,4 +1,4 @@
-use Rattle.map_canonical.proofs.KeepBranches.{roots-not, roots-both}
+use Rattle.map_canonical.proofs.KeepBranches.{roots_not, roots_both}
 use borrow.Author.Rules.{rules}
 use Rattle.map_canonical.proofs.is_root_pair.Statement.{statement}
 use Rattle.map_canonical.proofs.is_root_pair.Tie as tie
@@ -10,7 +10,7 @@ is-root-requires : tie.Need-is-root-requires
 is-root-requires c κs = search rules
 
 returns : tie.Need-returns
-returns c = roots-not _ _ _ _ c.before.before.key-at.ensures _ c.before.is-root.ensures c.if1.true
+returns c = roots_not _ _ _ _ c.before.before.key-at.ensures _ c.before.is-root.ensures c.if1.true
 
 key-at-requires-2 : tie.Need-key-at-requires-2
 key-at-requires-2 c κs = search rules
@@ -24,7 +24,7 @@ returns-2 c =
     let at-if1 = at-key-at2.before in
     let at-is-root = at-if1.before in
     let at-key-at = at-is-root.before in
-    roots-both _ _ _ _ at-key-at.key-at.ensures _ at-is-root.is-root.ensures at-if1.if1.false _ at-key-at2.key-at2.ensures _
+    roots_both _ _ _ _ at-key-at.key-at.ensures _ at-is-root.is-root.ensures at-if1.if1.false _ at-key-at2.key-at2.ensures _
     c.is-root2.ensures
 
 pub is-root-pair-spec : {M : Type 1} → statement M

@@ -1,5 +1,5 @@
-use Rattle.map_function.proofs.NewBranches.{refusing-map, gives-map}
-use Rattle.map_compose.proofs.CallBranches.{call-refused, outer-sound, inner-sound, call-inner, call-outer, call-composed}
+use Rattle.map_function.proofs.NewBranches.{refusing_map, gives_map}
+use Rattle.map_compose.proofs.CallBranches.{call_refused, outer-sound, inner-sound, call-inner, call-outer, call-composed}
 use borrow.Author.Rules.{rules}
 use Rattle.map_compose.proofs.compose.Statement.{statement}
 use Rattle.map_compose.proofs.compose.Tie as tie
@@ -16,8 +16,8 @@ returns c =
     let at-validate-lists = at-q.before.before in
     let at-start = at-validate-lists.before.before.before.before.before.before.before in
     let args = at-start.args in
-    refusing-map _ _
-    (call-refused args.store.now args.places.now args.outer args.istore.now args.iplaces.now args.inner args.out.now
+    refusing_map _ _
+    (call_refused args.store.now args.places.now args.outer args.istore.now args.iplaces.now args.inner args.out.now
     args.slots.now _ at-validate-lists.validate-lists.ensures _ at-q.q.given.1)
     _ _
 
@@ -49,7 +49,7 @@ returns-2 c =
     let at-validate-lists = at-enum-told.before.before in
     let at-start = at-validate-lists.before.before.before.before.before.before.before in
     let args = at-start.args in
-    gives-map _ _
+    gives_map _ _
     (call-inner args.store.now args.places.now args.outer args.istore.now args.iplaces.now args.inner args.out.now
     args.slots.now _ at-validate-lists.validate-lists.ensures at-enum-told.enum_told.given.1 _
     at-composed-time.composed-time.ensures _ at_both.both.ensures at-if1.if1.true)
@@ -79,7 +79,7 @@ returns-3 c =
     let at-validate-lists = at-enum-told.before.before in
     let at-start = at-validate-lists.before.before.before.before.before.before.before in
     let args = at-start.args in
-    gives-map _ _
+    gives_map _ _
     (call-outer args.store.now args.places.now args.outer args.istore.now args.iplaces.now args.inner args.out.now
     args.slots.now _ at-validate-lists.validate-lists.ensures at-enum-told.enum_told.given.1 _
     at-composed-time.composed-time.ensures _ at_both.both.ensures at-if1.if1.false _ at-both2.both2.ensures at-if2.if2.true)
@@ -115,7 +115,7 @@ returns-4 c =
     let at-validate-lists = at-enum-told.before.before in
     let at-start = at-validate-lists.before.before.before.before.before.before.before in
     let args = at-start.args in
-    gives-map _ _
+    gives_map _ _
     (call-composed args.store.now args.places.now args.outer args.istore.now args.iplaces.now args.inner args.out.now
     args.slots.now _ at-validate-lists.validate-lists.ensures at-enum-told.enum_told.given.1 _
     at-composed-time.composed-time.ensures _ at_both.both.ensures at-if1.if1.false _ at-both2.both2.ensures at-if2.if2.false)

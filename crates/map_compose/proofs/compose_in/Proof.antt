@@ -1,11 +1,11 @@
 -- The composed list lies in the buffers (`into-holds`), since they are large enough for two validated maps, and its ends are legal.
-use Rattle.map_function.specs.MapFunction.{mapOf}
+use Rattle.map_function.specs.MapFunction.{map_of}
 use Rattle.compose_pairs.proofs.PackLaws.{into-holds}
-use Rattle.map_compose.proofs.CallBranches.{compose-fits, built-map}
+use Rattle.map_compose.proofs.CallBranches.{compose_fits_lem, built_map}
 use borrow.Author.Rules.{rules}
 use Rattle.map_compose.proofs.compose_in.Statement.{statement}
 use Rattle.map_compose.proofs.compose_in.Tie as tie
-use Rattle.map_function.proofs.NewBranches.{gives-map}
+use Rattle.map_function.proofs.NewBranches.{gives_map}
 
 compose-into-requires : tie.Need-compose-into-requires
 compose-into-requires c κs = search rules
@@ -36,12 +36,12 @@ returns c =
     let at-start = at-compose-into.before.before.before.before.before.before.before.before.before.before.before in
     let args = at-start.args in
     let pre = at-start.requires in
-    let outer = mapOf args.store.now args.places.now args.outer in
-    let inner = mapOf args.istore.now args.iplaces.now args.inner in
-    gives-map _ _
-    (built-map outer inner pre.0.ends pre.1.0.ends args.time args.out.now args.slots.now _ _ _ _
+    let outer = map_of args.store.now args.places.now args.outer in
+    let inner = map_of args.istore.now args.iplaces.now args.inner in
+    gives_map _ _
+    (built_map outer inner pre.0.ends pre.1.0.ends args.time args.out.now args.slots.now _ _ _ _
     (into-holds outer inner args.bytes.now args.own.now
-    (compose-fits args.store.now args.places.now args.outer args.istore.now args.iplaces.now args.inner args.bytes.now
+    (compose_fits_lem args.store.now args.places.now args.outer args.istore.now args.iplaces.now args.inner args.bytes.now
     args.own.now pre.0 pre.1.0 pre.1.1)
     _ _ _ at-compose-into.compose-into.ensures)
     _ at_both.both.ensures)

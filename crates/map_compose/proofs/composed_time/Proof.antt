@@ -1,5 +1,5 @@
 use lib.Ieee.{of_bits}
-use Rattle.map_compose.proofs.CallBranches.{time-identity, time-other}
+use Rattle.map_compose.proofs.CallBranches.{time_identity, time_other}
 use borrow.Author.Rules.{rules}
 use Rattle.map_compose.proofs.composed_time.Statement.{statement}
 use Rattle.map_compose.proofs.composed_time.Tie as tie
@@ -15,7 +15,7 @@ both-requires c κs = search rules
 
 returns : tie.Need-returns
 unfolding of_bits
-returns c = time-identity _ _ _ _ _ c.before.before.before.is-identity.ensures c.before.before.is-identity2.ensures c.before.both.ensures c.if1.true
+returns c = time_identity _ _ _ _ _ c.before.before.before.is_identity_lem.ensures c.before.before.is-identity2.ensures c.before.both.ensures c.if1.true
 
 concatenate-requires : tie.Need-concatenate-requires
 concatenate-requires c κs = search rules
@@ -26,7 +26,7 @@ returns-2 c =
     let at_both = at-if1.before in
     let at-is-identity2 = at_both.before in
     let at-is-identity = at-is-identity2.before in
-    time-other _ _ _ _ _ at-is-identity.is-identity.ensures at-is-identity2.is-identity2.ensures at_both.both.ensures at-if1.if1.false
+    time_other _ _ _ _ _ at-is-identity.is_identity_lem.ensures at-is-identity2.is-identity2.ensures at_both.both.ensures at-if1.if1.false
     _ c.concatenate.ensures
 
 pub composed-time-spec : {M : Type 1} → statement M

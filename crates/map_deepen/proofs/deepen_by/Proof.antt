@@ -1,11 +1,11 @@
--- The image of the node is made in a buffer (`below-made`), and the part of the buffer that holds it is handed to `deepen_pairs`.
+-- The image of the node is made in a buffer (`below_made`), and the part of the buffer that holds it is handed to `deepen_pairs`.
 use mathlib.Core.Path.{refl}
 use native.Mathlib.Omega.{arith}
-use Rattle.map_deepen.proofs.DeepenBranches.{below-made, deepen-same}
+use Rattle.map_deepen.proofs.DeepenBranches.{below_made, deepen_same}
 use borrow.Author.Rules.{rules}
 use Rattle.map_deepen.proofs.deepen_by.Statement.{statement}
 use Rattle.map_deepen.proofs.deepen_by.Tie as tie
-use Rattle.map_function.proofs.NewBranches.{gives-map}
+use Rattle.map_function.proofs.NewBranches.{gives_map}
 
 key-at-requires : tie.Need-key-at-requires
 key-at-requires c κs = search rules
@@ -28,7 +28,7 @@ array-share-prefix-made c =
     let pre = at-start.requires in
     omega (
       arith,
-      (below-made args.store.now args.places.now args.map.count args.i pre.1.1 pre.0.shorts args.node.now _ _ pre.1.0
+      (below_made args.store.now args.places.now args.map.count args.i pre.1.1 pre.0.shorts args.node.now _ _ pre.1.0
           at-key-at2.key-at2.ensures _ _ _ refl at-replace-into.replace-into.ensures).short,
     )
 
@@ -39,7 +39,7 @@ slice-aggregate-deepen-pairs c =
     let at-start = at-key-at2.before.before.before.before.before.before.before in
     let args = at-start.args in
     let pre = at-start.requires in
-    (below-made args.store.now args.places.now args.map.count args.i pre.1.1 pre.0.shorts args.node.now _ _ pre.1.0
+    (below_made args.store.now args.places.now args.map.count args.i pre.1.1 pre.0.shorts args.node.now _ _ pre.1.0
     at-key-at2.key-at2.ensures _ _ _ refl at-replace-into.replace-into.ensures).part
 
 deepen-pairs-requires : tie.Need-deepen-pairs-requires
@@ -52,8 +52,8 @@ deepen-pairs-requires c κs =
       pre.0,
       (
         pre.1.0,
-        (below-made args.store.now args.places.now args.map.count args.i pre.1.1 pre.0.shorts args.node.now _ _ pre.1.0
-            at-key-at2.key-at2.ensures _ _ _ refl at-replace-into.replace-into.ensures).part-short,
+        (below_made args.store.now args.places.now args.map.count args.i pre.1.1 pre.0.shorts args.node.now _ _ pre.1.0
+            at-key-at2.key-at2.ensures _ _ _ refl at-replace-into.replace-into.ensures).part_short,
       ),
     )
 
@@ -72,9 +72,9 @@ returns c =
     let at-start = at-key-at.before.before.before.before.before.before in
     let args = at-start.args in
     let pre = at-start.requires in
-    gives-map _ _
-    (deepen-same _ _ _
-    (below-made args.store.now args.places.now args.map.count args.i pre.1.1 pre.0.shorts args.node.now _ _ pre.1.0
+    gives_map _ _
+    (deepen_same _ _ _
+    (below_made args.store.now args.places.now args.map.count args.i pre.1.1 pre.0.shorts args.node.now _ _ pre.1.0
     at-key-at2.key-at2.ensures _ _ _ refl at-replace-into.replace-into.ensures)
     args.store.now args.places.now args.map args.node.now args.i _ _ at-key-at.key-at.ensures at-key-at2.key-at2.ensures refl
     args.out.now args.slots.now)

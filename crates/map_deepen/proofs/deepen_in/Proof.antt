@@ -1,8 +1,8 @@
-use Rattle.pair_buffer.proofs.MapLaws.{built-ends}
+use Rattle.pair_buffer.proofs.MapLaws.{built_ends}
 use borrow.Author.Rules.{rules}
 use Rattle.map_deepen.proofs.deepen_in.Statement.{statement}
 use Rattle.map_deepen.proofs.deepen_in.Tie as tie
-use Rattle.map_function.proofs.NewBranches.{gives-map}
+use Rattle.map_function.proofs.NewBranches.{gives_map}
 
 deepen-all-requires : tie.Need-deepen-all-requires
 deepen-all-requires c κs =
@@ -29,7 +29,7 @@ returns : tie.Need-returns
 returns c =
     let at-from-ends = c.before.before.before.before in
     let at-deepen-all = at-from-ends.before.before.before.before.before.before.before.before.before in
-    gives-map _ _ (built-ends _ _ _ _ _ at-deepen-all.deepen-all.ensures _ _ _ _) _ _ _ _ _ at-from-ends.from-ends.ensures
+    gives_map _ _ (built_ends _ _ _ _ _ at-deepen-all.deepen-all.ensures _ _ _ _) _ _ _ _ _ at-from-ends.from_ends_lem.ensures
 
 pub deepen-in-spec : {M : Type 1} → statement M
 deepen-in-spec =

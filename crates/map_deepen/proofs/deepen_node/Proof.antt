@@ -1,5 +1,5 @@
-use Rattle.map_function.proofs.NewBranches.{refusing-map, gives-map}
-use Rattle.map_deepen.proofs.DeepenBranches.{deepen-refused, sound, deepen-node-short, deepen-there, deepen-none, deepen-inside, deepen-made}
+use Rattle.map_function.proofs.NewBranches.{refusing_map, gives_map}
+use Rattle.map_deepen.proofs.DeepenBranches.{deepen_refused, sound, deepen-node-short, deepen-there, deepen-none, deepen-inside, deepen-made}
 use borrow.Author.Rules.{rules}
 use Rattle.map_deepen.proofs.deepen_node.Statement.{statement}
 use Rattle.map_deepen.proofs.deepen_node.Tie as tie
@@ -19,8 +19,8 @@ returns c =
     let at-validate-call = at-q.before.before in
     let at-start = at-validate-call.before.before.before.before.before.before.before.before in
     let args = at-start.args in
-    refusing-map _ _
-    (deepen-refused args.store.now args.places.now args.map args.path.now args.node.now args.out.now args.slots.now
+    refusing_map _ _
+    (deepen_refused args.store.now args.places.now args.map args.path.now args.node.now args.out.now args.slots.now
     at-start.requires _ at-validate-call.validate-call.ensures _ at-q.q.given.1)
     _ _
 
@@ -48,7 +48,7 @@ returns-2 c =
     let at-validate-call = at-enum-told.before.before in
     let at-start = at-validate-call.before.before.before.before.before.before.before.before in
     let args = at-start.args in
-    gives-map _ _
+    gives_map _ _
     (deepen-there args.store.now args.places.now args.map args.path.now args.node.now args.out.now args.slots.now
     at-start.requires _ at-validate-call.validate-call.ensures at-enum-told.enum_told.given.1 _ at-has-source.has-source.ensures
     at-if1.if1.true)
@@ -77,7 +77,7 @@ returns-3 c =
     let at-validate-call = at-enum-told.before.before in
     let at-start = at-validate-call.before.before.before.before.before.before.before.before in
     let args = at-start.args in
-    gives-map _ _
+    gives_map _ _
     (deepen-none args.store.now args.places.now args.map args.path.now args.node.now args.out.now args.slots.now
     at-start.requires _ at-validate-call.validate-call.ensures at-enum-told.enum_told.given.1 _ at-has-source.has-source.ensures
     at-if1.if1.false at-find-class.find-class.result at-find-class.find-class.ensures at-if2.if2.true)
@@ -122,7 +122,7 @@ returns-4 c =
     let at-validate-call = at-enum-told.before.before in
     let at-start = at-validate-call.before.before.before.before.before.before.before.before in
     let args = at-start.args in
-    gives-map _ _
+    gives_map _ _
     (deepen-made args.store.now args.places.now args.map args.path.now args.node.now args.out.now args.slots.now
     at-start.requires _ at-validate-call.validate-call.ensures at-enum-told.enum_told.given.1 _ at-has-source.has-source.ensures
     at-if1.if1.false at-find-class.find-class.result at-find-class.find-class.ensures at-if2.if2.false)

@@ -1,6 +1,6 @@
-use Rattle.map_function.proofs.NewBranches.{refusing-map}
-use Rattle.pair_buffer.proofs.LengthLaws.{part-is}
-use Rattle.map_deepen.proofs.DeepenBranches.{deepen-long}
+use Rattle.map_function.proofs.NewBranches.{refusing_map}
+use Rattle.pair_buffer.proofs.LengthLaws.{part_is}
+use Rattle.map_deepen.proofs.DeepenBranches.{deepen_long}
 use borrow.Author.Rules.{rules}
 use Rattle.map_deepen.proofs.deepen_to.Statement.{statement}
 use Rattle.map_deepen.proofs.deepen_to.Tie as tie
@@ -9,8 +9,8 @@ returns : tie.Need-returns
 returns c =
     let at-start = c.before.before.before.before.before.before in
     let args = at-start.args in
-    refusing-map _ _
-    (deepen-long args.store.now args.places.now args.map args.path.now args.out.now args.slots.now c.if1.true) _ _
+    refusing_map _ _
+    (deepen_long args.store.now args.places.now args.map args.path.now args.out.now args.slots.now c.if1.true) _ _
 
 slice-aggregate-strip-node : tie.Need-slice-aggregate-strip-node
 slice-aggregate-strip-node c = search rules
@@ -22,7 +22,7 @@ array-share-prefix-plain : tie.Need-array-share-prefix-plain
 array-share-prefix-plain c = search rules
 
 slice-aggregate-deepen-node : tie.Need-slice-aggregate-deepen-node
-slice-aggregate-deepen-node c = part-is _ _ c.before.before.strip-node.ensures.0 _ c.before.before.strip-node.ensures.1.0
+slice-aggregate-deepen-node c = part_is _ _ c.before.before.strip-node.ensures.0 _ c.before.before.strip-node.ensures.1.0
 
 deepen-node-requires : tie.Need-deepen-node-requires
 deepen-node-requires c κs = c.before.before.before.before.strip-node.ensures.1.0

@@ -4,12 +4,12 @@ use mathlib.Core.Bool.{false}
 use Prim.Native.Nat.{ℕ, ◌≤◌, ◌-◌}
 use mathlib.Core.Path.{◌≡◌, ap}
 use Rattle.text.specs.Text.{Text}
-use Rattle.path_prefix.specs.Prefix.{hasPrefix}
-use Rattle.path_prefix.specs.Elements.{elementCount}
-use Rattle.pair_list.specs.BestStep.{bestBelow}
-use Rattle.pair_list.specs.LongestMatch.{longestBy}
-use Rattle.pair_list.proofs.BestLaws.{search-on, search-end}
-use Rattle.map_deepen.specs.FindClass.{classKept}
+use Rattle.path_prefix.specs.Prefix.{has_prefix}
+use Rattle.path_prefix.specs.Elements.{element_count}
+use Rattle.pair_list.specs.BestStep.{best_below}
+use Rattle.pair_list.specs.LongestMatch.{longest_by}
+use Rattle.pair_list.proofs.BestLaws.{search_on, search_end}
+use Rattle.map_deepen.specs.FindClass.{class_kept}
 use Rattle.map_deepen.proofs.DeepenBranches.{classes}
 use borrow.Author.Rules.{rules}
 use Rattle.map_deepen.proofs.find_class.Statement.{statement}
@@ -17,7 +17,7 @@ use Rattle.map_deepen.proofs.find_class.Tie as tie
 
 abbrev invariant-loop : tie.invariant-loop
 invariant-loop store places n node f₀ i₀ f i =
-    (i ≤ n) × (classKept f ≡ bestBelow (λ (j : ℕ). hasPrefix node (key_at store places false j)) (λ (j : ℕ). elementCount (key_at store places false j)) i)
+    (i ≤ n) × (class_kept f ≡ best_below (λ (j : ℕ). has_prefix node (key_at store places false j)) (λ (j : ℕ). element_count (key_at store places false j)) i)
 
 abbrev decreases-loop : tie.decreases-loop
 decreases-loop store places n node f₀ i₀ f i = n - i
@@ -40,11 +40,11 @@ loop-less c = search (rules, classes)
 loop-again : tie.Need-loop-preserved invariant-loop decreases-loop
 loop-again c =
     let e = c.before.key-at.ensures in
-    (search rules, search-on _ _ _ _ _ _ _ c.before.before.before.loop.invariant.1 (ap (hasPrefix _) e) (ap (λ (s : Text). elementCount s) e) c.consider-class.ensures)
+    (search rules, search_on _ _ _ _ _ _ _ c.before.before.before.loop.invariant.1 (ap (has_prefix _) e) (ap (λ (s : Text). element_count s) e) c.consider-class.ensures)
 
 returns : tie.Need-returns invariant-loop decreases-loop
-unfolding longestBy
-returns c = search-end _ _ _ _ _ c.before.loop.invariant.1 c.loop-test.false c.before.loop.invariant.0
+unfolding longest_by
+returns c = search_end _ _ _ _ _ c.before.loop.invariant.1 c.loop-test.false c.before.loop.invariant.0
 
 pub find-class-spec : {M : Type 1} → statement M
 find-class-spec =

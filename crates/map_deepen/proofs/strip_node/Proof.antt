@@ -1,4 +1,4 @@
-use Rattle.path_parts.proofs.StripLaws.{strip-never}
+use Rattle.path_parts.proofs.StripLaws.{strip_never}
 use Rattle.map_deepen.proofs.DeepenBranches.{node_done}
 use borrow.Author.Rules.{rules}
 use Rattle.map_deepen.proofs.strip_node.Statement.{statement}
@@ -32,7 +32,7 @@ returns-2 c =
     let at-strip-into = c.before.before.before.before in
     let at-start = at-strip-into.before.before.before.before in
     absurd
-    (strip-never at-start.args.path.now at-start.args.out.now _ at-start.requires at-strip-into.strip-into.ensures.0
+    (strip_never at-start.args.path.now at-start.args.out.now _ at-start.requires at-strip-into.strip-into.ensures.0
     c.enum_told.given.1)
 
 pub strip-node-spec : {M : Type 1} → statement M

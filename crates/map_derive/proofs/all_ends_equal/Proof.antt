@@ -2,15 +2,15 @@
 use mathlib.Core.Path.{◌≡◌}
 use mathlib.Core.Bool.{true}
 use Prim.Native.Nat.{◌≤◌, ◌-◌}
-use Rattle.pair_list.specs.Places.{pairsIn}
-use Rattle.map_derive.specs.Calls.{allEndsEqual}
-use Rattle.map_derive.proofs.ListBranches.{same_none, same_not, same-on, same_end}
+use Rattle.pair_list.specs.Places.{pairs_in}
+use Rattle.map_derive.specs.Calls.{all_ends_equal}
+use Rattle.map_derive.proofs.ListBranches.{same_none, same_not, same_on, same_end}
 use borrow.Author.Rules.{rules}
 use Rattle.map_derive.proofs.all_ends_equal.Statement.{statement}
 use Rattle.map_derive.proofs.all_ends_equal.Tie as tie
 
 abbrev invariant-loop : tie.invariant-loop
-invariant-loop store places n i₀ i = (i ≤ n) × (true ≡ allEndsEqual (pairsIn store places i))
+invariant-loop store places n i₀ i = (i ≤ n) × (true ≡ all_ends_equal (pairs_in store places i))
 
 abbrev decreases-loop : tie.decreases-loop
 decreases-loop store places n i₀ i = n - i
@@ -49,7 +49,7 @@ loop-again c = (
       let at-key-at2 = at-is-equal.before in
       let at-key-at = at-key-at2.before in
       let at-loop = at-key-at.before.before in
-      same-on _ _ _ _ _ at-key-at.key-at.ensures at-key-at2.key-at2.ensures _ at-is-equal.is-equal.ensures at-loop.loop.invariant.1
+      same_on _ _ _ _ _ at-key-at.key-at.ensures at-key-at2.key-at2.ensures _ at-is-equal.is-equal.ensures at-loop.loop.invariant.1
       c.if1.false),
 )
 

@@ -1,10 +1,10 @@
 use mathlib.Core.Path.{refl, sym, ◌∙◌}
 use native.Mathlib.Omega.{arith}
-use Rattle.validate.proofs.PassedLaws.{first-sound}
-use Rattle.map_function.proofs.NewBranches.{refusing-map, gives-map}
-use Rattle.map_derive.proofs.ListBranches.{left-all, left-some, left-few}
-use Rattle.map_new.proofs.NewBranches.{made-refused, made-passed, held-passed, own-parts}
-use Rattle.map_derive.proofs.DeriveBranches.{dropped-none, dropped-some, end-validated, dropping-unfolded}
+use Rattle.validate.proofs.PassedLaws.{first_sound}
+use Rattle.map_function.proofs.NewBranches.{refusing_map, gives_map}
+use Rattle.map_derive.proofs.ListBranches.{left_all, left_some, left_few}
+use Rattle.map_new.proofs.NewBranches.{made_refused, made_passed, held_passed, own_parts}
+use Rattle.map_derive.proofs.DeriveBranches.{dropped_none, dropped_some, end_validated, dropping_unfolded}
 use borrow.Author.Rules.{rules}
 use Rattle.map_derive.proofs.dropping_source.Statement.{statement}
 use Rattle.map_derive.proofs.dropping_source.Tie as tie
@@ -19,7 +19,7 @@ enum-known-q : tie.Need-enum-known-q
 enum-known-q c = search rules
 
 returns : tie.Need-returns
-returns c = refusing-map _ _ (dropping-unfolded _ _ _ _ _ _ ∙ made-refused _ _ _ _ _ _ _ (c.before.before.before.validate-call.ensures ∙ end-validated _ _ _ refl) _ c.before.q.given.1) _ _
+returns c = refusing_map _ _ (dropping_unfolded _ _ _ _ _ _ ∙ made_refused _ _ _ _ _ _ _ (c.before.before.before.validate-call.ensures ∙ end_validated _ _ _ refl) _ c.before.q.given.1) _ _
 
 enum_told : tie.Need-enum-told
 enum_told c = search rules
@@ -28,7 +28,7 @@ slice-aggregate-without-source : tie.Need-slice-aggregate-without-source
 slice-aggregate-without-source c = search rules
 
 without-source-requires : tie.Need-without-source-requires
-without-source-requires c κs = (omega (arith, (first-sound _ _ _ _ (sym c.before.before.before.validate-call.ensures ∙ c.before.enum_told.given.1)).held), omega (arith, (first-sound _ _ _ _ (sym c.before.before.before.validate-call.ensures ∙ c.before.enum_told.given.1)).few))
+without-source-requires c κs = (omega (arith, (first_sound _ _ _ _ (sym c.before.before.before.validate-call.ensures ∙ c.before.enum_told.given.1)).held), omega (arith, (first_sound _ _ _ _ (sym c.before.before.before.validate-call.ensures ∙ c.before.enum_told.given.1)).few))
 
 without-dropping-requires : tie.Need-without-dropping-requires
 without-dropping-requires c κs = search rules
@@ -46,11 +46,11 @@ returns-2 c =
     let at-without-source = at-if1.before.before in
     let at-enum-told = at-without-source.before.before in
     let at-validate-call = at-enum-told.before.before in
-    gives-map _ _
-    (dropping-unfolded _ _ _ _ _ _ ∙ made-passed _ _ _ _ _ _ _ (at-validate-call.validate-call.ensures ∙ end-validated _ _ _ refl)
-    at-enum-told.enum_told.given.1 ∙ dropped-none _ _ _ _ _ _
-    (left-all _ _ _ _ _ _ at-without-source.without_source.ensures at-if1.if1.true) ∙ sym
-    (held-passed _ _ _ (sym at-validate-call.validate-call.ensures ∙ at-enum-told.enum_told.given.1) _))
+    gives_map _ _
+    (dropping_unfolded _ _ _ _ _ _ ∙ made_passed _ _ _ _ _ _ _ (at-validate-call.validate-call.ensures ∙ end_validated _ _ _ refl)
+    at-enum-told.enum_told.given.1 ∙ dropped_none _ _ _ _ _ _
+    (left_all _ _ _ _ _ _ at-without-source.without_source.ensures at-if1.if1.true) ∙ sym
+    (held_passed _ _ _ (sym at-validate-call.validate-call.ensures ∙ at-enum-told.enum_told.given.1) _))
     _ _ _ _ _ at-without-dropping.without-dropping.ensures
 
 slice-aggregate-from-parts : tie.Need-slice-aggregate-from-parts
@@ -72,15 +72,15 @@ returns-3 c =
     let at-without-source = at-if1.before.before in
     let at-enum-told = at-without-source.before.before in
     let at-validate-call = at-enum-told.before.before in
-    gives-map _ _
-    (dropping-unfolded _ _ _ _ _ _ ∙ made-passed _ _ _ _ _ _ _ (at-validate-call.validate-call.ensures ∙ end-validated _ _ _ refl)
-    at-enum-told.enum_told.given.1 ∙ dropped-some _ _ _ _ _ _
-    (left-some _ _ _ _ _ _ at-without-source.without_source.ensures at-if1.if1.false) ∙ own-parts _ _ _ _ _ _ _ _
+    gives_map _ _
+    (dropping_unfolded _ _ _ _ _ _ ∙ made_passed _ _ _ _ _ _ _ (at-validate-call.validate-call.ensures ∙ end_validated _ _ _ refl)
+    at-enum-told.enum_told.given.1 ∙ dropped_some _ _ _ _ _ _
+    (left_some _ _ _ _ _ _ at-without-source.without_source.ensures at-if1.if1.false) ∙ own_parts _ _ _ _ _ _ _ _
     at-without-source.without_source.ensures
     (omega (
       arith,
-      left-few _ _ _ _ _ _ at-without-source.without_source.ensures,
-      (first-sound _ _ _ _ (sym at-validate-call.validate-call.ensures ∙ at-enum-told.enum_told.given.1)).few,
+      left_few _ _ _ _ _ _ at-without-source.without_source.ensures,
+      (first_sound _ _ _ _ (sym at-validate-call.validate-call.ensures ∙ at-enum-told.enum_told.given.1)).few,
     )))
     _ _ _ _ _ at-from-parts.from_parts.ensures
 

@@ -1,11 +1,11 @@
 use mathlib.Core.Path.{sym, ◌∙◌}
 use native.Mathlib.Omega.{arith}
 use lib.Ieee.{of_bits}
-use Rattle.validate.proofs.PassedLaws.{first-sound}
-use Rattle.map_function.proofs.NewBranches.{refusing-map, gives-map}
-use Rattle.map_new.proofs.NewBranches.{made-refused, made-passed, own-parts}
+use Rattle.validate.proofs.PassedLaws.{first_sound}
+use Rattle.map_function.proofs.NewBranches.{refusing_map, gives_map}
+use Rattle.map_new.proofs.NewBranches.{made_refused, made_passed, own_parts}
 use Rattle.map_derive.proofs.SwapLaws.{swapped-list}
-use Rattle.map_derive.proofs.DeriveBranches.{inverse-unfolded}
+use Rattle.map_derive.proofs.DeriveBranches.{inverse_unfolded}
 use borrow.Author.Rules.{rules}
 use Rattle.map_derive.proofs.inverse.Statement.{statement}
 use Rattle.map_derive.proofs.inverse.Tie as tie
@@ -17,7 +17,7 @@ enum-known-q : tie.Need-enum-known-q
 enum-known-q c = search rules
 
 returns : tie.Need-returns
-returns c = refusing-map _ _ (inverse-unfolded _ _ _ _ _ ∙ made-refused _ _ _ _ _ _ _ c.before.before.before.validate-list.ensures _ c.before.q.given.1) _ _
+returns c = refusing_map _ _ (inverse_unfolded _ _ _ _ _ ∙ made_refused _ _ _ _ _ _ _ c.before.before.before.validate-list.ensures _ c.before.q.given.1) _ _
 
 enum_told : tie.Need-enum-told
 enum_told c = search rules
@@ -48,12 +48,12 @@ returns-2 c =
     let at-enum-told = at-swap-ends.before.before in
     let at-validate-list = at-enum-told.before.before in
     let its-sym = sym at-validate-list.validate-list.ensures ∙ at-enum-told.enum_told.given.1 in
-    gives-map _ _
-    (inverse-unfolded _ _ _ _ _ ∙ made-passed _ _ _ _ _ _ _ at-validate-list.validate-list.ensures at-enum-told.enum_told.given.1 ∙
-    own-parts _ _ _ _ _ _ _ _
-    (swapped-list _ _ _ _ _ at-swap-ends.swap_ends.ensures (omega (arith, (first-sound _ _ _ _ its-sym).held))
-    (omega (arith, (first-sound _ _ _ _ its-sym).few)))
-    (omega (arith, (first-sound _ _ _ _ its-sym).few)))
+    gives_map _ _
+    (inverse_unfolded _ _ _ _ _ ∙ made_passed _ _ _ _ _ _ _ at-validate-list.validate-list.ensures at-enum-told.enum_told.given.1 ∙
+    own_parts _ _ _ _ _ _ _ _
+    (swapped-list _ _ _ _ _ at-swap-ends.swap_ends.ensures (omega (arith, (first_sound _ _ _ _ its-sym).held))
+    (omega (arith, (first_sound _ _ _ _ its-sym).few)))
+    (omega (arith, (first_sound _ _ _ _ its-sym).few)))
     _ _ _ _ _ at-from-parts.from_parts.ensures
 
 pub inverse-spec : {M : Type 1} → statement M

@@ -1,4 +1,4 @@
-use Rattle.map_derive.proofs.ListBranches.{other-same, other-kept}
+use Rattle.map_derive.proofs.ListBranches.{other_same, other_kept}
 use borrow.Author.Rules.{rules}
 use Rattle.map_derive.proofs.keep_other.Statement.{statement}
 use Rattle.map_derive.proofs.keep_other.Tie as tie
@@ -10,7 +10,7 @@ is-equal-requires : tie.Need-is-equal-requires
 is-equal-requires c κs = search rules
 
 returns : tie.Need-returns
-returns c = other-same _ _ _ _ _ _ _ c.before.before.key-at.ensures _ c.before.is-equal.ensures c.if1.true
+returns c = other_same _ _ _ _ _ _ _ c.before.before.key-at.ensures _ c.before.is-equal.ensures c.if1.true
 
 copy-entry-requires : tie.Need-copy-entry-requires
 copy-entry-requires c κs = search rules
@@ -28,7 +28,7 @@ returns-2 c =
     let at-is-equal = at-if1.before in
     let at-key-at = at-is-equal.before in
     let at-start = at-key-at.before.before.before.before.before in
-    other-kept _ _ _ _ _ _ _ at-key-at.key-at.ensures _ at-is-equal.is-equal.ensures at-if1.if1.false at-start.requires.0 at-start.requires.1
+    other_kept _ _ _ _ _ _ _ at-key-at.key-at.ensures _ at-is-equal.is-equal.ensures at-if1.if1.false at-start.requires.0 at-start.requires.1
     _ at-copy-entry.copy-entry.ensures
 
 pub keep-other-spec : {M : Type 1} → statement M

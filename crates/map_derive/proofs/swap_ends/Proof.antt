@@ -4,14 +4,14 @@ use mathlib.Core.Path.{◌≡◌, refl}
 use Prim.Native.Nat.{◌≤◌, ◌-◌}
 use lib.ListN.{length}
 use Rattle.text.specs.Text.{written}
-use Rattle.map_derive.specs.SwapEnds.{swappedEntries}
+use Rattle.map_derive.specs.SwapEnds.{swapped_entries}
 use Rattle.map_derive.proofs.SwapLaws.{swap-beyond, swap-room, swap-none, swap-on, swap-end}
 use borrow.Author.Rules.{rules}
 use Rattle.map_derive.proofs.swap_ends.Statement.{statement}
 use Rattle.map_derive.proofs.swap_ends.Tie as tie
 
 abbrev invariant-loop : tie.invariant-loop
-invariant-loop places n other₀ i₀ other i = (i ≤ n) × (other ≡ written (swappedEntries places i) other₀) × (length other ≡ length other₀)
+invariant-loop places n other₀ i₀ other i = (i ≤ n) × (other ≡ written (swapped_entries places i) other₀) × (length other ≡ length other₀)
 
 abbrev decreases-loop : tie.decreases-loop
 decreases-loop places n other₀ i₀ other i = n - i

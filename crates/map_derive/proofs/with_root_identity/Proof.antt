@@ -1,7 +1,7 @@
 use mathlib.Core.Path.{sym, ◌∙◌}
-use Rattle.map_function.proofs.NewBranches.{refusing-map, gives-map}
-use Rattle.map_new.proofs.NewBranches.{made-refused, made-passed, held-passed}
-use Rattle.map_derive.proofs.DeriveBranches.{marked-copy, marked-unfolded}
+use Rattle.map_function.proofs.NewBranches.{refusing_map, gives_map}
+use Rattle.map_new.proofs.NewBranches.{made_refused, made_passed, held_passed}
+use Rattle.map_derive.proofs.DeriveBranches.{marked_copy, marked_unfolded}
 use borrow.Author.Rules.{rules}
 use Rattle.map_derive.proofs.with_root_identity.Statement.{statement}
 use Rattle.map_derive.proofs.with_root_identity.Tie as tie
@@ -13,7 +13,7 @@ enum-known-q : tie.Need-enum-known-q
 enum-known-q c = search rules
 
 returns : tie.Need-returns
-returns c = refusing-map _ _ (marked-unfolded _ _ _ _ _ ∙ made-refused _ _ _ _ _ _ _ c.before.before.before.validate-list.ensures _ c.before.q.given.1) _ _
+returns c = refusing_map _ _ (marked_unfolded _ _ _ _ _ ∙ made_refused _ _ _ _ _ _ _ c.before.before.before.validate-list.ensures _ c.before.q.given.1) _ _
 
 enum_told : tie.Need-enum-told
 enum_told c = search rules
@@ -32,9 +32,9 @@ returns-2 c =
     let at-without-dropping = c.before.before.before.before in
     let at-enum-told = at-without-dropping.before.before.before in
     let at-validate-list = at-enum-told.before.before in
-    gives-map _ _
-    (marked-unfolded _ _ _ _ _ ∙ made-passed _ _ _ _ _ _ _ at-validate-list.validate-list.ensures at-enum-told.enum_told.given.1 ∙
-    marked-copy _ _ _ _ _ ∙ sym (held-passed _ _ _ (sym at-validate-list.validate-list.ensures ∙ at-enum-told.enum_told.given.1) _))
+    gives_map _ _
+    (marked_unfolded _ _ _ _ _ ∙ made_passed _ _ _ _ _ _ _ at-validate-list.validate-list.ensures at-enum-told.enum_told.given.1 ∙
+    marked_copy _ _ _ _ _ ∙ sym (held_passed _ _ _ (sym at-validate-list.validate-list.ensures ∙ at-enum-told.enum_told.given.1) _))
     _ _ _ _ _ at-without-dropping.without-dropping.ensures
 
 pub with-root-identity-spec : {M : Type 1} → statement M

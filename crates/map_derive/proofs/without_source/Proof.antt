@@ -3,21 +3,21 @@ use mathlib.Core.Path.{◌≡◌, refl}
 use native.Mathlib.Omega.{arith}
 use Prim.Native.Nat.{◌≤◌, ◌-◌}
 use lib.ListN.{length}
-use Rattle.pair_list.specs.Places.{pairsIn}
-use Rattle.map_spec.specs.Derive.{withoutSource}
-use Rattle.map_derive.proofs.ListBranches.{without-none, without_on, without-room, without_end}
+use Rattle.pair_list.specs.Places.{pairs_in}
+use Rattle.map_spec.specs.Derive.{without_source}
+use Rattle.map_derive.proofs.ListBranches.{without_none, without_on, without_room, without_end}
 use borrow.Author.Rules.{rules}
 use Rattle.map_derive.proofs.without_source.Statement.{statement}
 use Rattle.map_derive.proofs.without_source.Tie as tie
 
 abbrev invariant-loop : tie.invariant-loop
-invariant-loop store places n source kept₀ w₀ i₀ kept w i = (i ≤ n) × (pairsIn store kept w ≡ withoutSource source (pairsIn store places i)) × (length kept ≡ length kept₀)
+invariant-loop store places n source kept₀ w₀ i₀ kept w i = (i ≤ n) × (pairs_in store kept w ≡ without_source source (pairs_in store places i)) × (length kept ≡ length kept₀)
 
 abbrev decreases-loop : tie.decreases-loop
 decreases-loop store places n source kept₀ w₀ i₀ kept w i = n - i
 
 loop-holds : tie.Need-loop-init invariant-loop decreases-loop
-loop-holds c = (search rules, without-none _ _ _ _, refl)
+loop-holds c = (search rules, without_none _ _ _ _, refl)
 
 keep-other-requires : tie.Need-keep-other-requires invariant-loop decreases-loop
 keep-other-requires c κs =
@@ -25,7 +25,7 @@ keep-other-requires c κs =
     let at-loop = at-loop-test.before in
     let at-start = at-loop.before.before.before.before.before in (
       omega (arith, at-loop-test.loop-test.true, at-start.requires.0),
-      without-room _ _ _ _ _ _ _ at-loop-test.loop-test.true (omega (arith, at-start.requires.1, at-loop.loop.invariant.2)) at-loop.loop.invariant.1,
+      without_room _ _ _ _ _ _ _ at-loop-test.loop-test.true (omega (arith, at-start.requires.1, at-loop.loop.invariant.2)) at-loop.loop.invariant.1,
     )
 
 add-i : tie.Need-overflow-add-i invariant-loop decreases-loop

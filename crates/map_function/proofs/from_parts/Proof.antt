@@ -1,17 +1,17 @@
-use Rattle.map_canonical.proofs.KeptLaws.{canonical-read}
-use Rattle.map_function.proofs.NewBranches.{refusing-map, parts-many, parts-beyond, parts-slots, parts-bytes, parts-made}
+use Rattle.map_canonical.proofs.KeptLaws.{canonical_read}
+use Rattle.map_function.proofs.NewBranches.{refusing_map, parts_many, parts_beyond, parts-slots, parts-bytes, parts-made}
 use borrow.Author.Rules.{rules}
 use Rattle.map_function.proofs.from_parts.Statement.{statement}
 use Rattle.map_function.proofs.from_parts.Tie as tie
 
 returns : tie.Need-returns
-returns c = refusing-map _ _ (parts-many _ _ _ _ _ _ _ c.if1.true) _ _
+returns c = refusing_map _ _ (parts_many _ _ _ _ _ _ _ c.if1.true) _ _
 
 returns-2 : tie.Need-returns-2
-returns-2 c = refusing-map _ _ (parts-beyond _ _ _ _ _ _ _ c.if2.true) _ _
+returns-2 c = refusing_map _ _ (parts_beyond _ _ _ _ _ _ _ c.if2.true) _ _
 
 returns-3 : tie.Need-returns-3
-returns-3 c = refusing-map _ _ (parts-slots _ _ _ _ _ _ _ c.before.before.if1.false c.before.if2.false c.if3.true) _ _
+returns-3 c = refusing_map _ _ (parts-slots _ _ _ _ _ _ _ c.before.before.if1.false c.before.if2.false c.if3.true) _ _
 
 list-fits-requires : tie.Need-list-fits-requires
 list-fits-requires c κs = search rules
@@ -22,8 +22,8 @@ returns-4 c =
     let at-if3 = at-list-fits.before in
     let at-if2 = at-if3.before in
     let at-if1 = at-if2.before in
-    refusing-map _ _
-    (parts-bytes _ _ _ _ _ _ _ at-if1.if1.false at-if2.if2.false at-if3.if3.false _ at-list-fits.list-fits.ensures c.if4.true) _ _
+    refusing_map _ _
+    (parts-bytes _ _ _ _ _ _ _ at-if1.if1.false at-if2.if2.false at-if3.if3.false _ at-list-fits.list_fits.ensures c.if4.true) _ _
 
 is-marked-requires : tie.Need-is-marked-requires
 is-marked-requires c κs = search rules
@@ -52,10 +52,10 @@ returns-5 c =
     c.before.before.before.before.before.before.before.before.before.before.before.before.before.before.before.before.if1.false
     c.before.before.before.before.before.before.before.before.before.before.before.before.before.before.before.if2.false
     c.before.before.before.before.before.before.before.before.before.before.before.before.before.before.if3.false _
-    c.before.before.before.before.before.before.before.before.before.before.before.before.before.list-fits.ensures
+    c.before.before.before.before.before.before.before.before.before.before.before.before.before.list_fits.ensures
     c.before.before.before.before.before.before.before.before.before.before.before.before.if4.false _
     c.before.before.before.before.before.before.before.before.before.before.before.is-marked.ensures _ (search rules) _ _
-    (canonical-read _ _ _ _ _ _ _ _ c.before.before.before.before.before.before.before.before.before.canonical-places.ensures) _ _
+    (canonical_read _ _ _ _ _ _ _ _ c.before.before.before.before.before.before.before.before.before.canonical-places.ensures) _ _
     c.before.before.before.before.write-list.ensures.1.0 c.before.before.before.before.write-list.ensures.1.1
 
 pub from_parts_spec : {M : Type 1} → statement M

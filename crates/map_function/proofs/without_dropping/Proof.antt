@@ -1,13 +1,13 @@
-use Rattle.map_function.proofs.NewBranches.{refusing-map, copy-many, copy-beyond, copy-over, copy-made}
+use Rattle.map_function.proofs.NewBranches.{refusing_map, copy_many, copy_beyond, copy-over, copy-made}
 use borrow.Author.Rules.{rules}
 use Rattle.map_function.proofs.without_dropping.Statement.{statement}
 use Rattle.map_function.proofs.without_dropping.Tie as tie
 
 returns : tie.Need-returns
-returns c = refusing-map _ _ (copy-many _ _ _ _ _ _ _ c.if1.true) _ _
+returns c = refusing_map _ _ (copy_many _ _ _ _ _ _ _ c.if1.true) _ _
 
 returns-2 : tie.Need-returns-2
-returns-2 c = refusing-map _ _ (copy-beyond _ _ _ _ _ _ _ c.if2.true) _ _
+returns-2 c = refusing_map _ _ (copy_beyond _ _ _ _ _ _ _ c.if2.true) _ _
 
 write-list-requires : tie.Need-write-list-requires
 write-list-requires c κs = search rules

@@ -1,8 +1,8 @@
 use native.Mathlib.Omega.{arith}
-use Rattle.map_function.specs.MapFunction.{mapOf}
-use Rattle.compose_pairs.proofs.ComposeFitsBranches.{enough-yes}
+use Rattle.map_function.specs.MapFunction.{map_of}
+use Rattle.compose_pairs.proofs.ComposeFitsBranches.{enough_yes}
 use Rattle.compose_pairs.proofs.PackLaws.{into-holds}
-use Rattle.map_implied_class.proofs.ImpliedBranches.{build-other, build-both}
+use Rattle.map_implied_class.proofs.ImpliedBranches.{build_other, build_both}
 use borrow.Author.Rules.{rules}
 use Rattle.map_implied_class.proofs.compose_list.Statement.{statement}
 use Rattle.map_implied_class.proofs.compose_list.Tie as tie
@@ -27,15 +27,15 @@ returns c =
     let at-start = at-path-is-identity.before.before.before.before.before.before.before in
     let args = at-start.args in
     let pre = at-start.requires in
-    build-other args.store.now args.places.now args.outer args.istore.now args.iplaces.now args.inner _ _ _ _ _
+    build_other args.store.now args.places.now args.outer args.istore.now args.iplaces.now args.inner _ _ _ _ _
     at-path-is-identity.path-is-identity.ensures at-if1.if1.true
-    (into-holds (mapOf args.istore.now args.iplaces.now args.inner) (mapOf args.store.now args.places.now args.outer)
+    (into-holds (map_of args.istore.now args.iplaces.now args.inner) (map_of args.store.now args.places.now args.outer)
     args.bytes.now args.own.now
-    (enough-yes args.istore.now args.iplaces.now args.inner.count args.store.now args.places.now args.outer.count
+    (enough_yes args.istore.now args.iplaces.now args.inner.count args.store.now args.places.now args.outer.count
     args.bytes.now args.own.now
     record {
-      outerEnds = pre.innerEnds;
-      innerEnds = pre.outerEnds;
+      outer_ends = pre.inner_ends;
+      inner_ends = pre.outer_ends;
       scratch = record { room = omega (arith, pre.scratch.room); entries = omega (arith, pre.scratch.entries) };
     })
     _ _ _ at-compose-into.compose-into.ensures)
@@ -57,11 +57,11 @@ returns-2 c =
     let at-start = at-path-is-identity.before.before.before.before.before.before.before in
     let args = at-start.args in
     let pre = at-start.requires in
-    build-both args.store.now args.places.now args.outer args.istore.now args.iplaces.now args.inner _ _ _ _ _
+    build_both args.store.now args.places.now args.outer args.istore.now args.iplaces.now args.inner _ _ _ _ _
     at-path-is-identity.path-is-identity.ensures at-if1.if1.false
-    (into-holds (mapOf args.store.now args.places.now args.outer) (mapOf args.istore.now args.iplaces.now args.inner)
+    (into-holds (map_of args.store.now args.places.now args.outer) (map_of args.istore.now args.iplaces.now args.inner)
     args.bytes.now args.own.now
-    (enough-yes args.store.now args.places.now args.outer.count args.istore.now args.iplaces.now args.inner.count
+    (enough_yes args.store.now args.places.now args.outer.count args.istore.now args.iplaces.now args.inner.count
     args.bytes.now args.own.now pre)
     _ _ _ at-compose-into2.compose-into2.ensures)
 

@@ -1,4 +1,4 @@
-use Rattle.map_implied_class.proofs.ImpliedBranches.{identity-first, identity-second}
+use Rattle.map_implied_class.proofs.ImpliedBranches.{identity_first, identity_second}
 use borrow.Author.Rules.{rules}
 use Rattle.map_implied_class.proofs.either_is_identity.Statement.{statement}
 use Rattle.map_implied_class.proofs.either_is_identity.Tie as tie
@@ -7,13 +7,13 @@ path-is-identity-requires : tie.Need-path-is-identity-requires
 path-is-identity-requires c κs = search rules
 
 returns : tie.Need-returns
-returns c = search (rules, identity-first, identity-second)
+returns c = search (rules, identity_first, identity_second)
 
 path-is-identity-requires-2 : tie.Need-path-is-identity-requires-2
 path-is-identity-requires-2 c κs = search rules
 
 returns-2 : tie.Need-returns-2
-returns-2 c = search (rules, identity-first, identity-second)
+returns-2 c = search (rules, identity_first, identity_second)
 
 pub either-is-identity-spec : {M : Type 1} → statement M
 either-is-identity-spec =

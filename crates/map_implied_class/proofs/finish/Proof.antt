@@ -1,5 +1,5 @@
-use Rattle.map_function.proofs.NewBranches.{refusing-map}
-use Rattle.pair_list_write.proofs.PackedLaws.{holds-inside}
+use Rattle.map_function.proofs.NewBranches.{refusing_map}
+use Rattle.pair_list_write.proofs.PackedLaws.{holds_inside}
 use Rattle.map_implied_class.proofs.ImpliedBranches.{finish-many, finish-room, finish-long, finish-fits, finish-made}
 use borrow.Author.Rules.{rules}
 use Rattle.map_implied_class.proofs.finish.Statement.{statement}
@@ -20,7 +20,7 @@ returns c =
     let at-compose-list = c.before.before.before.before.before.before in
     let at-start = at-compose-list.before.before.before.before.before.before.before.before.before.before.before in
     let args = at-start.args in
-    refusing-map _ _
+    refusing_map _ _
     (finish-many args.store.now args.places.now args.transfer args.mid.now args.mids.now args.class args.b.n args.b.at
     args.short args.time args.out.now args.slots.now _ _ _ _ at-compose-list.compose-list.ensures c.if1.true)
     _ _
@@ -41,7 +41,7 @@ returns-2 c =
     let at-compose-list = at-if1.before.before.before.before.before.before in
     let at-start = at-compose-list.before.before.before.before.before.before.before.before.before.before.before in
     let args = at-start.args in
-    refusing-map _ _
+    refusing_map _ _
     (finish-room args.store.now args.places.now args.transfer args.mid.now args.mids.now args.class args.b.n args.b.at
     args.short args.time args.out.now args.slots.now _ _ _ _ at-compose-list.compose-list.ensures at-if1.if1.false _
     at-has-room-beside.has-room-beside.ensures c.if2.true)
@@ -69,7 +69,7 @@ returns-3 c =
     let at-compose-list = at-if1.before.before.before.before.before.before in
     let at-start = at-compose-list.before.before.before.before.before.before.before.before.before.before.before in
     let args = at-start.args in
-    refusing-map _ _
+    refusing_map _ _
     (finish-long args.store.now args.places.now args.transfer args.mid.now args.mids.now args.class args.b.n args.b.at
     args.short args.time args.out.now args.slots.now _ _ _ _ at-compose-list.compose-list.ensures at-if1.if1.false _
     at-has-room-beside.has-room-beside.ensures at-if2.if2.false _ at-all-short.all_short.ensures _ at_both.both.ensures
@@ -86,7 +86,7 @@ finish-composed-requires c κs =
     let at-compose-list = at-if1.before.before.before.before.before.before in
     let at-start = at-compose-list.before.before.before.before.before.before.before.before.before.before.before in
     let args = at-start.args in (
-      (at-if1.if1.false, holds-inside _ _ _ _ _ at-compose-list.compose-list.ensures),
+      (at-if1.if1.false, holds_inside _ _ _ _ _ at-compose-list.compose-list.ensures),
       finish-fits args.store.now args.places.now args.transfer args.mid.now args.mids.now args.class args.b.n args.b.at
           args.short args.time args.out.now args.slots.now _ _ _ _ at-compose-list.compose-list.ensures at-if1.if1.false _
           at-has-room-beside.has-room-beside.ensures at-if2.if2.false _ at-all-short.all_short.ensures _ at_both.both.ensures,

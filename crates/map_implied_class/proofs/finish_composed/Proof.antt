@@ -1,5 +1,5 @@
-use Rattle.pair_list.specs.Places.{pairsIn}
-use Rattle.map_implied_class.proofs.ImpliedBranches.{composed-finished}
+use Rattle.pair_list.specs.Places.{pairs_in}
+use Rattle.map_implied_class.proofs.ImpliedBranches.{composed_finished}
 use borrow.Author.Rules.{rules}
 use Rattle.map_implied_class.proofs.finish_composed.Statement.{statement}
 use Rattle.map_implied_class.proofs.finish_composed.Tie as tie
@@ -26,7 +26,7 @@ returns c =
     let at-either-is-identity = at_both.before in
     let at-start = at-either-is-identity.before.before.before.before.before in
     let args = at-start.args in
-    composed-finished args.outer args.inner (pairsIn args.store.now args.places.now args.n) _ _
+    composed_finished args.outer args.inner (pairs_in args.store.now args.places.now args.n) _ _
     at-either-is-identity.either-is-identity.ensures at_both.both.ensures _ _ _ _ _ at-finish-map.finish-map.ensures
 
 pub finish-composed-spec : {M : Type 1} → statement M

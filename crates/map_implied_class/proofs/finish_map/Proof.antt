@@ -1,5 +1,5 @@
 use lib.Ieee.{of_bits}
-use Rattle.map_implied_class.proofs.ImpliedBranches.{finished-whole, finished-parts, finish-done}
+use Rattle.map_implied_class.proofs.ImpliedBranches.{finished_whole, finished_parts, finish_done}
 use borrow.Author.Rules.{rules}
 use Rattle.map_implied_class.proofs.finish_map.Statement.{statement}
 use Rattle.map_implied_class.proofs.finish_map.Tie as tie
@@ -24,8 +24,8 @@ returns c =
     let at-start = at-if1.before.before.before.before.before in
     let args = at-start.args in
     let pre = at-start.requires in
-    finish-done _ _
-    (finished-whole args.store.now args.places.now args.n args.mark args.out.now args.slots.now pre.0.0 pre.0.1
+    finish_done _ _
+    (finished_whole args.store.now args.places.now args.n args.mark args.out.now args.slots.now pre.0.0 pre.0.1
     pre.1 args.whole at-if1.if1.true)
     _ _ _ _ _ _ at-without-dropping.without-dropping.ensures c.map-of-reply.ensures
 
@@ -49,8 +49,8 @@ returns-2 c =
     let at-start = at-if1.before.before.before.before.before in
     let args = at-start.args in
     let pre = at-start.requires in
-    finish-done _ _
-    (finished-parts args.store.now args.places.now args.n args.mark args.out.now args.slots.now pre.0.0 pre.0.1
+    finish_done _ _
+    (finished_parts args.store.now args.places.now args.n args.mark args.out.now args.slots.now pre.0.0 pre.0.1
     pre.1 args.whole at-if1.if1.false)
     _ _ _ _ _ _ at-from-parts.from_parts.ensures c.map-of-reply2.ensures
 

@@ -1,9 +1,9 @@
 use lib.Ieee.{of_bits}
 use native.Mathlib.Omega.{arith}
-use Rattle.map_function.proofs.NewBranches.{refusing-map, gives-map}
-use Rattle.map_implied_class.specs.Implied.{impliedTime}
-use Rattle.pair_list_write.proofs.PackedLaws.{holds-inside}
-use Rattle.map_implied_class.proofs.ImpliedBranches.{back-composes, implied-many, class-room, part-composes, implied-rest, time-twice}
+use Rattle.map_function.proofs.NewBranches.{refusing_map, gives_map}
+use Rattle.map_implied_class.specs.Implied.{implied_time}
+use Rattle.pair_list_write.proofs.PackedLaws.{holds_inside}
+use Rattle.map_implied_class.proofs.ImpliedBranches.{back_composes, implied-many, class-room, part-composes, implied-rest, time_twice}
 use borrow.Author.Rules.{rules}
 use Rattle.map_implied_class.proofs.implied_in.Statement.{statement}
 use Rattle.map_implied_class.proofs.implied_in.Tie as tie
@@ -37,7 +37,7 @@ compose-list-requires c κs =
     let at-start = at-invert.before.before.before.before.before.before.before.before.before in
     let args = at-start.args in
     let pre = at-start.requires in
-    back-composes args.store.now args.places.now args.transfer args.cstore.now args.cplaces.now args.class pre.0 pre.1 _ _
+    back_composes args.store.now args.places.now args.transfer args.cstore.now args.cplaces.now args.class pre.0 pre.1 _ _
     at-invert.invert.result at-invert.invert.ensures _ _ (omega arith) (omega arith)
 
 returns : tie.Need-returns
@@ -47,10 +47,10 @@ returns c =
     let at-start = at-invert.before.before.before.before.before.before.before.before.before in
     let args = at-start.args in
     let pre = at-start.requires in
-    refusing-map _ _
+    refusing_map _ _
     (implied-many args.store.now args.places.now args.transfer args.cstore.now args.cplaces.now args.class pre.0
     pre.1 _ _ at-invert.invert.result at-invert.invert.ensures _ _ _ _ at-compose-list.compose-list.ensures
-    (impliedTime args.transfer args.class) args.out.now args.slots.now c.if1.true)
+    (implied_time args.transfer args.class) args.out.now args.slots.now c.if1.true)
     _ _
 
 slice-aggregate-all-short : tie.Need-slice-aggregate-all-short
@@ -83,7 +83,7 @@ finish-composed-requires c κs =
     let at-start = at-invert.before.before.before.before.before.before.before.before.before in
     let args = at-start.args in
     let pre = at-start.requires in (
-      (at-if1.if1.false, holds-inside _ _ _ _ _ at-compose-list.compose-list.ensures),
+      (at-if1.if1.false, holds_inside _ _ _ _ _ at-compose-list.compose-list.ensures),
       class-room args.store.now args.places.now args.transfer args.cstore.now args.cplaces.now args.class pre.0
           pre.1 _ _ at-invert.invert.result at-invert.invert.ensures _ _ _ _ at-compose-list.compose-list.ensures
           at-if1.if1.false (omega (arith, slice-aggregate-finish-composed-3 (at_1))) (omega (arith, slice-aggregate-finish-composed-4 c)),
@@ -144,12 +144,12 @@ returns-2 c =
     let at-start = at-invert.before.before.before.before.before.before.before.before.before in
     let args = at-start.args in
     let pre = at-start.requires in
-    gives-map _ _
+    gives_map _ _
     (implied-rest args.store.now args.places.now args.transfer args.cstore.now args.cplaces.now args.class pre.0
     pre.1 _ _ at-invert.invert.result at-invert.invert.ensures _ _ _ _ at-compose-list.compose-list.ensures
     at-if1.if1.false _ _ _ at-finish-composed.finish-composed.ensures _
     at-all-short.all_short.ensures _
-    (time-twice _ _ _ _ at-composed-time.composed-time.ensures at-composed-time2.composed-time2.ensures) args.out.now args.slots.now)
+    (time_twice _ _ _ _ at-composed-time.composed-time.ensures at-composed-time2.composed-time2.ensures) args.out.now args.slots.now)
     _ _ _ _ _ at-finish.finish.ensures
 
 pub implied-in-spec : {M : Type 1} → statement M

@@ -1,6 +1,6 @@
 use native.Mathlib.Omega.{arith}
 use Rattle.map_derive.proofs.SwapLaws.{swapped-list}
-use Rattle.map_implied_class.proofs.ImpliedBranches.{invert-room, inverted}
+use Rattle.map_implied_class.proofs.ImpliedBranches.{invert_room, inverted}
 use borrow.Author.Rules.{rules}
 use Rattle.map_implied_class.proofs.invert.Statement.{statement}
 use Rattle.map_implied_class.proofs.invert.Tie as tie
@@ -21,7 +21,7 @@ finish-map-requires c κs = (
       let at-start = at-swap-ends.before.before.before.before.before.before in
       let args = at-start.args in
       let pre = at-start.requires in
-      invert-room args.store.now args.places.now _ args.n
+      invert_room args.store.now args.places.now _ args.n
       (swapped-list _ _ _ _ _ at-swap-ends.swap_ends.ensures pre.0.1 (omega (arith, pre.0.0))) _ _ pre.0.0 pre.1.0 pre.1.1.0
       pre.1.1.1),
 )

@@ -1,18 +1,18 @@
 -- The loop. The best so far is the longest match among the first i keys.
-use Rattle.map_lookup.proofs.LookupBranches.{searching, matchKept, held-there, least-left, least-right, kept-none, kept-short, kept_on}
+use Rattle.map_lookup.proofs.LookupBranches.{searching, match_kept, held_there, least_left, least_right, kept_none, kept_short, kept_on}
 use borrow.Author.Rules.{rules}
 use mathlib.Core.Path.{◌≡◌}
 use Prim.Native.Nat.{◌+◌, ◌*◌, ◌≤◌, ◌-◌}
 use lib.ListN.{length}
 use Rattle.pair_list.specs.Places.{key_at}
-use Rattle.pair_list.specs.LongestMatch.{longestMatch}
+use Rattle.pair_list.specs.LongestMatch.{longest_match}
 use Rattle.map_lookup.proofs.best_prefix.Statement.{statement}
 use Rattle.map_lookup.proofs.best_prefix.Tie as tie
 
 abbrev invariant-loop : tie.invariant-loop
 invariant-loop store places n invert path present offset limit f₀ i₀ f i =
     (i ≤ present) × (4 * present + offset ≤ length places + 2) × (limit ≤ length store) × (limit ≤ length path)
-    × (f ≡ matchKept (key_at store places invert) (longestMatch path (key_at store places invert) i))
+    × (f ≡ match_kept (key_at store places invert) (longest_match path (key_at store places invert) i))
 
 abbrev decreases-loop : tie.decreases-loop
 decreases-loop store places n invert path present offset limit f₀ i₀ f i = present - i
@@ -29,10 +29,10 @@ min-requires c κs = search rules
 loop-holds : tie.Need-loop-init invariant-loop decreases-loop
 loop-holds c = (
   search rules,
-  held-there _ _ _ _ _ c.before.before.key-count.ensures c.before.key-offset.ensures,
-  least-left _ _ _ c.min.ensures,
-  least-right _ _ _ c.min.ensures,
-  kept-none _ _,
+  held_there _ _ _ _ _ c.before.before.key-count.ensures c.before.key-offset.ensures,
+  least_left _ _ _ c.min.ensures,
+  least_right _ _ _ c.min.ensures,
+  kept_none _ _,
 )
 
 mul-j : tie.Need-overflow-mul-j invariant-loop decreases-loop
@@ -58,7 +58,7 @@ shared-slice-read-consider-2 c = search (rules, searching)
 
 consider-requires : tie.Need-consider-requires invariant-loop decreases-loop
 consider-requires c κs =
-    let l = c.before.before.before.loop in (l.invariant.2, (l.invariant.3, (search rules, kept-short _ _ _ _ l.invariant.4)))
+    let l = c.before.before.before.loop in (l.invariant.2, (l.invariant.3, (search rules, kept_short _ _ _ _ l.invariant.4)))
 
 add-i : tie.Need-overflow-add-i invariant-loop decreases-loop
 add-i c = search (rules, searching)

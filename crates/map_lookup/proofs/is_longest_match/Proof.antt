@@ -3,8 +3,8 @@ use borrow.Author.Rules.{rules}
 use Prim.Native.Nat.{◌+◌, ◌*◌, ◌≤◌, ◌-◌}
 use lib.ListN.{length}
 use Rattle.pair_list.specs.Places.{key_at}
-use Rattle.map_lookup.proofs.LookupBranches.{held-there, least-left, least-right, key-is}
-use Rattle.map_lookup.proofs.OtherWinsBranches.{Unrivalled, unbeaten-none, unbeaten-on, best-after, best-unserved, best-lost, best-found}
+use Rattle.map_lookup.proofs.LookupBranches.{held_there, least_left, least_right, key_is}
+use Rattle.map_lookup.proofs.OtherWinsBranches.{Unrivalled, unbeaten_none, unbeaten_on, best_after, best-unserved, best_lost, best_found}
 use Rattle.map_lookup.proofs.is_longest_match.Statement.{statement}
 use Rattle.map_lookup.proofs.is_longest_match.Tie as tie
 
@@ -15,7 +15,7 @@ abbrev decreases-loop : tie.decreases-loop
 decreases-loop store places n invert path i key present offset limit k₀ k = present - k
 
 returns : tie.Need-returns invariant-loop decreases-loop
-returns c = best-after _ _ _ _ c.if1.true
+returns c = best_after _ _ _ _ c.if1.true
 
 key-at-requires : tie.Need-key-at-requires invariant-loop decreases-loop
 key-at-requires c κs = search rules
@@ -36,7 +36,7 @@ min-requires : tie.Need-min-requires invariant-loop decreases-loop
 min-requires c κs = search rules
 
 loop-holds : tie.Need-loop-init invariant-loop decreases-loop
-loop-holds c = (search rules, held-there _ _ _ _ _ c.before.before.key-count.ensures c.before.key-offset.ensures, least-left _ _ _ c.min.ensures, least-right _ _ _ c.min.ensures, unbeaten-none _ _ _)
+loop-holds c = (search rules, held_there _ _ _ _ _ c.before.before.key-count.ensures c.before.key-offset.ensures, least_left _ _ _ c.min.ensures, least_right _ _ _ c.min.ensures, unbeaten_none _ _ _)
 
 mul-j : tie.Need-overflow-mul-j invariant-loop decreases-loop
 mul-j c = search rules
@@ -64,7 +64,7 @@ other-wins-requires c κs = search rules
 
 returns-3 : tie.Need-returns-3 invariant-loop decreases-loop
 returns-3 c =
-    best-lost _
+    best_lost _
     c.before.before.before.before.before.before.before.before.before.before.before.before.before.before.before.before.args.store.now
     c.before.before.before.before.before.before.before.before.before.before.before.before.before.before.before.before.args.places.now
     _
@@ -87,8 +87,8 @@ loop-again c =
       l.invariant.1,
       l.invariant.2,
       l.invariant.3,
-      unbeaten-on _ _ _ _ _ _ _
-          (key-is
+      unbeaten_on _ _ _ _ _ _ _
+          (key_is
           c.before.before.before.before.before.before.before.before.before.before.before.before.before.before.before.before.args.store.now
           c.before.before.before.before.before.before.before.before.before.before.before.before.before.before.before.before.args.places.now
           c.before.before.before.before.before.before.before.before.before.before.before.before.before.before.before.before.args.invert
@@ -107,7 +107,7 @@ returns-4 c =
     let at-if1 = at-key-at.before in
     let at-start = at-if1.before.before.before.before in
     let args = at-start.args in
-    best-found _ args.store.now args.places.now _ args.invert _ _ _ at-key-at.key-at.ensures at-matches.matches.ensures _
+    best_found _ args.store.now args.places.now _ args.invert _ _ _ at-key-at.key-at.ensures at-matches.matches.ensures _
     at-key-count.key-count.ensures _ at-if1.if1.false at-if2.if2.false c.loop-test.false at-loop.loop.invariant.0 at-loop.loop.invariant.4
 
 pub is-longest-match-spec : {M : Type 1} → statement M

@@ -1,9 +1,9 @@
 use mathlib.Core.Path.{sym, ◌∙◌}
 use native.Mathlib.Omega.{arith}
 use lib.Ieee.{of_bits}
-use Rattle.validate.proofs.PassedLaws.{text-short, second_short}
-use Rattle.map_function.proofs.NewBranches.{refusing-map, gives-map}
-use Rattle.map_new.proofs.NewBranches.{made-refused, made-passed, own-copy, pair-unfolded}
+use Rattle.validate.proofs.PassedLaws.{text_short, second_short}
+use Rattle.map_function.proofs.NewBranches.{refusing_map, gives_map}
+use Rattle.map_new.proofs.NewBranches.{made_refused, made_passed, own_copy, pair_unfolded}
 use borrow.Author.Rules.{rules}
 use Rattle.map_new.proofs.from_pair.Statement.{statement}
 use Rattle.map_new.proofs.from_pair.Tie as tie
@@ -15,7 +15,7 @@ enum-known-q : tie.Need-enum-known-q
 enum-known-q c = search rules
 
 returns : tie.Need-returns
-returns c = refusing-map _ _ (pair-unfolded _ _ _ _ ∙ made-refused _ _ _ _ _ _ _ c.before.before.before.validate-ends.ensures _ c.before.q.given.1) _ _
+returns c = refusing_map _ _ (pair_unfolded _ _ _ _ ∙ made_refused _ _ _ _ _ _ _ c.before.before.before.validate-ends.ensures _ c.before.q.given.1) _ _
 
 enum_told : tie.Need-enum-told
 enum_told c = search rules
@@ -31,7 +31,7 @@ store-pair-requires c κs =
     let at-enum-told = c.before.before in
     let at-validate-ends = at-enum-told.before.before in
     let its-sym = sym at-validate-ends.validate-ends.ensures ∙ at-enum-told.enum_told.given.1 in
-    (omega (arith, text-short _ _ _ _ its-sym, second_short _ _ _ _ _ its-sym), omega arith)
+    (omega (arith, text_short _ _ _ _ its-sym, second_short _ _ _ _ _ its-sym), omega arith)
 
 slice-aggregate-without-dropping : tie.Need-slice-aggregate-without-dropping
 slice-aggregate-without-dropping c = search rules
@@ -55,8 +55,8 @@ returns-2 c =
     let at-store-pair = at-without-dropping.before.before.before.before.before.before.before in
     let at-enum-told = at-store-pair.before.before.before in
     let at-validate-ends = at-enum-told.before.before in
-    gives-map _ _
-    (pair-unfolded _ _ _ _ ∙ made-passed _ _ _ _ _ _ _ at-validate-ends.validate-ends.ensures at-enum-told.enum_told.given.1 ∙ own-copy _ _
+    gives_map _ _
+    (pair_unfolded _ _ _ _ ∙ made_passed _ _ _ _ _ _ _ at-validate-ends.validate-ends.ensures at-enum-told.enum_told.given.1 ∙ own_copy _ _
     _ _ _ _ _ _ at-store-pair.store_pair.ensures (omega arith))
     _ _ _ _ _ at-without-dropping.without-dropping.ensures
 

@@ -1,5 +1,5 @@
 -- The pair fits, so that it is pushed.
-use Rattle.map_new.proofs.PairBranches.{pair-stored}
+use Rattle.map_new.proofs.PairBranches.{pair_stored}
 use borrow.Author.Rules.{rules}
 use Rattle.map_new.proofs.store_pair.Statement.{statement}
 use Rattle.map_new.proofs.store_pair.Tie as tie
@@ -17,7 +17,7 @@ returns : tie.Need-returns
 returns c =
     let at-push-pair = c.before.before.before.before in
     let at-start = at-push-pair.before.before.before.before.before.before.before in
-    pair-stored _ _ _ _ at-start.requires.0 at-start.requires.1 _ _ _ at-push-pair.push-pair.ensures
+    pair_stored _ _ _ _ at-start.requires.0 at-start.requires.1 _ _ _ at-push-pair.push-pair.ensures
 
 pub store-pair-spec : {M : Type 1} → statement M
 store-pair-spec =

@@ -1,6 +1,6 @@
 -- The loop. None of the first i targets is at or below `from`.
-use Rattle.map_spec.specs.Derive.{anyTargetBelow}
-use Rattle.pair_list.specs.Places.{pairsIn}
+use Rattle.map_spec.specs.Derive.{any_target_below}
+use Rattle.pair_list.specs.Places.{pairs_in}
 use Prim.Native.Nat.{◌≤◌, ◌-◌}
 use mathlib.Core.Bool.{false}
 use mathlib.Core.Path.{◌≡◌}
@@ -10,7 +10,7 @@ use Rattle.map_rebase.proofs.any_target.Statement.{statement}
 use Rattle.map_rebase.proofs.any_target.Tie as tie
 
 abbrev invariant-loop : tie.invariant-loop
-invariant-loop store places n from i₀ i = (i ≤ n) × (anyTargetBelow from (pairsIn store places i) ≡ false)
+invariant-loop store places n from i₀ i = (i ≤ n) × (any_target_below from (pairs_in store places i) ≡ false)
 
 abbrev decreases-loop : tie.decreases-loop
 decreases-loop store places n from i₀ i = n - i

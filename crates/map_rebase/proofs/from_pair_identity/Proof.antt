@@ -1,10 +1,10 @@
 use Rattle.pair_list_write.proofs.PushBranches.{pair-there}
 use native.Mathlib.Omega.{arith}
-use Rattle.map_rebase.proofs.CallBranches.{one-pair}
+use Rattle.map_rebase.proofs.CallBranches.{one_pair}
 use borrow.Author.Rules.{rules}
 use Rattle.map_rebase.proofs.from_pair_identity.Statement.{statement}
 use Rattle.map_rebase.proofs.from_pair_identity.Tie as tie
-use Rattle.map_function.proofs.NewBranches.{gives-map}
+use Rattle.map_function.proofs.NewBranches.{gives_map}
 
 slice-aggregate-push-pair : tie.Need-slice-aggregate-push-pair
 slice-aggregate-push-pair c = search rules
@@ -37,8 +37,8 @@ returns c =
     let at-start = at-push-pair.before.before.before.before.before.before.before in
     let args = at-start.args in
     let pre = at-start.requires in
-    gives-map _ _
-    (one-pair args.s.now args.t.now args.time args.out.now args.slots.now _ _ _ _ _
+    gives_map _ _
+    (one_pair args.s.now args.t.now args.time args.out.now args.slots.now _ _ _ _ _
     (pair-there _ _ _ _ _ _ (omega (arith, pre.0, pre.1)) (omega arith) _ _ _ at-push-pair.push-pair.ensures))
     _ _ _ _ _ at-from-parts.from_parts.ensures
 

@@ -1,22 +1,22 @@
 -- The loop. After i pairs the buffer holds their rebased form; each takes at most 766 bytes.
-use Rattle.map_rebase.specs.Calls.{rebasedPairs}
+use Rattle.map_rebase.specs.Calls.{rebased_pairs}
 use Rattle.pair_list_write.specs.Packed.{HoldsList}
-use Rattle.map_spec.specs.Derive.{rebasedPair}
-use Rattle.pair_list.specs.Places.{pairsIn}
+use Rattle.map_spec.specs.Derive.{rebased_pair}
+use Rattle.pair_list.specs.Places.{pairs_in}
 use Rattle.pair_list.specs.Pair.{Pair}
 use native.Mathlib.Omega.{arith}
 use Prim.Native.Nat.{◌*◌, ◌≤◌, ◌-◌}
 use lib.ListN.{length}
 use mathlib.Core.Path.{◌≡◌, refl}
 use borrow.Author.Rules.{rules}
-use Rattle.pair_buffer.proofs.LengthLaws.{short-source, short-target}
-use Rattle.pair_buffer.proofs.PairBufferLaws.{build-begin, build-next, build-end}
-use Rattle.map_rebase.proofs.RebaseBranches.{rebased-pair}
+use Rattle.pair_buffer.proofs.LengthLaws.{short_source, short_target}
+use Rattle.pair_buffer.proofs.PairBufferLaws.{build_begin, build_next, build_end}
+use Rattle.map_rebase.proofs.RebaseBranches.{rebased_pair_lem}
 use Rattle.map_rebase.proofs.rebase_all.Statement.{statement}
 use Rattle.map_rebase.proofs.rebase_all.Tie as tie
 
 abbrev invariant-loop : tie.invariant-loop
-invariant-loop store places n from to bytes₀ slots₀ at₀ i₀ bytes slots at i = (i ≤ n) × (at ≤ 766 * i) × HoldsList (rebasedPairs from to (pairsIn store places i)) i at bytes slots × (length bytes ≡ length bytes₀) × (length slots ≡ length slots₀)
+invariant-loop store places n from to bytes₀ slots₀ at₀ i₀ bytes slots at i = (i ≤ n) × (at ≤ 766 * i) × HoldsList (rebased_pairs from to (pairs_in store places i)) i at bytes slots × (length bytes ≡ length bytes₀) × (length slots ≡ length slots₀)
 
 abbrev decreases-loop : tie.decreases-loop
 decreases-loop store places n from to bytes₀ slots₀ at₀ i₀ bytes slots at i = n - i
@@ -27,7 +27,7 @@ loop-holds c = (
   search rules,
   (let at-start = c.before.before.before.before.before.before in
       let args = at-start.args in
-      build-begin (λ (x : Pair). rebasedPair args.from.now args.to.now x) args.store.now args.places.now _ _),
+      build_begin (λ (x : Pair). rebased_pair args.from.now args.to.now x) args.store.now args.places.now _ _),
   refl,
   refl,
 )
@@ -47,10 +47,10 @@ rebase-pair-requires c κs =
     let at-start = at-loop.before.before.before.before.before.before.before in
     let args = at-start.args in
     let pre = at-start.requires in (
-      short-source args.store.now args.places.now args.n at-loop.loop.i at-loop-test.loop-test.true pre.0 _
+      short_source args.store.now args.places.now args.n at-loop.loop.i at-loop-test.loop-test.true pre.0 _
           at-key-at.key-at.ensures,
       (
-        short-target args.store.now args.places.now args.n at-loop.loop.i at-loop-test.loop-test.true pre.0 _
+        short_target args.store.now args.places.now args.n at-loop.loop.i at-loop-test.loop-test.true pre.0 _
             at-key-at2.key-at2.ensures,
         (
           pre.1.0,
@@ -80,9 +80,9 @@ loop-again c = (
       let at-loop = at-key-at.before.before in
       let at-start = at-loop.before.before.before.before.before.before.before in
       let args = at-start.args in
-      build-next (λ (x : Pair). rebasedPair args.from.now args.to.now x) args.store.now args.places.now at-loop.loop.i
+      build_next (λ (x : Pair). rebased_pair args.from.now args.to.now x) args.store.now args.places.now at-loop.loop.i
       at-loop.loop.at _ _ at-loop.loop.invariant.2 _
-      (rebased-pair args.store.now args.places.now at-loop.loop.i args.from.now args.to.now _ _ at-key-at.key-at.ensures
+      (rebased_pair_lem args.store.now args.places.now at-loop.loop.i args.from.now args.to.now _ _ at-key-at.key-at.ensures
       at-key-at2.key-at2.ensures)
       _ _ _ at-rebase-pair.rebase-pair.ensures.0),
   search rules,
@@ -100,7 +100,7 @@ returns c =
     let at-loop = c.before in
     let at-start = at-loop.before.before.before.before.before.before.before in
     let args = at-start.args in
-    build-end (λ (x : Pair). rebasedPair args.from.now args.to.now x) args.store.now args.places.now args.n at-loop.loop.i _ _
+    build_end (λ (x : Pair). rebased_pair args.from.now args.to.now x) args.store.now args.places.now args.n at-loop.loop.i _ _
     _ c.loop-test.false at-loop.loop.invariant.0 at-loop.loop.invariant.2
 
 pub rebase-all-spec : {M : Type 1} → statement M

@@ -1,8 +1,8 @@
-use Rattle.pair_buffer.proofs.MapLaws.{built-ends}
+use Rattle.pair_buffer.proofs.MapLaws.{built_ends}
 use borrow.Author.Rules.{rules}
 use Rattle.map_rebase.proofs.rebase_in.Statement.{statement}
 use Rattle.map_rebase.proofs.rebase_in.Tie as tie
-use Rattle.map_function.proofs.NewBranches.{gives-map}
+use Rattle.map_function.proofs.NewBranches.{gives_map}
 
 rebase-all-requires : tie.Need-rebase-all-requires
 rebase-all-requires c κs =
@@ -28,7 +28,7 @@ returns : tie.Need-returns
 returns c =
     let at-from-ends = c.before.before.before.before in
     let at-rebase-all = at-from-ends.before.before.before.before.before.before.before.before.before in
-    gives-map _ _ (built-ends _ _ _ _ _ at-rebase-all.rebase-all.ensures _ _ _ _) _ _ _ _ _ at-from-ends.from-ends.ensures
+    gives_map _ _ (built_ends _ _ _ _ _ at-rebase-all.rebase-all.ensures _ _ _ _) _ _ _ _ _ at-from-ends.from_ends_lem.ensures
 
 pub rebase-in-spec : {M : Type 1} → statement M
 rebase-in-spec =

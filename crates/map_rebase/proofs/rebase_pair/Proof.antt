@@ -1,8 +1,8 @@
 use Rattle.pair_list_write.proofs.PushBranches.{pair-there}
 use native.Mathlib.Omega.{arith}
-use Rattle.pair_buffer.specs.Ends.{replacedOrSame}
-use Rattle.pair_buffer.proofs.LengthLaws.{placed-back, replaced-short, part-within, part-is}
-use Rattle.map_rebase.proofs.RebaseBranches.{part_room, part-done}
+use Rattle.pair_buffer.specs.Ends.{replaced_or_same}
+use Rattle.pair_buffer.proofs.LengthLaws.{placed_back, replaced_short, part_within, part_is}
+use Rattle.map_rebase.proofs.RebaseBranches.{part_room, part_done}
 use borrow.Author.Rules.{rules}
 use Rattle.map_rebase.proofs.rebase_pair.Statement.{statement}
 use Rattle.map_rebase.proofs.rebase_pair.Tie as tie
@@ -19,11 +19,11 @@ array-share-prefix-made c =
     let at-start = at-replace-into.before.before.before.before.before.before.before.before in
     let args = at-start.args in
     let pre = at-start.requires in
-    let its-replaced-short = replaced-short args.t.now args.from.now args.to.now pre.1.0 pre.1.1.0 in
+    let its-replaced-short = replaced_short args.t.now args.from.now args.to.now pre.1.0 pre.1.1.0 in
     omega (
       arith,
-      part-within (replacedOrSame args.t.now args.from.now args.to.now) _
-          (placed-back _ _ _ _ at-replace-into.replace-into.ensures its-replaced-short).0 511 its-replaced-short,
+      part_within (replaced_or_same args.t.now args.from.now args.to.now) _
+          (placed_back _ _ _ _ at-replace-into.replace-into.ensures its-replaced-short).0 511 its-replaced-short,
     )
 
 slice-aggregate-push-pair : tie.Need-slice-aggregate-push-pair
@@ -32,10 +32,10 @@ slice-aggregate-push-pair c =
     let at-start = at-replace-into.before.before.before.before.before.before.before.before in
     let args = at-start.args in
     let pre = at-start.requires in
-    let its-replaced-short = replaced-short args.t.now args.from.now args.to.now pre.1.0 pre.1.1.0 in
-    part-is (replacedOrSame args.t.now args.from.now args.to.now) _
-    (placed-back _ _ _ _ at-replace-into.replace-into.ensures its-replaced-short).0 _
-    (placed-back _ _ _ _ at-replace-into.replace-into.ensures its-replaced-short).1
+    let its-replaced-short = replaced_short args.t.now args.from.now args.to.now pre.1.0 pre.1.1.0 in
+    part_is (replaced_or_same args.t.now args.from.now args.to.now) _
+    (placed_back _ _ _ _ at-replace-into.replace-into.ensures its-replaced-short).0 _
+    (placed_back _ _ _ _ at-replace-into.replace-into.ensures its-replaced-short).1
 
 push-pair-requires : tie.Need-push-pair-requires
 push-pair-requires c κs = search rules
@@ -53,14 +53,14 @@ returns c =
     let at-start = at-replace-into.before.before.before.before.before.before.before.before in
     let args = at-start.args in
     let pre = at-start.requires in
-    let its-replaced-short = replaced-short args.t.now args.from.now args.to.now pre.1.0 pre.1.1.0 in
-    let its-replacedOrSame = replacedOrSame args.t.now args.from.now args.to.now in
-    part-done its-replacedOrSame _ _ (placed-back _ _ _ _ at-replace-into.replace-into.ensures its-replaced-short).0
-    (placed-back _ _ _ _ at-replace-into.replace-into.ensures its-replaced-short).1 its-replaced-short args.s.now pre.0 args.at
+    let its-replaced-short = replaced_short args.t.now args.from.now args.to.now pre.1.0 pre.1.1.0 in
+    let its-replacedOrSame = replaced_or_same args.t.now args.from.now args.to.now in
+    part_done its-replacedOrSame _ _ (placed_back _ _ _ _ at-replace-into.replace-into.ensures its-replaced-short).0
+    (placed_back _ _ _ _ at-replace-into.replace-into.ensures its-replaced-short).1 its-replaced-short args.s.now pre.0 args.at
     args.n _ args.bytes.now _ args.slots.now _
     (pair-there _ _ _ _ _ _
-    (part_room its-replacedOrSame _ _ (placed-back _ _ _ _ at-replace-into.replace-into.ensures its-replaced-short).0
-    (placed-back _ _ _ _ at-replace-into.replace-into.ensures its-replaced-short).1 its-replaced-short args.s.now pre.0 args.at _
+    (part_room its-replacedOrSame _ _ (placed_back _ _ _ _ at-replace-into.replace-into.ensures its-replaced-short).0
+    (placed_back _ _ _ _ at-replace-into.replace-into.ensures its-replaced-short).1 its-replaced-short args.s.now pre.0 args.at _
     pre.1.1.1.0)
     pre.1.1.1.1 _ _ _ at-push-pair.push-pair.ensures)
 

@@ -1,5 +1,5 @@
-use Rattle.map_function.proofs.NewBranches.{refusing-map, gives-map}
-use Rattle.map_rebase.proofs.CallBranches.{rebase-refused, sound, rebase-from, rebase-to, rebase-identity, rebase-same, rebase-made}
+use Rattle.map_function.proofs.NewBranches.{refusing_map, gives_map}
+use Rattle.map_rebase.proofs.CallBranches.{rebase_refused, sound, rebase-from, rebase-to, rebase-identity, rebase-same, rebase-made}
 use borrow.Author.Rules.{rules}
 use Rattle.map_rebase.proofs.rebase_target.Statement.{statement}
 use Rattle.map_rebase.proofs.rebase_target.Tie as tie
@@ -16,8 +16,8 @@ returns c =
     let at-validate-call = at-q.before.before in
     let at-start = at-validate-call.before.before.before.before.before.before.before in
     let args = at-start.args in
-    refusing-map _ _
-    (rebase-refused args.store.now args.places.now args.map args.from.now args.to.now args.out.now args.slots.now _
+    refusing_map _ _
+    (rebase_refused args.store.now args.places.now args.map args.from.now args.to.now args.out.now args.slots.now _
     at-validate-call.validate-call.ensures _ at-q.q.given.1)
     _ _
 
@@ -54,7 +54,7 @@ returns-2 c =
     let at-validate-call = at-enum-told.before.before in
     let at-start = at-validate-call.before.before.before.before.before.before.before in
     let args = at-start.args in
-    gives-map _ _
+    gives_map _ _
     (rebase-identity args.store.now args.places.now args.map args.from.now args.to.now args.out.now args.slots.now _
     at-validate-call.validate-call.ensures at-enum-told.enum_told.given.1 _ at_both.both.ensures at-if1.if1.true)
     _ _ _ _ _ at-from-pair-identity.from-pair-identity.ensures
@@ -82,7 +82,7 @@ returns-3 c =
     let at-validate-call = at-enum-told.before.before in
     let at-start = at-validate-call.before.before.before.before.before.before.before in
     let args = at-start.args in
-    gives-map _ _
+    gives_map _ _
     (rebase-same args.store.now args.places.now args.map args.from.now args.to.now args.out.now args.slots.now _
     at-validate-call.validate-call.ensures at-enum-told.enum_told.given.1 _ at_both.both.ensures at-if1.if1.false _
     at-any-target.any_Target.ensures at-if2.if2.true)
@@ -117,7 +117,7 @@ returns-4 c =
     let at-validate-call = at-enum-told.before.before in
     let at-start = at-validate-call.before.before.before.before.before.before.before in
     let args = at-start.args in
-    gives-map _ _
+    gives_map _ _
     (rebase-made args.store.now args.places.now args.map args.from.now args.to.now args.out.now args.slots.now _
     at-validate-call.validate-call.ensures at-enum-told.enum_told.given.1 _ at_both.both.ensures at-if1.if1.false _
     at-any-target.any_Target.ensures at-if2.if2.false)

@@ -1,6 +1,6 @@
 use mathlib.Core.Path.{refl}
-use Rattle.path_rest.proofs.CarriedLaws.{same-carried}
-use Rattle.mapping.proofs.DirectionLaws.{call-is-after}
+use Rattle.path_rest.proofs.CarriedLaws.{same_carried}
+use Rattle.mapping.proofs.DirectionLaws.{call_is_after}
 use borrow.Author.Rules.{rules}
 use Rattle.mapping.proofs.call.Statement.{statement}
 use Rattle.mapping.proofs.call.Tie as tie
@@ -19,7 +19,7 @@ same_length c = search rules
 
 returns : tie.Need-returns
 returns c =
-    same-carried _ _ _ _ (call-is-after _ _ _ _ _ _ _ c.before.before.before.before.validate-list-and-path.ensures) refl _ _ _
+    same_carried _ _ _ _ (call_is_after _ _ _ _ _ _ _ c.before.before.before.before.validate-list-and-path.ensures) refl _ _ _
     c.before.before.map-after-list-carried.ensures
 
 pub call-spec : {M : Type 1} → statement M

@@ -1,4 +1,4 @@
-use Rattle.mapping.proofs.CopyOutBranches.{copy-part, copy_written}
+use Rattle.mapping.proofs.CopyOutBranches.{copy_part, copy_written}
 use borrow.Author.Rules.{rules}
 use Rattle.mapping.proofs.copy_out.Statement.{statement}
 use Rattle.mapping.proofs.copy_out.Tie as tie
@@ -16,7 +16,7 @@ slice-aggregate-write-at : tie.Need-slice-aggregate-write-at
 slice-aggregate-write-at c =
     let at-r = c.before.before.before in
     let at-start = at-r.before.before.before in
-    copy-part _ _ at-start.requires _ at-r.r.given.1
+    copy_part _ _ at-start.requires _ at-r.r.given.1
 
 write-at-requires : tie.Need-write-at-requires
 write-at-requires c κs = search rules

@@ -1,4 +1,4 @@
-use Rattle.path_rest.proofs.CarriedLaws.{without-rest}
+use Rattle.path_rest.proofs.CarriedLaws.{without_rest}
 use borrow.Author.Rules.{rules}
 use Rattle.mapping.proofs.map_after_list.Statement.{statement}
 use Rattle.mapping.proofs.map_after_list.Tie as tie
@@ -13,7 +13,7 @@ same_length : tie.Need-same-length
 same_length c = search rules
 
 returns : tie.Need-returns
-returns c = without-rest _ _ _ _ _ _ c.reply-of.ensures c.before.before.before.map-after-list-carried.ensures
+returns c = without_rest _ _ _ _ _ _ c.reply-of.ensures c.before.before.before.map-after-list-carried.ensures
 
 pub map-after-list-spec : {M : Type 1} → statement M
 map-after-list-spec =

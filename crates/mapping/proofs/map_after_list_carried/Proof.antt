@@ -1,6 +1,6 @@
 use mathlib.Core.Path.{refl}
-use Rattle.path_rest.proofs.CarriedLaws.{refusing-carried, same-carried}
-use Rattle.mapping.proofs.DirectionLaws.{after-refused, after-short, after-passed, after-length}
+use Rattle.path_rest.proofs.CarriedLaws.{refusing_carried, same_carried}
+use Rattle.mapping.proofs.DirectionLaws.{after_refused, after_short, after_passed, after_length}
 use borrow.Author.Rules.{rules}
 use Rattle.mapping.proofs.map_after_list_carried.Statement.{statement}
 use Rattle.mapping.proofs.map_after_list_carried.Tie as tie
@@ -18,8 +18,8 @@ returns : tie.Need-returns
 returns c =
     let at-q = c.before in
     let at-first-refusal = at-q.before.before in
-    refusing-carried _ _ _
-    (after-refused _ _ _ _ _ _ _ _ _ at-first-refusal.before.new.ensures at-first-refusal.first-refusal.ensures _ at-q.q.given.1) _
+    refusing_carried _ _ _
+    (after_refused _ _ _ _ _ _ _ _ _ at-first-refusal.before.new.ensures at-first-refusal.first-refusal.ensures _ at-q.q.given.1) _
 
 enum_told : tie.Need-enum-told
 enum_told c = search rules
@@ -28,8 +28,8 @@ returns-2 : tie.Need-returns-2
 returns-2 c =
     let at-enum-told = c.before in
     let at-first-refusal = at-enum-told.before.before in
-    refusing-carried _ _ _
-    (after-short _ _ _ _ _ _ _ _ _ at-first-refusal.before.new.ensures at-first-refusal.first-refusal.ensures
+    refusing_carried _ _ _
+    (after_short _ _ _ _ _ _ _ _ _ at-first-refusal.before.new.ensures at-first-refusal.first-refusal.ensures
     at-enum-told.enum_told.given.1 c.if1.true)
     _
 
@@ -39,7 +39,7 @@ map-in-direction-requires c κs =
     let at-enum-told = at-if1.before in
     let at-first-refusal = at-enum-told.before.before in
     let at_new = at-first-refusal.before in
-    (after-length _ _ _ _ at_new.new.ensures at-first-refusal.first-refusal.ensures at-enum-told.enum_told.given.1, at-if1.if1.false)
+    (after_length _ _ _ _ at_new.new.ensures at-first-refusal.first-refusal.ensures at-enum-told.enum_told.given.1, at-if1.if1.false)
 
 same_length : tie.Need-same-length
 same_length c = search rules
@@ -51,8 +51,8 @@ returns-3 c =
     let at-enum-told = at-if1.before in
     let at-first-refusal = at-enum-told.before.before in
     let at_new = at-first-refusal.before in
-    same-carried _ _ _ _
-    (after-passed _ _ _ _ _ _ _ _ _ at_new.new.ensures at-first-refusal.first-refusal.ensures at-enum-told.enum_told.given.1
+    same_carried _ _ _ _
+    (after_passed _ _ _ _ _ _ _ _ _ at_new.new.ensures at-first-refusal.first-refusal.ensures at-enum-told.enum_told.given.1
     at-if1.if1.false)
     refl _ _ _ at-map-in-direction.map-in-direction.ensures
 

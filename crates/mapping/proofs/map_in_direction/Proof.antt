@@ -1,5 +1,5 @@
-use Rattle.path_rest.proofs.CarriedLaws.{same-carried}
-use Rattle.mapping.proofs.DirectionLaws.{direction-out, direction-home, direction-translated, rest_out, rest-home, rest-translated}
+use Rattle.path_rest.proofs.CarriedLaws.{same_carried}
+use Rattle.mapping.proofs.DirectionLaws.{direction_out, direction_home, direction_translated, rest_out, rest_home, rest_translated}
 use borrow.Author.Rules.{rules}
 use Rattle.mapping.proofs.map_in_direction.Statement.{statement}
 use Rattle.mapping.proofs.map_in_direction.Tie as tie
@@ -28,7 +28,7 @@ same_length c = search rules
 returns : tie.Need-returns
 returns c =
     let told = c.before.before.before.before.enum_told.given.1 in
-    same-carried _ _ _ _ (direction-out _ _ _ told) (rest_out _ _ _ told) _ _ _ c.before.before.map-into.ensures
+    same_carried _ _ _ _ (direction_out _ _ _ told) (rest_out _ _ _ told) _ _ _ c.before.before.map-into.ensures
 
 same-length-2 : tie.Need-same-length-2
 same-length-2 c = search rules
@@ -36,7 +36,7 @@ same-length-2 c = search rules
 returns-2 : tie.Need-returns-2
 returns-2 c =
     let told = c.before.before.before.before.enum-told2.given.1 in
-    same-carried _ _ _ _ (direction-home _ _ _ told) (rest-home _ _ _ told) _ _ _ c.before.before.map-into2.ensures
+    same_carried _ _ _ _ (direction_home _ _ _ told) (rest_home _ _ _ told) _ _ _ c.before.before.map-into2.ensures
 
 same-length-3 : tie.Need-same-length-3
 same-length-3 c = search rules
@@ -44,7 +44,7 @@ same-length-3 c = search rules
 returns-3 : tie.Need-returns-3
 returns-3 c =
     let told = c.before.before.before.before.enum-told3.given.1 in
-    same-carried _ _ _ _ (direction-translated _ _ _ told) (rest-translated _ _ _ told) _ _ _ c.before.before.translate-stripped.ensures
+    same_carried _ _ _ _ (direction_translated _ _ _ told) (rest_translated _ _ _ told) _ _ _ c.before.before.translate-stripped.ensures
 
 pub map-in-direction-spec : {M : Type 1} → statement M
 map-in-direction-spec =

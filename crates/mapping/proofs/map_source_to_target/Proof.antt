@@ -1,5 +1,5 @@
-use Rattle.path_rest.proofs.CarriedLaws.{without-rest}
-use Rattle.mapping.specs.Calls.{directionCall}
+use Rattle.path_rest.proofs.CarriedLaws.{without_rest}
+use Rattle.mapping.specs.Calls.{direction_call}
 use borrow.Author.Rules.{rules}
 use Rattle.mapping.proofs.map_source_to_target.Statement.{statement}
 use Rattle.mapping.proofs.map_source_to_target.Tie as tie
@@ -14,8 +14,8 @@ same_length : tie.Need-same-length
 same_length c = search rules
 
 returns : tie.Need-returns
-unfolding directionCall
-returns c = without-rest _ _ _ _ _ _ c.reply-of.ensures c.before.before.before.call.ensures
+unfolding direction_call
+returns c = without_rest _ _ _ _ _ _ c.reply-of.ensures c.before.before.before.call.ensures
 
 pub map-source-to-target-spec : {M : Type 1} → statement M
 map-source-to-target-spec =

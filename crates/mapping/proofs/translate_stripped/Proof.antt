@@ -1,6 +1,6 @@
-use Rattle.path_parts.proofs.StripLaws.{strip-never, strip-part, strip-inside}
-use Rattle.path_rest.proofs.CarriedLaws.{same-carried, without-rest, answering-carried}
-use Rattle.mapping.proofs.CopyOutBranches.{translate-plain, translate-back, translated-rest-plain, translated-rest-stripped}
+use Rattle.path_parts.proofs.StripLaws.{strip_never, strip-part, strip_inside}
+use Rattle.path_rest.proofs.CarriedLaws.{same_carried, without_rest, answering_carried}
+use Rattle.mapping.proofs.CopyOutBranches.{translate_plain, translate_back, translated_rest_plain, translated_rest_stripped}
 use borrow.Author.Rules.{rules}
 use Rattle.mapping.proofs.translate_stripped.Statement.{statement}
 use Rattle.mapping.proofs.translate_stripped.Tie as tie
@@ -20,7 +20,7 @@ returns c =
     let at-if1 = at-translate-into.before.before in
     let at-has-variant-selection = at-if1.before in
     let tested = at-has-variant-selection.has-variant-selection.ensures in
-    same-carried _ _ _ _ (translate-plain _ _ _ tested at-if1.if1.true) (translated-rest-plain _ _ _ tested at-if1.if1.true) _ _ _
+    same_carried _ _ _ _ (translate_plain _ _ _ tested at-if1.if1.true) (translated_rest_plain _ _ _ tested at-if1.if1.true) _ _ _
     at-translate-into.translate-into.ensures
 
 slice-aggregate-strip-into : tie.Need-slice-aggregate-strip-into
@@ -39,14 +39,14 @@ returns-2 : tie.Need-returns-2
 returns-2 c =
     let at-strip-into = c.before.before.before in
     let at-start = at-strip-into.before.before.before.before.before.before.before.before in
-    absurd (strip-never _ _ _ at-start.requires.0 at-strip-into.strip-into.ensures.0 c.enum_told.given.1)
+    absurd (strip_never _ _ _ at-start.requires.0 at-strip-into.strip-into.ensures.0 c.enum_told.given.1)
 
 array-share-prefix-plain : tie.Need-array-share-prefix-plain
 array-share-prefix-plain c =
     let at-fit = c.before in
     let at-strip-into = at-fit.before.before.before in
     let at-start = at-strip-into.before.before.before.before.before.before.before.before in
-    strip-inside _ _ _ at-start.requires.0 at-strip-into.strip-into.ensures.0 _ at-fit.fit.given.1 _ at-strip-into.strip-into.ensures.1
+    strip_inside _ _ _ at-start.requires.0 at-strip-into.strip-into.ensures.0 _ at-fit.fit.given.1 _ at-strip-into.strip-into.ensures.1
 
 slice-aggregate-translate-into : tie.Need-slice-aggregate-translate-into
 slice-aggregate-translate-into c =
@@ -76,11 +76,11 @@ returns-3 c =
     let at-if1 = at-strip-into.before.before in
     let at-has-variant-selection = at-if1.before in
     let at-start = at-has-variant-selection.before.before.before.before.before in
-    answering-carried _ _ _ _
-    (translate-back _ _ _ at-start.requires.0 at-strip-into.strip-into.ensures.0 _ at-fit.fit.given.1 _
+    answering_carried _ _ _ _
+    (translate_back _ _ _ at-start.requires.0 at-strip-into.strip-into.ensures.0 _ at-fit.fit.given.1 _
     at-strip-into.strip-into.ensures.1 _)
-    (translated-rest-stripped _ _ _ at-has-variant-selection.has-variant-selection.ensures at-if1.if1.false)
-    _ _ _ _ c.with_rest.ensures (without-rest _ _ _ _ _ _ at-reply-of.reply-of.ensures at-translate-into2.translate-into2.ensures)
+    (translated_rest_stripped _ _ _ at-has-variant-selection.has-variant-selection.ensures at-if1.if1.false)
+    _ _ _ _ c.with_rest.ensures (without_rest _ _ _ _ _ _ at-reply-of.reply-of.ensures at-translate-into2.translate-into2.ensures)
 
 pub translate-stripped-spec : {M : Type 1} → statement M
 translate-stripped-spec =

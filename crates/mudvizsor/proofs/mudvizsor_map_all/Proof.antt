@@ -1,5 +1,5 @@
 use mathlib.Core.Path.{ap, ◌∙◌}
-use Rattle.ffi_values.specs.Code.{validationCode}
+use Rattle.ffi_values.specs.Code.{validation_code}
 use borrow.Author.Rules.{rules}
 use Rattle.mudvizsor.proofs.mudvizsor_map_all.Statement.{statement}
 use Rattle.mudvizsor.proofs.mudvizsor_map_all.Tie as tie
@@ -28,7 +28,7 @@ returns c =
     let at-direction-of = at-map-all.before.before.before in
     let at-untimed-map = at-direction-of.before in
     rw (← at-untimed-map.untimed-map.ensures, ← at-direction-of.direction-of.ensures) (
-      c.validation-code.ensures ∙ ap validationCode at-map-all.map-all.ensures.0,
+      c.validation-code.ensures ∙ ap validation_code at-map-all.map-all.ensures.0,
       (at-map-all.map-all.ensures.1.0, at-map-all.map-all.ensures.1.1),
     )
 

@@ -1,5 +1,5 @@
 use mathlib.Core.Path.{ap, ◌∙◌}
-use Rattle.ffi_values.specs.Code.{replyCode}
+use Rattle.ffi_values.specs.Code.{reply_code}
 use borrow.Author.Rules.{rules}
 use Rattle.mudvizsor.proofs.mudvizsor_map_target_to_source.Statement.{statement}
 use Rattle.mudvizsor.proofs.mudvizsor_map_target_to_source.Tie as tie
@@ -21,7 +21,7 @@ returns c =
     let at-map-target-to-source = c.before.before.before in
     let at-untimed-map = at-map-target-to-source.before.before in
     rw (← at-untimed-map.untimed-map.ensures) (
-      c.reply-code.ensures ∙ ap replyCode at-map-target-to-source.map-target-to-source.ensures.0,
+      c.reply-code.ensures ∙ ap reply_code at-map-target-to-source.map-target-to-source.ensures.0,
       at-map-target-to-source.map-target-to-source.ensures.1,
     )
 

@@ -1,5 +1,5 @@
 use mathlib.Core.Path.{ap, ◌∙◌}
-use Rattle.ffi_values.specs.Code.{replyCode}
+use Rattle.ffi_values.specs.Code.{reply_code}
 use borrow.Author.Rules.{rules}
 use Rattle.mudvizsor.proofs.mudvizsor_path_ancestors.Statement.{statement}
 use Rattle.mudvizsor.proofs.mudvizsor_path_ancestors.Tie as tie
@@ -16,7 +16,7 @@ same_length c = search rules
 returns : tie.Need-returns
 returns c =
     let at-ancestors = c.before.before.before in (
-      c.reply-code.ensures ∙ ap replyCode at-ancestors.ancestors.ensures.0,
+      c.reply-code.ensures ∙ ap reply_code at-ancestors.ancestors.ensures.0,
       rw (← at-ancestors.ancestors.ensures.0) at-ancestors.ancestors.ensures.1,
     )
 

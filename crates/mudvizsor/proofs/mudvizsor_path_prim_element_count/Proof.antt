@@ -1,5 +1,5 @@
 use mathlib.Core.Path.{ap, ◌∙◌}
-use Rattle.ffi_values.specs.Code.{countCode}
+use Rattle.ffi_values.specs.Code.{count_code}
 use borrow.Author.Rules.{rules}
 use Rattle.mudvizsor.proofs.mudvizsor_path_prim_element_count.Statement.{statement}
 use Rattle.mudvizsor.proofs.mudvizsor_path_prim_element_count.Tie as tie
@@ -11,7 +11,7 @@ count-code-requires : tie.Need-count-code-requires
 count-code-requires c κs = search rules
 
 returns : tie.Need-returns
-returns c = c.count_code.ensures ∙ ap countCode c.before.prim-element-count.ensures
+returns c = c.count_code.ensures ∙ ap count_code c.before.prim-element-count.ensures
 
 pub mudvizsor-path-prim-element-count-spec : {M : Type 1} → statement M
 mudvizsor-path-prim-element-count-spec =

@@ -1,5 +1,5 @@
 use mathlib.Core.Path.{ap, ◌∙◌}
-use Rattle.ffi_rest.specs.RestCode.{restTestCode}
+use Rattle.ffi_rest.specs.RestCode.{rest_test_code}
 use borrow.Author.Rules.{rules}
 use Rattle.mudvizsor.proofs.mudvizsor_path_rest_start.Statement.{statement}
 use Rattle.mudvizsor.proofs.mudvizsor_path_rest_start.Tie as tie
@@ -11,7 +11,7 @@ rest-test-code-requires : tie.Need-rest-test-code-requires
 rest-test-code-requires c κs = search rules
 
 returns : tie.Need-returns
-returns c = c.rest-test-code.ensures ∙ ap restTestCode c.before.rest-start.ensures
+returns c = c.rest-test-code.ensures ∙ ap rest_test_code c.before.rest-start.ensures
 
 pub mudvizsor-path-rest-start-spec : {M : Type 1} → statement M
 mudvizsor-path-rest-start-spec =

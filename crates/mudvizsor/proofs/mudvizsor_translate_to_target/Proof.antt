@@ -1,5 +1,5 @@
 use mathlib.Core.Path.{ap, ◌∙◌}
-use Rattle.ffi_values.specs.Code.{replyCode}
+use Rattle.ffi_values.specs.Code.{reply_code}
 use borrow.Author.Rules.{rules}
 use Rattle.mudvizsor.proofs.mudvizsor_translate_to_target.Statement.{statement}
 use Rattle.mudvizsor.proofs.mudvizsor_translate_to_target.Tie as tie
@@ -21,7 +21,7 @@ returns c =
     let at-translate-to-target = c.before.before.before in
     let at-untimed-map = at-translate-to-target.before.before in
     rw (← at-untimed-map.untimed-map.ensures) (
-      c.reply-code.ensures ∙ ap replyCode at-translate-to-target.translate-to-target.ensures.0,
+      c.reply-code.ensures ∙ ap reply_code at-translate-to-target.translate-to-target.ensures.0,
       at-translate-to-target.translate-to-target.ensures.1,
     )
 

@@ -1,6 +1,6 @@
 -- A refusal writes nothing; a pair that passed validation fits, so that it is pushed.
 use native.Mathlib.Omega.{arith}
-use Rattle.open_list.proofs.AddBranches.{pair-refused, passed-fits, pair-added}
+use Rattle.open_list.proofs.AddBranches.{pair_refused, passed_fits, pair-added}
 use borrow.Author.Rules.{rules}
 use Rattle.open_list.proofs.add_pair.Statement.{statement}
 use Rattle.open_list.proofs.add_pair.Tie as tie
@@ -12,7 +12,7 @@ enum-known-q : tie.Need-enum-known-q
 enum-known-q c = search rules
 
 returns : tie.Need-returns
-returns c = pair-refused _ _ _ _ _ _ _ c.before.before.before.validate-add.ensures.0 _ c.before.q.given.1
+returns c = pair_refused _ _ _ _ _ _ _ c.before.before.before.validate-add.ensures.0 _ c.before.q.given.1
 
 enum_told : tie.Need-enum-told
 enum_told c = search rules
@@ -24,7 +24,7 @@ add-t9 : tie.Need-overflow-add-t9
 add-t9 c =
     let at-enum-told = c.before.before.before.before.before.before.before.before in
     let at-validate-add = at-enum-told.before.before in
-    let f = passed-fits _ _ _ _ _ _ at-validate-add.validate-add.ensures.1 at-enum-told.enum_told.given.1 in
+    let f = passed_fits _ _ _ _ _ _ at-validate-add.validate-add.ensures.1 at-enum-told.enum_told.given.1 in
     omega (arith, f)
 
 same_length : tie.Need-same-length

@@ -1,4 +1,4 @@
-use Rattle.open_list.proofs.AddBranches.{add-refused, add-many, add-beyond, add_start, add-source, add-target, add-passed}
+use Rattle.open_list.proofs.AddBranches.{add_refused, add-many, add-beyond, add_start, add-source, add-target, add-passed}
 use borrow.Author.Rules.{rules}
 use Rattle.open_list.proofs.validate_add.Statement.{statement}
 use Rattle.open_list.proofs.validate_add.Tie as tie
@@ -10,7 +10,7 @@ enum-known-q : tie.Need-enum-known-q
 enum-known-q c = search rules
 
 returns : tie.Need-returns
-returns c = add-refused _ _ _ _ _ _ c.before.before.before.validate-ends.ensures _ c.before.q.given.1
+returns c = add_refused _ _ _ _ _ _ c.before.before.before.validate-ends.ensures _ c.before.q.given.1
 
 enum_told : tie.Need-enum-told
 enum_told c = search rules

@@ -2,8 +2,8 @@
 use mathlib.Core.Path.{◌≡◌}
 use mathlib.Core.Bool.{true}
 use Prim.Native.Nat.{◌≤◌, ◌-◌}
-use Rattle.pair_list.specs.Pair.{everyEnd}
-use Rattle.pair_list.specs.Places.{pairsIn}
+use Rattle.pair_list.specs.Pair.{every_end}
+use Rattle.pair_list.specs.Places.{pairs_in}
 use Rattle.pair_buffer.specs.Ends.{at_most}
 use Rattle.pair_buffer.proofs.ShortBranches.{shorts, short_on}
 use borrow.Author.Rules.{rules}
@@ -11,7 +11,7 @@ use Rattle.pair_buffer.proofs.all_at_most.Statement.{statement}
 use Rattle.pair_buffer.proofs.all_at_most.Tie as tie
 
 abbrev invariant-loop : tie.invariant-loop
-invariant-loop store places n most i₀ i = (i ≤ n) × (everyEnd (at_most most) (pairsIn store places i) ≡ true)
+invariant-loop store places n most i₀ i = (i ≤ n) × (every_end (at_most most) (pairs_in store places i) ≡ true)
 
 abbrev decreases-loop : tie.decreases-loop
 decreases-loop store places n most i₀ i = n - i

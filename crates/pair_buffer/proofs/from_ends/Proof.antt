@@ -2,9 +2,9 @@
 use mathlib.Core.Path.{refl, ◌∙◌}
 use Prim.Native.Nat.{◌*◌}
 use Rattle.path_grammar.specs.Legal.{legal}
-use Rattle.pair_list.specs.Places.{placesAll}
-use Rattle.map_function.proofs.NewBranches.{refusing-map, gives-map}
-use Rattle.pair_buffer.proofs.EndBranches.{given-many, ends-answered}
+use Rattle.pair_list.specs.Places.{places_all}
+use Rattle.map_function.proofs.NewBranches.{refusing_map, gives_map}
+use Rattle.pair_buffer.proofs.EndBranches.{given_many, ends_answered}
 use borrow.Author.Rules.{rules}
 use Rattle.pair_buffer.proofs.from_ends.Statement.{statement}
 use Rattle.pair_buffer.proofs.from_ends.Tie as tie
@@ -12,10 +12,10 @@ use Rattle.pair_buffer.proofs.from_ends.Tie as tie
 returns : tie.Need-returns
 returns c =
     let args = c.before.before.before.before.before.args in
-    refusing-map _ _
-    (ends-answered args.store.now args.places.now args.n args.mark args.time args.out.now args.slots.now
-    (placesAll legal args.store.now args.places.now (2 * args.n)) refl
-    ∙ given-many args.store.now args.places.now args.n _ args.mark args.time args.out.now args.slots.now c.if1.true)
+    refusing_map _ _
+    (ends_answered args.store.now args.places.now args.n args.mark args.time args.out.now args.slots.now
+    (places_all legal args.store.now args.places.now (2 * args.n)) refl
+    ∙ given_many args.store.now args.places.now args.n _ args.mark args.time args.out.now args.slots.now c.if1.true)
     _ _
 
 mul-all-legal : tie.Need-overflow-mul-all-legal
@@ -38,8 +38,8 @@ returns-2 c =
     let at-from-ends-given = c.before.before.before.before in
     let at-all-legal = at-from-ends-given.before.before.before in
     let args = at-all-legal.before.before.before.before.before.before.args in
-    gives-map _ _
-    (ends-answered args.store.now args.places.now args.n args.mark args.time args.out.now args.slots.now _
+    gives_map _ _
+    (ends_answered args.store.now args.places.now args.n args.mark args.time args.out.now args.slots.now _
     at-all-legal.all-legal.ensures)
     _ _ _ _ _ at-from-ends-given.from-ends-given.ensures
 

@@ -3,14 +3,14 @@ use borrow.Author.Rules.{rules}
 use mathlib.Core.Path.{◌≡◌}
 use mathlib.Core.Bool.{false}
 use Prim.Native.Nat.{◌≤◌, ◌-◌}
-use Rattle.pair_list.specs.Places.{pairsIn}
-use Rattle.map_spec.specs.Compose.{hasSource}
+use Rattle.pair_list.specs.Places.{pairs_in}
+use Rattle.map_spec.specs.Compose.{has_source}
 use Rattle.pair_buffer.proofs.SourceLaws.{sources}
 use Rattle.pair_buffer.proofs.has_source.Statement.{statement}
 use Rattle.pair_buffer.proofs.has_source.Tie as tie
 
 abbrev invariant-loop : tie.invariant-loop
-invariant-loop store places n source i₀ i = (i ≤ n) × (hasSource (pairsIn store places i) source ≡ false)
+invariant-loop store places n source i₀ i = (i ≤ n) × (has_source (pairs_in store places i) source ≡ false)
 
 abbrev decreases-loop : tie.decreases-loop
 decreases-loop store places n source i₀ i = n - i

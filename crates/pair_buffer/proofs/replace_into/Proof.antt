@@ -1,5 +1,5 @@
 use native.Mathlib.Omega.{arith}
-use Rattle.pair_buffer.proofs.EndBranches.{replace-long, replace-not, replace-start, replace-made, replace-over}
+use Rattle.pair_buffer.proofs.EndBranches.{replace-long, replace-not, replace-start, replace_made, replace-over}
 use borrow.Author.Rules.{rules}
 use Rattle.pair_buffer.proofs.replace_into.Statement.{statement}
 use Rattle.pair_buffer.proofs.replace_into.Tie as tie
@@ -69,7 +69,7 @@ returns-3 c =
     let at-has-prefix = at-if1.before in
     let at-start = at-has-prefix.before.before.before.before.before in
     let args = at-start.args in
-    replace-made args.path.now args.old.now args.new.now _ at-has-prefix.has-prefix.ensures args.out.now at-if1.if1.false _ _
+    replace_made args.path.now args.old.now args.new.now _ at-has-prefix.has-prefix.ensures args.out.now at-if1.if1.false _ _
     at_join.join.ensures _ at-fit.fit.given.1
 
 same-length-3 : tie.Need-same-length-3

@@ -4,13 +4,13 @@ use borrow.Author.Rules.{rules}
 use mathlib.Core.Path.{◌≡◌}
 use mathlib.Core.Bool.{true}
 use Prim.Native.Nat.{◌≤◌, ◌-◌}
-use Rattle.path_grammar.specs.Legal.{isEnd}
-use Rattle.pair_list.specs.Places.{placesAll}
+use Rattle.path_grammar.specs.Legal.{is_end}
+use Rattle.pair_list.specs.Places.{places_all}
 use Rattle.pair_list.proofs.all_ends.Statement.{statement}
 use Rattle.pair_list.proofs.all_ends.Tie as tie
 
 abbrev invariant-loop : tie.invariant-loop
-invariant-loop store places n j₀ j = (j ≤ n) × (true ≡ placesAll isEnd store places j)
+invariant-loop store places n j₀ j = (j ≤ n) × (true ≡ places_all is_end store places j)
 
 abbrev decreases-loop : tie.decreases-loop
 decreases-loop store places n j₀ j = n - j

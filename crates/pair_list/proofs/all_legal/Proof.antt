@@ -5,12 +5,12 @@ use mathlib.Core.Path.{◌≡◌}
 use mathlib.Core.Bool.{true}
 use Prim.Native.Nat.{◌≤◌, ◌-◌}
 use Rattle.path_grammar.specs.Legal.{legal}
-use Rattle.pair_list.specs.Places.{placesAll}
+use Rattle.pair_list.specs.Places.{places_all}
 use Rattle.pair_list.proofs.all_legal.Statement.{statement}
 use Rattle.pair_list.proofs.all_legal.Tie as tie
 
 abbrev invariant-loop : tie.invariant-loop
-invariant-loop store places n j₀ j = (j ≤ n) × (true ≡ placesAll legal store places j)
+invariant-loop store places n j₀ j = (j ≤ n) × (true ≡ places_all legal store places j)
 
 abbrev decreases-loop : tie.decreases-loop
 decreases-loop store places n j₀ j = n - j

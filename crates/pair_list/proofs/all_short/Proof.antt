@@ -4,12 +4,12 @@ use borrow.Author.Rules.{rules}
 use mathlib.Core.Path.{◌≡◌}
 use mathlib.Core.Bool.{true}
 use Prim.Native.Nat.{◌≤◌, ◌-◌}
-use Rattle.pair_list.specs.Places.{placesShort}
+use Rattle.pair_list.specs.Places.{places_short}
 use Rattle.pair_list.proofs.all_short.Statement.{statement}
 use Rattle.pair_list.proofs.all_short.Tie as tie
 
 abbrev invariant-loop : tie.invariant-loop
-invariant-loop store places n j₀ j = (j ≤ n) × (true ≡ placesShort store places j)
+invariant-loop store places n j₀ j = (j ≤ n) × (true ≡ places_short store places j)
 
 abbrev decreases-loop : tie.decreases-loop
 decreases-loop store places n j₀ j = n - j

@@ -3,15 +3,15 @@ use mathlib.Core.Path.{◌≡◌, refl}
 use Prim.Native.Nat.{◌+◌, ◌≤◌, ◌-◌}
 use native.Mathlib.Omega.{arith}
 use lib.ListN.{length}
-use Rattle.pair_list.specs.Places.{pairsIn, endBytes}
-use Rattle.pair_list_write.proofs.WriteBranches.{list-few, list-outside, list_full, at-begin, text-begin, slots-begin, list-fits, list_done}
-use Rattle.pair_list_write.proofs.PushBranches.{Appended, append-next}
+use Rattle.pair_list.specs.Places.{pairs_in, end_bytes}
+use Rattle.pair_list_write.proofs.WriteBranches.{list-few, list-outside, list_full, at_begin, text_begin, slots_begin, list_fits, list_done}
+use Rattle.pair_list_write.proofs.PushBranches.{Appended, append_next}
 use borrow.Author.Rules.{rules}
 use Rattle.pair_list_write.proofs.append_list.Statement.{statement}
 use Rattle.pair_list_write.proofs.append_list.Tie as tie
 
 abbrev invariant-loop : tie.invariant-loop
-invariant-loop store places n at out₀ slots₀ end₀ i₀ out slots end i = (i ≤ n) × (at + endBytes (pairsIn store places n) ≤ length out₀) × Appended store places at out₀ slots₀ i end out slots × (length out ≡ length out₀) × (length slots ≡ length slots₀)
+invariant-loop store places n at out₀ slots₀ end₀ i₀ out slots end i = (i ≤ n) × (at + end_bytes (pairs_in store places n) ≤ length out₀) × Appended store places at out₀ slots₀ i end out slots × (length out ≡ length out₀) × (length slots ≡ length slots₀)
 
 abbrev decreases-loop : tie.decreases-loop
 decreases-loop store places n at out₀ slots₀ end₀ i₀ out slots end i = n - i
@@ -29,15 +29,15 @@ list-fits-requires : tie.Need-list-fits-requires invariant-loop decreases-loop
 list-fits-requires c κs = search rules
 
 returns-3 : tie.Need-returns-3 invariant-loop decreases-loop
-returns-3 c = list_full _ _ _ _ _ _ c.before.before.if2.false _ c.before.list-fits.ensures c.if3.true
+returns-3 c = list_full _ _ _ _ _ _ c.before.before.if2.false _ c.before.list_fits.ensures c.if3.true
 
 loop-holds : tie.Need-loop-init invariant-loop decreases-loop
 loop-holds c = (
   search rules,
-  list-fits _ _ _ _ _ c.before.before.if2.false _ c.before.list-fits.ensures c.if3.false,
+  list_fits _ _ _ _ _ c.before.before.if2.false _ c.before.list_fits.ensures c.if3.false,
   (let at-start = c.before.before.before.before.before.before.before.before in
       let args = at-start.args in
-      (at-begin _ _ _, (text-begin args.store.now args.places.now args.at _, slots-begin _ _ _ _))),
+      (at_begin _ _ _, (text_begin args.store.now args.places.now args.at _, slots_begin _ _ _ _))),
   refl,
   refl,
 )
@@ -67,7 +67,7 @@ loop-again c = (
       let at-loop-test = at-key-at.before in
       let at-loop = at-loop-test.before in
       let at-if1 = at-loop.before.before.before.before in
-      append-next _ _ _ _ _ _ _ _ _ _ at-loop-test.loop-test.true at-loop.loop.invariant.1 at-loop.loop.invariant.3
+      append_next _ _ _ _ _ _ _ _ _ _ at-loop-test.loop-test.true at-loop.loop.invariant.1 at-loop.loop.invariant.3
       (omega (arith, at-if1.if1.false, at-loop-test.loop-test.true, at-loop.loop.invariant.4)) at-loop.loop.invariant.2 _ _ at-key-at.key-at.ensures
       at-key-at2.key-at2.ensures _ _ _ at-push-pair.push-pair.ensures),
   search rules,

@@ -1,4 +1,4 @@
-use Rattle.pair_list_write.proofs.WriteBranches.{copy-none, copy_some}
+use Rattle.pair_list_write.proofs.WriteBranches.{copy_none, copy_some}
 use borrow.Author.Rules.{rules}
 use Rattle.pair_list_write.proofs.copy_entry.Statement.{statement}
 use Rattle.pair_list_write.proofs.copy_entry.Tie as tie
@@ -7,7 +7,7 @@ use Rattle.pair_list_write.proofs.copy_entry.Lts as lts
 use Rattle.pair_list_write.proofs.write_entry.Reads as write-entry-reads
 
 returns : tie.Need-returns
-returns c = copy-none _ _ _ _ c.if1.true
+returns c = copy_none _ _ _ _ c.if1.true
 
 mul-j : tie.Need-overflow-mul-j
 mul-j c = search rules

@@ -1,6 +1,6 @@
--- The tests are those of `pairFits`; then two texts are pushed, one after the other.
+-- The tests are those of `pair_fits`; then two texts are pushed, one after the other.
 use native.Mathlib.Omega.{arith}
-use Rattle.pair_list_write.proofs.PushBranches.{pair-long, pair-many, pair-pushed}
+use Rattle.pair_list_write.proofs.PushBranches.{pair_long, pair_many, pair-pushed}
 use borrow.Author.Rules.{rules}
 use Rattle.pair_list_write.proofs.push_pair.Statement.{statement}
 use Rattle.pair_list_write.proofs.push_pair.Tie as tie
@@ -8,7 +8,7 @@ use Rattle.pair_list_write.proofs.push_pair.Tie as tie
 returns : tie.Need-returns
 returns c =
     let args = c.before.before.before.before.before.args in
-    pair-long args.s.now args.t.now args.n args.at args.bytes.now args.slots.now (omega arith)
+    pair_long args.s.now args.t.now args.n args.at args.bytes.now args.slots.now (omega arith)
 
 sub-room : tie.Need-overflow-sub-room
 sub-room c = search rules
@@ -16,7 +16,7 @@ sub-room c = search rules
 returns-2 : tie.Need-returns-2
 returns-2 c =
     let args = c.before.before.before.before.before.before.args in
-    pair-long args.s.now args.t.now args.n args.at args.bytes.now args.slots.now (omega arith)
+    pair_long args.s.now args.t.now args.n args.at args.bytes.now args.slots.now (omega arith)
 
 sub-if3 : tie.Need-overflow-sub-if3
 sub-if3 c = search rules
@@ -24,12 +24,12 @@ sub-if3 c = search rules
 returns-3 : tie.Need-returns-3
 returns-3 c =
     let args = c.before.before.before.before.before.before.before.args in
-    pair-long args.s.now args.t.now args.n args.at args.bytes.now args.slots.now (omega arith)
+    pair_long args.s.now args.t.now args.n args.at args.bytes.now args.slots.now (omega arith)
 
 returns-4 : tie.Need-returns-4
 returns-4 c =
     let args = c.before.before.before.before.before.before.before.before.args in
-    pair-many args.s.now args.t.now args.n args.at args.bytes.now args.slots.now (omega arith)
+    pair_many args.s.now args.t.now args.n args.at args.bytes.now args.slots.now (omega arith)
 
 mul-push-text : tie.Need-overflow-mul-push-text
 mul-push-text c = search rules

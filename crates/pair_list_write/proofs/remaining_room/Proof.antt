@@ -3,12 +3,12 @@ use Rattle.pair_list_write.proofs.RoomBranches.{rooms}
 use borrow.Author.Rules.{rules}
 use mathlib.Core.Path.{◌≡◌}
 use Prim.Native.Nat.{◌+◌, ◌-◌, ◌≤◌}
-use Rattle.pair_list.specs.Places.{pairsIn, endBytes}
+use Rattle.pair_list.specs.Places.{pairs_in, end_bytes}
 use Rattle.pair_list_write.proofs.remaining_room.Statement.{statement}
 use Rattle.pair_list_write.proofs.remaining_room.Tie as tie
 
 abbrev invariant-loop : tie.invariant-loop
-invariant-loop store places n room left₀ i₀ left i = (i ≤ n) × (left + endBytes (pairsIn store places i) ≡ room)
+invariant-loop store places n room left₀ i₀ left i = (i ≤ n) × (left + end_bytes (pairs_in store places i) ≡ room)
 
 abbrev decreases-loop : tie.decreases-loop
 decreases-loop store places n room left₀ i₀ left i = n - i

@@ -1,6 +1,6 @@
 use native.Mathlib.Omega.{arith}
 use lib.ListN.{length-set}
-use Rattle.pair_list_write.proofs.WriteBranches.{entry-over, entry-fits}
+use Rattle.pair_list_write.proofs.WriteBranches.{entry_over, entry_fits}
 use borrow.Author.Rules.{rules}
 use Rattle.pair_list_write.proofs.write_entry.Statement.{statement}
 use Rattle.pair_list_write.proofs.write_entry.Tie as tie
@@ -8,7 +8,7 @@ use Rattle.pair_list_write.proofs.write_entry.Reads as reads
 use Rattle.pair_list_write.proofs.write_entry.Lts as lts
 
 returns : tie.Need-returns
-returns c = entry-over _ _ _ _ _ _ c.if1.true
+returns c = entry_over _ _ _ _ _ _ c.if1.true
 
 mul-j : tie.Need-overflow-mul-j
 mul-j c = search rules
@@ -50,7 +50,7 @@ same_length : tie.Need-same-length
 same_length c = search rules
 
 returns-2 : tie.Need-returns-2
-returns-2 c = entry-fits _ _ _ _ _ _ c.if1.false
+returns-2 c = entry_fits _ _ _ _ _ _ c.if1.false
 
 pub write-entry-spec : {M : Type 1} → statement M
 write-entry-spec =

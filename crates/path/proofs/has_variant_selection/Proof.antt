@@ -1,7 +1,7 @@
 use mathlib.Core.Path.{sym, ap, ◌∙◌}
 use Rattle.path.specs.declared.Test.TheVariants.{Holds, Refused as RefusedTest}
-use Rattle.path.proofs.UnfoldedCalls.{selection-unfolded}
-use Rattle.refusal.proofs.CallBranches.{unless-refused, unless-passed}
+use Rattle.path.proofs.UnfoldedCalls.{selection_unfolded}
+use Rattle.refusal.proofs.CallBranches.{unless_refused, unless_passed}
 use borrow.Author.Rules.{rules}
 use Rattle.path.proofs.has_variant_selection.Statement.{statement}
 use Rattle.path.proofs.has_variant_selection.Tie as tie
@@ -13,7 +13,7 @@ enum-known-q : tie.Need-enum-known-q
 enum-known-q c = search rules
 
 returns : tie.Need-returns
-returns c = unless-refused RefusedTest _ _ _ _ c.before.before.before.validate-text.ensures c.before.q.given.1 ∙ sym (selection-unfolded _)
+returns c = unless_refused RefusedTest _ _ _ _ c.before.before.before.validate-text.ensures c.before.q.given.1 ∙ sym (selection_unfolded _)
 
 enum_told : tie.Need-enum-told
 enum_told c = search rules
@@ -22,7 +22,7 @@ has-variant-selection-requires : tie.Need-has-variant-selection-requires
 has-variant-selection-requires c κs = search rules
 
 returns-2 : tie.Need-returns-2
-returns-2 c = unless-passed RefusedTest _ _ _ _ c.before.before.before.validate-text.ensures c.before.enum_told.given.1 (ap Holds c.has-variant-selection.ensures) ∙ sym (selection-unfolded _)
+returns-2 c = unless_passed RefusedTest _ _ _ _ c.before.before.before.validate-text.ensures c.before.enum_told.given.1 (ap Holds c.has-variant-selection.ensures) ∙ sym (selection_unfolded _)
 
 pub has-variant-selection-spec : {M : Type 1} → statement M
 has-variant-selection-spec =

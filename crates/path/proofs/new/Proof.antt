@@ -1,4 +1,4 @@
-use Rattle.path.specs.Calls.{pathNewCall}
+use Rattle.path.specs.Calls.{path_new_call}
 use borrow.Author.Rules.{rules}
 use Rattle.path.proofs.new.Statement.{statement}
 use Rattle.path.proofs.new.Tie as tie
@@ -7,7 +7,7 @@ validate-text-requires : tie.Need-validate-text-requires
 validate-text-requires c κs = search rules
 
 returns : tie.Need-returns
-unfolding pathNewCall
+unfolding path_new_call
 returns c = c.validate-text.ensures
 
 pub new_spec : {M : Type 1} → statement M

@@ -1,8 +1,8 @@
 use mathlib.Core.Path.{refl, sym, ◌∙◌}
 use Rattle.refusal.specs.declared.Reply.TheVariants.{Refused}
-use Rattle.path_derive.proofs.UnfoldedCalls.{ancestors-unfolded}
-use Rattle.refusal.proofs.CallBranches.{unless-refused, unless-passed}
-use Rattle.path_derive.proofs.PartBranches.{listed-written, listed-over, listed-memory, listed_kept}
+use Rattle.path_derive.proofs.UnfoldedCalls.{ancestors_unfolded}
+use Rattle.refusal.proofs.CallBranches.{unless_refused, unless_passed}
+use Rattle.path_derive.proofs.PartBranches.{listed_written, listed_over, listed_memory, listed_kept}
 use borrow.Author.Rules.{rules}
 use Rattle.path_derive.proofs.ancestors.Statement.{statement}
 use Rattle.path_derive.proofs.ancestors.Tie as tie
@@ -14,7 +14,7 @@ enum-known-q : tie.Need-enum-known-q
 enum-known-q c = search rules
 
 returns : tie.Need-returns
-returns c = (unless-refused Refused _ _ _ _ c.before.before.before.validate-text.ensures c.before.q.given.1 ∙ sym (ancestors-unfolded _ _), refl)
+returns c = (unless_refused Refused _ _ _ _ c.before.before.before.validate-text.ensures c.before.q.given.1 ∙ sym (ancestors_unfolded _ _), refl)
 
 enum_told : tie.Need-enum-told
 enum_told c = search rules
@@ -37,8 +37,8 @@ returns-2 c =
     let at-write-ancestors = at_n.before.before.before.before in
     let at-enum-told = at-write-ancestors.before.before in
     let at-validate-text = at-enum-told.before.before in (
-      unless-passed Refused _ _ _ _ at-validate-text.validate-text.ensures at-enum-told.enum_told.given.1 (listed-written _ _ _ at-write-ancestors.write-ancestors.ensures.0 _ at_n.n.given.1) ∙ sym (ancestors-unfolded _ _),
-      listed-memory _ _ _ at-write-ancestors.write-ancestors.ensures.0 _ _ at_n.n.given.1 at-write-ancestors.write-ancestors.ensures.1,
+      unless_passed Refused _ _ _ _ at-validate-text.validate-text.ensures at-enum-told.enum_told.given.1 (listed_written _ _ _ at-write-ancestors.write-ancestors.ensures.0 _ at_n.n.given.1) ∙ sym (ancestors_unfolded _ _),
+      listed_memory _ _ _ at-write-ancestors.write-ancestors.ensures.0 _ _ at_n.n.given.1 at-write-ancestors.write-ancestors.ensures.1,
     )
 
 same-length-2 : tie.Need-same-length-2
@@ -49,7 +49,7 @@ returns-3 c =
     let at-write-ancestors = c.before.before.before.before in
     let at-enum-told = at-write-ancestors.before.before in
     let at-validate-text = at-enum-told.before.before in (
-      unless-passed Refused _ _ _ _ at-validate-text.validate-text.ensures at-enum-told.enum_told.given.1 (listed-over _ _ _ at-write-ancestors.write-ancestors.ensures.0 c.enum-told2.given.1) ∙ sym (ancestors-unfolded _ _),
+      unless_passed Refused _ _ _ _ at-validate-text.validate-text.ensures at-enum-told.enum_told.given.1 (listed_over _ _ _ at-write-ancestors.write-ancestors.ensures.0 c.enum-told2.given.1) ∙ sym (ancestors_unfolded _ _),
       listed_kept _ _ _ at-write-ancestors.write-ancestors.ensures.0 _ c.enum-told2.given.1 at-write-ancestors.write-ancestors.ensures.1,
     )
 

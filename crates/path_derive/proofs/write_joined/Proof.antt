@@ -1,6 +1,6 @@
 use mathlib.Core.Path.{refl}
 use Rattle.text.proofs.WriteLaws.{fit-part, fit-inside}
-use Rattle.path_derive.proofs.DeriveBranches.{made-over, made-illegal, made-written}
+use Rattle.path_derive.proofs.DeriveBranches.{made_over, made_illegal, made_written}
 use borrow.Author.Rules.{rules}
 use Rattle.path_derive.proofs.write_joined.Statement.{statement}
 use Rattle.path_derive.proofs.write_joined.Tie as tie
@@ -18,7 +18,7 @@ enum_told : tie.Need-enum-told
 enum_told c = search rules
 
 returns : tie.Need-returns
-returns c = made-over _ _ _ c.before.before.before.join.ensures.0 refl c.enum_told.given.1 _
+returns c = made_over _ _ _ c.before.before.before.join.ensures.0 refl c.enum_told.given.1 _
 
 array-share-prefix-made : tie.Need-array-share-prefix-made
 array-share-prefix-made c =
@@ -40,7 +40,7 @@ returns-2 c =
     let at-is-legal = c.before in
     let at-fit = at-is-legal.before.before.before in
     let at_join = at-fit.before.before.before in
-    made-illegal _ _ _ at_join.join.ensures.0 refl _ at-fit.fit.given.1 _ at_join.join.ensures.1 _ at-is-legal.is-legal.ensures
+    made_illegal _ _ _ at_join.join.ensures.0 refl _ at-fit.fit.given.1 _ at_join.join.ensures.1 _ at-is-legal.is_legal.ensures
     c.if1.true _
 
 array-share-prefix-made-2 : tie.Need-array-share-prefix-made-2
@@ -69,7 +69,7 @@ returns-3 c =
     let at-fit = at-is-legal.before.before.before in
     let at_join = at-fit.before.before.before in
     let at-start = at_join.before.before.before.before.before.before in
-    made-written _ _ _ at_join.join.ensures.0 refl _ at-fit.fit.given.1 _ at_join.join.ensures.1 _ at-is-legal.is-legal.ensures
+    made_written _ _ _ at_join.join.ensures.0 refl _ at-fit.fit.given.1 _ at_join.join.ensures.1 _ at-is-legal.is_legal.ensures
     at-if1.if1.false _ _ at-start.requires at-write-at.write-at.ensures
 
 pub write-joined-spec : {M : Type 1} → statement M

@@ -3,7 +3,7 @@ use Prim.Native.Nat.{ℕ, ◌<◌}
 use borrow.Author.Rules.{rules}
 use borrow.Fn.Kinds.{In}
 use borrow.Fn.PlainCycle.{Measures, is, falls, and}
-use Rattle.path_grammar.proofs.InnerLaws.{within-own, within-deepest, within-deeper}
+use Rattle.path_grammar.proofs.InnerLaws.{within_own, within_deepest, within_deeper}
 use Rattle.path_grammar.proofs.is_legal_within.Reads as is-legal-within
 use Rattle.path_grammar.proofs.is_legal_within.Kinds as is-legal-within-kinds
 use Rattle.path_grammar.proofs.+is_legal_within.Lts-is_legal_within as is-legal-within-lts
@@ -39,10 +39,10 @@ pub +is-legal-within-spec : {M : Type 1} → statement M
     (λ c κs. search rules)
     -- The call of `is_legal_own`, and what it answers.
     (λ c κs. search rules)
-    (λ c. search (rules, within-own))
+    (λ c. search (rules, within_own))
     -- No depth remains.
-    (λ c. search (rules, within-deepest))
+    (λ c. search (rules, within_deepest))
     -- The recursive call: the depth falls; and what it answers.
     (λ c. search rules)
     (λ c κs. search rules)
-    (λ c. search (rules, within-deeper))
+    (λ c. search (rules, within_deeper))

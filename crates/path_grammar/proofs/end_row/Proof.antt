@@ -2,126 +2,126 @@ use mathlib.Core.Path.{refl}
 use mathlib.Core.List.{[], ◌∷◌}
 use borrow.Author.Rules.{rules}
 use Rattle.text.proofs.TableLaws.{arm, others}
-use Rattle.path_grammar.specs.PackedScan.{packedSteps}
-use Rattle.path_grammar.proofs.ScanLaws.{digits_1, digits_2, dead-1, dead-2, dead-3, dead-4, dead-5, dead-6, end-high-1, end-high-2, end-high-3, end-high-4, end-high-5, end-high-6, end-high-7, end-high-8, end-high-9, end-high-10, end-high-11, end-high-12, end-high-13, end-high-14, end-arms, end-pack, all-end-listed}
+use Rattle.path_grammar.specs.PackedScan.{packed_steps}
+use Rattle.path_grammar.proofs.ScanLaws.{digits_1, digits_2, dead_1, dead_2, dead_3, dead_4, dead_5, dead_6, end_high_1, end_high_2, end_high_3, end_high_4, end_high_5, end_high_6, end_high_7, end_high_8, end_high_9, end_high_10, end_high_11, end_high_12, end_high_13, end_high_14, end_arms, end_pack, all_end_listed}
 use Rattle.path_grammar.proofs.end_row.Statement.{statement}
 use Rattle.path_grammar.proofs.end_row.Tie as tie
 
 returns : tie.Need-returns
-unfolding packedSteps digits_1
-returns c = arm end-pack _ digits_1 _ c.match.keys1 refl
+unfolding packed_steps digits_1
+returns c = arm end_pack _ digits_1 _ c.match.keys1 refl
 
 returns-2 : tie.Need-returns-2
-unfolding packedSteps digits_2
-returns-2 c = arm end-pack _ digits_2 _ c.match.keys2 refl
+unfolding packed_steps digits_2
+returns-2 c = arm end_pack _ digits_2 _ c.match.keys2 refl
 
 returns-3 : tie.Need-returns-3
-unfolding packedSteps
-returns-3 c = arm end-pack _ (46 ∷ []) _ c.match.keys3 refl
+unfolding packed_steps
+returns-3 c = arm end_pack _ (46 ∷ []) _ c.match.keys3 refl
 
 returns-4 : tie.Need-returns-4
-unfolding packedSteps
-returns-4 c = arm end-pack _ (47 ∷ []) _ c.match.keys4 refl
+unfolding packed_steps
+returns-4 c = arm end_pack _ (47 ∷ []) _ c.match.keys4 refl
 
 returns-5 : tie.Need-returns-5
-unfolding packedSteps
-returns-5 c = arm end-pack _ (58 ∷ []) _ c.match.keys5 refl
+unfolding packed_steps
+returns-5 c = arm end_pack _ (58 ∷ []) _ c.match.keys5 refl
 
 returns-6 : tie.Need-returns-6
-unfolding packedSteps
-returns-6 c = arm end-pack _ (61 ∷ []) _ c.match.keys6 refl
+unfolding packed_steps
+returns-6 c = arm end_pack _ (61 ∷ []) _ c.match.keys6 refl
 
 returns-7 : tie.Need-returns-7
-unfolding packedSteps
-returns-7 c = arm end-pack _ (123 ∷ []) _ c.match.keys7 refl
+unfolding packed_steps
+returns-7 c = arm end_pack _ (123 ∷ []) _ c.match.keys7 refl
 
 returns-8 : tie.Need-returns-8
-unfolding packedSteps
-returns-8 c = arm end-pack _ (125 ∷ []) _ c.match.keys8 refl
+unfolding packed_steps
+returns-8 c = arm end_pack _ (125 ∷ []) _ c.match.keys8 refl
 
 returns-9 : tie.Need-returns-9
-unfolding packedSteps dead-1
-returns-9 c = arm end-pack _ dead-1 _ c.match.keys9 refl
+unfolding packed_steps dead_1
+returns-9 c = arm end_pack _ dead_1 _ c.match.keys9 refl
 
 returns-10 : tie.Need-returns-10
-unfolding packedSteps dead-2
-returns-10 c = arm end-pack _ dead-2 _ c.match.keys10 refl
+unfolding packed_steps dead_2
+returns-10 c = arm end_pack _ dead_2 _ c.match.keys10 refl
 
 returns-11 : tie.Need-returns-11
-unfolding packedSteps dead-3
-returns-11 c = arm end-pack _ dead-3 _ c.match.keys11 refl
+unfolding packed_steps dead_3
+returns-11 c = arm end_pack _ dead_3 _ c.match.keys11 refl
 
 returns-12 : tie.Need-returns-12
-unfolding packedSteps dead-4
-returns-12 c = arm end-pack _ dead-4 _ c.match.keys12 refl
+unfolding packed_steps dead_4
+returns-12 c = arm end_pack _ dead_4 _ c.match.keys12 refl
 
 returns-13 : tie.Need-returns-13
-unfolding packedSteps dead-5
-returns-13 c = arm end-pack _ dead-5 _ c.match.keys13 refl
+unfolding packed_steps dead_5
+returns-13 c = arm end_pack _ dead_5 _ c.match.keys13 refl
 
 returns-14 : tie.Need-returns-14
-unfolding packedSteps dead-6
-returns-14 c = arm end-pack _ dead-6 _ c.match.keys14 refl
+unfolding packed_steps dead_6
+returns-14 c = arm end_pack _ dead_6 _ c.match.keys14 refl
 
 returns-15 : tie.Need-returns-15
-unfolding packedSteps end-high-1
-returns-15 c = arm end-pack _ end-high-1 _ c.match.keys15 refl
+unfolding packed_steps end_high_1
+returns-15 c = arm end_pack _ end_high_1 _ c.match.keys15 refl
 
 returns-16 : tie.Need-returns-16
-unfolding packedSteps end-high-2
-returns-16 c = arm end-pack _ end-high-2 _ c.match.keys16 refl
+unfolding packed_steps end_high_2
+returns-16 c = arm end_pack _ end_high_2 _ c.match.keys16 refl
 
 returns-17 : tie.Need-returns-17
-unfolding packedSteps end-high-3
-returns-17 c = arm end-pack _ end-high-3 _ c.match.keys17 refl
+unfolding packed_steps end_high_3
+returns-17 c = arm end_pack _ end_high_3 _ c.match.keys17 refl
 
 returns-18 : tie.Need-returns-18
-unfolding packedSteps end-high-4
-returns-18 c = arm end-pack _ end-high-4 _ c.match.keys18 refl
+unfolding packed_steps end_high_4
+returns-18 c = arm end_pack _ end_high_4 _ c.match.keys18 refl
 
 returns-19 : tie.Need-returns-19
-unfolding packedSteps end-high-5
-returns-19 c = arm end-pack _ end-high-5 _ c.match.keys19 refl
+unfolding packed_steps end_high_5
+returns-19 c = arm end_pack _ end_high_5 _ c.match.keys19 refl
 
 returns-20 : tie.Need-returns-20
-unfolding packedSteps end-high-6
-returns-20 c = arm end-pack _ end-high-6 _ c.match.keys20 refl
+unfolding packed_steps end_high_6
+returns-20 c = arm end_pack _ end_high_6 _ c.match.keys20 refl
 
 returns-21 : tie.Need-returns-21
-unfolding packedSteps end-high-7
-returns-21 c = arm end-pack _ end-high-7 _ c.match.keys21 refl
+unfolding packed_steps end_high_7
+returns-21 c = arm end_pack _ end_high_7 _ c.match.keys21 refl
 
 returns-22 : tie.Need-returns-22
-unfolding packedSteps end-high-8
-returns-22 c = arm end-pack _ end-high-8 _ c.match.keys22 refl
+unfolding packed_steps end_high_8
+returns-22 c = arm end_pack _ end_high_8 _ c.match.keys22 refl
 
 returns-23 : tie.Need-returns-23
-unfolding packedSteps end-high-9
-returns-23 c = arm end-pack _ end-high-9 _ c.match.keys23 refl
+unfolding packed_steps end_high_9
+returns-23 c = arm end_pack _ end_high_9 _ c.match.keys23 refl
 
 returns-24 : tie.Need-returns-24
-unfolding packedSteps end-high-10
-returns-24 c = arm end-pack _ end-high-10 _ c.match.keys24 refl
+unfolding packed_steps end_high_10
+returns-24 c = arm end_pack _ end_high_10 _ c.match.keys24 refl
 
 returns-25 : tie.Need-returns-25
-unfolding packedSteps end-high-11
-returns-25 c = arm end-pack _ end-high-11 _ c.match.keys25 refl
+unfolding packed_steps end_high_11
+returns-25 c = arm end_pack _ end_high_11 _ c.match.keys25 refl
 
 returns-26 : tie.Need-returns-26
-unfolding packedSteps end-high-12
-returns-26 c = arm end-pack _ end-high-12 _ c.match.keys26 refl
+unfolding packed_steps end_high_12
+returns-26 c = arm end_pack _ end_high_12 _ c.match.keys26 refl
 
 returns-27 : tie.Need-returns-27
-unfolding packedSteps end-high-13
-returns-27 c = arm end-pack _ end-high-13 _ c.match.keys27 refl
+unfolding packed_steps end_high_13
+returns-27 c = arm end_pack _ end_high_13 _ c.match.keys27 refl
 
 returns-28 : tie.Need-returns-28
-unfolding packedSteps end-high-14
-returns-28 c = arm end-pack _ end-high-14 _ c.match.keys28 refl
+unfolding packed_steps end_high_14
+returns-28 c = arm end_pack _ end_high_14 _ c.match.keys28 refl
 
 returns-29 : tie.Need-returns-29
-unfolding end-arms digits_1 digits_2 dead-1 dead-2 dead-3 dead-4 dead-5 dead-6 end-high-1 end-high-2 end-high-3 end-high-4 end-high-5 end-high-6 end-high-7 end-high-8 end-high-9 end-high-10 end-high-11 end-high-12 end-high-13 end-high-14
-returns-29 c = others end-pack 976342856119664640 end-arms _ all-end-listed (search rules) c.match.rest
+unfolding end_arms digits_1 digits_2 dead_1 dead_2 dead_3 dead_4 dead_5 dead_6 end_high_1 end_high_2 end_high_3 end_high_4 end_high_5 end_high_6 end_high_7 end_high_8 end_high_9 end_high_10 end_high_11 end_high_12 end_high_13 end_high_14
+returns-29 c = others end_pack 976342856119664640 end_arms _ all_end_listed (search rules) c.match.rest
 
 pub end-row-spec : {M : Type 1} → statement M
 end-row-spec =

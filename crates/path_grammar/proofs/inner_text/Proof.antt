@@ -1,5 +1,5 @@
 use borrow.Author.Rules.{rules}
-use Rattle.path_grammar.proofs.InnerLaws.{inner-open, inner-inside, inner-short, inner-count, inner-refused, inner-is}
+use Rattle.path_grammar.proofs.InnerLaws.{inner_open, inner-inside, inner-short, inner-count, inner-refused, inner-is}
 use Rattle.path_grammar.proofs.inner_text.Statement.{statement}
 use Rattle.path_grammar.proofs.inner_text.Tie as tie
 
@@ -10,7 +10,7 @@ slice-aggregate-result : tie.Need-slice-aggregate-result
 slice-aggregate-result c = search rules
 
 returns : tie.Need-returns
-returns c = search (rules, inner-open)
+returns c = search (rules, inner_open)
 
 find-byte-requires : tie.Need-find-byte-requires
 find-byte-requires c κs = search rules

@@ -1,11 +1,11 @@
 use borrow.Author.Rules.{rules}
-use Rattle.path_grammar.proofs.InnerLaws.{legal-empty, legal-deep}
+use Rattle.path_grammar.proofs.InnerLaws.{legal_empty, legal_deep}
 use Rattle.path_grammar.proofs.CodeLaws.{asking}
 use Rattle.path_grammar.proofs.is_legal.Statement.{statement}
 use Rattle.path_grammar.proofs.is_legal.Tie as tie
 
 returns : tie.Need-returns
-returns c = search (rules, legal-empty)
+returns c = search (rules, legal_empty)
 
 last-is-requires : tie.Need-last-is-requires
 last-is-requires c κs = search rules
@@ -14,7 +14,7 @@ is-legal-within-requires : tie.Need-is-legal-within-requires
 is-legal-within-requires c κs = search rules
 
 returns-2 : tie.Need-returns-2
-returns-2 c = search (rules, legal-deep)
+returns-2 c = search (rules, legal_deep)
 
 scan-requires : tie.Need-scan-requires
 scan-requires c κs = search rules

@@ -4,7 +4,7 @@ use lib.ListN.{length}
 use native.Mathlib.Omega.{arith}
 use borrow.Author.Rules.{rules}
 use Rattle.path_grammar.proofs.ScanLaws.{Reads, on}
-use Rattle.path_grammar.proofs.CodeLaws.{Seen, seen-on, scanning}
+use Rattle.path_grammar.proofs.CodeLaws.{Seen, seen_on, scanning}
 use Rattle.path_grammar.proofs.scan.Statement.{statement}
 use Rattle.path_grammar.proofs.scan.Tie as tie
 
@@ -48,7 +48,7 @@ loop-again : tie.Need-loop-preserved invariant-loop decreases-loop
 loop-again c = (
   search rules,
   on _ _ _ _ (search rules) c.before.before.before.before.loop.invariant.1 (omega (arith, c.before.before.shared-slice-known3.given c.before.before.before.before.loop.i)) c.before.next.ensures,
-  seen-on c.before.before.before.before.before.before.before.before.before.before.args.p.now c.before.before.before.before.loop.seen c.before.before.before.before.loop.i (search rules) c.before.before.before.before.loop.invariant.2,
+  seen_on c.before.before.before.before.before.before.before.before.before.before.args.p.now c.before.before.before.before.loop.seen c.before.before.before.before.loop.i (search rules) c.before.before.before.before.loop.invariant.2,
 )
 
 returns-4 : tie.Need-returns-4 invariant-loop decreases-loop

@@ -1,5 +1,5 @@
 -- A text is the join if it has its length and its three parts; each test decides one factor of that conjunction.
-use Rattle.path_join.proofs.JoinBranches.{join-unequal, join-other, join-unseparated, join-same}
+use Rattle.path_join.proofs.JoinBranches.{join-unequal, join_other, join-unseparated, join-same}
 use borrow.Author.Rules.{rules}
 use Rattle.path_join.proofs.is_join.Statement.{statement}
 use Rattle.path_join.proofs.is_join.Tie as tie
@@ -34,7 +34,7 @@ returns-2 : tie.Need-returns-2
 returns-2 c =
     let at-starts-with = c.before in
     let at-layout-of = at-starts-with.before.before.before.before in
-    join-other _ _ _ _ at-layout-of.layout_of.result.start at-layout-of.layout_of.ensures _ _ at-starts-with.starts_with.ensures c.if2.true
+    join_other _ _ _ _ at-layout-of.layout_of.result.start at-layout-of.layout_of.ensures _ _ at-starts-with.starts_with.ensures c.if2.true
 
 has-separator-requires : tie.Need-has-separator-requires
 has-separator-requires c κs = search rules

@@ -1,12 +1,12 @@
 -- Past the end of a text the definition reads 0.
-use Rattle.path_join.proofs.LayoutLaws.{no-last-byte}
-use Rattle.path_join.specs.Layout.{lastByte}
+use Rattle.path_join.proofs.LayoutLaws.{no_last_byte}
+use Rattle.path_join.specs.Layout.{last_byte}
 use borrow.Author.Rules.{rules}
-use Rattle.path_join.proofs.last_byte.Statement.{statement}
-use Rattle.path_join.proofs.last_byte.Tie as tie
+use Rattle.path_join.proofs.last_byte_lem.Statement.{statement}
+use Rattle.path_join.proofs.last_byte_lem.Tie as tie
 
 returns : tie.Need-returns
-returns c = no-last-byte _ c.if1.true
+returns c = no_last_byte _ c.if1.true
 
 sub-result : tie.Need-overflow-sub-result
 sub-result c = search rules
@@ -15,7 +15,7 @@ shared-slice-read-result : tie.Need-shared-slice-read-result
 shared-slice-read-result c = search rules
 
 returns-2 : tie.Need-returns-2
-unfolding lastByte
+unfolding last_byte
 returns-2 c = search rules
 
 pub last-byte-spec : {M : Type 1} → statement M

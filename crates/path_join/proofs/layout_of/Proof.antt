@@ -29,8 +29,8 @@ returns c =
     let at-last-byte2 = at-is-name-byte.before in
     let at-last-byte = at-last-byte2.before in
     let at-first-byte = at-last-byte.before in
-    let first = at-first-byte.first_byte.ensures in
-    let old-last = at-last-byte.last_byte.ensures in
+    let first = at-first-byte.first_byte_lem.ensures in
+    let old-last = at-last-byte.last_byte_lem.ensures in
     let new-last = at-last-byte2.last-byte2.ensures in
     let name = at-is-name-byte.is-name-byte.ensures in
     laid_out _ _ _ _ _ _ _ first old-last new-last name _ _ at-separator-len.separator-len.ensures c.as_number.ensures

@@ -4,13 +4,13 @@ use borrow.Author.Rules.{rules}
 use mathlib.Core.Path.{◌≡◌}
 use Prim.Native.Nat.{◌+◌, ◌-◌, ◌≤◌}
 use lib.ListN.{length, take}
-use Rattle.path_parts.specs.Parent.{ancestorsWithin, ancestors}
+use Rattle.path_parts.specs.Parent.{ancestors_within, ancestors}
 use Rattle.path_parts.proofs.ancestor_count.Statement.{statement}
 use Rattle.path_parts.proofs.ancestor_count.Tie as tie
 
 -- Invariant: `count` paths were visited, and the last of them is the first n bytes.
 abbrev invariant-loop : tie.invariant-loop
-invariant-loop path n₀ count₀ n count = (n ≤ length path) × (1 + length (ancestors path) ≡ count + length (ancestorsWithin (length path - count) (take n path)))
+invariant-loop path n₀ count₀ n count = (n ≤ length path) × (1 + length (ancestors path) ≡ count + length (ancestors_within (length path - count) (take n path)))
 
 abbrev decreases-loop : tie.decreases-loop
 decreases-loop path n₀ count₀ n count = length path - count

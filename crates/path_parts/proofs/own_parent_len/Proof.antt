@@ -5,13 +5,13 @@ use mathlib.Core.Path.{◌≡◌}
 use mathlib.Core.Option.{none}
 use Prim.Native.Nat.{◌≤◌}
 use lib.ListN.{length, drop}
-use Rattle.path_parts.specs.Parent.{lastPartStart}
+use Rattle.path_parts.specs.Parent.{last_part_start}
 use Rattle.path_parts.proofs.own_parent_len.Statement.{statement}
 use Rattle.path_parts.proofs.own_parent_len.Tie as tie
 
 -- Invariant: no part begins after index i.
 abbrev invariant-loop : tie.invariant-loop
-invariant-loop path i₀ i = (i ≤ length path) × (lastPartStart (drop i path) ≡ none)
+invariant-loop path i₀ i = (i ≤ length path) × (last_part_start (drop i path) ≡ none)
 
 abbrev decreases-loop : tie.decreases-loop
 decreases-loop path i₀ i = i

@@ -1,5 +1,5 @@
 use borrow.Author.Rules.{rules}
-use Rattle.path_parts.proofs.PartLaws.{parent-cases}
+use Rattle.path_parts.proofs.PartLaws.{parent_cases}
 use Rattle.path_parts.proofs.parent_len.Statement.{statement}
 use Rattle.path_parts.proofs.parent_len.Tie as tie
 
@@ -10,13 +10,13 @@ own-part-requires : tie.Need-own-part-requires
 own-part-requires c κs = search rules
 
 returns : tie.Need-returns
-returns c = search (rules, parent-cases)
+returns c = search (rules, parent_cases)
 
 own-parent-len-requires : tie.Need-own-parent-len-requires
 own-parent-len-requires c κs = search rules
 
 returns-2 : tie.Need-returns-2
-returns-2 c = search (rules, parent-cases)
+returns-2 c = search (rules, parent_cases)
 
 pub parent-len-spec : {M : Type 1} → statement M
 parent-len-spec =

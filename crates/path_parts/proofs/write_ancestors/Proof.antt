@@ -5,13 +5,13 @@ use mathlib.Core.Path.{◌≡◌}
 use Prim.Native.Nat.{◌-◌, ◌≤◌}
 use lib.ListN.{length}
 use lib.Seq.{paste}
-use Rattle.path_parts.specs.Parent.{ancestorLens}
+use Rattle.path_parts.specs.Parent.{ancestor_lens}
 use Rattle.path_parts.proofs.write_ancestors.Statement.{statement}
 use Rattle.path_parts.proofs.write_ancestors.Tie as tie
 
 -- Invariant: the first i lengths are written, and the next one is n.
 abbrev invariant-loop : tie.invariant-loop
-invariant-loop path out₀ count n₀ i₀ out n i = (i ≤ count) × (n ≤ length path) × Ahead path i n × (length out ≡ length out₀) × (out ≡ paste out₀ 0 (ancestorLens path) i)
+invariant-loop path out₀ count n₀ i₀ out n i = (i ≤ count) × (n ≤ length path) × Ahead path i n × (length out ≡ length out₀) × (out ≡ paste out₀ 0 (ancestor_lens path) i)
 
 abbrev decreases-loop : tie.decreases-loop
 decreases-loop path out₀ count n₀ i₀ out n i = count - i

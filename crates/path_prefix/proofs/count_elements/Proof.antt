@@ -4,12 +4,12 @@ use borrow.Author.Rules.{rules}
 use mathlib.Core.Path.{◌≡◌}
 use Prim.Native.Nat.{◌+◌, ◌≤◌, ◌-◌}
 use lib.ListN.{length, drop}
-use Rattle.path_prefix.specs.Elements.{countElements}
+use Rattle.path_prefix.specs.Elements.{count_elements}
 use Rattle.path_prefix.proofs.count_elements.Statement.{statement}
 use Rattle.path_prefix.proofs.count_elements.Tie as tie
 
 abbrev invariant-loop : tie.invariant-loop
-invariant-loop text selections n₀ i₀ n i = (i ≤ length text) × (n ≤ i) × (countElements selections text ≡ n + countElements selections (drop i text))
+invariant-loop text selections n₀ i₀ n i = (i ≤ length text) × (n ≤ i) × (count_elements selections text ≡ n + count_elements selections (drop i text))
 
 abbrev decreases-loop : tie.decreases-loop
 decreases-loop text selections n₀ i₀ n i = length text - i

@@ -1,4 +1,4 @@
-use Rattle.path_rest.proofs.CarriedBranches.{carried-written, carried-refused}
+use Rattle.path_rest.proofs.CarriedBranches.{carried_written, carried_refused}
 use borrow.Author.Rules.{rules}
 use Rattle.path_rest.proofs.carried_rest.Statement.{statement}
 use Rattle.path_rest.proofs.carried_rest.Tie as tie
@@ -16,10 +16,10 @@ slice-aggregate-result : tie.Need-slice-aggregate-result
 slice-aggregate-result c = search rules
 
 returns : tie.Need-returns
-returns c = search (rules, carried-written)
+returns c = search (rules, carried_written)
 
 returns-2 : tie.Need-returns-2
-returns-2 c = search (rules, carried-refused)
+returns-2 c = search (rules, carried_refused)
 
 pub carried-rest-spec : {M : Type 1} → statement M
 carried-rest-spec =

@@ -1,4 +1,4 @@
-use Rattle.path_rest.proofs.RestBranches.{text-none, text-past, text-inside}
+use Rattle.path_rest.proofs.RestBranches.{text_none, text-past, text-inside}
 use borrow.Author.Rules.{rules}
 use Rattle.path_rest.proofs.rest_of.Statement.{statement}
 use Rattle.path_rest.proofs.rest_of.Tie as tie
@@ -13,7 +13,7 @@ slice-aggregate-result : tie.Need-slice-aggregate-result
 slice-aggregate-result c = search rules
 
 returns : tie.Need-returns
-returns c = text-none _ _ c.before.enum_told.given.1
+returns c = text_none _ _ c.before.enum_told.given.1
 
 slice-aggregate-result-2 : tie.Need-slice-aggregate-result-2
 slice-aggregate-result-2 c = search rules

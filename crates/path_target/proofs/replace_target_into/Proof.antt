@@ -1,5 +1,5 @@
 -- The three writes, each where the one before it ends, are one write of the path with its new target.
-use Rattle.path_target.proofs.TargetBranches.{between-end, open-fits, kept-sum, replaced-nothing, replaced-over, replaced-fits, head-size}
+use Rattle.path_target.proofs.TargetBranches.{between-end, open-fits, kept-sum, replaced_nothing, replaced-over, replaced-fits, head-size}
 use borrow.Author.Rules.{rules}
 use Rattle.path_target.proofs.replace_target_into.Statement.{statement}
 use Rattle.path_target.proofs.replace_target_into.Tie as tie
@@ -14,7 +14,7 @@ enum_told : tie.Need-enum-told
 enum_told c = search rules
 
 returns : tie.Need-returns
-returns c = replaced-nothing _ _ c.before.before.target-brackets.ensures c.enum_told.given.1 _ _
+returns c = replaced_nothing _ _ c.before.before.target-brackets.ensures c.enum_told.given.1 _ _
 
 add-head : tie.Need-overflow-add-head
 add-head c =

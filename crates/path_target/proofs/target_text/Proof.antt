@@ -1,5 +1,5 @@
 use borrow.Author.Rules.{rules}
-use Rattle.path_target.proofs.TargetBranches.{text-absent, between_start, between-end, open-fits, text-between}
+use Rattle.path_target.proofs.TargetBranches.{text_absent, between_start, between-end, open-fits, text-between}
 use Rattle.path_target.proofs.target_text.Statement.{statement}
 use Rattle.path_target.proofs.target_text.Tie as tie
 
@@ -16,7 +16,7 @@ slice-aggregate-result : tie.Need-slice-aggregate-result
 slice-aggregate-result c = search rules
 
 returns : tie.Need-returns
-returns c = search (rules, text-absent)
+returns c = search (rules, text_absent)
 
 add-result : tie.Need-overflow-add-result
 add-result c =

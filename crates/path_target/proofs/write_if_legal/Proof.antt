@@ -1,4 +1,4 @@
-use Rattle.path_target.proofs.CallLaws.{made-illegal, made-written}
+use Rattle.path_target.proofs.CallLaws.{made_illegal, made_written}
 use borrow.Author.Rules.{rules}
 use Rattle.path_target.proofs.write_if_legal.Statement.{statement}
 use Rattle.path_target.proofs.write_if_legal.Tie as tie
@@ -10,7 +10,7 @@ returns : tie.Need-returns
 returns c =
     let at-is-legal = c.before in
     let at-start = at-is-legal.before.before.before in
-    made-illegal _ _ at-start.requires.0 _ at-is-legal.is-legal.ensures c.if1.true
+    made_illegal _ _ at-start.requires.0 _ at-is-legal.is_legal.ensures c.if1.true
 
 write-at-requires : tie.Need-write-at-requires
 write-at-requires c κs = search rules
@@ -24,7 +24,7 @@ returns-2 c =
     let at-if1 = at-write-at.before.before in
     let at-is-legal = at-if1.before in
     let at-start = at-is-legal.before.before.before in
-    made-written _ _ at-start.requires.0 _ at-is-legal.is-legal.ensures _ at-if1.if1.false at-start.requires.1 at-write-at.write-at.ensures
+    made_written _ _ at-start.requires.0 _ at-is-legal.is_legal.ensures _ at-if1.if1.false at-start.requires.1 at-write-at.write-at.ensures
 
 pub write-if-legal-spec : {M : Type 1} → statement M
 write-if-legal-spec =

@@ -1,5 +1,5 @@
 use mathlib.Core.Path.{refl}
-use Rattle.path_target.proofs.CallLaws.{made_inside, made-size, made-short, made-checked, replaced-long, replaced-absent}
+use Rattle.path_target.proofs.CallLaws.{made_inside, made-size, made_short, made_checked, replaced_long, replaced_absent}
 use borrow.Author.Rules.{rules}
 use Rattle.path_target.proofs.write_replaced.Statement.{statement}
 use Rattle.path_target.proofs.write_replaced.Tie as tie
@@ -30,7 +30,7 @@ write-if-legal-requires c κs =
     let at_n = c.before.before.before in
     let at-replace = at_n.before.before.before in
     let at-start = at-replace.before.before.before.before.before in
-    (made-short _ _ _ at-replace.replace-target-into.ensures.0 refl _ at_n.n.given.1 _ at-replace.replace-target-into.ensures.1, at-start.requires)
+    (made_short _ _ _ at-replace.replace-target-into.ensures.0 refl _ at_n.n.given.1 _ at-replace.replace-target-into.ensures.1, at-start.requires)
 
 enum_told : tie.Need-enum-told
 enum_told c = search rules
@@ -46,17 +46,17 @@ returns c =
     let at-write-if-legal = c.before.before in
     let at_n = at-write-if-legal.before.before.before.before in
     let at-replace = at_n.before.before.before in
-    made-checked _ _ _ at-replace.replace-target-into.ensures.0 refl _ at_n.n.given.1 _ at-replace.replace-target-into.ensures.1 _ _ _ at-write-if-legal.write-if-legal.ensures
+    made_checked _ _ _ at-replace.replace-target-into.ensures.0 refl _ at_n.n.given.1 _ at-replace.replace-target-into.ensures.1 _ _ _ at-write-if-legal.write-if-legal.ensures
 
 returns-2 : tie.Need-returns-2
 returns-2 c =
     let at-replace = c.before.before.before in
-    replaced-long _ _ _ at-replace.replace-target-into.ensures.0 refl c.enum_told.given.1 _
+    replaced_long _ _ _ at-replace.replace-target-into.ensures.0 refl c.enum_told.given.1 _
 
 returns-3 : tie.Need-returns-3
 returns-3 c =
     let at-replace = c.before.before.before in
-    replaced-absent _ _ _ at-replace.replace-target-into.ensures.0 c.enum-told2.given.1 _
+    replaced_absent _ _ _ at-replace.replace-target-into.ensures.0 c.enum-told2.given.1 _
 
 pub write-replaced-spec : {M : Type 1} → statement M
 write-replaced-spec =

@@ -1,4 +1,4 @@
-use Rattle.relocate_chain.proofs.CallBranches.{out-stopped, out-part, out-inside, out-chained}
+use Rattle.relocate_chain.proofs.CallBranches.{out_stopped, out-part, out-inside, out-chained}
 use borrow.Author.Rules.{rules}
 use Rattle.relocate_chain.proofs.chain_and_copy.Statement.{statement}
 use Rattle.relocate_chain.proofs.chain_and_copy.Tie as tie
@@ -38,7 +38,7 @@ returns c =
     c.before.before.write-at.ensures
 
 returns-2 : tie.Need-returns-2
-returns-2 c = out-stopped _ c.before.before.before.before.chain-into.result c.before.before.before.before.chain-into.new.1.1.1.1.1.1.0 c.before.before.before.before.chain-into.ensures.0 c.before.before.before.before.chain-into.ensures.1 (search rules) _ c.before.c2.given.1 _
+returns-2 c = out_stopped _ c.before.before.before.before.chain-into.result c.before.before.before.before.chain-into.new.1.1.1.1.1.1.0 c.before.before.before.before.chain-into.ensures.0 c.before.before.before.before.chain-into.ensures.1 (search rules) _ c.before.c2.given.1 _
 
 pub chain-and-copy-spec : {M : Type 1} → statement M
 chain-and-copy-spec =

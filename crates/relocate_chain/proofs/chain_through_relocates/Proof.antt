@@ -1,7 +1,7 @@
 use lib.ListN.{length}
 use mathlib.Core.Path.{refl, ◌∙◌}
-use Rattle.relocate_chain.specs.Calls.{skippedSource}
-use Rattle.relocate_chain.proofs.CallBranches.{validate-skip, chain-refused, chain-no-room, chain-short-path, chain-passed}
+use Rattle.relocate_chain.specs.Calls.{skipped_source}
+use Rattle.relocate_chain.proofs.CallBranches.{validate_skip, chain_refused, chain_no_room, chain_short_path, chain_passed}
 use borrow.Author.Rules.{rules}
 use Rattle.relocate_chain.proofs.chain_through_relocates.Statement.{statement}
 use Rattle.relocate_chain.proofs.chain_through_relocates.Tie as tie
@@ -24,8 +24,8 @@ returns c =
     let at-validate-call = at-q.before.before in
     let at-skipped-text = at-validate-call.before in
     let at-start = at-skipped-text.before.before.before.before.before.before.before in
-    chain-refused _ _ _ _ _
-    (at-validate-call.validate-call.ensures ∙ validate-skip _ _ _ _ at-start.args.skipped.now at-start.args.skips
+    chain_refused _ _ _ _ _
+    (at-validate-call.validate-call.ensures ∙ validate_skip _ _ _ _ at-start.args.skipped.now at-start.args.skips
     at-skipped-text.skipped-text.ensures refl)
     _ at-q.q.given.1 _
 
@@ -39,8 +39,8 @@ returns-2 c =
     let at-skipped-text = at-validate-call.before in
     let at-start = at-skipped-text.before.before.before.before.before.before.before in
     let args = at-start.args in
-    chain-no-room _ _ _ (length args.out.now) _
-    (at-validate-call.validate-call.ensures ∙ validate-skip _ _ _ _ args.skipped.now args.skips at-skipped-text.skipped-text.ensures
+    chain_no_room _ _ _ (length args.out.now) _
+    (at-validate-call.validate-call.ensures ∙ validate_skip _ _ _ _ args.skipped.now args.skips at-skipped-text.skipped-text.ensures
     refl)
     at-enum-told.enum_told.given.1 c.if1.true _
 
@@ -52,8 +52,8 @@ chain-and-copy-requires c κs =
     let at-skipped-text = at-validate-call.before in
     let at-start = at-skipped-text.before.before.before.before.before.before.before in
     let args = at-start.args in (
-      chain-short-path _ (skippedSource args.skips args.skipped.now) _ _
-          (at-validate-call.validate-call.ensures ∙ validate-skip _ _ _ _ args.skipped.now args.skips at-skipped-text.skipped-text.ensures
+      chain_short_path _ (skipped_source args.skips args.skipped.now) _ _
+          (at-validate-call.validate-call.ensures ∙ validate_skip _ _ _ _ args.skipped.now args.skips at-skipped-text.skipped-text.ensures
           refl)
           at-enum-told.enum_told.given.1,
       at-if1.if1.false,
@@ -70,8 +70,8 @@ returns-3 c =
     let at-validate-call = at-enum-told.before.before in
     let at-skipped-text = at-validate-call.before in
     let at-start = at-skipped-text.before.before.before.before.before.before.before in
-    chain-passed _ _ _ _ _
-    (at-validate-call.validate-call.ensures ∙ validate-skip _ _ _ _ at-start.args.skipped.now at-start.args.skips
+    chain_passed _ _ _ _ _
+    (at-validate-call.validate-call.ensures ∙ validate_skip _ _ _ _ at-start.args.skipped.now at-start.args.skips
     at-skipped-text.skipped-text.ensures refl)
     at-enum-told.enum_told.given.1 at-if1.if1.false _ _ _ at-chain-and-copy.chain-and-copy.ensures
 

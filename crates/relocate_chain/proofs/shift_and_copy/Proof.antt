@@ -1,5 +1,5 @@
 use mathlib.Core.Path.{refl}
-use Rattle.relocate_chain.proofs.CallBranches.{shift-still, shift-refused, shift-part, shift-inside, shift_made}
+use Rattle.relocate_chain.proofs.CallBranches.{shift_still, shift_refused, shift-part, shift-inside, shift_made}
 use borrow.Author.Rules.{rules}
 use Rattle.relocate_chain.proofs.shift_and_copy.Statement.{statement}
 use Rattle.relocate_chain.proofs.shift_and_copy.Tie as tie
@@ -46,11 +46,11 @@ returns c =
     let at-enum-told = at-write-at.before.before in
     let at-replace-once = at-enum-told.before.before.before in
     let at-start = at-replace-once.before.before.before.before.before.before in
-    shift-still _ _ _ at-replace-once.replace-once.ensures.0 at-enum-told.enum_told.given.1 at-start.requires.0 _ _ at-start.requires.1
+    shift_still _ _ _ at-replace-once.replace-once.ensures.0 at-enum-told.enum_told.given.1 at-start.requires.0 _ _ at-start.requires.1
     at-write-at.write-at.ensures
 
 returns-2 : tie.Need-returns-2
-returns-2 c = shift-refused _ _ _ c.before.before.before.before.replace-once.ensures.0 _ c.before.s.given.1 _
+returns-2 c = shift_refused _ _ _ c.before.before.before.before.replace-once.ensures.0 _ c.before.s.given.1 _
 
 same-length-2 : tie.Need-same-length-2
 same-length-2 c = search rules

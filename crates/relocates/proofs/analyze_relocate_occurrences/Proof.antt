@@ -1,5 +1,5 @@
 use lib.ListN.{length}
-use Rattle.relocates.proofs.AnalyzeBranches.{analyze-few, analyze-refused, analyze-short, analyze-written}
+use Rattle.relocates.proofs.AnalyzeBranches.{analyze_few, analyze-refused, analyze-short, analyze-written}
 use borrow.Author.Rules.{rules}
 use Rattle.relocates.proofs.analyze_relocate_occurrences.Statement.{statement}
 use Rattle.relocates.proofs.analyze_relocate_occurrences.Tie as tie
@@ -28,7 +28,7 @@ returns-2 c =
     at-enum-told.enum_told.given.1 c.if1.true
 
 write-statuses-requires : tie.Need-write-statuses-requires
-write-statuses-requires c κs = (analyze-few _ _ c.before.before.before.before.validate-list-and-path.ensures c.before.before.enum_told.given.1, c.before.if1.false)
+write-statuses-requires c κs = (analyze_few _ _ c.before.before.before.before.validate-list-and-path.ensures c.before.before.enum_told.given.1, c.before.if1.false)
 
 same_length : tie.Need-same-length
 same_length c = search rules

@@ -1,6 +1,6 @@
 use native.Mathlib.Omega.{arith}
-use Rattle.path_parts.proofs.StripLaws.{strip-never}
-use Rattle.route.proofs.CallBranches.{enter-kept, enter-stripped}
+use Rattle.path_parts.proofs.StripLaws.{strip_never}
+use Rattle.route.proofs.CallBranches.{enter_kept, enter-stripped}
 use borrow.Author.Rules.{rules}
 use Rattle.route.proofs.enter_route.Statement.{statement}
 use Rattle.route.proofs.enter_route.Tie as tie
@@ -16,7 +16,7 @@ returns c =
     let at-write-at = c.before.before in
     let at-if1 = at-write-at.before.before in
     let at-start = at-if1.before.before.before in
-    enter-kept at-start.args.stripped _ _ at-start.requires.1 at-start.requires.0 at-if1.if1.true _ at-write-at.write-at.ensures
+    enter_kept at-start.args.stripped _ _ at-start.requires.1 at-start.requires.0 at-if1.if1.true _ at-write-at.write-at.ensures
 
 strip-into-requires : tie.Need-strip-into-requires
 strip-into-requires c κs = search rules
@@ -34,7 +34,7 @@ returns-2 : tie.Need-returns-2
 returns-2 c =
     let at-strip-into = c.before.before.before.before in
     let at-start = at-strip-into.before.before.before.before.before in
-    absurd (strip-never _ _ _ (omega (arith, at-start.requires.0, at-start.requires.1)) at-strip-into.strip-into.ensures.0 c.enum_told.given.1)
+    absurd (strip_never _ _ _ (omega (arith, at-start.requires.0, at-start.requires.1)) at-strip-into.strip-into.ensures.0 c.enum_told.given.1)
 
 same-length-3 : tie.Need-same-length-3
 same-length-3 c = search rules

@@ -1,5 +1,5 @@
-use Rattle.path_rest.proofs.CarriedLaws.{same-carried}
-use Rattle.route.proofs.RunBranches.{leg-home, leg-out, rest-home, rest_out}
+use Rattle.path_rest.proofs.CarriedLaws.{same_carried}
+use Rattle.route.proofs.RunBranches.{leg_home, leg_out, rest_home, rest_out}
 use borrow.Author.Rules.{rules}
 use Rattle.route.proofs.map_leg.Statement.{statement}
 use Rattle.route.proofs.map_leg.Tie as tie
@@ -25,7 +25,7 @@ returns c =
     let places = at-leg-places.leg-places.ensures in
     let size = at-size-at.size-at.ensures in
     let kind = at-kind-at.kind_at.ensures in
-    same-carried _ _ _ _ (leg-home _ _ _ _ _ _ _ places size kind _ _ at-if1.if1.true) (rest-home _ _ _ _ _ _ _ places size kind _ _ at-if1.if1.true) _ _ _
+    same_carried _ _ _ _ (leg_home _ _ _ _ _ _ _ places size kind _ _ at-if1.if1.true) (rest_home _ _ _ _ _ _ _ places size kind _ _ at-if1.if1.true) _ _ _
     c.map-text-carried.ensures
 
 translate-text-carried-requires : tie.Need-translate-text-carried-requires
@@ -40,7 +40,7 @@ returns-2 c =
     let places = at-leg-places.leg-places.ensures in
     let size = at-size-at.size-at.ensures in
     let kind = at-kind-at.kind_at.ensures in
-    same-carried _ _ _ _ (leg-out _ _ _ _ _ _ _ places size kind _ _ at-if1.if1.false) (rest_out _ _ _ _ _ _ _ places size kind _ _ at-if1.if1.false) _ _ _
+    same_carried _ _ _ _ (leg_out _ _ _ _ _ _ _ places size kind _ _ at-if1.if1.false) (rest_out _ _ _ _ _ _ _ places size kind _ _ at-if1.if1.false) _ _ _
     c.translate-text-carried.ensures
 
 pub map-leg-spec : {M : Type 1} → statement M

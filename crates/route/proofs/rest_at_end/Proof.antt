@@ -1,16 +1,16 @@
-use Rattle.route.specs.Unaltered.{restFast}
+use Rattle.route.specs.Unaltered.{rest_fast}
 use Rattle.route.proofs.rest_at_end.Statement.{statement}
 use Rattle.route.proofs.rest_at_end.Tie as tie
 
 returns : tie.Need-returns
-unfolding restFast
+unfolding rest_fast
 returns c = rw c.if1.true
 
 sub-t5 : tie.Need-overflow-sub-t5
 sub-t5 c = c.before.requires c.if1.false
 
 returns-2 : tie.Need-returns-2
-unfolding restFast
+unfolding rest_fast
 returns-2 c = rw c.if1.false
 
 pub rest-at-end-spec : {M : Type 1} → statement M

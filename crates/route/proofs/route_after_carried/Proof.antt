@@ -1,7 +1,7 @@
 use mathlib.Core.Path.{refl}
-use Rattle.path_rest.proofs.CarriedLaws.{refusing-carried, same-carried}
-use Rattle.mapping.proofs.DirectionLaws.{after-length}
-use Rattle.route.proofs.CallBranches.{after-refused, after-short, after-passed}
+use Rattle.path_rest.proofs.CarriedLaws.{refusing_carried, same_carried}
+use Rattle.mapping.proofs.DirectionLaws.{after_length}
+use Rattle.route.proofs.CallBranches.{after_refused, after_short, after_passed}
 use borrow.Author.Rules.{rules}
 use Rattle.route.proofs.route_after_carried.Statement.{statement}
 use Rattle.route.proofs.route_after_carried.Tie as tie
@@ -19,8 +19,8 @@ returns : tie.Need-returns
 returns c =
     let at-q = c.before in
     let at-first-refusal = at-q.before.before in
-    refusing-carried _ _ _
-    (after-refused _ _ _ _ _ _ _ at-first-refusal.before.new.ensures at-first-refusal.first-refusal.ensures _ at-q.q.given.1) _
+    refusing_carried _ _ _
+    (after_refused _ _ _ _ _ _ _ at-first-refusal.before.new.ensures at-first-refusal.first-refusal.ensures _ at-q.q.given.1) _
 
 enum_told : tie.Need-enum-told
 enum_told c = search rules
@@ -29,8 +29,8 @@ returns-2 : tie.Need-returns-2
 returns-2 c =
     let at-enum-told = c.before in
     let at-first-refusal = at-enum-told.before.before in
-    refusing-carried _ _ _
-    (after-short _ _ _ _ _ _ _ at-first-refusal.before.new.ensures at-first-refusal.first-refusal.ensures at-enum-told.enum_told.given.1
+    refusing_carried _ _ _
+    (after_short _ _ _ _ _ _ _ at-first-refusal.before.new.ensures at-first-refusal.first-refusal.ensures at-enum-told.enum_told.given.1
     c.if1.true)
     _
 
@@ -40,7 +40,7 @@ run-path-requires c κs =
     let at-enum-told = at-if1.before in
     let at-first-refusal = at-enum-told.before.before in
     let at_new = at-first-refusal.before in
-    (after-length _ _ _ _ at_new.new.ensures at-first-refusal.first-refusal.ensures at-enum-told.enum_told.given.1, at-if1.if1.false)
+    (after_length _ _ _ _ at_new.new.ensures at-first-refusal.first-refusal.ensures at-enum-told.enum_told.given.1, at-if1.if1.false)
 
 same_length : tie.Need-same-length
 same_length c = search rules
@@ -52,8 +52,8 @@ returns-3 c =
     let at-enum-told = at-if1.before in
     let at-first-refusal = at-enum-told.before.before in
     let at_new = at-first-refusal.before in
-    same-carried _ _ _ _
-    (after-passed _ _ _ _ _ _ _ at_new.new.ensures at-first-refusal.first-refusal.ensures at-enum-told.enum_told.given.1
+    same_carried _ _ _ _
+    (after_passed _ _ _ _ _ _ _ at_new.new.ensures at-first-refusal.first-refusal.ensures at-enum-told.enum_told.given.1
     at-if1.if1.false)
     refl _ _ _ at-run-path.run-path.ensures
 

@@ -1,5 +1,5 @@
 use mathlib.Core.Path.{refl}
-use Rattle.route_maps.proofs.ReadLaws.{prepared-read}
+use Rattle.route_maps.proofs.ReadLaws.{prepared_read}
 use Rattle.route.proofs.CallBranches.{returns-as-it-is, returns-prepared}
 use borrow.Author.Rules.{rules}
 use Rattle.route.proofs.route_call.Statement.{statement}
@@ -53,7 +53,7 @@ returns-2 c =
     let at-prepare-legs = at-route-after.before.before.before.before.before.before in
     let at-validate-legs = at-prepare-legs.before.before.before.before.before in
     returns-prepared _ _ _ _ _ at-validate-legs.validate-legs.ensures _ refl (search rules) (search rules)
-    (prepared-read _ _ _ _ _ at-prepare-legs.prepare-legs.ensures.0 at-prepare-legs.prepare-legs.ensures.1) _ _ _
+    (prepared_read _ _ _ _ _ at-prepare-legs.prepare-legs.ensures.0 at-prepare-legs.prepare-legs.ensures.1) _ _ _
     at-route-after.route-after-carried2.ensures
 
 pub route-call-spec : {M : Type 1} → statement M

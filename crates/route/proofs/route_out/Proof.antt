@@ -1,4 +1,4 @@
-use Rattle.path_rest.proofs.CarriedLaws.{without-rest}
+use Rattle.path_rest.proofs.CarriedLaws.{without_rest}
 use borrow.Author.Rules.{rules}
 use Rattle.route.proofs.route_out.Statement.{statement}
 use Rattle.route.proofs.route_out.Tie as tie
@@ -13,7 +13,7 @@ same_length : tie.Need-same-length
 same_length c = search rules
 
 returns : tie.Need-returns
-returns c = without-rest _ _ _ _ _ _ c.reply-of.ensures c.before.before.before.route-call.ensures
+returns c = without_rest _ _ _ _ _ _ c.reply-of.ensures c.before.before.before.route-call.ensures
 
 pub route-out-spec : {M : Type 1} → statement M
 route-out-spec = tie.close (tie.spec route-call-requires reply-of-requires same_length returns)

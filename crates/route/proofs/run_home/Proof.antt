@@ -1,13 +1,13 @@
 -- The loop. The legs before k, in reverse from the path so far, make the result of the whole route, and leave unaltered what it leaves.
 use borrow.Author.Rules.{rules}
-use Rattle.route.proofs.RunBranches.{holds-size, home-begin, home-on, home-stopped, home-end}
-use Rattle.route.proofs.UnalteredBranches.{refused-run, home-first, home-fewer, home_all}
-use Rattle.route.specs.Fast.{legFast, mapsIn, runRouteFast}
-use Rattle.route.specs.Unaltered.{unalteredFast}
-use Rattle.map_apply.specs.Fast.{plainRest}
-use Rattle.route_legs.specs.LentRoute.{lentRoute}
-use Rattle.route_spec.specs.Route.{foldLegs}
-use Rattle.route_spec.specs.Rest.{unalteredLength}
+use Rattle.route.proofs.RunBranches.{holds_size, home_begin, home-on, home-stopped, home_end}
+use Rattle.route.proofs.UnalteredBranches.{refused_run, home_first, home_fewer, home_all}
+use Rattle.route.specs.Fast.{leg_fast, maps_in, run_route_fast}
+use Rattle.route.specs.Unaltered.{unaltered_fast}
+use Rattle.map_apply.specs.Fast.{plain_rest}
+use Rattle.route_legs.specs.LentRoute.{lent_route}
+use Rattle.route_spec.specs.Route.{fold_legs}
+use Rattle.route_spec.specs.Rest.{unaltered_length}
 use lib.ListN.{length, take}
 use Prim.Native.Nat.{◌≤◌}
 use mathlib.Core.List.{reverse}
@@ -18,15 +18,15 @@ use Rattle.route.proofs.run_home.Tie as tie
 
 abbrev invariant-loop : tie.invariant-loop
 invariant-loop store places legs n here₀ len at₀ unaltered₀ k₀ here at unaltered k =
-    let s = lentRoute store places legs n in
-    (k ≤ n) × (at ≤ 255) × (length here ≡ 255) × (foldLegs (legFast true) (reverse (mapsIn s k)) (take at here) ≡ runRouteFast true s n (take len here₀))
-    × (unalteredLength (legFast true) (plainRest true) (reverse (mapsIn s k)) unaltered (take at here) ≡ unalteredFast true s n len (take len here₀))
+    let s = lent_route store places legs n in
+    (k ≤ n) × (at ≤ 255) × (length here ≡ 255) × (fold_legs (leg_fast true) (reverse (maps_in s k)) (take at here) ≡ run_route_fast true s n (take len here₀))
+    × (unaltered_length (leg_fast true) (plain_rest true) (reverse (maps_in s k)) unaltered (take at here) ≡ unaltered_fast true s n len (take len here₀))
 
 abbrev decreases-loop : tie.decreases-loop
 decreases-loop store places legs n here₀ len at₀ unaltered₀ k₀ here at unaltered k = k
 
 loop-holds : tie.Need-loop-init invariant-loop decreases-loop
-loop-holds c = (search rules, search rules, search rules, home-begin _ _ _ _ _, home-first _ _ _ _ _ _)
+loop-holds c = (search rules, search rules, search rules, home_begin _ _ _ _ _, home_first _ _ _ _ _ _)
 
 sub-k : tie.Need-overflow-sub-k invariant-loop decreases-loop
 sub-k c = search rules
@@ -49,7 +49,7 @@ returns c =
     let at-loop-test = at-run-legs.before.before in
     let at-loop = at-loop-test.before in
     let run = at-run-legs.run-legs.ensures in
-    refused-run _ _ _ _ _
+    refused_run _ _ _ _ _
     (home-stopped _ _ _ _ _ _ at-loop.loop.at at-loop.loop.here at-loop-test.loop-test.true at-loop.loop.invariant.3 _ _ run.outcome _
     c.enum_told.given.1)
     c.enum_told.given.1
@@ -70,10 +70,10 @@ loop-again c =
     let inv = at-loop.loop.invariant in
     let written = at-reply.reply.given.1 in (
       search rules,
-      holds-size _ _ _ run.outcome _ written (search rules),
+      holds_size _ _ _ run.outcome _ written (search rules),
       search rules,
       home-on _ _ _ _ _ _ at-loop.loop.at at-loop.loop.here at-loop-test.loop-test.true inv.3 _ _ run.outcome _ written,
-      home-fewer _ _ _ _ _ _ at-loop.loop.at at-loop.loop.here at-loop-test.loop-test.true _ inv.4 _ _ run _ written _ c.min.ensures,
+      home_fewer _ _ _ _ _ _ at-loop.loop.at at-loop.loop.here at-loop-test.loop-test.true _ inv.4 _ _ run _ written _ c.min.ensures,
     )
 
 same-length-2 : tie.Need-same-length-2 invariant-loop decreases-loop
@@ -82,7 +82,7 @@ same-length-2 c = search rules
 returns-2 : tie.Need-returns-2 invariant-loop decreases-loop
 returns-2 c =
     let inv = c.before.loop.invariant in
-    home_all _ _ _ _ _ _ _ _ _ _ c.loop-test.false inv.4 (home-end _ _ _ _ _ _ _ _ c.loop-test.false inv.3 inv.1 inv.2)
+    home_all _ _ _ _ _ _ _ _ _ _ c.loop-test.false inv.4 (home_end _ _ _ _ _ _ _ _ c.loop-test.false inv.3 inv.1 inv.2)
 
 pub run-home-spec : {M : Type 1} → statement M
 run-home-spec =

@@ -1,6 +1,6 @@
 use native.Mathlib.Omega.{arith}
-use Rattle.text.proofs.WriteLaws.{part-size}
-use Rattle.route.proofs.UnalteredBranches.{run-over-refused, run-over-inside, run-over-written}
+use Rattle.text.proofs.WriteLaws.{part_size}
+use Rattle.route.proofs.UnalteredBranches.{run_over_refused, run-over-inside, run-over-written}
 use borrow.Author.Rules.{rules}
 use Rattle.route.proofs.run_legs.Statement.{statement}
 use Rattle.route.proofs.run_legs.Tie as tie
@@ -11,7 +11,7 @@ slice-reshare-prefix-map-leg c = search rules
 slice-aggregate-map-leg : tie.Need-slice-aggregate-map-leg
 slice-aggregate-map-leg c =
     let at-start = c.before.before.before.before.before in
-    part-size _ _ (omega (arith, at-start.requires.0, at-start.requires.1))
+    part_size _ _ (omega (arith, at-start.requires.0, at-start.requires.1))
 
 map-leg-requires : tie.Need-map-leg-requires
 map-leg-requires c κs = search rules
@@ -22,7 +22,7 @@ slice-reshare-prefix-carried-rest c = search rules
 slice-aggregate-carried-rest : tie.Need-slice-aggregate-carried-rest
 slice-aggregate-carried-rest c =
     let at-start = c.before.before.before.before.before.before.before.before in
-    part-size _ _ (omega (arith, at-start.requires.0, at-start.requires.1))
+    part_size _ _ (omega (arith, at-start.requires.0, at-start.requires.1))
 
 carried-rest-requires : tie.Need-carried-rest-requires
 carried-rest-requires c κs = search rules
@@ -44,7 +44,7 @@ returns c =
     let at-reply-of = c.before.before in
     let at-carried-rest = at-reply-of.before in
     let at-map-leg = at-carried-rest.before.before in
-    run-over-refused _ _ _ _ _ _ at-map-leg.map-leg.ensures _ at-reply-of.reply-of.ensures _ at-carried-rest.carried-rest.ensures _
+    run_over_refused _ _ _ _ _ _ at-map-leg.map-leg.ensures _ at-reply-of.reply-of.ensures _ at-carried-rest.carried-rest.ensures _
     c.enum_told.given.1 _
 
 array-share-prefix-made : tie.Need-array-share-prefix-made
@@ -62,7 +62,7 @@ slice-aggregate-write-at c =
     let at-reply-of = at-reply.before.before in
     let at-carried-rest = at-reply-of.before in
     let at-map-leg = at-carried-rest.before.before in
-    part-size _ _
+    part_size _ _
     (run-over-inside _ _ _ _ _ _ at-map-leg.map-leg.ensures _ at-reply-of.reply-of.ensures _ at-carried-rest.carried-rest.ensures _
     at-reply.reply.given.1)
 

@@ -1,12 +1,12 @@
 -- The loop. After k legs the path so far is what those legs make of the starting path, and the number is what they leave unaltered of it.
 use borrow.Author.Rules.{rules}
-use Rattle.route.proofs.RunBranches.{holds-size, out-begin, out-on, out-stopped, out-end}
-use Rattle.route.proofs.UnalteredBranches.{refused-run, out_first, out-fewer, out-all}
-use Rattle.route.specs.Fast.{legFast, mapsIn}
-use Rattle.map_apply.specs.Fast.{plainRest}
-use Rattle.route_legs.specs.LentRoute.{lentRoute}
-use Rattle.route_spec.specs.Route.{foldLegs}
-use Rattle.route_spec.specs.Rest.{unalteredLength}
+use Rattle.route.proofs.RunBranches.{holds_size, out-begin, out-on, out_stopped, out_end}
+use Rattle.route.proofs.UnalteredBranches.{refused_run, out_first, out_fewer, out_all}
+use Rattle.route.specs.Fast.{leg_fast, maps_in}
+use Rattle.map_apply.specs.Fast.{plain_rest}
+use Rattle.route_legs.specs.LentRoute.{lent_route}
+use Rattle.route_spec.specs.Route.{fold_legs}
+use Rattle.route_spec.specs.Rest.{unaltered_length}
 use Rattle.refusal.specs.Outcome.{path}
 use lib.ListN.{length, take}
 use Prim.Native.Nat.{◌-◌, ◌≤◌}
@@ -17,8 +17,8 @@ use Rattle.route.proofs.run_out.Tie as tie
 
 abbrev invariant-loop : tie.invariant-loop
 invariant-loop store places legs n here₀ len at₀ unaltered₀ k₀ here at unaltered k =
-    (k ≤ n) × (at ≤ 255) × (length here ≡ 255) × (foldLegs (legFast false) (mapsIn (lentRoute store places legs n) k) (take len here₀) ≡ path (take at here))
-    × (unalteredLength (legFast false) (plainRest false) (mapsIn (lentRoute store places legs n) k) len (take len here₀) ≡ unaltered)
+    (k ≤ n) × (at ≤ 255) × (length here ≡ 255) × (fold_legs (leg_fast false) (maps_in (lent_route store places legs n) k) (take len here₀) ≡ path (take at here))
+    × (unaltered_length (leg_fast false) (plain_rest false) (maps_in (lent_route store places legs n) k) len (take len here₀) ≡ unaltered)
 
 abbrev decreases-loop : tie.decreases-loop
 decreases-loop store places legs n here₀ len at₀ unaltered₀ k₀ here at unaltered k = n - k
@@ -44,8 +44,8 @@ returns c =
     let at-loop-test = at-run-legs.before.before in
     let at-loop = at-loop-test.before in
     let run = at-run-legs.run-legs.ensures in
-    refused-run _ _ _ _ _
-    (out-stopped _ _ _ _ _ _ at-loop.loop.at at-loop.loop.here at-loop.loop.invariant.3 _ _ run.outcome at-loop-test.loop-test.true _
+    refused_run _ _ _ _ _
+    (out_stopped _ _ _ _ _ _ at-loop.loop.at at-loop.loop.here at-loop.loop.invariant.3 _ _ run.outcome at-loop-test.loop-test.true _
     c.enum_told.given.1)
     c.enum_told.given.1
 
@@ -67,10 +67,10 @@ loop-again c =
     let inv = at-loop.loop.invariant in
     let written = at-reply.reply.given.1 in (
       search rules,
-      holds-size _ _ _ run.outcome _ written (search rules),
+      holds_size _ _ _ run.outcome _ written (search rules),
       search rules,
       out-on _ _ _ _ _ _ at-loop.loop.at at-loop.loop.here inv.3 _ _ run.outcome _ written,
-      out-fewer _ _ _ _ _ _ _ at-loop.loop.at at-loop.loop.here inv.3 _ inv.4 _ _ run _ written _ c.min.ensures,
+      out_fewer _ _ _ _ _ _ _ at-loop.loop.at at-loop.loop.here inv.3 _ inv.4 _ _ run _ written _ c.min.ensures,
     )
 
 same-length-2 : tie.Need-same-length-2 invariant-loop decreases-loop
@@ -79,7 +79,7 @@ same-length-2 c = search rules
 returns-2 : tie.Need-returns-2 invariant-loop decreases-loop
 returns-2 c =
     let inv = c.before.loop.invariant in
-    out-all _ _ _ _ _ _ _ _ _ _ c.loop-test.false inv.0 inv.4 (out-end _ _ _ _ _ _ _ _ c.loop-test.false inv.0 inv.3 inv.1 inv.2)
+    out_all _ _ _ _ _ _ _ _ _ _ c.loop-test.false inv.0 inv.4 (out_end _ _ _ _ _ _ _ _ c.loop-test.false inv.0 inv.3 inv.1 inv.2)
 
 pub run-out-spec : {M : Type 1} → statement M
 run-out-spec =

@@ -1,5 +1,5 @@
-use Rattle.text.proofs.WriteLaws.{part-size}
-use Rattle.route.proofs.CallBranches.{entered-size, run-refused, run_inside, unaltered-inside, run-written}
+use Rattle.text.proofs.WriteLaws.{part_size}
+use Rattle.route.proofs.CallBranches.{entered_size, run_refused, run_inside, unaltered-inside, run-written}
 use borrow.Author.Rules.{rules}
 use Rattle.route.proofs.run_path.Statement.{statement}
 use Rattle.route.proofs.run_path.Tie as tie
@@ -17,7 +17,7 @@ slice-aggregate-run-direction : tie.Need-slice-aggregate-run-direction
 slice-aggregate-run-direction c = search rules
 
 run-direction-requires : tie.Need-run-direction-requires
-run-direction-requires c κs = (entered-size _ _ _ c.before.before.enter-route.ensures, search rules)
+run-direction-requires c κs = (entered_size _ _ _ c.before.before.enter-route.ensures, search rules)
 
 enum-known-reply : tie.Need-enum-known-reply
 enum-known-reply c = search rules
@@ -34,7 +34,7 @@ returns c =
     let at-run-direction = at-enum-told.before.before.before in
     let at-enter-route = at-run-direction.before.before.before in
     let at-enters-stripped = at-enter-route.before.before in
-    run-refused _ _ _ _ _ at-enters-stripped.enters-stripped.ensures _ _ at-enter-route.enter-route.ensures _ _
+    run_refused _ _ _ _ _ at-enters-stripped.enters-stripped.ensures _ _ at-enter-route.enter-route.ensures _ _
     at-run-direction.run-direction.ensures _ at-enum-told.enum_told.given.1 _ c.with_rest.ensures _ _
 
 array-share-prefix-here : tie.Need-array-share-prefix-here
@@ -52,7 +52,7 @@ slice-aggregate-write-at c =
     let at-run-direction = at-reply.before.before.before in
     let at-enter-route = at-run-direction.before.before.before in
     let at-enters-stripped = at-enter-route.before.before in
-    part-size _ _
+    part_size _ _
     (run_inside _ _ _ _ _ at-enters-stripped.enters-stripped.ensures _ _ at-enter-route.enter-route.ensures _ _
     at-run-direction.run-direction.ensures _ at-reply.reply.given.1)
 

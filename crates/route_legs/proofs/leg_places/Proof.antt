@@ -1,4 +1,4 @@
-use Rattle.route_legs.proofs.ValidateBranches.{places-gone, places-from}
+use Rattle.route_legs.proofs.ValidateBranches.{places_gone, places_from}
 use borrow.Author.Rules.{rules}
 use Rattle.route_legs.proofs.leg_places.Statement.{statement}
 use Rattle.route_legs.proofs.leg_places.Tie as tie
@@ -10,7 +10,7 @@ slice-aggregate-result : tie.Need-slice-aggregate-result
 slice-aggregate-result c = search rules
 
 returns : tie.Need-returns
-returns c = places-gone _ _ _ c.before.before.entry-at.ensures c.before.if1.true
+returns c = places_gone _ _ _ c.before.before.entry_at_lem.ensures c.before.if1.true
 
 mul_at : tie.Need-overflow-mul-at
 mul_at c = search rules
@@ -28,7 +28,7 @@ part-result-end : tie.Need-slice-bounds-result-end
 part-result-end c = search rules
 
 returns-2 : tie.Need-returns-2
-returns-2 c = places-from c.before.before.before.before.before.args.places.now _ _ c.before.before.entry-at.ensures
+returns-2 c = places_from c.before.before.before.before.before.args.places.now _ _ c.before.before.entry_at_lem.ensures
 
 pub leg-places-spec : {M : Type 1} → statement M
 leg-places-spec =

@@ -3,14 +3,14 @@ use borrow.Author.Rules.{rules}
 use Prim.Native.Nat.{◌≤◌, ◌-◌}
 use mathlib.Core.Path.{◌≡◌}
 use mathlib.Core.List.{[]}
-use Rattle.validate.specs.Validate.{validateCall}
-use Rattle.route_legs.specs.LentRoute.{lentRoute, listsIn}
+use Rattle.validate.specs.Validate.{validate_call}
+use Rattle.route_legs.specs.LentRoute.{lent_route, lists_in}
 use Rattle.route_legs.proofs.ValidateBranches.{lists-none, lists-on, lists-end}
 use Rattle.route_legs.proofs.validate_leg_lists.Statement.{statement}
 use Rattle.route_legs.proofs.validate_leg_lists.Tie as tie
 
 abbrev invariant-loop : tie.invariant-loop
-invariant-loop store places legs n q₀ k₀ q k = (k ≤ n) × (q ≡ validateCall (listsIn (lentRoute store places legs n) k) [] [])
+invariant-loop store places legs n q₀ k₀ q k = (k ≤ n) × (q ≡ validate_call (lists_in (lent_route store places legs n) k) [] [])
 
 abbrev decreases-loop : tie.decreases-loop
 decreases-loop store places legs n q₀ k₀ q k = n - k

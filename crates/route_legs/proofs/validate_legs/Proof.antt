@@ -1,4 +1,4 @@
-use Rattle.route_legs.proofs.ValidateBranches.{route-validated}
+use Rattle.route_legs.proofs.ValidateBranches.{route_validated}
 use borrow.Author.Rules.{rules}
 use Rattle.route_legs.proofs.validate_legs.Statement.{statement}
 use Rattle.route_legs.proofs.validate_legs.Tie as tie
@@ -16,7 +16,7 @@ first-refusal-requires : tie.Need-first-refusal-requires
 first-refusal-requires c κs = search rules
 
 returns : tie.Need-returns
-returns c = route-validated _ _ _ _ _ _ _ _ c.before.before.before.present-legs.ensures c.before.before.validate-leg-lists.ensures c.before.validate-count.ensures c.first-refusal.ensures
+returns c = route_validated _ _ _ _ _ _ _ _ c.before.before.before.present-legs.ensures c.before.before.validate-leg-lists.ensures c.before.validate-count.ensures c.first-refusal.ensures
 
 pub validate-legs-spec : {M : Type 1} → statement M
 validate-legs-spec =

@@ -1,13 +1,13 @@
 -- Three stores, one after the other, or none if the leg lies beyond the slice.
 use native.Mathlib.Omega.{arith}
 use lib.ListN.{length-set}
-use Rattle.route_legs.proofs.LegBranches.{leg-beyond, leg-stored}
+use Rattle.route_legs.proofs.LegBranches.{leg_beyond, leg_stored}
 use borrow.Author.Rules.{rules}
 use Rattle.route_legs.proofs.write_leg.Statement.{statement}
 use Rattle.route_legs.proofs.write_leg.Tie as tie
 
 returns : tie.Need-returns
-returns c = leg-beyond _ _ _ _ _ c.if1.true
+returns c = leg_beyond _ _ _ _ _ c.if1.true
 
 mul-j : tie.Need-overflow-mul-j
 mul-j c = search rules
@@ -40,7 +40,7 @@ same_length : tie.Need-same-length
 same_length c = search rules
 
 returns-2 : tie.Need-returns-2
-returns-2 c = leg-stored _ _ _ _ _ c.if1.false
+returns-2 c = leg_stored _ _ _ _ _ c.if1.false
 
 pub write-leg-spec : {M : Type 1} → statement M
 write-leg-spec =

@@ -1,6 +1,6 @@
 -- The map is written to the leg's block, a part of the buffer, and its three numbers to the table.
 use native.Mathlib.Omega.{arith}
-use Rattle.route_maps.proofs.PrepareBranches.{leg-placed, part_room, leg-known}
+use Rattle.route_maps.proofs.PrepareBranches.{leg_placed, part_room, leg_known}
 use borrow.Author.Rules.{rules}
 use Rattle.route_maps.proofs.prepare_leg.Statement.{statement}
 use Rattle.route_maps.proofs.prepare_leg.Tie as tie
@@ -65,9 +65,9 @@ returns c =
     let z = at-size-at.size-at.ensures in
     let f = at-leg-places.leg-places.ensures in
     let t = at-prepare-pairs.prepare-pairs.ensures in (
-      leg-placed _ args.places.now args.legs.now _ _ _ _ k z f _ pre.0 pre.1.0 _ t.1
+      leg_placed _ args.places.now args.legs.now _ _ _ _ k z f _ pre.0 pre.1.0 _ t.1
           at-prepare-pairs.prepare-pairs.auto.1.1.1.1.0,
-      leg-known _ args.places.now args.legs.now _ _ _ _ k z f _ pre.0 pre.1.1 _ at-map-kind.map-kind.ensures _ _
+      leg_known _ args.places.now args.legs.now _ _ _ _ k z f _ pre.0 pre.1.1 _ at-map-kind.map-kind.ensures _ _
           (part_room _ _ pre.0 pre.1.0) t.0 _ at-write-leg.write-leg.ensures,
     )
 

@@ -1,6 +1,6 @@
 use native.Mathlib.Omega.{arith}
-use Rattle.validate.proofs.SelectLaws.{select-few, select-present, select-room}
-use Rattle.route_maps.proofs.PrepareBranches.{leg-relocates, leg-none, leg-copied}
+use Rattle.validate.proofs.SelectLaws.{select_few, select_present, select_room}
+use Rattle.route_maps.proofs.PrepareBranches.{leg_relocates, leg-none, leg-copied}
 use borrow.Author.Rules.{rules}
 use Rattle.route_maps.proofs.prepare_pairs.Statement.{statement}
 use Rattle.route_maps.proofs.prepare_pairs.Tie as tie
@@ -12,7 +12,7 @@ same_length : tie.Need-same-length
 same_length c = search rules
 
 returns : tie.Need-returns
-returns c = leg-relocates _ _ _ _ _ c.before.before.before.before.if1.true _ _ c.before.before.prepare-relocates.ensures
+returns c = leg_relocates _ _ _ _ _ c.before.before.before.before.if1.true _ _ c.before.before.prepare-relocates.ensures
 
 can-select-requires : tie.Need-can-select-requires
 can-select-requires c κs = search rules
@@ -24,11 +24,11 @@ copy-pairs-requires : tie.Need-copy-pairs-requires
 copy-pairs-requires c κs =
     let at-if2 = c.before in
     let at-can-select = at-if2.before in (
-      select-present _ _ _ _ at-can-select.can-select.ensures at-if2.if2.false,
+      select_present _ _ _ _ at-can-select.can-select.ensures at-if2.if2.false,
       omega (
         arith,
-        select-few _ _ _ _ at-can-select.can-select.ensures at-if2.if2.false,
-        select-room _ _ _ _ at-can-select.can-select.ensures at-if2.if2.false,
+        select_few _ _ _ _ at-can-select.can-select.ensures at-if2.if2.false,
+        select_room _ _ _ _ at-can-select.can-select.ensures at-if2.if2.false,
       ),
     )
 

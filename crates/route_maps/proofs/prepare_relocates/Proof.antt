@@ -1,4 +1,4 @@
-use Rattle.route_maps.proofs.PrepareBranches.{relocates-prepared}
+use Rattle.route_maps.proofs.PrepareBranches.{relocates_prepared}
 use borrow.Author.Rules.{rules}
 use Rattle.route_maps.proofs.prepare_relocates.Statement.{statement}
 use Rattle.route_maps.proofs.prepare_relocates.Tie as tie
@@ -19,7 +19,7 @@ same_length : tie.Need-same-length
 same_length c = search rules
 
 returns : tie.Need-returns
-returns c = relocates-prepared _ _ _ _ _ c.before.before.before.before.before.before.active-pairs.ensures _ _ _ _ c.before.before.canonical-places.ensures
+returns c = relocates_prepared _ _ _ _ _ c.before.before.before.before.before.before.active-pairs.ensures _ _ _ _ c.before.before.canonical-places.ensures
 
 pub prepare-relocates-spec : {M : Type 1} → statement M
 prepare-relocates-spec =

@@ -5,12 +5,12 @@ use mathlib.Core.Path.{◌≡◌}
 use mathlib.Core.Bool.{◌&&◌}
 use Prim.Native.Nat.{◌≤◌, ◌-◌}
 use lib.ListN.{length, drop}
-use Rattle.text.specs.Text.{lacksByte}
+use Rattle.text.specs.Text.{lacks_byte}
 use Rattle.text.proofs.lacks_byte.Statement.{statement}
 use Rattle.text.proofs.lacks_byte.Tie as tie
 
 abbrev invariant-loop : tie.invariant-loop
-invariant-loop text b free₀ i₀ free i = (i ≤ length text) × (lacksByte b text ≡ (free && lacksByte b (drop i text)))
+invariant-loop text b free₀ i₀ free i = (i ≤ length text) × (lacks_byte b text ≡ (free && lacks_byte b (drop i text)))
 
 abbrev decreases-loop : tie.decreases-loop
 decreases-loop text b free₀ i₀ free i = length text - i

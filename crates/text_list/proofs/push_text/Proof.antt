@@ -1,6 +1,6 @@
--- The tests are those of `textFits`; then the text and its place are written where the list ends.
+-- The tests are those of `text_fits`; then the text and its place are written where the list ends.
 use native.Mathlib.Omega.{arith}
-use Rattle.text_list.proofs.PlaceBranches.{push-long, push-many, push-done}
+use Rattle.text_list.proofs.PlaceBranches.{push_long, push_many, push-done}
 use borrow.Author.Rules.{rules}
 use Rattle.text_list.proofs.push_text.Statement.{statement}
 use Rattle.text_list.proofs.push_text.Tie as tie
@@ -8,7 +8,7 @@ use Rattle.text_list.proofs.push_text.Tie as tie
 returns : tie.Need-returns
 returns c =
     let args = c.before.before.before.before.args in
-    push-long args.t.now args.n args.at args.bytes.now args.places.now (omega arith)
+    push_long args.t.now args.n args.at args.bytes.now args.places.now (omega arith)
 
 sub-if2 : tie.Need-overflow-sub-if2
 sub-if2 c = search rules
@@ -16,12 +16,12 @@ sub-if2 c = search rules
 returns-2 : tie.Need-returns-2
 returns-2 c =
     let args = c.before.before.before.before.before.args in
-    push-long args.t.now args.n args.at args.bytes.now args.places.now (omega arith)
+    push_long args.t.now args.n args.at args.bytes.now args.places.now (omega arith)
 
 returns-3 : tie.Need-returns-3
 returns-3 c =
     let args = c.before.before.before.before.before.before.args in
-    push-many args.t.now args.n args.at args.bytes.now args.places.now (omega arith)
+    push_many args.t.now args.n args.at args.bytes.now args.places.now (omega arith)
 
 write-at-requires : tie.Need-write-at-requires
 write-at-requires c κs = search rules

@@ -1,13 +1,13 @@
 -- Two stores, one after the other, or none if the place lies beyond the slice.
 use native.Mathlib.Omega.{arith}
 use lib.ListN.{length-set}
-use Rattle.text_list.proofs.PlaceBranches.{place-over, place-stored}
+use Rattle.text_list.proofs.PlaceBranches.{place_over, place_stored}
 use borrow.Author.Rules.{rules}
 use Rattle.text_list.proofs.write_place.Statement.{statement}
 use Rattle.text_list.proofs.write_place.Tie as tie
 
 returns : tie.Need-returns
-returns c = place-over _ _ _ _ c.if1.true
+returns c = place_over _ _ _ _ c.if1.true
 
 mul-i : tie.Need-overflow-mul-i
 mul-i c = search rules
@@ -31,7 +31,7 @@ same_length : tie.Need-same-length
 same_length c = search rules
 
 returns-2 : tie.Need-returns-2
-returns-2 c = place-stored _ _ _ _ c.if1.false
+returns-2 c = place_stored _ _ _ _ c.if1.false
 
 pub write-place-spec : {M : Type 1} → statement M
 write-place-spec =

@@ -1,4 +1,4 @@
-use Rattle.validate.proofs.ValidateBranches.{asks, list-short}
+use Rattle.validate.proofs.ValidateBranches.{asks, list_short_lem}
 use borrow.Author.Rules.{rules}
 use Rattle.validate.proofs.are_short.Statement.{statement}
 use Rattle.validate.proofs.are_short.Tie as tie
@@ -16,7 +16,7 @@ all-short-requires : tie.Need-all-short-requires
 all-short-requires c κs = search rules
 
 returns-3 : tie.Need-returns-3
-returns-3 c = list-short _ _ _ _ _ c.before.before.before.if1.false c.before.before.if2.false _ c.before.present-places.ensures _ c.all_short.ensures
+returns-3 c = list_short_lem _ _ _ _ _ c.before.before.before.if1.false c.before.before.if2.false _ c.before.present-places.ensures _ c.all_short.ensures
 
 pub are-short-spec : {M : Type 1} → statement M
 are-short-spec =

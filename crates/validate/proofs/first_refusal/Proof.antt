@@ -1,4 +1,4 @@
-use Rattle.validate.proofs.RefusalLaws.{earlier-passed, earlier-only, earlier-first, earlier-second}
+use Rattle.validate.proofs.RefusalLaws.{earlier_passed, earlier-only, earlier-first, earlier-second}
 use borrow.Author.Rules.{rules}
 use Rattle.validate.proofs.first_refusal.Statement.{statement}
 use Rattle.validate.proofs.first_refusal.Tie as tie
@@ -10,7 +10,7 @@ enum_told : tie.Need-enum-told
 enum_told c = search rules
 
 returns : tie.Need-returns
-returns c = earlier-passed _ _ c.enum_told.given.1
+returns c = earlier_passed _ _ c.enum_told.given.1
 
 enum-known-b : tie.Need-enum-known-b
 enum-known-b c = search rules

@@ -1,4 +1,4 @@
-use Rattle.validate.proofs.ValidateBranches.{legal-if-ends, one_list}
+use Rattle.validate.proofs.ValidateBranches.{legal_if_ends, one_list}
 use borrow.Author.Rules.{rules}
 use Rattle.validate.proofs.validate_call.Statement.{statement}
 use Rattle.validate.proofs.validate_call.Tie as tie
@@ -10,7 +10,7 @@ are-ends-requires : tie.Need-are-ends-requires
 are-ends-requires c κs = search rules
 
 are-legal-requires : tie.Need-are-legal-requires
-are-legal-requires c κs = legal-if-ends _ _ _ _ c.are-ends.ensures
+are-legal-requires c κs = legal_if_ends _ _ _ _ c.are-ends.ensures
 
 count-within-limit-requires : tie.Need-count-within-limit-requires
 count-within-limit-requires c κs = search rules

@@ -1,5 +1,5 @@
 use mathlib.Core.Path.{◌∙◌}
-use Rattle.validate.proofs.ValidateBranches.{validate-empty}
+use Rattle.validate.proofs.ValidateBranches.{validate_empty}
 use borrow.Author.Rules.{rules}
 use Rattle.validate.proofs.validate_ends.Statement.{statement}
 use Rattle.validate.proofs.validate_ends.Tie as tie
@@ -14,7 +14,7 @@ validate-call-requires : tie.Need-validate-call-requires
 validate-call-requires c κs = search rules
 
 returns : tie.Need-returns
-returns c = c.validate-call.ensures ∙ validate-empty _ _ _ _
+returns c = c.validate-call.ensures ∙ validate_empty _ _ _ _
 
 pub validate-ends-spec : {M : Type 1} → statement M
 validate-ends-spec = tie.close (tie.spec slice-aggregate-validate-call validate-call-requires returns)

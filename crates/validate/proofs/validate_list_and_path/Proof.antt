@@ -1,5 +1,5 @@
 use mathlib.Core.Path.{refl, ◌∙◌}
-use Rattle.validate.proofs.ValidateBranches.{validate-one}
+use Rattle.validate.proofs.ValidateBranches.{validate_one}
 use borrow.Author.Rules.{rules}
 use Rattle.validate.proofs.validate_list_and_path.Statement.{statement}
 use Rattle.validate.proofs.validate_list_and_path.Tie as tie
@@ -11,7 +11,7 @@ validate-call-requires : tie.Need-validate-call-requires
 validate-call-requires c κs = search rules
 
 returns : tie.Need-returns
-returns c = c.validate-call.ensures ∙ validate-one _ _ _ refl
+returns c = c.validate-call.ensures ∙ validate_one _ _ _ refl
 
 pub validate-list-and-path-spec : {M : Type 1} → statement M
 validate-list-and-path-spec = tie.close (tie.spec slice-aggregate-e validate-call-requires returns)

@@ -1,5 +1,5 @@
 use borrow.Author.Rules.{rules}
-use Rattle.layer_offset.specs.Offset.{isClose}
+use Rattle.layer_offset.specs.Offset.{is_close}
 use Rattle.layer_offset.proofs.Branches.{ways}
 use Rattle.layer_offset.proofs.LayerOffset.is_close.Statement.{statement}
 use Rattle.layer_offset.proofs.LayerOffset.is_close.Tie as tie
@@ -14,11 +14,11 @@ is-near-requires : tie.Need-is-near-requires
 is-near-requires c κs = search rules
 
 returns : tie.Need-returns
-unfolding isClose
+unfolding is_close
 returns c = search (rules, ways)
 
 returns-2 : tie.Need-returns-2
-unfolding isClose
+unfolding is_close
 returns-2 c = search (rules, ways)
 
 is-valid-requires-3 : tie.Need-is-valid-requires-3
@@ -34,11 +34,11 @@ is-same-requires : tie.Need-is-same-requires
 is-same-requires c κs = search rules
 
 returns-3 : tie.Need-returns-3
-unfolding isClose
+unfolding is_close
 returns-3 c = search (rules, ways)
 
 returns-4 : tie.Need-returns-4
-unfolding isClose
+unfolding is_close
 returns-4 c = search (rules, ways)
 
 pub is-close-spec : {M : Type 1} → statement M

@@ -1,5 +1,5 @@
 use borrow.Author.Rules.{rules}
-use Rattle.layer_offset.specs.Offset.{isValid}
+use Rattle.layer_offset.specs.Offset.{is_valid}
 use Rattle.layer_offset.proofs.Branches.{ways}
 use Rattle.layer_offset.proofs.LayerOffset.is_valid.Statement.{statement}
 use Rattle.layer_offset.proofs.LayerOffset.is_valid.Tie as tie
@@ -11,11 +11,11 @@ is-finite-requires-2 : tie.Need-is-finite-requires-2
 is-finite-requires-2 c κs = search rules
 
 returns : tie.Need-returns
-unfolding isValid
+unfolding is_valid
 returns c = search (rules, ways)
 
 returns-2 : tie.Need-returns-2
-unfolding isValid
+unfolding is_valid
 returns-2 c = search (rules, ways)
 
 pub is-valid-spec : {M : Type 1} → statement M

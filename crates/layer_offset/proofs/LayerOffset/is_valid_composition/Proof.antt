@@ -1,6 +1,6 @@
 use borrow.Author.Rules.{rules}
 use lib.Ieee.{of_bits}
-use Rattle.layer_offset.specs.Offset.{isValidComposition}
+use Rattle.layer_offset.specs.Offset.{is_valid_composition}
 use Rattle.layer_offset.proofs.Branches.{ways}
 use Rattle.layer_offset.proofs.LayerOffset.is_valid_composition.Statement.{statement}
 use Rattle.layer_offset.proofs.LayerOffset.is_valid_composition.Tie as tie
@@ -9,11 +9,11 @@ is-valid-requires : tie.Need-is-valid-requires
 is-valid-requires c κs = search rules
 
 returns : tie.Need-returns
-unfolding isValidComposition of_bits
+unfolding is_valid_composition of_bits
 returns c = search (rules, ways)
 
 returns-2 : tie.Need-returns-2
-unfolding isValidComposition of_bits
+unfolding is_valid_composition of_bits
 returns-2 c = search (rules, ways)
 
 pub is-valid-composition-spec : {M : Type 1} → statement M

@@ -1,10 +1,10 @@
 use borrow.Author.Rules.{rules}
-use Rattle.layer_offset.proofs.NumberLaws.{pattern-nan, no_nan}
+use Rattle.layer_offset.proofs.NumberLaws.{pattern_nan, no_nan}
 use Rattle.layer_offset.proofs.number.pattern.Statement.{statement}
 use Rattle.layer_offset.proofs.number.pattern.Tie as tie
 
 returns : tie.Need-returns
-returns c = pattern-nan _ c.if1.true
+returns c = pattern_nan _ c.if1.true
 
 float-to-bits-result : tie.Need-float-to-bits-result
 float-to-bits-result c = no_nan _ c.if1.false

@@ -1,5 +1,5 @@
 use mathlib.Core.Path.{ap, ◌∙◌}
-use Rattle.ffi_rest.specs.RestCode.{carriedCode}
+use Rattle.ffi_rest.specs.RestCode.{carried_code}
 use borrow.Author.Rules.{rules}
 use Rattle.mudvizsor.proofs.carried.mudvizsor_map_target_to_source_carried.Statement.{
   statement,
@@ -23,7 +23,7 @@ returns c =
     let at-mapped = c.before.before.before in
     let at-untimed-map = at-mapped.before.before in
     let mapped = rw at-untimed-map.untimed-map.ensures at at-mapped.map-target-to-source-carried.ensures in
-    (c.carried-code.ensures ∙ ap (carriedCode _) mapped.0, mapped.1)
+    (c.carried-code.ensures ∙ ap (carried_code _) mapped.0, mapped.1)
 
 pub mudvizsor-map-target-to-source-carried-spec : {M : Type 1} → statement M
 mudvizsor-map-target-to-source-carried-spec =

@@ -1,5 +1,5 @@
 use mathlib.Core.Path.{ap, ◌∙◌}
-use Rattle.ffi_rest.specs.RestCode.{carriedCode}
+use Rattle.ffi_rest.specs.RestCode.{carried_code}
 use borrow.Author.Rules.{rules}
 use Rattle.mudvizsor.proofs.carried.mudvizsor_route_out_carried.Statement.{statement}
 use Rattle.mudvizsor.proofs.carried.mudvizsor_route_out_carried.Tie as tie
@@ -16,7 +16,7 @@ same_length c = search rules
 returns : tie.Need-returns
 returns c =
     let routed = c.before.before.before.route-out-carried.ensures in
-    (c.carried-code.ensures ∙ ap (carriedCode _) routed.0, routed.1)
+    (c.carried-code.ensures ∙ ap (carried_code _) routed.0, routed.1)
 
 pub mudvizsor-route-out-carried-spec : {M : Type 1} → statement M
 mudvizsor-route-out-carried-spec =

@@ -1,5 +1,5 @@
 use mathlib.Core.Path.{ap, ◌∙◌}
-use Rattle.ffi_values.specs.Code.{replyCode}
+use Rattle.ffi_values.specs.Code.{reply_code}
 use borrow.Author.Rules.{rules}
 use Rattle.mudvizsor.proofs.frames.mudvizsor_frames_line.Statement.{statement}
 use Rattle.mudvizsor.proofs.frames.mudvizsor_frames_line.Tie as tie
@@ -34,7 +34,7 @@ same-length-7 c = search rules
 returns : tie.Need-returns
 returns c =
     let at-answer-whole = c.before.before.before.before.before.before.before.before.before.before.before.before.before.before.before in (
-      c.reply-code.ensures ∙ ap replyCode at-answer-whole.answer-whole.ensures.0,
+      c.reply-code.ensures ∙ ap reply_code at-answer-whole.answer-whole.ensures.0,
       (
         at-answer-whole.answer-whole.ensures.1.0,
         (at-answer-whole.answer-whole.ensures.1.1.0, at-answer-whole.answer-whole.ensures.1.1.1),

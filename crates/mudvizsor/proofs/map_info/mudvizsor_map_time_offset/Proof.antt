@@ -1,6 +1,6 @@
 use mathlib.Core.Path.{ap, ◌∙◌}
 use Rattle.map_function.specs.declared.MapFunction.{MapFunction}
-use Rattle.ffi_values.specs.Time.{offsetNumbers}
+use Rattle.ffi_values.specs.Time.{offset_numbers}
 use borrow.Author.Rules.{rules}
 use Rattle.mudvizsor.proofs.map_info.mudvizsor_map_time_offset.Statement.{statement}
 use Rattle.mudvizsor.proofs.map_info.mudvizsor_map_time_offset.Tie as tie
@@ -15,7 +15,7 @@ write-offset-requires : tie.Need-write-offset-requires
 write-offset-requires c κs = search rules
 
 returns : tie.Need-returns
-returns c = c.write-offset.ensures ∙ ap offsetNumbers (c.before.before.time-offset.ensures ∙ ap (λ (f : MapFunction). f.time_offset) c.before.before.before.map-from-numbers.ensures)
+returns c = c.write-offset.ensures ∙ ap offset_numbers (c.before.before.time-offset.ensures ∙ ap (λ (f : MapFunction). f.time_offset) c.before.before.before.map-from-numbers.ensures)
 
 pub mudvizsor-map-time-offset-spec : {M : Type 1} → statement M
 mudvizsor-map-time-offset-spec =

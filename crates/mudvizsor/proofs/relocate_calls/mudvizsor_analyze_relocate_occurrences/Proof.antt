@@ -1,5 +1,5 @@
 use mathlib.Core.Path.{ap, ◌∙◌}
-use Rattle.ffi_values.specs.Code.{replyCode}
+use Rattle.ffi_values.specs.Code.{reply_code}
 use borrow.Author.Rules.{rules}
 use Rattle.mudvizsor.proofs.relocate_calls.mudvizsor_analyze_relocate_occurrences.Statement.{
   statement,
@@ -18,7 +18,7 @@ same_length c = search rules
 returns : tie.Need-returns
 returns c =
     let at-analyze-relocate-occurrences = c.before.before.before in (
-      c.reply-code.ensures ∙ ap replyCode at-analyze-relocate-occurrences.analyze-relocate-occurrences.ensures.0,
+      c.reply-code.ensures ∙ ap reply_code at-analyze-relocate-occurrences.analyze-relocate-occurrences.ensures.0,
       rw (← at-analyze-relocate-occurrences.analyze-relocate-occurrences.ensures.0)
           at-analyze-relocate-occurrences.analyze-relocate-occurrences.ensures.1,
     )

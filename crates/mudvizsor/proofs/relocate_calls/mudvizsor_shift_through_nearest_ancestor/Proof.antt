@@ -1,5 +1,5 @@
 use mathlib.Core.Path.{ap, ◌∙◌}
-use Rattle.ffi_values.specs.Code.{replyCode}
+use Rattle.ffi_values.specs.Code.{reply_code}
 use borrow.Author.Rules.{rules}
 use Rattle.mudvizsor.proofs.relocate_calls.mudvizsor_shift_through_nearest_ancestor.Statement.{
   statement,
@@ -16,7 +16,7 @@ same_length : tie.Need-same-length
 same_length c = search rules
 
 returns : tie.Need-returns
-returns c = (c.reply-code.ensures ∙ ap replyCode c.before.before.before.shift-through-nearest-ancestor.ensures.0, c.before.before.before.shift-through-nearest-ancestor.ensures.1)
+returns c = (c.reply-code.ensures ∙ ap reply_code c.before.before.before.shift-through-nearest-ancestor.ensures.0, c.before.before.before.shift-through-nearest-ancestor.ensures.1)
 
 pub mudvizsor-shift-through-nearest-ancestor-spec : {M : Type 1} → statement M
 mudvizsor-shift-through-nearest-ancestor-spec =

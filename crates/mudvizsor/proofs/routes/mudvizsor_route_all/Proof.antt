@@ -1,5 +1,5 @@
 use mathlib.Core.Path.{ap, ◌∙◌}
-use Rattle.ffi_values.specs.Code.{validationCode}
+use Rattle.ffi_values.specs.Code.{validation_code}
 use borrow.Author.Rules.{rules}
 use Rattle.mudvizsor.proofs.routes.mudvizsor_route_all.Statement.{statement}
 use Rattle.mudvizsor.proofs.routes.mudvizsor_route_all.Tie as tie
@@ -19,7 +19,7 @@ same-length-2 c = search rules
 returns : tie.Need-returns
 returns c =
     let at-route-all = c.before.before.before.before.before in (
-      c.validation-code.ensures ∙ ap validationCode at-route-all.route-all.ensures.0,
+      c.validation-code.ensures ∙ ap validation_code at-route-all.route-all.ensures.0,
       (at-route-all.route-all.ensures.1.0, at-route-all.route-all.ensures.1.1),
     )
 

@@ -1,5 +1,5 @@
 use mathlib.Core.Path.{ap, ◌∙◌}
-use Rattle.ffi_values.specs.Time.{offsetPatterns}
+use Rattle.ffi_values.specs.Time.{offset_patterns}
 use borrow.Author.Rules.{rules}
 use Rattle.mudvizsor.proofs.time.mudvizsor_layer_offset_to_bits.Statement.{statement}
 use Rattle.mudvizsor.proofs.time.mudvizsor_layer_offset_to_bits.Tie as tie
@@ -11,7 +11,7 @@ write-bits-requires : tie.Need-write-bits-requires
 write-bits-requires c κs = search rules
 
 returns : tie.Need-returns
-returns c = c.write-bits.ensures ∙ ap offsetPatterns c.before.before.to-bits.ensures
+returns c = c.write-bits.ensures ∙ ap offset_patterns c.before.before.to-bits.ensures
 
 pub mudvizsor-layer-offset-to-bits-spec : {M : Type 1} → statement M
 mudvizsor-layer-offset-to-bits-spec =

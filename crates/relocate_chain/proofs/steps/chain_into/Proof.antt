@@ -1,18 +1,18 @@
 -- The loop. After k replacements the chain from the path so far, with n - k replacements left, is the whole chain.
-use Rattle.relocate_chain.proofs.ChainBranches.{chain-begin, chain-end, chain-still, chain-stopped, chain-short, chain-inside, chain-part, chain-on}
+use Rattle.relocate_chain.proofs.ChainBranches.{chain_begin, chain_end, chain-still, chain-stopped, chain-short, chain-inside, chain-part, chain-on}
 use borrow.Author.Rules.{rules}
 use mathlib.Core.Path.{◌≡◌, sym}
 use Prim.Native.Nat.{◌-◌, ◌≤◌}
 use lib.ListN.{length, take}
 use lib.Seq.{length-take-le}
-use Rattle.pair_list.specs.Places.{pairsIn}
-use Rattle.relocate_chain.specs.Chain.{chain, chainFrom}
-use Rattle.relocate_chain.specs.Calls.{skippedSource}
+use Rattle.pair_list.specs.Places.{pairs_in}
+use Rattle.relocate_chain.specs.Chain.{chain, chain_from}
+use Rattle.relocate_chain.specs.Calls.{skipped_source}
 use Rattle.relocate_chain.proofs.steps.chain_into.Statement.{statement}
 use Rattle.relocate_chain.proofs.steps.chain_into.Tie as tie
 
 abbrev invariant-loop : tie.invariant-loop
-invariant-loop store places n skips skipped path current₀ made₀ len₀ k₀ current made len k = (k ≤ n) × (len ≤ 255) × (length current ≡ 255) × (length made ≡ 255) × (chain (skippedSource skips skipped) (pairsIn store places n) path ≡ chainFrom (skippedSource skips skipped) (pairsIn store places n) (n - k) (take len current) k)
+invariant-loop store places n skips skipped path current₀ made₀ len₀ k₀ current made len k = (k ≤ n) × (len ≤ 255) × (length current ≡ 255) × (length made ≡ 255) × (chain (skipped_source skips skipped) (pairs_in store places n) path ≡ chain_from (skipped_source skips skipped) (pairs_in store places n) (n - k) (take len current) k)
 
 abbrev decreases-loop : tie.decreases-loop
 decreases-loop store places n skips skipped path current₀ made₀ len₀ k₀ current made len k = n - k
@@ -29,7 +29,7 @@ loop-holds c = (
   search rules,
   (let at-write-at = c.before.before in
       let at-start = at-write-at.before.before.before.before.before.before.before in
-      chain-begin _ _ _ _ _ _ _ at-write-at.write-at.ensures at-start.requires.0 at-start.requires.1),
+      chain_begin _ _ _ _ _ _ _ at-write-at.write-at.ensures at-start.requires.0 at-start.requires.1),
 )
 
 slice-reshare-prefix-replace-once : tie.Need-slice-reshare-prefix-replace-once invariant-loop decreases-loop
@@ -132,7 +132,7 @@ same-length-3 : tie.Need-same-length-3 invariant-loop decreases-loop
 same-length-3 c = search rules
 
 returns-3 : tie.Need-returns-3 invariant-loop decreases-loop
-returns-3 c = (chain-end _ _ _ _ _ c.before.loop.len c.before.loop.current c.before.loop.invariant.4 c.loop-test.false, c.before.loop.invariant.1)
+returns-3 c = (chain_end _ _ _ _ _ c.before.loop.len c.before.loop.current c.before.loop.invariant.4 c.loop-test.false, c.before.loop.invariant.1)
 
 pub chain-into-spec : {M : Type 1} → statement M
 chain-into-spec =

@@ -1,5 +1,5 @@
 use Rattle.text.proofs.WriteLaws.{fit-inside, fit-part}
-use Rattle.relocate_chain.proofs.StepBranches.{once-still, once-long, once-text, once-over, once-illegal, once-made}
+use Rattle.relocate_chain.proofs.StepBranches.{once_still, once-long, once-text, once_over, once-illegal, once-made}
 use borrow.Author.Rules.{rules}
 use Rattle.relocate_chain.proofs.steps.replace_once.Statement.{statement}
 use Rattle.relocate_chain.proofs.steps.replace_once.Tie as tie
@@ -8,7 +8,7 @@ longest-source-requires : tie.Need-longest-source-requires
 longest-source-requires c κs = search rules
 
 returns : tie.Need-returns
-returns c = once-still _ _ _ _ _ _ c.before.before.longest-source.result c.before.before.longest-source.ensures c.if1.true _
+returns c = once_still _ _ _ _ _ _ c.before.before.longest-source.result c.before.before.longest-source.ensures c.if1.true _
 
 key-at-requires : tie.Need-key-at-requires
 key-at-requires c κs = search rules
@@ -55,7 +55,7 @@ returns-2 c =
     let at-if1 = at-key-at.before in
     let at-longest-source = at-if1.before.before in
     let at-start = at-longest-source.before.before.before.before.before.before in
-    once-over _ _
+    once_over _ _
     (once-text _ _ _ _ _ _ at-longest-source.longest-source.result at-longest-source.longest-source.ensures at-if1.if1.false _ _
     at-key-at.key-at.ensures at-key-at2.key-at2.ensures)
     _ at-start.requires _ at_join.join.ensures.0 _ at_join.join.ensures.1 c.enum_told.given.1
@@ -91,7 +91,7 @@ returns-3 c =
     once-illegal _ _
     (once-text _ _ _ _ _ _ at-longest-source.longest-source.result at-longest-source.longest-source.ensures at-if1.if1.false _ _
     at-key-at.key-at.ensures at-key-at2.key-at2.ensures)
-    _ at-start.requires _ at_join.join.ensures.0 _ at_join.join.ensures.1 _ at-fit.fit.given.1 _ at-is-legal.is-legal.ensures
+    _ at-start.requires _ at_join.join.ensures.0 _ at_join.join.ensures.1 _ at-fit.fit.given.1 _ at-is-legal.is_legal.ensures
     c.if2.true
 
 same-length-3 : tie.Need-same-length-3
@@ -110,7 +110,7 @@ returns-4 c =
     once-made _ _
     (once-text _ _ _ _ _ _ at-longest-source.longest-source.result at-longest-source.longest-source.ensures at-if1.if1.false _ _
     at-key-at.key-at.ensures at-key-at2.key-at2.ensures)
-    _ at-start.requires _ at_join.join.ensures.0 _ at_join.join.ensures.1 _ at-fit.fit.given.1 _ at-is-legal.is-legal.ensures
+    _ at-start.requires _ at_join.join.ensures.0 _ at_join.join.ensures.1 _ at-fit.fit.given.1 _ at-is-legal.is_legal.ensures
     c.if2.false
 
 pub replace-once-spec : {M : Type 1} → statement M

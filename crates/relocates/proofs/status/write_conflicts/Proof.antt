@@ -1,30 +1,30 @@
-use Rattle.relocates.proofs.InitialBranches.{reason, settle-begin, settle-end, settle-dropped, settle-conflict, settle-active, seek-on}
+use Rattle.relocates.proofs.InitialBranches.{reason, settle_begin, settle_end, settle-dropped, settle-conflict, settle-active, seek_on}
 use borrow.Author.Rules.{rules}
 use mathlib.Core.Path.{◌≡◌, refl, ◌∙◌}
 use mathlib.Core.Bool.{false}
 use Prim.Native.Nat.{◌-◌, ◌≤◌}
 use lib.ListN.{length, length-set}
 use Rattle.text.specs.Text.{written}
-use Rattle.pair_list.specs.Places.{pairsIn}
-use Rattle.relocates.specs.Status.{anyBelow, statusList}
+use Rattle.pair_list.specs.Places.{pairs_in}
+use Rattle.relocates.specs.Status.{any_below, status_list}
 use Rattle.relocates.proofs.status.write_conflicts.Statement.{statement}
 use Rattle.relocates.proofs.status.write_conflicts.Tie as tie
-use Rattle.relocates.proofs.StatusBranches.{some-none}
+use Rattle.relocates.proofs.StatusBranches.{some_none}
 
 abbrev invariant-loop : tie.invariant-loop
-invariant-loop store places n first out₀ i₀ own j₀ out i j = (i ≡ i₀) × (j ≤ n) × (length out ≡ length out₀) × (out ≡ out₀) × (anyBelow j (reason store places first i) ≡ false)
+invariant-loop store places n first out₀ i₀ own j₀ out i j = (i ≡ i₀) × (j ≤ n) × (length out ≡ length out₀) × (out ≡ out₀) × (any_below j (reason store places first i) ≡ false)
 
 abbrev decreases-loop : tie.decreases-loop
 decreases-loop store places n first out₀ i₀ own j₀ out i j = n - j
 
 abbrev invariant-pairs : tie.invariant-pairs
-invariant-pairs store places n first out₀ i₀ out i = (i ≤ n) × (length out ≡ length out₀) × (out ≡ written (statusList (pairsIn store places n) i) out₀)
+invariant-pairs store places n first out₀ i₀ out i = (i ≤ n) × (length out ≡ length out₀) × (out ≡ written (status_list (pairs_in store places n) i) out₀)
 
 abbrev decreases-pairs : tie.decreases-pairs
 decreases-pairs store places n first out₀ i₀ out i = n - i
 
 pairs-holds : tie.Need-pairs-init invariant-loop decreases-loop invariant-pairs decreases-pairs
-pairs-holds c = (search rules, refl, settle-begin _ _ _ _)
+pairs-holds c = (search rules, refl, settle_begin _ _ _ _)
 
 element-copy-out-own : tie.Need-element-copy-out-own invariant-loop decreases-loop invariant-pairs decreases-pairs
 element-copy-out-own c = search rules
@@ -49,7 +49,7 @@ pairs-again c = (
 )
 
 loop-holds : tie.Need-loop-init invariant-loop decreases-loop invariant-pairs decreases-pairs
-loop-holds c = (refl, search rules, refl, refl, some-none _)
+loop-holds c = (refl, search rules, refl, refl, some_none _)
 
 element-copy-out-conflicts-with :
     tie.Need-element-copy-out-conflicts-with invariant-loop decreases-loop invariant-pairs decreases-pairs
@@ -96,7 +96,7 @@ loop-less : tie.Need-loop-smaller invariant-loop decreases-loop invariant-pairs 
 loop-less c = search rules
 
 loop-again : tie.Need-loop-preserved invariant-loop decreases-loop invariant-pairs decreases-pairs
-loop-again c = (c.before.before.before.before.loop.invariant.0, search rules, c.before.before.before.before.loop.invariant.2, c.before.before.before.before.loop.invariant.3, seek-on _ _ _ c.before.before.before.before.loop.invariant.4 c.before.conflicts-with.ensures c.if2.false)
+loop-again c = (c.before.before.before.before.loop.invariant.0, search rules, c.before.before.before.before.loop.invariant.2, c.before.before.before.before.loop.invariant.3, seek_on _ _ _ c.before.before.before.before.loop.invariant.4 c.before.conflicts-with.ensures c.if2.false)
 
 status-byte-requires-2 : tie.Need-status-byte-requires-2 invariant-loop decreases-loop invariant-pairs decreases-pairs
 status-byte-requires-2 c κs = search rules
@@ -129,7 +129,7 @@ same_length : tie.Need-same-length invariant-loop decreases-loop invariant-pairs
 same_length c = search rules
 
 returns : tie.Need-returns invariant-loop decreases-loop invariant-pairs decreases-pairs
-returns c = settle-end _ _ _ _ _ _ c.pairs-test.false c.before.pairs.invariant.0 c.before.pairs.invariant.2
+returns c = settle_end _ _ _ _ _ _ c.pairs-test.false c.before.pairs.invariant.0 c.before.pairs.invariant.2
 
 pub write-conflicts-spec : {M : Type 1} → statement M
 write-conflicts-spec =

@@ -1,4 +1,4 @@
-use Rattle.relocates.proofs.InitialBranches.{has-initial}
+use Rattle.relocates.proofs.InitialBranches.{has_initial}
 use borrow.Author.Rules.{rules}
 use Rattle.relocates.proofs.status.write_statuses.Statement.{statement}
 use Rattle.relocates.proofs.status.write_statuses.Tie as tie
@@ -10,7 +10,7 @@ write-initial-requires : tie.Need-write-initial-requires
 write-initial-requires c κs = search rules
 
 write-conflicts-requires : tie.Need-write-conflicts-requires
-write-conflicts-requires c κs = (search rules, has-initial _ _ _ _ _ c.before.before.before.write-initial.ensures)
+write-conflicts-requires c κs = (search rules, has_initial _ _ _ _ _ c.before.before.before.write-initial.ensures)
 
 same_length : tie.Need-same-length
 same_length c = search rules
