@@ -1,5 +1,6 @@
 // Maps many paths through one map, or over one route, in one call: the lists and the lent buffers are validated
 // first and once, then each path by itself.
+#![tactic(auto)]
 ghost use Rattle.std.specs.Prelude.{◌≡◌, true, ◌+◌, ◌*◌, ◌≤◌, ◌<◌, length, set, []};
 ghost use Rattle.text_list.specs.Places.{in_store};
 ghost use Rattle.refusal.specs.Outcome.{outcome_reply, ReturnsPath};
@@ -58,7 +59,7 @@ fn is_inside(texts: &[u8], spots: &[usize], i: usize) -> bool
 
 // What the batch maps the paths through: a map in one of its three directions, or a route of maps with its
 // number of legs, home if the flag is set.
-#[derive(Drop)]
+#[derive(Clone, Copy)]
 enum Mapper {
     Map(map_function::MapFunction, mapping::Direction),
     Route(usize, bool),

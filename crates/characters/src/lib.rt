@@ -1,6 +1,8 @@
 // Characters outside ASCII: validates UTF-8, and that each character is one that a name may have (the
 // role of is_identifier_cont in the Rust sdf/path.rs). Every public function is defined for any bytes and
 // has no precondition.
+#![tactic(auto)]
+
 ghost use Rattle.std.specs.Prelude.{◌≡◌, ◌&&◌, [], ◌∷◌, ◌<◌, ◌≤◌, ◌/◌, ◌%◌, ◌^◌, leb, length, get_or, drop};
 ghost use Rattle.text.specs.Range.{in_range};
 ghost use Rattle.characters.specs.Utf8.{is_continuation, with_bits};

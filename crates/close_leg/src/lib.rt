@@ -1,4 +1,5 @@
 // Closes the open list of the program `frames` as a leg, in lent memory. The buffers may hold anything.
+#![tactic(auto)]
 ghost use Rattle.std.specs.Prelude.{◌≡◌, cond, [], ◌∷◌, ◌+◌, ◌*◌, ◌≤◌, ◌<◌, length};
 ghost use Rattle.text.specs.Text.{written_at};
 ghost use Rattle.pair_list.specs.Places.{pairs_in};
@@ -7,14 +8,14 @@ ghost use Rattle.close_leg.specs.Close.{leg_store, store_has_leg_room, close_lis
 
 // The size of the leg store: the number of legs, and the bytes of their ends before redundant pairs are
 // dropped.
-#[derive(Drop)]
+#[derive(Clone, Copy)]
 pub struct LegTotals {
     pub count: usize,
     pub bytes: usize,
 }
 
 // The reply of closing the open list: the new size of the leg store, or the refusal.
-#[derive(Drop)]
+#[derive(Clone, Copy)]
 pub enum Closed {
     Done(LegTotals),
     Refused(refusal::Refusal),

@@ -1,5 +1,6 @@
 // Builds the list of pairs of a composed map, before redundant pairs are dropped, in the caller's scratch
 // buffer (the two loops of Rust's `MapFunction::compose`).
+#![tactic(auto)]
 ghost use Rattle.std.specs.Prelude.{◌≡◌, true, false, map as mapped, ◌+◌, ◌*◌, ◌≤◌, leb, length};
 ghost use Rattle.std.proofs.Math.Option.{some};
 ghost use Rattle.text.specs.Text.{equal, written, written_if_fits};
@@ -12,7 +13,7 @@ ghost use Rattle.map_spec.specs.Compose.{composed_pair, has_source, add_if_new_s
 ghost use Rattle.compose_pairs.specs.ComposePairs.{map_plainly, path_if_marked, image, image_length, image_buffer, composed_target, compose_fits, CanCompose, built_of, composed_or_none};
 
 // The result of mapping a text: no path, or the length of the path made.
-#[derive(Drop)]
+#[derive(Clone, Copy)]
 enum Image {
     Nothing,
     Made(usize),
@@ -175,7 +176,7 @@ fn has_joined(
 }
 
 // The number of pairs and bytes of a list in a buffer.
-#[derive(Drop)]
+#[derive(Clone, Copy)]
 pub struct Built {
     pub n: usize,
     pub at: usize,

@@ -1,5 +1,6 @@
 // One line of the program `frames` as a call over plain numbers and bytes. What the line uses of the lent memory
 // is validated, since the caller may have altered it between two calls.
+#![tactic(auto)]
 ghost use Rattle.std.specs.Prelude.{◌≡◌, ◌≤◌, length};
 ghost use Rattle.text.specs.Text.{written};
 ghost use Rattle.frames_spec.specs.Input.{parse_line, next_line};
@@ -7,7 +8,7 @@ ghost use Rattle.frames_memory.specs.Memory.{step_frame_in};
 ghost use Rattle.ffi_line.specs.LineCall.{counters_of, counter_numbers, lent_memory, whole_line, has_line_room, line_reply, line_memory, line_out, line_counters, line_check, short_reply, short_out, ProcessesLine};
 
 // The result of the questions put before a line is processed.
-#[derive(Drop)]
+#[derive(Clone, Copy)]
 pub enum LineCheck {
     // The reply line has only these two bytes, and nothing else is written.
     Short(u8, u8),
@@ -111,7 +112,7 @@ fn write_short(head: u8, answer: u8, out: &mut [u8]) -> refusal::Reply
     let mut first = [0u8; 2];
     first[0] = head;
     first[1] = answer;
-    hex::encode(&first, 0, out);
+    hex_digits::encode(&first, 0, out);
     text::write_at(b"\n", 4, out);
     refusal::Reply::Written(5)
 }

@@ -7,8 +7,8 @@ use lib.ListN.{length, length-append}
 use borrow.Author.Tests.{le-leb}
 use Rattle.text.specs.Text.{Text, written_at, written_if_fits}
 use Rattle.pair_list_write.proofs.WriteBranches.{over_over}
-use Rattle.hex.specs.Hex.{encode_hex}
-use Rattle.hex.proofs.EncodeLaws.{encoded_length}
+use Rattle.hex_digits.specs.Hex.{encode_hex}
+use Rattle.hex_digits.proofs.EncodeLaws.{encoded_length}
 use Rattle.frame_answer.specs.Answer.{line_text, WroteAt}
 
 placed_fits : (at : ℕ) (t out : Text) → at + length t ≤ length out → written_if_fits at t out ≡ written_at at t out

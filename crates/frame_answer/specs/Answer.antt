@@ -7,7 +7,7 @@ use Rattle.refusal.specs.declared.Reply.{Reply}
 use Rattle.refusal.specs.declared.Reply.TheVariants.{Written, Refused}
 use Rattle.refusal.specs.Refusal.{refusal_number}
 use Rattle.line_reader.specs.Lines.{Line}
-use Rattle.hex.specs.Hex.{encode_hex}
+use Rattle.hex_digits.specs.Hex.{encode_hex}
 use Rattle.frames_spec.specs.Frame.{Frame}
 use Rattle.frames_spec.specs.Run.{next_state, answer_frame}
 use Rattle.frames_spec.specs.Input.{parse_line, next_line, answer_line, max_answer_line}

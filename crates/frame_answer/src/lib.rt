@@ -1,6 +1,7 @@
 // Processes one line of the program `frames`: decodes and parses it, performs the frame and writes the reply
 // line. The lent buffers may hold anything; crates/frames_memory/specs/Memory.antt defines the effect of each
 // frame.
+#![tactic(auto)]
 ghost use Rattle.std.specs.Prelude.{◌≡◌, [], ◌∷◌, ◌+◌, ◌*◌, ◌≤◌, leb, length, take};
 ghost use Rattle.text.specs.Text.{written};
 ghost use Rattle.frames_spec.specs.State.{big_endian32};
@@ -17,7 +18,7 @@ ghost use Rattle.frames_spec.specs.Input.{max_answer_line};
 pub const MAX_ANSWER_LINE: usize = 515;
 
 // The result of a line: the counters after it, and the offset at which its reply ends.
-#[derive(Drop)]
+#[derive(Clone, Copy)]
 pub struct AnsweredLine {
     pub kept: frames_memory::Counters,
     pub end: usize,
@@ -32,9 +33,9 @@ fn write_line(head: u8, answer: u8, payload: &[u8], at: usize, out: &mut [u8]) -
     let mut first = [0u8; 2];
     first[0] = head;
     first[1] = answer;
-    hex::encode(&first, at, out);
+    hex_digits::encode(&first, at, out);
     let payload_at = at + 4;
-    hex::encode(payload, payload_at, out);
+    hex_digits::encode(payload, payload_at, out);
     let end = payload_at + 2 * payload.len();
     text::write_at(b"\n", end, out);
     end + 1

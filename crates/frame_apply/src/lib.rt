@@ -1,5 +1,6 @@
 // The effect of a frame of the program `frames` on the open list, the legs and the counters, for any contents
 // of the lent buffers: crates/frames_memory/specs/Memory.antt defines it.
+#![tactic(auto)]
 ghost use Rattle.std.specs.Prelude.{◌≡◌};
 ghost use Rattle.refusal.specs.Refusal.{refusal_number};
 ghost use Rattle.frames_memory.specs.Memory.{frames_memory};
@@ -7,7 +8,7 @@ ghost use Rattle.frame_apply.specs.Done.{count_route, PairDone, CloseDone};
 
 // The effect of a frame: the counters after it, and the reply; its payload, if there is one, is at the
 // beginning of the payload buffer.
-#[derive(Drop)]
+#[derive(Clone, Copy)]
 pub struct Effect {
     pub kept: frames_memory::Counters,
     pub reply: refusal::Reply,

@@ -11,11 +11,11 @@ use borrow.Author.Tests.{le-leb, lt-leb, leb-true, leb-false}
 use Rattle.text.specs.Text.{Text, written}
 use Rattle.text.proofs.WriteLaws.{placed_first, read_back}
 use Rattle.line_reader.specs.Lines.{text, overlong, line_capacity, line_in_buffer}
-use Rattle.hex.specs.Hex.{decode_hex}
-use Rattle.hex.specs.Calls.{decode_reply, decode_buffer}
-use Rattle.hex.specs.declared.Decoded.{Decoded}
-use Rattle.hex.specs.declared.Decoded.TheVariants.{Bytes, Bad as BadDigits, Over}
-use Rattle.hex.proofs.DecodeLaws.{decoded_length}
+use Rattle.hex_digits.specs.Hex.{decode_hex}
+use Rattle.hex_digits.specs.Calls.{decode_reply, decode_buffer}
+use Rattle.hex_digits.specs.declared.Decoded.{Decoded}
+use Rattle.hex_digits.specs.declared.Decoded.TheVariants.{Bytes, Bad as BadDigits, Over}
+use Rattle.hex_digits.proofs.DecodeLaws.{decoded_length}
 use Rattle.frames_spec.specs.Frame.{decode_frame}
 use Rattle.frames_spec.specs.Input.{frame_of_bytes, parse_line}
 use Rattle.frame_decode.specs.LineBytes.{line_bytes, decoded_count}

@@ -3,7 +3,7 @@ use Rattle.std.specs.Prelude.{ℕ, cond, leb, length}
 use Rattle.std.proofs.Math.Option.{Option, none, some}
 use Rattle.text.specs.Text.{Text}
 use Rattle.line_reader.specs.Lines.{Line, text, overlong}
-use Rattle.hex.specs.Hex.{decode_hex}
+use Rattle.hex_digits.specs.Hex.{decode_hex}
 
 -- The bytes that a line encodes; none if it is overlong or not a line of digits.
 unfoldable pub line_bytes : Line → Option Text

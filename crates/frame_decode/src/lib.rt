@@ -1,6 +1,7 @@
 // Decodes the digits of a line, and parses the bytes of a frame in place, without copying them.
+#![tactic(auto)]
 ghost use Rattle.std.specs.Prelude.{◌≡◌, ◌+◌, ◌*◌, ◌≤◌, length, get_or};
-ghost use Rattle.hex.specs.Calls.{decode_buffer};
+ghost use Rattle.hex_digits.specs.Calls.{decode_buffer};
 ghost use Rattle.line_reader.specs.Lines.{line_in_buffer};
 ghost use Rattle.frames_spec.specs.Frame.{add-pair, pair-payload, kinds, form_of, decode_payload, decode_form, with_kind, decode_frame};
 ghost use Rattle.frame_decode.specs.Header.{decoded_of, decoded_alone};
@@ -8,7 +9,7 @@ ghost use Rattle.frame_decode.specs.LineBytes.{line_bytes, decoded_count};
 
 // What a frame asks for, with the lengths of the texts that end it; specs/Header.antt defines the action that
 // each case denotes.
-#[derive(Drop)]
+#[derive(Clone, Copy)]
 pub enum FrameHeader {
     // The lengths of the source and the target.
     AddPair(usize, usize),
@@ -21,7 +22,7 @@ pub enum FrameHeader {
 }
 
 // The parse result of a frame.
-#[derive(Drop)]
+#[derive(Clone, Copy)]
 pub enum DecodedFrame {
     // The kind, and what the frame asks for.
     Frame(u8, FrameHeader),
@@ -113,10 +114,10 @@ pub fn decode_line(line: &[u8], len: usize, frame: &mut [u8]) -> usize
     if line.len() < len {
         return 0;
     }
-    let d = hex::decode(&line[..len], frame);
+    let d = hex_digits::decode(&line[..len], frame);
     match d {
-        hex::Decoded::Bytes(n) => n,
-        hex::Decoded::Bad => 0,
-        hex::Decoded::Over => 0,
+        hex_digits::Decoded::Bytes(n) => n,
+        hex_digits::Decoded::Bad => 0,
+        hex_digits::Decoded::Over => 0,
     }
 }

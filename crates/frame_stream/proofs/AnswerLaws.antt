@@ -7,8 +7,8 @@ use Prim.Native.Nat.{◌≤◌}
 use native.Mathlib.Omega.{arith}
 use lib.ListN.{length, length-append}
 use Rattle.text.specs.Text.{Text}
-use Rattle.hex.specs.Hex.{encode_hex}
-use Rattle.hex.proofs.EncodeLaws.{encoded_length}
+use Rattle.hex_digits.specs.Hex.{encode_hex}
+use Rattle.hex_digits.proofs.EncodeLaws.{encoded_length}
 use Rattle.refusal.specs.declared.Validation.{Validation}
 use Rattle.refusal.specs.declared.Validation.TheVariants.{Passed, Refused}
 use Rattle.refusal.specs.Refusal.{refused_or}

@@ -6,6 +6,7 @@
 // Proved: the texts handed to the writes, one after another, are the protocol's output for the blocks that the
 // reads deliver (crates/frame_stream/specs/Progress.antt). Only which bytes the system's `read` delivers and
 // what its `write` does with the bytes that it is handed is open: the kit's contracts say nothing of them.
+#![tactic(auto)]
 ghost use Rattle.std.specs.Prelude.{◌≡◌, true, false, [], ◌≤◌, length};
 ghost use Rattle.frames_memory.specs.Represents.{initial_counters};
 ghost use Rattle.frame_stream.specs.Stream.{stream_state, process_block};
@@ -14,7 +15,7 @@ ghost use Rattle.frame_stream.specs.Progress.{state_between, StartState, unconsu
 use libc::{STDERR_FILENO, STDIN_FILENO, STDOUT_FILENO};
 
 // The result of processing some bytes, and whether the replies were written.
-#[derive(Drop)]
+#[derive(Clone, Copy)]
 struct AnswerPart {
     reply: frame_stream::StreamReply,
     written: bool,
@@ -22,7 +23,7 @@ struct AnswerPart {
 
 // The state of the main loop: the range of the input block that is not consumed, the length of the line so
 // far, the counters, whether to continue, and whether the whole input was processed and the replies written.
-#[derive(Drop)]
+#[derive(Clone, Copy)]
 struct StreamNow {
     at: usize,
     end: usize,

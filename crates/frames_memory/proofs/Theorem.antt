@@ -8,7 +8,7 @@ use Prim.Native.Nat.{ℕ, ◌+◌}
 use native.Mathlib.Omega.{arith}
 use lib.ListN.{length}
 use Rattle.text.specs.Text.{Text}
-use Rattle.hex.specs.Hex.{encode_hex}
+use Rattle.hex_digits.specs.Hex.{encode_hex}
 use Rattle.line_reader.specs.Lines.{Line, lines_of, fold_answers}
 use Rattle.line_reader.proofs.BlockLaws.{simulates}
 use Rattle.pair_list.specs.Pair.{Pair, all_ends, all_short}

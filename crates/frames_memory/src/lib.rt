@@ -1,8 +1,9 @@
 // The counters that the program `frames` keeps between two lines beside its lent buffers; specs/Memory.antt
 // defines the effect of each frame on both.
+#![tactic(auto)]
 
 // The counters kept between two lines.
-#[derive(Drop)]
+#[derive(Clone, Copy)]
 pub struct Counters {
     // The size of the open list.
     pub opened: open_list::OpenList,

@@ -7,7 +7,7 @@ use Prim.Native.Nat.{ℕ}
 use Rattle.text.specs.Text.{Text}
 use Rattle.path_grammar.specs.Own.{has_variant_selection}
 use Rattle.line_reader.specs.Lines.{Line, fold_answers}
-use Rattle.hex.specs.Hex.{encode_hex}
+use Rattle.hex_digits.specs.Hex.{encode_hex}
 use Rattle.frames_spec.specs.Frame.{Frame, out, home}
 use Rattle.frames_spec.specs.State.{State, Answer, initial_state, success, answer_bytes, step_frame}
 use Rattle.frames_spec.specs.Run.{next_state, answer_frame, state_after_frames}

@@ -6,7 +6,7 @@ use Rattle.text.specs.Text.{Text}
 use Rattle.text.specs.Bytes.{newline}
 use Rattle.path_grammar.specs.Own.{has_variant_selection}
 use Rattle.line_reader.specs.Lines.{Line, text, overlong, lines_of, fold_answers}
-use Rattle.hex.specs.Hex.{decode_hex, encode_hex}
+use Rattle.hex_digits.specs.Hex.{decode_hex, encode_hex}
 use Rattle.frames_spec.specs.Frame.{Frame, out, home, decode_frame}
 use Rattle.frames_spec.specs.State.{State, Transition, initial_state, success, step_frame}
 use Rattle.frames_spec.specs.Run.{next_state, answer_frame, state_after_frames}

@@ -6,7 +6,7 @@ use mathlib.Core.List.{List, [], ◌∷◌, ◌++◌}
 use mathlib.Core.Option.{Option, none, some}
 use Prim.Native.Nat.{ℕ, ◌+◌}
 use Rattle.text.specs.Text.{Text}
-use Rattle.hex.specs.Hex.{encode_hex}
+use Rattle.hex_digits.specs.Hex.{encode_hex}
 use Rattle.line_reader.specs.Lines.{Line}
 use Rattle.line_reader.proofs.BlockLaws.{simulates}
 use Rattle.refusal.specs.declared.Refusal.{Refusal}

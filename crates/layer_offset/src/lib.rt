@@ -1,5 +1,7 @@
 // Time offsets between layers. Ports LayerOffset of the Rust sdf/mod.rs, except the functions that need
 // a Value. Every function is total: none has a precondition.
+#![tactic(auto)]
+
 ghost use Rattle.std.specs.Prelude.{◌≡◌};
 ghost use Rattle.layer_offset.specs.Offset.{layer_offset, is_identity, is_valid, is_valid_composition, sanitized, apply_offset, concatenate_offsets, inverse_offset, offset_bits, same_bits, is_near, is_close};
 ghost use Rattle.layer_offset.specs.Number.{plus_zero};
@@ -7,14 +9,14 @@ ghost use Rattle.layer_offset.specs.Number.{plus_zero};
 mod number;
 
 // A time offset: maps a time in a layer to offset + scale * time.
-#[derive(Drop)]
+#[derive(Clone, Copy)]
 pub struct LayerOffset {
     pub offset: f64,
     pub scale: f64,
 }
 
 // The bit patterns of an offset and a scale.
-#[derive(Drop)]
+#[derive(Clone, Copy)]
 pub struct OffsetBits(pub u64, pub u64);
 
 impl OffsetBits {

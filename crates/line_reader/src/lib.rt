@@ -1,5 +1,7 @@
 // Splits an input that arrives in blocks of any size into lines, using a caller's line buffer. No
 // function has a precondition.
+#![tactic(auto)]
+
 ghost use Rattle.std.specs.Prelude.{◌≡◌, length};
 ghost use Rattle.line_reader.specs.TakeLine.{newline_index, line_length_after, line_buffer_after, take_line_reply, take_line_buffer};
 ghost use Rattle.line_reader.specs.Lines.{line_capacity};
@@ -8,7 +10,7 @@ ghost use Rattle.line_reader.specs.Lines.{line_capacity};
 const MOST: usize = 4096;
 
 // The part of a block that one call consumed, and the line so far.
-#[derive(Drop)]
+#[derive(Clone, Copy)]
 pub struct Taken {
     // Number of bytes of the block that were consumed.
     pub used: usize,

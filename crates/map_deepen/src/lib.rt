@@ -1,5 +1,6 @@
 // Deepens the class of a map to a path, after validation: the class pair is replaced by the node and its
 // image. Ports `MapFunction::deepen_to` of pcp/mapping.rs.
+#![tactic(auto)]
 ghost use Rattle.std.specs.Prelude.{◌≡◌, true, false, ◌+◌, ◌*◌, ◌≤◌, ◌<◌, length, take};
 ghost use Rattle.path_prefix.specs.Prefix.{has_prefix};
 ghost use Rattle.path_prefix.specs.Elements.{element_count};
@@ -161,7 +162,7 @@ fn deepen_by(
 }
 
 // The result of the search for a class: the index of the pair and the number of elements of its source.
-#[derive(Drop)]
+#[derive(Clone, Copy)]
 struct ClassSoFar {
     found: bool,
     at: usize,

@@ -1,5 +1,6 @@
 // The map type (MapFunction of the Rust pcp/mapping.rs), and building a map in canonical form in lent
 // memory. The pairs of a map are in buffers that the caller lends; the struct holds the rest.
+#![tactic(auto)]
 ghost use Rattle.std.specs.Prelude.{◌≡◌};
 ghost use Rattle.pair_list.specs.Places.{pairs_in};
 ghost use Rattle.validate.specs.Validate.{lent_list};
@@ -9,7 +10,7 @@ ghost use Rattle.map_function.specs.MapFunction.{is_null, path_is_identity, is_i
 ghost use Rattle.map_function.specs.MapOutcome.{map_function, ReturnsMap, count_in_slice, without_dropping, from_parts_outcome};
 
 // A map without its pairs.
-#[derive(Drop)]
+#[derive(Clone, Copy)]
 pub struct MapFunction {
     // Number of pairs of the lent list that belong to the map.
     pub count: usize,
@@ -99,7 +100,7 @@ impl MapFunction {
 }
 
 // The reply of a call that builds a map.
-#[derive(Drop)]
+#[derive(Clone, Copy)]
 pub enum MapReply {
     Made(MapFunction),
     Refused(refusal::Refusal),

@@ -1,12 +1,13 @@
 // Longest-match lookup: the pair of a map whose key is the longest prefix of a path. Ports best_prefix
 // of the Rust pcp/mapping.rs. Every public function is defined for any bytes and any numbers.
+#![tactic(auto)]
 ghost use Rattle.std.specs.Prelude.{◌≡◌, cond, length, ◌*◌, ◌≤◌, min};
 ghost use Rattle.map_lookup.specs.LookupStep.{substring, key_count, found_of, consider_key, is_index, wins, other_wins};
 ghost use Rattle.pair_list.specs.Places.{key_at};
 ghost use Rattle.pair_list.specs.LongestMatch.{matches, longest_match};
 
 // The result of a lookup.
-#[derive(Drop)]
+#[derive(Clone, Copy)]
 pub struct Found {
     // Whether a pair matches.
     pub found: bool,
@@ -18,7 +19,7 @@ pub struct Found {
 // before a key has matched. That number is no key length: keys are measured in elements. It says where the key
 // ends in the path, and spares counting: of two prefixes of one path, the one that covers more bytes has no fewer
 // elements (`CoveredDecidesAlike`). Two numbers stay in registers; a flag or a count would go through memory.
-#[derive(Drop)]
+#[derive(Clone, Copy)]
 struct BestSoFar {
     at: usize,
     covered: usize,

@@ -1,6 +1,7 @@
 // Calls that build a map from pairs. Ports new, from_pair and from_pair_identity of MapFunction in the
 // Rust pcp/mapping.rs. Each call validates its arguments in the order of the questions; a refused call
 // writes nothing.
+#![tactic(auto)]
 ghost use Rattle.std.specs.Prelude.{◌≡◌, [], ◌∷◌, ◌+◌, ◌≤◌, length};
 ghost use Rattle.pair_list.specs.Pair.{pair};
 ghost use Rattle.pair_list.specs.Places.{pairs_in};

@@ -1,1 +1,2 @@
 // The rest of a mapped path: definitions and theorems only (specs/, proofs/), no code.
+#![tactic(auto)]

@@ -2,6 +2,7 @@
 // and translate_to_target of MapFunction in the Rust pcp/mapping.rs; each has a form that also tells the rest
 // of the path, the part that was carried over unaltered. Each call validates in the order of the questions; a
 // refused call writes nothing.
+#![tactic(auto)]
 ghost use Rattle.std.specs.Prelude.{◌≡◌, ◌≤◌, length};
 ghost use Rattle.path_parts.specs.Strip.{strip};
 ghost use Rattle.refusal.specs.Outcome.{ReturnsPath};
@@ -15,7 +16,7 @@ ghost use Rattle.mapping.specs.Calls.{map_source_to_target_call, map_target_to_s
 ghost use Rattle.mapping.specs.Direction.{map_fast_in, after_list_validated};
 
 // How a path is mapped.
-#[derive(Drop)]
+#[derive(Clone, Copy)]
 pub enum Direction {
     // Plain mapping: `map_source_to_target`.
     Out,

@@ -1,17 +1,18 @@
 // The open list of the program `frames` in lent memory: adding a pair. The buffers may hold anything; their
 // invariant is specs/OpenList.antt.
+#![tactic(auto)]
 ghost use Rattle.std.specs.Prelude.{◌≡◌, length};
 ghost use Rattle.open_list.specs.Add.{validate_add, add_reply, add_bytes, add_places, AddFits};
 
 // The size of the open list: its number of pairs, and the bytes of their ends.
-#[derive(Drop)]
+#[derive(Clone, Copy)]
 pub struct OpenList {
     pub pairs: usize,
     pub bytes: usize,
 }
 
 // The reply of adding a pair: the new size of the list, or the refusal.
-#[derive(Drop)]
+#[derive(Clone, Copy)]
 pub enum Added {
     Done(OpenList),
     Refused(refusal::Refusal),

@@ -1,5 +1,6 @@
 // Writes lists of pairs to lent memory: the bytes of all ends consecutively, and the places of each
 // pair. Every public function is defined for any bytes and any numbers.
+#![tactic(auto)]
 ghost use Rattle.std.specs.Prelude.{◌≡◌, [], ◌∷◌, ◌*◌, leb};
 ghost use Rattle.text.specs.Text.{written_if_fits};
 ghost use Rattle.pair_list.specs.Places.{pairs_in, end_bytes};
@@ -7,7 +8,7 @@ ghost use Rattle.pair_list_write.specs.Packed.{pair_end, pair_bytes, pair_slots}
 ghost use Rattle.pair_list_write.specs.Lists.{copy_entry, remaining_room, append_list_reply, append_list_bytes, append_list_slots, write_list_reply, write_list_bytes, write_list_slots};
 
 // The remaining capacity of a byte buffer.
-#[derive(Drop)]
+#[derive(Clone, Copy)]
 pub enum Room {
     // The number of bytes that remain.
     Left(usize),

@@ -1,25 +1,26 @@
 // Calls that test a path or count its elements. Ports new, has_prefix, element_count and prim_element_count
 // of the Rust sdf/path.rs; rest_start is has_prefix with the place where the rest begins. Each call validates
 // its texts first (questions 1 and 2); the first failed question decides the refusal.
+#![tactic(auto)]
 ghost use Rattle.std.specs.Prelude.{◌≡◌};
 ghost use Rattle.path.specs.Calls.{path_new_call, is_end_call, has_variant_selection_call, element_count_call, prim_element_count_call, has_prefix_call, rest_start_call};
 
 // The reply of a call that tests a path or a map.
-#[derive(Drop)]
+#[derive(Clone, Copy)]
 pub enum Test {
     Holds(bool),
     Refused(refusal::Refusal),
 }
 
 // The reply of a call that counts elements.
-#[derive(Drop)]
+#[derive(Clone, Copy)]
 pub enum Count {
     Counted(path_prefix::Elements),
     Refused(refusal::Refusal),
 }
 
 // The reply of the prefix test that tells where the rest begins.
-#[derive(Drop)]
+#[derive(Clone, Copy)]
 pub enum RestTest {
     Tested(path_rest::Rest),
     Refused(refusal::Refusal),

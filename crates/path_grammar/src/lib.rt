@@ -2,6 +2,8 @@
 // grammar). The scan is a table-driven automaton that reads one byte at a time and keeps its state in
 // the low six bits of a number. It reads a path's own part; the path in brackets is checked apart, and
 // so are the characters outside ASCII, whose bytes the scan takes for bytes of names.
+#![tactic(auto)]
+
 ghost use Rattle.std.specs.Prelude.{◌≡◌, ◌&&◌, not, map, ◌/◌, ◌%◌, ◌^◌, leb};
 ghost use Rattle.path_grammar.specs.Legal.{is_name_start_byte, is_name_byte, is_root, legal_own, legal_within, legal, is_end};
 ghost use Rattle.text.specs.Text.{lacks_byte};

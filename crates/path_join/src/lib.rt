@@ -1,6 +1,7 @@
 // Prefix replacement on path texts: appends the remainder of a path after its old prefix to a new
 // prefix. Ports the joining step of replace_prefix in the Rust sdf/path.rs. Every function is defined
 // for any bytes; none has a precondition.
+#![tactic(auto)]
 ghost use Rattle.std.specs.Prelude.{◌≡◌, ◌||◌, eqb, ◌≤◌, [], ◌∷◌, take, drop};
 ghost use Rattle.text.specs.Text.{equal, starts_with, fit_of, written_if_fits};
 ghost use Rattle.text.specs.Bytes.{dot, open_brace, slash};
@@ -8,7 +9,7 @@ ghost use Rattle.path_join.specs.Join.{join, join_illegal};
 ghost use Rattle.path_join.specs.Layout.{as_number, first_byte, last_byte, separator_by, LaysOut};
 
 // Where the parts of a join are; each number is 0 or 1.
-#[derive(Drop)]
+#[derive(Clone, Copy)]
 struct Layout {
     // The length of the separator.
     separator: usize,

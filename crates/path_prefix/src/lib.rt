@@ -1,12 +1,13 @@
 // Path prefixes and element counts. Ports has_prefix, element_count and prim_element_count of the Rust
 // sdf/path.rs. Every public function is defined for any bytes and has no precondition.
+#![tactic(auto)]
 ghost use Rattle.std.specs.Prelude.{◌≡◌, cond, ◌+◌, ◌<◌, length, get_or, drop};
 ghost use Rattle.path_prefix.specs.Elements.{starts_element, count_elements, element_count, prim_element_count};
 ghost use Rattle.path_prefix.specs.Prefix.{is_boundary, can_follow, has_prefix};
 
 // A number of elements, in which maps measure the length of a key. It is a type of its own so that it
 // cannot be mixed with a length in bytes.
-#[derive(Drop)]
+#[derive(Clone, Copy)]
 pub struct Elements(pub usize);
 
 // Returns whether an element boundary lies between the prefix and a remainder that begins with byte `a`.

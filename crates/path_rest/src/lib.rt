@@ -1,11 +1,12 @@
 // The rest of a path: the part at its end that follows a prefix and is carried over unaltered when the prefix
 // is replaced. The Rust has no counterpart. Every public function is defined for any bytes and any numbers.
+#![tactic(auto)]
 ghost use Rattle.std.specs.Prelude.{◌≡◌};
 ghost use Rattle.path_rest.specs.Rest.{rest_index, rest_start, rest_text};
 ghost use Rattle.path_rest.specs.Carried.{with_rest, reply_of, carried_rest};
 
 // Where the rest of a path begins.
-#[derive(Drop)]
+#[derive(Clone, Copy)]
 pub enum Rest {
     // At this index; it goes to the end of the path.
     From(usize),
@@ -14,7 +15,7 @@ pub enum Rest {
 }
 
 // The reply of a call that maps a path and tells what of it was carried over unaltered.
-#[derive(Drop)]
+#[derive(Clone, Copy)]
 pub enum Carried {
     // The length of the path written, and where the rest begins in the path given.
     Written(usize, Rest),

@@ -1,13 +1,14 @@
 // The target of a path, which is the path in its brackets. Ports embedded_target, replace_embedded_target
 // and target_brackets of the Rust sdf/path.rs. First the functions on any bytes, then the calls, each of
 // which validates in the order of the questions; a refused call writes nothing.
+#![tactic(auto)]
 ghost use Rattle.std.specs.Prelude.{◌≡◌, ◌≤◌, ◌<◌, length};
 ghost use Rattle.refusal.specs.Outcome.{checked, checked_option, ReturnsPath};
 ghost use Rattle.path_target.specs.Target.{bracket_depth, close_len, target_brackets, embedded_target, or_empty, replace_embedded_target, replaced_reply, replaced_buffer};
 ghost use Rattle.path_target.specs.Calls.{embedded_target_call, replace_embedded_target_call};
 
 // The indices of the brackets of a path.
-#[derive(Drop)]
+#[derive(Clone, Copy)]
 pub enum Brackets {
     // Of the first `[`, and of the `]` that is balanced with it.
     Between(usize, usize),
@@ -16,7 +17,7 @@ pub enum Brackets {
 }
 
 // The reply of `replace_target_into`.
-#[derive(Drop)]
+#[derive(Clone, Copy)]
 pub enum Replaced {
     // The number of bytes written.
     Written(usize),

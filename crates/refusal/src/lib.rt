@@ -1,10 +1,11 @@
 // Refusals: why a call is refused, the numbers that docs/REQUIREMENTS.md gives them, their order, and the reply of
 // a call that writes a path. Validates the texts of a call: questions 1 (at most 255 bytes) and 2 (a legal path).
+#![tactic(auto)]
 ghost use Rattle.std.specs.Prelude.{◌≡◌, [], ◌∷◌};
 ghost use Rattle.refusal.specs.Refusal.{refusal_number, refusal_rank, all_texts_short, all_texts_legal, validate_texts};
 
 // Why a call is refused; specs/Refusal.antt defines the number (`refusal_number`) and the rank (`refusal_rank`) of each.
-#[derive(Drop)]
+#[derive(Clone, Copy)]
 pub enum Refusal {
     // 1: a text has more than 255 bytes.
     TooLong,
@@ -25,7 +26,7 @@ pub enum Refusal {
 }
 
 // The result of validation.
-#[derive(Drop)]
+#[derive(Clone, Copy)]
 pub enum Validation {
     // Every question so far has passed.
     Passed,
@@ -34,7 +35,7 @@ pub enum Validation {
 }
 
 // The reply of a call that writes to a lent buffer: a path, lengths of paths, statuses or a line.
-#[derive(Drop)]
+#[derive(Clone, Copy)]
 pub enum Reply {
     // The number of items written: bytes, lengths or statuses.
     Written(usize),

@@ -1,6 +1,7 @@
 // Chaining: follows a path through a relocate list by prefix replacement. Ports `chain_through_relocates`
 // and `shift_through_nearest_ancestor` of pcp/relocates.rs, and adds the number of replacements made. The
 // calls validate their input first (questions 1 to 5); a refused call writes nothing.
+#![tactic(auto)]
 mod steps;
 
 ghost use Rattle.std.specs.Prelude.{◌≡◌, cond, [], ◌≤◌, length};
@@ -11,7 +12,7 @@ ghost use Rattle.relocate_chain.specs.Chain.{chain, shift_through_nearest_ancest
 ghost use Rattle.relocate_chain.specs.Calls.{skipped_source, shift_call, chain_call, chain_reply, chain_buffer};
 
 // The reply of a chaining call.
-#[derive(Drop)]
+#[derive(Clone, Copy)]
 pub enum Chain {
     // The number of bytes written and the number of replacements made.
     Chained(usize, usize),

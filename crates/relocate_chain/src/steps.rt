@@ -11,11 +11,11 @@ ghost use Rattle.pair_list.specs.Pair.{pair};
 ghost use Rattle.pair_list.specs.BestStep.{consider_index};
 
 // A number of bytes: the measure of a key in chaining.
-#[derive(Drop)]
+#[derive(Clone, Copy)]
 pub struct Bytes(pub usize);
 
 // The result of a search: the index of the pair with the longest source so far, and that source's length.
-#[derive(Drop)]
+#[derive(Clone, Copy)]
 struct Longest {
     found: bool,
     at: usize,
@@ -23,7 +23,7 @@ struct Longest {
 }
 
 // The result of one replacement step.
-#[derive(Drop)]
+#[derive(Clone, Copy)]
 pub enum Step {
     // No pair yields a path.
     Still,

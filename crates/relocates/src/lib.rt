@@ -1,6 +1,7 @@
 // Relocates: analyses which (source, target) pairs of a relocate list take part in composition. Ports
 // `analyze_relocate_occurrences`, `relocate_pair_conflicts` and `relocate_invalid_reason` of
 // pcp/relocates.rs. The call validates its input first (questions 1 to 5); a refused call writes nothing.
+#![tactic(auto)]
 pub mod status;
 
 ghost use Rattle.std.specs.Prelude.{◌≡◌, length};
@@ -9,7 +10,7 @@ ghost use Rattle.relocates.specs.Calls.{analyze_reply, analyze_buffer};
 
 // Whether a pair of a relocate list takes part, or why it is dropped; specs/Status.antt defines the status
 // byte of each case.
-#[derive(Drop)]
+#[derive(Clone, Copy)]
 pub enum RelocateOccurrence {
     Active,
     DroppedStructural,

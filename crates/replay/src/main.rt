@@ -5,6 +5,7 @@
 // An input line is `PATH OLD NEW`, separated by single spaces; a missing text is empty. Its result is one
 // line of thirteen fields, separated by single spaces: a refusal as `!` and its number, a test as `yes` or
 // `no`, a path as its text, the empty path as `-`.
+#![tactic(auto)]
 ghost use Rattle.std.specs.Prelude.{◌≤◌, length};
 
 use libc::{STDERR_FILENO, STDIN_FILENO, STDOUT_FILENO};

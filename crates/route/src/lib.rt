@@ -1,6 +1,7 @@
 // Routes: maps a path out over the legs in lent memory, or home, with the rest of the path beside the reply or
 // without it. The maps of relocate legs are prepared once per call, and a validated route is not validated
 // again for each path.
+#![tactic(auto)]
 ghost use Rattle.std.specs.Prelude.{◌≡◌, true, false, cond, ◌≤◌, min, length, take};
 ghost use Rattle.path_parts.specs.Strip.{strip};
 ghost use Rattle.refusal.specs.Outcome.{ReturnsPath};
@@ -14,7 +15,7 @@ ghost use Rattle.route.specs.Unaltered.{rest_length, unaltered_fast, rest_fast, 
 
 // The reply of some legs, and how many bytes at the end of the path that reached them they carried over
 // unaltered.
-#[derive(Drop)]
+#[derive(Clone, Copy)]
 struct Run {
     reply: refusal::Reply,
     unaltered: usize,

@@ -1,11 +1,12 @@
 // Reading and writing a file descriptor for the programs. A call that a signal interrupts (EINTR), or that a
 // descriptor in non-blocking mode cannot serve at once (EAGAIN), is tried again. Of the bytes that are read
 // and of the effect of a write no contract can speak: the kit's `read` and `write` say nothing of them.
+#![tactic(auto)]
 ghost use Rattle.std.specs.Prelude.{◌≤◌, length};
 ghost use Rattle.stdio.specs.Reading.{ReadAtMost};
 
 // The result of reading.
-#[derive(Drop)]
+#[derive(Clone, Copy)]
 pub enum Reading {
     // The number of bytes read; 0 at the end of the input.
     Got(usize),

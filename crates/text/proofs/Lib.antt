@@ -5,3 +5,4 @@ pub mod TableLaws
 pub mod TextLaws
 pub mod UntilLaws
 pub mod WriteLaws
+pub mod Clauses

@@ -1,10 +1,12 @@
 // Byte-string primitives: comparison, search for a byte, and copying into a caller's buffer. Every
 // function is total: none has a precondition.
+#![tactic(auto)]
+
 ghost use Rattle.std.specs.Prelude.{◌≡◌, length};
 ghost use Rattle.text.specs.Text.{equal, starts_with, ends_with_byte, lacks_byte, take_until, written_if_fits};
 
 // The result of writing to a lent buffer.
-#[derive(Drop)]
+#[derive(Clone, Copy)]
 pub enum Fit {
     // The number of items written: bytes, lengths or pairs, depending on the function.
     Written(usize),

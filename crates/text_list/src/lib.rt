@@ -1,5 +1,7 @@
 // Lists of texts in lent memory: reading a text by its place, and appending one. A place is a start and a length
 // in a store of bytes. Every public function is defined for any bytes and any numbers.
+#![tactic(auto)]
+
 ghost use Rattle.std.specs.Prelude.{◌≡◌, [], ◌∷◌, ◌*◌};
 ghost use Rattle.text.specs.Text.{written_if_fits};
 ghost use Rattle.text_list.specs.Places.{text_at};

@@ -1,0 +1,6 @@
+use Rattle.path_grammar.proofs.ByteLaws.{bytes}
+use borrow.Author.Rules.{rules}
+use Rattle.path_grammar.proofs.is_name_start_byte.Goals as goal
+
+pub returns : goal.returns
+returns c = search (rules, bytes)
