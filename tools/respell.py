@@ -58,7 +58,7 @@ def declared(text):
             if m:
                 yield from m.group(1).split()
             continue
-        m = re.match(("^  " if block else "^") + r"(?:abbrev |unfoldable |pub )*(" + WORD + r") : ", line)
+        m = re.match(("^(?:  )+" if block else "^") + r"(?:abbrev |unfoldable |pub )*(" + WORD + r") : ", line)
         if m and m.group(1) not in KEYWORDS:
             yield m.group(1)
 

@@ -31,7 +31,7 @@ use Rattle.route_maps.specs.Prepared.{PreparedIfPassed}
 use Rattle.route.specs.Calls.{route_call}
 use Rattle.route.specs.Fast.{needs_maps, after_route_validated}
 use Rattle.route.proofs.ShortLaws.{short_after as short-route}
-use Rattle.route.proofs.CallBranches.{call-as-it-is, call-prepared}
+use Rattle.route.proofs.CallBranches.{call_as_it_is, call_prepared}
 use Rattle.batch.specs.declared.Mapper.{Mapper}
 use Rattle.batch.specs.declared.Mapper.TheVariants.{Map, Route}
 use Rattle.batch.specs.Batch.{call_at_spot, mapped_at, routed_at, path_buffers, reply_numbers, batch_fits, validate_batch, batch_bytes, batch_replies, validate_map_all, validate_route_all, ReturnsBatch}
@@ -69,13 +69,13 @@ module _ (list : Validation) (n spots bytes replies : ℕ) where
   batch_beyond h l = rw (h, lt-leb (2 * n) spots (omega arith))
 
   module _ (h : list ≡ Passed) (l : n ≤ spots / 2) (b : Bool) (k : b ≡ batch_fits n spots bytes replies) where
-    pub batch-short : not b ≡ true → Refused NoRoom ≡ validate_batch list n spots bytes replies
+    pub batch_short : not b ≡ true → Refused NoRoom ≡ validate_batch list n spots bytes replies
     unfolding validate_batch
-    batch-short f = rw h (decided_short (leb (2 * n) spots) (batch_fits n spots bytes replies) (le-leb (2 * n) spots (omega arith)) (known_false k f))
+    batch_short f = rw h (decided_short (leb (2 * n) spots) (batch_fits n spots bytes replies) (le-leb (2 * n) spots (omega arith)) (known_false k f))
 
-    pub batch-passed : not b ≡ false → Passed ≡ validate_batch list n spots bytes replies
+    pub batch_passed : not b ≡ false → Passed ≡ validate_batch list n spots bytes replies
     unfolding validate_batch
-    batch-passed f = rw h (decided_passed (leb (2 * n) spots) (batch_fits n spots bytes replies) (le-leb (2 * n) spots (omega arith)) (known_true k f))
+    batch_passed f = rw h (decided_passed (leb (2 * n) spots) (batch_fits n spots bytes replies) (le-leb (2 * n) spots (omega arith)) (known_true k f))
 
 -- A batch that passes has large enough buffers.
 pub batch_has_room : (list : Validation) (n spots bytes replies : ℕ) → validate_batch list n spots bytes replies ≡ Passed → batch_fits n spots bytes replies ≡ true
@@ -212,14 +212,14 @@ module _ (n spots bytes replies : ℕ) (h : batch_fits n spots bytes replies ≡
   yes_two = and_l (leb (2 * n) spots && leb (255 * n) bytes) (leb n replies) yes_all
 
   module _ (i : ℕ) (l : i < n) where
-    pub room-spot : 2 * i + 2 ≤ spots
-    room-spot = omega (arith, leb-true (2 * n) spots (and_l (leb (2 * n) spots) (leb (255 * n) bytes) yes_two))
+    pub room_spot : 2 * i + 2 ≤ spots
+    room_spot = omega (arith, leb-true (2 * n) spots (and_l (leb (2 * n) spots) (leb (255 * n) bytes) yes_two))
 
-    pub room-block : 255 * i + 255 ≤ bytes
-    room-block = omega (arith, leb-true (255 * n) bytes (and_r (leb (2 * n) spots) (leb (255 * n) bytes) yes_two))
+    pub room_block : 255 * i + 255 ≤ bytes
+    room_block = omega (arith, leb-true (255 * n) bytes (and_r (leb (2 * n) spots) (leb (255 * n) bytes) yes_two))
 
-    pub room-number : i < replies
-    room-number = omega (arith, leb-true n replies (and_r (leb (2 * n) spots && leb (255 * n) bytes) (leb n replies) yes_all))
+    pub room_number : i < replies
+    room_number = omega (arith, leb-true n replies (and_r (leb (2 * n) spots && leb (255 * n) bytes) (leb n replies) yes_all))
 
 -- One iteration adds one block and one reply.
 module _ (list : Validation) (by : Mapper) (store : Text) (places legs : List ℕ) (texts : Text) (spots : List ℕ) (i : ℕ) where
@@ -309,11 +309,11 @@ module _ (home : Bool) (r : LentRoute) (texts : Text) (spots : List ℕ) (list :
       → (i : ℕ) → routed_at home r texts spots i ≡ map_spot_by list (Route r.count home) r.store r.places r.legs texts spots 255 i
   unfolding routed_at map_spot_by map_path_by
   route_step b h k =
-      spotted_same (λ (p : Text). route_call home r p 255) (λ (p : Text). after_route_validated list home r p 255) (λ p. call-as-it-is home r p 255 list e b h k) texts spots
+      spotted_same (λ (p : Text). route_call home r p 255) (λ (p : Text). after_route_validated list home r p 255) (λ p. call_as_it_is home r p 255 list e b h k) texts spots
 
   pub prepared_step : (made table : List ℕ) → length made ≡ 4096 → length table ≡ 48 → PreparedIfPassed r (lent_route r.store made table r.count) r.count
       → (i : ℕ) → routed_at home r texts spots i ≡ map_spot_by list (Route r.count home) r.store made table texts spots 255 i
   unfolding routed_at map_spot_by map_path_by
   prepared_step made table l m ready =
       spotted_same (λ (p : Text). route_call home r p 255) (λ (p : Text). after_route_validated list home (lent_route r.store made table r.count) p 255)
-      (λ p. call-prepared home r p 255 list e (lent_route r.store made table r.count) refl l m ready) texts spots
+      (λ p. call_prepared home r p 255 list e (lent_route r.store made table r.count) refl l m ready) texts spots

@@ -122,12 +122,12 @@ module _ (p : Text) (i : ℕ) (h : i < length p) where
       go (suc k) (a ∷ t) l = let m : length (take k t) < k = go k t (omega arith) in omega arith
 
   module _ (l : 192 ≤ get_or p i 0) (m : get_or p i 0 < 224) where
-    lead-2 : length_by_first (get_or p i 0) ≡ 2
-    lead-2 = length_2 (get_or p i 0) l (omega arith)
+    lead_2 : length_by_first (get_or p i 0) ≡ 2
+    lead_2 = length_2 (get_or p i 0) l (omega arith)
 
-    pub len-two-short : length p - i < 2 → 0 ≡ character_len (drop i p)
-    len-two-short n =
-        short_no 2 lead-2
+    pub len_two_short : length p - i < 2 → 0 ≡ character_len (drop i p)
+    len_two_short n =
+        short_no 2 lead_2
         (ap characters_allowed (taken p i 1 h) ∙ begins_2 (get_or p i 0) (take 1 (drop (i + 1) p)) l (omega arith)
         ∙ cut_short 0 0x80 (get_or p i 0 % 32) (take 1 (drop (i + 1) p)) (omega (arith, rest_short 1 n)))
 
@@ -135,19 +135,19 @@ module _ (p : Text) (i : ℕ) (h : i < length p) where
       two : b ≡ characters_allowed (take 2 (drop i p))
       two = e ∙ ap characters_allowed (sym (taken_2 p i 0 (omega arith)))
 
-      pub len-two : b ≡ true → 2 ≡ character_len (drop i p)
-      len-two t = bytes_yes 2 b lead-2 two t
+      pub len_two : b ≡ true → 2 ≡ character_len (drop i p)
+      len_two t = bytes_yes 2 b lead_2 two t
 
-      pub len-two-not : b ≡ false → 0 ≡ character_len (drop i p)
-      len-two-not t = bytes_no 2 b lead-2 two t
+      pub len_two_not : b ≡ false → 0 ≡ character_len (drop i p)
+      len_two_not t = bytes_no 2 b lead_2 two t
 
   module _ (l : 224 ≤ get_or p i 0) (m : get_or p i 0 < 240) where
-    lead-3 : length_by_first (get_or p i 0) ≡ 3
-    lead-3 = length_3 (get_or p i 0) l (omega arith)
+    lead_3 : length_by_first (get_or p i 0) ≡ 3
+    lead_3 = length_3 (get_or p i 0) l (omega arith)
 
-    pub len-three-short : length p - i < 3 → 0 ≡ character_len (drop i p)
-    len-three-short n =
-        short_no 3 lead-3
+    pub len_three_short : length p - i < 3 → 0 ≡ character_len (drop i p)
+    len_three_short n =
+        short_no 3 lead_3
         (ap characters_allowed (taken p i 2 h) ∙ begins_3 (get_or p i 0) (take 2 (drop (i + 1) p)) l (omega arith)
         ∙ cut_short 1 0x800 (get_or p i 0 % 16) (take 2 (drop (i + 1) p)) (omega (arith, rest_short 2 n)))
 
@@ -155,19 +155,19 @@ module _ (p : Text) (i : ℕ) (h : i < length p) where
       three : b ≡ characters_allowed (take 3 (drop i p))
       three = e ∙ ap characters_allowed (sym (taken_3 p i 0 (omega arith)))
 
-      pub len-three : b ≡ true → 3 ≡ character_len (drop i p)
-      len-three t = bytes_yes 3 b lead-3 three t
+      pub len_three : b ≡ true → 3 ≡ character_len (drop i p)
+      len_three t = bytes_yes 3 b lead_3 three t
 
-      pub len-three-not : b ≡ false → 0 ≡ character_len (drop i p)
-      len-three-not t = bytes_no 3 b lead-3 three t
+      pub len_three_not : b ≡ false → 0 ≡ character_len (drop i p)
+      len_three_not t = bytes_no 3 b lead_3 three t
 
   module _ (l : 240 ≤ get_or p i 0) (m : get_or p i 0 ≤ 247) where
-    lead-4 : length_by_first (get_or p i 0) ≡ 4
-    lead-4 = length_4 (get_or p i 0) l m
+    lead_4 : length_by_first (get_or p i 0) ≡ 4
+    lead_4 = length_4 (get_or p i 0) l m
 
-    pub len-four-short : length p - i < 4 → 0 ≡ character_len (drop i p)
-    len-four-short n =
-        short_no 4 lead-4
+    pub len_four_short : length p - i < 4 → 0 ≡ character_len (drop i p)
+    len_four_short n =
+        short_no 4 lead_4
         (ap characters_allowed (taken p i 3 h) ∙ begins_4 (get_or p i 0) (take 3 (drop (i + 1) p)) l m
         ∙ cut_short 2 0x10000 (get_or p i 0 % 8) (take 3 (drop (i + 1) p)) (omega (arith, rest_short 3 n)))
 
@@ -176,13 +176,13 @@ module _ (p : Text) (i : ℕ) (h : i < length p) where
       four : b ≡ characters_allowed (take 4 (drop i p))
       four = e ∙ ap characters_allowed (sym (taken_4 p i (omega arith)))
 
-      pub len-four : b ≡ true → 4 ≡ character_len (drop i p)
-      len-four t = bytes_yes 4 b lead-4 four t
+      pub len_four : b ≡ true → 4 ≡ character_len (drop i p)
+      len_four t = bytes_yes 4 b lead_4 four t
 
-      pub len-four-not : b ≡ false → 0 ≡ character_len (drop i p)
-      len-four-not t = bytes_no 4 b lead-4 four t
+      pub len_four_not : b ≡ false → 0 ≡ character_len (drop i p)
+      len_four_not t = bytes_no 4 b lead_4 four t
 
-pub ruleset lengths = (len_one, len_stray, len_over, len-two-short, len-two, len-two-not, len-three-short, len-three, len-three-not, len-four-short, len-four, len-four-not)
+pub ruleset lengths = (len_one, len_stray, len_over, len_two_short, len_two, len_two_not, len_three_short, len_three, len_three_not, len_four_short, len_four, len_four_not)
 
 -- Lemmas for `decodes_allowed`. The text from index i on is allowed exactly if the whole text is.
 allowed_cons : (p : Text) (i : ℕ) → i < length p

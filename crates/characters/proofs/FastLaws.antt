@@ -169,7 +169,7 @@ module _ (a : ℕ) where
       (choose Between a (eqb a 0xE3) AfterE1E3 _ (λ h. rw (eqb-true a 0xE3 h) (goes (Inside 1 0x800 3) refl e3))
       (choose Between a (in_range 0xE4 0xEC a) Two _ (λ h. middle (within_low 0xE4 0xEC a h) (within_high 0xE4 0xEC a h))
       (choose Between a (eqb a 0xED) AfterED _ (λ h. rw (eqb-true a 0xED h) (goes (Inside 1 0x800 13) refl ed))
-      (choose Between a (in_range 0xEE 0xEF a) Two _ (λ h. private-use (within_low 0xEE 0xEF a h) (within_high 0xEE 0xEF a h))
+      (choose Between a (in_range 0xEE 0xEF a) Two _ (λ h. private_use (within_low 0xEE 0xEF a h) (within_high 0xEE 0xEF a h))
       (choose Between a (eqb a 0xF0) AfterF0 _ (λ h. rw (eqb-true a 0xF0 h) (goes (Inside 2 0x10000 0) refl f0))
       (choose Between a (in_range 0xF1 0xF3 a) Three _ (λ h. planes (within_low 0xF1 0xF3 a h) (within_high 0xF1 0xF3 a h))
       (choose Between a (eqb a 0xF4) AfterF4 Unsure (λ h. rw (eqb-true a 0xF4 h) (goes (Inside 2 0x10000 4) refl f4)) unsure)))))))))))
@@ -184,8 +184,8 @@ module _ (a : ℕ) where
           goes (Inside 1 0x800 (a % 16)) (next_3 a (omega arith) (omega arith))
           (two 0x800 (a % 16) (λ c l m. (omega arith, fine_3 c (omega arith) (omega arith))))
 
-      private-use : 0xEE ≤ a → a ≤ 0xEF → Follows Between a Two
-      private-use h k =
+      private_use : 0xEE ≤ a → a ≤ 0xEF → Follows Between a Two
+      private_use h k =
           goes (Inside 1 0x800 (a % 16)) (next_3 a (omega arith) k)
           (two 0x800 (a % 16) (λ c l m. (omega arith, fine_4 c (omega arith) (omega arith))))
 

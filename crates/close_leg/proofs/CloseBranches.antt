@@ -53,12 +53,12 @@ module _ (g : LegTotals) (slots table : List ℕ) where
     leg_beyond m = rw (le-leb (suc g.count) 16 (omega (arith, h)), lt-leb (256 * suc g.count) (length slots) (omega (arith, m))) refl
 
     module _ (m : g.count < length slots / 256) where
-      pub leg-short : length table / 3 ≤ g.count → false ≡ takes
-      leg-short o =
+      pub leg_short : length table / 3 ≤ g.count → false ≡ takes
+      leg_short o =
           rw (le-leb (suc g.count) 16 (omega (arith, h)), le-leb (256 * suc g.count) (length slots) (omega (arith, m)), lt-leb (3 * suc g.count) (length table) (omega (arith, o))) refl
 
-      pub leg-more : g.count < length table / 3 → true ≡ takes
-      leg-more o =
+      pub leg_more : g.count < length table / 3 → true ≡ takes
+      leg_more o =
           rw (le-leb (suc g.count) 16 (omega (arith, h)), le-leb (256 * suc g.count) (length slots) (omega (arith, m)), le-leb (3 * suc g.count) (length table) (omega (arith, o))) refl
 
   -- The bounds that hold if it returns true.
@@ -89,27 +89,27 @@ module _ (l : List Pair) (g : LegTotals) (store : Text) (slots table : List ℕ)
     unfolding close_list_reply validate_close closed_reply
     full k = rw (known_true e h, k) refl
 
-    over-limit : 32768 < g.bytes + end_bytes l → Refused NoRoom ≡ close_list_reply l v
-    over-limit k = full (rw (lt-leb (g.bytes + end_bytes l) 32768 k) refl)
+    over_limit : 32768 < g.bytes + end_bytes l → Refused NoRoom ≡ close_list_reply l v
+    over_limit k = full (rw (lt-leb (g.bytes + end_bytes l) 32768 k) refl)
 
-    pub validate-start : 32768 < g.bytes → Refused NoRoom ≡ close_list_reply l v
-    validate-start k = over-limit (omega (arith, k))
+    pub validate_start : 32768 < g.bytes → Refused NoRoom ≡ close_list_reply l v
+    validate_start k = over_limit (omega (arith, k))
 
     module _ (m : g.bytes ≤ 32768) (room : Room) (f : room ≡ remaining_room l (32768 - g.bytes)) where
-      pub validate-over : room ≡ Over → Refused NoRoom ≡ close_list_reply l v
-      validate-over k = over-limit (omega (arith, m, over_full l (32768 - g.bytes) room f k))
+      pub validate_over : room ≡ Over → Refused NoRoom ≡ close_list_reply l v
+      validate_over k = over_limit (omega (arith, m, over_full l (32768 - g.bytes) room f k))
 
       module _ (left : ℕ) (k : room ≡ Left left) where
         total : end_bytes l + left ≡ 32768 - g.bytes
         total = left_fits l (32768 - g.bytes) room f left k
 
-        pub validate-short : length store < 32768 - left → Refused NoRoom ≡ close_list_reply l v
-        validate-short o =
+        pub validate_short : length store < 32768 - left → Refused NoRoom ≡ close_list_reply l v
+        validate_short o =
             full (rw (le-leb (g.bytes + end_bytes l) 32768 (omega (arith, m, total)), lt-leb (g.bytes + end_bytes l) (length store) (omega (arith, m, total, o))) refl)
 
-        pub validate-done : 32768 - left ≤ length store → Done (record { count = g.count + 1; bytes = 32768 - left }) ≡ close_list_reply l v
+        pub validate_done : 32768 - left ≤ length store → Done (record { count = g.count + 1; bytes = 32768 - left }) ≡ close_list_reply l v
         unfolding close_list_reply validate_close closed_reply
-        validate-done o =
+        validate_done o =
             let z : 32768 - left ≡ g.bytes + end_bytes l = omega (arith, m, total) in
             rw (known_true e h, z, le-leb (g.bytes + end_bytes l) 32768 (omega (arith, m, total)), le-leb (g.bytes + end_bytes l) (length store) (omega (arith, m, total, o))) refl
 
@@ -184,48 +184,48 @@ module _ (mark : Bool) (l : List Pair) (g : LegTotals) (store : Text) (slots tab
       abbrev m : Map
       m = from_parts l mark
 
-      pairs-are : pairs_in bytes kept w ≡ m.pairs
+      pairs_are : pairs_in bytes kept w ≡ m.pairs
       unfolding from_parts
-      pairs-are = pairs_made canonicalize bytes places n l mark few (omega (arith, held)) marked f room enough kept w c
+      pairs_are = pairs_made canonicalize bytes places n l mark few (omega (arith, held)) marked f room enough kept w c
 
-      count-is : w ≡ length m.pairs
-      count-is = sym (pairs_in_length bytes kept w) ∙ ap length pairs-are
+      count_is : w ≡ length m.pairs
+      count_is = sym (pairs_in_length bytes kept w) ∙ ap length pairs_are
 
-      pairs-few : length m.pairs ≤ 64
-      pairs-few = omega (arith, from_parts_length l mark, ap length s, pairs_in_length bytes places n, few)
+      pairs_few : length m.pairs ≤ 64
+      pairs_few = omega (arith, from_parts_length l mark, ap length s, pairs_in_length bytes places n, few)
 
-      room-still : (block : List ℕ) → length block ≡ 256 → append_fits_buffers g.bytes m.pairs store block ≡ true
+      room_still : (block : List ℕ) → length block ≡ 256 → append_fits_buffers g.bytes m.pairs store block ≡ true
       unfolding append_fits_buffers
-      room-still block z =
+      room_still block z =
           rw (
             le-leb (g.bytes + end_bytes m.pairs) (length store) (omega (arith, list_fits.3, from_parts_bytes l mark)),
-            le-leb (length m.pairs) (length block / 4) (omega (arith, pairs-few, z)),
+            le-leb (length m.pairs) (length block / 4) (omega (arith, pairs_few, z)),
           ) refl
 
       after : close_list_store mark l before ≡ with_leg before m (end_bytes l)
       unfolding close_list_store closed_store
       after = rw passed refl
 
-      block-long : length (take (256 * g.count + 256 - 256 * g.count) (drop (256 * g.count) slots)) ≡ 256
-      block-long =
+      block_long : length (take (256 * g.count + 256 - 256 * g.count) (drop (256 * g.count) slots)) ≡ 256
+      block_long =
           let z : 256 * g.count + 256 - 256 * g.count ≡ 256 = omega arith in
           rw z (length-take-le 256 (drop (256 * g.count) slots) (rw (length-drop (256 * g.count) slots) (omega (arith, list_fits.1))))
 
       abbrev block : List ℕ
       block = take (256 * g.count + 256 - 256 * g.count) (drop (256 * g.count) slots)
 
-      pub list-closed : (store' : Text) (block' table' : List ℕ) → store' ≡ append_list_bytes g.bytes (pairs_in bytes kept w) store block
+      pub list_closed : (store' : Text) (block' table' : List ℕ) → store' ≡ append_list_bytes g.bytes (pairs_in bytes kept w) store block
           → block' ≡ append_list_slots g.bytes (pairs_in bytes kept w) store block → table' ≡ written_at (3 * g.count) (cond marked 1 0 ∷ 64 * g.count ∷ w ∷ []) table
           → Closes r store' (take (256 * g.count) slots ++ (block' ++ drop (256 * g.count + 256 - 256 * g.count) (drop (256 * g.count) slots))) table'
       unfolding append_list_bytes append_list_slots with_leg from_parts
-      list-closed store' block' table' es eb et = (
+      list_closed store' block' table' es eb et = (
         e,
         (
-          es ∙ rw (after, pairs-are, room-still block block-long) refl,
+          es ∙ rw (after, pairs_are, room_still block block_long) refl,
           (
-            rw (eb, after, pairs-are, room-still block block-long)
-                (part_over (256 * g.count) 256 (list_places g.bytes m.pairs) slots (omega (arith, places_length g.bytes m.pairs, pairs-few)) list_fits.1),
-            et ∙ rw (after, count-is, f) refl,
+            rw (eb, after, pairs_are, room_still block block_long)
+                (part_over (256 * g.count) 256 (list_places g.bytes m.pairs) slots (omega (arith, places_length g.bytes m.pairs, pairs_few)) list_fits.1),
+            et ∙ rw (after, count_is, f) refl,
           ),
         ),
       )
@@ -252,11 +252,11 @@ module _ (relocates : Bool) (bytes : Text) (places : List ℕ) (n : ℕ) (v : Le
     unfolding can_select count_within_limit
     counts = and_l (count_within_limit lent) (leb 256 256) (known_true e h)
 
-    pub close-as : (mark : Bool) → relocates ≡ mark → (l : List Pair) → l ≡ counted_pairs mark (pairs_of lent) → (r : Closed) (store : Text) (slots table : List ℕ)
+    pub close_as : (mark : Bool) → relocates ≡ mark → (l : List Pair) → l ≡ counted_pairs mark (pairs_of lent) → (r : Closed) (store : Text) (slots table : List ℕ)
         → (r ≡ close_list_reply l v) × ((store ≡ (close_list_store mark l v).store) × ((slots ≡ (close_list_store mark l v).slots) × (table ≡ (close_list_store mark l v).table)))
         → Shuts r store slots table
     unfolding close_reply close_store validate_close_of close_list_reply close_list_store
-    close-as mark k l f r store slots table g = rw (k, counts, closed_parts mark (pairs_of lent), ← f) g
+    close_as mark k l f r store slots table g = rw (k, counts, closed_parts mark (pairs_of lent), ← f) g
 
 -- The pairs of either kind of leg.
 module _ (bytes : Text) (places : List ℕ) (n : ℕ) where
@@ -269,9 +269,9 @@ module _ (bytes : Text) (places : List ℕ) (n : ℕ) where
     made : pairs_in bytes kept w ≡ active_pairs (pairs_in bytes places n) n
     made = f ∙ rw z (select_all places n 256 b e h bytes (active_pairs (pairs_in bytes places n) n))
 
-    pub active-counted : pairs_in bytes kept w ≡ counted_pairs true (pairs_in bytes places n)
+    pub active_counted : pairs_in bytes kept w ≡ counted_pairs true (pairs_in bytes places n)
     unfolding counted_pairs
-    active-counted = made ∙ ap (active_pairs (pairs_in bytes places n)) (sym (pairs_in_length bytes places n))
+    active_counted = made ∙ ap (active_pairs (pairs_in bytes places n)) (sym (pairs_in_length bytes places n))
 
-    pub active-held : w ≤ 64
-    active-held = omega (arith, pairs_in_length bytes kept w, ap length made, active_few (pairs_in bytes places n) n, select_few places n 256 b e h)
+    pub active_held : w ≤ 64
+    active_held = omega (arith, pairs_in_length bytes kept w, ap length made, active_few (pairs_in bytes places n) n, select_few places n 256 b e h)

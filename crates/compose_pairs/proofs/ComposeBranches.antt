@@ -135,15 +135,15 @@ module _ (m : Map) (em : every_end at_most511 m.pairs ≡ true) (base : List Pai
     longer : Longer (pulled_back m base (pairs_in store places i)) (add_if_new_source (pairs_in bytes slots k) t (map_plainly true m s))
     longer = rw same (added_longer (pulled_back m base (pairs_in store places i)) t (map_plainly true m s))
 
-    pub pull-next : PackedList (pulled_back m base (pairs_in store places (i + 1))) k' at' o p bytes' slots'
-    pull-next =
+    pub pull_next : PackedList (pulled_back m base (pairs_in store places (i + 1))) k' at' o p bytes' slots'
+    pull_next =
         rw added_is at (packed_on (pulled_back m base (pairs_in store places i)) k at o p bytes slots c (add_if_new_source (pairs_in bytes slots k) t (map_plainly true m s)) k' at' bytes' slots' d longer)
 
-    pub pull-number : k' ≤ inner + (i + 1)
-    pull-number = omega (arith, d.number, added_length (pairs_in bytes slots k) t (map_plainly true m s), ap length same, c.number)
+    pub pull_number : k' ≤ inner + (i + 1)
+    pull_number = omega (arith, d.number, added_length (pairs_in bytes slots k) t (map_plainly true m s), ap length same, c.number)
 
-    pub pull-bound : at' ≤ 1534 * (inner + (i + 1))
-    pull-bound = omega (arith, d.end, added_bytes (pairs_in bytes slots k) t (map_plainly true m s), ap end_bytes same, c.end, pulls)
+    pub pull_bound : at' ≤ 1534 * (inner + (i + 1))
+    pull_bound = omega (arith, d.end, added_bytes (pairs_in bytes slots k) t (map_plainly true m s), ap end_bytes same, c.end, pulls)
 
 module _ (m : Map) (base : List Pair) (store : Text) (places : List ℕ) (n at : ℕ) (o : Text) (p : List ℕ) (bytes : Text) (slots : List ℕ) where
   pub pull_begin : PackedList base n at o p bytes slots → PackedList (pulled_back m base (pairs_in store places 0)) n at o p bytes slots

@@ -39,19 +39,19 @@ module _ (store : Text) (places : List ℕ) (n : ℕ) (istore : Text) (iplaces :
   asked = rw (pairs_in_length store places n, pairs_in_length istore iplaces k) refl
 
   module _ (a : Bool) (h : a ≡ leb (k + n) (room / 1534)) where
-    pub enough-room : not a ≡ true → false ≡ compose_fits outer inner room slots
-    enough-room e = sym (asked ∙ rw (known_false h e) refl)
+    pub enough_room : not a ≡ true → false ≡ compose_fits outer inner room slots
+    enough_room e = sym (asked ∙ rw (known_false h e) refl)
 
     module _ (e : not a ≡ false) (b : Bool) (g : b ≡ leb (k + n) (slots / 4)) where
-      pub enough-slots : not b ≡ true → false ≡ compose_fits outer inner room slots
-      enough-slots f = sym (asked ∙ rw (known_true h e, known_false g f) refl)
+      pub enough_slots : not b ≡ true → false ≡ compose_fits outer inner room slots
+      enough_slots f = sym (asked ∙ rw (known_true h e, known_false g f) refl)
 
       module _ (f : not b ≡ false) (c : Bool) (i : c ≡ every_end at_most511 outer) where
-        pub enough-outer : not c ≡ true → false ≡ compose_fits outer inner room slots
-        enough-outer l = sym (asked ∙ rw (known_true h e, known_true g f, known_false i l) refl)
+        pub enough_outer : not c ≡ true → false ≡ compose_fits outer inner room slots
+        enough_outer l = sym (asked ∙ rw (known_true h e, known_true g f, known_false i l) refl)
 
-        pub enough-inner : not c ≡ false → (d : Bool) → d ≡ every_end at_most511 inner → d ≡ compose_fits outer inner room slots
-        enough-inner l d j = j ∙ sym (asked ∙ rw (known_true h e, known_true g f, known_true i l) refl)
+        pub enough_inner : not c ≡ false → (d : Bool) → d ≡ every_end at_most511 inner → d ≡ compose_fits outer inner room slots
+        enough_inner l d j = j ∙ sym (asked ∙ rw (known_true h e, known_true g f, known_true i l) refl)
 
 -- `compose_fits` and the facts that it tests.
 module _ (store : Text) (places : List ℕ) (n : ℕ) (istore : Text) (iplaces : List ℕ) (k : ℕ) (bytes : Text) (slots : List ℕ) where

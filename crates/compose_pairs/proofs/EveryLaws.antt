@@ -19,13 +19,13 @@ module _ (ok passes : Text → Bool) (weaker : (t : Text) → ok t ≡ true → 
   unfolding composed_pair
   composed_passes m f x e = go (is_nil x.target)
     where
-      some-passes : (o : Option Text) → ((q : Text) → o ≡ some q → passes q ≡ true) → passes (get_or o []) ≡ true
-      some-passes none g = nil
-      some-passes (some q) g = g q refl
+      some_passes : (o : Option Text) → ((q : Text) → o ≡ some q → passes q ≡ true) → passes (get_or o []) ≡ true
+      some_passes none g = nil
+      some_passes (some q) g = g q refl
 
       go : (b : Bool) → passes (cond b [] (get_or (map_source_to_target m x.target) [])) ≡ true
       go true = nil
-      go false = some-passes (map_source_to_target m x.target) (λ q. f x.target q e)
+      go false = some_passes (map_source_to_target m x.target) (λ q. f x.target q e)
 
   first_half : (m : Map) → Makes (map_source_to_target m) → (l : List Pair) → every_end ok l ≡ true → every_end passes (map (composed_pair m) l) ≡ true
   unfolding every_end composed_pair

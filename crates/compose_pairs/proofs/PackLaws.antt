@@ -45,14 +45,14 @@ module _ (outer inner : Map) (bytes : Text) (slots : List ℕ) where
   into_none e = rw e (refl, (refl, refl))
 
   module _ (e : compose_fits outer.pairs inner.pairs (length bytes) (length slots) ≡ true) (r : Built) (bytes' : Text) (slots' : List ℕ) where
-    pub into-packed : PackedList (composed_pairs outer inner) r.n r.at bytes slots bytes' slots' → Left r bytes' slots'
+    pub into_packed : PackedList (composed_pairs outer inner) r.n r.at bytes slots bytes' slots' → Left r bytes' slots'
     unfolding composed_or_none
-    into-packed c = rw e (built_is r (composed_pairs outer inner) c.number c.end, (c.text, c.places))
+    into_packed c = rw e (built_is r (composed_pairs outer inner) c.number c.end, (c.text, c.places))
 
     -- The buffers begin with the composed list.
-    pub into-holds : Left r bytes' slots' → HoldsList (composed_pairs outer inner) r.n r.at bytes' slots'
+    pub into_holds : Left r bytes' slots' → HoldsList (composed_pairs outer inner) r.n r.at bytes' slots'
     unfolding composed_or_none
-    into-holds w = go (rw e at w)
+    into_holds w = go (rw e at w)
       where
         go : (r ≡ built_of (composed_pairs outer inner)) × ((bytes' ≡ written (list_text (composed_pairs outer inner)) bytes) × (slots' ≡ written (list_places 0 (composed_pairs outer inner)) slots))
             → HoldsList (composed_pairs outer inner) r.n r.at bytes' slots'

@@ -83,15 +83,15 @@ module _ (store : Text) (places : List ℕ) (n : ℕ) (mark : Bool) (p : Text) w
   plain_some true i e = let z = ends_by store places n mark p true i e in rw (home_keys store places n mark p, e, z.0, z.1)
 
   module _ (invert : Bool) (f : Found) (h : f ≡ found_of (longest_match p (key invert) n)) where
-    pub map-none : not f.found ≡ true → map_plainly invert lent p ≡ path_if_marked mark p
-    map-none k = plain_none invert (found_none f (longest_match p (key invert) n) h (not_true f.found k))
+    pub map_none : not f.found ≡ true → map_plainly invert lent p ≡ path_if_marked mark p
+    map_none k = plain_none invert (found_none f (longest_match p (key invert) n) h (not_true f.found k))
 
     module _ (k : not f.found ≡ false) where
       chosen : longest_match p (key invert) n ≡ some f.at
       chosen = found_some f (longest_match p (key invert) n) h (not_false f.found k)
 
-      pub map-block : (b : Text) → b ≡ key true f.at → length b ≡ 0 → map_plainly invert lent p ≡ none
-      map-block b e l = plain_some invert f.at chosen ∙ rw (nil_length (key true f.at) (rw e at l))
+      pub map_block : (b : Text) → b ≡ key true f.at → length b ≡ 0 → map_plainly invert lent p ≡ none
+      map_block b e l = plain_some invert f.at chosen ∙ rw (nil_length (key true f.at) (rw e at l))
 
       has : has_prefix p (key invert f.at) ≡ true
       unfolding longest_match matches
@@ -104,16 +104,16 @@ module _ (store : Text) (places : List ℕ) (n : ℕ) (mark : Bool) (p : Text) w
           (and_l (not (is_nil (key invert f.at))) (has_prefix p (key invert f.at)) (chosen_best (matches p) (key invert) n f.at chosen).does_pass))
           ∙ nil_length (key invert f.at) z)
 
-      pub map-join : (b s t : Text) → b ≡ key true f.at → length b ≢ 0 → s ≡ key invert f.at → t ≡ key (not invert) f.at
+      pub map_join : (b s t : Text) → b ≡ key true f.at → length b ≢ 0 → s ≡ key invert f.at → t ≡ key (not invert) f.at
           → map_plainly invert lent p ≡ some (join s t (take (length p - length s) (drop (length s) p)))
-      map-join b s t e l es et =
+      map_join b s t e l es et =
           rw (es, et, rest_whole p (length (key invert f.at)))
           (plain_some invert f.at chosen ∙ rw (nil_not (key true f.at) (rw e at l)) (replace_prefix_lem p (key invert f.at) (key (not invert) f.at) has))
 
       -- Backward, the matching key is the target, so the target is not empty.
-      pub home-join : invert ≡ true → (s t : Text) → s ≡ key invert f.at → t ≡ key (not invert) f.at
+      pub home_join : invert ≡ true → (s t : Text) → s ≡ key invert f.at → t ≡ key (not invert) f.at
           → map_plainly invert lent p ≡ some (join s t (take (length p - length s) (drop (length s) p)))
-      home-join back s t es et = map-join s s t (es ∙ ap (λ (b : Bool). key b f.at) back) (λ z. filled (sym (ap length es) ∙ z)) es et
+      home_join back s t es et = map_join s s t (es ∙ ap (λ (b : Bool). key b f.at) back) (λ z. filled (sym (ap length es) ∙ z)) es et
 
 -- Properties of the mapped text, transferred along an equation.
 module _ (o : Option Text) (v : Option Text) (e : o ≡ v) where
@@ -146,8 +146,8 @@ module _ (m : Map) (t : Text) (at : ℕ) (out : Text) where
   to_plain l = rw (nil_not t l)
 
   module _ (l : length t ≢ 0) (a : Image) (out' : Text) (h : a ≡ image (map_plainly false m t)) (w : out' ≡ image_buffer at (map_plainly false m t) out) where
-    pub composed-none : a ≡ Nothing → (0 ≡ length (composed_target m t)) × (out' ≡ written_if_fits at (composed_target m t) out)
-    composed-none e = rw (to_plain l) (go (map_plainly false m t) refl)
+    pub composed_none : a ≡ Nothing → (0 ≡ length (composed_target m t)) × (out' ≡ written_if_fits at (composed_target m t) out)
+    composed_none e = rw (to_plain l) (go (map_plainly false m t) refl)
       where
         go : (o : Option Text) → map_plainly false m t ≡ o → (0 ≡ length (get_or o [])) × (out' ≡ written_if_fits at (get_or o []) out)
         go none k = (refl, w ∙ rw k (placed_none at out))

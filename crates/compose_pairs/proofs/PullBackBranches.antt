@@ -19,7 +19,7 @@ use Rattle.map_spec.specs.Compose.{has_source, add_if_new_source}
 use Rattle.pair_list_write.specs.Packed.{PackedList}
 use Rattle.pair_list_write.proofs.PushBranches.{pair_done}
 use Rattle.pair_list_write.proofs.PackedLaws.{packed_more}
-use Rattle.pair_buffer.proofs.SourceLaws.{source_begin, source-found, source_on, source_end}
+use Rattle.pair_buffer.proofs.SourceLaws.{source_begin, source_found, source_on, source_end}
 use Rattle.compose_pairs.specs.ComposePairs.{path_if_marked, image_length}
 
 -- `is_joined`
@@ -62,7 +62,7 @@ equal_swap a b = go (equal a b) (equal b a) refl refl
 
 module _ (store : Text) (places : List ℕ) (q : Text) (i : ℕ) (k : Text) (e : k ≡ key_at store places false i) (b : Bool) (h : b ≡ equal q k) where
   pub join_found : (n : ℕ) → i < n → b ≡ true → true ≡ has_source (pairs_in store places n) q
-  join_found n l t = source-found store places q i k e b (h ∙ equal_swap q k) n l t
+  join_found n l t = source_found store places q i k e b (h ∙ equal_swap q k) n l t
 
   pub join_on : b ≡ false → has_source (pairs_in store places i) q ≡ false → has_source (pairs_in store places (i + 1)) q ≡ false
   join_on f g = source_on store places q i k e b (h ∙ equal_swap q k) f g
@@ -98,9 +98,9 @@ module _ (l : List Pair) (t : Text) (o : Option Text) (n at : ℕ) (bytes : Text
   pull_none e h = rw e h
 
   module _ (q : Text) (e : o ≡ some q) where
-    pub pull-fits : at + (image_length o + length t) ≤ length bytes → at + (length q + length t) ≤ length bytes
-    pull-fits h = rw e at h
+    pub pull_fits : at + (image_length o + length t) ≤ length bytes → at + (length q + length t) ≤ length bytes
+    pull_fits h = rw e at h
 
-    pub pull-some : (n' at' : ℕ) (bytes' : Text) (slots' : List ℕ) → PackedList (add_if_new_source l t (some q)) n' at' bytes slots bytes' slots'
+    pub pull_some : (n' at' : ℕ) (bytes' : Text) (slots' : List ℕ) → PackedList (add_if_new_source l t (some q)) n' at' bytes slots bytes' slots'
         → PackedList (add_if_new_source l t o) n' at' bytes slots bytes' slots'
-    pull-some n' at' bytes' slots' d = rw e d
+    pull_some n' at' bytes' slots' d = rw e d

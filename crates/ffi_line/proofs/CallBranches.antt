@@ -78,20 +78,20 @@ module _ (b : Text) (d : DecodedFrame) (e : d ≡ decoded_of (decode_frame b)) (
   check_bad h = rw (← is_frame, h) refl
 
   module _ (k : ℕ) (h : FrameHeader) (w : d ≡ FrameDecoded k h) (t : Bool) (g : t ≡ has_line_room kept room) where
-    pub check-full : not t ≡ true → NoSpace ≡ line_check o kept m room
+    pub check_full : not t ≡ true → NoSpace ≡ line_check o kept m room
     unfolding line_check
-    check-full i = rw (← is_frame, w, known_false g i) refl
+    check_full i = rw (← is_frame, w, known_false g i) refl
 
     module _ (i : not t ≡ false) (q : Validation) (v : q ≡ validate_use m (action_in b h)) where
       asked : line_check o kept m room ≡ refused_or q (λ (x : Refusal). Short (k + 128) (refusal_number x)) Open
       unfolding line_check
       asked = rw (← is_frame, w, known_true g i, v) refl
 
-      pub check-refused : (x : Refusal) → q ≡ RefusedValidation x → (n : ℕ) → n ≡ refusal_number x → Short (k + 128) n ≡ line_check o kept m room
-      check-refused x j n u = rw (asked, j, u) refl
+      pub check_refused : (x : Refusal) → q ≡ RefusedValidation x → (n : ℕ) → n ≡ refusal_number x → Short (k + 128) n ≡ line_check o kept m room
+      check_refused x j n u = rw (asked, j, u) refl
 
-      pub check-open : q ≡ Passed → Open ≡ line_check o kept m room
-      check-open j = rw (asked, j) refl
+      pub check_open : q ≡ Passed → Open ≡ line_check o kept m room
+      check_open j = rw (asked, j) refl
 
 -- The same, with the counters read from the number buffer before.
 pub counted_use : (kept : List ℕ) (bytes : Text) (places : List ℕ) (store : Text) (slots table : List ℕ) (k : Counters) → k ≡ counters_of kept → (a : Action) (q : Validation)
@@ -281,20 +281,20 @@ module _ (kept : List ℕ) (bytes : Text) (places : List ℕ) (store : Text) (sl
     Replies r kept' m' out' =
         (r ≡ line_reply l kept m out) × ((kept' ≡ line_counters l kept m out) × ((m' ≡ line_memory l kept m out) × (out' ≡ line_out l kept m out)))
 
-    pub call-short : (h n : ℕ) → c ≡ Short h n → (r : Reply) (out' : Text) → r ≡ short_reply out → out' ≡ short_out h n out → Replies r kept m out'
+    pub call_short : (h n : ℕ) → c ≡ Short h n → (r : Reply) (out' : Text) → r ≡ short_reply out → out' ≡ short_out h n out → Replies r kept m out'
     unfolding line_reply line_counters line_memory line_out answer_line
-    call-short h n w r out' f g = rw (f, g) (short_by (parse_line l) h n (sym w ∙ e))
+    call_short h n w r out' f g = rw (f, g) (short_by (parse_line l) h n (sym w ∙ e))
 
-    pub call-full : c ≡ NoSpace → Replies (Refused NoRoom) kept m out
+    pub call_full : c ≡ NoSpace → Replies (Refused NoRoom) kept m out
     unfolding line_reply line_counters line_memory line_out answer_line
-    call-full w = full_by (parse_line l) (sym w ∙ e)
+    call_full w = full_by (parse_line l) (sym w ∙ e)
 
-    pub call-room : c ≡ Open → (5 ≤ length kept) × (515 ≤ length out)
-    call-room w = room_bounds kept (length out) (opened_by (parse_line l) (sym w ∙ e)).roomy
+    pub call_room : c ≡ Open → (5 ≤ length kept) × (515 ≤ length out)
+    call_room w = room_bounds kept (length out) (opened_by (parse_line l) (sym w ∙ e)).roomy
 
-    pub call-open : c ≡ Open → (n : ℕ) (kept' : List ℕ) (m' : FramesMemory) (out' : Text) → ProcessesLine l kept m out n kept' out' → m' ≡ next_line step_frame_in m l
+    pub call_open : c ≡ Open → (n : ℕ) (kept' : List ℕ) (m' : FramesMemory) (out' : Text) → ProcessesLine l kept m out n kept' out' → m' ≡ next_line step_frame_in m l
         → Replies (Written n) kept' m' out'
     unfolding line_reply line_counters line_memory line_out answer_line
-    call-open w n kept' m' out' p q =
+    call_open w n kept' m' out' p q =
         open_by (parse_line l) (opened_by (parse_line l) (sym w ∙ e)) n kept' m' out'
         (record { size = p.size; counters = p.counters; memory = q; reply = p.reply })

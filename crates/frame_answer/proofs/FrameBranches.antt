@@ -78,13 +78,13 @@ module _ (b : Text) (d : DecodedFrame) (e : d ≡ decoded_of (decode_frame b)) (
         reply_line_lem (step_frame_in m asked).answer (k + 128) reply payload payload' took.reply took.payload
         ∙ ap (λ (o : Option Frame). line_text (answer_frame step_frame_in m o)) is_frame
 
-    pub frame-acted : WroteAt (reply_line (k + 128) reply payload') at end before after → AnswersFrame (decode_frame b) m m' at end before after
+    pub frame_acted : WroteAt (reply_line (k + 128) reply payload') at end before after → AnswersFrame (decode_frame b) m m' at end before after
     unfolding AnswersFrame
-    frame-acted w = (took.state ∙ ap (next_state step_frame_in m) is_frame, subst (λ (t : Text). WroteAt t at end before after) line_same w)
+    frame_acted w = (took.state ∙ ap (next_state step_frame_in m) is_frame, subst (λ (t : Text). WroteAt t at end before after) line_same w)
 
-    pub frame-fits : PayloadFits reply (length payload')
+    pub frame_fits : PayloadFits reply (length payload')
     unfolding PayloadFits
-    frame-fits = go (step_frame_in m asked).answer took.reply took.payload
+    frame_fits = go (step_frame_in m asked).answer took.reply took.payload
       where
         go : (x : Answer) → reply ≡ answer_reply x → payload' ≡ answer_payload x payload → PayloadFits reply (length payload')
         go (success q) f g = rw f (omega (arith, ap length g, length-append q (drop (length q) payload)))

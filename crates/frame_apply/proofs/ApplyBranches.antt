@@ -130,8 +130,8 @@ module _ (back : Bool) (k : Counters) (r : Reply) where
   count_home h = rw h
 
   module _ (out : back ≡ false) where
-    pub count-refused : (x : Refusal) → r ≡ Refused x → record { kept = k; reply = Refused x } ≡ counted_effect back k r
-    count-refused x h = rw (out, h)
+    pub count_refused : (x : Refusal) → r ≡ Refused x → record { kept = k; reply = Refused x } ≡ counted_effect back k r
+    count_refused x h = rw (out, h)
 
     module _ (n : ℕ) (h : r ≡ Written n) where
       pub count_held : 4294967295 ≤ k.outs → record { kept = k; reply = r } ≡ counted_effect back k r

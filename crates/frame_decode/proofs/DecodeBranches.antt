@@ -141,15 +141,15 @@ module _ (k : ℕ) (p : Text) where
       pub pair_other : length p - 4 - n ≢ m → Bad ≡ decoded (with_source add_one_pair (first_field p))
       pair_other w = ap decoded (other add_one_pair p h n e l m g w)
 
-      pub pair-filled : length p - 4 - n ≡ m → FrameDecoded k (AddPair n m) ≡ decoded (with_source add_one_pair (first_field p))
-      pair-filled w =
+      pub pair_filled : length p - 4 - n ≡ m → FrameDecoded k (AddPair n m) ≡ decoded (with_source add_one_pair (first_field p))
+      pair_filled w =
           let s : length (take n (drop 2 p)) ≡ n = length-take-le n (drop 2 p) (rw (length-drop 2 p) (omega (arith, h, l))) in
           let t : length (take m (drop (4 + n) p)) ≡ m
           = length-take-le m (drop (4 + n) p) (rw (left add_one_pair p h n e l m g ∙ w) (omega arith)) in
           ap (λ (i : ℕ). FrameDecoded k (AddPair i m)) (sym s) ∙ ap (λ (j : ℕ). FrameDecoded k (AddPair (length (take n (drop 2 p))) j)) (sym t)
           ∙ ap decoded (whole add_one_pair p h n e l m g w)
 
-pub ruleset fills = (pair_short, pair_over, pair_other, pair-filled)
+pub ruleset fills = (pair_short, pair_over, pair_other, pair_filled)
 
 -- `decode_nothing`
 module _ (k : ℕ) (p : Text) (h : FrameHeader) where

@@ -70,21 +70,21 @@ module _ (line : Text) (len : ℕ) where
 
   module _ (h : len ≤ 4096) (i : len ≤ length line) (d : Decoded) (before bytes : Text)
       (e : d ≡ decode_reply (decode_hex (take len line)) (length before)) (f : bytes ≡ decode_buffer (decode_hex (take len line)) before) where
-    in-line : line_bytes (line_in_buffer len line) ≡ decode_hex (take len line)
+    in_line : line_bytes (line_in_buffer len line) ≡ decode_hex (take len line)
     unfolding line_bytes line_in_buffer
-    in-line = rw (le-leb len (line_capacity (length line)) (capacity_least (length line) len h i)) refl
+    in_line = rw (le-leb len (line_capacity (length line)) (capacity_least (length line) len h i)) refl
 
     decoded : Decodes (count d) before bytes
-    decoded = rw in-line (ap count e ∙ counts (decode_hex (take len line)) (length before), f)
+    decoded = rw in_line (ap count e ∙ counts (decode_hex (take len line)) (length before), f)
 
-    pub line-bytes : (n : ℕ) → d ≡ Bytes n → Decodes n before bytes
-    line-bytes n w = rw w at decoded
+    pub line_bytes_lem : (n : ℕ) → d ≡ Bytes n → Decodes n before bytes
+    line_bytes_lem n w = rw w at decoded
 
-    pub line-bad : d ≡ BadDigits → Decodes 0 before bytes
-    line-bad w = rw w at decoded
+    pub line_bad : d ≡ BadDigits → Decodes 0 before bytes
+    line_bad w = rw w at decoded
 
-    pub line-over : d ≡ Over → Decodes 0 before bytes
-    line-over w = rw w at decoded
+    pub line_over : d ≡ Over → Decodes 0 before bytes
+    line_over w = rw w at decoded
 
 -- In a buffer of 2,048 bytes, the decoded bytes encode the frame of the line.
 module _ (line : Text) (len r : ℕ) (before bytes : Text) (room : length before ≡ 2048) (w : Decodes line len r before bytes) where

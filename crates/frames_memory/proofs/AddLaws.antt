@@ -42,8 +42,8 @@ module _ (m : FramesMemory) (st : State) (g : Represents m st) (s t : Text) wher
     fewer : suc k ≤ 64
     fewer = omega (arith, g.opened.number, leb-true (suc (length st.opened)) 64 h)
 
-    slots-fit : 4 * suc k ≤ length m.places
-    slots-fit = omega (arith, fewer, g.large.places)
+    slots_fit : 4 * suc k ≤ length m.places
+    slots_fit = omega (arith, fewer, g.large.places)
 
     bytes_fit : b + (length s + length t) ≤ length m.bytes
     bytes_fit =
@@ -58,16 +58,16 @@ module _ (m : FramesMemory) (st : State) (g : Represents m st) (s t : Text) wher
           → refused_or a Refused (cond (leb (suc k) 64 && leb (4 * suc k) (length m.places)) (cond (leb (b + (length s + length t)) (length m.bytes)) Passed (Refused NoRoom)) (Refused TooMany))
           ≡ refused_or a Refused (cond c Passed (Refused TooMany))
       go Passed e true h =
-          rw (le-leb (suc k) 64 (fewer e h), le-leb (4 * suc k) (length m.places) (slots-fit e h), le-leb (b + (length s + length t)) (length m.bytes) (bytes_fit e h)) refl
+          rw (le-leb (suc k) 64 (fewer e h), le-leb (4 * suc k) (length m.places) (slots_fit e h), le-leb (b + (length s + length t)) (length m.bytes) (bytes_fit e h)) refl
       go Passed e false h = rw (lt-leb (suc k) 64 (omega (arith, g.opened.number, leb-false (suc (length st.opened)) 64 h))) refl
       go (Refused x) e c h = refl
 
   module _ (e : validate_call [] two two ≡ Passed) (h : has_pair_room st ≡ true) where
-    still-large : LargeEnough (add_after Passed m s t).state
+    still_large : LargeEnough (add_after Passed m s t).state
     unfolding add_bytes add_places
-    still-large = record {
+    still_large = record {
       bytes = rw (over_length b (s ++ t) m.bytes (omega (arith, length-append s t, bytes_fit e h))) g.large.bytes;
-      places = rw (over_length (4 * k) (pair_entry b s t) m.places (omega (arith, slots-fit e h))) g.large.places;
+      places = rw (over_length (4 * k) (pair_entry b s t) m.places (omega (arith, slots_fit e h))) g.large.places;
       store = g.large.store;
       slots = g.large.slots;
       table = g.large.table;
@@ -89,7 +89,7 @@ module _ (m : FramesMemory) (st : State) (g : Represents m st) (s t : Text) wher
         bytes = g.within.bytes;
         outs = g.within.outs;
       };
-      large = still-large;
+      large = still_large;
     }
 
   pub same_add : SameStep (add_in m s t) (add_pair st s t)

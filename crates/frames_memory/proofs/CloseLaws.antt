@@ -73,20 +73,20 @@ module _ (m : FramesMemory) (st : State) (g : Represents m st) where
     size : end_bytes (leg_map x).pairs ≤ n
     size = rw (closed_parts relocates st.opened) (from_parts_bytes (counted_pairs relocates st.opened) relocates)
 
-    close-validated : validate_close_of relocates (open_list_of m) (leg_store_of m) ≡ replied (has_leg_room st) (has_byte_room st n)
+    close_validated : validate_close_of relocates (open_list_of m) (leg_store_of m) ≡ replied (has_leg_room st) (has_byte_room st n)
     unfolding validate_close_of validate_close
-    close-validated = rw (list_counts m st g, open_read m st g, leg_validated, bytes_validated n) refl
+    close_validated = rw (list_counts m st g, open_read m st g, leg_validated, bytes_validated n) refl
 
-    close-store : close_store relocates (open_list_of m) (leg_store_of m) ≡ closed_store (replied (has_leg_room st) (has_byte_room st n)) (leg_store_of m) (leg_map x) n
+    close_store_lem : close_store relocates (open_list_of m) (leg_store_of m) ≡ closed_store (replied (has_leg_room st) (has_byte_room st n)) (leg_store_of m) (leg_map x) n
     unfolding close_store
-    close-store = rw (close-validated, open_read m st g) refl
+    close_store_lem = rw (close_validated, open_read m st g) refl
 
     module _ (h : has_leg_room st ≡ true) (i : has_byte_room st n ≡ true) where
       one_more : suc k ≤ 16
       one_more = omega (arith, legs_count m st g, leb-true (suc (length st.legs)) 16 h)
 
-      bytes-more : m.kept.legs.bytes + n ≤ 32768
-      bytes-more = omega (arith, g.used, leb-true (st.used + n) 32768 i)
+      bytes_more : m.kept.legs.bytes + n ≤ 32768
+      bytes_more = omega (arith, g.used, leb-true (st.used + n) 32768 i)
 
       room : Room (leg_store_of m)
       room = record { store = in_store_lem m st g; slots = omega (arith, one_more, g.large.slots); table = omega (arith, one_more, g.large.table) }
@@ -94,13 +94,13 @@ module _ (m : FramesMemory) (st : State) (g : Represents m st) where
       after : FramesMemory
       after = (close_after Passed m (with_leg (leg_store_of m) (leg_map x) n)).state
 
-      still-large : LargeEnough after
+      still_large : LargeEnough after
       unfolding with_leg after
-      still-large = record {
+      still_large = record {
         bytes = g.large.bytes;
         places = g.large.places;
         store =
-            rw (over_length m.kept.legs.bytes (list_text (leg_map x).pairs) m.store (omega (arith, list_length (leg_map x).pairs, size, bytes-more, g.large.store)))
+            rw (over_length m.kept.legs.bytes (list_text (leg_map x).pairs) m.store (omega (arith, list_length (leg_map x).pairs, size, bytes_more, g.large.store)))
             g.large.store;
         slots =
             rw (over_length (256 * k) (list_places m.kept.legs.bytes (leg_map x).pairs) m.slots (omega (arith, places_length m.kept.legs.bytes (leg_map x).pairs, few, one_more, g.large.slots)))
@@ -125,14 +125,14 @@ module _ (m : FramesMemory) (st : State) (g : Represents m st) where
           bytes = leb-true (st.used + n) 32768 i;
           outs = g.within.outs;
         };
-        large = still-large;
+        large = still_large;
       }
 
-    pub same-close : SameStep (close_in relocates m) (close_opened relocates st)
+    pub same_close : SameStep (close_in relocates m) (close_opened relocates st)
     unfolding close_in close_list closed_store after
-    same-close =
-        subst (λ (a : Validation). SameStep (close_after a m (close_store relocates (open_list_of m) (leg_store_of m))) (close_list st x n)) (sym close-validated)
-        (subst (λ (v : LegStore). SameStep (close_after (replied (has_leg_room st) (has_byte_room st n)) m v) (close_list st x n)) (sym close-store)
+    same_close =
+        subst (λ (a : Validation). SameStep (close_after a m (close_store relocates (open_list_of m) (leg_store_of m))) (close_list st x n)) (sym close_validated)
+        (subst (λ (v : LegStore). SameStep (close_after (replied (has_leg_room st) (has_byte_room st n)) m v) (close_list st x n)) (sym close_store_lem)
         (go (has_leg_room st) refl (has_byte_room st n) refl))
       where
         go : (a : Bool) → has_leg_room st ≡ a → (b : Bool) → has_byte_room st n ≡ b

@@ -37,9 +37,9 @@ module _ (v : LegStore) (r : Room v) (y : Map) (n : ℕ) where
   }
 
   module _ (few : length y.pairs ≤ 64) (ends : all_ends y.pairs ≡ true) (short : all_short y.pairs ≡ true) (size : end_bytes y.pairs ≤ n) where
-    leg-new : HoldsLeg (with_leg v y n) v.legs.count y
+    leg_new : HoldsLeg (with_leg v y n) v.legs.count y
     unfolding with_leg
-    leg-new = record {
+    leg_new = record {
       few = few;
       ends = ends;
       short = short;
@@ -58,7 +58,7 @@ module _ (v : LegStore) (r : Room v) (y : Map) (n : ℕ) where
     }
       where
         last : HoldsLeg (with_leg v y n) (length xs) (get_or (xs ++ y ∷ []) (length xs) null_map)
-        last = rw (get_or-append_seam xs y [] null_map) (subst (λ (k : ℕ). HoldsLeg (with_leg v y n) k y) h.count leg-new)
+        last = rw (get_or-append_seam xs y [] null_map) (subst (λ (k : ℕ). HoldsLeg (with_leg v y n) k y) h.count leg_new)
 
         earlier : (k : ℕ) → k < length xs → HoldsLeg (with_leg v y n) k (get_or (xs ++ y ∷ []) k null_map)
         earlier k i = rw (get_or-append xs (y ∷ []) null_map k i) (leg_still k (get_or xs k null_map) (omega (arith, h.count)) (h.each k i))

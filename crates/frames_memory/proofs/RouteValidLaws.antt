@@ -28,9 +28,9 @@ module _ (m : FramesMemory) (st : State) (g : Represents m st) where
 
   -- The list of leg k, whose map is x.
   module _ (k : ℕ) (l : k < n) (x : Map) (h : HoldsLeg (leg_store_of m) k x) where
-    leg-holds : HoldsValidated (list_at (route_of m) k) x.pairs
+    leg_holds : HoldsValidated (list_at (route_of m) k) x.pairs
     unfolding list_at
-    leg-holds =
+    leg_holds =
         let first : 4 * get_or m.table (3 * k + 1) 0 ≡ 256 * k = omega (arith, first_is (leg_store_of m) k x h (in_store_lem m st g)) in
         let size = size_is (leg_store_of m) k x h (in_store_lem m st g) in
         let d : length (drop (256 * k) m.slots) ≡ length m.slots - 256 * k = length-drop (256 * k) m.slots in
@@ -47,8 +47,8 @@ module _ (m : FramesMemory) (st : State) (g : Represents m st) where
           numbers = h.places;
         })
 
-    leg-passes : validate_call (list_at (route_of m) k ∷ []) [] [] ≡ Passed
-    leg-passes = holds_passes (list_at (route_of m) k) x.pairs leg-holds
+    leg_passes : validate_call (list_at (route_of m) k ∷ []) [] [] ≡ Passed
+    leg_passes = holds_passes (list_at (route_of m) k) x.pairs leg_holds
 
   lists_pass : (k : ℕ) → k ≤ n → validate_call (lists_in (route_of m) k) [] [] ≡ Passed
   unfolding lists_in first_refusal validate_call every first_failed
@@ -58,7 +58,7 @@ module _ (m : FramesMemory) (st : State) (g : Represents m st) where
       let x : Map = get_or (map leg_map st.legs) k null_map in
       list_more (lists_in (route_of m) k) (list_at (route_of m) k)
       ∙ ap (λ a. first_refusal a (validate_call (list_at (route_of m) k ∷ []) [] [])) (lists_pass k (omega arith))
-      ∙ leg-passes k l x (g.legs.each k i)
+      ∙ leg_passes k l x (g.legs.each k i)
 
   pub legs_pass : validate_route (route_of m) [] ≡ Passed
   unfolding validate_route present_legs leg_count_within_limit

@@ -25,7 +25,7 @@ use Rattle.frames_memory.specs.Represents.{LargeEnough, Represents, SameStep, in
 use Rattle.frames_memory.proofs.RouteLaws.{same_routes}
 use Rattle.frames_memory.proofs.ValidateLaws.{open_read, list_passes}
 use Rattle.frames_memory.proofs.AddLaws.{same_add}
-use Rattle.frames_memory.proofs.CloseLaws.{same-close}
+use Rattle.frames_memory.proofs.CloseLaws.{same_close}
 
 begins : (m : FramesMemory) → LargeEnough m → m.kept ≡ initial_counters → Represents m initial_state
 unfolding all_ends all_short list_text list_places end_bytes
@@ -67,7 +67,7 @@ module _ (m : FramesMemory) (st : State) (g : Represents m st) where
   unfolding step_frame_in step_frame
   steps (frame k (add_one_pair s t)) = same_add m st g s t
   steps (frame k statuses) = record { answers = same_statuses; holds = g }
-  steps (frame k (close relocates)) = same-close m st g relocates
+  steps (frame k (close relocates)) = same_close m st g relocates
   steps (frame k (route false p)) = rw (same_routes m st g false p) (same_count (route_path false st p))
   steps (frame k (route true p)) = record { answers = ap outcome_answer (same_routes m st g true p); holds = g }
   steps (frame k count) =

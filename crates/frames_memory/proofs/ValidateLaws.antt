@@ -70,31 +70,31 @@ module _ (x : LentList) (l : List Pair) (g : HoldsValidated x l) where
     number_at j c e k = rw e (number c k)
 
     -- A place with these numbers has at most 255 bytes and lies within the store.
-    place-fits : (j start size : ℕ) → start_at x.places j ≡ start → length_at x.places j ≡ size → start + size ≤ g.at + end_bytes l → size ≤ 255
+    place_fits : (j start size : ℕ) → start_at x.places j ≡ start → length_at x.places j ≡ size → start + size ≤ g.at + end_bytes l → size ≤ 255
         → is_short_at x.store x.places j ≡ true
     unfolding is_short_at in_store
-    place-fits j start size s e b c =
+    place_fits j start size s e b c =
         or_right (leb (length x.places / 2) j) (leb (start_at x.places j + length_at x.places j) (length x.store) && leb (length_at x.places j) 255)
         (rw (s, e, le-leb (start + size) (length x.store) (omega (arith, g.inside)), le-leb size 255 c) refl)
 
     pair_fits : (is_short_at x.store x.places (2 * i) ≡ true) × (is_short_at x.store x.places (2 * i + 1) ≡ true)
     pair_fits =
         let w = short_at l g.short i in (
-          place-fits (2 * i) (g.at + end_bytes (take i l)) (length (source_at l i)) (number_at (2 * (2 * i)) 0 (omega arith) (omega arith))
+          place_fits (2 * i) (g.at + end_bytes (take i l)) (length (source_at l i)) (number_at (2 * (2 * i)) 0 (omega arith) (omega arith))
               (number_at (2 * (2 * i) + 1) 1 (omega arith) (omega arith)) (omega (arith, end_at l i h)) w.0,
-          place-fits (2 * i + 1) (g.at + end_bytes (take i l) + length (source_at l i)) (length (target_at l i)) (number_at (2 * (2 * i + 1)) 2 (omega arith) (omega arith))
+          place_fits (2 * i + 1) (g.at + end_bytes (take i l) + length (source_at l i)) (length (target_at l i)) (number_at (2 * (2 * i + 1)) 2 (omega arith) (omega arith))
               (number_at (2 * (2 * i + 1) + 1) 3 (omega arith) (omega arith)) (omega (arith, end_at l i h)) w.1,
         )
 
     -- The texts read there are the ends of the pair.
-    source-there : text_at x.store x.places (2 * i) ≡ source_at l i
-    source-there =
+    source_there : text_at x.store x.places (2 * i) ≡ source_at l i
+    source_there =
         let z : 2 * i ≡ 2 * i + 0 = omega arith in
         ap (text_at x.store x.places) z ∙ sym (pairs_in_source x.store x.places x.count i (omega (arith, g.counts)))
         ∙ ap (λ (k : List Pair). source_at k i) g.reads
 
-    target-there : text_at x.store x.places (2 * i + 1) ≡ target_at l i
-    target-there = sym (pairs_in_target x.store x.places x.count i (omega (arith, g.counts))) ∙ ap (λ (k : List Pair). target_at k i) g.reads
+    target_there : text_at x.store x.places (2 * i + 1) ≡ target_at l i
+    target_there = sym (pairs_in_target x.store x.places x.count i (omega (arith, g.counts))) ∙ ap (λ (k : List Pair). target_at k i) g.reads
 
   list_fits : list_short x ≡ true
   unfolding list_short places_short
@@ -109,7 +109,7 @@ module _ (x : LentList) (l : List Pair) (g : HoldsValidated x l) where
       (by_twos (places_all passes x.store x.places) (λ j. passes (text_at x.store x.places j)) refl (λ k. refl) x.count (λ i h. one i (omega (arith, g.counts))))
     where
       one : (i : ℕ) → i < length l → (passes (text_at x.store x.places (2 * i)) ≡ true) × (passes (text_at x.store x.places (2 * i + 1)) ≡ true)
-      one i h = (rw (source-there i h) (each i).0, rw (target-there i h) (each i).1)
+      one i h = (rw (source_there i h) (each i).0, rw (target_there i h) (each i).1)
 
   ends_there : (i : ℕ) → (is_end (source_at l i) ≡ true) × (is_end (target_at l i) ≡ true)
   unfolding all_ends is_end

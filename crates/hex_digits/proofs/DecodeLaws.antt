@@ -103,11 +103,11 @@ module _ (s out : Text) where
   kept_odd d = rw (← odd_half d)
 
   module _ (b : Bool) (f : b ≡ all_digits s) where
-    pub bad-other : not b ≡ true → Bad ≡ decode_reply (decode_hex s) (length out)
-    bad-other t = rw (← other_none s (known_false f t))
+    pub bad_other : not b ≡ true → Bad ≡ decode_reply (decode_hex s) (length out)
+    bad_other t = rw (← other_none s (known_false f t))
 
-    pub kept-other : not b ≡ true → out ≡ decode_buffer (decode_hex s) out
-    kept-other t = rw (← other_none s (known_false f t))
+    pub kept_other : not b ≡ true → out ≡ decode_buffer (decode_hex s) out
+    kept_other t = rw (← other_none s (known_false f t))
 
     module _ (h : length s ≡ 2 * (length s / 2)) (t : not b ≡ false) where
       half : length (values s) ≡ length s / 2
@@ -116,14 +116,14 @@ module _ (s out : Text) where
       whole : some (values s) ≡ decode_hex s
       whole = all_some s (length s / 2) h (known_true f t)
 
-      pub over-short : length out < length s / 2 → Over ≡ decode_reply (decode_hex s) (length out)
-      over-short k = rw (← whole, half, lt-leb (length s / 2) (length out) k)
+      pub over_short : length out < length s / 2 → Over ≡ decode_reply (decode_hex s) (length out)
+      over_short k = rw (← whole, half, lt-leb (length s / 2) (length out) k)
 
       pub kept_short : length out < length s / 2 → out ≡ decode_buffer (decode_hex s) out
       kept_short k = rw (← whole) (put_over out (values s) 0 (omega arith) (omega (arith, half)))
 
-      pub bytes-all : length s / 2 ≤ length out → Bytes (length s / 2) ≡ decode_reply (decode_hex s) (length out)
-      bytes-all k = rw (← whole, half, le-leb (length s / 2) (length out) k)
+      pub bytes_all : length s / 2 ≤ length out → Bytes (length s / 2) ≡ decode_reply (decode_hex s) (length out)
+      bytes_all k = rw (← whole, half, le-leb (length s / 2) (length out) k)
 
       pub written_all : (mem : Text) (i : ℕ) → length s / 2 ≤ length out → length s / 2 ≤ i → i ≤ length s / 2 → mem ≡ paste out 0 (values s) i
           → mem ≡ decode_buffer (decode_hex s) out
@@ -136,7 +136,7 @@ module _ (s out : Text) where
       let n : length (values s) ≡ length s / 2 = values_length s (length s / 2) h in
       rw (f, ← values_at s i (omega arith)) (rw (zero-add i) at (put_on out (values s) mem 0 i (omega arith) (omega arith) (omega arith) e))
 
-pub ruleset decoding = (bad_odd, kept_odd, bad-other, kept-other, over-short, kept_short, bytes-all, written_all, written_on, put_begin, put_length)
+pub ruleset decoding = (bad_odd, kept_odd, bad_other, kept_other, over_short, kept_short, bytes_all, written_all, written_on, put_begin, put_length)
 
 -- Two digits encode one byte.
 pub decoded_length : (s x : Text) → decode_hex s ≡ some x → length s ≡ 2 * length x

@@ -46,13 +46,13 @@ module _ (t out : Text) (at : ℕ) where
   encode_outside h = put_outside out (encode_hex t) at h
 
   module _ (h : at ≤ length out) where
-    pub encode-over : (length out - at) / 2 < length t → out ≡ written_if_fits at (encode_hex t) out
-    encode-over k = put_over out (encode_hex t) at h (omega (arith, encoded_length t))
+    pub encode_over : (length out - at) / 2 < length t → out ≡ written_if_fits at (encode_hex t) out
+    encode_over k = put_over out (encode_hex t) at h (omega (arith, encoded_length t))
 
     module _ (k : length t ≤ (length out - at) / 2) (mem : Text) (i : ℕ) (e : mem ≡ paste out at (encode_hex t) (2 * i)) where
-      pub encode-on : (mem' : Text) → i < length t → mem' ≡ set (set mem (at + 2 * i) (hex_digit (get_or t i 0 / 16))) (at + 2 * i + 1) (hex_digit (get_or t i 0 % 16))
+      pub encode_on : (mem' : Text) → i < length t → mem' ≡ set (set mem (at + 2 * i) (hex_digit (get_or t i 0 / 16))) (at + 2 * i + 1) (hex_digit (get_or t i 0 % 16))
           → mem' ≡ paste out at (encode_hex t) (2 * (i + 1))
-      encode-on mem' l w =
+      encode_on mem' l w =
           let n = encoded_length t in
           let high : set mem (at + 2 * i) (hex_digit (get_or t i 0 / 16)) ≡ paste out at (encode_hex t) (2 * i + 1) =
           rw (← encoded_high t i l) (put_on out (encode_hex t) mem at (2 * i) h (omega arith) (omega arith) e) in
@@ -61,9 +61,9 @@ module _ (t out : Text) (at : ℕ) where
           let q : 2 * i + 1 + 1 ≡ 2 * (i + 1) = omega arith in
           w ∙ rw (← encoded_low t i l) (rw (p, q) at low)
 
-      pub encode-end : length t ≤ i → i ≤ length t → mem ≡ written_if_fits at (encode_hex t) out
-      encode-end l m =
+      pub encode_end : length t ≤ i → i ≤ length t → mem ≡ written_if_fits at (encode_hex t) out
+      encode_end l m =
           let n = encoded_length t in
           put_end out (encode_hex t) mem at (2 * i) h (omega arith) (omega arith) (omega arith) e
 
-pub ruleset encoding = (encode_outside, encode-over, encode-on, encode-end, put_begin, put_length)
+pub ruleset encoding = (encode_outside, encode_over, encode_on, encode_end, put_begin, put_length)

@@ -86,21 +86,21 @@ module _ (room most n : ℕ) (s mem : Text) (e : most ≡ line_capacity room) wh
   overlong_kept h = too_long_kept (omega arith)
 
   module _ (h : n ≤ most) where
-    pub add-over : most - n < length s → most + 1 ≡ line_length_after (line_capacity room) n (length s)
-    add-over k = too_long (omega arith)
+    pub add_over : most - n < length s → most + 1 ≡ line_length_after (line_capacity room) n (length s)
+    add_over k = too_long (omega arith)
 
-    pub over-kept : most - n < length s → mem ≡ line_buffer_after (line_capacity room) n s mem
-    over-kept k = too_long_kept (omega arith)
+    pub over_kept : most - n < length s → mem ≡ line_buffer_after (line_capacity room) n s mem
+    over_kept k = too_long_kept (omega arith)
 
-    pub add-fits : length s ≤ most - n → n + length s ≡ line_length_after (line_capacity room) n (length s)
+    pub add_fits : length s ≤ most - n → n + length s ≡ line_length_after (line_capacity room) n (length s)
     unfolding line_length_after
-    add-fits k = rw (← e, le-leb (n + length s) most (omega arith))
+    add_fits k = rw (← e, le-leb (n + length s) most (omega arith))
 
-    pub fits-placed : (mem' : Text) → length s ≤ most - n → mem' ≡ written_if_fits n s mem → mem' ≡ line_buffer_after (line_capacity room) n s mem
+    pub fits_placed : (mem' : Text) → length s ≤ most - n → mem' ≡ written_if_fits n s mem → mem' ≡ line_buffer_after (line_capacity room) n s mem
     unfolding line_buffer_after
-    fits-placed mem' k w = rw (← e, le-leb (n + length s) most (omega arith)) w
+    fits_placed mem' k w = rw (← e, le-leb (n + length s) most (omega arith)) w
 
-pub ruleset adds = (add_overlong, overlong_kept, add-over, over-kept, add-fits, fits-placed)
+pub ruleset adds = (add_overlong, overlong_kept, add_over, over_kept, add_fits, fits_placed)
 
 -- Lemmas for `take_line`.
 pub part_length : (block : Text) (k : ℕ) → k ≡ newline_index block → k ≡ length (take k block)

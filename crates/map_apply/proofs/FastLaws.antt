@@ -170,10 +170,10 @@ module _ (m : Map) (p : Text) (em : all_ends m.pairs ≡ true) (sm : all_short m
   translate_by : (o : Option ℕ) → match_source m p ≡ o → translate_fast_by m p o ≡ checked_option (require_invertible m o (map_by m (map_source m) (map_target m) p o))
   unfolding translate_fast_by translate_by_mark
   translate_by none e = rw (lost m.mark) (marked m.mark (match_target m p))
-  translate_by (some i) e = let w = matched-out i e in blocked (is_nil (map_target m i)) (pair i w.0 w.1)
+  translate_by (some i) e = let w = matched_out i e in blocked (is_nil (map_target m i)) (pair i w.0 w.1)
     where
-      matched-out : (i : ℕ) → match_source m p ≡ some i → (is_nil (map_source m i) ≡ false) × (has_prefix p (map_source m i) ≡ true)
-      matched-out i e = served p (map_source m) (map_size m) i (chosen_unfolded m p ∙ e)
+      matched_out : (i : ℕ) → match_source m p ≡ some i → (is_nil (map_source m i) ≡ false) × (has_prefix p (map_source m i) ≡ true)
+      matched_out i e = served p (map_source m) (map_size m) i (chosen_unfolded m p ∙ e)
 
       blocked : (b : Bool) → translate_by_pair m i (map_source m i) (map_target m i) (drop (length (map_source m i)) p) ≡ checked_option (require_invertible m (some i) (replace_prefix p (map_source m i) (map_target m i)))
           → cond b (refused NoPath) (translate_by_pair m i (map_source m i) (map_target m i) (drop (length (map_source m i)) p))

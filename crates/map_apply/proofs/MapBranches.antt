@@ -65,12 +65,12 @@ module _ (s t p out : Text) (b : Bool) (h : b ≡ join_illegal t (remainder_of s
     unspoilt : join_illegal t (drop (length s) p) ≡ false
     unspoilt = rw (rest_whole p (length s)) at (told h k)
 
-    pub apply-made : (r : Reply) (out' : Text)
+    pub apply_made : (r : Reply) (out' : Text)
         → (r ≡ outcome_reply (cond (at_most255 (join s t (remainder_of s p))) (path (join s t (remainder_of s p))) (refused MadeTooLong)))
         × (out' ≡ outcome_buffer (cond (at_most255 (join s t (remainder_of s p))) (path (join s t (remainder_of s p))) (refused MadeTooLong)) out)
         → (r ≡ outcome_reply (join_checked s t (drop (length s) p))) × (out' ≡ outcome_buffer (join_checked s t (drop (length s) p)) out)
     unfolding join_checked
-    apply-made r out' w = rw unspoilt (rw (rest_whole p (length s)) at w)
+    apply_made r out' w = rw unspoilt (rw (rest_whole p (length s)) at w)
 
 -- Lemmas for `keep_path`.
 module _ (mark : Bool) (p out : Text) where
@@ -128,29 +128,29 @@ module _ (store : Text) (places : List ℕ) (n : ℕ) (mark : Bool) (p : Text) w
 
   module _ (invert : Bool) (f : Found) (h : f ≡ found_of (longest_match p (key invert) n)) where
     -- With the mark only, the rest is the whole path.
-    pub rest-none : not f.found ≡ true → plain_rest invert lent p ≡ From 0
+    pub rest_none : not f.found ≡ true → plain_rest invert lent p ≡ From 0
     unfolding rest_by
-    rest-none k = rest_by_lem invert ∙ ap (rest_by (key invert) p) (found_none f (longest_match p (key invert) n) h (not_true f.found k))
+    rest_none k = rest_by_lem invert ∙ ap (rest_by (key invert) p) (found_none f (longest_match p (key invert) n) h (not_true f.found k))
 
-    pub map-none : not f.found ≡ true → map_fast invert lent p ≡ keep_path mark p
+    pub map_none : not f.found ≡ true → map_fast invert lent p ≡ keep_path mark p
     unfolding map_fast_by
-    map-none k = fast_by invert ∙ ap (map_fast_by mark (key invert) (key (not invert)) (key true) p) (found_none f (longest_match p (key invert) n) h (not_true f.found k))
+    map_none k = fast_by invert ∙ ap (map_fast_by mark (key invert) (key (not invert)) (key true) p) (found_none f (longest_match p (key invert) n) h (not_true f.found k))
 
     module _ (k : not f.found ≡ false) where
       chosen : longest_match p (key invert) n ≡ some f.at
       chosen = found_some f (longest_match p (key invert) n) h (not_false f.found k)
 
       -- With a pair, the rest begins where the prefix test says: a key that is selected is a prefix of the path.
-      pub rest-found : (s : Text) (j : ℕ) → s ≡ key invert f.at → j ≡ rest_index p s → plain_rest invert lent p ≡ From j
+      pub rest_found : (s : Text) (j : ℕ) → s ≡ key invert f.at → j ≡ rest_index p s → plain_rest invert lent p ≡ From j
       unfolding rest_by longest_match
-      rest-found s j e i =
+      rest_found s j e i =
           rw (i, e)
           (rest_by_lem invert ∙ ap (rest_by (key invert) p) chosen
           ∙ rest_from p (key invert f.at) (served p (key invert f.at) (chosen_best (matches p) (key invert) n f.at chosen).does_pass))
 
-      pub map-block : (b : Text) → b ≡ key true f.at → length b ≡ 0 → map_fast invert lent p ≡ refused NoPath
+      pub map_block : (b : Text) → b ≡ key true f.at → length b ≡ 0 → map_fast invert lent p ≡ refused NoPath
       unfolding map_fast_by
-      map-block b e l =
+      map_block b e l =
           fast_by invert ∙ ap (map_fast_by mark (key invert) (key (not invert)) (key true) p) chosen ∙ ap blocked (nil_length (key true f.at) (rw e at l))
         where
           blocked : Bool → Outcome
@@ -165,6 +165,6 @@ module _ (store : Text) (places : List ℕ) (n : ℕ) (mark : Bool) (p : Text) w
           blocked : Bool → Outcome
           blocked c = cond c (refused NoPath) (join_checked (key invert f.at) (key (not invert) f.at) (drop (length (key invert f.at)) p))
 
-      pub map-inside : (s : Text) → s ≡ key invert f.at → length s ≤ length p
+      pub map_inside : (s : Text) → s ≡ key invert f.at → length s ≤ length p
       unfolding longest_match
-      map-inside s e = rw e (matched_long p (key invert f.at) (chosen_best (matches p) (key invert) n f.at chosen).does_pass)
+      map_inside s e = rw e (matched_long p (key invert f.at) (chosen_best (matches p) (key invert) n f.at chosen).does_pass)

@@ -12,7 +12,7 @@ use Rattle.text.specs.Text.{Text, is_nil, written_if_fits, fit_of}
 use Rattle.text.specs.declared.Fit.{Fit}
 use Rattle.text.specs.declared.Fit.TheVariants.{Written as WrittenFit, Over}
 use Rattle.text.proofs.BoolLaws.{and_no, not_true, not_false}
-use Rattle.text.proofs.WriteLaws.{fit_room, fit_over, fit-back}
+use Rattle.text.proofs.WriteLaws.{fit_room, fit_over, fit_back}
 use Rattle.path_join.specs.Join.{join, join_illegal}
 use Rattle.pair_list.specs.Places.{key_at}
 use Rattle.pair_list.specs.LongestMatch.{longest_match}
@@ -27,7 +27,7 @@ use Rattle.map_spec.specs.Map.{lent_map, Map, match_source, match_target, eq_ind
 use Rattle.path_rest.specs.declared.Rest.TheVariants.{From}
 use Rattle.path_rest.specs.Rest.{rest_index}
 use Rattle.map_rest.specs.MapRest.{source_rest}
-use Rattle.map_apply.proofs.MapBranches.{rest-none, rest-found}
+use Rattle.map_apply.proofs.MapBranches.{rest_none, rest_found}
 use Rattle.map_apply.specs.Fast.{plain_rest, checked_join, join_checked, keep_path, translate_by_mark, translate_by_pair, translate_fast_by, translate_fast}
 use Rattle.map_spec.proofs.LentLaws.{out_keys, home_keys, ends_by}
 use Rattle.text.proofs.TextLaws.{nil_length, nil_not}
@@ -53,52 +53,52 @@ module _ (store : Text) (places : List ℕ) (n : ℕ) (mark : Bool) (p : Text) w
   marked_none k = rw (not_true mark k)
 
   module _ (f : Found) (h : f ≡ found_of (longest_match p (key_at store places true) n)) where
-    home-is : f ≡ found_of (match_target lent p)
-    home-is = rw (home_keys store places n mark p) h
+    home_is : f ≡ found_of (match_target lent p)
+    home_is = rw (home_keys store places n mark p) h
 
-    pub marked-shadowed : f.found ≡ true → translate_by_mark lent p ≡ refused NoPath
+    pub marked_shadowed : f.found ≡ true → translate_by_mark lent p ≡ refused NoPath
     unfolding translate_by_mark
-    marked-shadowed k = rw (found_some f (match_target lent p) home-is k, and_no mark)
+    marked_shadowed k = rw (found_some f (match_target lent p) home_is k, and_no mark)
 
-    pub marked-kept : not mark ≡ false → f.found ≡ false → translate_by_mark lent p ≡ keep_path mark p
+    pub marked_kept : not mark ≡ false → f.found ≡ false → translate_by_mark lent p ≡ keep_path mark p
     unfolding translate_by_mark
-    marked-kept k l = rw (found_none f (match_target lent p) home-is l, not_false mark k)
+    marked_kept k l = rw (found_none f (match_target lent p) home_is l, not_false mark k)
 
   -- Lemmas for `translate_text`.
   module _ (f : Found) (h : f ≡ found_of (longest_match p (key_at store places false) n)) where
-    out-is : f ≡ found_of (match_source lent p)
-    out-is = rw (out_keys store places n mark p) h
+    out_is : f ≡ found_of (match_source lent p)
+    out_is = rw (out_keys store places n mark p) h
 
     pub text_none : not f.found ≡ true → translate_fast lent p ≡ translate_by_mark lent p
     unfolding translate_fast translate_fast_by
-    text_none k = rw (found_none f (match_source lent p) out-is (not_true f.found k))
+    text_none k = rw (found_none f (match_source lent p) out_is (not_true f.found k))
 
-    pub source-none : not f.found ≡ true → source_rest lent p ≡ From 0
+    pub source_none : not f.found ≡ true → source_rest lent p ≡ From 0
     unfolding plain_rest
-    source-none k = rest-none store places n mark p false f h k
+    source_none k = rest_none store places n mark p false f h k
 
     module _ (k : not f.found ≡ false) where
-      pub source-found : (s : Text) (j : ℕ) → s ≡ key_at store places false f.at → j ≡ rest_index p s → source_rest lent p ≡ From j
+      pub source_found : (s : Text) (j : ℕ) → s ≡ key_at store places false f.at → j ≡ rest_index p s → source_rest lent p ≡ From j
       unfolding plain_rest
-      source-found s j e i = rest-found store places n mark p false f h k s j e i
+      source_found s j e i = rest_found store places n mark p false f h k s j e i
 
       chosen : longest_match p (key_at store places false) n ≡ some f.at
       chosen = found_some f (longest_match p (key_at store places false) n) h (not_false f.found k)
 
-      by-pair : translate_fast lent p
+      by_pair : translate_fast lent p
           ≡ cond (is_nil (key_at store places true f.at)) (refused NoPath)
           (translate_by_pair lent f.at (key_at store places false f.at) (key_at store places true f.at) (drop (length (key_at store places false f.at)) p))
       unfolding translate_fast translate_fast_by
-      by-pair =
+      by_pair =
           let e = ends_by store places n mark p false f.at chosen in
-          rw (found_some f (match_source lent p) out-is (not_false f.found k), e.0, e.1)
+          rw (found_some f (match_source lent p) out_is (not_false f.found k), e.0, e.1)
 
-      pub text-block : (t : Text) → t ≡ key_at store places true f.at → length t ≡ 0 → translate_fast lent p ≡ refused NoPath
-      text-block t e l = by-pair ∙ rw (← e, nil_length t l)
+      pub text_block : (t : Text) → t ≡ key_at store places true f.at → length t ≡ 0 → translate_fast lent p ≡ refused NoPath
+      text_block t e l = by_pair ∙ rw (← e, nil_length t l)
 
-      pub text-pair : (s t : Text) → t ≡ key_at store places true f.at → length t ≢ 0 → s ≡ key_at store places false f.at
+      pub text_pair : (s t : Text) → t ≡ key_at store places true f.at → length t ≢ 0 → s ≡ key_at store places false f.at
           → translate_fast lent p ≡ translate_by_pair lent f.at s t (drop (length s) p)
-      text-pair s t e l es = by-pair ∙ rw (← e, ← es, nil_not t l)
+      text_pair s t e l es = by_pair ∙ rw (← e, ← es, nil_not t l)
 
 same_at : (i : ℕ) (o : Option ℕ) → eq_index (some i) o ≡ is_index i o
 same_at i none = refl
@@ -114,16 +114,16 @@ module _ (store : Text) (places : List ℕ) (n : ℕ) (mark : Bool) (i : ℕ) (s
   pair_over e = rw (lt-leb (length (join s t r)) 512 (omega (arith, fit_over (join s t r) buf (sym h ∙ e))))
 
   module _ (k : ℕ) (e : f ≡ WrittenFit k) (mem : Text) (m : mem ≡ written_if_fits 0 (join s t r) buf) (g : Bool) (o : g ≡ is_index i (longest_match (take k mem) (key_at store places true) n)) where
-    fits-512 : translate_by_pair lent_one i s t r ≡ cond (eq_index (some i) (match_target lent_one (join s t r))) (join_checked s t r) (refused NoPath)
+    fits_512 : translate_by_pair lent_one i s t r ≡ cond (eq_index (some i) (match_target lent_one (join s t r))) (join_checked s t r) (refused NoPath)
     unfolding translate_by_pair
-    fits-512 = rw (le-leb (length (join s t r)) 512 (omega (arith, fit_room (join s t r) buf k (sym h ∙ e))))
+    fits_512 = rw (le-leb (length (join s t r)) 512 (omega (arith, fit_room (join s t r) buf k (sym h ∙ e))))
 
     back_is : eq_index (some i) (match_target lent_one (join s t r)) ≡ g
-    back_is = same_at i (match_target lent_one (join s t r)) ∙ rw (home_keys store places n mark (join s t r), ← (fit-back (join s t r) buf f h k e mem m)) (sym o)
+    back_is = same_at i (match_target lent_one (join s t r)) ∙ rw (home_keys store places n mark (join s t r), ← (fit_back (join s t r) buf f h k e mem m)) (sym o)
 
     pub pair_other : not g ≡ true → translate_by_pair lent_one i s t r ≡ refused NoPath
-    pair_other q = fits-512 ∙ rw (back_is, not_true g q)
+    pair_other q = fits_512 ∙ rw (back_is, not_true g q)
 
     pub pair_same : (b : Bool) → not g ≡ false → b ≡ join_illegal t r → translate_by_pair lent_one i s t r ≡ checked_join b (take k mem)
     unfolding join_checked
-    pair_same b q z = rw (fit-back (join s t r) buf f h k e mem m, z) (fits-512 ∙ rw (back_is, not_false g q))
+    pair_same b q z = rw (fit_back (join s t r) buf f h k e mem m, z) (fits_512 ∙ rw (back_is, not_false g q))

@@ -72,8 +72,8 @@ module _ (store : Text) (places : List ℕ) where
     pub any_found : (n : ℕ) → i < n → b ≡ true → true ≡ any_root_pair (pairs_in store places n)
     any_found n l k = sym (any_at n i l (told h k))
 
-    pub any-on : false ≡ any_root_pair (pairs_in store places i) → b ≡ false → false ≡ any_root_pair (pairs_in store places (i + 1))
-    any-on e k = rw add-one (sym (any_next i ∙ rw (← e, told h k) refl))
+    pub any_on : false ≡ any_root_pair (pairs_in store places i) → b ≡ false → false ≡ any_root_pair (pairs_in store places (i + 1))
+    any_on e k = rw add-one (sym (any_next i ∙ rw (← e, told h k) refl))
 
   pub any_none : false ≡ any_root_pair (pairs_in store places 0)
   unfolding pairs_in any_root_pair
@@ -82,7 +82,7 @@ module _ (store : Text) (places : List ℕ) where
   pub any_end : (n i : ℕ) → n ≤ i → i ≤ n → false ≡ any_root_pair (pairs_in store places i) → false ≡ any_root_pair (pairs_in store places n)
   any_end n i h k e = let z : i ≡ n = omega arith in rw z at e
 
-pub ruleset rooting = (any_found, any-on, any_none, any_end)
+pub ruleset rooting = (any_found, any_on, any_none, any_end)
 
 -- Lemmas for `fill_element_counts`.
 module _ (store : Text) (places : List ℕ) where
@@ -142,13 +142,13 @@ module _ (store : Text) (kept : List ℕ) (n : ℕ) (mark : Bool) (s t : Text) (
     unfolding longest_match
     serving = (chosen_best (matches s) (key_at store kept false) n f.at chosen).does_pass
 
-    pub implied-inside : (old : Text) → old ≡ key_at store kept false f.at → length old ≤ length s
-    implied-inside old e = rw e (matched_long s (key_at store kept false f.at) serving)
+    pub implied_inside : (old : Text) → old ≡ key_at store kept false f.at → length old ≤ length s
+    implied_inside old e = rw e (matched_long s (key_at store kept false f.at) serving)
 
-    pub implied-join : (old new : Text) → old ≡ key_at store kept false f.at → new ≡ key_at store kept true f.at → (r : Bool)
+    pub implied_join : (old new : Text) → old ≡ key_at store kept false f.at → new ≡ key_at store kept true f.at → (r : Bool)
         → r ≡ equal (join old new (take (length s - length old) (drop (length old) s))) t → r ≡ is_redundant lent x
     unfolding is_some_text map_via_pair
-    implied-join old new e g r m =
+    implied_join old new e g r m =
         let z = ends_by store kept n mark s false f.at chosen in
         let p : replace_prefix s (map_source lent f.at) (map_target lent f.at) ≡ some (join old new (drop (length old) s))
         = rw (z.0, z.1, ← e, ← g) (replace_prefix_lem s old new (rw (← e) at (served s (key_at store kept false f.at) serving))) in
@@ -158,13 +158,13 @@ module _ (store : Text) (kept : List ℕ) (n : ℕ) (mark : Bool) (s t : Text) (
     left_out : longest_match s (key_at store kept false) n ≡ none
     left_out = found_none f (longest_match s (key_at store kept false) n) h k
 
-    pub implied-none : not mark ≡ true → false ≡ is_redundant lent x
+    pub implied_none : not mark ≡ true → false ≡ is_redundant lent x
     unfolding is_some_text map_via_pair
-    implied-none l = sym (implied_by none left_out ∙ rw (not_true mark l) refl)
+    implied_none l = sym (implied_by none left_out ∙ rw (not_true mark l) refl)
 
-    pub implied-mark : not mark ≡ false → (r : Bool) → r ≡ equal s t → r ≡ is_redundant lent x
+    pub implied_mark : not mark ≡ false → (r : Bool) → r ≡ equal s t → r ≡ is_redundant lent x
     unfolding is_some_text map_via_pair
-    implied-mark l r m = m ∙ sym (implied_by none left_out ∙ rw (not_false mark l) refl)
+    implied_mark l r m = m ∙ sym (implied_by none left_out ∙ rw (not_false mark l) refl)
 
 -- Lemmas for `keep_pair`.
 module _ (store : Text) (places : List ℕ) (i key e : ℕ) (implies : Map → Pair → Bool) (mark : Bool) (kept : List ℕ) (w : ℕ) where
@@ -180,23 +180,23 @@ module _ (store : Text) (places : List ℕ) (i key e : ℕ) (implies : Map → P
   pair_other k = rw (ne_eqb key e k) (refl, refl)
 
   module _ (k : key ≡ e) (b : Bool) (r : b ≡ is_root_pair pair) where
-    pub pair-roots : b ≡ true → Leaves w kept
+    pub pair_roots : b ≡ true → Leaves w kept
     unfolding keeps_pair
-    pair-roots l = rw (eq-eqb key e k, told r l) (refl, refl)
+    pair_roots l = rw (eq-eqb key e k, told r l) (refl, refl)
 
     module _ (l : b ≡ false) (s t : Text) (f : s ≡ key_at store places false i) (g : t ≡ key_at store places true i) (c : Bool)
         (m : c ≡ implies (lent_map store kept w mark) (record { source = s; target = t })) where
-      keeps-unless : keeps_pair implies store places i key e mark kept w ≡ not c
+      keeps_unless : keeps_pair implies store places i key e mark kept w ≡ not c
       unfolding keeps_pair
-      keeps-unless =
+      keeps_unless =
           let z : c ≡ implies (lent_map store kept w mark) pair = m ∙ ap (λ (x : Pair). implies (lent_map store kept w mark) x) (pair_is store places i s t f g) in
           rw (eq-eqb key e k, told r l, ← z) refl
 
-      pub pair-implied : c ≡ true → Leaves w kept
-      pair-implied n = rw (keeps-unless, n) (refl, refl)
+      pub pair_implied : c ≡ true → Leaves w kept
+      pair_implied n = rw (keeps_unless, n) (refl, refl)
 
-      pub pair-kept : c ≡ false → (kept' : List ℕ) → kept' ≡ copy_entry places i w kept → Leaves (w + 1) kept'
-      pair-kept n kept' p = rw (keeps-unless, n) (refl, p)
+      pub pair_kept : c ≡ false → (kept' : List ℕ) → kept' ≡ copy_entry places i w kept → Leaves (w + 1) kept'
+      pair_kept n kept' p = rw (keeps_unless, n) (refl, p)
 
 -- Lemmas for `is_marked`.
 pub marked_so : (mark any r : Bool) → mark ≡ false → r ≡ any → r ≡ (mark || any)

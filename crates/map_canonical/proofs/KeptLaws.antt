@@ -75,10 +75,10 @@ module _ (store : Text) (places : List ℕ) where
     kept_append k [] b = refl
     kept_append k (i ∷ a) b = kept_append (cond (implies (record { pairs = selected_pairs store places k; mark = mark }) (pair_in store places i)) k (k ++ i ∷ [])) a b
 
-    pub kept-few : (k a : List ℕ) → length (kept_indices implies store places mark k a) ≤ length k + length a
+    pub kept_few : (k a : List ℕ) → length (kept_indices implies store places mark k a) ≤ length k + length a
     unfolding kept_indices
-    kept-few k [] = omega arith
-    kept-few k (i ∷ a) = go (implies (record { pairs = selected_pairs store places k; mark = mark }) (pair_in store places i)) (λ j. kept-few j a)
+    kept_few k [] = omega arith
+    kept_few k (i ∷ a) = go (implies (record { pairs = selected_pairs store places k; mark = mark }) (pair_in store places i)) (λ j. kept_few j a)
       where
         go : (t : Bool) → ((j : List ℕ) → length (kept_indices implies store places mark j a) ≤ length j + length a) → length (kept_indices implies store places mark (cond t k (k ++ i ∷ [])) a) ≤ length k + suc (length a)
         go true ih = omega (arith, ih k)
@@ -97,9 +97,9 @@ module _ (store : Text) (places : List ℕ) where
         go true ih = ih k
         go false ih = ih (k ++ i ∷ []) ∙ ap (λ (l : List Pair). drop_redundant implies mark l (selected_pairs store places a)) (map-append (pair_in store places) k (i ∷ []))
 
-    all-kept : (n : ℕ) → selected_pairs store places (canonical_indices implies store places n mark) ≡ sort_and_drop implies mark (without_root_pairs (pairs_in store places n))
+    all_kept : (n : ℕ) → selected_pairs store places (canonical_indices implies store places n mark) ≡ sort_and_drop implies mark (without_root_pairs (pairs_in store places n))
     unfolding canonical_indices source_elements sort_and_drop
-    all-kept n =
+    all_kept n =
         let e : ℕ = suc (max_elements store places n) in
         kept_read [] (by_key (source_elements store places) e (non_root_pairs store places n))
         ∙ ap (λ (l : List Pair). drop_redundant implies mark [] l) (levels_map (pair_in store places) key e (non_root_pairs store places n)
@@ -107,19 +107,19 @@ module _ (store : Text) (places : List ℕ) where
         ∙ sym (sorted_levels e (without_root_pairs (pairs_in store places n)) (below_no_roots e (pairs_in store places n) (all_below n (max_elements store places n) (most_at n)))))
 
     -- The places of the selected pairs are read as the pairs that are left after dropping.
-    pub kept-selection-read : (n room : ℕ) (kept kept' : List ℕ) (w : ℕ) → HoldsEntries places (kept_selection implies (lent_list store places n) mark room) kept kept' w
+    pub kept_selection_read : (n room : ℕ) (kept kept' : List ℕ) (w : ℕ) → HoldsEntries places (kept_selection implies (lent_list store places n) mark room) kept kept' w
         → pairs_in store kept' w ≡ pairs_if_selectable (lent_list store places n) room (sort_and_drop implies mark (without_root_pairs (pairs_in store places n)))
     unfolding kept_selection pairs_if_selectable
-    kept-selection-read n room kept kept' w h =
+    kept_selection_read n room kept kept' w h =
         selected_read places store (kept_selection implies (lent_list store places n) mark room) kept kept' w h ∙ go (can_select (lent_list store places n) room)
       where
         go : (b : Bool) → selected_pairs store places (cond b (canonical_indices implies store places n mark) []) ≡ cond b (sort_and_drop implies mark (without_root_pairs (pairs_in store places n))) []
-        go true = all-kept n
+        go true = all_kept n
         go false = refl
 
   -- The places that `canonical_places` writes are read as the pairs of the map.
   pub canonical_read : (mark : Bool) (n room : ℕ) (kept kept' : List ℕ) (w : ℕ) → HoldsEntries places (canonical_selection (lent_list store places n) mark room) kept kept' w
       → pairs_in store kept' w ≡ pairs_if_selectable (lent_list store places n) room (canonicalize mark (without_root_pairs (pairs_in store places n)))
   canonical_read mark n room kept kept' w h =
-      kept-selection-read is_redundant mark n room kept kept' w h
+      kept_selection_read is_redundant mark n room kept kept' w h
       ∙ ap (λ (l : List Pair). pairs_if_selectable (lent_list store places n) room l) (sym (canonical_keeps mark (without_root_pairs (pairs_in store places n))))

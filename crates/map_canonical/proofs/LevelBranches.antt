@@ -14,7 +14,7 @@ use Rattle.pair_list.specs.Pair.{Pair}
 use Rattle.pair_list.specs.Places.{pair_in, pairs_in}
 use Rattle.pair_list_write.specs.Lists.{copy_entry}
 use Rattle.pair_list_write.specs.Select.{indices_where, HoldsEntries, selected_pairs}
-use Rattle.pair_list_write.proofs.SelectLaws.{selected_none, selected_read, selected-turn}
+use Rattle.pair_list_write.proofs.SelectLaws.{selected_none, selected_read, selected_turn}
 use Rattle.validate.specs.Validate.{lent_list, count_within_limit}
 use Rattle.validate.specs.Select.{can_select}
 use Rattle.map_spec.specs.Map.{Map, lent_map}
@@ -22,7 +22,7 @@ use Rattle.map_spec.specs.New.{is_root_pair}
 use Rattle.map_canonical.specs.ByKey.{with_key, by_key}
 use Rattle.map_canonical.specs.Canonical.{source_elements, max_elements, non_root_pairs, non_root_with_elements, kept_indices, canonical_indices, kept_selection, keeps_pair}
 use Rattle.map_canonical.proofs.LevelLaws.{level_append, levels_few}
-use Rattle.map_canonical.proofs.KeptLaws.{others_few, kept_append, kept-few}
+use Rattle.map_canonical.proofs.KeptLaws.{others_few, kept_append, kept_few}
 
 -- Lemmas for `keep_level`.
 module _ (store : Text) (places : List ℕ) (e : ℕ) where
@@ -81,23 +81,23 @@ module _ (store : Text) (places : List ℕ) (e : ℕ) where
       abbrev kept_here : Bool
       kept_here = keeps_pair implies store places i key e mark kept w
 
-      alone-one : kept_here ≡ true → length (first (suc i)) ≡ length (first i) + 1
+      alone_one : kept_here ≡ true → length (first (suc i)) ≡ length (first i) + 1
       unfolding keeps_pair
-      alone-one h =
+      alone_one h =
           let r : Bool = not (is_root_pair (pair_in store places i)) in
           let u : Bool = not (implies (lent_map store kept w mark) (pair_in store places i)) in
           let p : is_root_pair (pair_in store places i) ≡ false = not_true (is_root_pair (pair_in store places i)) (and_l r u (and_r (eqb key e) (r && u) h)) in
           ap length (own_next i) ∙ rw (length-append (first i) (alone i), p, ← k, and_l (eqb key e) (r && u) h) refl
 
       module _ (w₀ : ℕ) (f : w ≤ w₀ + length (first i)) where
-        pub level-room : (n size : ℕ) → i < n → 4 * (w₀ + length (first n)) ≤ size → length kept ≡ size → kept_here ≡ true → 4 * w + 4 ≤ length kept
-        level-room n size l room s h = omega (arith, alone-one h, own_grows n (suc i) l)
+        pub level_room : (n size : ℕ) → i < n → 4 * (w₀ + length (first n)) ≤ size → length kept ≡ size → kept_here ≡ true → 4 * w + 4 ≤ length kept
+        level_room n size l room s h = omega (arith, alone_one h, own_grows n (suc i) l)
 
-        pub level-count : (w' : ℕ) → w' ≡ cond kept_here (w + 1) w → w' ≤ w₀ + length (first (i + 1))
-        level-count w' g = rw (add-one i) (go kept_here refl g)
+        pub level_count : (w' : ℕ) → w' ≡ cond kept_here (w + 1) w → w' ≤ w₀ + length (first (i + 1))
+        level_count w' g = rw (add-one i) (go kept_here refl g)
           where
             go : (b : Bool) → kept_here ≡ b → w' ≡ cond b (w + 1) w → w' ≤ w₀ + length (first (suc i))
-            go true h g = omega (arith, alone-one h)
+            go true h g = omega (arith, alone_one h)
             go false h g = omega (arith, own_grows (suc i) i (omega arith))
 
     module _ (kept₀ : List ℕ) (w₀ : ℕ) where
@@ -105,23 +105,23 @@ module _ (store : Text) (places : List ℕ) (e : ℕ) where
       abbrev pub After : ℕ → List ℕ → ℕ → Type 0
       After i kept w = (picks old : List ℕ) → HoldsEntries places picks old kept₀ w₀ → HoldsEntries places (kept_indices implies store places mark picks (first i)) old kept w
 
-      pub level-none : After 0 kept₀ w₀
+      pub level_none : After 0 kept₀ w₀
       unfolding non_root_with_elements non_root_pairs indices_where with_key kept_indices
-      level-none picks old h = h
+      level_none picks old h = h
 
-      pub level-on : (i key : ℕ) (kept : List ℕ) (w : ℕ) → key ≡ source_elements store places i → After i kept w → 4 * i + 4 ≤ length places
+      pub level_on : (i key : ℕ) (kept : List ℕ) (w : ℕ) → key ≡ source_elements store places i → After i kept w → 4 * i + 4 ≤ length places
           → (keeps_pair implies store places i key e mark kept w ≡ true → 4 * w + 4 ≤ length kept) → (kept' : List ℕ) (w' : ℕ) → w' ≡ cond (keeps_pair implies store places i key e mark kept w) (w + 1) w
           → kept' ≡ cond (keeps_pair implies store places i key e mark kept w) (copy_entry places i w kept) kept → After (i + 1) kept' w'
       unfolding keeps_pair
-      level-on i key kept w k a held room kept' w' f t picks old h =
+      level_on i key kept w k a held room kept' w' f t picks old h =
           let now : List ℕ = kept_indices implies store places mark picks (first i) in
           let g : HoldsEntries places now old kept w = a picks old h in
           let r : pairs_in store kept w ≡ selected_pairs store places now = selected_read places store now old kept w g in
           rw (add-one i, own_next i, kept_append store places implies mark picks (first i) (alone i), one_more now i, ← r, ← k)
-          (selected-turn places i now old kept w held g (keeps_pair implies store places i key e mark kept w) room w' kept' f t)
+          (selected_turn places i now old kept w held g (keeps_pair implies store places i key e mark kept w) room w' kept' f t)
 
-      pub level-end : (n i : ℕ) (kept : List ℕ) (w : ℕ) → n ≤ i → i ≤ n → After i kept w → After n kept w
-      level-end n i kept w h k a = let z : i ≡ n = omega arith in rw z at a
+      pub level_end : (n i : ℕ) (kept : List ℕ) (w : ℕ) → n ≤ i → i ≤ n → After i kept w → After n kept w
+      level_end n i kept w h k a = let z : i ≡ n = omega arith in rw z at a
 
 -- Lemmas for `canonicalize`.
 module _ (store : Text) (places : List ℕ) (n : ℕ) (implies : Map → Pair → Bool) (mark : Bool) (kept₀ : List ℕ) where
@@ -134,35 +134,35 @@ module _ (store : Text) (places : List ℕ) (n : ℕ) (implies : Map → Pair �
   levels_none = selected_none places kept₀
 
   module _ (e : ℕ) (kept : List ℕ) (w : ℕ) (h : HoldsEntries places (below e) kept₀ kept w) where
-    pub levels-on : (kept' : List ℕ) (w' : ℕ)
+    pub levels_on : (kept' : List ℕ) (w' : ℕ)
         → ((picks old : List ℕ) → HoldsEntries places picks old kept w → HoldsEntries places (kept_indices implies store places mark picks (non_root_with_elements store places e n)) old kept' w') → HoldsEntries places (below (e + 1)) kept₀ kept' w'
     unfolding non_root_with_elements by_key
-    levels-on kept' w' f =
+    levels_on kept' w' f =
         rw (add-one e, kept_append store places implies mark [] (by_key (source_elements store places) e (non_root_pairs store places n)) (non_root_with_elements store places e n)) (f (below e) kept₀ h)
 
-    pub levels-room : n ≤ 64 → 256 ≤ length kept → 4 * (w + length (non_root_with_elements store places e n)) ≤ length kept
+    pub levels_room : n ≤ 64 → 256 ≤ length kept → 4 * (w + length (non_root_with_elements store places e n)) ≤ length kept
     unfolding non_root_with_elements by_key
-    levels-room k l =
+    levels_room k l =
         let all : List ℕ = non_root_pairs store places n in
         omega (
           arith,
           h.0,
-          kept-few store places implies mark [] (by_key (source_elements store places) e all),
+          kept_few store places implies mark [] (by_key (source_elements store places) e all),
           length-append (by_key (source_elements store places) e all) (with_key (source_elements store places) e all),
           levels_few (source_elements store places) (suc e) all,
           others_few store places n,
         )
 
-    pub levels-end : (top : ℕ) → top ≡ max_elements store places n → top ≤ e → e ≤ top → (kept' : List ℕ) (w' : ℕ)
+    pub levels_end : (top : ℕ) → top ≡ max_elements store places n → top ≤ e → e ≤ top → (kept' : List ℕ) (w' : ℕ)
         → ((picks old : List ℕ) → HoldsEntries places picks old kept w → HoldsEntries places (kept_indices implies store places mark picks (non_root_with_elements store places top n)) old kept' w')
         → HoldsEntries places (canonical_indices implies store places n mark) kept₀ kept' w'
     unfolding canonical_indices
-    levels-end top m k l kept' w' f =
+    levels_end top m k l kept' w' f =
         let z : e ≡ top = omega arith in
-        rw (z, m, add-one (max_elements store places n)) at (levels-on kept' w' (rw (← z) at f))
+        rw (z, m, add-one (max_elements store places n)) at (levels_on kept' w' (rw (← z) at f))
 
-    pub top-room : (top : ℕ) → top ≤ e → e ≤ top → n ≤ 64 → 256 ≤ length kept → 4 * (w + length (non_root_with_elements store places top n)) ≤ length kept
-    top-room top k l m o = let z : top ≡ e = omega arith in rw z (levels-room m o)
+    pub top_room : (top : ℕ) → top ≤ e → e ≤ top → n ≤ 64 → 256 ≤ length kept → 4 * (w + length (non_root_with_elements store places top n)) ≤ length kept
+    top_room top k l m o = let z : top ≡ e = omega arith in rw z (levels_room m o)
 
 -- Lemmas for `canonical_places`.
 module _ (store : Text) (places : List ℕ) (n : ℕ) (implies : Map → Pair → Bool) (mark : Bool) (kept : List ℕ) (b : Bool) (e : b ≡ can_select (lent_list [] places n) (length kept)) where

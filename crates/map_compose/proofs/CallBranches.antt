@@ -92,11 +92,11 @@ module _ (store : Text) (places : List ℕ) (outer : MapFunction) (istore : Text
   call_refused x k = rw (← h, k)
 
   module _ (k : q ≡ Passed) where
-    pub outer-sound : ValidList (list_of store places outer)
-    outer-sound = first_sound (list_of store places outer) (list_of istore iplaces inner ∷ []) [] [] (sym h ∙ k)
+    pub outer_sound : ValidList (list_of store places outer)
+    outer_sound = first_sound (list_of store places outer) (list_of istore iplaces inner ∷ []) [] [] (sym h ∙ k)
 
-    pub inner-sound : ValidList (list_of istore iplaces inner)
-    inner-sound = second_sound (list_of store places outer) (list_of istore iplaces inner) [] [] [] (sym h ∙ k)
+    pub inner_sound : ValidList (list_of istore iplaces inner)
+    inner_sound = second_sound (list_of store places outer) (list_of istore iplaces inner) [] [] [] (sym h ∙ k)
 
     passed : compose_call store places outer istore iplaces inner out slots ≡ compose_outcome o i (composed_time_of outer inner) out slots
     unfolding compose_call
@@ -106,31 +106,31 @@ module _ (store : Text) (places : List ℕ) (outer : MapFunction) (istore : Text
       identity_outer : is_path_identity o ≡ b
       identity_outer = identity_lent store places outer.count outer.has_root_identity ∙ sym f
 
-      pub call-inner : b ≡ true
+      pub call_inner : b ≡ true
           → compose_call store places outer istore iplaces inner out slots
           ≡ count_in_slice (list_of istore iplaces inner) (without_dropping (pairs_in istore iplaces inner.count) inner.has_root_identity t out slots)
       unfolding compose_outcome
-      call-inner g =
+      call_inner g =
           passed
           ∙ rw (identity_outer, g, e)
-          (sym (held_all istore iplaces inner.count (without_dropping (pairs_in istore iplaces inner.count) inner.has_root_identity (composed_time_of outer inner) out slots) inner-sound.held))
+          (sym (held_all istore iplaces inner.count (without_dropping (pairs_in istore iplaces inner.count) inner.has_root_identity (composed_time_of outer inner) out slots) inner_sound.held))
 
       module _ (g : b ≡ false) (c : Bool) (f' : c ≡ (eqb inner.count 0 && inner.has_root_identity)) where
         identity_inner : is_path_identity i ≡ c
         identity_inner = identity_lent istore iplaces inner.count inner.has_root_identity ∙ sym f'
 
-        pub call-outer : c ≡ true
+        pub call_outer : c ≡ true
             → compose_call store places outer istore iplaces inner out slots
             ≡ count_in_slice (list_of store places outer) (without_dropping (pairs_in store places outer.count) outer.has_root_identity t out slots)
         unfolding compose_outcome
-        call-outer l =
+        call_outer l =
             passed
             ∙ rw (identity_outer, g, identity_inner, l, e)
-            (sym (held_all store places outer.count (without_dropping (pairs_in store places outer.count) outer.has_root_identity (composed_time_of outer inner) out slots) outer-sound.held))
+            (sym (held_all store places outer.count (without_dropping (pairs_in store places outer.count) outer.has_root_identity (composed_time_of outer inner) out slots) outer_sound.held))
 
-        pub call-composed : c ≡ false → compose_call store places outer istore iplaces inner out slots ≡ compose_lists o i t out slots
+        pub call_composed : c ≡ false → compose_call store places outer istore iplaces inner out slots ≡ compose_lists o i t out slots
         unfolding compose_outcome
-        call-composed l = passed ∙ rw (identity_outer, g, identity_inner, l, e)
+        call_composed l = passed ∙ rw (identity_outer, g, identity_inner, l, e)
 
 -- A map that the call returns is the composed map.
 pub composes_to : ComposesTo

@@ -16,14 +16,14 @@ use Rattle.path_prefix.specs.Prefix.{has_prefix}
 use Rattle.path_join.specs.Join.{replace_prefix}
 use Rattle.path_join.proofs.ReplaceLaws.{replace_prefix_lem}
 use Rattle.path_parts.specs.Strip.{strip, strip_fit, strip_buffer}
-use Rattle.path_parts.proofs.StripLaws.{strip_shorter, strip-length, strip-back}
+use Rattle.path_parts.proofs.StripLaws.{strip_shorter, strip_length, strip_back}
 use Rattle.layer_offset.specs.declared.LayerOffset.{LayerOffset}
 use Rattle.map_deepen.specs.declared.ClassSoFar.{ClassSoFar}
 use Rattle.pair_list.specs.Pair.{Pair, pair, all_short}
 use Rattle.pair_list.specs.Places.{key_at, pair_in, pairs_in}
 use Rattle.pair_list.specs.BestStep.{best_kept, index_kept}
 use Rattle.pair_list.specs.LongestMatch.{longest_by}
-use Rattle.pair_list.proofs.BestLaws.{search_none, step_fails, step-lighter, step-heavier, step-first}
+use Rattle.pair_list.proofs.BestLaws.{search_none, step_fails, step_lighter, step_heavier, step_first}
 use Rattle.pair_list.proofs.LongestMatchLaws.{IsLongest, chosen_best, best_same}
 use Rattle.pair_list.proofs.PlaceLaws.{pair_is, pairs_in_length, pairs_in_source, pairs_in_target}
 use Rattle.pair_list_write.specs.Packed.{AppendedPair}
@@ -60,11 +60,11 @@ module _ (s t node above below : Text) (b : Bool) (h : b ≡ equal s above) wher
     abbrev Done : Type 0
     Done = AppendedPair (deepened_pair node above below (pair s t)) n at out slots r out' slots' × (r ≤ at + 766)
 
-    pub deepen-class : b ≡ true → length node ≤ 255 → length below ≤ 511 → AppendedPair (pair node below) n at out slots r out' slots' → Done
-    deepen-class k l m w = rw (deepened_class k) (w, omega (arith, w.end))
+    pub deepen_class : b ≡ true → length node ≤ 255 → length below ≤ 511 → AppendedPair (pair node below) n at out slots r out' slots' → Done
+    deepen_class k l m w = rw (deepened_class k) (w, omega (arith, w.end))
 
-    pub deepen-other : b ≡ false → length s ≤ 255 → length t ≤ 255 → AppendedPair (pair s t) n at out slots r out' slots' → Done
-    deepen-other k l m w = rw (deepened_other k) (w, omega (arith, w.end))
+    pub deepen_other : b ≡ false → length s ≤ 255 → length t ≤ 255 → AppendedPair (pair s t) n at out slots r out' slots' → Done
+    deepen_other k l m w = rw (deepened_other k) (w, omega (arith, w.end))
 
 -- `deepen_all`
 pub deepened_pair_lem : (store : Text) (places : List ℕ) (i : ℕ) (node above below s t : Text) → s ≡ key_at store places false i → t ≡ key_at store places true i
@@ -94,14 +94,14 @@ pub deepen_same : (q : Text) (k : ℕ) (made : Text) → IsMade q k made → (st
 deepen_same q k made t store places f node i above new g h j out slots = rw (t.text, j, g, h) refl
 
 -- `consider_class` and `find_class`
-pub ruleset classes = (step_fails, step-lighter, step-heavier, step-first, search_none)
+pub ruleset classes = (step_fails, step_lighter, step_heavier, step_first, search_none)
 
 -- `strip_node`
 pub node_done : (p out : Text) (f : Fit) → length p ≤ length out → f ≡ strip_fit p out → (n : ℕ) → f ≡ Written n → (out' : Text) → out' ≡ strip_buffer p out
     → (n ≡ length (strip p)) × ((take n out' ≡ strip p) × (n ≤ length out))
 node_done p out f h e n k out' w =
-    let z : n ≡ length (strip p) = strip-length p out f h e n k in
-    (z, (strip-back p out f h e n k out' w, omega (arith, strip_shorter p)))
+    let z : n ≡ length (strip p) = strip_length p out f h e n k in
+    (z, (strip_back p out f h e n k out' w, omega (arith, strip_shorter p)))
 
 -- The second text and the second end to validate are empty.
 validate_node : (l : LentList) (p e : Text) → validate_call (l ∷ []) (p ∷ [] ∷ []) (e ∷ [] ∷ []) ≡ validate_call (l ∷ []) (p ∷ []) (e ∷ [])
@@ -129,34 +129,34 @@ module _ (store : Text) (places : List ℕ) (f : MapFunction) (p node : Text) (o
     unfolding deepen_to_call
     passed = rw (← validated_is, k, is)
 
-    pub deepen-node-short : length node ≤ 255
-    deepen-node-short =
+    pub deepen_node_short : length node ≤ 255
+    deepen_node_short =
         omega (arith, ap length is, strip_shorter p, text_short (list_of store places f ∷ []) p [] (strip p ∷ []) (sym validated_is ∙ k))
 
-    abbrev asItStands : MapOutcome
-    asItStands = count_in_slice (list_of store places f) (without_dropping (pairs_in store places f.count) f.has_root_identity f.time_offset out slots)
+    abbrev as_it_stands : MapOutcome
+    as_it_stands = count_in_slice (list_of store places f) (without_dropping (pairs_in store places f.count) f.has_root_identity f.time_offset out slots)
 
-    stands : without_dropping (pairs_in store places f.count) f.has_root_identity f.time_offset out slots ≡ asItStands
+    stands : without_dropping (pairs_in store places f.count) f.has_root_identity f.time_offset out slots ≡ as_it_stands
     stands = sym (held_all store places f.count (without_dropping (pairs_in store places f.count) f.has_root_identity f.time_offset out slots) sound.held)
 
     module _ (b : Bool) (g : b ≡ has_source (pairs_in store places f.count) node) where
-      pub deepen-there : b ≡ true → deepen_to_call store places f p out slots ≡ asItStands
+      pub deepen_there : b ≡ true → deepen_to_call store places f p out slots ≡ as_it_stands
       unfolding deepen_outcome
-      deepen-there l = passed ∙ rw (told g l) stands
+      deepen_there l = passed ∙ rw (told g l) stands
 
       module _ (l : b ≡ false) (c : ClassSoFar) (i : class_index c ≡ longest_by (has_prefix node) (key_at store places false) f.count) where
-        class-is : longest_by (has_prefix node) (map_source m) (map_size m) ≡ class_index c
-        class-is =
+        class_is : longest_by (has_prefix node) (map_source m) (map_size m) ≡ class_index c
+        class_is =
             rw (pairs_in_length store places f.count)
             (best_same (has_prefix node) (map_source m) (key_at store places false) f.count (λ j n. pairs_in_source store places f.count j n) ∙ sym i)
 
         opened : deepen_to_call store places f p out slots ≡ deepen_outcome_by m node (class_index c) f.time_offset out slots
         unfolding deepen_outcome
-        opened = passed ∙ rw (told g l) (ap (λ (o : Option ℕ). deepen_outcome_by m node o f.time_offset out slots) class-is)
+        opened = passed ∙ rw (told g l) (ap (λ (o : Option ℕ). deepen_outcome_by m node o f.time_offset out slots) class_is)
 
-        pub deepen-none : not c.found ≡ true → deepen_to_call store places f p out slots ≡ asItStands
+        pub deepen_none : not c.found ≡ true → deepen_to_call store places f p out slots ≡ as_it_stands
         unfolding deepen_outcome_by
-        deepen-none n = opened ∙ ap (λ (x : Bool). deepen_outcome_by m node (index_kept (best_kept x c.at c.elements.0)) f.time_offset out slots) (not_true c.found n) ∙ stands
+        deepen_none n = opened ∙ ap (λ (x : Bool). deepen_outcome_by m node (index_kept (best_kept x c.at c.elements.0)) f.time_offset out slots) (not_true c.found n) ∙ stands
 
         module _ (n : not c.found ≡ false) where
           chosen_is : longest_by (has_prefix node) (key_at store places false) f.count ≡ some c.at
@@ -165,28 +165,28 @@ module _ (store : Text) (places : List ℕ) (f : MapFunction) (p node : Text) (o
           best : IsLongest (has_prefix node) (key_at store places false) f.count c.at
           best = chosen_best (has_prefix node) (key_at store places false) f.count c.at chosen_is
 
-          pub deepen-inside : c.at < f.count
-          deepen-inside = best.in_range_lem
+          pub deepen_inside : c.at < f.count
+          deepen_inside = best.in_range_lem
 
           abbrev above : Text
           above = key_at store places false c.at
 
-          below-is : get_or (replace_prefix node (map_source m c.at) (map_target m c.at)) [] ≡ replaced_or_same node above (key_at store places true c.at)
-          below-is =
+          below_is : get_or (replace_prefix node (map_source m c.at) (map_target m c.at)) [] ≡ replaced_or_same node above (key_at store places true c.at)
+          below_is =
               rw (
-                pairs_in_source store places f.count c.at deepen-inside,
-                pairs_in_target store places f.count c.at deepen-inside,
+                pairs_in_source store places f.count c.at deepen_inside,
+                pairs_in_target store places f.count c.at deepen_inside,
                 replace_prefix_lem node above (key_at store places true c.at) best.does_pass,
               ) refl
 
-          pub deepen-made : deepen_to_call store places f p out slots ≡ deepened_at store places f node c.at out slots
+          pub deepen_made : deepen_to_call store places f p out slots ≡ deepened_at store places f node c.at out slots
           unfolding deepen_outcome_by
-          deepen-made =
+          deepen_made =
               opened
               ∙ ap (λ (x : Bool). deepen_outcome_by m node (index_kept (best_kept x c.at c.elements.0)) f.time_offset out slots) (not_false c.found n)
-              ∙ ap (λ (y : Text). from_ends (deepened_pairs node (map_source m c.at) y (pairs_in store places f.count)) f.has_root_identity f.time_offset out slots) below-is
+              ∙ ap (λ (y : Text). from_ends (deepened_pairs node (map_source m c.at) y (pairs_in store places f.count)) f.has_root_identity f.time_offset out slots) below_is
               ∙ ap (λ (y : Text). from_ends (deepened_pairs node y (replaced_or_same node above (key_at store places true c.at)) (pairs_in store places f.count))
-              f.has_root_identity f.time_offset out slots) (pairs_in_source store places f.count c.at deepen-inside)
+              f.has_root_identity f.time_offset out slots) (pairs_in_source store places f.count c.at deepen_inside)
 
 -- `deepen_to`: question 1 is checked first.
 pub deepen_long : (store : Text) (places : List ℕ) (f : MapFunction) (p : Text) (out : Text) (slots : List ℕ) → 255 < length p → deepen_to_call store places f p out slots ≡ refused TooLong

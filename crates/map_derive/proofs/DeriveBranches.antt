@@ -58,11 +58,11 @@ module _ (f : MapFunction) (l : List Pair) (a : Bool) (g : a ≡ is_null f) wher
   noop_null h = rw (told g h) refl
 
   module _ (h : a ≡ false) (b : Bool) (k : b ≡ all_ends_equal l) where
-    pub noop-pairs : not b ≡ true → false ≡ (not (is_null f) && (all_ends_equal l && is_identity f.time_offset))
-    noop-pairs m = rw (told g h, known_false k m) refl
+    pub noop_pairs : not b ≡ true → false ≡ (not (is_null f) && (all_ends_equal l && is_identity f.time_offset))
+    noop_pairs m = rw (told g h, known_false k m) refl
 
-    pub noop-time : not b ≡ false → (c : Bool) → c ≡ is_identity f.time_offset → c ≡ (not (is_null f) && (all_ends_equal l && is_identity f.time_offset))
-    noop-time m c n = rw (told g h, known_true k m) n
+    pub noop_time : not b ≡ false → (c : Bool) → c ≡ is_identity f.time_offset → c ≡ (not (is_null f) && (all_ends_equal l && is_identity f.time_offset))
+    noop_time m c n = rw (told g h, known_true k m) n
 
 -- The calls, unfolded.
 module _ (store : Text) (places : List ℕ) (f : MapFunction) (out : Text) (slots : List ℕ) where

@@ -120,14 +120,14 @@ module _ (store : Text) (places : List ℕ) where
   same_none = refl
 
   module _ (i : ℕ) (s t : Text) (e : s ≡ key_at store places false i) (f : t ≡ key_at store places true i) (b : Bool) (h : b ≡ equal s t) where
-    keys-known : b ≡ equal (key_at store places false i) (key_at store places true i)
-    keys-known = h ∙ rw (e, f) refl
+    keys_known : b ≡ equal (key_at store places false i) (key_at store places true i)
+    keys_known = h ∙ rw (e, f) refl
 
     pub same_not : (n : ℕ) → i < n → not b ≡ true → false ≡ all_ends_equal (pairs_in store places n)
-    same_not n l k = sym (same_at n i l (known_false keys-known k))
+    same_not n l k = sym (same_at n i l (known_false keys_known k))
 
     pub same_on : true ≡ all_ends_equal (pairs_in store places i) → not b ≡ false → true ≡ all_ends_equal (pairs_in store places (i + 1))
-    same_on g k = rw (add-one i) (sym (same_next i ∙ rw (← g, known_true keys-known k) refl))
+    same_on g k = rw (add-one i) (sym (same_next i ∙ rw (← g, known_true keys_known k) refl))
 
   pub same_end : (n i : ℕ) → n ≤ i → i ≤ n → true ≡ all_ends_equal (pairs_in store places i) → true ≡ all_ends_equal (pairs_in store places n)
   same_end n i h k e = let z : i ≡ n = omega arith in rw z at e

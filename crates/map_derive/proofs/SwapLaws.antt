@@ -25,30 +25,30 @@ module _ (places : List ℕ) where
 
   -- Lemmas for `swap_ends`.
   module _ (other : List ℕ) where
-    pub swap-beyond : (n : ℕ) → length places < 4 * n → other ≡ swap_ends places n other
+    pub swap_beyond : (n : ℕ) → length places < 4 * n → other ≡ swap_ends places n other
     unfolding swap_ends
-    swap-beyond n h = rw (lt-leb (4 * n) (length places) h)
+    swap_beyond n h = rw (lt-leb (4 * n) (length places) h)
 
-    pub swap-room : (n : ℕ) → length other < 4 * n → other ≡ swap_ends places n other
+    pub swap_room : (n : ℕ) → length other < 4 * n → other ≡ swap_ends places n other
     unfolding swap_ends
-    swap-room n h = rw (lt-leb (4 * n) (length other) h, and_no (leb (4 * n) (length places)))
+    swap_room n h = rw (lt-leb (4 * n) (length other) h, and_no (leb (4 * n) (length places)))
 
-    pub swap-none : other ≡ written (swapped_entries places 0) other
+    pub swap_none : other ≡ written (swapped_entries places 0) other
     unfolding swapped_entries
-    swap-none = refl
+    swap_none = refl
 
     module _ (i : ℕ) (now : List ℕ) (e : now ≡ written (swapped_entries places i) other) where
-      pub swap-on : 4 * i + 4 ≤ length other → (next : List ℕ) → next ≡ written_if_fits (4 * i) (swapped_entry places i) now → next ≡ written (swapped_entries places (i + 1)) other
+      pub swap_on : 4 * i + 4 ≤ length other → (next : List ℕ) → next ≡ written_if_fits (4 * i) (swapped_entry places i) now → next ≡ written (swapped_entries places (i + 1)) other
       unfolding swapped_entries
-      swap-on h next f =
+      swap_on h next f =
           f
           ∙ rw (e, add-one i)
           (ap (λ (k : ℕ). written_if_fits k (swapped_entry places i) (written (swapped_entries places i) other)) (sym (swapped_length i))
           ∙ placed_next (swapped_entries places i) (swapped_entry places i) other (omega (arith, swapped_length i)))
 
-      pub swap-end : (n : ℕ) → 4 * n ≤ length places → 4 * n ≤ length other → n ≤ i → i ≤ n → now ≡ swap_ends places n other
+      pub swap_end : (n : ℕ) → 4 * n ≤ length places → 4 * n ≤ length other → n ≤ i → i ≤ n → now ≡ swap_ends places n other
       unfolding swap_ends
-      swap-end n h g k l =
+      swap_end n h g k l =
           let z : i ≡ n = omega arith in
           rw (le-leb (4 * n) (length places) h, le-leb (4 * n) (length other) g) (rw z at e)
 
@@ -57,9 +57,9 @@ module _ (places : List ℕ) where
     swapped_at : (i : ℕ) (rest : List ℕ) (j k : ℕ) → j ≡ 4 * i + k → get_or (swapped_entries places i ++ rest) j 0 ≡ get_or rest k 0
     swapped_at i rest j k e = rw (e, ← (swapped_length i)) (get_or-append-add (swapped_entries places i) rest k 0)
 
-    swapped-pair : (i : ℕ) (rest : List ℕ) → pair_in store (swapped_entries places i ++ (swapped_entry places i ++ rest)) i ≡ swapped_pair (pair_in store places i)
+    swapped_pair_lem : (i : ℕ) (rest : List ℕ) → pair_in store (swapped_entries places i ++ (swapped_entry places i ++ rest)) i ≡ swapped_pair (pair_in store places i)
     unfolding pair_in
-    swapped-pair i rest =
+    swapped_pair_lem i rest =
         let a : 2 * (2 * i + 1) ≡ 4 * i + 2 = omega arith in
         let b : 2 * (2 * i + 1) + 1 ≡ 4 * i + 3 = omega arith in
         let c : 2 * (2 * i) ≡ 4 * i = omega arith in
@@ -70,15 +70,15 @@ module _ (places : List ℕ) where
           text_same store (swapped_entries places i ++ (swapped_entry places i ++ rest)) places (2 * i + 1) (2 * i) (rw c (at (2 * (2 * i + 1)) 2 (omega arith))) (rw c (at (2 * (2 * i + 1) + 1) 3 (omega arith))),
         ) refl
 
-    turned-list : (n : ℕ) (rest : List ℕ) → pairs_in store (swapped_entries places n ++ rest) n ≡ mapped (λ (x : Pair). swapped_pair x) (pairs_in store places n)
+    turned_list : (n : ℕ) (rest : List ℕ) → pairs_in store (swapped_entries places n ++ rest) n ≡ mapped (λ (x : Pair). swapped_pair x) (pairs_in store places n)
     unfolding pairs_in swapped_entries
-    turned-list zero rest = refl
-    turned-list (suc n) rest =
-        rw (append_assoc (swapped_entries places n) (swapped_entry places n) rest, turned-list n (swapped_entry places n ++ rest), swapped-pair n rest)
+    turned_list zero rest = refl
+    turned_list (suc n) rest =
+        rw (append_assoc (swapped_entries places n) (swapped_entry places n) rest, turned_list n (swapped_entry places n ++ rest), swapped_pair_lem n rest)
         (sym (map-append (λ (x : Pair). swapped_pair x) (pairs_in store places n) (pair_in store places n ∷ [])))
 
-    pub swapped-list : (n : ℕ) (other other' : List ℕ) → other' ≡ swap_ends places n other → 4 * n ≤ length places → 4 * n ≤ length other
+    pub swapped_list : (n : ℕ) (other other' : List ℕ) → other' ≡ swap_ends places n other → 4 * n ≤ length places → 4 * n ≤ length other
         → pairs_in store other' n ≡ mapped (λ (x : Pair). swapped_pair x) (pairs_in store places n)
     unfolding swap_ends
-    swapped-list n other other' e h g =
-        rw (e, le-leb (4 * n) (length places) h, le-leb (4 * n) (length other) g) (turned-list n (drop (length (swapped_entries places n)) other))
+    swapped_list n other other' e h g =
+        rw (e, le-leb (4 * n) (length places) h, le-leb (4 * n) (length other) g) (turned_list n (drop (length (swapped_entries places n)) other))

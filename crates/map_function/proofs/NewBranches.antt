@@ -80,45 +80,45 @@ module _ (store : Text) (places : List ℕ) (n : ℕ) (mark : Bool) (time : Laye
   copy_beyond h = rw (lt-leb n (length places / 4) h) refl
 
   module _ (few : n ≤ 64) (h : n ≤ length places / 4) where
-    copy-room : copy ≡ cond (list_fits_buffers list out slots) (map (record { pairs = list; mark = mark }) time) (refused NoRoom)
+    copy_room : copy ≡ cond (list_fits_buffers list out slots) (map (record { pairs = list; mark = mark }) time) (refused NoRoom)
     unfolding count_in_slice without_dropping within_limits require_list_room
-    copy-room = rw (le-leb n (length places / 4) h, pairs_in_length store places n, le-leb n 64 few) refl
+    copy_room = rw (le-leb n (length places / 4) h, pairs_in_length store places n, le-leb n 64 few) refl
 
     module _ (f : Fit) (e : f ≡ write_list_reply list out slots) where
-      pub copy-over : (out' : Text) (slots' : List ℕ) → f ≡ Over → out' ≡ write_list_bytes list out slots → slots' ≡ write_list_slots list out slots
+      pub copy_over : (out' : Text) (slots' : List ℕ) → f ≡ Over → out' ≡ write_list_bytes list out slots → slots' ≡ write_list_slots list out slots
           → (Refused NoRoom ≡ map_reply copy) × ((out' ≡ map_bytes copy out) × (slots' ≡ map_slots copy slots))
       unfolding write_list_reply write_list_bytes write_list_slots map_reply map_bytes map_slots
-      copy-over out' slots' o p q = go (list_fits_buffers list out slots) refl
+      copy_over out' slots' o p q = go (list_fits_buffers list out slots) refl
         where
           go : (b : Bool) → list_fits_buffers list out slots ≡ b → (Refused NoRoom ≡ map_reply copy) × ((out' ≡ map_bytes copy out) × (slots' ≡ map_slots copy slots))
           go true z = absurd (let y : Over ≡ Written (length list) = sym o ∙ e ∙ rw z refl in let x : ◌≡◌ {A = ℕ} 0 1 = cc in omega arith)
-          go false z = rw (copy-room, z) (refl, (p ∙ rw z refl, q ∙ rw z refl))
+          go false z = rw (copy_room, z) (refl, (p ∙ rw z refl, q ∙ rw z refl))
 
-      pub copy-made : (w : ℕ) (out' : Text) (slots' : List ℕ) → f ≡ Written w → out' ≡ write_list_bytes list out slots → slots' ≡ write_list_slots list out slots
+      pub copy_made : (w : ℕ) (out' : Text) (slots' : List ℕ) → f ≡ Written w → out' ≡ write_list_bytes list out slots → slots' ≡ write_list_slots list out slots
           → (Made (record { count = w; has_root_identity = mark; time_offset = time }) ≡ map_reply copy) × ((out' ≡ map_bytes copy out) × (slots' ≡ map_slots copy slots))
       unfolding write_list_reply write_list_bytes write_list_slots map_reply map_bytes map_slots
-      copy-made w out' slots' o p q = go (list_fits_buffers list out slots) refl
+      copy_made w out' slots' o p q = go (list_fits_buffers list out slots) refl
         where
           go : (b : Bool) → list_fits_buffers list out slots ≡ b
               → (Made (record { count = w; has_root_identity = mark; time_offset = time }) ≡ map_reply copy) × ((out' ≡ map_bytes copy out) × (slots' ≡ map_slots copy slots))
           go true z =
               let y : Written w ≡ Written (length list) = sym o ∙ e ∙ rw z refl in
               let x : w ≡ length list = cc in
-              rw (copy-room, z) (rw x refl, (p ∙ rw z refl, q ∙ rw z refl))
+              rw (copy_room, z) (rw x refl, (p ∙ rw z refl, q ∙ rw z refl))
           go false z = absurd (let y : Written w ≡ Over = sym o ∙ e ∙ rw z refl in let x : ◌≡◌ {A = ℕ} 0 1 = cc in omega arith)
 
-    validated-room : call ≡ cond (list_fits_buffers list out slots) (map (from_parts list mark) time) (refused NoRoom)
+    validated_room : call ≡ cond (list_fits_buffers list out slots) (map (from_parts list mark) time) (refused NoRoom)
     unfolding count_in_slice from_parts_outcome within_limits require_list_room
-    validated-room = rw (le-leb n (length places / 4) h, pairs_in_length store places n, le-leb n 64 few) refl
+    validated_room = rw (le-leb n (length places / 4) h, pairs_in_length store places n, le-leb n 64 few) refl
 
-    pub parts-slots : length slots / 4 < n → call ≡ refused NoRoom
+    pub parts_slots : length slots / 4 < n → call ≡ refused NoRoom
     unfolding list_fits_buffers
-    parts-slots h = validated-room ∙ rw (pairs_in_length store places n, lt-leb n (length slots / 4) h, and_no (leb (end_bytes list) (length out))) refl
+    parts_slots h = validated_room ∙ rw (pairs_in_length store places n, lt-leb n (length slots / 4) h, and_no (leb (end_bytes list) (length out))) refl
 
     module _ (fit : n ≤ length slots / 4) (b : Bool) (e : b ≡ leb (end_bytes list) (length out)) where
-      pub parts-bytes : not b ≡ true → call ≡ refused NoRoom
+      pub parts_bytes : not b ≡ true → call ≡ refused NoRoom
       unfolding list_fits_buffers
-      parts-bytes k = validated-room ∙ rw (known_false e k) refl
+      parts_bytes k = validated_room ∙ rw (known_false e k) refl
 
       module _ (k : not b ≡ false) (marked : Bool) (f : marked ≡ (mark || any_root_pair list)) (room : ℕ) (enough : room ≡ 256) (kept : List ℕ) (w : ℕ)
           (c : pairs_in store kept w ≡ pairs_if_selectable (lent_list store places n) room (canonicalize marked (without_root_pairs list))) where
@@ -126,34 +126,34 @@ module _ (store : Text) (places : List ℕ) (n : ℕ) (mark : Bool) (time : Laye
         unfolding list_fits_buffers
         has_room = rw (known_true e k, pairs_in_length store places n, le-leb n (length slots / 4) fit) refl
 
-        mark-is : marked ≡ (from_parts list mark).mark
+        mark_is : marked ≡ (from_parts list mark).mark
         unfolding from_parts
-        mark-is = f
+        mark_is = f
 
-        pairs-are : pairs_in store kept w ≡ (from_parts list mark).pairs
+        pairs_are : pairs_in store kept w ≡ (from_parts list mark).pairs
         unfolding from_parts
-        pairs-are = pairs_made canonicalize store places n list mark few h marked f room enough kept w c
+        pairs_are = pairs_made canonicalize store places n list mark few h marked f room enough kept w c
 
-        count-is : w ≡ length (from_parts list mark).pairs
-        count-is = sym (pairs_in_length store kept w) ∙ ap length pairs-are
+        count_is : w ≡ length (from_parts list mark).pairs
+        count_is = sym (pairs_in_length store kept w) ∙ ap length pairs_are
 
-        room-still : list_fits_buffers (pairs_in store kept w) out slots ≡ true
+        room_still : list_fits_buffers (pairs_in store kept w) out slots ≡ true
         unfolding list_fits_buffers
-        room-still =
+        room_still =
             let r : end_bytes list ≤ length out = leb-true (end_bytes list) (length out) (known_true e k) in
             let d : length (from_parts list mark).pairs ≤ length list = from_parts_length list mark in
             rw (
-              pairs-are,
+              pairs_are,
               le-leb (end_bytes (from_parts list mark).pairs) (length out) (omega (arith, r, from_parts_bytes list mark)),
               le-leb (length (from_parts list mark).pairs) (length slots / 4) (omega (arith, d, pairs_in_length store places n, fit)),
             ) refl
 
-        pub parts-made : (out' : Text) (slots' : List ℕ) → out' ≡ write_list_bytes (pairs_in store kept w) out slots → slots' ≡ write_list_slots (pairs_in store kept w) out slots
+        pub parts_made : (out' : Text) (slots' : List ℕ) → out' ≡ write_list_bytes (pairs_in store kept w) out slots → slots' ≡ write_list_slots (pairs_in store kept w) out slots
             → (Made (record { count = w; has_root_identity = marked; time_offset = time }) ≡ map_reply call) × ((out' ≡ map_bytes call out) × (slots' ≡ map_slots call slots))
         unfolding map_reply map_bytes map_slots write_list_bytes write_list_slots
-        parts-made out' slots' p q =
-            let z : call ≡ map (from_parts list mark) time = validated-room ∙ rw has_room refl in
-            rw z (rw (count-is, mark-is) refl, (p ∙ rw (room-still, pairs-are) refl, q ∙ rw (room-still, pairs-are) refl))
+        parts_made out' slots' p q =
+            let z : call ≡ map (from_parts list mark) time = validated_room ∙ rw has_room refl in
+            rw z (rw (count_is, mark_is) refl, (p ∙ rw (room_still, pairs_are) refl, q ∙ rw (room_still, pairs_are) refl))
 
 -- The reply of a function that builds a map and the contents of the buffers, for an equal outcome.
 pub gives_map : (o m : MapOutcome) → o ≡ m → (r : MapReply) (out out' : Text) (slots slots' : List ℕ)

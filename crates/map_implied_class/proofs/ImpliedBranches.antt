@@ -261,29 +261,29 @@ module _ (store : Text) (places : List ℕ) (transfer : MapFunction) (mid : Text
   all = implied_after_class t m n at short time out slots
 
   module _ (c : HoldsList (composed_from t m) k end bytes own) where
-    pub finish-many : 64 < k → all ≡ refused TooMany
+    pub finish_many : 64 < k → all ≡ refused TooMany
     unfolding implied_after_class
-    finish-many h = rw (← c.number, lt-leb k 64 h) refl
+    finish_many h = rw (← c.number, lt-leb k 64 h) refl
 
     module _ (few : k ≤ 64) (b : Bool) (e : b ≡ room_beside_transfer t.pairs (n + k) (at + end) (length out) (length slots)) where
       there : b ≡ room_beside_transfer t.pairs (n + length (composed_from t m)) (at + end_bytes (composed_from t m)) (length out) (length slots)
       there = rw (← c.number, ← c.end) e
 
-      pub finish-room : not b ≡ true → all ≡ refused NoRoom
+      pub finish_room : not b ≡ true → all ≡ refused NoRoom
       unfolding implied_after_class
-      finish-room h = rw (known_false there h, ← c.number, le-leb k 64 few) refl
+      finish_room h = rw (known_false there h, ← c.number, le-leb k 64 few) refl
 
       module _ (h : not b ≡ false) (s : Bool) (f : s ≡ all_short (pairs_in bytes own k)) (a : Bool) (g : a ≡ (short && s)) where
         shorts : a ≡ (short && all_short (composed_from t m))
         shorts = g ∙ ap (λ (x : Bool). short && x) (f ∙ ap all_short (holds_list (composed_from t m) k end bytes own c))
 
-        pub finish-long : not a ≡ true → all ≡ refused MadeTooLong
+        pub finish_long : not a ≡ true → all ≡ refused MadeTooLong
         unfolding implied_after_class
-        finish-long l = rw (known_false shorts l, known_true there h, ← c.number, le-leb k 64 few) refl
+        finish_long l = rw (known_false shorts l, known_true there h, ← c.number, le-leb k 64 few) refl
 
-        pub finish-fits : list_fits_buffers (pairs_in bytes own k) out slots ≡ true
+        pub finish_fits : list_fits_buffers (pairs_in bytes own k) out slots ≡ true
         unfolding list_fits_buffers room_beside_transfer
-        finish-fits =
+        finish_fits =
             let z : pairs_in bytes own k ≡ composed_from t m = holds_list (composed_from t m) k end bytes own c in
             let w : (leb (end_bytes t.pairs + (at + end)) (length out) && leb (length t.pairs + (n + k)) (length slots / 4)) ≡ true = known_true e h in
             let x : end_bytes t.pairs + (at + end) ≤ length out = leb-true (end_bytes t.pairs + (at + end)) (length out) (and_l (leb (end_bytes t.pairs + (at + end)) (length out)) (leb (length t.pairs + (n + k)) (length slots / 4)) w) in
@@ -294,12 +294,12 @@ module _ (store : Text) (places : List ℕ) (transfer : MapFunction) (mid : Text
               le-leb (length (composed_from t m)) (length slots / 4) (omega (arith, c.number, y)),
             ) refl
 
-        pub finish-made : not a ≡ false → (r : MapFunction) (out' : Text) (slots' : List ℕ)
+        pub finish_made : not a ≡ false → (r : MapFunction) (out' : Text) (slots' : List ℕ)
             → (r ≡ map_function (composed_map transfer class (pairs_in bytes own k)) identity_offset)
             × ((out' ≡ map_bytes (map (composed_map transfer class (pairs_in bytes own k)) identity_offset) out) × (slots' ≡ map_slots (map (composed_map transfer class (pairs_in bytes own k)) identity_offset) slots))
             → (Made (record { count = r.count; has_root_identity = true; time_offset = time }) ≡ map_reply all) × ((out' ≡ map_bytes all out) × (slots' ≡ map_slots all slots))
         unfolding implied_after_class map_reply map_bytes map_slots with_root_identity
-        finish-made l r out' slots' w =
+        finish_made l r out' slots' w =
             let y : compose t m ≡ composed_map transfer class (pairs_in bytes own k)
             = composed_of store places transfer mid mids class ∙ ap (λ (x : List Pair). composed_map transfer class x) (sym (holds_list (composed_from t m) k end bytes own c)) in
             let z : all ≡ map (with_root_identity (composed_map transfer class (pairs_in bytes own k))) time
@@ -371,13 +371,13 @@ module _ (store : Text) (places : List ℕ) (transfer : MapFunction) (cstore : T
   }
 
   module _ (k end : ℕ) (bytes : Text) (own : List ℕ) (c : HoldsList (composed_from cl bk) k end bytes own) where
-    list-is : class_list tr cl ≡ composed_from cl bk
+    list_is : class_list tr cl ≡ composed_from cl bk
     unfolding class_list
-    list-is = ap (λ (x : Map). composed_from cl x) (sym e)
+    list_is = ap (λ (x : Map). composed_from cl x) (sym e)
 
-    class-bounded : every_end at_most511 (composed_from cl bk) ≡ true
+    class_bounded : every_end at_most511 (composed_from cl bk) ≡ true
     unfolding composed_from
-    class-bounded = go (is_path_identity cl) (is_path_identity bk)
+    class_bounded = go (is_path_identity cl) (is_path_identity bk)
       where
         go : (a b : Bool) → every_end at_most511 (cond a bk.pairs (cond b cl.pairs (composed_pairs cl bk))) ≡ true
         go true b = back_bounded
@@ -387,18 +387,18 @@ module _ (store : Text) (places : List ℕ) (transfer : MapFunction) (cstore : T
     built : pairs_in bytes own k ≡ composed_from cl bk
     built = holds_list (composed_from cl bk) k end bytes own c
 
-    pub implied-many : (time : LayerOffset) (out : Text) (slots : List ℕ) → 64 < k → implied_outcome tr cl time out slots ≡ refused TooMany
+    pub implied_many : (time : LayerOffset) (out : Text) (slots : List ℕ) → 64 < k → implied_outcome tr cl time out slots ≡ refused TooMany
     unfolding implied_outcome
-    implied-many time out slots h = rw (list-is, ← c.number, lt-leb k 64 h, and_no (leb (length (inverse_list tr)) 64)) refl
+    implied_many time out slots h = rw (list_is, ← c.number, lt-leb k 64 h, and_no (leb (length (inverse_list tr)) 64)) refl
 
     module _ (small : k ≤ 64) where
-      pub class-room : 65408 ≤ length mid → 256 ≤ length mids → list_fits_buffers (pairs_in bytes own k) mid mids ≡ true
+      pub class_room : 65408 ≤ length mid → 256 ≤ length mids → list_fits_buffers (pairs_in bytes own k) mid mids ≡ true
       unfolding list_fits_buffers
-      class-room h g =
+      class_room h g =
           rw (
             built,
             ← c.number,
-            le-leb (end_bytes (composed_from cl bk)) (length mid) (omega (arith, bounded_bytes (composed_from cl bk) class-bounded, c.number)),
+            le-leb (end_bytes (composed_from cl bk)) (length mid) (omega (arith, bounded_bytes (composed_from cl bk) class_bounded, c.number)),
             le-leb k (length mids / 4) (omega arith),
           ) refl
 
@@ -412,9 +412,9 @@ module _ (store : Text) (places : List ℕ) (transfer : MapFunction) (cstore : T
         part_is : map_of mid' mids' part ≡ compose cl (inverse tr)
         part_is = part_of ∙ sym (composed_of cstore cplaces class mid mids back) ∙ ap (λ (x : Map). compose cl x) e
 
-        part-few : part.count ≤ 64
+        part_few : part.count ≤ 64
         unfolding composed_map
-        part-few =
+        part_few =
             omega (
               arith,
               pairs_in_length mid' mids' part.count,
@@ -423,18 +423,18 @@ module _ (store : Text) (places : List ℕ) (transfer : MapFunction) (cstore : T
               c.number,
             )
 
-        part-bounded : every_end at_most511 (pairs_in mid' mids' part.count) ≡ true
+        part_bounded : every_end at_most511 (pairs_in mid' mids' part.count) ≡ true
         unfolding composed_map
-        part-bounded =
+        part_bounded =
             ap (λ (x : Map). every_end at_most511 x.pairs) part_of
-            ∙ finished_every at_most511 (path_is_identity class || path_is_identity back) (composed_from cl bk) (class.has_root_identity && back.has_root_identity) class-bounded
+            ∙ finished_every at_most511 (path_is_identity class || path_is_identity back) (composed_from cl bk) (class.has_root_identity && back.has_root_identity) class_bounded
 
-        pub part-composes : (bytes : Text) (own : List ℕ) → 196352 ≤ length bytes → 512 ≤ length own
+        pub part_composes : (bytes : Text) (own : List ℕ) → 196352 ≤ length bytes → 512 ≤ length own
             → CanCompose tr.pairs (pairs_in mid' mids' part.count) (part.count + transfer.count) bytes own
-        part-composes bytes own h g = record {
+        part_composes bytes own h g = record {
           outer_ends = short_bounded tr.pairs vt.shorts;
-          inner_ends = part-bounded;
-          scratch = record { room = omega (arith, part-few, vt.few); entries = omega (arith, part-few, vt.few) };
+          inner_ends = part_bounded;
+          scratch = record { room = omega (arith, part_few, vt.few); entries = omega (arith, part_few, vt.few) };
         }
 
         abbrev last : List Pair
@@ -450,8 +450,8 @@ module _ (store : Text) (places : List ℕ) (transfer : MapFunction) (cstore : T
               c.end,
             )
 
-        all-number : length (inverse_list tr ++ (composed_from cl bk ++ last)) ≡ length tr.pairs + (k + length last)
-        all-number =
+        all_number : length (inverse_list tr ++ (composed_from cl bk ++ last)) ≡ length tr.pairs + (k + length last)
+        all_number =
             omega (
               arith,
               length-append (inverse_list tr) (composed_from cl bk ++ last),
@@ -460,20 +460,20 @@ module _ (store : Text) (places : List ℕ) (transfer : MapFunction) (cstore : T
               c.number,
             )
 
-        first-few : leb (length (inverse_list tr)) 64 ≡ true
-        first-few = le-leb (length (inverse_list tr)) 64 (omega (arith, vt.few, swapped_number tr.pairs, pairs_in_length store places transfer.count))
+        first_few : leb (length (inverse_list tr)) 64 ≡ true
+        first_few = le-leb (length (inverse_list tr)) 64 (omega (arith, vt.few, swapped_number tr.pairs, pairs_in_length store places transfer.count))
 
-        implied-last : (time : LayerOffset) (out : Text) (slots : List ℕ)
+        implied_last : (time : LayerOffset) (out : Text) (slots : List ℕ)
             → implied_outcome tr cl time out slots ≡ implied_after_class tr (compose cl (inverse tr)) k end (all_short (composed_from cl bk)) time out slots
         unfolding implied_outcome implied_after_class require_list_room list_fits_buffers require_short require_legal room_beside_transfer implied_class implied_list
-        implied-last time out slots =
-            rw (implied_legal tr cl vt.ends vc.ends, list-is, all_bytes, all-number, short_append (composed_from cl bk) last, first-few, ← c.number, le-leb k 64 small) refl
+        implied_last time out slots =
+            rw (implied_legal tr cl vt.ends vc.ends, list_is, all_bytes, all_number, short_append (composed_from cl bk) last, first_few, ← c.number, le-leb k 64 small) refl
 
-        pub implied-rest : (short : Bool) → short ≡ all_short (pairs_in bytes own k)
+        pub implied_rest : (short : Bool) → short ≡ all_short (pairs_in bytes own k)
             → (time : LayerOffset) → time ≡ implied_time transfer class → (out : Text) (slots : List ℕ)
             → implied_outcome tr cl (implied_time transfer class) out slots ≡ implied_after_class tr (map_of mid' mids' part) k end short time out slots
-        implied-rest short f time g out slots =
-            implied-last (implied_time transfer class) out slots
+        implied_rest short f time g out slots =
+            implied_last (implied_time transfer class) out slots
             ∙ ap (λ (x : Map). implied_after_class tr x k end (all_short (composed_from cl bk)) (implied_time transfer class) out slots) (sym part_is)
             ∙ ap (λ (x : Bool). implied_after_class tr (map_of mid' mids' part) k end x (implied_time transfer class) out slots) (sym (f ∙ ap all_short built))
             ∙ ap (λ (x : LayerOffset). implied_after_class tr (map_of mid' mids' part) k end short x out slots) (sym g)
@@ -489,23 +489,23 @@ module _ (store : Text) (places : List ℕ) (transfer : MapFunction) (cstore : T
   implied_refused x k = rw (← h, k) refl
 
   module _ (k : q ≡ Passed) where
-    pub transfer-sound : ValidList (list_of store places transfer)
-    transfer-sound = first_sound (list_of store places transfer) (list_of cstore cplaces class ∷ []) [] [] (sym h ∙ k)
+    pub transfer_sound : ValidList (list_of store places transfer)
+    transfer_sound = first_sound (list_of store places transfer) (list_of cstore cplaces class ∷ []) [] [] (sym h ∙ k)
 
-    pub class-sound : ValidList (list_of cstore cplaces class)
-    class-sound = second_sound (list_of store places transfer) (list_of cstore cplaces class) [] [] [] (sym h ∙ k)
+    pub class_sound : ValidList (list_of cstore cplaces class)
+    class_sound = second_sound (list_of store places transfer) (list_of cstore cplaces class) [] [] [] (sym h ∙ k)
 
     module _ (b : Bool) (e : b ≡ is_identity_map transfer) where
-      pub implied-same : b ≡ true
+      pub implied_same : b ≡ true
           → call ≡ count_in_slice (list_of cstore cplaces class) (without_dropping (pairs_in cstore cplaces class.count) class.has_root_identity class.time_offset out slots)
       unfolding implied_class_call
-      implied-same g =
+      implied_same g =
           rw (← h, k, ← e, g)
-          (sym (held_all cstore cplaces class.count (without_dropping (pairs_in cstore cplaces class.count) class.has_root_identity class.time_offset out slots) class-sound.held))
+          (sym (held_all cstore cplaces class.count (without_dropping (pairs_in cstore cplaces class.count) class.has_root_identity class.time_offset out slots) class_sound.held))
 
-      pub implied-other : b ≡ false → call ≡ implied_outcome (map_of store places transfer) (map_of cstore cplaces class) (implied_time transfer class) out slots
+      pub implied_other : b ≡ false → call ≡ implied_outcome (map_of store places transfer) (map_of cstore cplaces class) (implied_time transfer class) out slots
       unfolding implied_class_call
-      implied-other g = rw (← h, k, ← e, g) refl
+      implied_other g = rw (← h, k, ← e, g) refl
 
 -- A map that the call returns is the implied class map.
 pub implies_to : ImpliesTo

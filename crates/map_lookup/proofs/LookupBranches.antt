@@ -68,18 +68,18 @@ module _ (f : BestSoFar) (p k : Text) (i : ℕ) where
   choose_other b h l = other (known_false h l)
 
   module _ (b : Bool) (h : b ≡ matches p k) (l : not b ≡ false) where
-    pub choose-longer : f.covered ≤ length k → record { at = i; covered = length k } ≡ consider_key f p k i
+    pub choose_longer : f.covered ≤ length k → record { at = i; covered = length k } ≡ consider_key f p k i
     unfolding consider_key not_worse
-    choose-longer m = rw (known_true h l, le-leb f.covered (length k) m)
+    choose_longer m = rw (known_true h l, le-leb f.covered (length k) m)
 
     module _ (m : length k < f.covered) (x y : ℕ) (e : x ≡ element_count k) (d : y ≡ element_count (take f.covered p)) where
-      pub choose-fewer : x < y → f ≡ consider_key f p k i
+      pub choose_fewer : x < y → f ≡ consider_key f p k i
       unfolding consider_key not_worse
-      choose-fewer n = rw (known_true h l, lt-leb f.covered (length k) m, ← e, ← d, lt-leb y x n)
+      choose_fewer n = rw (known_true h l, lt-leb f.covered (length k) m, ← e, ← d, lt-leb y x n)
 
-      pub choose-more : y ≤ x → record { at = i; covered = length k } ≡ consider_key f p k i
+      pub choose_more : y ≤ x → record { at = i; covered = length k } ≡ consider_key f p k i
       unfolding consider_key not_worse
-      choose-more n = rw (known_true h l, lt-leb f.covered (length k) m, ← e, ← d, le-leb y x n)
+      choose_more n = rw (known_true h l, lt-leb f.covered (length k) m, ← e, ← d, le-leb y x n)
 
 -- Lemmas for `min`.
 pub least_first : (a b : ℕ) → a ≤ b → a ≡ min a b
@@ -131,8 +131,8 @@ module _ (p store : Text) (start n : ℕ) where
     part_length : length (take n (drop start store)) ≡ n
     part_length = length-take-le n (drop start store) (rw (length-drop start store) (omega arith))
 
-    inside-long : length p < n → matches p (substring store start n) ≡ false
-    inside-long l =
+    inside_long : length p < n → matches p (substring store start n) ≡ false
+    inside_long l =
         rw part
         (refused p (take n (drop start store)) (λ s. omega (arith, part_length, prefix_long p (take n (drop start store)) (served p (take n (drop start store)) s))))
 
@@ -142,7 +142,7 @@ module _ (p store : Text) (start n : ℕ) where
       go : (b : Bool) → leb (start + n) (length store) ≡ b → matches p (substring store start n) ≡ false
       go true h =
           let k : start + n ≤ length store = leb-true (start + n) (length store) h in
-          inside-long k (below_one (length store) (length p) n (rw e at l) (omega arith))
+          inside_long k (below_one (length store) (length p) n (rw e at l) (omega arith))
       go false h = outside (leb-false (start + n) (length store) h)
 
   pub cut_outside : (limit : ℕ) → limit ≤ length store → n ≤ limit → length store - n < start → matches p (substring store start n) ≡ false
@@ -152,8 +152,8 @@ module _ (p store : Text) (start n : ℕ) where
     within : start + n ≤ length store
     within = omega arith
 
-    pub cut-differs : get_or store (start + n - 1) 0 ≢ get_or p (n - 1) 0 → matches p (substring store start n) ≡ false
-    cut-differs d = rw (part within) (refused p key (λ s. d (same s)))
+    pub cut_differs : get_or store (start + n - 1) 0 ≢ get_or p (n - 1) 0 → matches p (substring store start n) ≡ false
+    cut_differs d = rw (part within) (refused p key (λ s. d (same s)))
       where
         key : Text
         key = take n (drop start store)
@@ -179,11 +179,11 @@ module _ (f : BestSoFar) (p store : Text) (start n i : ℕ) where
   consider_outside limit k l h = other f p (substring store start n) i (cut_outside p store start n limit k l h)
 
   module _ (limit : ℕ) (k : limit ≤ length store) (z : n ≢ 0) (l : n ≤ limit) (h : start ≤ length store - n) where
-    pub consider-differs : get_or store (start + n - 1) 0 ≢ get_or p (n - 1) 0 → f ≡ consider_key f p (substring store start n) i
-    consider-differs d = other f p (substring store start n) i (cut-differs p store start n limit k z l h d)
+    pub consider_differs : get_or store (start + n - 1) 0 ≢ get_or p (n - 1) 0 → f ≡ consider_key f p (substring store start n) i
+    consider_differs d = other f p (substring store start n) i (cut_differs p store start n limit k z l h d)
 
-    pub consider-chosen : (r : BestSoFar) → r ≡ consider_key f p (take (start + n - start) (drop start store)) i → r ≡ consider_key f p (substring store start n) i
-    consider-chosen r e = rw (cut_is p store start n limit k z l h) at e
+    pub consider_chosen : (r : BestSoFar) → r ≡ consider_key f p (take (start + n - start) (drop start store)) i → r ≡ consider_key f p (substring store start n) i
+    consider_chosen r e = rw (cut_is p store start n limit k z l h) at e
 
 -- Lemmas for `key_count`.
 pub held_targets : (places : List ℕ) (n m : ℕ) (invert : Bool) → invert ≡ true → m ≡ min n (length places / 2 / 2) → m ≡ min n (key_count places invert)
@@ -287,4 +287,4 @@ kept_end p store places n invert held i f m h l r =
         (best_rest (λ (k : ℕ). matches p (key k)) (λ (k : ℕ). element_count (key k)) (key_count places invert) n (omega arith)
         (λ k h. rw (key_after store places invert k h) (sym (matches_empty p [] refl))))
 
-pub ruleset searching = (matches_empty, matches_prefix, choose_other, choose-longer, choose-fewer, choose-more, least_first, least_second, consider_none, consider_long, consider_outside, consider-differs, consider-chosen, held_targets, held_sources, offset_target, offset_source, least_left, least_right, kept_end)
+pub ruleset searching = (matches_empty, matches_prefix, choose_other, choose_longer, choose_fewer, choose_more, least_first, least_second, consider_none, consider_long, consider_outside, consider_differs, consider_chosen, held_targets, held_sources, offset_target, offset_source, least_left, least_right, kept_end)

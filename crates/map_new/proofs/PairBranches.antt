@@ -7,7 +7,7 @@ use lib.ListN.{length}
 use Rattle.text.specs.Text.{Text}
 use Rattle.pair_list.specs.Pair.{pair}
 use Rattle.pair_list.specs.Places.{pairs_in}
-use Rattle.pair_list_write.proofs.PushBranches.{PushedPair, pair-there}
+use Rattle.pair_list_write.proofs.PushBranches.{PushedPair, pair_there}
 use Rattle.pair_list_write.proofs.PackedLaws.{holds_none, holds_list, holds_more}
 
 -- `store_pair`: the pair is pushed to the empty list, and read back.
@@ -16,4 +16,4 @@ pub pair_stored : (s t store : Text) (places : List ℕ) → length s + length t
 pair_stored s t store places h k r store' places' w =
     holds_list (pair s t ∷ []) 1 r store' places'
     (holds_more [] 0 0 store places (holds_none store places) (pair s t) r store' places'
-    (pair-there s t 0 0 store places (omega arith) (omega arith) r store' places' w))
+    (pair_there s t 0 0 store places (omega arith) (omega arith) r store' places' w))

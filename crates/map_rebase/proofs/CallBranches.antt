@@ -58,36 +58,36 @@ module _ (store : Text) (places : List ℕ) (f : MapFunction) (from to : Text) (
     unfolding rebase_target_call
     passed = rw (← h, k)
 
-    pub rebase-from : length from ≤ 255
-    rebase-from = text_short (list_of store places f ∷ []) from (to ∷ []) (from ∷ to ∷ []) (sym h ∙ k)
+    pub rebase_from : length from ≤ 255
+    rebase_from = text_short (list_of store places f ∷ []) from (to ∷ []) (from ∷ to ∷ []) (sym h ∙ k)
 
-    pub rebase-to : length to ≤ 255
-    rebase-to = second_short (list_of store places f ∷ []) from to [] (from ∷ to ∷ []) (sym h ∙ k)
+    pub rebase_to : length to ≤ 255
+    rebase_to = second_short (list_of store places f ∷ []) from to [] (from ∷ to ∷ []) (sym h ∙ k)
 
     module _ (b : Bool) (g : b ≡ (eqb f.count 0 && f.has_root_identity)) where
-      identity-is : is_path_identity m ≡ b
-      identity-is = identity_lent store places f.count f.has_root_identity ∙ sym g
+      identity_is : is_path_identity m ≡ b
+      identity_is = identity_lent store places f.count f.has_root_identity ∙ sym g
 
-      pub rebase-identity : b ≡ true
+      pub rebase_identity : b ≡ true
           → rebase_target_call store places f from to out slots ≡ within_limits (pair from to ∷ []) (from_pair_identity (pair from to)) f.time_offset out slots
       unfolding rebase_outcome
-      rebase-identity l = passed ∙ rw (identity-is, l)
+      rebase_identity l = passed ∙ rw (identity_is, l)
 
       module _ (l : b ≡ false) (c : Bool) (i : c ≡ any_target_below from (pairs_in store places f.count)) where
-        pub rebase-same : not c ≡ true
+        pub rebase_same : not c ≡ true
             → rebase_target_call store places f from to out slots
             ≡ count_in_slice (list_of store places f) (without_dropping (pairs_in store places f.count) f.has_root_identity f.time_offset out slots)
         unfolding rebase_outcome
-        rebase-same o =
+        rebase_same o =
             passed
-            ∙ rw (identity-is, l, known_false i o)
+            ∙ rw (identity_is, l, known_false i o)
             (sym (held_all store places f.count (without_dropping (pairs_in store places f.count) f.has_root_identity f.time_offset out slots) sound.held))
 
-        pub rebase-made : not c ≡ false
+        pub rebase_made : not c ≡ false
             → rebase_target_call store places f from to out slots
             ≡ rebased_map m from to f.time_offset out slots
         unfolding rebase_outcome
-        rebase-made o = passed ∙ rw (identity-is, l, known_true i o)
+        rebase_made o = passed ∙ rw (identity_is, l, known_true i o)
 
 -- A map that the call returns is the rebased one.
 pub rebases_to : RebasesTo

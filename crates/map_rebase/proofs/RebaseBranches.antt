@@ -59,13 +59,13 @@ module _ (store : Text) (places : List ℕ) (from : Text) where
     pub target_found : (n : ℕ) → i < n → b ≡ true → true ≡ any_target_below from (pairs_in store places n)
     target_found n l t = sym (grown n i l (rw e at (told h t)))
 
-    pub target-on : b ≡ false → any_target_below from (pairs_in store places i) ≡ false → any_target_below from (pairs_in store places (i + 1)) ≡ false
-    target-on f g = rw (add-one i) (target_next i ∙ rw g (rw e at (told h f)))
+    pub target_on : b ≡ false → any_target_below from (pairs_in store places i) ≡ false → any_target_below from (pairs_in store places (i + 1)) ≡ false
+    target_on f g = rw (add-one i) (target_next i ∙ rw g (rw e at (told h f)))
 
   pub target_end : (n i : ℕ) → n ≤ i → i ≤ n → any_target_below from (pairs_in store places i) ≡ false → false ≡ any_target_below from (pairs_in store places n)
   target_end n i l m e = let z : n ≡ i = omega arith in rw z (sym e)
 
-pub ruleset targets = (target_begin, target_found, target-on, target_end)
+pub ruleset targets = (target_begin, target_found, target_on, target_end)
 
 -- `rebase_all`
 pub rebased_pair_lem : (store : Text) (places : List ℕ) (i : ℕ) (from to s t : Text) → s ≡ key_at store places false i → t ≡ key_at store places true i

@@ -89,23 +89,23 @@ module _ (m : Map) (p q : Text) (em : all_ends m.pairs ≡ true) (lp : legal p �
 
   module _ (full : no_empty_source m.pairs ≡ true) where
     -- If no source is empty, the pair that maps q home matches p on the way out.
-    home-matches : (j : ℕ) → has_variant_selection q ≡ false → IsLongest (matches q) (map_target m) (map_size m) j → map_by m (map_target m) (map_source m) q (some j) ≡ some p
+    home_matches : (j : ℕ) → has_variant_selection q ≡ false → IsLongest (matches q) (map_target m) (map_size m) j → map_by m (map_target m) (map_source m) q (some j) ≡ some p
         → matches p (map_source m j) ≡ true
-    home-matches j fq g h =
+    home_matches j fq g h =
         prefix_matches p (map_source m j) (full_source m.pairs full j g.in_range_lem) (back (home_rel j fq g h) (es j) (et j)).0
 
     -- So the two pairs are the same.
-    leg-same : (o o' : Option ℕ) → SaysLongest (matches p) (map_source m) (map_size m) o → SaysLongest (matches q) (map_target m) (map_size m) o'
+    leg_same : (o o' : Option ℕ) → SaysLongest (matches p) (map_source m) (map_size m) o → SaysLongest (matches q) (map_target m) (map_size m) o'
         → map_by m (map_source m) (map_target m) p o ≡ some q → map_by m (map_target m) (map_source m) q o' ≡ some p → eq_index o o' ≡ true
-    leg-same none none f g e h = refl
-    leg-same none (some j) f g e h =
+    leg_same none none f g e h = refl
+    leg_same none (some j) f g e h =
         let k = by_mark_lem m (map_source m) (map_target m) p q e in
-        absurd (f j g.in_range_lem (home-matches j (rw k.1 fp) g h))
-    leg-same (some i) none f g e h = absurd (g i f.in_range_lem (out_matches i f e))
-    leg-same (some i) (some j) f g e h =
+        absurd (f j g.in_range_lem (home_matches j (rw k.1 fp) g h))
+    leg_same (some i) none f g e h = absurd (g i f.in_range_lem (out_matches i f e))
+    leg_same (some i) (some j) f g e h =
         let r = out_rel i f e in
         let fq = still_free r (es i) (et i) fp in
-        let sp = home-matches j fq g h in
+        let sp = home_matches j fq g h in
         let sq = out_matches i f e in
         let w = weigh true r (es i) (et i) in
         let w' = weigh true (home_rel j fq g h) (es j) (et j) in
@@ -162,7 +162,7 @@ module _ (m : Map) (em : all_ends m.pairs ≡ true) (p q : Text) (c : SelectionF
   leg_comes full o =
       let f = best_says p (map_source m) (map_size m) in
       let g = best_says q (map_target m) (map_size m) in
-      let s = leg-same m p q em c.is_legal c.is_plain o.is_legal full (match_source m p) (match_target m q) f g o.out o.back in
+      let s = leg_same m p q em c.is_legal c.is_plain o.is_legal full (match_source m p) (match_target m q) f g o.out o.back in
       rw (opened, o.out, s) (path_checked q o.is_short o.is_legal)
 
   -- So the leg yields a path exactly if the path makes the plain round trip.

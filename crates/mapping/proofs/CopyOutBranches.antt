@@ -17,7 +17,7 @@ use Rattle.path_grammar.specs.Legal.{at_most255}
 use Rattle.path_grammar.specs.Own.{has_variant_selection}
 use Rattle.path_join.specs.Join.{join, join_illegal}
 use Rattle.path_parts.specs.Strip.{strip, strip_fit, strip_buffer}
-use Rattle.path_parts.proofs.StripLaws.{strip_same, strip-back}
+use Rattle.path_parts.proofs.StripLaws.{strip_same, strip_back}
 use Rattle.refusal.specs.declared.Refusal.{Refusal}
 use Rattle.refusal.specs.declared.Refusal.TheVariants.{NoRoom, NoPath, MadeTooLong, MadeIllegal}
 use Rattle.refusal.specs.declared.Validation.{Validation}
@@ -135,4 +135,4 @@ module _ (m : Map) (p : Text) (b : Bool) (h : b ≡ has_variant_selection p) whe
 
 pub translate_back : (p buf : Text) (f : Fit) → length p ≤ length buf → f ≡ strip_fit p buf → (k : ℕ) → f ≡ WrittenFit k → (mem : Text) → mem ≡ strip_buffer p buf → (o : Map)
     → translate_fast o (strip p) ≡ translate_fast o (take k mem)
-translate_back p buf f s h k e mem m o = ap (translate_fast o) (sym (strip-back p buf f s h k e mem m))
+translate_back p buf f s h k e mem m o = ap (translate_fast o) (sym (strip_back p buf f s h k e mem m))

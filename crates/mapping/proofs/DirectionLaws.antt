@@ -15,7 +15,7 @@ use Rattle.refusal.specs.declared.Validation.TheVariants.{Passed, Refused}
 use Rattle.refusal.specs.Refusal.{all_texts_short, all_texts_legal, validate_texts}
 use Rattle.refusal.specs.Outcome.{refused}
 use Rattle.path.specs.Calls.{path_new_call}
-use Rattle.refusal.proofs.CallBranches.{answered-refused, answered-short, answered-passed}
+use Rattle.refusal.proofs.CallBranches.{answered_refused, answered_short, answered_passed}
 use Rattle.path_parts.specs.Strip.{strip}
 use Rattle.validate.specs.Validate.{lent_list, validate_call, first_refusal}
 use Rattle.validate.proofs.RefusalLaws.{never, none_earlier, one_by_one}
@@ -76,15 +76,15 @@ module _ (list : Validation) (direction : Direction) (store : Text) (places : Li
 
   pub after_refused : (x : Refusal) → q ≡ Refused x → after_list_validated list direction store places f p room ≡ refused x
   unfolding after_list_validated
-  after_refused x k = answered-refused (first_refusal list (path_new_call p)) room (map_fast_in direction (map_of store places f) p) q both x k
+  after_refused x k = answered_refused (first_refusal list (path_new_call p)) room (map_fast_in direction (map_of store places f) p) q both x k
 
   pub after_short : q ≡ Passed → room < 255 → after_list_validated list direction store places f p room ≡ refused NoRoom
   unfolding after_list_validated
-  after_short k l = answered-short (first_refusal list (path_new_call p)) room (map_fast_in direction (map_of store places f) p) q both k l
+  after_short k l = answered_short (first_refusal list (path_new_call p)) room (map_fast_in direction (map_of store places f) p) q both k l
 
   pub after_passed : q ≡ Passed → 255 ≤ room → after_list_validated list direction store places f p room ≡ map_fast_in direction (map_of store places f) p
   unfolding after_list_validated
-  after_passed k l = answered-passed (first_refusal list (path_new_call p)) room (map_fast_in direction (map_of store places f) p) q both k l
+  after_passed k l = answered_passed (first_refusal list (path_new_call p)) room (map_fast_in direction (map_of store places f) p) q both k l
 
 -- Validating a list and a path yields, of the two results, the refusal whose question is put first, so the call equals the one that is
 -- given the result for the list.

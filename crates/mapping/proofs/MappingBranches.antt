@@ -41,26 +41,26 @@ module _ (store : Text) (places : List ℕ) (f : MapFunction) (p : Text) (room :
     is_legal : legal p ≡ true
     is_legal = text_legal (l ∷ []) p [] [] e
 
-    are-ends : all_ends m.pairs ≡ true
-    are-ends = (first_sound l [] (p ∷ []) [] e).ends
+    are_ends_lem : all_ends m.pairs ≡ true
+    are_ends_lem = (first_sound l [] (p ∷ []) [] e).ends
 
-    are-short : all_short m.pairs ≡ true
-    are-short = (first_sound l [] (p ∷ []) [] e).shorts
+    are_short : all_short m.pairs ≡ true
+    are_short = (first_sound l [] (p ∷ []) [] e).shorts
 
   pub out_validated : map_source_to_target_call store places f p room ≡ mapping_call store places f p room (map_fast false m p)
   unfolding map_source_to_target_call
   out_validated =
       answered_same questions room (checked_option (map_source_to_target m p)) (map_fast false m p)
-      (λ e. sym (fast_out m p (are-ends e) (is_legal e) (is_short e)))
+      (λ e. sym (fast_out m p (are_ends_lem e) (is_legal e) (is_short e)))
 
   pub home_validated : map_target_to_source_call store places f p room ≡ mapping_call store places f p room (map_fast true m p)
   unfolding map_target_to_source_call
   home_validated =
       answered_same questions room (checked_option (map_target_to_source m p)) (map_fast true m p)
-      (λ e. sym (fast_home m p (are-ends e) (is_legal e) (is_short e)))
+      (λ e. sym (fast_home m p (are_ends_lem e) (is_legal e) (is_short e)))
 
   pub translate_validated : translate_to_target_call store places f p room ≡ mapping_call store places f p room (translate_fast m (strip p))
   unfolding translate_to_target_call translate_to_target
   translate_validated =
       answered_same questions room (checked_option (translate_to_target m p)) (translate_fast m (strip p))
-      (λ e. sym (fast_translated m (strip p) (are-ends e) (are-short e) (strip_legal p (is_legal e)) (omega (arith, strip_shorter p, is_short e))))
+      (λ e. sym (fast_translated m (strip p) (are_ends_lem e) (are_short e) (strip_legal p (is_legal e)) (omega (arith, strip_shorter p, is_short e))))

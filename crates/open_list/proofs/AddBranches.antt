@@ -6,7 +6,7 @@ use native.Mathlib.Omega.{arith}
 use lib.ListN.{length}
 use borrow.Author.Tests.{le-leb, lt-leb}
 use Rattle.text.specs.Text.{Text}
-use Rattle.pair_list_write.proofs.PushBranches.{PushedPair, pair-there}
+use Rattle.pair_list_write.proofs.PushBranches.{PushedPair, pair_there}
 use Rattle.refusal.specs.declared.Refusal.{Refusal}
 use Rattle.refusal.specs.declared.Refusal.TheVariants.{TooMany, NoRoom}
 use Rattle.refusal.specs.declared.Validation.{Validation}
@@ -33,14 +33,14 @@ module _ (k : OpenList) (s t : Text) (room slots : ℕ) (q : Validation) (e : q 
   add_refused x h = refuses x (rw (← e, h))
 
   module _ (h : q ≡ Passed) where
-    pub add-many : 64 ≤ k.pairs → Answers (RefusedValidation TooMany)
+    pub add_many : 64 ≤ k.pairs → Answers (RefusedValidation TooMany)
     unfolding validate_add
-    add-many l = refuses TooMany (rw (← e, h, lt-leb (suc k.pairs) 64 (omega (arith, l))))
+    add_many l = refuses TooMany (rw (← e, h, lt-leb (suc k.pairs) 64 (omega (arith, l))))
 
     module _ (l : k.pairs < 64) where
-      pub add-beyond : slots / 4 ≤ k.pairs → Answers (RefusedValidation TooMany)
+      pub add_beyond : slots / 4 ≤ k.pairs → Answers (RefusedValidation TooMany)
       unfolding validate_add
-      add-beyond m = refuses TooMany (rw (← e, h, le-leb (suc k.pairs) 64 (omega (arith, l)), lt-leb (4 * suc k.pairs) slots (omega (arith, m))))
+      add_beyond m = refuses TooMany (rw (← e, h, le-leb (suc k.pairs) 64 (omega (arith, l)), lt-leb (4 * suc k.pairs) slots (omega (arith, m))))
 
       module _ (m : k.pairs < slots / 4) where
         full : room < k.bytes + (length s + length t) → Answers (RefusedValidation NoRoom)
@@ -53,16 +53,16 @@ module _ (k : OpenList) (s t : Text) (room slots : ℕ) (q : Validation) (e : q 
         add_start n = full (omega (arith, n))
 
         module _ (n : k.bytes ≤ room) where
-          pub add-source : room - k.bytes < length s → Answers (RefusedValidation NoRoom)
-          add-source o = full (omega (arith, n, o))
+          pub add_source : room - k.bytes < length s → Answers (RefusedValidation NoRoom)
+          add_source o = full (omega (arith, n, o))
 
           module _ (o : length s ≤ room - k.bytes) where
-            pub add-target : room - k.bytes - length s < length t → Answers (RefusedValidation NoRoom)
-            add-target p = full (omega (arith, n, o, p))
+            pub add_target : room - k.bytes - length s < length t → Answers (RefusedValidation NoRoom)
+            add_target p = full (omega (arith, n, o, p))
 
-            pub add-passed : length t ≤ room - k.bytes - length s → Answers Passed
+            pub add_passed : length t ≤ room - k.bytes - length s → Answers Passed
             unfolding validate_add AddFits
-            add-passed p =
+            add_passed p =
                 let fits : k.bytes + (length s + length t) ≤ room = omega (arith, n, o, p) in (
                   rw (← e, h, le-leb (suc k.pairs) 64 (omega (arith, l)), le-leb (4 * suc k.pairs) slots (omega (arith, m)), le-leb (k.bytes + (length s + length t)) room fits),
                   λ w. (l, omega (arith, m), fits),
@@ -85,9 +85,9 @@ module _ (k : OpenList) (s t : Text) (bytes : Text) (places : List ℕ) (a q : V
     room : (k.pairs < 64) × (4 * k.pairs + 4 ≤ length places) × (k.bytes + (length s + length t) ≤ length bytes)
     room = passed_fits q k (length s) (length t) (length bytes) (length places) f e
 
-    pub pair-added : (end : ℕ) (bytes' : Text) (places' : List ℕ) → PushedPair s t k.pairs k.bytes bytes places end bytes' places'
+    pub pair_added : (end : ℕ) (bytes' : Text) (places' : List ℕ) → PushedPair s t k.pairs k.bytes bytes places end bytes' places'
         → Adds (Done (record { pairs = k.pairs + 1; bytes = end })) bytes' places'
     unfolding add_reply add_bytes add_places
-    pair-added end bytes' places' w =
-        let x = pair-there s t k.pairs k.bytes bytes places room.2 room.1 end bytes' places' w in
+    pair_added end bytes' places' w =
+        let x = pair_there s t k.pairs k.bytes bytes places room.2 room.1 end bytes' places' w in
         rw (← h, e) (ap (λ (n : ℕ). Done (record { pairs = k.pairs + 1; bytes = n })) x.end, (x.text, x.places))

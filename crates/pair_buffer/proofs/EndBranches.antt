@@ -40,17 +40,17 @@ module _ (p s t : Text) (b : Bool) (h : b ≡ has_prefix p s) (out : Text) where
     stays : replaced_or_same p s t ≡ p
     stays = ap (λ (o : Option Text). get_or o p) (replace_other p s t (known_false h k))
 
-    pub replace-long : length out < length p → Replaced 0 out
+    pub replace_long : length out < length p → Replaced 0 out
     unfolding fit_of written_if_fits
-    replace-long l = rw (stays, zero-add (length p), lt-leb (length p) (length out) l) (refl, refl)
+    replace_long l = rw (stays, zero-add (length p), lt-leb (length p) (length out) l) (refl, refl)
 
-    pub replace-not : length p ≤ length out → (out' : Text) → out' ≡ written_if_fits 0 p out → Replaced (length p) out'
+    pub replace_not : length p ≤ length out → (out' : Text) → out' ≡ written_if_fits 0 p out → Replaced (length p) out'
     unfolding fit_of
-    replace-not l out' e = rw (stays, le-leb (length p) (length out) l) (refl, e)
+    replace_not l out' e = rw (stays, le-leb (length p) (length out) l) (refl, e)
 
   module _ (k : not b ≡ false) where
-    pub replace-start : length s ≤ length p
-    replace-start = prefix_long p s (known_true h k)
+    pub replace_start : length s ≤ length p
+    replace_start = prefix_long p s (known_true h k)
 
     replaced_is : replaced_or_same p s t ≡ join s t (drop (length s) p)
     replaced_is = ap (λ (o : Option Text). get_or o p) (replace_prefix_lem p s t (known_true h k))
@@ -63,8 +63,8 @@ module _ (p s t : Text) (b : Bool) (h : b ≡ has_prefix p s) (out : Text) where
       pub replace_made : (n : ℕ) → f ≡ Written n → Replaced n out'
       replace_made n g = rw g at join_is
 
-      pub replace-over : f ≡ Over → Replaced 0 out'
-      replace-over g = rw g at join_is
+      pub replace_over : f ≡ Over → Replaced 0 out'
+      replace_over g = rw g at join_is
 
 -- `from_ends_given`: question 8 has the answer `yes`.
 module _ (store : Text) (places : List ℕ) (n : ℕ) (yes mark : Bool) (time : LayerOffset) (out : Text) (slots : List ℕ) where
@@ -90,24 +90,24 @@ module _ (store : Text) (places : List ℕ) (n : ℕ) (yes mark : Bool) (time : 
   given_beyond h = rw (lt-leb n (length places / 4) h) refl
 
   module _ (few : n ≤ 64) (there : n ≤ length places / 4) (b : Bool) (h : b ≡ all_short list) (c : Bool) (e : c ≡ (b && yes)) where
-    pub given-parts : c ≡ true → call ≡ count_in_slice (lent_list store places n) (from_parts_outcome list mark time out slots)
+    pub given_parts : c ≡ true → call ≡ count_in_slice (lent_list store places n) (from_parts_outcome list mark time out slots)
     unfolding from_ends_given require_short from_parts_outcome
-    given-parts k =
+    given_parts k =
         let z : (b && yes) ≡ true = sym e ∙ k in
         rw (and_r b yes z, told h (and_l b yes z))
 
-    given-room : list_fits_buffers list out slots ≡ false → call ≡ refused NoRoom
+    given_room : list_fits_buffers list out slots ≡ false → call ≡ refused NoRoom
     unfolding from_ends_given require_list_room
-    given-room g = held_all store places n made there ∙ rw (g, pairs_in_length store places n, le-leb n 64 few)
+    given_room g = held_all store places n made there ∙ rw (g, pairs_in_length store places n, le-leb n 64 few)
 
-    pub given-slots : length slots / 4 < n → call ≡ refused NoRoom
+    pub given_slots : length slots / 4 < n → call ≡ refused NoRoom
     unfolding list_fits_buffers
-    given-slots l = given-room (rw (pairs_in_length store places n, lt-leb n (length slots / 4) l) (and_no (leb (end_bytes list) (length out))))
+    given_slots l = given_room (rw (pairs_in_length store places n, lt-leb n (length slots / 4) l) (and_no (leb (end_bytes list) (length out))))
 
     module _ (l : n ≤ length slots / 4) (d : Bool) (i : d ≡ leb (end_bytes list) (length out)) where
-      pub given-bytes : not d ≡ true → call ≡ refused NoRoom
+      pub given_bytes : not d ≡ true → call ≡ refused NoRoom
       unfolding list_fits_buffers
-      given-bytes k = given-room (rw (known_false i k))
+      given_bytes k = given_room (rw (known_false i k))
 
       module _ (k : not d ≡ false) where
         roomy : call ≡ require_short list (require_legal_given yes (map (from_parts list mark) time))
@@ -116,15 +116,15 @@ module _ (store : Text) (places : List ℕ) (n : ℕ) (yes mark : Bool) (time : 
             held_all store places n made there
             ∙ rw (pairs_in_length store places n, le-leb n 64 few, known_true i k, le-leb n (length slots / 4) l)
 
-        pub given-illegal : c ≡ false → b ≡ true → call ≡ refused MadeIllegal
+        pub given_illegal : c ≡ false → b ≡ true → call ≡ refused MadeIllegal
         unfolding require_short
-        given-illegal f g =
+        given_illegal f g =
             let z : yes ≡ false = sym (sym f ∙ e ∙ rw g refl) in
             roomy ∙ rw (told h g, z)
 
-        pub given-long : b ≡ false → call ≡ refused MadeTooLong
+        pub given_long : b ≡ false → call ≡ refused MadeTooLong
         unfolding require_short
-        given-long g = roomy ∙ rw (told h g)
+        given_long g = roomy ∙ rw (told h g)
 
 -- `from_ends`: question 8 for all places of the list.
 pub ends_answered : (store : Text) (places : List ℕ) (n : ℕ) (mark : Bool) (time : LayerOffset) (out : Text) (slots : List ℕ)

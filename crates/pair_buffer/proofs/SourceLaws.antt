@@ -42,8 +42,8 @@ module _ (store : Text) (places : List ℕ) (s : Text) where
   source_begin = refl
 
   module _ (i : ℕ) (k : Text) (e : k ≡ key_at store places false i) (b : Bool) (h : b ≡ equal k s) where
-    pub source-found : (n : ℕ) → i < n → b ≡ true → true ≡ has_source (pairs_in store places n) s
-    source-found n l t = sym (grown n i l (rw e at (told h t)))
+    pub source_found : (n : ℕ) → i < n → b ≡ true → true ≡ has_source (pairs_in store places n) s
+    source_found n l t = sym (grown n i l (rw e at (told h t)))
 
     pub source_on : b ≡ false → has_source (pairs_in store places i) s ≡ false → has_source (pairs_in store places (i + 1)) s ≡ false
     source_on f g = rw (add-one i) (source_next i ∙ rw g (rw e at (told h f)))
@@ -51,4 +51,4 @@ module _ (store : Text) (places : List ℕ) (s : Text) where
   pub source_end : (n i : ℕ) → n ≤ i → i ≤ n → has_source (pairs_in store places i) s ≡ false → false ≡ has_source (pairs_in store places n) s
   source_end n i l m e = let z : n ≡ i = omega arith in rw z (sym e)
 
-pub ruleset sources = (source_begin, source-found, source_on, source_end)
+pub ruleset sources = (source_begin, source_found, source_on, source_end)

@@ -133,14 +133,14 @@ module _ (found : Bool) (at v : ℕ) (t : Bool) (i w : ℕ) (b : Bool) (h : b �
   step_fails l = rw (known_false h l)
 
   module _ (l : not b ≡ false) (x : ℕ) (e : x ≡ w) where
-    pub step-lighter : found ≡ true → x < v → best_kept found at v ≡ consider_index (best_kept found at v) t i w
+    pub step_lighter : found ≡ true → x < v → best_kept found at v ≡ consider_index (best_kept found at v) t i w
     unfolding consider_index
-    step-lighter g m = rw (known_true h l, g, ← e, lt-leb v x m)
+    step_lighter g m = rw (known_true h l, g, ← e, lt-leb v x m)
 
-    pub step-heavier : found ≡ true → v ≤ x → some (i, x) ≡ consider_index (best_kept found at v) t i w
+    pub step_heavier : found ≡ true → v ≤ x → some (i, x) ≡ consider_index (best_kept found at v) t i w
     unfolding consider_index
-    step-heavier g m = rw (known_true h l, g, ← e, le-leb v x m)
+    step_heavier g m = rw (known_true h l, g, ← e, le-leb v x m)
 
-    pub step-first : found ≡ false → some (i, x) ≡ consider_index (best_kept found at v) t i w
+    pub step_first : found ≡ false → some (i, x) ≡ consider_index (best_kept found at v) t i w
     unfolding consider_index
-    step-first g = rw (known_true h l, g, ← e)
+    step_first g = rw (known_true h l, g, ← e)

@@ -21,18 +21,18 @@ module _ (store : Text) (places : List ℕ) (j : ℕ) where
   fits_missing h = rw (le-leb (length places / 2) j h)
 
   module _ (there : j < length places / 2) where
-    pub fits-start : length store < get_or places (2 * j) 0 → false ≡ is_short_at store places j
+    pub fits_start : length store < get_or places (2 * j) 0 → false ≡ is_short_at store places j
     unfolding is_short_at
-    fits-start h = rw (lt-leb (length places / 2) j there, outside_start store places j h)
+    fits_start h = rw (lt-leb (length places / 2) j there, outside_start store places j h)
 
-    pub fits-end : length store - get_or places (2 * j) 0 < get_or places (2 * j + 1) 0 → false ≡ is_short_at store places j
+    pub fits_end : length store - get_or places (2 * j) 0 < get_or places (2 * j + 1) 0 → false ≡ is_short_at store places j
     unfolding is_short_at
-    fits-end h = rw (lt-leb (length places / 2) j there, outside_end store places j h)
+    fits_end h = rw (lt-leb (length places / 2) j there, outside_end store places j h)
 
-    pub fits-length : get_or places (2 * j) 0 ≤ length store → get_or places (2 * j + 1) 0 ≤ length store - get_or places (2 * j) 0
+    pub fits_length : get_or places (2 * j) 0 ≤ length store → get_or places (2 * j + 1) 0 ≤ length store - get_or places (2 * j) 0
         → leb (get_or places (2 * j + 1) 0) 255 ≡ is_short_at store places j
     unfolding is_short_at
-    fits-length h k = rw (lt-leb (length places / 2) j there, is_inside store places j h k)
+    fits_length h k = rw (lt-leb (length places / 2) j there, is_inside store places j h k)
 
 pub key_missing : (store : Text) (places : List ℕ) (i : ℕ) (invert : Bool) → length places / 2 ≤ i → [] ≡ key_at store places invert i
 key_missing store places i true h = text_missing store places (2 * i + 1) (omega arith)
@@ -66,14 +66,14 @@ module _ (store : Text) (places : List ℕ) where
   fit_all n j l m h = let e : n ≡ j = omega arith in rw e h
 
   module _ (passes : Text → Bool) where
-    pub all-begin : true ≡ places_all passes store places 0
+    pub all_begin : true ≡ places_all passes store places 0
     unfolding places_all
-    all-begin = refl
+    all_begin = refl
 
-    pub all-on : (j : ℕ) (b : Bool) (t : Text) → true ≡ places_all passes store places j → t ≡ text_at store places j → b ≡ passes t → not b ≡ false
+    pub all_on : (j : ℕ) (b : Bool) (t : Text) → true ≡ places_all passes store places j → t ≡ text_at store places j → b ≡ passes t → not b ≡ false
         → true ≡ places_all passes store places (j + 1)
     unfolding places_all
-    all-on j b t h e k l = rw (add-one j, ← h, ← e, known_true k l)
+    all_on j b t h e k l = rw (add-one j, ← h, ← e, known_true k l)
 
     pub all_found : (n j : ℕ) (b : Bool) (t : Text) → j < n → t ≡ text_at store places j → b ≡ passes t → not b ≡ true → false ≡ places_all passes store places n
     unfolding places_all
@@ -86,4 +86,4 @@ module _ (store : Text) (places : List ℕ) where
     pub all_end : (n j : ℕ) → j ≤ n → n ≤ j → true ≡ places_all passes store places j → true ≡ places_all passes store places n
     all_end n j l m h = let e : n ≡ j = omega arith in rw e h
 
-pub ruleset placing = (fits_missing, fits-start, fits-end, fits-length, key_missing, key_target, key_source, fit_begin, fit_on, fit_found, fit_all, all-begin, all-on, all_found, all_end)
+pub ruleset placing = (fits_missing, fits_start, fits_end, fits_length, key_missing, key_target, key_source, fit_begin, fit_on, fit_found, fit_all, all_begin, all_on, all_found, all_end)

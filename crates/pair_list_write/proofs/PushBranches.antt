@@ -11,11 +11,11 @@ use Rattle.text.specs.Text.{Text, written, written_at, written_if_fits}
 use Rattle.text.proofs.BoolLaws.{and_no}
 use Rattle.text.proofs.WriteLaws.{over_length}
 use Rattle.text_list.specs.Packed.{text_places}
-use Rattle.text_list.proofs.PlaceBranches.{Pushed, push-there}
+use Rattle.text_list.proofs.PlaceBranches.{Pushed, push_there}
 use Rattle.pair_list.specs.Pair.{pair}
 use Rattle.pair_list.specs.Places.{key_at, pairs_in, pair_entry, list_text, list_places, end_bytes}
 use Rattle.pair_list_write.specs.Packed.{AppendedPair, pair_fits, pair_end, pair_bytes, pair_slots}
-use Rattle.pair_list_write.proofs.WriteBranches.{over_next, over_over, list-room, list_at, list-text, list-slots}
+use Rattle.pair_list_write.proofs.WriteBranches.{over_next, over_over, list_room, list_at, list_text_lem, list_slots}
 
 module _ (s t : Text) (n at : ℕ) (bytes : Text) (slots : List ℕ) where
   abbrev pub PushedPair : ℕ → Text → List ℕ → Type 0
@@ -38,14 +38,14 @@ module _ (s t : Text) (n at : ℕ) (bytes : Text) (slots : List ℕ) where
     unfolding pair_fits
     fits = rw (le-leb (at + (length s + length t)) (length bytes) h, le-leb (4 * n + 4) (length slots) g)
 
-    pub pair-pushed : (m : ℕ) (b : Text) (p : List ℕ) → Pushed s (2 * n) at bytes slots m b p → (r : ℕ) (b' : Text) (p' : List ℕ) → Pushed t (2 * n + 1) m b p r b' p'
+    pub pair_pushed : (m : ℕ) (b : Text) (p : List ℕ) → Pushed s (2 * n) at bytes slots m b p → (r : ℕ) (b' : Text) (p' : List ℕ) → Pushed t (2 * n + 1) m b p r b' p'
         → PushedPair r b' p'
     unfolding pair_end pair_bytes pair_slots text_places
-    pair-pushed m b p w r b' p' v =
-        let x = push-there s (2 * n) at bytes slots (omega arith) (omega arith) m b p w in
+    pair_pushed m b p w r b' p' v =
+        let x = push_there s (2 * n) at bytes slots (omega arith) (omega arith) m b p w in
         let lb : length b ≡ length bytes = ap length x.1.0 ∙ over_length at s bytes (omega arith) in
         let lp : length p ≡ length slots = ap length x.1.1 ∙ over_length (2 * (2 * n)) (at ∷ length s ∷ []) slots (omega arith) in
-        let y = push-there t (2 * n + 1) m b p (omega (arith, x.0)) (omega arith) r b' p' v in
+        let y = push_there t (2 * n + 1) m b p (omega (arith, x.0)) (omega arith) r b' p' v in
         let z : 2 * (2 * n + 1) ≡ 2 * (2 * n) + 2 = omega arith in
         let q : 4 * n ≡ 2 * (2 * n) = omega arith in
         rw fits (
@@ -57,10 +57,10 @@ module _ (s t : Text) (n at : ℕ) (bytes : Text) (slots : List ℕ) where
         )
 
     -- If the pair fits, it is appended.
-    pub pair-there : (r : ℕ) (bytes' : Text) (slots' : List ℕ) → PushedPair r bytes' slots'
+    pub pair_there : (r : ℕ) (bytes' : Text) (slots' : List ℕ) → PushedPair r bytes' slots'
         → AppendedPair (pair s t) n at bytes slots r bytes' slots'
     unfolding pair_end pair_bytes pair_slots
-    pair-there r bytes' slots' w = go (rw fits at w)
+    pair_there r bytes' slots' w = go (rw fits at w)
       where
         go : (r ≡ at + (length s + length t)) × ((bytes' ≡ written_at at (s ++ t) bytes) × (slots' ≡ written_at (4 * n) (pair_entry at s t) slots))
             → AppendedPair (pair s t) n at bytes slots r bytes' slots'
@@ -89,8 +89,8 @@ module _ (store : Text) (places : List ℕ) (start : ℕ) (o : Text) (p : List �
   append_next n i at out slots l f size g c s t es et r out' slots' w =
       let ks : Text = key_at store places false i in
       let kt : Text = key_at store places true i in
-      let room : at + (length ks + length kt) ≤ length out = list-room store places start i at c.0 n l (length o) (length out) f size in
-      let x = pair-there ks kt i at out slots room g r out' slots' (rw (es, et) at w) in (
+      let room : at + (length ks + length kt) ≤ length out = list_room store places start i at c.0 n l (length o) (length out) f size in
+      let x = pair_there ks kt i at out slots room g r out' slots' (rw (es, et) at w) in (
         list_at store places start i at c.0 r x.end,
-        (list-text store places start i at c.0 n l o out out' f c.1.0 x.text, list-slots store places start i at c.0 p slots slots' c.1.1 x.places),
+        (list_text_lem store places start i at c.0 n l o out out' f c.1.0 x.text, list_slots store places start i at c.0 p slots slots' c.1.1 x.places),
       )

@@ -37,17 +37,17 @@ module _ (store : Text) (places : List ℕ) where
     more : end_bytes (pairs_in store places i) + (length (key_at store places false i) + length (key_at store places true i)) ≤ end_bytes (pairs_in store places n)
     more = omega (arith, end_next i, end_grows n (suc i) (omega arith))
 
-    pub room-source : left < length s → Over ≡ remaining_room (pairs_in store places n) room
+    pub room_source : left < length s → Over ≡ remaining_room (pairs_in store places n) room
     unfolding remaining_room
-    room-source l = rw (lt-leb (end_bytes (pairs_in store places n)) room (omega (arith, more, ap length k))) refl
+    room_source l = rw (lt-leb (end_bytes (pairs_in store places n)) room (omega (arith, more, ap length k))) refl
 
     module _ (t : Text) (j : t ≡ key_at store places true i) where
-      pub room-target : length s ≤ left → left - length s < length t → Over ≡ remaining_room (pairs_in store places n) room
+      pub room_target : length s ≤ left → left - length s < length t → Over ≡ remaining_room (pairs_in store places n) room
       unfolding remaining_room
-      room-target g l = rw (lt-leb (end_bytes (pairs_in store places n)) room (omega (arith, more, ap length k, ap length j))) refl
+      room_target g l = rw (lt-leb (end_bytes (pairs_in store places n)) room (omega (arith, more, ap length k, ap length j))) refl
 
-      pub room-on : length s ≤ left → length t ≤ left - length s → left - length s - length t + end_bytes (pairs_in store places (i + 1)) ≡ room
-      room-on g l = rw (add-one i) (omega (arith, end_next i, ap length k, ap length j))
+      pub room_on : length s ≤ left → length t ≤ left - length s → left - length s - length t + end_bytes (pairs_in store places (i + 1)) ≡ room
+      room_on g l = rw (add-one i) (omega (arith, end_next i, ap length k, ap length j))
 
   pub room_begin : (room : ℕ) → room + end_bytes (pairs_in store places 0) ≡ room
   unfolding pairs_in end_bytes
@@ -59,7 +59,7 @@ module _ (store : Text) (places : List ℕ) where
       let z : n ≡ i = omega arith in
       rw (z, le-leb (end_bytes (pairs_in store places i)) room (omega arith)) (ap Left (omega arith))
 
-pub ruleset rooms = (room-source, room-target, room-on, room_begin, room_end)
+pub ruleset rooms = (room_source, room_target, room_on, room_begin, room_end)
 
 -- What a result of `remaining_room` implies.
 module _ (l : List Pair) (room : ℕ) (r : Room) (e : r ≡ remaining_room l room) where

@@ -76,14 +76,14 @@ module _ (places : List ℕ) where
 
   -- One more pair is appended to the selected ones.
   module _ (i : ℕ) (picks old slots : List ℕ) (w : ℕ) (held : 4 * i + 4 ≤ length places) (h : HoldsEntries places picks old slots w) where
-    selected-next : 4 * w + 4 ≤ length slots → copy_entry places i w slots ≡ written_entries places (picks ++ i ∷ []) old
+    selected_next : 4 * w + 4 ≤ length slots → copy_entry places i w slots ≡ written_entries places (picks ++ i ∷ []) old
     unfolding written_entries flat_map
-    selected-next room =
+    selected_next room =
         let z : 4 * w ≡ length (flat_map (entry_at places) picks) = sym (entries_length picks ∙ ap (λ (n : ℕ). 4 * n) (sym h.0)) in
         copied_over places i w slots held room ∙ rw (h.1, z, entries_append picks (i ∷ [])) (over_written (flat_map (entry_at places) picks) (entry_at places i) old)
 
     -- The same, if a test passes.
-    pub selected-turn : (b : Bool) → (b ≡ true → 4 * w + 4 ≤ length slots) → (r : ℕ) (slots' : List ℕ) → r ≡ cond b (w + 1) w → slots' ≡ cond b (copy_entry places i w slots) slots
+    pub selected_turn : (b : Bool) → (b ≡ true → 4 * w + 4 ≤ length slots) → (r : ℕ) (slots' : List ℕ) → r ≡ cond b (w + 1) w → slots' ≡ cond b (copy_entry places i w slots) slots
         → HoldsEntries places (cond b (picks ++ i ∷ []) picks) old slots' r
-    selected-turn true room r slots' f g = (f ∙ rw (length-append picks (i ∷ []), h.0) refl, g ∙ selected-next (room refl))
-    selected-turn false room r slots' f g = (f ∙ h.0, g ∙ h.1)
+    selected_turn true room r slots' f g = (f ∙ rw (length-append picks (i ∷ []), h.0) refl, g ∙ selected_next (room refl))
+    selected_turn false room r slots' f g = (f ∙ h.0, g ∙ h.1)

@@ -145,23 +145,23 @@ module _ (store : Text) (places : List ℕ) where
     pub list_at : (end : ℕ) → end ≡ at + ends i → end ≡ start + end_bytes (first (i + 1))
     list_at end f = rw (add-one i) (omega (arith, end_next store places i, e, f))
 
-    pub list-slots : (o slots slots' : List ℕ) → slots ≡ written (list_places start (first i)) o
+    pub list_slots : (o slots slots' : List ℕ) → slots ≡ written (list_places start (first i)) o
         → slots' ≡ written_at (4 * i) (pair_entry at (key_at store places false i) (key_at store places true i)) slots → slots' ≡ written (list_places start (first (i + 1))) o
-    list-slots o slots slots' w f =
+    list_slots o slots slots' w f =
         let m : 4 * i ≡ length (list_places start (first i)) = sym (places_length start (first i) ∙ ap (λ (k : ℕ). 4 * k) (pairs_in_length store places i)) in
         f ∙ rw (w, e, m, slots_next start i) (over_written (list_places start (first i)) (pair_entry (start + end_bytes (first i)) (key_at store places false i) (key_at store places true i)) o)
 
     module _ (n : ℕ) (l : i < n) where
-      pub list-room : (room k : ℕ) → start + end_bytes (first n) ≤ room → k ≡ room → at + ends i ≤ k
-      list-room room k f z = omega (arith, f, z, e, end_next store places i, end_grows store places n (suc i) l)
+      pub list_room : (room k : ℕ) → start + end_bytes (first n) ≤ room → k ≡ room → at + ends i ≤ k
+      list_room room k f z = omega (arith, f, z, e, end_next store places i, end_grows store places n (suc i) l)
 
-      pub list-text : (o out out' : Text) → start + end_bytes (first n) ≤ length o → out ≡ written_at start (list_text (first i)) o
+      pub list_text_lem : (o out out' : Text) → start + end_bytes (first n) ≤ length o → out ≡ written_at start (list_text (first i)) o
           → out' ≡ written_at at (key_at store places false i ++ key_at store places true i) out → out' ≡ written_at start (list_text (first (i + 1))) o
-      list-text o out out' g w f =
+      list_text_lem o out out' g w f =
           let both : Text = key_at store places false i ++ key_at store places true i in
           let k : length both ≡ ends i = length-append (key_at store places false i) (key_at store places true i) in
           let z : at ≡ start + length (list_text (first i)) = e ∙ ap (λ (m : ℕ). start + m) (sym (list_length (first i))) in
-          f ∙ rw (w, z, text_next i) (over_next start (list_text (first i)) both o (omega (arith, z, k, list-room (length o) (length o) g refl)))
+          f ∙ rw (w, z, text_next i) (over_next start (list_text (first i)) both o (omega (arith, z, k, list_room (length o) (length o) g refl)))
 
   module _ (n start : ℕ) (o : Text) (p : List ℕ) where
     abbrev list : List Pair
@@ -174,16 +174,16 @@ module _ (store : Text) (places : List ℕ) where
     unfolding append_list_reply append_list_bytes append_list_slots
     short h = rw h (refl, (refl, refl))
 
-    pub list-few : length p / 4 < n → Leaves Over o p
+    pub list_few : length p / 4 < n → Leaves Over o p
     unfolding append_fits_buffers
-    list-few h = short (rw (pairs_in_length store places n, lt-leb n (length p / 4) h) (and_no (leb (start + end_bytes list) (length o))))
+    list_few h = short (rw (pairs_in_length store places n, lt-leb n (length p / 4) h) (and_no (leb (start + end_bytes list) (length o))))
 
     full : length o < start + end_bytes list → Leaves Over o p
     unfolding append_fits_buffers
     full h = short (rw (lt-leb (start + end_bytes list) (length o) h))
 
-    pub list-outside : length o < start → Leaves Over o p
-    list-outside h = full (omega (arith, h))
+    pub list_outside : length o < start → Leaves Over o p
+    list_outside h = full (omega (arith, h))
 
     pub list_full : start ≤ length o → (b : Bool) → b ≡ leb (end_bytes list) (length o - start) → not b ≡ true → Leaves Over o p
     list_full g b h k = full (omega (arith, g, leb-false (end_bytes list) (length o - start) (known_false h k)))

@@ -9,7 +9,7 @@ use Rattle.text.specs.Text.{Text, written_if_fits, fit_of}
 use Rattle.text.specs.declared.Fit.{Fit}
 use Rattle.text.specs.declared.Fit.TheVariants.{Written as WrittenFit, Over}
 use Rattle.text.proofs.BoolLaws.{known_false, known_true}
-use Rattle.text.proofs.WriteLaws.{placed_first, fit_room, fit_over, fit_is, fit-back}
+use Rattle.text.proofs.WriteLaws.{placed_first, fit_room, fit_over, fit_is, fit_back}
 use Rattle.path_grammar.specs.Legal.{legal, at_most255}
 use Rattle.refusal.proofs.PassedLaws.{made_legal}
 use Rattle.refusal.specs.declared.Refusal.TheVariants.{MadeTooLong, MadeIllegal}
@@ -29,11 +29,11 @@ module _ (j buf : Text) (f : Fit) (h : f ≡ fit_of j buf) (l : length buf ≡ 2
       pub made_illegal : (x : Bool) → x ≡ legal (take n mem) → not x ≡ true → (out : Text) → (Refused MadeIllegal ≡ outcome_reply (checked j)) × (out ≡ outcome_buffer (checked j) out)
       unfolding outcome_reply outcome_buffer checked at_most255
       made_illegal x g k out =
-          let b : legal j ≡ false = rw (fit-back j buf f h n e mem m) at (known_false g k) in
+          let b : legal j ≡ false = rw (fit_back j buf f h n e mem m) at (known_false g k) in
           rw (le-leb (length j) 255 made_short, b) (refl, refl)
 
       pub made_written : (x : Bool) → x ≡ legal (take n mem) → not x ≡ false → (out out' : Text) → 255 ≤ length out → out' ≡ written_if_fits 0 (take n mem) out
           → (Written n ≡ outcome_reply (checked j)) × (out' ≡ outcome_buffer (checked j) out)
       made_written x g k out out' r w =
-          let b : legal j ≡ true = rw (fit-back j buf f h n e mem m) at (known_true g k) in
-          rw (w, fit-back j buf f h n e mem m, fit_is j buf f h n e) (made_legal j made_short b out r)
+          let b : legal j ≡ true = rw (fit_back j buf f h n e mem m) at (known_true g k) in
+          rw (w, fit_back j buf f h n e mem m, fit_is j buf f h n e) (made_legal j made_short b out r)

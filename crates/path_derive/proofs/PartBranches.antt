@@ -20,7 +20,7 @@ use Rattle.path_grammar.specs.Legal.{legal, is_root}
 use Rattle.path_parts.specs.Parent.{parent_len, parent, is_property, prim_len, prim_path, split_property}
 use Rattle.path_parts.specs.Strip.{strip, strip_fit, strip_buffer}
 use Rattle.path_parts.proofs.ParentLaws.{prim_len_le, prim_legal}
-use Rattle.path_parts.proofs.StripLaws.{strip_shorter, strip_legal, strip-length, strip-memory}
+use Rattle.path_parts.proofs.StripLaws.{strip_shorter, strip_legal, strip_length, strip_memory}
 use Rattle.refusal.specs.declared.Refusal.TheVariants.{NoRoom}
 use Rattle.refusal.specs.declared.Reply.TheVariants.{Written, Refused}
 use Rattle.refusal.specs.Outcome.{outcome_reply, outcome_buffer, checked}
@@ -74,10 +74,10 @@ split_some p b h k = rw (known_true h k)
 pub strip_written : (p out : Text) (f : Fit) → length p ≤ 255 → 255 ≤ length out → f ≡ strip_fit p out → (n : ℕ) (out' : Text) → f ≡ WrittenFit n → legal p ≡ true
     → out' ≡ strip_buffer p out → (Written n ≡ outcome_reply (checked (strip p))) × (out' ≡ outcome_buffer (checked (strip p)) out)
 strip_written p out f s r h n out' e l m =
-    let i : n ≡ length (strip p) = strip-length p out f (omega arith) h n e in
+    let i : n ≡ length (strip p) = strip_length p out f (omega arith) h n e in
     let w : (Written (length (strip p)) ≡ outcome_reply (checked (strip p))) × (written_if_fits 0 (strip p) out ≡ outcome_buffer (checked (strip p)) out)
     = made_legal (strip p) (omega (arith, strip_shorter p)) (strip_legal p l) out r in
-    let o : out' ≡ written (strip p) out = strip-memory p out f (omega arith) h n e out' m in
+    let o : out' ≡ written (strip p) out = strip_memory p out f (omega arith) h n e out' m in
     (ap (λ (x : ℕ). Written x) i ∙ w.0, o ∙ sym (placed_first (strip p) out (omega (arith, strip_shorter p))) ∙ w.1)
 
 -- Lemmas for `ancestors`.

@@ -116,17 +116,17 @@ module _ (p q : Text) (k : ReadAs p q) where
     scanned : ltb (s % 64) 18 ≡ scan_accepts q
     scanned = whole q s i (head h) (λ z. n (sym k.same_length ∙ z)) (λ z. m (sym k.same_length ∙ z)) w (rw k.same_length e)
 
-    reads-refused : 18 ≤ s % 64 → 0 ≡ scan_code q p
+    reads_refused : 18 ≤ s % 64 → 0 ≡ scan_code q p
     unfolding scan_code
-    reads-refused t = rw (← scanned, le-ltb (s % 64) 18 t)
+    reads_refused t = rw (← scanned, le-ltb (s % 64) 18 t)
 
-    reads-ascii : s % 64 < 18 → Seen p seen i → seen < 128 → 1 ≡ scan_code q p
+    reads_ascii : s % 64 < 18 → Seen p seen i → seen < 128 → 1 ≡ scan_code q p
     unfolding scan_code
-    reads-ascii t v l = rw (← scanned, lt-ltb (s % 64) 18 t, seen_end p seen i e v, le-leb seen 127 (omega arith))
+    reads_ascii t v l = rw (← scanned, lt-ltb (s % 64) 18 t, seen_end p seen i e v, le-leb seen 127 (omega arith))
 
-    reads-high : s % 64 < 18 → Seen p seen i → 128 ≤ seen → 2 ≡ scan_code q p
+    reads_high : s % 64 < 18 → Seen p seen i → 128 ≤ seen → 2 ≡ scan_code q p
     unfolding scan_code
-    reads-high t v l = rw (← scanned, lt-ltb (s % 64) 18 t, seen_end p seen i e v, lt-leb seen 127 (omega arith))
+    reads_high t v l = rw (← scanned, lt-ltb (s % 64) 18 t, seen_end p seen i e v, lt-leb seen 127 (omega arith))
 
 -- Lemmas for `scan`.
 module _ (p : Text) where
@@ -140,16 +140,16 @@ module _ (p : Text) where
   scan_root h n = reads_root p p (as_it_is p) h n
 
   module _ (s seen i : ℕ) (h : get_or p 0 0 ≡ 47) (n : length p ≢ 0) (m : length p ≢ 1) (w : Reads p s i) (e : length p ≤ i) where
-    pub scan-refused : 18 ≤ s % 64 → 0 ≡ scan_code p p
-    scan-refused t = reads-refused p p (as_it_is p) s seen i h n m w e t
+    pub scan_refused : 18 ≤ s % 64 → 0 ≡ scan_code p p
+    scan_refused t = reads_refused p p (as_it_is p) s seen i h n m w e t
 
-    pub scan-ascii : s % 64 < 18 → Seen p seen i → seen < 128 → 1 ≡ scan_code p p
-    scan-ascii t v l = reads-ascii p p (as_it_is p) s seen i h n m w e t v l
+    pub scan_ascii : s % 64 < 18 → Seen p seen i → seen < 128 → 1 ≡ scan_code p p
+    scan_ascii t v l = reads_ascii p p (as_it_is p) s seen i h n m w e t v l
 
-    pub scan-high : s % 64 < 18 → Seen p seen i → 128 ≤ seen → 2 ≡ scan_code p p
-    scan-high t v l = reads-high p p (as_it_is p) s seen i h n m w e t v l
+    pub scan_high : s % 64 < 18 → Seen p seen i → 128 ≤ seen → 2 ≡ scan_code p p
+    scan_high t v l = reads_high p p (as_it_is p) s seen i h n m w e t v l
 
-pub ruleset scanning = (scan_none, scan_other, scan_root, scan-refused, scan-ascii, scan-high, seen_first, first)
+pub ruleset scanning = (scan_none, scan_other, scan_root, scan_refused, scan_ascii, scan_high, seen_first, first)
 
 -- Lemmas for `scan_end`.
 module _ (p : Text) where
@@ -171,15 +171,15 @@ module _ (p : Text) where
 
   module _ (s seen i : ℕ) (h : get_or p 0 0 ≡ 47) (n : length p ≢ 0) (m : length p ≢ 1) (w : Reads (map end_byte p) s i) (e : length p ≤ i) where
     pub end_refused : 18 ≤ s % 64 → 0 ≡ scan_code (map end_byte p) p
-    end_refused t = reads-refused p (map end_byte p) (as_end p) s seen i h n m w e t
+    end_refused t = reads_refused p (map end_byte p) (as_end p) s seen i h n m w e t
 
-    pub end-ascii : s % 64 < 18 → Seen p seen i → seen < 128 → 1 ≡ scan_code (map end_byte p) p
-    end-ascii t v l = reads-ascii p (map end_byte p) (as_end p) s seen i h n m w e t v l
+    pub end_ascii : s % 64 < 18 → Seen p seen i → seen < 128 → 1 ≡ scan_code (map end_byte p) p
+    end_ascii t v l = reads_ascii p (map end_byte p) (as_end p) s seen i h n m w e t v l
 
-    pub end-high : s % 64 < 18 → Seen p seen i → 128 ≤ seen → 2 ≡ scan_code (map end_byte p) p
-    end-high t v l = reads-high p (map end_byte p) (as_end p) s seen i h n m w e t v l
+    pub end_high : s % 64 < 18 → Seen p seen i → 128 ≤ seen → 2 ≡ scan_code (map end_byte p) p
+    end_high t v l = reads_high p (map end_byte p) (as_end p) s seen i h n m w e t v l
 
-pub ruleset end_scanning = (end_none, end_other, end_root, end_refused, end-ascii, end-high, seen_first, end_first)
+pub ruleset end_scanning = (end_none, end_other, end_root, end_refused, end_ascii, end_high, seen_first, end_first)
 
 -- What the code tells of the two conditions.
 module _ (p q : Text) (n : ℕ) (e : n ≡ scan_code q p) where

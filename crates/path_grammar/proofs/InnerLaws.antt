@@ -56,13 +56,13 @@ module _ (d : ℕ) (p : Text) where
     refuses = own_refuses p (rw h)
 
     -- The byte before the last one is not the opening bracket, since that is no closing one.
-    last-after-open : (r : Text) → ends_with_byte 93 (91 ∷ r) ≡ ends_with_byte 93 r
+    last_after_open : (r : Text) → ends_with_byte 93 (91 ∷ r) ≡ ends_with_byte 93 r
     unfolding ends_with_byte
-    last-after-open [] = refl
-    last-after-open (c ∷ r) = refl
+    last_after_open [] = refl
+    last_after_open (c ∷ r) = refl
 
-    last-is : ends_with_byte 93 p ≡ ends_with_byte 93 r
-    last-is = last_target p a r h ∙ rw (target_head p a r h) (last-after-open r)
+    last_is : ends_with_byte 93 p ≡ ends_with_byte 93 r
+    last_is = last_target p a r h ∙ rw (target_head p a r h) (last_after_open r)
 
     -- A text that is not empty is absolute if it is legal.
     absolute : (t : Text) → is_nil t ≡ false → (is_absolute t && legal_within d t) ≡ legal_within d t
@@ -93,17 +93,17 @@ module _ (d : ℕ) (p : Text) where
     tested true false e i j k t q w = nothing t (rw (and_no e) at q) w
     tested false x e i j k t q w = nothing t (rw (and_no e) at q) w
 
-    finds-some : Finds d p (inner_text p)
+    finds_some : Finds d p (inner_text p)
     unfolding inner_text legal_within legal_target closes_target
-    finds-some =
-        tested (legal_own (own_part p)) (has_property p) (ends_with_byte 93 r) refl refl refl (inner_text p) (rw (h, last-is)) (rw h)
+    finds_some =
+        tested (legal_own (own_part p)) (has_property p) (ends_with_byte 93 r) refl refl refl (inner_text p) (rw (h, last_is)) (rw h)
 
   finds : Finds d p (inner_text p)
   finds = go (target_part p) refl
     where
       go : (t : Text) → target_part p ≡ t → Finds d p (inner_text p)
       go [] h = finds_none h
-      go (a ∷ r) h = finds-some a r h
+      go (a ∷ r) h = finds_some a r h
 
 pub within_by_inner : WithinByInner
 unfolding legal_within
@@ -137,8 +137,8 @@ module _ (p : Text) where
   inner_open e h n = rw (← h, not_true e n)
 
   module _ (m : ℕ) (k : m ≡ length (take_until 91 p)) where
-    pub inner-inside : m ≤ length p
-    inner-inside = rw k (take_until_length 91 p)
+    pub inner_inside : m ≤ length p
+    inner_inside = rw k (take_until_length 91 p)
 
     at_own : take m p ≡ own_part p
     unfolding own_part
@@ -148,26 +148,26 @@ module _ (p : Text) where
     unfolding target_part
     at_target = rw k (drop_until_slice 91 p)
 
-    pub inner-short : length p - m ≤ 1 → [] ≡ inner_text p
+    pub inner_short : length p - m ≤ 1 → [] ≡ inner_text p
     unfolding inner_text drop_last
-    inner-short s = rw (← at_target) (go (drop m p) (rw (length-drop m p) s) (ends_with_byte 93 p && (legal_own (own_part p) && has_property p)))
+    inner_short s = rw (← at_target) (go (drop m p) (rw (length-drop m p) s) (ends_with_byte 93 p && (legal_own (own_part p) && has_property p)))
       where
         go : (t : Text) → length t ≤ 1 → (c : Bool) → [] ≡ cond c (drop_last (drop 1 t)) []
         go [] h c = no_text c
         go (a ∷ []) h c = no_text c
         go (a ∷ b ∷ t) h c = absurd (omega arith)
 
-    pub inner-count : m ≡ length (take m p)
-    inner-count = sym (length-take-le m p inner-inside)
+    pub inner_count : m ≡ length (take m p)
+    inner_count = sym (length-take-le m p inner_inside)
 
-    pub inner-refused : (b : Bool) → b ≡ (legal_own (take m p) && not (lacks_byte 46 (take m p))) → not b ≡ true → [] ≡ inner_text p
+    pub inner_refused : (b : Bool) → b ≡ (legal_own (take m p) && not (lacks_byte 46 (take m p))) → not b ≡ true → [] ≡ inner_text p
     unfolding inner_text has_property
-    inner-refused b e n = rw (← at_own, ← e, not_true b n, and_no (ends_with_byte 93 p))
+    inner_refused b e n = rw (← at_own, ← e, not_true b n, and_no (ends_with_byte 93 p))
 
-    pub inner-is : (b e : Bool) → b ≡ (legal_own (take m p) && not (lacks_byte 46 (take m p))) → not b ≡ false → e ≡ ends_with_byte 93 p → not e ≡ false
+    pub inner_is : (b e : Bool) → b ≡ (legal_own (take m p) && not (lacks_byte 46 (take m p))) → not b ≡ false → e ≡ ends_with_byte 93 p → not e ≡ false
         → take (length p - 1 - (m + 1)) (drop (m + 1) p) ≡ inner_text p
     unfolding inner_text has_property
-    inner-is b e f n h i =
+    inner_is b e f n h i =
         let j : length p - 1 - (m + 1) ≡ length p - (m + 1) - 1 = omega arith in
         rw (← at_own, ← f, ← h, not_false b n, not_false e i, ← at_target, drop_last_slice (drop 1 (drop m p)), drop-drop 1 m p, length-drop (m + 1) p, j)
 

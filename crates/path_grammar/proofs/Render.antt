@@ -288,11 +288,11 @@ module _ (p : g.Prim) (r : List g.Prim) where
   target_prims x = target_none (own_text p r x) (own_unbracketed_text x)
 
   module _ (x : g.Property) (t : Text) where
-    pub own-target : own_part (own_text p r (some x) ++ bracket_text t) ≡ own_text p r (some x)
+    pub own_target : own_part (own_text p r (some x) ++ bracket_text t) ≡ own_text p r (some x)
     unfolding bracket_text own_part take_until
-    own-target =
+    own_target =
         own_after (own_text p r (some x)) (bracket_text t) (own_unbracketed_text (some x)) ∙ append-nil (own_text p r (some x))
 
-    pub target-target : target_part (own_text p r (some x) ++ bracket_text t) ≡ bracket_text t
+    pub target_target : target_part (own_text p r (some x) ++ bracket_text t) ≡ bracket_text t
     unfolding bracket_text target_part drop_until
-    target-target = target_after (own_text p r (some x)) (bracket_text t) (own_unbracketed_text (some x))
+    target_target = target_after (own_text p r (some x)) (bracket_text t) (own_unbracketed_text (some x))

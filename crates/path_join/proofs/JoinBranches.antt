@@ -122,14 +122,14 @@ module _ (s t r : Text) (k f : ℕ) (l : LaysOut s t r k f) where
 
   -- `join`
   module _ (out : Text) where
-    pub join-over : length out < length t + k + length (take (length r - f) (drop f r)) → (Over ≡ fit_of (join s t r) out) × (out ≡ written_if_fits 0 (join s t r) out)
-    join-over h = over_long (join s t r) out (omega (arith, joined_length))
+    pub join_over : length out < length t + k + length (take (length r - f) (drop f r)) → (Over ≡ fit_of (join s t r) out) × (out ≡ written_if_fits 0 (join s t r) out)
+    join_over h = over_long (join s t r) out (omega (arith, joined_length))
 
-    pub join-fits : (x y z : Text) → length t + k + length (take (length r - f) (drop f r)) ≤ length out
+    pub join_fits : (x y z : Text) → length t + k + length (take (length r - f) (drop f r)) ≤ length out
         → x ≡ written_if_fits 0 t out → y ≡ written_if_fits (length t) (take k (47 ∷ [])) x → z ≡ written_if_fits (length t + k) (take (length r - f) (drop f r)) y
         → (Written (length t + k + length (take (length r - f) (drop f r))) ≡ fit_of (join s t r) out) × (z ≡ written_if_fits 0 (join s t r) out)
     unfolding fit_of
-    join-fits x y z h ex ey ez =
+    join_fits x y z h ex ey ez =
         let a : Text = take k (47 ∷ []) in
         let b : Text = body s r in
         let m : length (t ++ a) ≡ length t + k = omega (arith, length-append t a, slash_length) in
@@ -152,22 +152,22 @@ module _ (s t r : Text) (k f : ℕ) (l : LaysOut s t r k f) where
 
   -- `is_join`
   module _ (x : Text) where
-    join-equal : equal (join s t r) x ≡ (starts_with t x && (starts_with (take k (47 ∷ [])) (drop (length t) x) && equal (body s r) (drop (length t + k) x)))
-    join-equal =
+    join_equal : equal (join s t r) x ≡ (starts_with t x && (starts_with (take k (47 ∷ [])) (drop (length t) x) && equal (body s r) (drop (length t + k) x)))
+    join_equal =
         let a : Text = take k (47 ∷ []) in
         rw (← joined) (equal_append t (a ++ body s r) x ∙ rw (equal_append a (body s r) (drop (length t) x), slash_length, drop-drop))
 
-    pub join-unequal : length x ≢ length t + k + length (take (length r - f) (drop f r)) → false ≡ equal (join s t r) x
-    join-unequal d = equal_lengths (join s t r) x (λ z. d (omega (arith, joined_length)))
+    pub join_unequal : length x ≢ length t + k + length (take (length r - f) (drop f r)) → false ≡ equal (join s t r) x
+    join_unequal d = equal_lengths (join s t r) x (λ z. d (omega (arith, joined_length)))
 
     module _ (a : Bool) (h : a ≡ starts_with t x) where
       pub join_other : not a ≡ true → false ≡ equal (join s t r) x
-      join_other p = sym (join-equal ∙ rw (known_false h p))
+      join_other p = sym (join_equal ∙ rw (known_false h p))
 
       module _ (p : not a ≡ false) (b : Bool) (i : b ≡ starts_with (take k (47 ∷ [])) (drop (length t) x)) where
-        pub join-unseparated : not b ≡ true → false ≡ equal (join s t r) x
-        join-unseparated m = sym (join-equal ∙ rw (known_true h p, known_false i m))
+        pub join_unseparated : not b ≡ true → false ≡ equal (join s t r) x
+        join_unseparated m = sym (join_equal ∙ rw (known_true h p, known_false i m))
 
-        pub join-same : not b ≡ false → (c : Bool) → c ≡ equal (take (length r - f) (drop f r)) (take (length x - (length t + k)) (drop (length t + k) x))
+        pub join_same : not b ≡ false → (c : Bool) → c ≡ equal (take (length r - f) (drop f r)) (take (length x - (length t + k)) (drop (length t + k) x))
             → c ≡ equal (join s t r) x
-        join-same m c n = n ∙ rw (rest_whole r f, l.body_is, rest_whole x (length t + k)) (sym (join-equal ∙ rw (known_true h p, known_true i m)))
+        join_same m c n = n ∙ rw (rest_whole r f, l.body_is, rest_whole x (length t + k)) (sym (join_equal ∙ rw (known_true h p, known_true i m)))

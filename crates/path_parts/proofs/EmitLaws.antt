@@ -34,48 +34,48 @@ over_one j b out h = rw add-one (set_split out j b h)
 
 module _ (m : Bool) (a : ℕ) (r out : Text) (j : ℕ) where
   module _ (b : Bool) (t : m ≡ true) (f : b ≡ starts_name_after a r) where
-    piece-slash : b ≡ true → stripped_byte m a r ≡ 47 ∷ []
+    piece_slash : b ≡ true → stripped_byte m a r ≡ 47 ∷ []
     unfolding stripped_byte
-    piece-slash h = rw (t, told f h)
+    piece_slash h = rw (t, told f h)
 
     piece_inside : b ≡ false → stripped_byte m a r ≡ []
     unfolding stripped_byte
     piece_inside h = rw (t, told f h)
 
-    pub slash-long : b ≡ true → j + 1 ≡ j + length (stripped_byte m a r)
-    slash-long h = rw (piece-slash h)
+    pub slash_long : b ≡ true → j + 1 ≡ j + length (stripped_byte m a r)
+    slash_long h = rw (piece_slash h)
 
-    pub slash-over : b ≡ true → j < length out → set out j 47 ≡ written_at j (stripped_byte m a r) out
-    slash-over h l = rw (piece-slash h) (over_one j 47 out l)
+    pub slash_over : b ≡ true → j < length out → set out j 47 ≡ written_at j (stripped_byte m a r) out
+    slash_over h l = rw (piece_slash h) (over_one j 47 out l)
 
-    pub inside-long : b ≡ false → j ≡ j + length (stripped_byte m a r)
-    inside-long h = rw (piece_inside h, add-zero)
+    pub inside_long : b ≡ false → j ≡ j + length (stripped_byte m a r)
+    inside_long h = rw (piece_inside h, add-zero)
 
-    pub inside-over : b ≡ false → out ≡ written_at j (stripped_byte m a r) out
-    inside-over h = rw (piece_inside h) (over_none j out)
+    pub inside_over : b ≡ false → out ≡ written_at j (stripped_byte m a r) out
+    inside_over h = rw (piece_inside h) (over_none j out)
 
   module _ (t : m ≡ false) where
-    piece-open : a ≡ 123 → stripped_byte m a r ≡ []
+    piece_open : a ≡ 123 → stripped_byte m a r ≡ []
     unfolding stripped_byte
-    piece-open h = rw (t, h)
+    piece_open h = rw (t, h)
 
-    piece-itself : a ≢ 123 → stripped_byte m a r ≡ a ∷ []
+    piece_itself : a ≢ 123 → stripped_byte m a r ≡ a ∷ []
     unfolding stripped_byte
-    piece-itself h = rw (t, ne_eqb a 123 h)
+    piece_itself h = rw (t, ne_eqb a 123 h)
 
-    pub open-long : a ≡ 123 → j ≡ j + length (stripped_byte m a r)
-    open-long h = rw (piece-open h, add-zero)
+    pub open_long : a ≡ 123 → j ≡ j + length (stripped_byte m a r)
+    open_long h = rw (piece_open h, add-zero)
 
-    pub open-over : a ≡ 123 → out ≡ written_at j (stripped_byte m a r) out
-    open-over h = rw (piece-open h) (over_none j out)
+    pub open_over : a ≡ 123 → out ≡ written_at j (stripped_byte m a r) out
+    open_over h = rw (piece_open h) (over_none j out)
 
-    pub itself-long : a ≢ 123 → j + 1 ≡ j + length (stripped_byte m a r)
-    itself-long h = rw (piece-itself h)
+    pub itself_long : a ≢ 123 → j + 1 ≡ j + length (stripped_byte m a r)
+    itself_long h = rw (piece_itself h)
 
-    pub itself-over : a ≢ 123 → j < length out → set out j a ≡ written_at j (stripped_byte m a r) out
-    itself-over h l = rw (piece-itself h) (over_one j a out l)
+    pub itself_over : a ≢ 123 → j < length out → set out j a ≡ written_at j (stripped_byte m a r) out
+    itself_over h l = rw (piece_itself h) (over_one j a out l)
 
-pub ruleset emits = (inside_inside, inside_outside, slash-long, slash-over, inside-long, inside-over, open-long, open-over, itself-long, itself-over)
+pub ruleset emits = (inside_inside, inside_outside, slash_long, slash_over, inside_long, inside_over, open_long, open_over, itself_long, itself_over)
 
 -- The loop invariant of `strip_own`: what has been written, and what remains to be written.
 pub record Sofar (p out₀ out : Text) (m : Bool) (i j : ℕ) : Type 0 where
@@ -154,25 +154,25 @@ module _ (p o d : Text) (w : o ≡ own_part p) (l : length p ≤ length d) where
   own_long = let k : length p - length o ≡ length (target_part p) = sym (length-drop (length o) p) ∙ ap length tail_is in omega (arith, own_at)
 
   module _ (j : ℕ) (k : j ≡ length (strip_from false (take (length o) p))) where
-    pub strip-less : j ≤ length o
-    strip-less = rw k (omega (arith, from_shorter false (take (length o) p), own_count))
+    pub strip_less : j ≤ length o
+    strip_less = rw k (omega (arith, from_shorter false (take (length o) p), own_count))
 
-    pub strip-left : length o - j ≤ length p
-    strip-left = omega (arith, own_at)
+    pub strip_left : length o - j ≤ length p
+    strip_left = omega (arith, own_at)
 
-    strip-long : length p - (length o - j) ≡ length (strip_from false (take (length o) p) ++ target_part p)
-    strip-long = rw (length-append (strip_from false (take (length o) p)) (target_part p)) (omega (arith, own_long, strip-less))
+    strip_long : length p - (length o - j) ≡ length (strip_from false (take (length o) p) ++ target_part p)
+    strip_long = rw (length-append (strip_from false (take (length o) p)) (target_part p)) (omega (arith, own_long, strip_less))
 
-    pub strip-fits : Written (length p - (length o - j)) ≡ strip_fit p d
+    pub strip_fits : Written (length p - (length o - j)) ≡ strip_fit p d
     unfolding strip_fit strip
-    strip-fits = rw (le-leb (length p) (length d) l, ← cut_is) (ap Written strip-long)
+    strip_fits = rw (le-leb (length p) (length d) l, ← cut_is) (ap Written strip_long)
 
-    pub strip-done : (mem out : Text) → mem ≡ written (strip_from false (take (length o) p)) d → out ≡ written_if_fits j (take (length p - length o) (drop (length o) p)) mem
+    pub strip_done : (mem out : Text) → mem ≡ written (strip_from false (take (length o) p)) d → out ≡ written_if_fits j (take (length p - length o) (drop (length o) p)) mem
         → out ≡ strip_buffer p d
     unfolding strip_buffer strip
-    strip-done mem out m e =
+    strip_done mem out m e =
         rw (le-leb (length p) (length d) l, ← cut_is)
         (e ∙ rw (m, k, rest_whole p (length o), tail_is)
         (placed_next (strip_from false (take (length o) p)) (target_part p) d (omega (arith, own_long, own_count, from_shorter false (take (length o) p)))))
 
-pub ruleset strip_ends = (strip_over, strip_kept, own_at, own_count, own_fits, strip-less, strip-left, strip-fits, strip-done)
+pub ruleset strip_ends = (strip_over, strip_kept, own_at, own_count, own_fits, strip_less, strip_left, strip_fits, strip_done)

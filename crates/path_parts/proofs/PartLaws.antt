@@ -79,24 +79,24 @@ module _ (p : Text) (i : ℕ) (l : 0 < i) (h : i ≤ length p) (e : last_part_st
         let k : 0 + (i - 1) ≡ i - 1 = omega arith in
         rw k at (last_after p (i - 1) 0 (last_here ∙ rw (told f t)))
 
-    pub parent-first : b ≡ true → i - 1 ≡ 0 → 1 ≡ own_parent_len p
+    pub parent_first : b ≡ true → i - 1 ≡ 0 → 1 ≡ own_parent_len p
     unfolding own_parent_len
-    parent-first t z = rw (last_at t, z)
+    parent_first t z = rw (last_at t, z)
 
-    pub parent-at : b ≡ true → i - 1 ≢ 0 → i - 1 ≡ own_parent_len p
+    pub parent_at : b ≡ true → i - 1 ≢ 0 → i - 1 ≡ own_parent_len p
     unfolding own_parent_len
-    parent-at t n = let k : suc (i - 2) ≡ i - 1 = omega arith in rw (last_at t, ← k)
+    parent_at t n = let k : suc (i - 2) ≡ i - 1 = omega arith in rw (last_at t, ← k)
 
     module _ (c : Bool) (g : c ≡ starts_name_after (get_or p (i - 1) 0) (drop (i - 1 + 1) p)) where
-      pub parent-after : b ≡ false → c ≡ true → i - 1 + 1 ≡ own_parent_len p
+      pub parent_after : b ≡ false → c ≡ true → i - 1 + 1 ≡ own_parent_len p
       unfolding own_parent_len part_offset
-      parent-after t u =
+      parent_after t u =
           let k : 1 + (i - 1) ≡ suc (i - 1) = omega arith in
           rw (rw k at (last_after p (i - 1) 1 (last_here ∙ rw (told f t, told g u))), add-one)
 
-      pub parent-on : b ≡ false → c ≡ false → last_part_start (drop (i - 1) p) ≡ none
+      pub parent_on : b ≡ false → c ≡ false → last_part_start (drop (i - 1) p) ≡ none
       unfolding part_offset
-      parent-on t u = last_here ∙ rw (told f t, told g u)
+      parent_on t u = last_here ∙ rw (told f t, told g u)
 
 pub parent_begin : (p : Text) → last_part_start (drop (length p) p) ≡ none
 unfolding last_part_start
@@ -106,7 +106,7 @@ pub parent_end_lem : (p : Text) (i : ℕ) → i ≤ 0 → last_part_start (drop 
 unfolding own_parent_len
 parent_end_lem p i h e = let k : i ≡ 0 = omega arith in rw (rw k at e)
 
-pub ruleset parents = (parent-first, parent-at, parent-after, parent-on, parent_begin, parent_end_lem)
+pub ruleset parents = (parent_first, parent_at, parent_after, parent_on, parent_begin, parent_end_lem)
 
 -- Lemmas for `parent_len`.
 module _ (p : Text) (b : Bool) (f : b ≡ ends_with_byte 93 p) where

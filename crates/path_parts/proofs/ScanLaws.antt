@@ -114,8 +114,8 @@ module _ (p d : Text) (count : ℕ) (c : count ≡ length (ancestors p)) where
   lens_kept h = put_over d (ancestor_lens p) 0 (omega arith) (rw (lens_count p, ← c, sub-zero) h)
 
   module _ (now : Text) (i : ℕ) (g : count ≤ length d) (e : now ≡ paste d 0 (ancestor_lens p) i) where
-    pub lens-on : (n : ℕ) → Ahead p i n → n ≤ length p → i < count → set now i n ≡ paste d 0 (ancestor_lens p) (i + 1)
-    lens-on n a l h =
+    pub lens_on : (n : ℕ) → Ahead p i n → n ≤ length p → i < count → set now i n ≡ paste d 0 (ancestor_lens p) (i + 1)
+    lens_on n a l h =
         let k : i < length (ancestor_lens p) = rw (lens_count p, ← c) h in
         rw (zero-add i, ahead_first p i n a l k) at (put_on d (ancestor_lens p) now 0 i (omega arith) (rw (lens_count p, ← c, sub-zero) g) k e)
 
@@ -126,4 +126,4 @@ module _ (p d : Text) (count : ℕ) (c : count ≡ length (ancestors p)) where
   unfolding fit_of
   lens_fit g = rw (lens_count p, ← c, le-leb count (length d) g)
 
-pub ruleset writes = (parent_inside, beginning_long, ahead_begin, ahead_on, lens_over, lens_kept, lens-on, lens_end, lens_fit, put_begin, put_length)
+pub ruleset writes = (parent_inside, beginning_long, ahead_begin, ahead_on, lens_over, lens_kept, lens_on, lens_end, lens_fit, put_begin, put_length)

@@ -345,19 +345,19 @@ module _ (p out : Text) (f : Fit) (room : length p ≤ length out) (h : f ≡ st
   strip_never e = let x : Over ≡ Written (length (strip p)) = sym e ∙ fit_strip in let z : ◌≡◌ {A = ℕ} 0 1 = cc in omega arith
 
   module _ (n : ℕ) (e : f ≡ Written n) where
-    pub strip-length : n ≡ length (strip p)
-    strip-length = let x : Written n ≡ Written (length (strip p)) = sym e ∙ fit_strip in cc
+    pub strip_length : n ≡ length (strip p)
+    strip_length = let x : Written n ≡ Written (length (strip p)) = sym e ∙ fit_strip in cc
 
     module _ (mem : Text) (m : mem ≡ strip_buffer p out) where
-      pub strip-memory : mem ≡ written (strip p) out
+      pub strip_memory : mem ≡ written (strip p) out
       unfolding strip_buffer
-      strip-memory = m ∙ rw (le-leb (length p) (length out) room) refl
+      strip_memory = m ∙ rw (le-leb (length p) (length out) room) refl
 
-      pub strip-back : take n mem ≡ strip p
-      strip-back = rw (strip-memory, strip-length) (read_back (strip p) out)
+      pub strip_back : take n mem ≡ strip p
+      strip_back = rw (strip_memory, strip_length) (read_back (strip p) out)
 
-      pub strip-part : n ≡ length (take n mem)
-      strip-part = strip-length ∙ ap length (sym strip-back)
+      pub strip_part : n ≡ length (take n mem)
+      strip_part = strip_length ∙ ap length (sym strip_back)
 
       pub strip_inside : n ≤ length mem
-      strip_inside = omega (arith, strip-part, length-take n mem)
+      strip_inside = omega (arith, strip_part, length-take n mem)

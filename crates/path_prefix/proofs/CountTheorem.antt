@@ -15,7 +15,7 @@ use Rattle.path_grammar.specs.Grammar.{name_text, word_text, selection_text, sel
 use Rattle.path_prefix.specs.Elements.{count_elements, selection_count, prim_count, absolute_count, path_count, CountsAgree}
 use Rattle.path_grammar.proofs.NameLaws.{are_name_bytes, name_bytes, word_bytes}
 use Rattle.path_grammar.proofs.RenderLacks.{not_name}
-use Rattle.path_grammar.proofs.Render.{prims_named, own_prims, own-target}
+use Rattle.path_grammar.proofs.Render.{prims_named, own_prims, own_target}
 
 -- The text of prims begins with a name (`prims_named`); the text of a property does not.
 property_starts : (x : Option g.Property) → starts_name (property_text x) ≡ false
@@ -129,7 +129,7 @@ absolute_counted : (f : Bool) {d : ℕ} (q : g.Absolute d) → count_elements f 
 unfolding absolute_text absolute_count count_elements own_part take_until
 absolute_counted f g.root = refl
 absolute_counted f (g.prims p r x) = ap (count_elements f) (own_prims p r x) ∙ own_counted f p r x
-absolute_counted f (g.target p r x q) = ap (count_elements f) (own-target p r x (absolute_text q)) ∙ own_counted f p r (some x)
+absolute_counted f (g.target p r x q) = ap (count_elements f) (own_target p r x (absolute_text q)) ∙ own_counted f p r (some x)
 
 pub counted : CountsAgree
 unfolding render path_count count_elements own_part take_until

@@ -41,10 +41,10 @@ module _ (p : Text) (rest : Rest) where
   text_none e = rw e
 
   module _ (n : ℕ) (e : rest ≡ From n) where
-    pub text-past : length p < n → [] ≡ rest_text p rest
+    pub text_past : length p < n → [] ≡ rest_text p rest
     unfolding rest_text
-    text-past l = let inside : length p ≤ n = omega arith in rw e (sym (drop_of_length-le p inside))
+    text_past l = let inside : length p ≤ n = omega arith in rw e (sym (drop_of_length-le p inside))
 
-    pub text-inside : take (length p - n) (drop n p) ≡ rest_text p rest
+    pub text_inside : take (length p - n) (drop n p) ≡ rest_text p rest
     unfolding rest_text
-    text-inside = rw e (rest_whole p n)
+    text_inside = rw e (rest_whole p n)

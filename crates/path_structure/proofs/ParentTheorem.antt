@@ -13,7 +13,7 @@ use Rattle.path_grammar.specs.Grammar as g
 use Rattle.path_grammar.specs.Grammar.{name_text, more_text, prims_text, property_text, own_text, bracket_text, absolute_text, render}
 use Rattle.path_grammar.proofs.OwnLaws.{own_slice}
 use Rattle.path_grammar.proofs.LegalLaws.{own_no_close_bracket}
-use Rattle.path_grammar.proofs.Render.{prims_named, own_render, own-target}
+use Rattle.path_grammar.proofs.Render.{prims_named, own_render, own_target}
 use Rattle.path_parts.specs.Parent.{starts_part, starts_name_after, part_offset, last_part_start, own_parent_len, parent_len, has_parent, parent}
 use Rattle.path_parts.proofs.LastLaws.{none_on, before}
 use Rattle.path_structure.specs.Structure.{drop_last_part, path_of_prims, absolute_parent, absolute_option, parent_of, render_option}
@@ -97,7 +97,7 @@ unfolding parent
 target_parent p r x t =
     let whole : Text = own_text p r (some x) ++ bracket_text t in
     ap (λ (b : Bool). cond b (some (take (parent_len whole) whole)) none) (has_parent_lem p r x t)
-    ∙ ap some (closed_parent whole (bracket_closed (own_text p r (some x)) t) ∙ own-target p r x t)
+    ∙ ap some (closed_parent whole (bracket_closed (own_text p r (some x)) t) ∙ own_target p r x t)
 
 -- The text of an absolute path, if there is one.
 unfoldable pub text_option : {d : ℕ} → Option (g.Absolute d) → Option Text

@@ -15,7 +15,7 @@ use Rattle.path_grammar.specs.Grammar as g
 use Rattle.path_grammar.specs.Grammar.{name_text, word_text, selection_text, selections_text, prim_text, prim_separator, prims_text, property_text, own_text, bracket_text, absolute_text, render}
 use Rattle.path_grammar.proofs.OwnLaws.{own_all, own_lacks}
 use Rattle.path_grammar.proofs.RenderLacks.{name_lacks, prims_dotless, close_no_name}
-use Rattle.path_grammar.proofs.Render.{prims_named, own_dotted, own_prims, target_prims, own-target, target-target}
+use Rattle.path_grammar.proofs.Render.{prims_named, own_dotted, own_prims, target_prims, own_target, target_target}
 use Rattle.path_parts.specs.Parent.{own_parent_len, is_property, prim_len, prim_path, split_property}
 use Rattle.path_parts.proofs.ParentLaws.{prim_of_own}
 use Rattle.path_structure.specs.Structure.{drop_last_part, path_of_prims, any_selection, ends_in_selection, absolute_prim_path, prim_path_of, absolute_split, split_property_of, render_option}
@@ -116,7 +116,7 @@ unfolding absolute_prim_path absolute_text prim_path prim_len has_property own_p
 absolute_prim_paths g.root = refl
 absolute_prim_paths (g.prims {d} p r none) = prims_prim d p r
 absolute_prim_paths (g.prims p r (some x)) = property_prim p r x
-absolute_prim_paths (g.target p r x q) = prim_own (own_text p r (some x) ++ bracket_text (absolute_text q)) ∙ ap prim_path (own-target p r x (absolute_text q)) ∙ property_prim p r x
+absolute_prim_paths (g.target p r x q) = prim_own (own_text p r (some x) ++ bracket_text (absolute_text q)) ∙ ap prim_path (own_target p r x (absolute_text q)) ∙ property_prim p r x
 
 pub prim_paths : (p : g.Path) → prim_path (render p) ≡ render (prim_path_of p)
 unfolding prim_path_of render prim_path prim_len has_property own_part take_until lacks_byte ends_with_byte
@@ -136,7 +136,7 @@ target_is_none : (p : g.Prim) (r : List g.Prim) (x : g.Property) (t : Text) → 
 unfolding is_property bracket_text
 target_is_none p r x t =
     let w : Text = own_text p r (some x) ++ bracket_text t in
-    ap (λ (y : Text). has_property w && is_nil y) (target-target p r x t) ∙ and_no (has_property w)
+    ap (λ (y : Text). has_property w && is_nil y) (target_target p r x t) ∙ and_no (has_property w)
 
 split_some : (w : Text) → is_property w ≡ true → split_property w ≡ some (prim_path w)
 unfolding split_property

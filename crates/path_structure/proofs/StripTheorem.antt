@@ -11,7 +11,7 @@ use Rattle.path_grammar.specs.Legal.{is_name_start_byte, is_name_byte, starts_na
 use Rattle.path_grammar.specs.Grammar as g
 use Rattle.path_grammar.specs.Grammar.{name_text, word_text, selection_text, selections_text, prim_text, prim_separator, prims_text, more_text, property_text, own_text, bracket_text, absolute_text, render}
 use Rattle.path_grammar.proofs.RenderLacks.{name_lacks, word_lacks, close_no_name}
-use Rattle.path_grammar.proofs.Render.{prims_named, own_prims, target_prims, own-target, target-target}
+use Rattle.path_grammar.proofs.Render.{prims_named, own_prims, target_prims, own_target, target_target}
 use Rattle.path_parts.specs.Parent.{starts_name_after}
 use Rattle.path_parts.specs.Strip.{stripped_byte, strip_from, strip}
 use Rattle.path_structure.specs.Structure.{strip_prim, absolute_strip, strip_of}
@@ -151,8 +151,8 @@ absolute_strips (g.prims p r x) =
 absolute_strips (g.target p r x q) =
     let t : Text = absolute_text q in
     let w : Text = own_text p r (some x) ++ bracket_text t in
-    ap (λ (y : Text). strip_from false y ++ target_part w) (own-target p r x t)
-    ∙ ap (λ (y : Text). strip_from false (own_text p r (some x)) ++ y) (target-target p r x t) ∙ ap (λ (y : Text). y ++ bracket_text t) (own_stripped p r (some x))
+    ap (λ (y : Text). strip_from false y ++ target_part w) (own_target p r x t)
+    ∙ ap (λ (y : Text). strip_from false (own_text p r (some x)) ++ y) (target_target p r x t) ∙ ap (λ (y : Text). y ++ bracket_text t) (own_stripped p r (some x))
 
 pub strips : (p : g.Path) → strip (render p) ≡ render (strip_of p)
 unfolding strip strip_from render strip_of own_part target_part take_until drop_until

@@ -145,14 +145,14 @@ module _ (o : Option Text) (buf : Text) (f : Replaced) (h : f ≡ replaced_reply
     back : take n mem ≡ known.0.text
     back = ap (take n) m ∙ ap (λ (k : ℕ). take k (replaced_buffer o buf)) known.1.0 ∙ read_some o buf known.0 known.1.1
 
-    pub made-size : n ≡ length (take n mem)
-    made-size = known.1.0 ∙ ap length (sym back)
+    pub made_size : n ≡ length (take n mem)
+    made_size = known.1.0 ∙ ap length (sym back)
 
     pub made_inside : n ≤ length mem
-    made_inside = omega (arith, made-size, length-take n mem)
+    made_inside = omega (arith, made_size, length-take n mem)
 
     pub made_short : length (take n mem) ≤ 255
-    made_short = omega (arith, made-size, known.1.0, known.1.1)
+    made_short = omega (arith, made_size, known.1.0, known.1.1)
 
     pub made_checked : (r : Reply) (out out' : Text) → ReturnsPath (checked (take n mem)) r out out' → ReturnsPath (checked_option o) r out out'
     unfolding checked_option

@@ -75,14 +75,14 @@ module _ (p : Text) where
     unfolding close_len
     close_here z = omega (arith, rw (← k, z) at read)
 
-    pub close-on : n ≢ 0 → Reached p n (i + 1)
+    pub close_on : n ≢ 0 → Reached p n (i + 1)
     unfolding Reached close_len
-    close-on z = rw (add-one i) (omega (arith, rw (← k, ne_eqb n 0 z) at read))
+    close_on z = rw (add-one i) (omega (arith, rw (← k, ne_eqb n 0 z) at read))
 
   pub depth_bound : (d i n : ℕ) → n ≡ bracket_depth d (get_or p i 0) → d ≤ i → n ≤ i + 1
   depth_bound d i n k l = omega (arith, depth_step d (get_or p i 0))
 
-pub ruleset closing = (close_first, close_end, close_here, close-on, depth_bound)
+pub ruleset closing = (close_first, close_end, close_here, close_on, depth_bound)
 
 -- Lemmas for `target_brackets`.
 module _ (p : Text) (o : ℕ) (h : o ≡ length (take_until 91 p)) where
@@ -98,21 +98,21 @@ module _ (p : Text) (o : ℕ) (h : o ≡ length (take_until 91 p)) where
   open_part = rest_whole p o ∙ rw h (drop_until_slice 91 p)
 
   module _ (n : ℕ) (k : n ≡ close_len 0 (take (length p - o) (drop o p))) where
-    open-closed : n ≡ closed_at p
+    open_closed : n ≡ closed_at p
     unfolding closed_at
-    open-closed = rw open_part at k
+    open_closed = rw open_part at k
 
-    pub brackets-none : length p - o ≤ n → Nothing ≡ target_brackets p
+    pub brackets_none : length p - o ≤ n → Nothing ≡ target_brackets p
     unfolding target_brackets has_target
-    brackets-none l =
-        rw (le-ltb (closed_at p) (length (target_part p)) (omega (arith, parts_length p, open_own, open-closed)))
+    brackets_none l =
+        rw (le-ltb (closed_at p) (length (target_part p)) (omega (arith, parts_length p, open_own, open_closed)))
 
-    pub brackets-some : n < length p - o → Between o (o + n) ≡ target_brackets p
+    pub brackets_some : n < length p - o → Between o (o + n) ≡ target_brackets p
     unfolding target_brackets has_target
-    brackets-some l =
-        rw (lt-ltb (closed_at p) (length (target_part p)) (omega (arith, parts_length p, open_own, open-closed)), open_own, open-closed)
+    brackets_some l =
+        rw (lt-ltb (closed_at p) (length (target_part p)) (omega (arith, parts_length p, open_own, open_closed)), open_own, open_closed)
 
-pub ruleset brackets = (open_inside, brackets-none, brackets-some)
+pub ruleset brackets = (open_inside, brackets_none, brackets_some)
 
 -- Three texts written one after the other.
 three_written : (x y z out : Text) (n : ℕ) → n ≡ length x → length (x ++ (y ++ z)) ≤ length out
@@ -165,65 +165,65 @@ module _ (p : Text) (b : Brackets) (h : b ≡ target_brackets p) where
     at_open : o ≡ length (own_part p)
     at_open = found.1.0
 
-    at-close : c ≡ length (own_part p) + closed_at p
-    at-close = found.1.1
+    at_close : c ≡ length (own_part p) + closed_at p
+    at_close = found.1.1
 
     pub between_start : o + 1 ≤ c
-    between_start = omega (arith, at_open, at-close, known.closes)
+    between_start = omega (arith, at_open, at_close, known.closes)
 
-    pub between-end : c ≤ length p
-    between-end = omega (arith, at-close, known.inside, parts_length p)
+    pub between_end : c ≤ length p
+    between_end = omega (arith, at_close, known.inside, parts_length p)
 
-    pub open-fits : o + 1 ≤ length p
-    open-fits = omega (arith, between_start, between-end)
+    pub open_fits : o + 1 ≤ length p
+    open_fits = omega (arith, between_start, between_end)
 
-    pub kept-sum : o + 1 + (length p - c) ≤ length p
-    kept-sum = omega (arith, between_start, between-end)
+    pub kept_sum : o + 1 + (length p - c) ≤ length p
+    kept_sum = omega (arith, between_start, between_end)
 
     parts : own_part p ++ 91 ∷ known.rest ≡ p
     parts = rw known.starts at (own_parts p)
 
     -- The text between the brackets.
-    pub text-between : take (c - (o + 1)) (drop (o + 1) p) ≡ or_empty (embedded_target p)
-    text-between =
+    pub text_between : take (c - (o + 1)) (drop (o + 1) p) ≡ or_empty (embedded_target p)
+    text_between =
         let n : ℕ = close_len 1 known.rest in
-        let i : c - (o + 1) ≡ n = omega (arith, at_open, at-close, known.closes) in
+        let i : c - (o + 1) ≡ n = omega (arith, at_open, at_close, known.closes) in
         let j : drop (o + 1) p ≡ known.rest =
         ap (λ (m : ℕ). drop (m + 1) p) at_open ∙ ap (drop (length (own_part p) + 1)) (sym parts) ∙ drop-append-add (own_part p) (91 ∷ known.rest) 1 in
         rw (embedded_some p found.0, i, j, known.closes, known.starts)
 
     -- The three texts that a replacement writes.
-    pub head-size : o + 1 ≡ length (take (o + 1) p)
-    head-size = sym (length-take-le (o + 1) p open-fits)
+    pub head_size : o + 1 ≡ length (take (o + 1) p)
+    head_size = sym (length-take-le (o + 1) p open_fits)
 
-    head-is : take (o + 1) p ≡ own_part p ++ 91 ∷ []
-    head-is = rw at_open (ap (take (length (own_part p) + 1)) (sym parts) ∙ take-append-add (own_part p) (91 ∷ known.rest) 1)
+    head_is : take (o + 1) p ≡ own_part p ++ 91 ∷ []
+    head_is = rw at_open (ap (take (length (own_part p) + 1)) (sym parts) ∙ take-append-add (own_part p) (91 ∷ known.rest) 1)
 
     tail_is : drop c p ≡ drop (closed_at p) (target_part p)
-    tail_is = rw at-close (ap (drop (length (own_part p) + closed_at p)) (sym (own_parts p)) ∙ drop-append-add (own_part p) (target_part p) (closed_at p))
+    tail_is = rw at_close (ap (drop (length (own_part p) + closed_at p)) (sym (own_parts p)) ∙ drop-append-add (own_part p) (target_part p) (closed_at p))
 
     module _ (t out : Text) where
       replaced_is : replace_embedded_target p t ≡ some (take (o + 1) p ++ (t ++ drop c p))
       replaced_is =
-          replaced_some p t found.0 ∙ rw (head-is, tail_is, append_assoc (own_part p) (91 ∷ []) (t ++ drop (closed_at p) (target_part p)))
+          replaced_some p t found.0 ∙ rw (head_is, tail_is, append_assoc (own_part p) (91 ∷ []) (t ++ drop (closed_at p) (target_part p)))
 
-      replaced-length : length (take (o + 1) p ++ (t ++ drop c p)) ≡ o + 1 + length t + (length p - c)
-      replaced-length =
-          rw (length-append (take (o + 1) p) (t ++ drop c p), length-append t (drop c p), length-drop c p, ← head-size) (omega arith)
+      replaced_length : length (take (o + 1) p ++ (t ++ drop c p)) ≡ o + 1 + length t + (length p - c)
+      replaced_length =
+          rw (length-append (take (o + 1) p) (t ++ drop c p), length-append t (drop c p), length-drop c p, ← head_size) (omega arith)
 
-      pub replaced-over : length out < o + 1 + length t + (length p - c)
+      pub replaced_over : length out < o + 1 + length t + (length p - c)
           → (Over ≡ replaced_reply (replace_embedded_target p t) out) × (out ≡ replaced_buffer (replace_embedded_target p t) out)
       unfolding replaced_reply replaced_buffer written_if_fits
-      replaced-over l =
+      replaced_over l =
           let j : Text = take (o + 1) p ++ (t ++ drop c p) in
-          rw (replaced_is, zero-add (length j), lt-leb (length j) (length out) (omega (arith, replaced-length))) (refl, refl)
+          rw (replaced_is, zero-add (length j), lt-leb (length j) (length out) (omega (arith, replaced_length))) (refl, refl)
 
-      pub replaced-fits : (out₁ out₂ out₃ : Text) → o + 1 + length t + (length p - c) ≤ length out → out₁ ≡ written_if_fits 0 (take (o + 1) p) out
+      pub replaced_fits : (out₁ out₂ out₃ : Text) → o + 1 + length t + (length p - c) ≤ length out → out₁ ≡ written_if_fits 0 (take (o + 1) p) out
           → out₂ ≡ written_if_fits (o + 1) t out₁ → out₃ ≡ written_if_fits (o + 1 + length t) (take (length p - c) (drop c p)) out₂
           → (Written (o + 1 + length t + (length p - c)) ≡ replaced_reply (replace_embedded_target p t) out) × (out₃ ≡ replaced_buffer (replace_embedded_target p t) out)
       unfolding replaced_reply replaced_buffer
-      replaced-fits out₁ out₂ out₃ l e₁ e₂ e₃ =
+      replaced_fits out₁ out₂ out₃ l e₁ e₂ e₃ =
           let j : Text = take (o + 1) p ++ (t ++ drop c p) in
-          let fits : length j ≤ length out = omega (arith, replaced-length) in
-          let i : out₃ ≡ written_if_fits 0 j out = e₃ ∙ rw (e₂, e₁, rest_whole p c) (three_written (take (o + 1) p) t (drop c p) out (o + 1) head-size fits) in
-          rw (replaced_is, le-leb (length j) (length out) fits) (ap (λ (m : ℕ). Written m) (sym replaced-length), i)
+          let fits : length j ≤ length out = omega (arith, replaced_length) in
+          let i : out₃ ≡ written_if_fits 0 j out = e₃ ∙ rw (e₂, e₁, rest_whole p c) (three_written (take (o + 1) p) t (drop c p) out (o + 1) head_size fits) in
+          rw (replaced_is, le-leb (length j) (length out) fits) (ap (λ (m : ℕ). Written m) (sym replaced_length), i)

@@ -15,7 +15,7 @@ use Rattle.path_grammar.proofs.LegalLaws.{own_unclosed}
 use Rattle.path_grammar.specs.Grammar as g
 use Rattle.path_grammar.specs.Grammar.{own_text, bracket_text, absolute_text}
 use Rattle.path_grammar.proofs.OwnLaws.{own_parts, target_head}
-use Rattle.path_grammar.proofs.Render.{own_render, target-target, own_unbracketed_text}
+use Rattle.path_grammar.proofs.Render.{own_render, target_target, own_unbracketed_text}
 use Rattle.path_target.specs.Target.{bracket_depth, close_len, closed_at, has_target, embedded_target, replace_embedded_target}
 
 -- The two parts of a path have its length.
@@ -122,4 +122,4 @@ module _ {d : ℕ} (p : g.Prim) (r : List g.Prim) (x : g.Property) (q : g.Absolu
 
   pub closed_last : closed_at (own_text p r (some x) ++ bracket_text (absolute_text q)) ≡ suc (length (absolute_text q))
   unfolding closed_at
-  closed_last = rw (target-target p r x (absolute_text q)) closed
+  closed_last = rw (target_target p r x (absolute_text q)) closed

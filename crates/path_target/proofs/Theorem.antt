@@ -15,7 +15,7 @@ use Rattle.path_grammar.specs.Legal.{legal}
 use Rattle.path_grammar.specs.Own.{target_part}
 use Rattle.path_grammar.specs.Grammar as g
 use Rattle.path_grammar.specs.Grammar.{Rendered, own_text, bracket_text, absolute_text, render}
-use Rattle.path_grammar.proofs.Render.{legal_render, target_prims, own-target, target-target}
+use Rattle.path_grammar.proofs.Render.{legal_render, target_prims, own_target, target_target}
 use Rattle.path_grammar.proofs.Theorem.{legal_is_rendered}
 use Rattle.path_target.specs.Target.{close_len, closed_at, has_target, embedded_target, replace_embedded_target}
 use Rattle.path_target.specs.TargetTheorems.{TargetTheorems, TargetExamples}
@@ -42,18 +42,18 @@ module _ {d : ℕ} (p : g.Prim) (r : List g.Prim) (x : g.Property) (q : g.Absolu
   unfolding whole has_target bracket_text
   whole_has =
       lt-ltb (closed_at whole) (length (target_part whole))
-      (rw (closed_last p r x q, target-target p r x (absolute_text q)) (omega (arith, length-append (absolute_text q) (93 ∷ []))))
+      (rw (closed_last p r x q, target_target p r x (absolute_text q)) (omega (arith, length-append (absolute_text q) (93 ∷ []))))
 
   whole_embedded : embedded_target whole ≡ some (absolute_text q)
   unfolding whole bracket_text
   whole_embedded =
-      embedded_some whole whole_has ∙ rw (closed_last p r x q, target-target p r x (absolute_text q), take-append_seam (absolute_text q) (93 ∷ []))
+      embedded_some whole whole_has ∙ rw (closed_last p r x q, target_target p r x (absolute_text q), take-append_seam (absolute_text q) (93 ∷ []))
 
   whole_replaced : (t : Text) → replace_embedded_target whole t ≡ some (own_text p r (some x) ++ bracket_text t)
   unfolding whole bracket_text
   whole_replaced t =
       replaced_some whole t whole_has
-      ∙ rw (closed_last p r x q, own-target p r x (absolute_text q), target-target p r x (absolute_text q), drop-append_seam (absolute_text q) (93 ∷ []))
+      ∙ rw (closed_last p r x q, own_target p r x (absolute_text q), target_target p r x (absolute_text q), drop-append_seam (absolute_text q) (93 ∷ []))
 
 -- The same path, where one bracket more may be open.
 widen : {d : ℕ} → g.Absolute d → g.Absolute (suc d)

@@ -23,17 +23,17 @@ module _ {A : Type 0} (refuse : Refusal → A) (answer : A) (a q : Validation) w
 -- A call that writes a path.
 module _ (a : Validation) (room : ℕ) (o : Outcome) where
   module _ (q : Validation) (h : q ≡ a) where
-    pub answered-refused : (x : Refusal) → q ≡ RefusedValidation x → after_checks a room o ≡ refused x
+    pub answered_refused : (x : Refusal) → q ≡ RefusedValidation x → after_checks a room o ≡ refused x
     unfolding after_checks
-    answered-refused x k = rw (← h, k)
+    answered_refused x k = rw (← h, k)
 
-    pub answered-short : q ≡ Passed → room < 255 → after_checks a room o ≡ refused NoRoom
+    pub answered_short : q ≡ Passed → room < 255 → after_checks a room o ≡ refused NoRoom
     unfolding after_checks require_room
-    answered-short k l = rw (← h, k, lt-leb 255 room l)
+    answered_short k l = rw (← h, k, lt-leb 255 room l)
 
-    pub answered-passed : q ≡ Passed → 255 ≤ room → after_checks a room o ≡ o
+    pub answered_passed : q ≡ Passed → 255 ≤ room → after_checks a room o ≡ o
     unfolding after_checks require_room
-    answered-passed k l = rw (← h, k, le-leb 255 room l)
+    answered_passed k l = rw (← h, k, le-leb 255 room l)
 
   -- Outcomes that agree once validation has passed yield the same outcome of the call.
   pub answered_same : (o' : Outcome) → (a ≡ Passed → o ≡ o') → after_checks a room o ≡ after_checks a room o'

@@ -73,17 +73,17 @@ module _ (p q : Text) (l : length p ≤ 255) where
   second_text_long h = rw (le-leb (length p) 255 l, lt-leb (length q) 255 h)
 
   module _ (k : length q ≤ 255) (x : Bool) (h : x ≡ legal p) where
-    pub first-text-illegal : not x ≡ true → Refused Illegal ≡ validate_texts (p ∷ q ∷ [])
+    pub first_text_illegal : not x ≡ true → Refused Illegal ≡ validate_texts (p ∷ q ∷ [])
     unfolding validate_texts all_texts_short all_texts_legal at_most255
-    first-text-illegal n = rw (le-leb (length p) 255 l, le-leb (length q) 255 k, known_false h n)
+    first_text_illegal n = rw (le-leb (length p) 255 l, le-leb (length q) 255 k, known_false h n)
 
     module _ (n : not x ≡ false) (y : Bool) (g : y ≡ legal q) where
-      pub second-text-illegal : not y ≡ true → Refused Illegal ≡ validate_texts (p ∷ q ∷ [])
+      pub second_text_illegal : not y ≡ true → Refused Illegal ≡ validate_texts (p ∷ q ∷ [])
       unfolding validate_texts all_texts_short all_texts_legal at_most255
-      second-text-illegal m = rw (le-leb (length p) 255 l, le-leb (length q) 255 k, known_true h n, known_false g m)
+      second_text_illegal m = rw (le-leb (length p) 255 l, le-leb (length q) 255 k, known_true h n, known_false g m)
 
-      pub two-texts-passed : not y ≡ false → Passed ≡ validate_texts (p ∷ q ∷ [])
+      pub two_texts_passed : not y ≡ false → Passed ≡ validate_texts (p ∷ q ∷ [])
       unfolding validate_texts all_texts_short all_texts_legal at_most255
-      two-texts-passed m = rw (le-leb (length p) 255 l, le-leb (length q) 255 k, known_true h n, known_true g m)
+      two_texts_passed m = rw (le-leb (length p) 255 l, le-leb (length q) 255 k, known_true h n, known_true g m)
 
-pub ruleset asks = (text_long, text_illegal, text_passed, second_text_long, first-text-illegal, second-text-illegal, two-texts-passed, fit_first, fit_second, fit_third, legal_first, legal_second, legal_third, validate_long, validate_illegal, validate_passed)
+pub ruleset asks = (text_long, text_illegal, text_passed, second_text_long, first_text_illegal, second_text_illegal, two_texts_passed, fit_first, fit_second, fit_third, legal_first, legal_second, legal_third, validate_long, validate_illegal, validate_passed)

@@ -56,11 +56,11 @@ module _ (l : List Pair) (p : Text) (s : Step) (e : s ≡ step_reply (longest_re
     w : Went (longest_replacement (replacement false (some p) p) l) n
     w = went (longest_replacement (replacement false (some p) p) l) n (sym e ∙ g)
 
-    pub shift-part : n ≡ length (take n mem)
-    shift-part = back_part (longest_replacement (replacement false (some p) p) l) n w mem mem₀ r a
+    pub shift_part : n ≡ length (take n mem)
+    shift_part = back_part (longest_replacement (replacement false (some p) p) l) n w mem mem₀ r a
 
-    pub shift-inside : n ≤ length mem
-    shift-inside = back_inside (longest_replacement (replacement false (some p) p) l) n w mem mem₀ r a
+    pub shift_inside : n ≤ length mem
+    shift_inside = back_inside (longest_replacement (replacement false (some p) p) l) n w mem mem₀ r a
 
     pub shift_made : (out out' : Text) → 255 ≤ length out → out' ≡ written_if_fits 0 (take n mem) out
         → (Written n ≡ outcome_reply (checked (shift_through_nearest_ancestor l p))) × (out' ≡ outcome_buffer (checked (shift_through_nearest_ancestor l p)) out)
@@ -88,16 +88,16 @@ module _ (d : Chained) (r : Chain) (mem : Text) (e : chain_in_buffer r mem ≡ d
     fit : n ≤ 255
     fit = rw g at v
 
-    pub out-part : n ≡ length (take n mem)
-    out-part = sym (length-take-le n mem (omega (arith, fit)))
+    pub out_part : n ≡ length (take n mem)
+    out_part = sym (length-take-le n mem (omega (arith, fit)))
 
-    pub out-inside : n ≤ length mem
-    out-inside = omega (arith, fit)
+    pub out_inside : n ≤ length mem
+    out_inside = omega (arith, fit)
 
-    pub out-chained : (out out' : Text) → 255 ≤ length out → out' ≡ written_if_fits 0 (take n mem) out → (ChainedTo n k ≡ chain_reply d) × (out' ≡ chain_buffer d out)
+    pub out_chained : (out out' : Text) → 255 ≤ length out → out' ≡ written_if_fits 0 (take n mem) out → (ChainedTo n k ≡ chain_reply d) × (out' ≡ chain_buffer d out)
     unfolding chain_reply chain_buffer
-    out-chained out out' f m =
-        rw (← e, g) (ap (λ (i : ℕ). ChainedTo i k) out-part, m ∙ placed_first (take n mem) out (omega (arith, fit, out-part)))
+    out_chained out out' f m =
+        rw (← e, g) (ap (λ (i : ℕ). ChainedTo i k) out_part, m ∙ placed_first (take n mem) out (omega (arith, fit, out_part)))
 
 -- `chain_through_relocates`
 pub validate_skip : (l : LentList) (p s e k : Text) (skips : Bool) → s ≡ cond skips k [] → e ≡ [] → validate_call (l ∷ []) (p ∷ s ∷ []) (e ∷ e ∷ []) ≡ validate_call (l ∷ []) (p ∷ skip_texts (skipped_source skips k)) []

@@ -124,30 +124,30 @@ module _ (sk : Option Text) (l : List Pair) (p : Text) (n k len : ℕ) (cur : Te
     unfolding chain_from next_replacement
     turn = let z : n - k ≡ suc (n - (k + 1)) = omega arith in inv ∙ ap (λ (m : ℕ). chain_from sk l m (take len cur) k) z
 
-    pub chain-still : s ≡ Still → chained (take len cur) k ≡ chain sk l p
+    pub chain_still : s ≡ Still → chained (take len cur) k ≡ chain sk l p
     unfolding chain_step
-    chain-still g = sym (turn ∙ rw (still (longest_replacement (replacement true sk (take len cur)) l) (sym e ∙ g)))
+    chain_still g = sym (turn ∙ rw (still (longest_replacement (replacement true sk (take len cur)) l) (sym e ∙ g)))
 
-    pub chain-stopped : (x : Refusal) → s ≡ Refused x → stopped x ≡ chain sk l p
-    chain-stopped x g =
+    pub chain_stopped : (x : Refusal) → s ≡ Refused x → stopped x ≡ chain sk l p
+    chain_stopped x g =
         sym (turn ∙ ended (chain_from sk l (n - (k + 1))) (take len cur) k (longest_replacement (replacement true sk (take len cur)) l) x (sym e ∙ g))
 
     module _ (m : ℕ) (g : s ≡ Made m) where
       w : Went (longest_replacement (replacement true sk (take len cur)) l) m
       w = went (longest_replacement (replacement true sk (take len cur)) l) m (sym e ∙ g)
 
-      pub chain-short : m ≤ 255
-      chain-short = w.short
+      pub chain_short : m ≤ 255
+      chain_short = w.short
 
       module _ (mem mem₀ : Text) (a : mem ≡ step_buffer (longest_replacement (replacement true sk (take len cur)) l) mem₀) (r : length mem₀ ≡ 255) where
-        pub chain-part : m ≡ length (take m mem)
-        chain-part = back_part (longest_replacement (replacement true sk (take len cur)) l) m w mem mem₀ r a
+        pub chain_part : m ≡ length (take m mem)
+        chain_part = back_part (longest_replacement (replacement true sk (take len cur)) l) m w mem mem₀ r a
 
-        pub chain-inside : m ≤ length mem
-        chain-inside = back_inside (longest_replacement (replacement true sk (take len cur)) l) m w mem mem₀ r a
+        pub chain_inside : m ≤ length mem
+        chain_inside = back_inside (longest_replacement (replacement true sk (take len cur)) l) m w mem mem₀ r a
 
-        pub chain-on : (cur' : Text) → cur' ≡ written_if_fits 0 (take m mem) cur → length cur ≡ 255 → chain sk l p ≡ chain_from sk l (n - (k + 1)) (take m cur') (k + 1)
-        chain-on cur' b f =
+        pub chain_on : (cur' : Text) → cur' ≡ written_if_fits 0 (take m mem) cur → length cur ≡ 255 → chain sk l p ≡ chain_from sk l (n - (k + 1)) (take m cur') (k + 1)
+        chain_on cur' b f =
             let t : take m cur' ≡ w.text = back_again w.text m (take m mem) cur cur' (back_text (longest_replacement (replacement true sk (take len cur)) l) m w mem mem₀ r a) w.long w.short f b in
             turn
             ∙ went_on (chain_from sk l (n - (k + 1))) (take len cur) k (longest_replacement (replacement true sk (take len cur)) l) m w

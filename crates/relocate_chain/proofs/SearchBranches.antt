@@ -16,7 +16,7 @@ use Rattle.path_join.proofs.ReplaceLaws.{replace_prefix_lem, replace_other}
 use Rattle.pair_list.specs.Pair.{Pair, pair, pair_at, source_at}
 use Rattle.pair_list.specs.Places.{pairs_in, key_at}
 use Rattle.pair_list.specs.BestStep.{consider_index, best_below}
-use Rattle.pair_list.proofs.BestLaws.{search_none, search_on, step_fails, step-lighter, step-heavier, step-first}
+use Rattle.pair_list.proofs.BestLaws.{search_none, search_on, step_fails, step_lighter, step_heavier, step_first}
 use Rattle.pair_list.proofs.PlaceLaws.{pairs_in_at, pair_is}
 use Rattle.relocate_chain.specs.Chain.{is_skipped, if_altered, replacement}
 use Rattle.relocate_chain.specs.Calls.{skipped_source}
@@ -65,14 +65,14 @@ module _ (alters skips : Bool) (k p s t : Text) where
   tries_deleted h = rw (nil_length t h)
 
   module _ (h : length t ≢ 0) (x : Bool) (hx : x ≡ is_skipped (skipped_source skips k) s) where
-    pub tries-skipped : x ≡ true → false ≡ is_some (replacement alters (skipped_source skips k) p (pair s t))
+    pub tries_skipped : x ≡ true → false ≡ is_some (replacement alters (skipped_source skips k) p (pair s t))
     unfolding replacement
-    tries-skipped l = rw (nil_not t h, told hx l)
+    tries_skipped l = rw (nil_not t h, told hx l)
 
-    pub tries-replaced : x ≡ false → (r : Bool) → r ≡ is_some (cond alters (if_altered p (replace_prefix p s t)) (replace_prefix p s t))
+    pub tries_replaced : x ≡ false → (r : Bool) → r ≡ is_some (cond alters (if_altered p (replace_prefix p s t)) (replace_prefix p s t))
         → r ≡ is_some (replacement alters (skipped_source skips k) p (pair s t))
     unfolding replacement
-    tries-replaced l r e = rw (nil_not t h, told hx l) e
+    tries_replaced l r e = rw (nil_not t h, told hx l) e
 
 -- `longest_source`: of the first n pairs that yield a path, the one with the longest source, and its number of bytes.
 unfoldable pub source_below : (Pair → Option Text) → List Pair → ℕ → Option (ℕ × ℕ)
@@ -86,4 +86,4 @@ source_on t store places n i a a' b s u h m hs hu e c =
     let x : pair s u ≡ pair_at (pairs_in store places n) i = pair_is store places i s u hs hu ∙ sym (pairs_in_at store places n i m) in
     search_on _ _ i a a' b (length s) h (e ∙ ap (λ (y : Pair). is_some (t y)) x) (ap (λ (y : Pair). length y.source) x) c
 
-pub ruleset searching = (skips_none, skips_equal, replaces_not, replaces_any, replaces_long, replaces_other, tries_deleted, tries-skipped, tries-replaced, step_fails, step-lighter, step-heavier, step-first, search_none)
+pub ruleset searching = (skips_none, skips_equal, replaces_not, replaces_any, replaces_long, replaces_other, tries_deleted, tries_skipped, tries_replaced, step_fails, step_lighter, step_heavier, step_first, search_none)

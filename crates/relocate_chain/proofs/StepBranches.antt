@@ -11,7 +11,7 @@ use Rattle.text.specs.Text.{Text, is_nil, is_some, equal, written_if_fits, fit_o
 use Rattle.text.specs.declared.Fit.{Fit}
 use Rattle.text.specs.declared.Fit.TheVariants.{Written, Over}
 use Rattle.text.proofs.BoolLaws.{known_false, known_true, not_true, not_false}
-use Rattle.text.proofs.WriteLaws.{rest_whole, fit_room, fit_over, fit_is, fit-back}
+use Rattle.text.proofs.WriteLaws.{rest_whole, fit_room, fit_over, fit_is, fit_back}
 use Rattle.path_grammar.specs.Legal.{legal, at_most255}
 use Rattle.path_prefix.specs.Prefix.{has_prefix}
 use Rattle.path_join.specs.Join.{join, replace_prefix}
@@ -80,17 +80,17 @@ module _ (alters : Bool) (skip : Option Text) (p store : Text) (places : List �
     unfolding longest_source
     chosen = best_chosen _ _ n f.at (sym h ∙ rw (not_false f.found g))
 
-    pair-here : pair_at (pairs_in store places n) f.at ≡ pair s t
-    pair-here = pairs_in_at store places n f.at chosen.in_range_lem ∙ sym (pair_is store places f.at s t hs ht)
+    pair_here : pair_at (pairs_in store places n) f.at ≡ pair s t
+    pair_here = pairs_in_at store places n f.at chosen.in_range_lem ∙ sym (pair_is store places f.at s t hs ht)
 
     gives : is_some (replacement alters skip p (pair s t)) ≡ true
-    gives = rw pair-here at chosen.does_pass
+    gives = rw pair_here at chosen.does_pass
 
-    pub once-long : length s ≤ length p
-    once-long = prefix_long p s (replaced_prefix alters skip p s t gives)
+    pub once_long : length s ≤ length p
+    once_long = prefix_long p s (replaced_prefix alters skip p s t gives)
 
-    pub once-text : longest_replacement (replacement alters skip p) (pairs_in store places n) ≡ some (join s t (take (length p - length s) (drop (length s) p)))
-    once-text = nearest_is ∙ rw (not_false f.found g, pair-here) (replaced_is alters skip p s t gives)
+    pub once_text : longest_replacement (replacement alters skip p) (pairs_in store places n) ≡ some (join s t (take (length p - length s) (drop (length s) p)))
+    once_text = nearest_is ∙ rw (not_false f.found g, pair_here) (replaced_is alters skip p s t gives)
 
 -- Questions 7 and 8 for the text j written to a buffer of 255 bytes.
 module _ (o : Option Text) (j : Text) (e : o ≡ some j) (buf : Text) (l : length buf ≡ 255) (f : Fit) (h : f ≡ fit_of j buf) (mem : Text) (m : mem ≡ written_if_fits 0 j buf) where
@@ -106,14 +106,14 @@ module _ (o : Option Text) (j : Text) (e : o ≡ some j) (buf : Text) (l : lengt
     short : length j ≤ 255
     short = omega (arith, fit_room j buf n (sym h ∙ w))
 
-    pub once-illegal : (x : Bool) → x ≡ legal (take n mem) → not x ≡ true → (Refused MadeIllegal ≡ step_reply o) × (mem ≡ step_buffer o buf)
+    pub once_illegal : (x : Bool) → x ≡ legal (take n mem) → not x ≡ true → (Refused MadeIllegal ≡ step_reply o) × (mem ≡ step_buffer o buf)
     unfolding step_reply checked at_most255
-    once-illegal x g k =
-        let b : legal j ≡ false = rw (fit-back j buf f h n w mem m) at (known_false g k) in
+    once_illegal x g k =
+        let b : legal j ≡ false = rw (fit_back j buf f h n w mem m) at (known_false g k) in
         (rw (e, le-leb (length j) 255 short, b) refl, kept)
 
-    pub once-made : (x : Bool) → x ≡ legal (take n mem) → not x ≡ false → (Made n ≡ step_reply o) × (mem ≡ step_buffer o buf)
+    pub once_made : (x : Bool) → x ≡ legal (take n mem) → not x ≡ false → (Made n ≡ step_reply o) × (mem ≡ step_buffer o buf)
     unfolding step_reply checked at_most255
-    once-made x g k =
-        let b : legal j ≡ true = rw (fit-back j buf f h n w mem m) at (known_true g k) in
+    once_made x g k =
+        let b : legal j ≡ true = rw (fit_back j buf f h n w mem m) at (known_true g k) in
         (rw (e, le-leb (length j) 255 short, b, fit_is j buf f h n w) refl, kept)

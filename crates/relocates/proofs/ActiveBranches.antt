@@ -15,7 +15,7 @@ use Rattle.pair_list.specs.Pair.{Pair}
 use Rattle.pair_list.specs.Places.{pairs_in}
 use Rattle.pair_list_write.specs.Lists.{copy_entry}
 use Rattle.pair_list_write.specs.Select.{indices_where, HoldsEntries}
-use Rattle.pair_list_write.proofs.SelectLaws.{passing_few, selected_none, selected-turn}
+use Rattle.pair_list_write.proofs.SelectLaws.{passing_few, selected_none, selected_turn}
 use Rattle.validate.specs.Validate.{lent_list, count_within_limit}
 use Rattle.validate.specs.Select.{can_select}
 use Rattle.relocates.specs.Status.{status_byte, occurrence, status_list}
@@ -46,15 +46,15 @@ module _ (store : Text) (places : List ℕ) (n : ℕ) (kept₀ : List ℕ) where
 
   module _ (i : ℕ) (h : i < n) (held : 4 * n ≤ length places) (status out : Text) (s : status ≡ written (status_list list n) out)
       (kept : List ℕ) (w : ℕ) (room : 4 * n ≤ length kept) (e : HoldsEntries places (active_indices list i) kept₀ kept w) where
-    status-at : get_or status i 0 ≡ status_byte (occurrence list i)
+    status_at : get_or status i 0 ≡ status_byte (occurrence list i)
     unfolding status_list
-    status-at = rw s (bytes_at (occurrence list) out n i h)
+    status_at = rw s (bytes_at (occurrence list) out n i h)
 
     pub active_on : (r : ℕ) (kept' : List ℕ) → (r ≡ cond (eqb (get_or status i 0) 0) (w + 1) w) × (kept' ≡ cond (eqb (get_or status i 0) 0) (copy_entry places i w kept) kept) → HoldsEntries places (active_indices list (i + 1)) kept₀ kept' r
     unfolding active_indices indices_where
     active_on r kept' t =
-        rw (add-one i, ← status-at)
-        (selected-turn places i (active_indices list i) kept₀ kept w (omega arith) e (eqb (get_or status i 0) 0) (λ _. omega (arith, active_few i kept w e)) r kept' t.0 t.1)
+        rw (add-one i, ← status_at)
+        (selected_turn places i (active_indices list i) kept₀ kept w (omega arith) e (eqb (get_or status i 0) 0) (λ _. omega (arith, active_few i kept w e)) r kept' t.0 t.1)
 
   module _ (b : Bool) (e : b ≡ can_select (lent_list [] places n) (length kept₀)) where
     abbrev picks : List ℕ
@@ -64,6 +64,6 @@ module _ (store : Text) (places : List ℕ) (n : ℕ) (kept₀ : List ℕ) where
     unfolding active_selection can_select count_within_limit
     selection_none h = rw (known_false e h) (selected_none places kept₀)
 
-    pub active-end : not b ≡ false → (i : ℕ) (kept : List ℕ) (w : ℕ) → n ≤ i → i ≤ n → HoldsEntries places (active_indices list i) kept₀ kept w → HoldsEntries places picks kept₀ kept w
+    pub active_end : not b ≡ false → (i : ℕ) (kept : List ℕ) (w : ℕ) → n ≤ i → i ≤ n → HoldsEntries places (active_indices list i) kept₀ kept w → HoldsEntries places picks kept₀ kept w
     unfolding active_selection can_select count_within_limit
-    active-end h i kept w k l f = let z : i ≡ n = omega arith in rw (known_true e h) (rw z at f)
+    active_end h i kept w k l f = let z : i ≡ n = omega arith in rw (known_true e h) (rw z at f)

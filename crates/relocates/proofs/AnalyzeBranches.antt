@@ -19,15 +19,15 @@ module _ (l : LentList) (q : Validation) (h : q ≡ validate_call (l ∷ []) ([]
   analyze_few k = (first_sound l [] ([] ∷ []) [] (sym h ∙ k)).few
 
   module _ (room : ℕ) (out : Text) where
-    pub analyze-refused : (x : Refusal) → q ≡ RefusedValidation x → (Refused x ≡ analyze_reply l room) × (out ≡ analyze_buffer (Refused x) l out)
+    pub analyze_refused : (x : Refusal) → q ≡ RefusedValidation x → (Refused x ≡ analyze_reply l room) × (out ≡ analyze_buffer (Refused x) l out)
     unfolding analyze_reply
-    analyze-refused x k = (rw (← (empty_validated l), ← h, k), refl)
+    analyze_refused x k = (rw (← (empty_validated l), ← h, k), refl)
 
-    pub analyze-short : q ≡ Passed → room < l.count → (Refused NoRoom ≡ analyze_reply l room) × (out ≡ analyze_buffer (Refused NoRoom) l out)
+    pub analyze_short : q ≡ Passed → room < l.count → (Refused NoRoom ≡ analyze_reply l room) × (out ≡ analyze_buffer (Refused NoRoom) l out)
     unfolding analyze_reply
-    analyze-short k r = (rw (← (empty_validated l), ← h, k, lt-leb l.count room r), refl)
+    analyze_short k r = (rw (← (empty_validated l), ← h, k, lt-leb l.count room r), refl)
 
-    pub analyze-written : q ≡ Passed → l.count ≤ room → (out' : Text) → out' ≡ written (status_list (pairs_of l) l.count) out
+    pub analyze_written : q ≡ Passed → l.count ≤ room → (out' : Text) → out' ≡ written (status_list (pairs_of l) l.count) out
         → (Written l.count ≡ analyze_reply l room) × (out' ≡ analyze_buffer (Written l.count) l out)
     unfolding analyze_reply
-    analyze-written k r out' m = (rw (← (empty_validated l), ← h, k, le-leb l.count room r), m)
+    analyze_written k r out' m = (rw (← (empty_validated l), ← h, k, le-leb l.count room r), m)

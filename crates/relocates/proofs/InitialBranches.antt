@@ -33,15 +33,15 @@ module _ (store : Text) (places : List ℕ) (i : ℕ) (s t : Text) (hs : s ≡ k
   initial_structural l = rw (own_structural, l)
 
   module _ (la : a ≡ false) (b : Bool) (hb : b ≡ is_duplicate (pairs_in store places (i + 1)) i) where
-    pub initial-duplicate : b ≡ true → DroppedDuplicateSource ≡ occurrence_or Active (pairs_in store places (i + 1)) i
+    pub initial_duplicate : b ≡ true → DroppedDuplicateSource ≡ occurrence_or Active (pairs_in store places (i + 1)) i
     unfolding occurrence_or
-    initial-duplicate l = rw (own_structural, la, told hb l)
+    initial_duplicate l = rw (own_structural, la, told hb l)
 
-    pub initial-active : b ≡ false → Active ≡ occurrence_or Active (pairs_in store places (i + 1)) i
+    pub initial_active : b ≡ false → Active ≡ occurrence_or Active (pairs_in store places (i + 1)) i
     unfolding occurrence_or
-    initial-active l = rw (own_structural, la, told hb l)
+    initial_active l = rw (own_structural, la, told hb l)
 
-pub ruleset firsts = (initial_structural, initial-duplicate, initial-active)
+pub ruleset firsts = (initial_structural, initial_duplicate, initial_active)
 
 -- Status bytes in sequence.
 pub bytes_length : (f : ℕ → RelocateOccurrence) (n : ℕ) → length (status_bytes f n) ≡ n
@@ -83,21 +83,21 @@ module _ (store : Text) (places : List ℕ) where
       ∙ sym (by_tests (pairs_in store places n) i a b (ap is_structural (pairs_in_at store places n i h)) (duplicate_in store places n i h))
 
   module _ (n : ℕ) (out₀ : Text) where
-    pub initial-begin : out₀ ≡ written (initial_statuses (pairs_in store places n) 0) out₀
+    pub initial_begin : out₀ ≡ written (initial_statuses (pairs_in store places n) 0) out₀
     unfolding initial_statuses
-    initial-begin = refl
+    initial_begin = refl
 
-    pub initial-on : (out : Text) (i : ℕ) → n ≤ length out₀ → i < n → out ≡ written (initial_statuses (pairs_in store places n) i) out₀
+    pub initial_on : (out : Text) (i : ℕ) → n ≤ length out₀ → i < n → out ≡ written (initial_statuses (pairs_in store places n) i) out₀
         → (o : RelocateOccurrence) → o ≡ occurrence_or Active (pairs_in store places (i + 1)) i → (v : ℕ) → v ≡ status_byte o
         → set out i v ≡ written (initial_statuses (pairs_in store places n) (i + 1)) out₀
     unfolding initial_statuses
-    initial-on out i g h e o ho v hv =
+    initial_on out i g h e o ho v hv =
         bytes_on (occurrence_or Active (pairs_in store places n)) out₀ out i v (omega arith) e (hv ∙ ap status_byte (ho ∙ initial_same n i h))
 
-    pub initial-end : (out : Text) (i : ℕ) → n ≤ i → i ≤ n → out ≡ written (initial_statuses (pairs_in store places n) i) out₀ → out ≡ written (initial_statuses (pairs_in store places n) n) out₀
-    initial-end out i g h e = let z : i ≡ n = omega arith in rw z at e
+    pub initial_end : (out : Text) (i : ℕ) → n ≤ i → i ≤ n → out ≡ written (initial_statuses (pairs_in store places n) i) out₀ → out ≡ written (initial_statuses (pairs_in store places n) n) out₀
+    initial_end out i g h e = let z : i ≡ n = omega arith in rw z at e
 
-pub ruleset writing_first = (initial-begin, initial-on, initial-end)
+pub ruleset writing_first = (initial_begin, initial_on, initial_end)
 
 -- The buffer of first statuses has the property `HoldsInitialStatuses`.
 pub has_initial : (store : Text) (places : List ℕ) (n : ℕ) (buf mem : Text) → mem ≡ written (initial_statuses (pairs_in store places n) n) buf → HoldsInitialStatuses (pairs_in store places n) mem
@@ -178,32 +178,32 @@ module _ (store : Text) (places : List ℕ) (n : ℕ) (out₀ : Text) where
   settle_end out i g h e = let z : i ≡ n = omega arith in rw z at e
 
   module _ (first : List ℕ) (m : HoldsInitialStatuses (pairs_in store places n) first) where
-    at-initial : (i : ℕ) → i < n → get_or first i 0 ≡ status_byte (occurrence_or Active (pairs_in store places n) i)
+    at_initial : (i : ℕ) → i < n → get_or first i 0 ≡ status_byte (occurrence_or Active (pairs_in store places n) i)
     unfolding HoldsInitialStatuses
-    at-initial i h = m i (rw (pairs_in_length store places n) h)
+    at_initial i h = m i (rw (pairs_in_length store places n) h)
 
-    conflict-in : (i : ℕ) → i < n → has_conflict (pairs_in store places n) i ≡ any_below n (reason store places first i)
-    conflict-in i h =
+    conflict_in : (i : ℕ) → i < n → has_conflict (pairs_in store places n) i ≡ any_below n (reason store places first i)
+    conflict_in i h =
         let l : List Pair = pairs_in store places n in
         conflict_is l i
-        ∙ conflict_among store places n first (can_conflict l) (λ j k. ap (λ (v : ℕ). eqb v 0) (at-initial j k) ∙ conflicting l j) i h
+        ∙ conflict_among store places n first (can_conflict l) (λ j k. ap (λ (v : ℕ). eqb v 0) (at_initial j k) ∙ conflicting l j) i h
 
     -- At pair i, with the statuses before it written.
     module _ (i : ℕ) (h : i < n) (out : Text) (e : out ≡ written (status_list (pairs_in store places n) i) out₀) (g : n ≤ length out₀) where
-      pub settle-dropped : get_or first i 0 ≢ 0 → set out i (get_or first i 0) ≡ written (status_list (pairs_in store places n) (i + 1)) out₀
-      settle-dropped d = settle_by out i (get_or first i 0) g h e (kept (pairs_in store places n) i (get_or first i 0) (at-initial i h) d)
+      pub settle_dropped : get_or first i 0 ≢ 0 → set out i (get_or first i 0) ≡ written (status_list (pairs_in store places n) (i + 1)) out₀
+      settle_dropped d = settle_by out i (get_or first i 0) g h e (kept (pairs_in store places n) i (get_or first i 0) (at_initial i h) d)
 
       module _ (z : get_or first i 0 ≡ 0) (now : Text) (at j v : ℕ) (s : at ≡ i) (u : now ≡ out) where
         settled : (b : Bool) → any_below n (reason store places first i) ≡ b → occurrence (pairs_in store places n) i ≡ cond b DroppedConflict Active
-        settled b k = decided (pairs_in store places n) i (sym z ∙ at-initial i h) ∙ rw (conflict-in i h, k)
+        settled b k = decided (pairs_in store places n) i (sym z ∙ at_initial i h) ∙ rw (conflict_in i h, k)
 
-        pub settle-conflict : j < n → (b : Bool) → b ≡ reason store places first at j → b ≡ true → v ≡ 3 → set now at v ≡ written (status_list (pairs_in store places n) (at + 1)) out₀
-        settle-conflict k b r t w =
+        pub settle_conflict : j < n → (b : Bool) → b ≡ reason store places first at j → b ≡ true → v ≡ 3 → set now at v ≡ written (status_list (pairs_in store places n) (at + 1)) out₀
+        settle_conflict k b r t w =
             rw (s, u)
             (settle_by out i v g h e (w ∙ ap status_byte (sym (settled true (some_hit (reason store places first i) n j k (rw s at (told r t)))))))
 
-        pub settle-active : n ≤ j → j ≤ n → any_below j (reason store places first at) ≡ false → v ≡ 0 → set now at v ≡ written (status_list (pairs_in store places n) (at + 1)) out₀
-        settle-active k f r w =
+        pub settle_active : n ≤ j → j ≤ n → any_below j (reason store places first at) ≡ false → v ≡ 0 → set now at v ≡ written (status_list (pairs_in store places n) (at + 1)) out₀
+        settle_active k f r w =
             let y : j ≡ n = omega arith in
             rw (s, u) (settle_by out i v g h e (w ∙ ap status_byte (sym (settled false (rw (y, s) at r)))))
 

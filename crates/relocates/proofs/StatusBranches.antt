@@ -27,25 +27,25 @@ module _ (s t : Text) where
   structural_deletes h = rw (nil_length t h)
 
   module _ (n : ℕ) (h : length t ≢ 0) (k : n ≡ prim_element_count s) where
-    pub structural-root : n ≡ 1 → true ≡ is_structural (pair s t)
+    pub structural_root : n ≡ 1 → true ≡ is_structural (pair s t)
     unfolding is_structural
-    structural-root e = rw (nil_not t h, ← k, eq-eqb n 1 e)
+    structural_root e = rw (nil_not t h, ← k, eq-eqb n 1 e)
 
     module _ (e : n ≢ 1) (a : Bool) (ha : a ≡ equal s t) where
-      pub structural-equal : a ≡ true → true ≡ is_structural (pair s t)
+      pub structural_equal : a ≡ true → true ≡ is_structural (pair s t)
       unfolding is_structural
-      structural-equal l = rw (nil_not t h, ← k, ne_eqb n 1 e, told ha l)
+      structural_equal l = rw (nil_not t h, ← k, ne_eqb n 1 e, told ha l)
 
       module _ (la : a ≡ false) (b : Bool) (hb : b ≡ has_prefix s t) where
-        pub structural-above : b ≡ true → true ≡ is_structural (pair s t)
+        pub structural_above : b ≡ true → true ≡ is_structural (pair s t)
         unfolding is_structural
-        structural-above l = rw (nil_not t h, ← k, ne_eqb n 1 e, told ha la, told hb l)
+        structural_above l = rw (nil_not t h, ← k, ne_eqb n 1 e, told ha la, told hb l)
 
-        pub structural-below : b ≡ false → (c : Bool) → c ≡ has_prefix t s → c ≡ is_structural (pair s t)
+        pub structural_below : b ≡ false → (c : Bool) → c ≡ has_prefix t s → c ≡ is_structural (pair s t)
         unfolding is_structural
-        structural-below l c hc = rw (nil_not t h, ← k, ne_eqb n 1 e, told ha la, told hb l) hc
+        structural_below l c hc = rw (nil_not t h, ← k, ne_eqb n 1 e, told ha la, told hb l) hc
 
-pub ruleset structure = (structural_deletes, structural-root, structural-equal, structural-above, structural-below)
+pub ruleset structure = (structural_deletes, structural_root, structural_equal, structural_above, structural_below)
 
 -- `claims_source`
 module _ (store : Text) (places : List ℕ) (k : ℕ) (u s : Text) (h : s ≡ key_at store places false k) (a : Bool) (ha : a ≡ equal s u) where
@@ -115,13 +115,13 @@ module _ (store : Text) (places : List ℕ) (i : ℕ) (s : Text) where
         duplicate_in store places (i + 1) i (omega arith)
         ∙ ap (λ (u : Text). any_below i (λ (k : ℕ). claims_source (pair_in store places k) u)) (sym (ap (λ (x : Pair). x.source) (pair_is store places i s (key_at store places true i) g refl)))
 
-    pub none-hit : (k : ℕ) → k < i → (b : Bool) → b ≡ claims_source (pair_in store places k) s → b ≡ true → true ≡ is_duplicate (pairs_in store places (i + 1)) i
-    none-hit k h b e l = sym (here ∙ some_hit (λ (j : ℕ). claims_source (pair_in store places j) s) i k h (told e l))
+    pub none_hit : (k : ℕ) → k < i → (b : Bool) → b ≡ claims_source (pair_in store places k) s → b ≡ true → true ≡ is_duplicate (pairs_in store places (i + 1)) i
+    none_hit k h b e l = sym (here ∙ some_hit (λ (j : ℕ). claims_source (pair_in store places j) s) i k h (told e l))
 
     pub none_end : (k : ℕ) → i ≤ k → k ≤ i → NoneBefore store places i s k → false ≡ is_duplicate (pairs_in store places (i + 1)) i
     none_end k h l e = let z : k ≡ i = omega arith in sym (here ∙ rw z at e)
 
-pub ruleset duplicates = (none_begin, none_on, none-hit, none_end)
+pub ruleset duplicates = (none_begin, none_on, none_hit, none_end)
 
 -- `equal_non_empty`, `is_target_below`, `is_source_below`, `relocate_pair_conflicts`
 module _ (a b : Text) where
@@ -151,15 +151,15 @@ module _ (sa ta sb tb : Text) (x : Bool) (hx : x ≡ (not (is_nil ta) && has_pre
   conflict_target l = rw (told hx l)
 
   module _ (lx : x ≡ false) (y : Bool) (hy : y ≡ equal_non_empty sa tb) where
-    pub conflict-equal : y ≡ true → true ≡ pair_conflicts (pair sa ta) (pair sb tb)
+    pub conflict_equal : y ≡ true → true ≡ pair_conflicts (pair sa ta) (pair sb tb)
     unfolding pair_conflicts
-    conflict-equal l = rw (told hx lx, told hy l)
+    conflict_equal l = rw (told hx lx, told hy l)
 
-    pub conflict-source : y ≡ false → (z : Bool) → z ≡ (not (equal sa sb) && has_prefix sa sb) → z ≡ pair_conflicts (pair sa ta) (pair sb tb)
+    pub conflict_source : y ≡ false → (z : Bool) → z ≡ (not (equal sa sb) && has_prefix sa sb) → z ≡ pair_conflicts (pair sa ta) (pair sb tb)
     unfolding pair_conflicts
-    conflict-source l z hz = rw (told hx lx, told hy l) hz
+    conflict_source l z hz = rw (told hx lx, told hy l) hz
 
-pub ruleset reasons = (equal_empty, equal_equal, target_empty, target_prefix, source_equal, source_prefix, conflict_target, conflict-equal, conflict-source)
+pub ruleset reasons = (equal_empty, equal_equal, target_empty, target_prefix, source_equal, source_prefix, conflict_target, conflict_equal, conflict_source)
 
 -- `conflicts_with`
 module _ (store : Text) (places : List ℕ) (i j first : ℕ) where
@@ -177,10 +177,10 @@ module _ (store : Text) (places : List ℕ) (i j first : ℕ) where
     with_target_lem l =
         rw (ne_eqb i j h, eq-eqb first 0 k, ← (pair_is store places i sa ta hsa hta), ← (pair_is store places j sb tb hsb htb), told hx l)
 
-    pub with-reason : x ≡ false → (y : Bool) → y ≡ pair_conflicts (pair sa ta) (pair sb tb)
+    pub with_reason : x ≡ false → (y : Bool) → y ≡ pair_conflicts (pair sa ta) (pair sb tb)
         → y ≡ (not (eqb i j) && eqb first 0 && conflicts_with (pair_in store places i) (pair_in store places j))
     unfolding conflicts_with
-    with-reason l y hy =
+    with_reason l y hy =
         rw (ne_eqb i j h, eq-eqb first 0 k, ← (pair_is store places i sa ta hsa hta), ← (pair_is store places j sb tb hsb htb), told hx l) hy
 
-pub ruleset conflicting = (with_itself, with_dropped, with_target_lem, with-reason)
+pub ruleset conflicting = (with_itself, with_dropped, with_target_lem, with_reason)

@@ -16,7 +16,7 @@ use Rattle.text.proofs.WriteLaws.{placed_first, read_back}
 use Rattle.path_grammar.specs.Legal.{at_most255}
 use Rattle.path_parts.specs.Strip.{strip, strip_fit, strip_buffer}
 use Rattle.path_grammar.specs.Own.{has_variant_selection}
-use Rattle.path_parts.proofs.StripLaws.{strip_same, strip-back, strip_inside}
+use Rattle.path_parts.proofs.StripLaws.{strip_same, strip_back, strip_inside}
 use Rattle.refusal.specs.declared.Refusal.{Refusal}
 use Rattle.refusal.specs.declared.Refusal.TheVariants.{NoRoom}
 use Rattle.refusal.specs.declared.Validation.{Validation}
@@ -31,7 +31,7 @@ use Rattle.path_rest.specs.Carried.{with_rest, ReturnsCarried}
 use Rattle.path_rest.proofs.CarriedLaws.{rest_if_path}
 use Rattle.map_apply.specs.Fast.{plain_rest}
 use Rattle.path.specs.Calls.{path_new_call}
-use Rattle.refusal.proofs.CallBranches.{answered-refused, answered-short, answered-passed, answered_same}
+use Rattle.refusal.proofs.CallBranches.{answered_refused, answered_short, answered_passed, answered_same}
 use Rattle.validate.specs.Validate.{first_refusal}
 use Rattle.validate.proofs.RefusalLaws.{none_earlier}
 use Rattle.route_legs.specs.LentRoute.{LentRoute, legs_in, map_legs, validate_route}
@@ -102,10 +102,10 @@ module _ (b : Bool) (p here : Text) (l : length here ≡ 255) (s : length p ≤ 
   enter_kept h here' w = rw (not_true b h) (rw (w, placed_first p here fits_here) (read_back p here), s)
 
   module _ (f : Fit) (e : f ≡ strip_fit p here) (h : not b ≡ false) where
-    pub enter-stripped : (j : ℕ) → f ≡ WrittenFit j → (here' : Text) → here' ≡ strip_buffer p here → length here' ≡ 255 → HoldsPath (cond b (strip p) p) j here'
+    pub enter_stripped : (j : ℕ) → f ≡ WrittenFit j → (here' : Text) → here' ≡ strip_buffer p here → length here' ≡ 255 → HoldsPath (cond b (strip p) p) j here'
     unfolding HoldsPath
-    enter-stripped j g here' w z =
-        rw (not_false b h) (strip-back p here f fits_here e j g here' w, omega (arith, strip_inside p here f fits_here e j g here' w, z))
+    enter_stripped j g here' w z =
+        rw (not_false b h) (strip_back p here f fits_here e j g here' w, omega (arith, strip_inside p here f fits_here e j g here' w, z))
 
 pub entered_size : (t : Text) (k : ℕ) (mem : Text) → HoldsPath t k mem → k ≤ 255
 unfolding HoldsPath
@@ -138,28 +138,28 @@ module _ (home : Bool) (s : LentRoute) (n : ℕ) (p : Text) (stripped : Bool) (f
           let same : take k here ≡ p = rw g at e.0 in
           (same, sym (length-take-le k here (omega (arith, l, e.1))) ∙ ap length same)
 
-      all-unaltered : r.unaltered ≡ unaltered_fast home s n (length p) p
-      all-unaltered = h.unaltered_is m w ∙ rw (entered.0, entered.1)
+      all_unaltered : r.unaltered ≡ unaltered_fast home s n (length p) p
+      all_unaltered = h.unaltered_is m w ∙ rw (entered.0, entered.1)
 
-      pub unaltered-inside : r.unaltered ≤ length p
-      unaltered-inside = rw all-unaltered (fast_le home s n (length p) p)
+      pub unaltered_inside : r.unaltered ≤ length p
+      unaltered_inside = rw all_unaltered (fast_le home s n (length p) p)
 
-    rest-is : length here ≡ 255 → rest_fast stripped (length p) r.unaltered ≡ route_rest_fast home s n p
+    rest_is : length here ≡ 255 → rest_fast stripped (length p) r.unaltered ≡ route_rest_fast home s n p
     unfolding route_rest_fast rest_fast
-    rest-is l = rw (← f) (go stripped refl)
+    rest_is l = rw (← f) (go stripped refl)
       where
         go : (b : Bool) → stripped ≡ b
             → cond b Nothing (From (length p - r.unaltered)) ≡ cond b Nothing (From (length p - unaltered_fast home s n (length p) p))
         go true g = refl
-        go false g = ap (λ (j : ℕ). From (length p - j)) (all-unaltered l g)
+        go false g = ap (λ (j : ℕ). From (length p - j)) (all_unaltered l g)
 
-    pub run-written : length here ≡ 255 → length there ≡ 255 → (rest : Rest) → rest ≡ rest_fast stripped (length p) r.unaltered → (c : Carried) → c ≡ with_rest (Written m) rest
+    pub run_written : length here ≡ 255 → length there ≡ 255 → (rest : Rest) → rest ≡ rest_fast stripped (length p) r.unaltered → (c : Carried) → c ≡ with_rest (Written m) rest
         → (out out' : Text) → 255 ≤ length out → out' ≡ written_if_fits 0 (take m there) out → ReturnsCarried whole (route_rest_fast home s n p) c out out'
     unfolding outcome_reply outcome_buffer
-    run-written l z rest t c g out out' a d =
+    run_written l z rest t c g out out' a d =
         let size : length (take m there) ≡ m = length-take-le m there run_inside in
         rw (same_run ∙ holds_path (run_route_fast home s n (take k here)) r.reply there h.outcome m w) (
-          g ∙ ap (with_rest (Written m)) (t ∙ rest-is l) ∙ ap (λ (j : ℕ). with_rest (Written j) (route_rest_fast home s n p)) (sym size),
+          g ∙ ap (with_rest (Written m)) (t ∙ rest_is l) ∙ ap (λ (j : ℕ). with_rest (Written j) (route_rest_fast home s n p)) (sym size),
           d ∙ placed_first (take m there) out (omega (arith, run_inside, z, a, size)),
         )
 
@@ -173,15 +173,15 @@ module _ (list : Validation) (home : Bool) (s : LentRoute) (p : Text) (room : �
 
   pub after_refused : (x : Refusal) → q ≡ RefusedValidation x → after_route_validated list home s p room ≡ refused x
   unfolding after_route_validated
-  after_refused x k = answered-refused (first_refusal list (path_new_call p)) room way q both x k
+  after_refused x k = answered_refused (first_refusal list (path_new_call p)) room way q both x k
 
   pub after_short : q ≡ Passed → room < 255 → after_route_validated list home s p room ≡ refused NoRoom
   unfolding after_route_validated
-  after_short k l = answered-short (first_refusal list (path_new_call p)) room way q both k l
+  after_short k l = answered_short (first_refusal list (path_new_call p)) room way q both k l
 
   pub after_passed : q ≡ Passed → 255 ≤ room → after_route_validated list home s p room ≡ way
   unfolding after_route_validated
-  after_passed k l = answered-passed (first_refusal list (path_new_call p)) room way q both k l
+  after_passed k l = answered_passed (first_refusal list (path_new_call p)) room way q both k l
 
 -- `needs_maps`
 module _ (list : Validation) (legs : List ℕ) (n : ℕ) where
@@ -206,20 +206,20 @@ module _ (home : Bool) (r : LentRoute) (p : Text) (room : ℕ) (list : Validatio
   whole_path h = record { is_legal = route_legal r p h; is_short = le-leb (length p) 255 (route_short r p h) }
 
   module _ (s : LentRoute) (k : s.count ≡ r.count) (ready : list ≡ Passed → Prepared r s r.count) where
-    validated-rest : validate_route r (p ∷ []) ≡ Passed → route_rest home (legs_in r r.count) p ≡ route_rest_fast home s s.count p
-    validated-rest h =
+    validated_rest : validate_route r (p ∷ []) ≡ Passed → route_rest home (legs_in r r.count) p ≡ route_rest_fast home s s.count p
+    validated_rest h =
         fast_rest r s home r.count (ready (none_earlier list (path_new_call p) (validated_same ∙ h)).0) (route_sound r (p ∷ []) h) p (whole_path h)
         ∙ ap (λ (n : ℕ). route_rest_fast home s n p) (sym k)
 
-    run-same : validate_route r (p ∷ []) ≡ Passed → run_route home (legs_in r r.count) p ≡ run_route_fast home s s.count (entering_path home s.count p)
-    run-same h =
+    run_same : validate_route r (p ∷ []) ≡ Passed → run_route home (legs_in r r.count) p ≡ run_route_fast home s s.count (entering_path home s.count p)
+    run_same h =
         fast_run_lem r s home r.count (ready (none_earlier list (path_new_call p) (validated_same ∙ h)).0) (route_sound r (p ∷ []) h) p (whole_path h)
         ∙ ap (λ (n : ℕ). run_route_fast home s n (entering_path home n p)) (sym k)
 
     pub call_is_after : route_call home r p room ≡ after_route_validated list home s p room
     unfolding route_call after_route_validated
     call_is_after =
-        answered_same (validate_route r (p ∷ [])) room (run_route home (legs_in r r.count) p) (run_route_fast home s s.count (entering_path home s.count p)) run-same
+        answered_same (validate_route r (p ∷ [])) room (run_route home (legs_in r r.count) p) (run_route_fast home s s.count (entering_path home s.count p)) run_same
         ∙ ap (λ (a : Validation). after_checks a room (run_route_fast home s s.count (entering_path home s.count p))) (sym validated_same)
 
     -- The rest matters only if the call is accepted.
@@ -227,7 +227,7 @@ module _ (home : Bool) (r : LentRoute) (p : Text) (room : ℕ) (list : Validatio
         → ReturnsCarried (route_call home r p room) (route_rest home (legs_in r r.count) p) c out out'
     unfolding route_call
     call_returns c out out' w =
-        let accepted : (q : Text) → route_call home r p room ≡ path q → route_rest home (legs_in r r.count) p ≡ route_rest_fast home s s.count p = λ q e. validated-rest (passed q e) in
+        let accepted : (q : Text) → route_call home r p room ≡ path q → route_rest home (legs_in r r.count) p ≡ route_rest_fast home s s.count p = λ q e. validated_rest (passed q e) in
         let rests = rest_if_path (route_call home r p room) (route_rest home (legs_in r r.count) p) (route_rest_fast home s s.count p) accepted in
         let returned : ReturnsCarried (route_call home r p room) (route_rest_fast home s s.count p) c out out' = rw call_is_after w in
         (returned.0 ∙ sym rests, returned.1)
@@ -241,12 +241,12 @@ module _ (home : Bool) (r : LentRoute) (p : Text) (room : ℕ) (list : Validatio
     unfolding needs_maps
     as_it_is w = prepared_itself r r.count (sym (rw w at h) ∙ not_true b k)
 
-    pub call-as-it-is : route_call home r p room ≡ after_route_validated list home r p room
-    call-as-it-is = call_is_after r refl as_it_is
+    pub call_as_it_is : route_call home r p room ≡ after_route_validated list home r p room
+    call_as_it_is = call_is_after r refl as_it_is
 
-    pub returns-as-it-is : (c : Carried) (out out' : Text) → ReturnsCarried (after_route_validated list home r p room) (route_rest_fast home r r.count p) c out out'
+    pub returns_as_it_is : (c : Carried) (out out' : Text) → ReturnsCarried (after_route_validated list home r p room) (route_rest_fast home r r.count p) c out out'
         → ReturnsCarried (route_call home r p room) (route_rest home (legs_in r r.count) p) c out out'
-    returns-as-it-is = call_returns r refl as_it_is
+    returns_as_it_is = call_returns r refl as_it_is
 
   -- A route with relocate lists is used with its prepared maps.
   module _ (s : LentRoute) (k : s.count ≡ r.count) (l : length s.places ≡ 4096) (m : length s.legs ≡ 48) (ready : PreparedIfPassed r s r.count) where
@@ -254,12 +254,12 @@ module _ (home : Bool) (r : LentRoute) (p : Text) (room : ℕ) (list : Validatio
     unfolding PreparedIfPassed
     prepared w = ready (sym e ∙ w) l m
 
-    pub call-prepared : route_call home r p room ≡ after_route_validated list home s p room
-    call-prepared = call_is_after s k prepared
+    pub call_prepared : route_call home r p room ≡ after_route_validated list home s p room
+    call_prepared = call_is_after s k prepared
 
-    pub returns-prepared : (c : Carried) (out out' : Text) → ReturnsCarried (after_route_validated list home s p room) (route_rest_fast home s s.count p) c out out'
+    pub returns_prepared : (c : Carried) (out out' : Text) → ReturnsCarried (after_route_validated list home s p room) (route_rest_fast home s s.count p) c out out'
         → ReturnsCarried (route_call home r p room) (route_rest home (legs_in r r.count) p) c out out'
-    returns-prepared = call_returns s k prepared
+    returns_prepared = call_returns s k prepared
 
 -- Over validated legs that are all maps, and a validated path, the quick way is the route over these maps.
 pub validated_maps_run : (home : Bool) (r : LentRoute) (p : Text) → validate_route r (p ∷ []) ≡ Passed → after_route_validated Passed home r p 255 ≡ run_route home (map_legs r r.count) p

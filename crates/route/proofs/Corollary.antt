@@ -64,22 +64,22 @@ passes = refl
 
 module _ (r : LentRoute) (p : Text) (plain : has_variant_selection p ≡ false) where
   module _ (h : validate_route r (p ∷ []) ≡ Passed) where
-    plain-path : SelectionFreePath p
+    plain_path : SelectionFreePath p
     unfolding at_most255
-    plain-path = record { is_legal = route_legal r p h; is_short = le-leb (length p) 255 (route_short r p h); is_plain = plain }
+    plain_path = record { is_legal = route_legal r p h; is_short = le-leb (length p) 255 (route_short r p h); is_plain = plain }
 
-    legs-passed : (validate_route r [] ≡ Passed) × (path_new_call p ≡ Passed)
-    legs-passed = none_earlier (validate_route r []) (path_new_call p) (route_one_by_one r p ∙ h)
+    legs_passed : (validate_route r [] ≡ Passed) × (path_new_call p ≡ Passed)
+    legs_passed = none_earlier (validate_route r []) (path_new_call p) (route_one_by_one r p ∙ h)
 
   -- The call home on the result of the call out.
   returns : (q : Text) (room after : ℕ) → route_call false r p room ≡ path q → 255 ≤ after → route_call true r q after ≡ path p
   unfolding route_call run_route
   returns q room after e l =
       let w = answered_path (validate_route r (p ∷ [])) room (fold_legs outward (legs_in r r.count) p) q e in
-      let c : SelectionFreePath q = run_next (legs_in r r.count) p q (route_ends_lem r (p ∷ []) w.0) (plain-path w.0) w.2 in
+      let c : SelectionFreePath q = run_next (legs_in r r.count) p q (route_ends_lem r (p ∷ []) w.0) (plain_path w.0) w.2 in
       path_answered (validate_route r (q ∷ [])) after (run_route true (legs_in r r.count) q)
-      (sym (route_one_by_one r q) ∙ rw ((legs-passed w.0).0, new_passed q c.is_short c.is_legal) passes) l
-      ∙ run_returns (legs_in r r.count) p q (route_ends_lem r (p ∷ []) w.0) (plain-path w.0) w.2
+      (sym (route_one_by_one r q) ∙ rw ((legs_passed w.0).0, new_passed q c.is_short c.is_legal) passes) l
+      ∙ run_returns (legs_in r r.count) p q (route_ends_lem r (p ∷ []) w.0) (plain_path w.0) w.2
 
 -- The first legs of a route are its legs.
 first_legs_lem : (r : LentRoute) (k n : ℕ) → legs_in (first_legs r k) n ≡ legs_in r n
@@ -99,7 +99,7 @@ module _ (r : LentRoute) (p : Text) (plain : has_variant_selection p ≡ false) 
   reached = rw (← first_legs_lem r k k) (answered_path (validate_route (first_legs r k) (p ∷ [])) room (fold_legs outward (legs_in (first_legs r k) k) p) t e)
 
   validated_on : validate_route (first_legs r (suc k)) (p ∷ []) ≡ Passed
-  validated_on = sym (route_one_by_one (first_legs r (suc k)) p) ∙ rw (h, (legs-passed (first_legs r k) p plain reached.0).1) passes
+  validated_on = sym (route_one_by_one (first_legs r (suc k)) p) ∙ rw (h, (legs_passed (first_legs r k) p plain reached.0).1) passes
 
   one_more : route_call false (first_legs r (suc k)) p room ≡ outward (leg_at r k) t
   unfolding route_call run_route legs_in
@@ -115,7 +115,7 @@ module _ (r : LentRoute) (p : Text) (plain : has_variant_selection p ≡ false) 
   its_path : SelectionFreePath t
   its_path =
       run_next (legs_in r k) p t (rw (← first_legs_lem r k k) (route_ends_lem (first_legs r k) (p ∷ []) reached.0))
-      (plain-path (first_legs r k) p plain reached.0) reached.2
+      (plain_path (first_legs r k) p plain reached.0) reached.2
 
   gives_exactly : no_empty_source (leg_map (leg_at r k)).pairs ≡ true → (q : Text)
       → (route_call false (first_legs r (suc k)) p room ≡ path q) ↔ PlainRoundTrip (leg_map (leg_at r k)) t q

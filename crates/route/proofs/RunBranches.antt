@@ -154,9 +154,9 @@ module _ (store : Text) (places legs : List ℕ) (n : ℕ) where
 
   -- `run_out`
   module _ (p : Text) where
-    pub out-begin : fold_legs (leg_fast false) (maps_in (route n) 0) p ≡ path p
+    pub out_begin : fold_legs (leg_fast false) (maps_in (route n) 0) p ≡ path p
     unfolding maps_in fold_legs
-    out-begin = refl
+    out_begin = refl
 
     module _ (k at : ℕ) (here : Text) (e : fold_legs (leg_fast false) (maps_in (route n) k) p ≡ path (take at here)) (r : Reply) (here' : Text)
         (h : HoldsOutcome (leg_fast false (map_at (route k) k) (take at here)) r here') where
@@ -164,8 +164,8 @@ module _ (store : Text) (places legs : List ℕ) (n : ℕ) where
       unfolding map_at list_at
       next = maps_on (route n) (leg_fast false) k p (take at here) e
 
-      pub out-on : (m : ℕ) → r ≡ Written m → fold_legs (leg_fast false) (maps_in (route n) (k + 1)) p ≡ path (take m here')
-      out-on m w = let z : k + 1 ≡ suc k = omega arith in rw z (next ∙ holds_path (leg_fast false (map_at (route k) k) (take at here)) r here' h m w)
+      pub out_on : (m : ℕ) → r ≡ Written m → fold_legs (leg_fast false) (maps_in (route n) (k + 1)) p ≡ path (take m here')
+      out_on m w = let z : k + 1 ≡ suc k = omega arith in rw z (next ∙ holds_path (leg_fast false (map_at (route k) k) (take at here)) r here' h m w)
 
       pub out_stopped : k < n → (x : Refusal) → r ≡ Refused x → HoldsOutcome (run_route_fast false (route n) n p) r here'
       unfolding run_route_fast
@@ -193,11 +193,11 @@ module _ (store : Text) (places legs : List ℕ) (n : ℕ) where
         let z : suc (k - 1) ≡ k = omega (arith, l) in
         sym (maps_back (route n) (leg_fast true) (k - 1) (take at here)) ∙ ap (λ (j : ℕ). fold_legs (leg_fast true) (reverse (maps_in (route n) j)) (take at here)) z ∙ e
 
-    pub home-on : (m : ℕ) → r ≡ Written m → left (take m here') ≡ run_route_fast true (route n) n p
-    home-on m w = ap (and_then left) (sym (holds_path leg r here' h m w)) ∙ back
+    pub home_on : (m : ℕ) → r ≡ Written m → left (take m here') ≡ run_route_fast true (route n) n p
+    home_on m w = ap (and_then left) (sym (holds_path leg r here' h m w)) ∙ back
 
-    pub home-stopped : (x : Refusal) → r ≡ Refused x → HoldsOutcome (run_route_fast true (route n) n p) r here'
-    home-stopped x w = holds_stopped (run_route_fast true (route n) n p) r here' x (sym back ∙ ap (and_then left) (holds_refused leg r here' h x w)) w
+    pub home_stopped : (x : Refusal) → r ≡ Refused x → HoldsOutcome (run_route_fast true (route n) n p) r here'
+    home_stopped x w = holds_stopped (run_route_fast true (route n) n p) r here' x (sym back ∙ ap (and_then left) (holds_refused leg r here' h x w)) w
 
   pub home_begin : (p : Text) → fold_legs (leg_fast true) (reverse (maps_in (route n) n)) p ≡ run_route_fast true (route n) n p
   unfolding run_route_fast

@@ -40,12 +40,12 @@ module _ (home : Bool) (m : Map) (p buf made : Text) (c : Carried) (w : ReturnsC
   run_over_refused x k mem = record { outcome = over_refused (leg_fast home m p) r mem replied.0 x k; unaltered_is = rest_told }
 
   module _ (n : ℕ) (k : r ≡ Written n) where
-    pub run-over-inside : n ≤ length made
-    run-over-inside = over_inside home m p buf made r replied n k
+    pub run_over_inside : n ≤ length made
+    run_over_inside = over_inside home m p buf made r replied n k
 
-    pub run-over-written : (here here' : Text) → length here ≡ 255 → here' ≡ written_if_fits 0 (take n made) here
+    pub run_over_written : (here here' : Text) → length here ≡ 255 → here' ≡ written_if_fits 0 (take n made) here
         → HoldsRun (leg_fast home m p) (rest_length home m p) (record { reply = Written n; unaltered = length t }) here'
-    run-over-written here here' l g = record {
+    run_over_written here here' l g = record {
       outcome = over_written home m p buf made r replied n k here here' l g;
       unaltered_is = λ j e. rest_told n k;
     }

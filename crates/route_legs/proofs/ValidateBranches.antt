@@ -73,18 +73,18 @@ module _ (store : Text) (places legs : List ℕ) where
 
   -- `validate_leg_lists`
   module _ (n : ℕ) where
-    pub lists-none : Passed ≡ validate_call (lists_in (lent_route store places legs n) 0) [] []
+    pub lists_none : Passed ≡ validate_call (lists_in (lent_route store places legs n) 0) [] []
     unfolding lists_in validate_call every first_failed
-    lists-none = refl
+    lists_none = refl
 
-    pub lists-on : (k : ℕ) (q a b : Validation) → q ≡ validate_call (lists_in (lent_route store places legs n) k) [] [] → a ≡ validate_call (list_at (lent_route store places legs k) k ∷ []) [] []
+    pub lists_on : (k : ℕ) (q a b : Validation) → q ≡ validate_call (lists_in (lent_route store places legs n) k) [] [] → a ≡ validate_call (list_at (lent_route store places legs k) k ∷ []) [] []
         → b ≡ first_refusal q a → b ≡ validate_call (lists_in (lent_route store places legs n) (k + 1)) [] []
     unfolding lists_in list_at
-    lists-on k q a b h i j =
+    lists_on k q a b h i j =
         j ∙ rw (h, i, add-one k) (sym (list_more (lists_in (lent_route store places legs n) k) (list_at (lent_route store places legs n) k)))
 
-    pub lists-end : (k : ℕ) (q : Validation) → n ≤ k → k ≤ n → q ≡ validate_call (lists_in (lent_route store places legs n) k) [] [] → q ≡ validate_call (lists_in (lent_route store places legs n) n) [] []
-    lists-end k q h i e = let z : k ≡ n = omega arith in rw z at e
+    pub lists_end : (k : ℕ) (q : Validation) → n ≤ k → k ≤ n → q ≡ validate_call (lists_in (lent_route store places legs n) k) [] [] → q ≡ validate_call (lists_in (lent_route store places legs n) n) [] []
+    lists_end k q h i e = let z : k ≡ n = omega arith in rw z at e
 
   -- `validate_legs`
   lists_same : (m n k : ℕ) → lists_in (lent_route store places legs m) k ≡ lists_in (lent_route store places legs n) k

@@ -16,7 +16,7 @@ use Rattle.text.proofs.BoolLaws.{known_false, known_true, and_no}
 use Rattle.pair_list_write.specs.Lists.{copy_entry}
 use Rattle.pair_list_write.specs.Select.{indices_where, written_entries, HoldsEntries}
 use Rattle.route_legs.proofs.LegBranches.{leg_written}
-use Rattle.pair_list_write.proofs.SelectLaws.{selected_none, selected-turn}
+use Rattle.pair_list_write.proofs.SelectLaws.{selected_none, selected_turn}
 use Rattle.validate.specs.Validate.{LentList, lent_list, count_within_limit}
 use Rattle.validate.specs.Select.{can_select}
 use Rattle.map_canonical.specs.Canonical.{canonical_selection}
@@ -38,7 +38,7 @@ module _ (places block₀ : List ℕ) where
       → block' ≡ written_entries places (all (i + 1)) block₀
   unfolding indices_where
   copy_on i block block' h k e f =
-      rw (add-one i) (selected-turn places i (all i) block₀ block i h (sym (all_length i), e) true (λ _. k) (i + 1) block' refl f).1
+      rw (add-one i) (selected_turn places i (all i) block₀ block i h (sym (all_length i), e) true (λ _. k) (i + 1) block' refl f).1
 
   pub copy_end : (n i : ℕ) (block : List ℕ) → n ≤ i → i ≤ n → block ≡ written_entries places (all i) block₀ → block ≡ written_entries places (all n) block₀
   copy_end n i block h k e = let z : i ≡ n = omega arith in rw z at e
@@ -68,13 +68,13 @@ module _ (store : Text) (places : List ℕ) (kind n : ℕ) (block : List ℕ) wh
   leg_relocates h r block' e = rw (le-leb 2 kind h) e
 
   module _ (h : kind < 2) (b : Bool) (e : b ≡ can_select (lent_list [] places n) (length block)) where
-    pub leg-none : not b ≡ true → Leaves 0 block
+    pub leg_none : not b ≡ true → Leaves 0 block
     unfolding leg_selection leg_block leg_source_list can_select count_within_limit
-    leg-none k = rw (lt-leb 2 kind h, known_false e k) (selected_none places block)
+    leg_none k = rw (lt-leb 2 kind h, known_false e k) (selected_none places block)
 
-    pub leg-copied : not b ≡ false → (block' : List ℕ) → block' ≡ written_entries places (indices_where (λ (i : ℕ). true) n) block → Leaves n block'
+    pub leg_copied : not b ≡ false → (block' : List ℕ) → block' ≡ written_entries places (indices_where (λ (i : ℕ). true) n) block → Leaves n block'
     unfolding leg_selection leg_block leg_source_list can_select count_within_limit
-    leg-copied k block' f = rw (lt-leb 2 kind h, known_true e k) (sym (all_length n), f)
+    leg_copied k block' f = rw (lt-leb 2 kind h, known_true e k) (sym (all_length n), f)
 
 -- `map_kind`
 module _ (kind : ℕ) where

@@ -23,13 +23,13 @@ module _ (legs : List ℕ) where
   relocates_none = some_none (relocating legs)
 
   module _ (k v : ℕ) (e : v ≡ kind_at legs k) where
-    pub relocates-found : (n : ℕ) → k < n → 2 ≤ v → true ≡ has_relocates legs n
+    pub relocates_found : (n : ℕ) → k < n → 2 ≤ v → true ≡ has_relocates legs n
     unfolding has_relocates
-    relocates-found n h l = sym (some_hit (relocating legs) n k h (rw (← e) (le-leb 2 v l)))
+    relocates_found n h l = sym (some_hit (relocating legs) n k h (rw (← e) (le-leb 2 v l)))
 
-    pub relocates-on : has_relocates legs k ≡ false → v < 2 → has_relocates legs (k + 1) ≡ false
+    pub relocates_on : has_relocates legs k ≡ false → v < 2 → has_relocates legs (k + 1) ≡ false
     unfolding has_relocates
-    relocates-on h l = some_on (relocating legs) k h (rw (← e) (lt-leb 2 v l))
+    relocates_on h l = some_on (relocating legs) k h (rw (← e) (lt-leb 2 v l))
 
   pub relocates_end : (n k : ℕ) → n ≤ k → k ≤ n → has_relocates legs k ≡ false → false ≡ has_relocates legs n
   relocates_end n k h l e = let z : k ≡ n = omega arith in sym (rw z at e)

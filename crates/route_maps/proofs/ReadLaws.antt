@@ -86,9 +86,9 @@ module _ (store : Text) (places : List ℕ) (n : ℕ) where
       unfolding count_within_limit
       counts = rw (le-leb w 64 few, l) (le-leb w 64 few)
 
-      of-both : (room : ℕ) → pairs_if_selectable (lent_list store act w) room (canonicalize true (without_root_pairs (pairs_in store act w))) ≡ pairs_if_selectable lent room (relocate_map list).pairs
+      of_both : (room : ℕ) → pairs_if_selectable (lent_list store act w) room (canonicalize true (without_root_pairs (pairs_in store act w))) ≡ pairs_if_selectable lent room (relocate_map list).pairs
       unfolding pairs_if_selectable can_select canonicalize without_root_pairs
-      of-both room = go (count_within_limit lent) refl
+      of_both room = go (count_within_limit lent) refl
         where
           go : (b : Bool) → count_within_limit lent ≡ b → pairs_if_selectable (lent_list store act w) room (canonicalize true (without_root_pairs (pairs_in store act w))) ≡ pairs_if_selectable lent room (relocate_map list).pairs
           go true k = rw (counts, e, k, relocate_pairs) refl
@@ -105,7 +105,7 @@ module _ (store : Text) (places : List ℕ) (n : ℕ) where
       let z : length zeros ≡ 256 = length-replicate {A = ℕ} 256 0 in
       let l : length act ≡ 256 = selected_length places (active_selection lent 256) zeros (omega (arith, few act w e, z)) ∙ z in
       let picks : List ℕ = canonical_selection (lent_list store act w) true room in
-      canonical_read store act true w room block (written_entries act picks block) (length picks) (refl, refl) ∙ of-both act w e l room
+      canonical_read store act true w room block (written_entries act picks block) (length picks) (refl, refl) ∙ of_both act w e l room
 
 -- A leg's map.
 relocate_leg : (kind : ℕ) (l : List Pair) → 2 ≤ kind → leg_map (leg_of kind l) ≡ relocate_map l

@@ -219,10 +219,10 @@ module _ (l : List Pair) (ends : all_ends l ≡ true) (skip : Option Text) where
     dots : lacks_byte 46 q ≡ lacks_byte 46 (own_part p)
     dots = next_keeps l ends 46 dot_not skip (own_part p) q made
 
-    step-agrees : (n k : ℕ) → ((r : Text) → legal r ≡ true → Agree r (chain_from skip l n r (suc k)) (chain_from skip l n (own_part r) (suc k)))
+    step_agrees : (n k : ℕ) → ((r : Text) → legal r ≡ true → Agree r (chain_from skip l n r (suc k)) (chain_from skip l n (own_part r) (suc k)))
         → Agree p (chain_step (chain_from skip l n) p k (some (q ++ target_part p))) (chain_step (chain_from skip l n) (own_part p) k (some q))
     unfolding Agree chain_step checked chained_with_target
-    step-agrees n k later = short (at_most255 whole) refl
+    step_agrees n k later = short (at_most255 whole) refl
       where
         whole : Text
         whole = q ++ target_part p
@@ -230,18 +230,18 @@ module _ (l : List Pair) (ends : all_ends l ≡ true) (skip : Option Text) where
         both : legal whole ≡ legal q
         both = made_legal p e q unbracketed dots
 
-        legal-both : (b : Bool) → legal whole ≡ b → at_most255 q ≡ true
+        legal_both : (b : Bool) → legal whole ≡ b → at_most255 q ≡ true
             → Agree p (continue_chain (chain_from skip l n) k (cond b (path whole) (refused MadeIllegal))) (continue_chain (chain_from skip l n) k (checked q))
-        legal-both true h s =
+        legal_both true h s =
             rw (s, ← both, h)
             (agree_same p whole (made_target p e q unbracketed dots) (chain_from skip l n whole (suc k)) (chain_from skip l n (own_part whole) (suc k)) (chain_from skip l n q (suc k))
             (ap (λ (o : Text). chain_from skip l n o (suc k)) (made_own p e q unbracketed dots)) (later whole h))
-        legal-both false h s = rw (s, ← both, h) (inl refl)
+        legal_both false h s = rw (s, ← both, h) (inl refl)
 
         short : (b : Bool) → at_most255 whole ≡ b
             → Agree p (continue_chain (chain_from skip l n) k (cond b (cond (legal whole) (path whole) (refused MadeIllegal)) (refused MadeTooLong)))
             (continue_chain (chain_from skip l n) k (checked q))
-        short true h = legal-both (legal whole) refl (made_shorter p e q unbracketed dots h)
+        short true h = legal_both (legal whole) refl (made_shorter p e q unbracketed dots h)
         short false h = inr refl
 
   chain_agrees : (n : ℕ) (p : Text) → legal p ≡ true → (k : ℕ) → Agree p (chain_from skip l n p k) (chain_from skip l n (own_part p) k)
@@ -253,7 +253,7 @@ module _ (l : List Pair) (ends : all_ends l ≡ true) (skip : Option Text) where
           → ((r : Text) → legal r ≡ true → Agree r (chain_from skip l n r (suc k)) (chain_from skip l n (own_part r) (suc k)))
           → Agree p (chain_step (chain_from skip l n) p k (followed_by_target p o)) (chain_step (chain_from skip l n) (own_part p) k o)
       go none h later = inl (ap (λ (x : Text). chained x k) (sym (own_parts p)))
-      go (some q) h later = step-agrees p e q h n k later
+      go (some q) h later = step_agrees p e q h n k later
 
   pub chain_leaves : (p : Text) → legal p ≡ true → (chain skip l p ≡ chained_with_target p (chain skip l (own_part p))) ⊎ (chain skip l p ≡ stopped MadeTooLong)
   unfolding chain Agree

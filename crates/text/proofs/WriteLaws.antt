@@ -107,11 +107,11 @@ module _ (t buf : Text) (f : Fit) (h : f ≡ fit_of t buf) (n : ℕ) (e : f ≡ 
   fit_is = fit_length t buf n (sym h ∙ e)
 
   module _ (mem : Text) (m : mem ≡ written_if_fits 0 t buf) where
-    pub fit-back : take n mem ≡ t
-    fit-back = rw (m, placed_first t buf (fit_room t buf n (sym h ∙ e)), fit_is) (read_back t buf)
+    pub fit_back : take n mem ≡ t
+    fit_back = rw (m, placed_first t buf (fit_room t buf n (sym h ∙ e)), fit_is) (read_back t buf)
 
-    pub fit-part : n ≡ length (take n mem)
-    fit-part = fit_is ∙ ap length (sym fit-back)
+    pub fit_part : n ≡ length (take n mem)
+    fit_part = fit_is ∙ ap length (sym fit_back)
 
-    pub fit-inside : n ≤ length mem
-    fit-inside = omega (arith, fit-part, length-take n mem)
+    pub fit_inside : n ≤ length mem
+    fit_inside = omega (arith, fit_part, length-take n mem)

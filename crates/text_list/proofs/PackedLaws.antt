@@ -128,18 +128,18 @@ module _ (l : List Text) (n at : ℕ) (o : Text) (p : List ℕ) (bytes : Text) (
   packed_append k = record {
     number = rw (length-append l k, c.number) refl;
     end = rw (size_append l k, c.end) refl;
-    text = rw (c.text, at-is, bytes_append l k) (over_written (text_bytes l) (text_bytes k) o);
-    places = rw (c.places, n-is, zero-at, places_append 0 l k) (over_written (text_places 0 l) (text_places (0 + text_size l) k) p);
+    text = rw (c.text, at_is, bytes_append l k) (over_written (text_bytes l) (text_bytes k) o);
+    places = rw (c.places, n_is, zero_at, places_append 0 l k) (over_written (text_places 0 l) (text_places (0 + text_size l) k) p);
   }
     where
-      at-is : at ≡ length (text_bytes l)
-      at-is = c.end ∙ sym (bytes_length l)
+      at_is : at ≡ length (text_bytes l)
+      at_is = c.end ∙ sym (bytes_length l)
 
-      n-is : 2 * n ≡ length (text_places 0 l)
-      n-is = ap (λ (m : ℕ). 2 * m) c.number ∙ sym (places_length 0 l)
+      n_is : 2 * n ≡ length (text_places 0 l)
+      n_is = ap (λ (m : ℕ). 2 * m) c.number ∙ sym (places_length 0 l)
 
-      zero-at : at ≡ 0 + text_size l
-      zero-at = omega (arith, c.end)
+      zero_at : at ≡ 0 + text_size l
+      zero_at = omega (arith, c.end)
 
   -- A list with at least as many texts and bytes written over it.
   pub packed_over : (k : List Text) (n' at' : ℕ) (bytes' : Text) (slots' : List ℕ) → PackedTexts k n' at' bytes slots bytes' slots' → n ≤ n' → at ≤ at'

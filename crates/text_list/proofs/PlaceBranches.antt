@@ -91,17 +91,17 @@ module _ (t : Text) (n at : ℕ) (bytes : Text) (slots : List ℕ) where
     unfolding text_fits
     fits = rw (le-leb (at + length t) (length bytes) h, le-leb (2 * n + 2) (length slots) g)
 
-    pub push-done : (bytes' : Text) (slots' : List ℕ) → bytes' ≡ written_if_fits at t bytes → slots' ≡ written_if_fits (2 * n) (at ∷ length t ∷ []) slots
+    pub push_done : (bytes' : Text) (slots' : List ℕ) → bytes' ≡ written_if_fits at t bytes → slots' ≡ written_if_fits (2 * n) (at ∷ length t ∷ []) slots
         → Pushed (at + length t) bytes' slots'
     unfolding text_end bytes_with_text places_with_text written_if_fits text_places
-    push-done bytes' slots' e f =
+    push_done bytes' slots' e f =
         rw fits (
           refl,
           (e ∙ rw (le-leb (at + length t) (length bytes) h) refl, f ∙ rw (le-leb (2 * n + 2) (length slots) g) refl),
         )
 
     -- If the text fits, it is appended.
-    pub push-there : (r : ℕ) (bytes' : Text) (slots' : List ℕ) → Pushed r bytes' slots'
+    pub push_there : (r : ℕ) (bytes' : Text) (slots' : List ℕ) → Pushed r bytes' slots'
         → (r ≡ at + length t) × ((bytes' ≡ written_at at t bytes) × (slots' ≡ written_at (2 * n) (text_places at (t ∷ [])) slots))
     unfolding text_end bytes_with_text places_with_text
-    push-there r bytes' slots' w = rw fits at w
+    push_there r bytes' slots' w = rw fits at w

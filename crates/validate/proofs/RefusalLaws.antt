@@ -23,18 +23,18 @@ module _ (a b : Validation) where
   earlier_passed h = rw h
 
   module _ (x : Refusal) (h : a ≡ Refused x) where
-    pub earlier-only : b ≡ Passed → Refused x ≡ first_refusal a b
+    pub earlier_only : b ≡ Passed → Refused x ≡ first_refusal a b
     unfolding first_refusal
-    earlier-only k = rw (h, k)
+    earlier_only k = rw (h, k)
 
     module _ (y : Refusal) (k : b ≡ Refused y) (m n : ℕ) (e : m ≡ refusal_rank x) (f : n ≡ refusal_rank y) where
-      pub earlier-first : m ≤ n → Refused x ≡ first_refusal a b
+      pub earlier_first : m ≤ n → Refused x ≡ first_refusal a b
       unfolding first_refusal
-      earlier-first l = rw (h, k, ← e, ← f, le-leb m n l)
+      earlier_first l = rw (h, k, ← e, ← f, le-leb m n l)
 
-      pub earlier-second : n < m → Refused y ≡ first_refusal a b
+      pub earlier_second : n < m → Refused y ≡ first_refusal a b
       unfolding first_refusal
-      earlier-second l = rw (h, k, ← e, ← f, lt-leb m n l)
+      earlier_second l = rw (h, k, ← e, ← f, lt-leb m n l)
 
 -- A refusal differs from a passed validation.
 pub never : (x : Refusal) → Refused x ≡ Passed → ⊥

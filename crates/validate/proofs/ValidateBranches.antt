@@ -53,18 +53,18 @@ module _ (passes : Text → Bool) (store : Text) (places : List ℕ) (count : �
   first_fails h = rw (known_false e h)
 
   module _ (h : not a ≡ false) (b : Bool) (f : b ≡ passes q) where
-    pub second-fails : not b ≡ true → false ≡ (every passes (p ∷ q ∷ []) && list_all passes (lent_list store places count))
+    pub second_fails : not b ≡ true → false ≡ (every passes (p ∷ q ∷ []) && list_all passes (lent_list store places count))
     unfolding every
-    second-fails k = rw (known_true e h, known_false f k)
+    second_fails k = rw (known_true e h, known_false f k)
 
-    pub list-decides : not b ≡ false → (r : Bool) → r ≡ list_all passes (lent_list store places count)
+    pub list_decides : not b ≡ false → (r : Bool) → r ≡ list_all passes (lent_list store places count)
         → r ≡ (every passes (p ∷ q ∷ []) && list_all passes (lent_list store places count))
     unfolding every
-    list-decides k r i = rw (known_true e h, known_true f k) i
+    list_decides k r i = rw (known_true e h, known_true f k) i
 
     pub list_passes : not b ≡ false → (n : ℕ) → n ≡ present_places (lent_list [] places count) → (r : Bool) → r ≡ places_all passes store places n
         → r ≡ (every passes (p ∷ q ∷ []) && list_all passes (lent_list store places count))
-    list_passes k n g r i = list-decides k r (list_scanned passes store places count n g r i)
+    list_passes k n g r i = list_decides k r (list_scanned passes store places count n g r i)
 
 -- If a list has only ends, its texts are legal.
 ends_legal : (store : Text) (places : List ℕ) (n : ℕ) → places_all is_end store places n ≡ true → places_all legal store places n ≡ true
@@ -140,14 +140,14 @@ module _ (store : Text) (places : List ℕ) (count : ℕ) where
       h ∙ rw (ha, hb, hc, hd, and_yes (list_short (lent_list store places count)), and_yes (list_all legal (lent_list store places count)), and_yes (list_all is_end (lent_list store places count)), and_yes (count_within_limit (lent_list store places count))) refl
 
   module _ (store2 : Text) (places2 : List ℕ) (count2 : ℕ) where
-    pub two-lists : (e : Text) → e ≡ [] → (a a2 a12 b b2 b12 c c2 c12 d d2 d12 : Bool)
+    pub two_lists : (e : Text) → e ≡ [] → (a a2 a12 b b2 b12 c c2 c12 d d2 d12 : Bool)
         → a ≡ (every at_most255 (e ∷ e ∷ []) && list_short (lent_list store places count)) → a2 ≡ (every at_most255 (e ∷ e ∷ []) && list_short (lent_list store2 places2 count2)) → a12 ≡ (a && a2)
         → b ≡ (every legal (e ∷ e ∷ []) && list_all legal (lent_list store places count)) → b2 ≡ (every legal (e ∷ e ∷ []) && list_all legal (lent_list store2 places2 count2)) → b12 ≡ (b && b2)
         → c ≡ (every is_end (e ∷ e ∷ []) && list_all is_end (lent_list store places count)) → c2 ≡ (every is_end (e ∷ e ∷ []) && list_all is_end (lent_list store2 places2 count2)) → c12 ≡ (c && c2)
         → d ≡ count_within_limit (lent_list [] places count) → d2 ≡ count_within_limit (lent_list [] places2 count2) → d12 ≡ (d && d2)
         → (r : Validation) → r ≡ first_failed a12 b12 c12 d12 → r ≡ validate_call (lent_list store places count ∷ lent_list store2 places2 count2 ∷ []) [] []
     unfolding validate_call every count_within_limit at_most255 legal is_end
-    two-lists e n a a2 a12 b b2 b12 c c2 c12 d d2 d12 ha ha2 ha12 hb hb2 hb12 hc hc2 hc12 hd hd2 hd12 r h =
+    two_lists e n a a2 a12 b b2 b12 c c2 c12 d d2 d12 ha ha2 ha12 hb hb2 hb12 hc hc2 hc12 hd hd2 hd12 r h =
         h ∙ rw (
           ha12,
           ha,

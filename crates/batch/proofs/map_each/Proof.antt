@@ -1,6 +1,6 @@
 -- The loop. After i iterations the first i paths have the blocks and the replies of the single calls, and the rest of both buffers is as
 -- it was.
-use Rattle.batch.proofs.BatchLaws.{room-spot, room-block, room-number, step_bytes, step_numbers, steps_end}
+use Rattle.batch.proofs.BatchLaws.{room_spot, room_block, room_number, step_bytes, step_numbers, steps_end}
 use Rattle.batch.specs.BatchStep.{map_spot_by}
 use Rattle.batch.specs.Batch.{path_buffers, reply_numbers}
 use borrow.Author.Rules.{rules}
@@ -27,10 +27,10 @@ map-block-requires c κs =
     let at-loop = at-loop-test.before in
     let at-start = at-loop.before.before.before.before.before.before.before.before in
     let pre = at-start.requires in (
-      room-spot _ _ _ _ (pre) _ at-loop-test.loop-test.true,
+      room_spot _ _ _ _ (pre) _ at-loop-test.loop-test.true,
       (
-        omega (arith, at-loop.loop.invariant.3, room-block _ _ _ _ (pre) _ at-loop-test.loop-test.true),
-        omega (arith, at-loop.loop.invariant.4, room-number _ _ _ _ (pre) _ at-loop-test.loop-test.true),
+        omega (arith, at-loop.loop.invariant.3, room_block _ _ _ _ (pre) _ at-loop-test.loop-test.true),
+        omega (arith, at-loop.loop.invariant.4, room_number _ _ _ _ (pre) _ at-loop-test.loop-test.true),
       ),
     )
 
@@ -47,14 +47,14 @@ loop-again c = (
       let at-loop-test = at-map-block.before.before.before in
       let at-loop = at-loop-test.before in
       let at-start = at-loop.before.before.before.before.before.before.before.before in
-      step_bytes _ _ _ _ _ _ _ _ _ _ _ (room-block _ _ _ _ at-start.requires _ at-loop-test.loop-test.true) at-loop.loop.invariant.1
-      at-map-block.map-block.ensures.0),
+      step_bytes _ _ _ _ _ _ _ _ _ _ _ (room_block _ _ _ _ at-start.requires _ at-loop-test.loop-test.true) at-loop.loop.invariant.1
+      at-map-block.map_block.ensures.0),
   (let at-map-block = c.before.before.before.before in
       let at-loop-test = at-map-block.before.before.before in
       let at-loop = at-loop-test.before in
       let at-start = at-loop.before.before.before.before.before.before.before.before in
-      step_numbers _ _ _ _ _ _ _ _ _ _ _ (room-number _ _ _ _ at-start.requires _ at-loop-test.loop-test.true) at-loop.loop.invariant.2
-      at-map-block.map-block.ensures.1),
+      step_numbers _ _ _ _ _ _ _ _ _ _ _ (room_number _ _ _ _ at-start.requires _ at-loop-test.loop-test.true) at-loop.loop.invariant.2
+      at-map-block.map_block.ensures.1),
   search rules,
   search rules,
 )

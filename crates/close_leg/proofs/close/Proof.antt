@@ -2,7 +2,7 @@ use Rattle.relocates.proofs.ActiveLaws.{active_read}
 use Rattle.text.proofs.BoolLaws.{not_true, not_false}
 use native.Mathlib.Omega.{arith}
 use Rattle.validate.proofs.SelectLaws.{select_few, select_present}
-use Rattle.close_leg.proofs.CloseBranches.{close_damaged, close-as, all_counted, active-counted, active-held}
+use Rattle.close_leg.proofs.CloseBranches.{close_damaged, close_as, all_counted, active_counted, active_held}
 use borrow.Author.Rules.{rules}
 use Rattle.close_leg.proofs.close.Statement.{statement}
 use Rattle.close_leg.proofs.close.Tie as tie
@@ -36,7 +36,7 @@ returns-2 c =
     let at-if2 = at-close-list.before.before.before.before in
     let at-if1 = at-if2.before in
     let at-can-select = at-if1.before in
-    close-as _ _ _ _ _ _ at-can-select.can-select.ensures at-if1.if1.false _ (not_true _ at-if2.if2.true) _ (all_counted _ _ _) _ _ _ _
+    close_as _ _ _ _ _ _ at-can-select.can-select.ensures at-if1.if1.false _ (not_true _ at-if2.if2.true) _ (all_counted _ _ _) _ _ _ _
     at-close-list.close-list.ensures
 
 slice-aggregate-active-pairs : tie.Need-slice-aggregate-active-pairs
@@ -49,7 +49,7 @@ slice-aggregate-close-list : tie.Need-slice-aggregate-close-list
 slice-aggregate-close-list c = search rules
 
 close-list-requires-2 : tie.Need-close-list-requires-2
-close-list-requires-2 c κs = let f = active-held _ _ _ _ c.before.before.before.before.before.before.before.before.before.can-select.ensures c.before.before.before.before.before.before.before.before.if1.false _ _ _ (search rules) (active_read _ _ _ _ _ _ _ c.before.before.before.before.before.active-pairs.ensures) in (f, omega (arith, f))
+close-list-requires-2 c κs = let f = active_held _ _ _ _ c.before.before.before.before.before.before.before.before.before.can-select.ensures c.before.before.before.before.before.before.before.before.if1.false _ _ _ (search rules) (active_read _ _ _ _ _ _ _ c.before.before.before.before.before.active-pairs.ensures) in (f, omega (arith, f))
 
 same-length-4 : tie.Need-same-length-4
 same-length-4 c = search rules
@@ -62,11 +62,11 @@ same-length-6 c = search rules
 
 returns-3 : tie.Need-returns-3
 returns-3 c =
-    close-as _ _ _ _ _ _
+    close_as _ _ _ _ _ _
     c.before.before.before.before.before.before.before.before.before.before.before.before.before.before.before.before.can-select.ensures
     c.before.before.before.before.before.before.before.before.before.before.before.before.before.before.before.if1.false _
     (not_false _ c.before.before.before.before.before.before.before.before.before.before.before.before.before.before.if2.false) _
-    (active-counted _ _ _ _
+    (active_counted _ _ _ _
     c.before.before.before.before.before.before.before.before.before.before.before.before.before.before.before.before.can-select.ensures
     c.before.before.before.before.before.before.before.before.before.before.before.before.before.before.before.if1.false _ _ _
     (search rules)

@@ -1,7 +1,7 @@
 use native.Mathlib.Omega.{arith}
 use mathlib.Core.Path.{refl}
 use Rattle.map_canonical.proofs.KeptLaws.{canonical_read}
-use Rattle.close_leg.proofs.CloseBranches.{list_refused, list_fits, list-closed}
+use Rattle.close_leg.proofs.CloseBranches.{list_refused, list_fits, list_closed}
 use borrow.Author.Rules.{rules}
 use Rattle.close_leg.proofs.close_list.Statement.{statement}
 use Rattle.close_leg.proofs.close_list.Tie as tie
@@ -99,7 +99,7 @@ same-length-6 c = search rules
 
 returns-2 : tie.Need-returns-2
 returns-2 c =
-    list-closed _ _ _ _ _ _ _
+    list_closed _ _ _ _ _ _ _
     c.before.before.before.before.before.before.before.before.before.before.before.before.before.before.before.before.before.before.before.validate-close.ensures
     _
     c.before.before.before.before.before.before.before.before.before.before.before.before.before.before.before.before.before.enum_told.given.1

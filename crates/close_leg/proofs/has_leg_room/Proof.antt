@@ -1,4 +1,4 @@
-use Rattle.close_leg.proofs.CloseBranches.{leg_many, leg_beyond, leg-short, leg-more}
+use Rattle.close_leg.proofs.CloseBranches.{leg_many, leg_beyond, leg_short, leg_more}
 use Rattle.close_leg.proofs.has_leg_room.Statement.{statement}
 use Rattle.close_leg.proofs.has_leg_room.Tie as tie
 
@@ -14,7 +14,7 @@ returns-3 c =
     let at-if1 = at-if2.before in
     let at-start = at-if1.before in
     let args = at-start.args in
-    leg-short args.v args.slots.now args.table.now at-if1.if1.false at-if2.if2.false c.if3.true
+    leg_short args.v args.slots.now args.table.now at-if1.if1.false at-if2.if2.false c.if3.true
 
 returns-4 : tie.Need-returns-4
 returns-4 c =
@@ -22,7 +22,7 @@ returns-4 c =
     let at-if1 = at-if2.before in
     let at-start = at-if1.before in
     let args = at-start.args in
-    leg-more args.v args.slots.now args.table.now at-if1.if1.false at-if2.if2.false c.if3.false
+    leg_more args.v args.slots.now args.table.now at-if1.if1.false at-if2.if2.false c.if3.false
 
 pub has-leg-room-spec : {M : Type 1} → statement M
 has-leg-room-spec = tie.close (tie.spec returns returns-2 returns-3 returns-4)

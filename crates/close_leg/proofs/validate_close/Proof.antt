@@ -1,6 +1,6 @@
 use Rattle.pair_list_write.proofs.RoomBranches.{left_fits}
 use native.Mathlib.Omega.{arith}
-use Rattle.close_leg.proofs.CloseBranches.{leg_few, validate_many, validate-start, validate-over, validate-short, validate-done}
+use Rattle.close_leg.proofs.CloseBranches.{leg_few, validate_many, validate_start, validate_over, validate_short, validate_done}
 use borrow.Author.Rules.{rules}
 use Rattle.close_leg.proofs.validate_close.Statement.{statement}
 use Rattle.close_leg.proofs.validate_close.Tie as tie
@@ -12,7 +12,7 @@ returns : tie.Need-returns
 returns c = validate_many _ _ _ _ _ _ c.before.has-leg-room.ensures c.if1.true
 
 returns-2 : tie.Need-returns-2
-returns-2 c = validate-start _ _ _ _ _ _ c.before.before.has-leg-room.ensures c.before.if1.false c.if2.true
+returns-2 c = validate_start _ _ _ _ _ _ c.before.before.has-leg-room.ensures c.before.if1.false c.if2.true
 
 remaining-room-requires : tie.Need-remaining-room-requires
 remaining-room-requires c κs = search rules
@@ -29,7 +29,7 @@ returns-3 c =
     let at-if2 = at-remaining-room.before in
     let at-if1 = at-if2.before in
     let at-has-leg-room = at-if1.before in
-    validate-over _ _ _ _ _ _ at-has-leg-room.has-leg-room.ensures at-if1.if1.false at-if2.if2.false _
+    validate_over _ _ _ _ _ _ at-has-leg-room.has-leg-room.ensures at-if1.if1.false at-if2.if2.false _
     at-remaining-room.remaining-room.ensures c.enum_told.given.1
 
 sub-total : tie.Need-overflow-sub-total
@@ -42,7 +42,7 @@ returns-4 c =
     let at-if2 = at-remaining-room.before in
     let at-if1 = at-if2.before in
     let at-has-leg-room = at-if1.before in
-    validate-short _ _ _ _ _ _ at-has-leg-room.has-leg-room.ensures at-if1.if1.false at-if2.if2.false _
+    validate_short _ _ _ _ _ _ at-has-leg-room.has-leg-room.ensures at-if1.if1.false at-if2.if2.false _
     at-remaining-room.remaining-room.ensures _ at_room.room.given.1 c.if3.true
 
 add-t16 : tie.Need-overflow-add-t16
@@ -61,7 +61,7 @@ returns-5 c =
     let at-if2 = at-remaining-room.before in
     let at-if1 = at-if2.before in
     let at-has-leg-room = at-if1.before in
-    validate-done _ _ _ _ _ _ at-has-leg-room.has-leg-room.ensures at-if1.if1.false at-if2.if2.false _
+    validate_done _ _ _ _ _ _ at-has-leg-room.has-leg-room.ensures at-if1.if1.false at-if2.if2.false _
     at-remaining-room.remaining-room.ensures _ at_room.room.given.1 at-if3.if3.false
 
 pub validate-close-spec : {M : Type 1} → statement M

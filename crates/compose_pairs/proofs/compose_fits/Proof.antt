@@ -1,4 +1,4 @@
-use Rattle.compose_pairs.proofs.ComposeFitsBranches.{enough-room, enough-slots, enough-outer, enough-inner}
+use Rattle.compose_pairs.proofs.ComposeFitsBranches.{enough_room, enough_slots, enough_outer, enough_inner}
 use borrow.Author.Rules.{rules}
 use Rattle.compose_pairs.proofs.compose_fits.Statement.{statement}
 use Rattle.compose_pairs.proofs.compose_fits.Tie as tie
@@ -11,7 +11,7 @@ returns c =
     let at-sum-at-most = c.before in
     let at-start = at-sum-at-most.before.before.before.before.before in
     let args = at-start.args in
-    enough-room args.store.now args.places.now args.count args.istore.now args.iplaces.now args.inner args.room args.slots
+    enough_room args.store.now args.places.now args.count args.istore.now args.iplaces.now args.inner args.room args.slots
     _ at-sum-at-most.sum-at-most.ensures c.if1.true
 
 sum-at-most-requires-2 : tie.Need-sum-at-most-requires-2
@@ -24,7 +24,7 @@ returns-2 c =
     let at-sum-at-most = at-if1.before in
     let at-start = at-sum-at-most.before.before.before.before.before in
     let args = at-start.args in
-    enough-slots args.store.now args.places.now args.count args.istore.now args.iplaces.now args.inner args.room
+    enough_slots args.store.now args.places.now args.count args.istore.now args.iplaces.now args.inner args.room
     args.slots _ at-sum-at-most.sum-at-most.ensures at-if1.if1.false _ at-sum-at-most2.sum-at-most2.ensures c.if2.true
 
 all-at-most-requires : tie.Need-all-at-most-requires
@@ -39,7 +39,7 @@ returns-3 c =
     let at-sum-at-most = at-if1.before in
     let at-start = at-sum-at-most.before.before.before.before.before in
     let args = at-start.args in
-    enough-outer args.store.now args.places.now args.count args.istore.now args.iplaces.now args.inner args.room
+    enough_outer args.store.now args.places.now args.count args.istore.now args.iplaces.now args.inner args.room
     args.slots _ at-sum-at-most.sum-at-most.ensures at-if1.if1.false _ at-sum-at-most2.sum-at-most2.ensures at-if2.if2.false _
     at-all-at-most.all-at-most.ensures c.if3.true
 
@@ -56,7 +56,7 @@ returns-4 c =
     let at-sum-at-most = at-if1.before in
     let at-start = at-sum-at-most.before.before.before.before.before in
     let args = at-start.args in
-    enough-inner args.store.now args.places.now args.count args.istore.now args.iplaces.now args.inner args.room
+    enough_inner args.store.now args.places.now args.count args.istore.now args.iplaces.now args.inner args.room
     args.slots _ at-sum-at-most.sum-at-most.ensures at-if1.if1.false _ at-sum-at-most2.sum-at-most2.ensures at-if2.if2.false _
     at-all-at-most.all-at-most.ensures at-if3.if3.false _ c.all-at-most2.ensures
 

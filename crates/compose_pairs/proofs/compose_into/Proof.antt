@@ -1,7 +1,7 @@
 use Rattle.text.proofs.BoolLaws.{known_true, known_false}
 use Rattle.map_spec.specs.Map.{lent_map}
 use Rattle.compose_pairs.proofs.ComposeFitsBranches.{enough_back}
-use Rattle.compose_pairs.proofs.PackLaws.{into_none, into-packed}
+use Rattle.compose_pairs.proofs.PackLaws.{into_none, into_packed}
 use borrow.Author.Rules.{rules}
 use Rattle.compose_pairs.proofs.compose_into.Statement.{statement}
 use Rattle.compose_pairs.proofs.compose_into.Tie as tie
@@ -40,7 +40,7 @@ returns-2 c =
     let at-compose-fits = at-if1.before in
     let at-start = at-compose-fits.before.before.before.before.before.before.before in
     let args = at-start.args in
-    into-packed (lent_map args.store.now args.places.now args.count args.mark)
+    into_packed (lent_map args.store.now args.places.now args.count args.mark)
     (lent_map args.istore.now args.iplaces.now args.inner args.imark) args.bytes.now args.slots.now
     (known_true at-compose-fits.compose_fits_lem.ensures at-if1.if1.false) _ _ _ at-compose-both.compose-both.ensures
 

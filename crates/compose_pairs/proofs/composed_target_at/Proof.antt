@@ -1,4 +1,4 @@
-use Rattle.compose_pairs.proofs.PlainMappingBranches.{composed_empty, composed_room, composed-none, composed_made}
+use Rattle.compose_pairs.proofs.PlainMappingBranches.{composed_empty, composed_room, composed_none, composed_made}
 use borrow.Author.Rules.{rules}
 use Rattle.compose_pairs.proofs.composed_target_at.Statement.{statement}
 use Rattle.compose_pairs.proofs.composed_target_at.Tie as tie
@@ -25,7 +25,7 @@ returns-2 : tie.Need-returns-2
 returns-2 c =
     let at-map-at = c.before.before.before.before in
     let at-if1 = at-map-at.before.before in
-    composed-none _ _ _ _ at-if1.if1.false _ _ at-map-at.map_at.ensures.0 at-map-at.map_at.ensures.1 c.enum_told.given.1
+    composed_none _ _ _ _ at-if1.if1.false _ _ at-map-at.map_at.ensures.0 at-map-at.map_at.ensures.1 c.enum_told.given.1
 
 same-length-2 : tie.Need-same-length-2
 same-length-2 c = search rules

@@ -20,7 +20,7 @@ last-is-requires : tie.Need-last-is-requires
 last-is-requires c κs = search rules
 
 returns-2 : tie.Need-returns-2
-returns-2 c = join_not _ _ _ _ _ (omega arith) c.before.last-is.ensures c.if2.true
+returns-2 c = join_not _ _ _ _ _ (omega arith) c.before.last_is.ensures c.if2.true
 
 is-join-requires-2 : tie.Need-is-join-requires-2
 is-join-requires-2 c κs = search rules

@@ -1,8 +1,8 @@
 use Rattle.compose_pairs.specs.declared.Image.TheVariants.{Made}
 use mathlib.Core.Path.{refl, ap}
 use mathlib.Core.Bool.{false}
-use Rattle.compose_pairs.proofs.PlainMappingBranches.{map-none, map-block, map-join, room_of, answer_of}
-use Rattle.map_apply.proofs.MapBranches.{map-inside}
+use Rattle.compose_pairs.proofs.PlainMappingBranches.{map_none, map_block, map_join, room_of, answer_of}
+use Rattle.map_apply.proofs.MapBranches.{map_inside}
 use borrow.Author.Rules.{rules}
 use Rattle.compose_pairs.proofs.map_at.Statement.{statement}
 use Rattle.compose_pairs.proofs.map_at.Tie as tie
@@ -24,7 +24,7 @@ returns c =
     let at-start = at-best-prefix.before.before.before.before.before in
     let args = at-start.args in
     answer_of _ _
-    (map-none args.store.now args.places.now args.n args.mark args.path.now false at-best-prefix.best-prefix.result
+    (map_none args.store.now args.places.now args.n args.mark args.path.now false at-best-prefix.best-prefix.result
     at-best-prefix.best-prefix.ensures at-if1.if1.true)
     _ _ _ _ at-keep-at.keep_at.ensures
 
@@ -39,7 +39,7 @@ returns-2 c =
     let at-start = at-best-prefix.before.before.before.before.before in
     let args = at-start.args in
     answer_of _ _
-    (map-block args.store.now args.places.now args.n args.mark args.path.now false at-best-prefix.best-prefix.result
+    (map_block args.store.now args.places.now args.n args.mark args.path.now false at-best-prefix.best-prefix.result
     at-best-prefix.best-prefix.ensures at-if1.if1.false _ at-key-at.key-at.ensures c.if2.true)
     _ _ _ _ (refl, refl)
 
@@ -52,7 +52,7 @@ sub-join-at c =
     let at-best-prefix = at-if1.before.before in
     let at-start = at-best-prefix.before.before.before.before.before in
     let args = at-start.args in
-    map-inside args.store.now args.places.now args.n args.mark args.path.now false at-best-prefix.best-prefix.result
+    map_inside args.store.now args.places.now args.n args.mark args.path.now false at-best-prefix.best-prefix.result
     at-best-prefix.best-prefix.ensures at-if1.if1.false _ c.key-at2.ensures
 
 part-join-at-start : tie.Need-slice-bounds-join-at-start
@@ -61,7 +61,7 @@ part-join-at-start c =
     let at-best-prefix = at-if1.before.before in
     let at-start = at-best-prefix.before.before.before.before.before in
     let args = at-start.args in
-    map-inside args.store.now args.places.now args.n args.mark args.path.now false at-best-prefix.best-prefix.result
+    map_inside args.store.now args.places.now args.n args.mark args.path.now false at-best-prefix.best-prefix.result
     at-best-prefix.best-prefix.ensures at-if1.if1.false _ c.key-at2.ensures
 
 part-join-at-end : tie.Need-slice-bounds-join-at-end
@@ -77,7 +77,7 @@ join-at-requires c κs =
     let at-start = at-best-prefix.before.before.before.before.before in
     let args = at-start.args in
     room_of _ _
-    (map-join args.store.now args.places.now args.n args.mark args.path.now false at-best-prefix.best-prefix.result
+    (map_join args.store.now args.places.now args.n args.mark args.path.now false at-best-prefix.best-prefix.result
     at-best-prefix.best-prefix.ensures at-if1.if1.false _ _ _ at-key-at.key-at.ensures at-if2.if2.false at-key-at2.key-at2.ensures
     at-key-at.key-at.ensures)
     _ args.bytes.now at-start.requires
@@ -96,7 +96,7 @@ returns-3 c =
     let at-start = at-best-prefix.before.before.before.before.before in
     let args = at-start.args in
     answer_of _ _
-    (map-join args.store.now args.places.now args.n args.mark args.path.now false at-best-prefix.best-prefix.result
+    (map_join args.store.now args.places.now args.n args.mark args.path.now false at-best-prefix.best-prefix.result
     at-best-prefix.best-prefix.ensures at-if1.if1.false _ _ _ at-key-at.key-at.ensures at-if2.if2.false at-key-at2.key-at2.ensures
     at-key-at.key-at.ensures)
     _ _ _ _ (ap Made at-join-at.join-at.ensures.0, at-join-at.join-at.ensures.1)

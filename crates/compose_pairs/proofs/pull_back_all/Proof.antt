@@ -8,7 +8,7 @@ use Rattle.map_spec.specs.Compose.{pulled_back}
 use Rattle.map_spec.specs.Map.{lent_map}
 use Rattle.pair_list_write.specs.Packed.{PackedList}
 use Rattle.pair_list_write.proofs.PackedLaws.{packed_stored}
-use Rattle.compose_pairs.proofs.ComposeBranches.{pull_begin, pull_room, pull_slot, pull-number, pull-bound, pull-next, pull_end}
+use Rattle.compose_pairs.proofs.ComposeBranches.{pull_begin, pull_room, pull_slot, pull_number, pull_bound, pull_next, pull_end}
 use borrow.Author.Rules.{rules}
 use Rattle.compose_pairs.proofs.pull_back_all.Statement.{statement}
 use Rattle.compose_pairs.proofs.pull_back_all.Tie as tie
@@ -76,7 +76,7 @@ loop-again c = (
       let at-loop = at-loop-test.before in
       let at-start = at-loop.before.before.before.before.before.before.before in
       let args = at-start.args in
-      pull-number (lent_map args.istore.now args.iplaces.now args.inner args.mark) at-start.requires.0.inner_ends
+      pull_number (lent_map args.istore.now args.iplaces.now args.inner args.mark) at-start.requires.0.inner_ends
       (pairs_in args.bytes.now args.slots.now args.inner) args.store.now args.places.now args.count at-start.requires.0.outer_ends
       args.inner at-loop.loop.i at-loop-test.loop-test.true at-loop.loop.b.n at-loop.loop.b.at at-loop.loop.invariant.1
       at-loop.loop.invariant.2 _ _ at-key-at.key-at.ensures at-key-at2.key-at2.ensures _ _ _ _ at-loop.loop.invariant.3 _ _ _ _
@@ -88,7 +88,7 @@ loop-again c = (
       let at-loop = at-loop-test.before in
       let at-start = at-loop.before.before.before.before.before.before.before in
       let args = at-start.args in
-      pull-bound (lent_map args.istore.now args.iplaces.now args.inner args.mark) at-start.requires.0.inner_ends
+      pull_bound (lent_map args.istore.now args.iplaces.now args.inner args.mark) at-start.requires.0.inner_ends
       (pairs_in args.bytes.now args.slots.now args.inner) args.store.now args.places.now args.count at-start.requires.0.outer_ends
       args.inner at-loop.loop.i at-loop-test.loop-test.true at-loop.loop.b.n at-loop.loop.b.at at-loop.loop.invariant.1
       at-loop.loop.invariant.2 _ _ at-key-at.key-at.ensures at-key-at2.key-at2.ensures _ _ _ _ at-loop.loop.invariant.3 _ _ _ _
@@ -100,7 +100,7 @@ loop-again c = (
       let at-loop = at-loop-test.before in
       let at-start = at-loop.before.before.before.before.before.before.before in
       let args = at-start.args in
-      pull-next (lent_map args.istore.now args.iplaces.now args.inner args.mark) at-start.requires.0.inner_ends
+      pull_next (lent_map args.istore.now args.iplaces.now args.inner args.mark) at-start.requires.0.inner_ends
       (pairs_in args.bytes.now args.slots.now args.inner) args.store.now args.places.now args.count at-start.requires.0.outer_ends
       args.inner at-loop.loop.i at-loop-test.loop-test.true at-loop.loop.b.n at-loop.loop.b.at at-loop.loop.invariant.1
       at-loop.loop.invariant.2 _ _ at-key-at.key-at.ensures at-key-at2.key-at2.ensures _ _ _ _ at-loop.loop.invariant.3 _ _ _ _

@@ -2,10 +2,10 @@ use mathlib.Core.Path.{refl}
 use mathlib.Core.Bool.{true}
 use Rattle.pair_list.specs.Places.{pairs_in}
 use Rattle.map_spec.specs.Map.{lent_map}
-use Rattle.map_apply.proofs.MapBranches.{map-inside}
+use Rattle.map_apply.proofs.MapBranches.{map_inside}
 use Rattle.compose_pairs.specs.ComposePairs.{map_plainly}
-use Rattle.compose_pairs.proofs.PlainMappingBranches.{map-none, home-join}
-use Rattle.compose_pairs.proofs.PullBackBranches.{pull_unmarked, pull_marked, pull_none, pull-fits, pull-some}
+use Rattle.compose_pairs.proofs.PlainMappingBranches.{map_none, home_join}
+use Rattle.compose_pairs.proofs.PullBackBranches.{pull_unmarked, pull_marked, pull_none, pull_fits, pull_some}
 use borrow.Author.Rules.{rules}
 use Rattle.compose_pairs.proofs.pull_back_pair.Statement.{statement}
 use Rattle.compose_pairs.proofs.pull_back_pair.Tie as tie
@@ -23,7 +23,7 @@ returns c =
     pull_none (pairs_in args.bytes.now args.slots.now args.b.n) args.t.now its-mapPlainly args.b.n args.b.at args.bytes.now
     args.slots.now
     (pull_unmarked args.s.now its-mapPlainly args.mark
-    (map-none args.store.now args.places.now args.count args.mark args.s.now true at-best-prefix.best-prefix.result
+    (map_none args.store.now args.places.now args.count args.mark args.s.now true at-best-prefix.best-prefix.result
     at-best-prefix.best-prefix.ensures at-if1.if1.true)
     c.if2.true)
     at-start.requires.0
@@ -45,10 +45,10 @@ add-joined-requires c κs =
     let its-mapPlainly = map_plainly true (lent_map args.store.now args.places.now args.count args.mark) args.s.now in (
       pre.0,
       (
-        pull-fits (pairs_in args.bytes.now args.slots.now args.b.n) args.t.now its-mapPlainly args.b.n args.b.at
+        pull_fits (pairs_in args.bytes.now args.slots.now args.b.n) args.t.now its-mapPlainly args.b.n args.b.at
             args.bytes.now args.slots.now _
             (pull_marked args.s.now its-mapPlainly args.mark
-            (map-none args.store.now args.places.now args.count args.mark args.s.now true at-best-prefix.best-prefix.result
+            (map_none args.store.now args.places.now args.count args.mark args.s.now true at-best-prefix.best-prefix.result
             at-best-prefix.best-prefix.ensures at-if1.if1.true)
             at-if2.if2.false)
             pre.1.0,
@@ -71,10 +71,10 @@ returns-2 c =
     let at-start = at-best-prefix.before.before.before.before.before.before.before in
     let args = at-start.args in
     let its-mapPlainly = map_plainly true (lent_map args.store.now args.places.now args.count args.mark) args.s.now in
-    pull-some (pairs_in args.bytes.now args.slots.now args.b.n) args.t.now its-mapPlainly args.b.n args.b.at args.bytes.now
+    pull_some (pairs_in args.bytes.now args.slots.now args.b.n) args.t.now its-mapPlainly args.b.n args.b.at args.bytes.now
     args.slots.now _
     (pull_marked args.s.now its-mapPlainly args.mark
-    (map-none args.store.now args.places.now args.count args.mark args.s.now true at-best-prefix.best-prefix.result
+    (map_none args.store.now args.places.now args.count args.mark args.s.now true at-best-prefix.best-prefix.result
     at-best-prefix.best-prefix.ensures at-if1.if1.true)
     at-if2.if2.false)
     _ _ _ _ at-add-joined.add-joined.ensures
@@ -92,7 +92,7 @@ sub-add-joined c =
     let at-best-prefix = at-if1.before.before in
     let at-start = at-best-prefix.before.before.before.before.before.before.before in
     let args = at-start.args in
-    map-inside args.store.now args.places.now args.count args.mark args.s.now true at-best-prefix.best-prefix.result
+    map_inside args.store.now args.places.now args.count args.mark args.s.now true at-best-prefix.best-prefix.result
     at-best-prefix.best-prefix.ensures at-if1.if1.false _ at-key-at.key-at.ensures
 
 part-add-joined-start : tie.Need-slice-bounds-add-joined-start
@@ -102,7 +102,7 @@ part-add-joined-start c =
     let at-best-prefix = at-if1.before.before in
     let at-start = at-best-prefix.before.before.before.before.before.before.before in
     let args = at-start.args in
-    map-inside args.store.now args.places.now args.count args.mark args.s.now true at-best-prefix.best-prefix.result
+    map_inside args.store.now args.places.now args.count args.mark args.s.now true at-best-prefix.best-prefix.result
     at-best-prefix.best-prefix.ensures at-if1.if1.false _ at-key-at.key-at.ensures
 
 part-add-joined-end : tie.Need-slice-bounds-add-joined-end
@@ -119,10 +119,10 @@ add-joined-requires-2 c κs =
     let pre = at-start.requires in (
       pre.0,
       (
-        pull-fits (pairs_in args.bytes.now args.slots.now args.b.n) args.t.now
+        pull_fits (pairs_in args.bytes.now args.slots.now args.b.n) args.t.now
             (map_plainly true (lent_map args.store.now args.places.now args.count args.mark) args.s.now) args.b.n args.b.at
             args.bytes.now args.slots.now _
-            (home-join args.store.now args.places.now args.count args.mark args.s.now true at-best-prefix.best-prefix.result
+            (home_join args.store.now args.places.now args.count args.mark args.s.now true at-best-prefix.best-prefix.result
             at-best-prefix.best-prefix.ensures at-if1.if1.false refl _ _ at-key-at.key-at.ensures at-key-at2.key-at2.ensures)
             pre.1.0,
         pre.1.1,
@@ -144,10 +144,10 @@ returns-3 c =
     let at-best-prefix = at-if1.before.before in
     let at-start = at-best-prefix.before.before.before.before.before.before.before in
     let args = at-start.args in
-    pull-some (pairs_in args.bytes.now args.slots.now args.b.n) args.t.now
+    pull_some (pairs_in args.bytes.now args.slots.now args.b.n) args.t.now
     (map_plainly true (lent_map args.store.now args.places.now args.count args.mark) args.s.now) args.b.n args.b.at
     args.bytes.now args.slots.now _
-    (home-join args.store.now args.places.now args.count args.mark args.s.now true at-best-prefix.best-prefix.result
+    (home_join args.store.now args.places.now args.count args.mark args.s.now true at-best-prefix.best-prefix.result
     at-best-prefix.best-prefix.ensures at-if1.if1.false refl _ _ at-key-at.key-at.ensures at-key-at2.key-at2.ensures)
     _ _ _ _ at-add-joined2.add-joined2.ensures
 

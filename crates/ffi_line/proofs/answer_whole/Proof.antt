@@ -1,6 +1,6 @@
 -- The questions put before the line decide the branch.
 use Rattle.ffi_line.specs.LineCall.{whole_line}
-use Rattle.ffi_line.proofs.CallBranches.{call-short, call-full, call-room, call-open}
+use Rattle.ffi_line.proofs.CallBranches.{call_short, call_full, call_room, call_open}
 use borrow.Author.Rules.{rules}
 use Rattle.ffi_line.proofs.answer_whole.Statement.{statement}
 use Rattle.ffi_line.proofs.answer_whole.Tie as tie
@@ -26,7 +26,7 @@ process-line-requires c κs =
     let at-check-line = at-enum-told2.before.before in
     let at-start = at-check-line.before.before.before.before.before.before.before.before.before.before.before.before.before.before.before in
     let args = at-start.args in
-    call-room args.kept.now args.bytes.now args.places.now args.store.now args.slots.now args.table.now args.out.now
+    call_room args.kept.now args.bytes.now args.places.now args.store.now args.slots.now args.table.now args.out.now
     (whole_line args.line.now) _ at-check-line.check-line.ensures at-enum-told2.enum-told2.given.1
 
 same_length : tie.Need-same-length
@@ -57,7 +57,7 @@ returns c =
     let at-check-line = at_c.before.before in
     let at-start = at-check-line.before.before.before.before.before.before.before.before.before.before.before.before.before.before.before in
     let args = at-start.args in
-    call-short args.kept.now args.bytes.now args.places.now args.store.now args.slots.now args.table.now args.out.now
+    call_short args.kept.now args.bytes.now args.places.now args.store.now args.slots.now args.table.now args.out.now
     (whole_line args.line.now) _ at-check-line.check-line.ensures _ _ at_c.c.given.1 _ _ at-write-short.write-short.ensures.0 at-write-short.write-short.ensures.1
 
 same-length-8 : tie.Need-same-length-8
@@ -83,7 +83,7 @@ returns-2 c =
     let at-check-line = c.before.before in
     let at-start = at-check-line.before.before.before.before.before.before.before.before.before.before.before.before.before.before.before in
     let args = at-start.args in
-    call-full args.kept.now args.bytes.now args.places.now args.store.now args.slots.now args.table.now args.out.now
+    call_full args.kept.now args.bytes.now args.places.now args.store.now args.slots.now args.table.now args.out.now
     (whole_line args.line.now) _ at-check-line.check-line.ensures c.enum_told.given.1
 
 same-length-14 : tie.Need-same-length-14
@@ -114,7 +114,7 @@ returns-3 c =
     let at-check-line = at-enum-told2.before.before in
     let at-start = at-check-line.before.before.before.before.before.before.before.before.before.before.before.before.before.before.before in
     let args = at-start.args in
-    call-open args.kept.now args.bytes.now args.places.now args.store.now args.slots.now args.table.now args.out.now
+    call_open args.kept.now args.bytes.now args.places.now args.store.now args.slots.now args.table.now args.out.now
     (whole_line args.line.now) _ at-check-line.check-line.ensures at-enum-told2.enum-told2.given.1 _ _ _ _ at-process-line.process-line.ensures.0
     at-process-line.process-line.ensures.1
 

@@ -5,7 +5,7 @@ use Rattle.text.proofs.WriteLaws.{part_size}
 use Rattle.frame_decode.proofs.HeaderLaws.{kind_few}
 use Rattle.frame_decode.proofs.LineLaws.{line_within}
 use Rattle.ffi_line.specs.LineCall.{lent_memory}
-use Rattle.ffi_line.proofs.CallBranches.{roomy_kept, whole_parsed, check_bad, check-full, check-refused, check-open, counted_use}
+use Rattle.ffi_line.proofs.CallBranches.{roomy_kept, whole_parsed, check_bad, check_full, check_refused, check_open, counted_use}
 use borrow.Author.Rules.{rules}
 use Rattle.ffi_line.proofs.check_line.Statement.{statement}
 use Rattle.ffi_line.proofs.check_line.Tie as tie
@@ -52,7 +52,7 @@ returns-2 c =
     let at-start = at-decode-line.before.before.before.before.before.before.before.before.before in
     let args = at-start.args in
     let m = lent_memory args.kept.now args.bytes.now args.places.now args.store.now args.slots.now args.table.now in
-    check-full _ _ at-decode-frame.decode-frame.ensures _ (whole_parsed args.line.now _ _ _ refl at-decode-line.decode-line.ensures) args.kept.now m args.room _ _ at-d.d.given.1 _ at-has-line-room.has-line-room.ensures c.if1.true
+    check_full _ _ at-decode-frame.decode-frame.ensures _ (whole_parsed args.line.now _ _ _ refl at-decode-line.decode-line.ensures) args.kept.now m args.room _ _ at-d.d.given.1 _ at-has-line-room.has-line-room.ensures c.if1.true
 
 counters-of-requires : tie.Need-counters-of-requires
 counters-of-requires c κs =
@@ -103,7 +103,7 @@ returns-3 c =
     let used =
     counted_use args.kept.now args.bytes.now args.places.now args.store.now args.slots.now args.table.now _
     at-counters-of.counters-of.ensures _ _ at-validate-use.validate-use.ensures in
-    check-refused _ _ at-decode-frame.decode-frame.ensures _ (whole_parsed args.line.now _ _ _ refl at-decode-line.decode-line.ensures) args.kept.now m args.room _ _ at-d.d.given.1 _ at-has-line-room.has-line-room.ensures at-if1.if1.false _ used _ at-q.q.given.1
+    check_refused _ _ at-decode-frame.decode-frame.ensures _ (whole_parsed args.line.now _ _ _ refl at-decode-line.decode-line.ensures) args.kept.now m args.room _ _ at-d.d.given.1 _ at-has-line-room.has-line-room.ensures at-if1.if1.false _ used _ at-q.q.given.1
     _ c.number-byte.ensures
 
 enum-told-2 : tie.Need-enum-told-2
@@ -124,7 +124,7 @@ returns-4 c =
     let used =
     counted_use args.kept.now args.bytes.now args.places.now args.store.now args.slots.now args.table.now _
     at-counters-of.counters-of.ensures _ _ at-validate-use.validate-use.ensures in
-    check-open _ _ at-decode-frame.decode-frame.ensures _ (whole_parsed args.line.now _ _ _ refl at-decode-line.decode-line.ensures) args.kept.now m args.room _ _ at-d.d.given.1 _ at-has-line-room.has-line-room.ensures at-if1.if1.false _ used
+    check_open _ _ at-decode-frame.decode-frame.ensures _ (whole_parsed args.line.now _ _ _ refl at-decode-line.decode-line.ensures) args.kept.now m args.room _ _ at-d.d.given.1 _ at-has-line-room.has-line-room.ensures at-if1.if1.false _ used
     c.enum-told2.given.1
 
 pub check-line-spec : {M : Type 1} → statement M

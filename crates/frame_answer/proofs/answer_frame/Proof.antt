@@ -2,7 +2,7 @@
 use mathlib.Core.List.{[]}
 use native.Mathlib.Omega.{arith}
 use Rattle.frame_decode.proofs.HeaderLaws.{header_within, kind_few}
-use Rattle.frame_answer.proofs.FrameBranches.{frame_bad, frame-acted, frame-fits}
+use Rattle.frame_answer.proofs.FrameBranches.{frame_bad, frame_acted, frame_fits}
 use borrow.Author.Rules.{rules}
 use Rattle.frame_answer.proofs.answer_frame.Statement.{statement}
 use Rattle.frame_answer.proofs.answer_frame.Tie as tie
@@ -60,7 +60,7 @@ write-reply-requires c κs = (
   (let at-apply-frame = c.before.before.before.before.before.before.before.before.before.before.before.before.before.before in
       let at-d = at-apply-frame.before.before.before.before.before.before.before.before in
       let at-decode-frame = at-d.before.before in
-      frame-fits _ _ at-decode-frame.decode-frame.ensures _ 0 0 [] [] _ _ at-d.d.given.1 _ _ _ _ at-apply-frame.apply-frame.ensures),
+      frame_fits _ _ at-decode-frame.decode-frame.ensures _ 0 0 [] [] _ _ at-d.d.given.1 _ _ _ _ at-apply-frame.apply-frame.ensures),
   (
     search rules,
     (let at-d =
@@ -97,7 +97,7 @@ returns-2 c =
     at-write-reply.before.before.before.before.before.before.before.before.before.before.before.before.before.before.before in
     let at-d = at-apply-frame.before.before.before.before.before.before.before.before in
     let at-decode-frame = at-d.before.before in
-    frame-acted _ _ at-decode-frame.decode-frame.ensures _ _ _ _ _ _ _ at-d.d.given.1 _ _ _ _ at-apply-frame.apply-frame.ensures
+    frame_acted _ _ at-decode-frame.decode-frame.ensures _ _ _ _ _ _ _ at-d.d.given.1 _ _ _ _ at-apply-frame.apply-frame.ensures
     at-write-reply.write-reply.ensures
 
 pub answer-frame-spec : {M : Type 1} → statement M

@@ -25,11 +25,11 @@ same-length-3 c = search rules
 returns : tie.Need-returns
 returns c =
     let at_c = c.before in
-    let at-close = at_c.before.before.before.before.before.before.before.before in
-    let at-start = at-close.before.before.before.before.before.before.before.before.before.before.before in
+    let at_close = at_c.before.before.before.before.before.before.before.before in
+    let at-start = at_close.before.before.before.before.before.before.before.before.before.before.before in
     let args = at-start.args in
     close_done _ (frames_memory args.k args.bytes.now args.places.now args.store.now args.slots.now args.table.now) _
-    at-close.close.ensures.0 _ at-close.close.ensures.1.0 _ at-close.close.ensures.1.1.0 _ at-close.close.ensures.1.1.1 _
+    at_close.close.ensures.0 _ at_close.close.ensures.1.0 _ at_close.close.ensures.1.1.0 _ at_close.close.ensures.1.1.1 _
     at_c.c.given.1
 
 same-length-4 : tie.Need-same-length-4
@@ -44,11 +44,11 @@ same-length-6 c = search rules
 returns-2 : tie.Need-returns-2
 returns-2 c =
     let at-c2 = c.before in
-    let at-close = at-c2.before.before.before.before.before.before.before.before in
-    let at-start = at-close.before.before.before.before.before.before.before.before.before.before.before in
+    let at_close = at-c2.before.before.before.before.before.before.before.before in
+    let at-start = at_close.before.before.before.before.before.before.before.before.before.before.before in
     let args = at-start.args in
     close_refused _ (frames_memory args.k args.bytes.now args.places.now args.store.now args.slots.now args.table.now) _
-    at-close.close.ensures.0 _ at-close.close.ensures.1.0 _ at-close.close.ensures.1.1.0 _ at-close.close.ensures.1.1.1 _
+    at_close.close.ensures.0 _ at_close.close.ensures.1.0 _ at_close.close.ensures.1.1.0 _ at_close.close.ensures.1.1.1 _
     at-c2.c2.given.1
 
 pub apply-close-spec : {M : Type 1} → statement M

@@ -1,5 +1,5 @@
 -- A path home and a refused path leave the count; a path out adds one below FFFFFFFF.
-use Rattle.frame_apply.proofs.ApplyBranches.{count_home, count-refused, count_held, count_more}
+use Rattle.frame_apply.proofs.ApplyBranches.{count_home, count_refused, count_held, count_more}
 use borrow.Author.Rules.{rules}
 use Rattle.frame_apply.proofs.count_out.Statement.{statement}
 use Rattle.frame_apply.proofs.count_out.Tie as tie
@@ -14,7 +14,7 @@ returns-2 : tie.Need-returns-2
 returns-2 c =
     let at-r = c.before in
     let at-if1 = at-r.before.before in
-    count-refused _ _ _ at-if1.if1.false _ at-r.r.given.1
+    count_refused _ _ _ at-if1.if1.false _ at-r.r.given.1
 
 enum_told : tie.Need-enum-told
 enum_told c = search rules

@@ -1,5 +1,5 @@
 -- An overlong line has no bytes; otherwise the bytes are those that the digits decode to.
-use Rattle.frame_decode.proofs.LineLaws.{line_long, line_beyond, line-bytes, line-bad, line-over}
+use Rattle.frame_decode.proofs.LineLaws.{line_long, line_beyond, line_bytes_lem, line_bad, line_over}
 use borrow.Author.Rules.{rules}
 use Rattle.frame_decode.proofs.decode_line.Statement.{statement}
 use Rattle.frame_decode.proofs.decode_line.Tie as tie
@@ -35,7 +35,7 @@ returns-3 c =
     let at-decode = at-d.before.before.before.before in
     let at-if2 = at-decode.before.before.before in
     let at-if1 = at-if2.before in
-    line-bytes _ _ at-if1.if1.false at-if2.if2.false _ _ _ at-decode.decode.ensures.0 at-decode.decode.ensures.1 _
+    line_bytes_lem _ _ at-if1.if1.false at-if2.if2.false _ _ _ at-decode.decode.ensures.0 at-decode.decode.ensures.1 _
     at-d.d.given.1
 
 same-length-2 : tie.Need-same-length-2
@@ -46,7 +46,7 @@ returns-4 c =
     let at-decode = c.before.before.before.before in
     let at-if2 = at-decode.before.before.before in
     let at-if1 = at-if2.before in
-    line-bad _ _ at-if1.if1.false at-if2.if2.false _ _ _ at-decode.decode.ensures.0 at-decode.decode.ensures.1
+    line_bad _ _ at-if1.if1.false at-if2.if2.false _ _ _ at-decode.decode.ensures.0 at-decode.decode.ensures.1
     c.enum_told.given.1
 
 same-length-3 : tie.Need-same-length-3
@@ -57,7 +57,7 @@ returns-5 c =
     let at-decode = c.before.before.before.before in
     let at-if2 = at-decode.before.before.before in
     let at-if1 = at-if2.before in
-    line-over _ _ at-if1.if1.false at-if2.if2.false _ _ _ at-decode.decode.ensures.0 at-decode.decode.ensures.1
+    line_over _ _ at-if1.if1.false at-if2.if2.false _ _ _ at-decode.decode.ensures.0 at-decode.decode.ensures.1
     c.enum-told2.given.1
 
 pub decode-line-spec : {M : Type 1} → statement M

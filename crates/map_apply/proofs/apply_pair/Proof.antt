@@ -1,4 +1,4 @@
-use Rattle.map_apply.proofs.MapBranches.{path_written, path_over, apply_illegal, apply-made}
+use Rattle.map_apply.proofs.MapBranches.{path_written, path_over, apply_illegal, apply_made}
 use borrow.Author.Rules.{rules}
 use Rattle.map_apply.proofs.apply_pair.Statement.{statement}
 use Rattle.map_apply.proofs.apply_pair.Tie as tie
@@ -38,12 +38,12 @@ enum_told c = search rules
 
 returns-2 : tie.Need-returns-2
 returns-2 c =
-    apply-made _ _ _ _ _ c.before.before.before.before.before.before.before.is-join-illegal.ensures c.before.before.before.before.before.before.if1.false _ _
+    apply_made _ _ _ _ _ c.before.before.before.before.before.before.before.is-join-illegal.ensures c.before.before.before.before.before.before.if1.false _ _
     (path_written _ _ _ c.before.before.before.join.ensures.0 (search rules) _ _ c.before.fit.given.1 c.before.before.before.join.ensures.1)
 
 returns-3 : tie.Need-returns-3
 returns-3 c =
-    apply-made _ _ _ _ _ c.before.before.before.before.before.before.is-join-illegal.ensures c.before.before.before.before.before.if1.false _ _
+    apply_made _ _ _ _ _ c.before.before.before.before.before.before.is-join-illegal.ensures c.before.before.before.before.before.if1.false _ _
     (path_over _ _ _ c.before.before.join.ensures.0 (search rules) _ c.enum_told.given.1 c.before.before.join.ensures.1)
 
 pub apply-pair-spec : {M : Type 1} → statement M

@@ -1,5 +1,5 @@
 use Rattle.path_rest.proofs.CarriedLaws.{refusing_carried, answering_carried}
-use Rattle.map_apply.proofs.MapBranches.{map-none, map-block, map_apply, map-inside, rest-none, rest-found}
+use Rattle.map_apply.proofs.MapBranches.{map_none, map_block, map_apply, map_inside, rest_none, rest_found}
 use borrow.Author.Rules.{rules}
 use Rattle.map_apply.proofs.map_text_carried.Statement.{statement}
 use Rattle.map_apply.proofs.map_text_carried.Tie as tie
@@ -21,8 +21,8 @@ returns c =
     let args = at-best-prefix.before.before.before.before.args in
     let found = at-best-prefix.best-prefix.result in
     let is_found = at-best-prefix.best-prefix.ensures in
-    answering_carried _ _ _ _ (map-none _ _ _ args.mark _ args.invert found is_found at-if1.if1.true)
-    (rest-none _ _ _ args.mark _ args.invert found is_found at-if1.if1.true) _ _ _ _ c.with_rest.ensures at-keep-path.keep-path.ensures
+    answering_carried _ _ _ _ (map_none _ _ _ args.mark _ args.invert found is_found at-if1.if1.true)
+    (rest_none _ _ _ args.mark _ args.invert found is_found at-if1.if1.true) _ _ _ _ c.with_rest.ensures at-keep-path.keep-path.ensures
 
 key-at-requires : tie.Need-key-at-requires
 key-at-requires c κs = search rules
@@ -34,7 +34,7 @@ returns-2 c =
     let at-best-prefix = at-if1.before.before in
     let args = at-best-prefix.before.before.before.before.args in
     refusing_carried _ _ _
-    (map-block _ _ _ args.mark _ args.invert at-best-prefix.best-prefix.result at-best-prefix.best-prefix.ensures at-if1.if1.false _
+    (map_block _ _ _ args.mark _ args.invert at-best-prefix.best-prefix.result at-best-prefix.best-prefix.ensures at-if1.if1.false _
     at-key-at.key-at.ensures c.if2.true)
     _
 
@@ -50,7 +50,7 @@ apply-pair-requires c κs =
     let at-if1 = at-key-at2.before.before.before in
     let at-best-prefix = at-if1.before.before in
     let args = at-best-prefix.before.before.before.before.args in
-    map-inside _ _ _ args.mark _ args.invert at-best-prefix.best-prefix.result at-best-prefix.best-prefix.ensures at-if1.if1.false _
+    map_inside _ _ _ args.mark _ args.invert at-best-prefix.best-prefix.result at-best-prefix.best-prefix.ensures at-if1.if1.false _
     at-key-at2.key-at2.ensures
 
 rest-index-requires : tie.Need-rest-index-requires
@@ -75,7 +75,7 @@ returns-3 c =
     answering_carried _ _ _ _
     (map_apply _ _ _ args.mark _ args.invert found is_found at-if1.if1.false _ _ _ at-key-at.key-at.ensures at-if2.if2.false
     at-key-at2.key-at2.ensures at-key-at3.key-at3.ensures)
-    (rest-found _ _ _ args.mark _ args.invert found is_found at-if1.if1.false _ _ at-key-at2.key-at2.ensures at-rest-index.rest-index.ensures)
+    (rest_found _ _ _ args.mark _ args.invert found is_found at-if1.if1.false _ _ at-key-at2.key-at2.ensures at-rest-index.rest-index.ensures)
     _ _ _ _ c.with-rest2.ensures at-apply-pair.apply-pair.ensures
 
 pub map-text-carried-spec : {M : Type 1} → statement M

@@ -1,5 +1,5 @@
 use mathlib.Core.Path.{refl}
-use Rattle.text.proofs.WriteLaws.{fit-part, fit-inside}
+use Rattle.text.proofs.WriteLaws.{fit_part, fit_inside}
 use Rattle.refusal.proofs.CallBranches.{refusing, answering}
 use Rattle.map_apply.proofs.TranslateBranches.{pair_over, pair_other, pair_same}
 use borrow.Author.Rules.{rules}
@@ -26,13 +26,13 @@ array-share-prefix-made : tie.Need-array-share-prefix-made
 array-share-prefix-made c =
     let at-fit = c.before in
     let at_join = at-fit.before.before.before in
-    fit-inside _ _ _ at_join.join.ensures.0 _ at-fit.fit.given.1 _ at_join.join.ensures.1
+    fit_inside _ _ _ at_join.join.ensures.0 _ at-fit.fit.given.1 _ at_join.join.ensures.1
 
 slice-aggregate-is-longest-match : tie.Need-slice-aggregate-is-longest-match
 slice-aggregate-is-longest-match c =
     let at-fit = c.before.before in
     let at_join = at-fit.before.before.before in
-    fit-part _ _ _ at_join.join.ensures.0 _ at-fit.fit.given.1 _ at_join.join.ensures.1
+    fit_part _ _ _ at_join.join.ensures.0 _ at-fit.fit.given.1 _ at_join.join.ensures.1
 
 is-longest-match-requires : tie.Need-is-longest-match-requires
 is-longest-match-requires c κs = search rules
@@ -54,13 +54,13 @@ array-share-prefix-made-2 : tie.Need-array-share-prefix-made-2
 array-share-prefix-made-2 c =
     let at-fit = c.before.before.before.before.before in
     let at_join = at-fit.before.before.before in
-    fit-inside _ _ _ at_join.join.ensures.0 _ at-fit.fit.given.1 _ at_join.join.ensures.1
+    fit_inside _ _ _ at_join.join.ensures.0 _ at-fit.fit.given.1 _ at_join.join.ensures.1
 
 slice-aggregate-finish-join : tie.Need-slice-aggregate-finish-join
 slice-aggregate-finish-join c =
     let at-fit = c.before.before.before.before.before.before in
     let at_join = at-fit.before.before.before in
-    fit-part _ _ _ at_join.join.ensures.0 _ at-fit.fit.given.1 _ at_join.join.ensures.1
+    fit_part _ _ _ at_join.join.ensures.0 _ at-fit.fit.given.1 _ at_join.join.ensures.1
 
 finish-join-requires : tie.Need-finish-join-requires
 finish-join-requires c κs = search rules

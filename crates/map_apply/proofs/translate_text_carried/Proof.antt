@@ -1,8 +1,8 @@
 use mathlib.Core.Bool.{false}
 use Rattle.text.proofs.WriteLaws.{rest_whole}
 use Rattle.path_rest.proofs.CarriedLaws.{refusing_carried, answering_carried}
-use Rattle.map_apply.proofs.MapBranches.{map-inside}
-use Rattle.map_apply.proofs.TranslateBranches.{text_none, text-block, text-pair, source-none, source-found}
+use Rattle.map_apply.proofs.MapBranches.{map_inside}
+use Rattle.map_apply.proofs.TranslateBranches.{text_none, text_block, text_pair, source_none, source_found}
 use borrow.Author.Rules.{rules}
 use Rattle.map_apply.proofs.translate_text_carried.Statement.{statement}
 use Rattle.map_apply.proofs.translate_text_carried.Tie as tie
@@ -23,7 +23,7 @@ returns c =
     let at-best-prefix = at-if1.before.before in
     let found = at-best-prefix.best-prefix.result in
     let is_found = at-best-prefix.best-prefix.ensures in
-    answering_carried _ _ _ _ (text_none _ _ _ _ _ found is_found at-if1.if1.true) (source-none _ _ _ _ _ found is_found at-if1.if1.true) _ _ _ _
+    answering_carried _ _ _ _ (text_none _ _ _ _ _ found is_found at-if1.if1.true) (source_none _ _ _ _ _ found is_found at-if1.if1.true) _ _ _ _
     c.with_rest.ensures at-translate-by-mark.translate-by-mark.ensures
 
 key-at-requires : tie.Need-key-at-requires
@@ -35,7 +35,7 @@ returns-2 c =
     let at-if1 = at-key-at.before in
     let at-best-prefix = at-if1.before.before in
     refusing_carried _ _ _
-    (text-block _ _ _ _ _ at-best-prefix.best-prefix.result at-best-prefix.best-prefix.ensures at-if1.if1.false _
+    (text_block _ _ _ _ _ at-best-prefix.best-prefix.result at-best-prefix.best-prefix.ensures at-if1.if1.false _
     at-key-at.key-at.ensures c.if2.true)
     _
 
@@ -47,7 +47,7 @@ sub-translate-by-pair c =
     let at-if1 = c.before.before.before in
     let at-best-prefix = at-if1.before.before in
     let args = at-best-prefix.before.before.before.before.args in
-    map-inside _ _ _ args.mark _ false at-best-prefix.best-prefix.result at-best-prefix.best-prefix.ensures at-if1.if1.false _
+    map_inside _ _ _ args.mark _ false at-best-prefix.best-prefix.result at-best-prefix.best-prefix.ensures at-if1.if1.false _
     c.key-at2.ensures
 
 part-translate-by-pair-start : tie.Need-slice-bounds-translate-by-pair-start
@@ -55,7 +55,7 @@ part-translate-by-pair-start c =
     let at-if1 = c.before.before.before in
     let at-best-prefix = at-if1.before.before in
     let args = at-best-prefix.before.before.before.before.args in
-    map-inside _ _ _ args.mark _ false at-best-prefix.best-prefix.result at-best-prefix.best-prefix.ensures at-if1.if1.false _
+    map_inside _ _ _ args.mark _ false at-best-prefix.best-prefix.result at-best-prefix.best-prefix.ensures at-if1.if1.false _
     c.key-at2.ensures
 
 part-translate-by-pair-end : tie.Need-slice-bounds-translate-by-pair-end
@@ -82,8 +82,8 @@ returns-3 c =
     let found = at-best-prefix.best-prefix.result in
     let is_found = at-best-prefix.best-prefix.ensures in
     answering_carried _ _ _ _
-    (text-pair _ _ _ _ _ found is_found at-if1.if1.false _ _ at-key-at.key-at.ensures at-if2.if2.false at-key-at2.key-at2.ensures)
-    (source-found _ _ _ _ _ found is_found at-if1.if1.false _ _ at-key-at2.key-at2.ensures at-rest-index.rest-index.ensures)
+    (text_pair _ _ _ _ _ found is_found at-if1.if1.false _ _ at-key-at.key-at.ensures at-if2.if2.false at-key-at2.key-at2.ensures)
+    (source_found _ _ _ _ _ found is_found at-if1.if1.false _ _ at-key-at2.key-at2.ensures at-rest-index.rest-index.ensures)
     _ _ _ _ c.with-rest2.ensures (rw rest_whole at at-translate-by-pair.translate-by-pair.ensures)
 
 pub translate-text-carried-spec : {M : Type 1} → statement M

@@ -6,7 +6,7 @@ use lib.ListN.{length}
 use Rattle.pair_list_write.specs.Select.{HoldsEntries}
 use Rattle.map_spec.specs.New.{is_redundant}
 use Rattle.map_canonical.specs.Canonical.{max_elements, HoldsElementCounts}
-use Rattle.map_canonical.proofs.LevelBranches.{below, levels_none, levels-on, levels-room, levels-end, top-room}
+use Rattle.map_canonical.proofs.LevelBranches.{below, levels_none, levels_on, levels_room, levels_end, top_room}
 use borrow.Author.Rules.{rules}
 use Rattle.map_canonical.proofs.canonicalize.Statement.{statement}
 use Rattle.map_canonical.proofs.canonicalize.Tie as tie
@@ -36,7 +36,7 @@ keep-level-requires c κs =
     let at-start = at-loop.before.before.before.before.before.before.before in
     let pre = at-start.requires in
     let l = at-loop.loop in
-    ((pre.0.1, omega (arith, pre.0.0)), (l.invariant.2, levels-room _ _ _ is_redundant _ _ _ _ _ l.invariant.1 pre.0.0 l.invariant.4))
+    ((pre.0.1, omega (arith, pre.0.0)), (l.invariant.2, levels_room _ _ _ is_redundant _ _ _ _ _ l.invariant.1 pre.0.0 l.invariant.4))
 
 add-t17 : tie.Need-overflow-add-t17 invariant-loop decreases-loop
 add-t17 c = search rules
@@ -49,7 +49,7 @@ loop-again c =
     let at-keep-level = c.before.before.before in
     let at-loop-test = c.before.before.before.before.before.before in
     let l = at-loop-test.before.before.before.loop in
-    (search rules, levels-on _ _ _ is_redundant _ _ _ _ _ l.invariant.1 _ _ at-keep-level.keep-level.ensures, l.invariant.2, l.invariant.3, search rules, search rules)
+    (search rules, levels_on _ _ _ is_redundant _ _ _ _ _ l.invariant.1 _ _ at-keep-level.keep-level.ensures, l.invariant.2, l.invariant.3, search rules, search rules)
 
 slice-aggregate-keep-level-2 : tie.Need-slice-aggregate-keep-level-2 invariant-loop decreases-loop
 slice-aggregate-keep-level-2 c = search rules
@@ -62,7 +62,7 @@ keep-level-requires-2 c κs =
     let pre = at-start.requires in
     let l = at-loop.loop in (
       (pre.0.1, omega (arith, pre.0.0)),
-      (l.invariant.2, top-room _ _ _ is_redundant _ _ _ _ _ l.invariant.1 _ at-loop-test.if1.false l.invariant.0 pre.0.0 l.invariant.4),
+      (l.invariant.2, top_room _ _ _ is_redundant _ _ _ _ _ l.invariant.1 _ at-loop-test.if1.false l.invariant.0 pre.0.0 l.invariant.4),
     )
 
 same_length : tie.Need-same-length invariant-loop decreases-loop
@@ -73,7 +73,7 @@ returns c =
     let at-keep-level2 = c.before.before in
     let at-loop-test = at-keep-level2.before.before.before in
     let at-loop = at-loop-test.before.before.before in
-    levels-end _ _ _ is_redundant _ _ _ _ _ at-loop.loop.invariant.1 _ at-loop.loop.invariant.3 at-loop-test.if1.false at-loop.loop.invariant.0 _
+    levels_end _ _ _ is_redundant _ _ _ _ _ at-loop.loop.invariant.1 _ at-loop.loop.invariant.3 at-loop-test.if1.false at-loop.loop.invariant.0 _
     _ at-keep-level2.keep-level2.ensures
 
 pub canonicalize-spec : {M : Type 1} → statement M

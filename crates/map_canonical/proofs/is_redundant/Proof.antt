@@ -1,4 +1,4 @@
-use Rattle.map_canonical.proofs.KeepBranches.{implied-inside, implied-join, implied-none, implied-mark}
+use Rattle.map_canonical.proofs.KeepBranches.{implied_inside, implied_join, implied_none, implied_mark}
 use borrow.Author.Rules.{rules}
 use Rattle.map_canonical.proofs.is_redundant.Statement.{statement}
 use Rattle.map_canonical.proofs.is_redundant.Tie as tie
@@ -18,7 +18,7 @@ sub-is-join c =
     let at-if1 = at-key-at.before in
     let at-best-prefix = at-if1.before in
     let at-start = at-best-prefix.before.before.before.before.before in
-    implied-inside _ _ _ at-start.args.mark _ at-start.args.t.now at-best-prefix.best-prefix.result
+    implied_inside _ _ _ at-start.args.mark _ at-start.args.t.now at-best-prefix.best-prefix.result
     at-best-prefix.best-prefix.ensures at-if1.if1.true _ at-key-at.key-at.ensures
 
 part-is-join-start : tie.Need-slice-bounds-is-join-start
@@ -27,7 +27,7 @@ part-is-join-start c =
     let at-if1 = at-key-at.before in
     let at-best-prefix = at-if1.before in
     let at-start = at-best-prefix.before.before.before.before.before in
-    implied-inside _ _ _ at-start.args.mark _ at-start.args.t.now at-best-prefix.best-prefix.result
+    implied_inside _ _ _ at-start.args.mark _ at-start.args.t.now at-best-prefix.best-prefix.result
     at-best-prefix.best-prefix.ensures at-if1.if1.true _ at-key-at.key-at.ensures
 
 part-is-join-end : tie.Need-slice-bounds-is-join-end
@@ -42,11 +42,11 @@ returns c =
     let at-key-at = at-key-at2.before in
     let at-if1 = at-key-at.before in
     let at-best-prefix = at-if1.before in
-    implied-join _ _ _ _ _ _ at-best-prefix.best-prefix.result at-best-prefix.best-prefix.ensures at-if1.if1.true _ _
+    implied_join _ _ _ _ _ _ at-best-prefix.best-prefix.result at-best-prefix.best-prefix.ensures at-if1.if1.true _ _
     at-key-at.key-at.ensures at-key-at2.key-at2.ensures _ c.is_join.ensures
 
 returns-2 : tie.Need-returns-2
-returns-2 c = implied-none _ _ _ _ _ _ c.before.before.best-prefix.result c.before.before.best-prefix.ensures c.before.if1.false c.if2.true
+returns-2 c = implied_none _ _ _ _ _ _ c.before.before.best-prefix.result c.before.before.best-prefix.ensures c.before.if1.false c.if2.true
 
 is-equal-requires : tie.Need-is-equal-requires
 is-equal-requires c κs = search rules
@@ -56,7 +56,7 @@ returns-3 c =
     let at-if2 = c.before in
     let at-if1 = at-if2.before in
     let at-best-prefix = at-if1.before in
-    implied-mark _ _ _ _ _ _ at-best-prefix.best-prefix.result at-best-prefix.best-prefix.ensures at-if1.if1.false at-if2.if2.false _
+    implied_mark _ _ _ _ _ _ at-best-prefix.best-prefix.result at-best-prefix.best-prefix.ensures at-if1.if1.false at-if2.if2.false _
     c.is-equal.ensures
 
 pub is-redundant-spec : {M : Type 1} → statement M

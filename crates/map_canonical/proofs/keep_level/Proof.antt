@@ -6,7 +6,7 @@ use lib.ListN.{length}
 use Rattle.map_spec.specs.New.{is_redundant}
 use Rattle.map_canonical.specs.Canonical.{non_root_with_elements}
 use Rattle.map_canonical.proofs.KeepBranches.{counted_at}
-use Rattle.map_canonical.proofs.LevelBranches.{After, level-none, level_held, level-room, level-count, level-on, level-end}
+use Rattle.map_canonical.proofs.LevelBranches.{After, level_none, level_held, level_room, level_count, level_on, level_end}
 use borrow.Author.Rules.{rules}
 use Rattle.map_canonical.proofs.keep_level.Statement.{statement}
 use Rattle.map_canonical.proofs.keep_level.Tie as tie
@@ -18,7 +18,7 @@ abbrev decreases-loop : tie.decreases-loop
 decreases-loop store places n keys e mark kept₀ w k₀ i₀ kept k i = n - i
 
 loop-holds : tie.Need-loop-init invariant-loop decreases-loop
-loop-holds c = (search rules, level-none _ _ _ is_redundant _ _ _, omega arith, refl)
+loop-holds c = (search rules, level_none _ _ _ is_redundant _ _ _, omega arith, refl)
 
 mul-t13 : tie.Need-overflow-mul-t13 invariant-loop decreases-loop
 mul-t13 c = search rules
@@ -47,13 +47,13 @@ loop-again c =
     let k = counted_at _ _ _ _ _ c.before.before.before.before.before.loop-test.true p.1.0 in
     let t = c.before.before.keep_pair.ensures in
     let more = c.before.before.before.before.before.loop-test.true in
-    (search rules, level-on _ _ _ is_redundant _ _ _ _ _ _ _ k l.invariant.1 (omega (arith, more, p.0.0)) (level-room _ _ _ is_redundant _ _ _ _ _ k _ l.invariant.2 _ _ more p.1.1 l.invariant.3) _ _ t.0 t.1, level-count _ _ _ is_redundant _ _ _ _ _ k _ l.invariant.2 _ t.0, search rules)
+    (search rules, level_on _ _ _ is_redundant _ _ _ _ _ _ _ k l.invariant.1 (omega (arith, more, p.0.0)) (level_room _ _ _ is_redundant _ _ _ _ _ k _ l.invariant.2 _ _ more p.1.1 l.invariant.3) _ _ t.0 t.1, level_count _ _ _ is_redundant _ _ _ _ _ k _ l.invariant.2 _ t.0, search rules)
 
 same_length : tie.Need-same-length invariant-loop decreases-loop
 same_length c = search rules
 
 returns : tie.Need-returns invariant-loop decreases-loop
-returns c = level-end _ _ _ is_redundant _ _ _ _ _ _ _ c.loop-test.false c.before.loop.invariant.0 c.before.loop.invariant.1
+returns c = level_end _ _ _ is_redundant _ _ _ _ _ _ _ c.loop-test.false c.before.loop.invariant.0 c.before.loop.invariant.1
 
 pub keep-level-spec : {M : Type 1} → statement M
 keep-level-spec =

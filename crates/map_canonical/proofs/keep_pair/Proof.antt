@@ -1,4 +1,4 @@
-use Rattle.map_canonical.proofs.KeepBranches.{pair_other, pair-roots, pair-implied, pair-kept}
+use Rattle.map_canonical.proofs.KeepBranches.{pair_other, pair_roots, pair_implied, pair_kept}
 use Rattle.map_spec.specs.New.{is_redundant}
 use borrow.Author.Rules.{rules}
 use Rattle.map_canonical.proofs.keep_pair.Statement.{statement}
@@ -11,7 +11,7 @@ is-root-pair-requires : tie.Need-is-root-pair-requires
 is-root-pair-requires c κs = search rules
 
 returns-2 : tie.Need-returns-2
-returns-2 c = pair-roots _ _ _ _ _ is_redundant _ _ _ c.before.before.if1.false _ c.before.is-root-pair.ensures c.if2.true
+returns-2 c = pair_roots _ _ _ _ _ is_redundant _ _ _ c.before.before.if1.false _ c.before.is-root-pair.ensures c.if2.true
 
 key-at-requires : tie.Need-key-at-requires
 key-at-requires c κs = search rules
@@ -33,7 +33,7 @@ returns-3 c =
     let at-if2 = at-key-at.before in
     let at-is-root-pair = at-if2.before in
     let at-if1 = at-is-root-pair.before in
-    pair-implied _ _ _ _ _ is_redundant _ _ _ at-if1.if1.false _ at-is-root-pair.is-root-pair.ensures at-if2.if2.false _ _
+    pair_implied _ _ _ _ _ is_redundant _ _ _ at-if1.if1.false _ at-is-root-pair.is-root-pair.ensures at-if2.if2.false _ _
     at-key-at.key-at.ensures at-key-at2.key-at2.ensures _ at-is-redundant.is-redundant.ensures c.if3.true
 
 copy-entry-requires : tie.Need-copy-entry-requires
@@ -58,7 +58,7 @@ returns-4 c =
     let at-if2 = at-key-at.before in
     let at-is-root-pair = at-if2.before in
     let at-if1 = at-is-root-pair.before in
-    pair-kept _ _ _ _ _ is_redundant _ _ _ at-if1.if1.false _ at-is-root-pair.is-root-pair.ensures at-if2.if2.false _ _
+    pair_kept _ _ _ _ _ is_redundant _ _ _ at-if1.if1.false _ at-is-root-pair.is-root-pair.ensures at-if2.if2.false _ _
     at-key-at.key-at.ensures at-key-at2.key-at2.ensures _ at-is-redundant.is-redundant.ensures at-if3.if3.false _
     at-copy-entry.copy-entry.ensures
 

@@ -1,5 +1,5 @@
 use Rattle.map_function.proofs.NewBranches.{refusing_map, gives_map}
-use Rattle.map_compose.proofs.CallBranches.{call_refused, outer-sound, inner-sound, call-inner, call-outer, call-composed}
+use Rattle.map_compose.proofs.CallBranches.{call_refused, outer_sound, inner_sound, call_inner, call_outer, call_composed}
 use borrow.Author.Rules.{rules}
 use Rattle.map_compose.proofs.compose.Statement.{statement}
 use Rattle.map_compose.proofs.compose.Tie as tie
@@ -50,7 +50,7 @@ returns-2 c =
     let at-start = at-validate-lists.before.before.before.before.before.before.before in
     let args = at-start.args in
     gives_map _ _
-    (call-inner args.store.now args.places.now args.outer args.istore.now args.iplaces.now args.inner args.out.now
+    (call_inner args.store.now args.places.now args.outer args.istore.now args.iplaces.now args.inner args.out.now
     args.slots.now _ at-validate-lists.validate-lists.ensures at-enum-told.enum_told.given.1 _
     at-composed-time.composed-time.ensures _ at_both.both.ensures at-if1.if1.true)
     _ _ _ _ _ at-without-dropping.without-dropping.ensures
@@ -80,7 +80,7 @@ returns-3 c =
     let at-start = at-validate-lists.before.before.before.before.before.before.before in
     let args = at-start.args in
     gives_map _ _
-    (call-outer args.store.now args.places.now args.outer args.istore.now args.iplaces.now args.inner args.out.now
+    (call_outer args.store.now args.places.now args.outer args.istore.now args.iplaces.now args.inner args.out.now
     args.slots.now _ at-validate-lists.validate-lists.ensures at-enum-told.enum_told.given.1 _
     at-composed-time.composed-time.ensures _ at_both.both.ensures at-if1.if1.false _ at-both2.both2.ensures at-if2.if2.true)
     _ _ _ _ _ at-without-dropping2.without-dropping2.ensures
@@ -91,9 +91,9 @@ compose-lists-requires c κs =
     let at-validate-lists = at-enum-told.before.before in
     let at-start = at-validate-lists.before.before.before.before.before.before.before in
     let args = at-start.args in (
-      outer-sound args.store.now args.places.now args.outer args.istore.now args.iplaces.now args.inner args.out.now
+      outer_sound args.store.now args.places.now args.outer args.istore.now args.iplaces.now args.inner args.out.now
           args.slots.now _ at-validate-lists.validate-lists.ensures at-enum-told.enum_told.given.1,
-      inner-sound args.store.now args.places.now args.outer args.istore.now args.iplaces.now args.inner args.out.now
+      inner_sound args.store.now args.places.now args.outer args.istore.now args.iplaces.now args.inner args.out.now
           args.slots.now _ at-validate-lists.validate-lists.ensures at-enum-told.enum_told.given.1,
     )
 
@@ -116,7 +116,7 @@ returns-4 c =
     let at-start = at-validate-lists.before.before.before.before.before.before.before in
     let args = at-start.args in
     gives_map _ _
-    (call-composed args.store.now args.places.now args.outer args.istore.now args.iplaces.now args.inner args.out.now
+    (call_composed args.store.now args.places.now args.outer args.istore.now args.iplaces.now args.inner args.out.now
     args.slots.now _ at-validate-lists.validate-lists.ensures at-enum-told.enum_told.given.1 _
     at-composed-time.composed-time.ensures _ at_both.both.ensures at-if1.if1.false _ at-both2.both2.ensures at-if2.if2.false)
     _ _ _ _ _ at-compose-lists.compose-lists.ensures

@@ -1,6 +1,6 @@
--- The composed list lies in the buffers (`into-holds`), since they are large enough for two validated maps, and its ends are legal.
+-- The composed list lies in the buffers (`into_holds`), since they are large enough for two validated maps, and its ends are legal.
 use Rattle.map_function.specs.MapFunction.{map_of}
-use Rattle.compose_pairs.proofs.PackLaws.{into-holds}
+use Rattle.compose_pairs.proofs.PackLaws.{into_holds}
 use Rattle.map_compose.proofs.CallBranches.{compose_fits_lem, built_map}
 use borrow.Author.Rules.{rules}
 use Rattle.map_compose.proofs.compose_in.Statement.{statement}
@@ -40,7 +40,7 @@ returns c =
     let inner = map_of args.istore.now args.iplaces.now args.inner in
     gives_map _ _
     (built_map outer inner pre.0.ends pre.1.0.ends args.time args.out.now args.slots.now _ _ _ _
-    (into-holds outer inner args.bytes.now args.own.now
+    (into_holds outer inner args.bytes.now args.own.now
     (compose_fits_lem args.store.now args.places.now args.outer args.istore.now args.iplaces.now args.inner args.bytes.now
     args.own.now pre.0 pre.1.0 pre.1.1)
     _ _ _ at-compose-into.compose-into.ensures)

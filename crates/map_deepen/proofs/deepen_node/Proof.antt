@@ -1,5 +1,5 @@
 use Rattle.map_function.proofs.NewBranches.{refusing_map, gives_map}
-use Rattle.map_deepen.proofs.DeepenBranches.{deepen_refused, sound, deepen-node-short, deepen-there, deepen-none, deepen-inside, deepen-made}
+use Rattle.map_deepen.proofs.DeepenBranches.{deepen_refused, sound, deepen_node_short, deepen_there, deepen_none, deepen_inside, deepen_made}
 use borrow.Author.Rules.{rules}
 use Rattle.map_deepen.proofs.deepen_node.Statement.{statement}
 use Rattle.map_deepen.proofs.deepen_node.Tie as tie
@@ -49,7 +49,7 @@ returns-2 c =
     let at-start = at-validate-call.before.before.before.before.before.before.before.before in
     let args = at-start.args in
     gives_map _ _
-    (deepen-there args.store.now args.places.now args.map args.path.now args.node.now args.out.now args.slots.now
+    (deepen_there args.store.now args.places.now args.map args.path.now args.node.now args.out.now args.slots.now
     at-start.requires _ at-validate-call.validate-call.ensures at-enum-told.enum_told.given.1 _ at-has-source.has-source.ensures
     at-if1.if1.true)
     _ _ _ _ _ at-without-dropping.without-dropping.ensures
@@ -78,7 +78,7 @@ returns-3 c =
     let at-start = at-validate-call.before.before.before.before.before.before.before.before in
     let args = at-start.args in
     gives_map _ _
-    (deepen-none args.store.now args.places.now args.map args.path.now args.node.now args.out.now args.slots.now
+    (deepen_none args.store.now args.places.now args.map args.path.now args.node.now args.out.now args.slots.now
     at-start.requires _ at-validate-call.validate-call.ensures at-enum-told.enum_told.given.1 _ at-has-source.has-source.ensures
     at-if1.if1.false at-find-class.find-class.result at-find-class.find-class.ensures at-if2.if2.true)
     _ _ _ _ _ at-without-dropping2.without-dropping2.ensures
@@ -97,9 +97,9 @@ deepen-by-requires c κs =
       sound args.store.now args.places.now args.map args.path.now args.node.now args.out.now args.slots.now (pre) _
           at-validate-call.validate-call.ensures at-enum-told.enum_told.given.1,
       (
-        deepen-node-short args.store.now args.places.now args.map args.path.now args.node.now args.out.now args.slots.now
+        deepen_node_short args.store.now args.places.now args.map args.path.now args.node.now args.out.now args.slots.now
             (pre) _ at-validate-call.validate-call.ensures at-enum-told.enum_told.given.1,
-        deepen-inside args.store.now args.places.now args.map args.path.now args.node.now args.out.now args.slots.now
+        deepen_inside args.store.now args.places.now args.map args.path.now args.node.now args.out.now args.slots.now
             (pre) _ at-validate-call.validate-call.ensures at-enum-told.enum_told.given.1 _ at-has-source.has-source.ensures
             at-if1.if1.false at-find-class.find-class.result at-find-class.find-class.ensures at-if2.if2.false,
       ),
@@ -123,7 +123,7 @@ returns-4 c =
     let at-start = at-validate-call.before.before.before.before.before.before.before.before in
     let args = at-start.args in
     gives_map _ _
-    (deepen-made args.store.now args.places.now args.map args.path.now args.node.now args.out.now args.slots.now
+    (deepen_made args.store.now args.places.now args.map args.path.now args.node.now args.out.now args.slots.now
     at-start.requires _ at-validate-call.validate-call.ensures at-enum-told.enum_told.given.1 _ at-has-source.has-source.ensures
     at-if1.if1.false at-find-class.find-class.result at-find-class.find-class.ensures at-if2.if2.false)
     _ _ _ _ _ at-deepen-by.deepen-by.ensures

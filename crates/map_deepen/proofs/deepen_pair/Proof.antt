@@ -1,6 +1,6 @@
-use Rattle.pair_list_write.proofs.PushBranches.{pair-there}
+use Rattle.pair_list_write.proofs.PushBranches.{pair_there}
 use native.Mathlib.Omega.{arith}
-use Rattle.map_deepen.proofs.DeepenBranches.{deepen-class, deepen-other}
+use Rattle.map_deepen.proofs.DeepenBranches.{deepen_class, deepen_other}
 use borrow.Author.Rules.{rules}
 use Rattle.map_deepen.proofs.deepen_pair.Statement.{statement}
 use Rattle.map_deepen.proofs.deepen_pair.Tie as tie
@@ -25,9 +25,9 @@ returns c =
     let at-start = at-is-equal.before.before.before.before.before.before.before.before in
     let args = at-start.args in
     let pre = at-start.requires in
-    deepen-class args.s.now args.t.now args.node.now args.above.now args.below.now _ at-is-equal.is-equal.ensures args.at
+    deepen_class args.s.now args.t.now args.node.now args.above.now args.below.now _ at-is-equal.is-equal.ensures args.at
     args.n _ args.bytes.now _ args.slots.now _ at-if1.if1.true pre.1.1.0 pre.1.1.1.0
-    (pair-there _ _ _ _ _ _ (omega (arith, pre.1.1.0, pre.1.1.1.0, pre.1.1.1.1.0)) pre.1.1.1.1.1 _ _ _
+    (pair_there _ _ _ _ _ _ (omega (arith, pre.1.1.0, pre.1.1.1.0, pre.1.1.1.1.0)) pre.1.1.1.1.1 _ _ _
     at-push-pair.push-pair.ensures)
 
 push-pair-requires-2 : tie.Need-push-pair-requires-2
@@ -47,9 +47,9 @@ returns-2 c =
     let at-start = at-is-equal.before.before.before.before.before.before.before.before in
     let args = at-start.args in
     let pre = at-start.requires in
-    deepen-other args.s.now args.t.now args.node.now args.above.now args.below.now _ at-is-equal.is-equal.ensures args.at
+    deepen_other args.s.now args.t.now args.node.now args.above.now args.below.now _ at-is-equal.is-equal.ensures args.at
     args.n _ args.bytes.now _ args.slots.now _ at-if1.if1.false pre.0 pre.1.0
-    (pair-there _ _ _ _ _ _ (omega (arith, pre.0, pre.1.0, pre.1.1.1.1.0)) pre.1.1.1.1.1 _ _ _ at-push-pair2.push-pair2.ensures)
+    (pair_there _ _ _ _ _ _ (omega (arith, pre.0, pre.1.0, pre.1.1.1.1.0)) pre.1.1.1.1.1 _ _ _ at-push-pair2.push-pair2.ensures)
 
 pub deepen-pair-spec : {M : Type 1} → statement M
 deepen-pair-spec =

@@ -4,7 +4,7 @@ use lib.Ieee.{of_bits}
 use Rattle.validate.proofs.PassedLaws.{first_sound}
 use Rattle.map_function.proofs.NewBranches.{refusing_map, gives_map}
 use Rattle.map_new.proofs.NewBranches.{made_refused, made_passed, own_parts}
-use Rattle.map_derive.proofs.SwapLaws.{swapped-list}
+use Rattle.map_derive.proofs.SwapLaws.{swapped_list}
 use Rattle.map_derive.proofs.DeriveBranches.{inverse_unfolded}
 use borrow.Author.Rules.{rules}
 use Rattle.map_derive.proofs.inverse.Statement.{statement}
@@ -51,7 +51,7 @@ returns-2 c =
     gives_map _ _
     (inverse_unfolded _ _ _ _ _ ∙ made_passed _ _ _ _ _ _ _ at-validate-list.validate-list.ensures at-enum-told.enum_told.given.1 ∙
     own_parts _ _ _ _ _ _ _ _
-    (swapped-list _ _ _ _ _ at-swap-ends.swap_ends.ensures (omega (arith, (first_sound _ _ _ _ its-sym).held))
+    (swapped_list _ _ _ _ _ at-swap-ends.swap_ends.ensures (omega (arith, (first_sound _ _ _ _ its-sym).held))
     (omega (arith, (first_sound _ _ _ _ its-sym).few)))
     (omega (arith, (first_sound _ _ _ _ its-sym).few)))
     _ _ _ _ _ at-from-parts.from_parts.ensures

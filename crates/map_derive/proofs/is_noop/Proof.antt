@@ -1,7 +1,7 @@
 use mathlib.Core.Path.{sym, ap, ◌∙◌}
 use Rattle.path.specs.declared.Test.TheVariants.{Holds, Refused as RefusedTest}
 use Rattle.refusal.proofs.CallBranches.{unless_refused, unless_passed}
-use Rattle.map_derive.proofs.DeriveBranches.{noop_null, noop-pairs, noop-time, noop_unfolded}
+use Rattle.map_derive.proofs.DeriveBranches.{noop_null, noop_pairs, noop_time, noop_unfolded}
 use borrow.Author.Rules.{rules}
 use Rattle.map_derive.proofs.is_noop.Statement.{statement}
 use Rattle.map_derive.proofs.is_noop.Tie as tie
@@ -35,7 +35,7 @@ returns-3 c =
     let at-enum-told = at-is-null.before in
     let at-validate-list = at-enum-told.before.before in
     unless_passed RefusedTest _ _ _ _ at-validate-list.validate-list.ensures at-enum-told.enum_told.given.1
-    (ap Holds (noop-pairs _ _ _ at-is-null.is-null.ensures at-if1.if1.false _ at-all-ends-equal.all-ends-equal.ensures c.if2.true)) ∙
+    (ap Holds (noop_pairs _ _ _ at-is-null.is-null.ensures at-if1.if1.false _ at-all-ends-equal.all-ends-equal.ensures c.if2.true)) ∙
     sym (noop_unfolded _ _ _)
 
 is-identity-requires : tie.Need-is-identity-requires
@@ -51,7 +51,7 @@ returns-4 c =
     let at-validate-list = at-enum-told.before.before in
     unless_passed RefusedTest _ _ _ _ at-validate-list.validate-list.ensures at-enum-told.enum_told.given.1
     (ap Holds
-    (noop-time _ _ _ at-is-null.is-null.ensures at-if1.if1.false _ at-all-ends-equal.all-ends-equal.ensures at-if2.if2.false _
+    (noop_time _ _ _ at-is-null.is-null.ensures at-if1.if1.false _ at-all-ends-equal.all-ends-equal.ensures at-if2.if2.false _
     c.is_identity_lem.ensures))
     ∙ sym (noop_unfolded _ _ _)
 

@@ -5,7 +5,7 @@ use Prim.Native.Nat.{◌≤◌, ◌-◌}
 use lib.ListN.{length}
 use Rattle.text.specs.Text.{written}
 use Rattle.map_derive.specs.SwapEnds.{swapped_entries}
-use Rattle.map_derive.proofs.SwapLaws.{swap-beyond, swap-room, swap-none, swap-on, swap-end}
+use Rattle.map_derive.proofs.SwapLaws.{swap_beyond, swap_room, swap_none, swap_on, swap_end}
 use borrow.Author.Rules.{rules}
 use Rattle.map_derive.proofs.swap_ends.Statement.{statement}
 use Rattle.map_derive.proofs.swap_ends.Tie as tie
@@ -17,13 +17,13 @@ abbrev decreases-loop : tie.decreases-loop
 decreases-loop places n other₀ i₀ other i = n - i
 
 returns : tie.Need-returns invariant-loop decreases-loop
-returns c = swap-beyond _ _ _ (omega arith)
+returns c = swap_beyond _ _ _ (omega arith)
 
 returns-2 : tie.Need-returns-2 invariant-loop decreases-loop
-returns-2 c = swap-room c.before.before.before.before.args.places.now _ _ (omega arith)
+returns-2 c = swap_room c.before.before.before.before.args.places.now _ _ (omega arith)
 
 loop-holds : tie.Need-loop-init invariant-loop decreases-loop
-loop-holds c = (search rules, swap-none c.before.before.before.before.args.places.now _, refl)
+loop-holds c = (search rules, swap_none c.before.before.before.before.args.places.now _, refl)
 
 mul-j : tie.Need-overflow-mul-j invariant-loop decreases-loop
 mul-j c = search rules
@@ -75,7 +75,7 @@ loop-again c = (
   search rules,
   (let at-write-entry = c.before.before in
       let at-loop = at-write-entry.before.before.before.before.before.before.before in
-      swap-on _ _ _ _ at-loop.loop.invariant.1 (omega arith) _ at-write-entry.write-entry.ensures),
+      swap_on _ _ _ _ at-loop.loop.invariant.1 (omega arith) _ at-write-entry.write-entry.ensures),
   search rules,
 )
 
@@ -83,7 +83,7 @@ same_length : tie.Need-same-length invariant-loop decreases-loop
 same_length c = search rules
 
 returns-3 : tie.Need-returns-3 invariant-loop decreases-loop
-returns-3 c = swap-end _ _ _ _ c.before.loop.invariant.1 _ (omega arith) (omega arith) c.loop-test.false c.before.loop.invariant.0
+returns-3 c = swap_end _ _ _ _ c.before.loop.invariant.1 _ (omega arith) (omega arith) c.loop-test.false c.before.loop.invariant.0
 
 pub swap-ends-spec : {M : Type 1} → statement M
 swap-ends-spec =

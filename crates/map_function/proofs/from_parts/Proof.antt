@@ -1,5 +1,5 @@
 use Rattle.map_canonical.proofs.KeptLaws.{canonical_read}
-use Rattle.map_function.proofs.NewBranches.{refusing_map, parts_many, parts_beyond, parts-slots, parts-bytes, parts-made}
+use Rattle.map_function.proofs.NewBranches.{refusing_map, parts_many, parts_beyond, parts_slots, parts_bytes, parts_made}
 use borrow.Author.Rules.{rules}
 use Rattle.map_function.proofs.from_parts.Statement.{statement}
 use Rattle.map_function.proofs.from_parts.Tie as tie
@@ -11,7 +11,7 @@ returns-2 : tie.Need-returns-2
 returns-2 c = refusing_map _ _ (parts_beyond _ _ _ _ _ _ _ c.if2.true) _ _
 
 returns-3 : tie.Need-returns-3
-returns-3 c = refusing_map _ _ (parts-slots _ _ _ _ _ _ _ c.before.before.if1.false c.before.if2.false c.if3.true) _ _
+returns-3 c = refusing_map _ _ (parts_slots _ _ _ _ _ _ _ c.before.before.if1.false c.before.if2.false c.if3.true) _ _
 
 list-fits-requires : tie.Need-list-fits-requires
 list-fits-requires c κs = search rules
@@ -23,7 +23,7 @@ returns-4 c =
     let at-if2 = at-if3.before in
     let at-if1 = at-if2.before in
     refusing_map _ _
-    (parts-bytes _ _ _ _ _ _ _ at-if1.if1.false at-if2.if2.false at-if3.if3.false _ at-list-fits.list_fits.ensures c.if4.true) _ _
+    (parts_bytes _ _ _ _ _ _ _ at-if1.if1.false at-if2.if2.false at-if3.if3.false _ at-list-fits.list_fits.ensures c.if4.true) _ _
 
 is-marked-requires : tie.Need-is-marked-requires
 is-marked-requires c κs = search rules
@@ -48,7 +48,7 @@ same-length-2 c = search rules
 
 returns-5 : tie.Need-returns-5
 returns-5 c =
-    parts-made _ _ _ _ _ _ _
+    parts_made _ _ _ _ _ _ _
     c.before.before.before.before.before.before.before.before.before.before.before.before.before.before.before.before.if1.false
     c.before.before.before.before.before.before.before.before.before.before.before.before.before.before.before.if2.false
     c.before.before.before.before.before.before.before.before.before.before.before.before.before.before.if3.false _

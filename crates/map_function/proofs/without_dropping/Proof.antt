@@ -1,4 +1,4 @@
-use Rattle.map_function.proofs.NewBranches.{refusing_map, copy_many, copy_beyond, copy-over, copy-made}
+use Rattle.map_function.proofs.NewBranches.{refusing_map, copy_many, copy_beyond, copy_over, copy_made}
 use borrow.Author.Rules.{rules}
 use Rattle.map_function.proofs.without_dropping.Statement.{statement}
 use Rattle.map_function.proofs.without_dropping.Tie as tie
@@ -29,7 +29,7 @@ returns-3 c =
     let at-write-list = c.before.before.before.before.before.before in
     let at-if2 = at-write-list.before.before.before in
     let at-if1 = at-if2.before in
-    copy-over _ _ _ _ _ _ _ at-if1.if1.false at-if2.if2.false _ at-write-list.write-list.ensures.0 _ _ c.enum_told.given.1
+    copy_over _ _ _ _ _ _ _ at-if1.if1.false at-if2.if2.false _ at-write-list.write-list.ensures.0 _ _ c.enum_told.given.1
     at-write-list.write-list.ensures.1.0 at-write-list.write-list.ensures.1.1
 
 same-length-3 : tie.Need-same-length-3
@@ -44,7 +44,7 @@ returns-4 c =
     let at-write-list = at-fit.before.before.before.before.before.before in
     let at-if2 = at-write-list.before.before.before in
     let at-if1 = at-if2.before in
-    copy-made _ _ _ _ _ _ _ at-if1.if1.false at-if2.if2.false _ at-write-list.write-list.ensures.0 _ _ _ at-fit.fit.given.1
+    copy_made _ _ _ _ _ _ _ at-if1.if1.false at-if2.if2.false _ at-write-list.write-list.ensures.0 _ _ _ at-fit.fit.given.1
     at-write-list.write-list.ensures.1.0 at-write-list.write-list.ensures.1.1
 
 pub without-dropping-spec : {M : Type 1} → statement M

@@ -1,7 +1,7 @@
 use native.Mathlib.Omega.{arith}
 use Rattle.map_function.specs.MapFunction.{map_of}
 use Rattle.compose_pairs.proofs.ComposeFitsBranches.{enough_yes}
-use Rattle.compose_pairs.proofs.PackLaws.{into-holds}
+use Rattle.compose_pairs.proofs.PackLaws.{into_holds}
 use Rattle.map_implied_class.proofs.ImpliedBranches.{build_other, build_both}
 use borrow.Author.Rules.{rules}
 use Rattle.map_implied_class.proofs.compose_list.Statement.{statement}
@@ -29,7 +29,7 @@ returns c =
     let pre = at-start.requires in
     build_other args.store.now args.places.now args.outer args.istore.now args.iplaces.now args.inner _ _ _ _ _
     at-path-is-identity.path-is-identity.ensures at-if1.if1.true
-    (into-holds (map_of args.istore.now args.iplaces.now args.inner) (map_of args.store.now args.places.now args.outer)
+    (into_holds (map_of args.istore.now args.iplaces.now args.inner) (map_of args.store.now args.places.now args.outer)
     args.bytes.now args.own.now
     (enough_yes args.istore.now args.iplaces.now args.inner.count args.store.now args.places.now args.outer.count
     args.bytes.now args.own.now
@@ -59,7 +59,7 @@ returns-2 c =
     let pre = at-start.requires in
     build_both args.store.now args.places.now args.outer args.istore.now args.iplaces.now args.inner _ _ _ _ _
     at-path-is-identity.path-is-identity.ensures at-if1.if1.false
-    (into-holds (map_of args.store.now args.places.now args.outer) (map_of args.istore.now args.iplaces.now args.inner)
+    (into_holds (map_of args.store.now args.places.now args.outer) (map_of args.istore.now args.iplaces.now args.inner)
     args.bytes.now args.own.now
     (enough_yes args.store.now args.places.now args.outer.count args.istore.now args.iplaces.now args.inner.count
     args.bytes.now args.own.now pre)

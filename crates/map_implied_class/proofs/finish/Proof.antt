@@ -1,6 +1,6 @@
 use Rattle.map_function.proofs.NewBranches.{refusing_map}
 use Rattle.pair_list_write.proofs.PackedLaws.{holds_inside}
-use Rattle.map_implied_class.proofs.ImpliedBranches.{finish-many, finish-room, finish-long, finish-fits, finish-made}
+use Rattle.map_implied_class.proofs.ImpliedBranches.{finish_many, finish_room, finish_long, finish_fits, finish_made}
 use borrow.Author.Rules.{rules}
 use Rattle.map_implied_class.proofs.finish.Statement.{statement}
 use Rattle.map_implied_class.proofs.finish.Tie as tie
@@ -21,7 +21,7 @@ returns c =
     let at-start = at-compose-list.before.before.before.before.before.before.before.before.before.before.before in
     let args = at-start.args in
     refusing_map _ _
-    (finish-many args.store.now args.places.now args.transfer args.mid.now args.mids.now args.class args.b.n args.b.at
+    (finish_many args.store.now args.places.now args.transfer args.mid.now args.mids.now args.class args.b.n args.b.at
     args.short args.time args.out.now args.slots.now _ _ _ _ at-compose-list.compose-list.ensures c.if1.true)
     _ _
 
@@ -42,7 +42,7 @@ returns-2 c =
     let at-start = at-compose-list.before.before.before.before.before.before.before.before.before.before.before in
     let args = at-start.args in
     refusing_map _ _
-    (finish-room args.store.now args.places.now args.transfer args.mid.now args.mids.now args.class args.b.n args.b.at
+    (finish_room args.store.now args.places.now args.transfer args.mid.now args.mids.now args.class args.b.n args.b.at
     args.short args.time args.out.now args.slots.now _ _ _ _ at-compose-list.compose-list.ensures at-if1.if1.false _
     at-has-room-beside.has-room-beside.ensures c.if2.true)
     _ _
@@ -70,7 +70,7 @@ returns-3 c =
     let at-start = at-compose-list.before.before.before.before.before.before.before.before.before.before.before in
     let args = at-start.args in
     refusing_map _ _
-    (finish-long args.store.now args.places.now args.transfer args.mid.now args.mids.now args.class args.b.n args.b.at
+    (finish_long args.store.now args.places.now args.transfer args.mid.now args.mids.now args.class args.b.n args.b.at
     args.short args.time args.out.now args.slots.now _ _ _ _ at-compose-list.compose-list.ensures at-if1.if1.false _
     at-has-room-beside.has-room-beside.ensures at-if2.if2.false _ at-all-short.all_short.ensures _ at_both.both.ensures
     c.if3.true)
@@ -87,7 +87,7 @@ finish-composed-requires c κs =
     let at-start = at-compose-list.before.before.before.before.before.before.before.before.before.before.before in
     let args = at-start.args in (
       (at-if1.if1.false, holds_inside _ _ _ _ _ at-compose-list.compose-list.ensures),
-      finish-fits args.store.now args.places.now args.transfer args.mid.now args.mids.now args.class args.b.n args.b.at
+      finish_fits args.store.now args.places.now args.transfer args.mid.now args.mids.now args.class args.b.n args.b.at
           args.short args.time args.out.now args.slots.now _ _ _ _ at-compose-list.compose-list.ensures at-if1.if1.false _
           at-has-room-beside.has-room-beside.ensures at-if2.if2.false _ at-all-short.all_short.ensures _ at_both.both.ensures,
     )
@@ -116,7 +116,7 @@ returns-4 c =
     let at-compose-list = at-if1.before.before.before.before.before.before in
     let at-start = at-compose-list.before.before.before.before.before.before.before.before.before.before.before in
     let args = at-start.args in
-    finish-made args.store.now args.places.now args.transfer args.mid.now args.mids.now args.class args.b.n args.b.at
+    finish_made args.store.now args.places.now args.transfer args.mid.now args.mids.now args.class args.b.n args.b.at
     args.short args.time args.out.now args.slots.now _ _ _ _ at-compose-list.compose-list.ensures at-if1.if1.false _
     at-has-room-beside.has-room-beside.ensures at-if2.if2.false _ at-all-short.all_short.ensures _ at_both.both.ensures
     at-if3.if3.false _ _ _ at-finish-composed.finish-composed.ensures

@@ -1,5 +1,5 @@
 use Rattle.map_function.proofs.NewBranches.{refusing_map, gives_map}
-use Rattle.map_implied_class.proofs.ImpliedBranches.{implied_refused, implied-same, transfer-sound, class-sound, implied-other}
+use Rattle.map_implied_class.proofs.ImpliedBranches.{implied_refused, implied_same, transfer_sound, class_sound, implied_other}
 use borrow.Author.Rules.{rules}
 use Rattle.map_implied_class.proofs.implied_class.Statement.{statement}
 use Rattle.map_implied_class.proofs.implied_class.Tie as tie
@@ -46,7 +46,7 @@ returns-2 c =
     let at-start = at-validate-lists.before.before.before.before.before.before.before in
     let args = at-start.args in
     gives_map _ _
-    (implied-same args.store.now args.places.now args.transfer args.cstore.now args.cplaces.now args.class args.out.now
+    (implied_same args.store.now args.places.now args.transfer args.cstore.now args.cplaces.now args.class args.out.now
     args.slots.now _ at-validate-lists.validate-lists.ensures at-enum-told.enum_told.given.1 _ at-is-identity.is_identity_lem.ensures
     at-if1.if1.true)
     _ _ _ _ _ at-without-dropping.without-dropping.ensures
@@ -57,9 +57,9 @@ implied-in-requires c κs =
     let at-validate-lists = at-enum-told.before.before in
     let at-start = at-validate-lists.before.before.before.before.before.before.before in
     let args = at-start.args in (
-      transfer-sound args.store.now args.places.now args.transfer args.cstore.now args.cplaces.now args.class args.out.now
+      transfer_sound args.store.now args.places.now args.transfer args.cstore.now args.cplaces.now args.class args.out.now
           args.slots.now _ at-validate-lists.validate-lists.ensures at-enum-told.enum_told.given.1,
-      class-sound args.store.now args.places.now args.transfer args.cstore.now args.cplaces.now args.class args.out.now
+      class_sound args.store.now args.places.now args.transfer args.cstore.now args.cplaces.now args.class args.out.now
           args.slots.now _ at-validate-lists.validate-lists.ensures at-enum-told.enum_told.given.1,
     )
 
@@ -79,7 +79,7 @@ returns-3 c =
     let at-start = at-validate-lists.before.before.before.before.before.before.before in
     let args = at-start.args in
     gives_map _ _
-    (implied-other args.store.now args.places.now args.transfer args.cstore.now args.cplaces.now args.class args.out.now
+    (implied_other args.store.now args.places.now args.transfer args.cstore.now args.cplaces.now args.class args.out.now
     args.slots.now _ at-validate-lists.validate-lists.ensures at-enum-told.enum_told.given.1 _ at-is-identity.is_identity_lem.ensures
     at-if1.if1.false)
     _ _ _ _ _ at-implied-in.implied-in.ensures

@@ -3,7 +3,7 @@ use native.Mathlib.Omega.{arith}
 use Rattle.map_function.proofs.NewBranches.{refusing_map, gives_map}
 use Rattle.map_implied_class.specs.Implied.{implied_time}
 use Rattle.pair_list_write.proofs.PackedLaws.{holds_inside}
-use Rattle.map_implied_class.proofs.ImpliedBranches.{back_composes, implied-many, class-room, part-composes, implied-rest, time_twice}
+use Rattle.map_implied_class.proofs.ImpliedBranches.{back_composes, implied_many, class_room, part_composes, implied_rest, time_twice}
 use borrow.Author.Rules.{rules}
 use Rattle.map_implied_class.proofs.implied_in.Statement.{statement}
 use Rattle.map_implied_class.proofs.implied_in.Tie as tie
@@ -48,7 +48,7 @@ returns c =
     let args = at-start.args in
     let pre = at-start.requires in
     refusing_map _ _
-    (implied-many args.store.now args.places.now args.transfer args.cstore.now args.cplaces.now args.class pre.0
+    (implied_many args.store.now args.places.now args.transfer args.cstore.now args.cplaces.now args.class pre.0
     pre.1 _ _ at-invert.invert.result at-invert.invert.ensures _ _ _ _ at-compose-list.compose-list.ensures
     (implied_time args.transfer args.class) args.out.now args.slots.now c.if1.true)
     _ _
@@ -84,7 +84,7 @@ finish-composed-requires c κs =
     let args = at-start.args in
     let pre = at-start.requires in (
       (at-if1.if1.false, holds_inside _ _ _ _ _ at-compose-list.compose-list.ensures),
-      class-room args.store.now args.places.now args.transfer args.cstore.now args.cplaces.now args.class pre.0
+      class_room args.store.now args.places.now args.transfer args.cstore.now args.cplaces.now args.class pre.0
           pre.1 _ _ at-invert.invert.result at-invert.invert.ensures _ _ _ _ at-compose-list.compose-list.ensures
           at-if1.if1.false (omega (arith, slice-aggregate-finish-composed-3 (at_1))) (omega (arith, slice-aggregate-finish-composed-4 c)),
     )
@@ -119,7 +119,7 @@ finish-requires c κs =
     let args = at-start.args in
     let pre = at-start.requires in (
       (pre.0.few, at-if1.if1.false),
-      part-composes args.store.now args.places.now args.transfer args.cstore.now args.cplaces.now args.class pre.0 pre.1 _ _
+      part_composes args.store.now args.places.now args.transfer args.cstore.now args.cplaces.now args.class pre.0 pre.1 _ _
           at-invert.invert.result at-invert.invert.ensures _ _ _ _ at-compose-list.compose-list.ensures at-if1.if1.false _ _ _
           at-finish-composed.finish-composed.ensures _ _ (omega (arith, slice-aggregate-finish-3 (at-3))) (omega (arith, slice-aggregate-finish-4 (at-2))),
     )
@@ -145,7 +145,7 @@ returns-2 c =
     let args = at-start.args in
     let pre = at-start.requires in
     gives_map _ _
-    (implied-rest args.store.now args.places.now args.transfer args.cstore.now args.cplaces.now args.class pre.0
+    (implied_rest args.store.now args.places.now args.transfer args.cstore.now args.cplaces.now args.class pre.0
     pre.1 _ _ at-invert.invert.result at-invert.invert.ensures _ _ _ _ at-compose-list.compose-list.ensures
     at-if1.if1.false _ _ _ at-finish-composed.finish-composed.ensures _
     at-all-short.all_short.ensures _

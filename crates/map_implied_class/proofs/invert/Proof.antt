@@ -1,5 +1,5 @@
 use native.Mathlib.Omega.{arith}
-use Rattle.map_derive.proofs.SwapLaws.{swapped-list}
+use Rattle.map_derive.proofs.SwapLaws.{swapped_list}
 use Rattle.map_implied_class.proofs.ImpliedBranches.{invert_room, inverted}
 use borrow.Author.Rules.{rules}
 use Rattle.map_implied_class.proofs.invert.Statement.{statement}
@@ -22,7 +22,7 @@ finish-map-requires c κs = (
       let args = at-start.args in
       let pre = at-start.requires in
       invert_room args.store.now args.places.now _ args.n
-      (swapped-list _ _ _ _ _ at-swap-ends.swap_ends.ensures pre.0.1 (omega (arith, pre.0.0))) _ _ pre.0.0 pre.1.0 pre.1.1.0
+      (swapped_list _ _ _ _ _ at-swap-ends.swap_ends.ensures pre.0.1 (omega (arith, pre.0.0))) _ _ pre.0.0 pre.1.0 pre.1.1.0
       pre.1.1.1),
 )
 
@@ -39,7 +39,7 @@ returns c =
     let at-start = at-swap-ends.before.before.before.before.before.before in
     let args = at-start.args in
     inverted args.store.now args.places.now _ args.n
-    (swapped-list _ _ _ _ _ at-swap-ends.swap_ends.ensures at-start.requires.0.1 (omega (arith, at-start.requires.0.0))) args.mark _ _ _ _ _
+    (swapped_list _ _ _ _ _ at-swap-ends.swap_ends.ensures at-start.requires.0.1 (omega (arith, at-start.requires.0.0))) args.mark _ _ _ _ _
     at-finish-map.finish-map.ensures
 
 pub invert-spec : {M : Type 1} → statement M

@@ -4,7 +4,7 @@ use Prim.Native.Nat.{◌+◌, ◌*◌, ◌≤◌, ◌-◌}
 use lib.ListN.{length}
 use Rattle.pair_list.specs.Places.{key_at}
 use Rattle.map_lookup.proofs.LookupBranches.{held_there, least_left, least_right, key_is}
-use Rattle.map_lookup.proofs.OtherWinsBranches.{Unrivalled, unbeaten_none, unbeaten_on, best_after, best-unserved, best_lost, best_found}
+use Rattle.map_lookup.proofs.OtherWinsBranches.{Unrivalled, unbeaten_none, unbeaten_on, best_after, best_unserved, best_lost, best_found}
 use Rattle.map_lookup.proofs.is_longest_match.Statement.{statement}
 use Rattle.map_lookup.proofs.is_longest_match.Tie as tie
 
@@ -24,7 +24,7 @@ matches-requires : tie.Need-matches-requires invariant-loop decreases-loop
 matches-requires c κs = search rules
 
 returns-2 : tie.Need-returns-2 invariant-loop decreases-loop
-returns-2 c = best-unserved _ _ _ _ _ _ c.before.before.key-at.ensures c.before.matches.ensures c.if2.true
+returns-2 c = best_unserved _ _ _ _ _ _ c.before.before.key-at.ensures c.before.matches.ensures c.if2.true
 
 key-count-requires : tie.Need-key-count-requires invariant-loop decreases-loop
 key-count-requires c κs = search rules

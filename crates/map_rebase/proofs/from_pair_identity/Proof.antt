@@ -1,4 +1,4 @@
-use Rattle.pair_list_write.proofs.PushBranches.{pair-there}
+use Rattle.pair_list_write.proofs.PushBranches.{pair_there}
 use native.Mathlib.Omega.{arith}
 use Rattle.map_rebase.proofs.CallBranches.{one_pair}
 use borrow.Author.Rules.{rules}
@@ -39,7 +39,7 @@ returns c =
     let pre = at-start.requires in
     gives_map _ _
     (one_pair args.s.now args.t.now args.time args.out.now args.slots.now _ _ _ _ _
-    (pair-there _ _ _ _ _ _ (omega (arith, pre.0, pre.1)) (omega arith) _ _ _ at-push-pair.push-pair.ensures))
+    (pair_there _ _ _ _ _ _ (omega (arith, pre.0, pre.1)) (omega arith) _ _ _ at-push-pair.push-pair.ensures))
     _ _ _ _ _ at-from-parts.from_parts.ensures
 
 pub from-pair-identity-spec : {M : Type 1} → statement M

@@ -1,4 +1,4 @@
-use Rattle.pair_list_write.proofs.PushBranches.{pair-there}
+use Rattle.pair_list_write.proofs.PushBranches.{pair_there}
 use native.Mathlib.Omega.{arith}
 use Rattle.pair_buffer.specs.Ends.{replaced_or_same}
 use Rattle.pair_buffer.proofs.LengthLaws.{placed_back, replaced_short, part_within, part_is}
@@ -58,7 +58,7 @@ returns c =
     part_done its-replacedOrSame _ _ (placed_back _ _ _ _ at-replace-into.replace-into.ensures its-replaced-short).0
     (placed_back _ _ _ _ at-replace-into.replace-into.ensures its-replaced-short).1 its-replaced-short args.s.now pre.0 args.at
     args.n _ args.bytes.now _ args.slots.now _
-    (pair-there _ _ _ _ _ _
+    (pair_there _ _ _ _ _ _
     (part_room its-replacedOrSame _ _ (placed_back _ _ _ _ at-replace-into.replace-into.ensures its-replaced-short).0
     (placed_back _ _ _ _ at-replace-into.replace-into.ensures its-replaced-short).1 its-replaced-short args.s.now pre.0 args.at _
     pre.1.1.1.0)

@@ -1,5 +1,5 @@
 use Rattle.map_function.proofs.NewBranches.{refusing_map, gives_map}
-use Rattle.map_rebase.proofs.CallBranches.{rebase_refused, sound, rebase-from, rebase-to, rebase-identity, rebase-same, rebase-made}
+use Rattle.map_rebase.proofs.CallBranches.{rebase_refused, sound, rebase_from, rebase_to, rebase_identity, rebase_same, rebase_made}
 use borrow.Author.Rules.{rules}
 use Rattle.map_rebase.proofs.rebase_target.Statement.{statement}
 use Rattle.map_rebase.proofs.rebase_target.Tie as tie
@@ -33,9 +33,9 @@ from-pair-identity-requires c κs =
     let at-validate-call = at-enum-told.before.before in
     let at-start = at-validate-call.before.before.before.before.before.before.before in
     let args = at-start.args in (
-      rebase-from args.store.now args.places.now args.map args.from.now args.to.now args.out.now args.slots.now _
+      rebase_from args.store.now args.places.now args.map args.from.now args.to.now args.out.now args.slots.now _
           at-validate-call.validate-call.ensures at-enum-told.enum_told.given.1,
-      rebase-to args.store.now args.places.now args.map args.from.now args.to.now args.out.now args.slots.now _
+      rebase_to args.store.now args.places.now args.map args.from.now args.to.now args.out.now args.slots.now _
           at-validate-call.validate-call.ensures at-enum-told.enum_told.given.1,
     )
 
@@ -55,7 +55,7 @@ returns-2 c =
     let at-start = at-validate-call.before.before.before.before.before.before.before in
     let args = at-start.args in
     gives_map _ _
-    (rebase-identity args.store.now args.places.now args.map args.from.now args.to.now args.out.now args.slots.now _
+    (rebase_identity args.store.now args.places.now args.map args.from.now args.to.now args.out.now args.slots.now _
     at-validate-call.validate-call.ensures at-enum-told.enum_told.given.1 _ at_both.both.ensures at-if1.if1.true)
     _ _ _ _ _ at-from-pair-identity.from-pair-identity.ensures
 
@@ -83,7 +83,7 @@ returns-3 c =
     let at-start = at-validate-call.before.before.before.before.before.before.before in
     let args = at-start.args in
     gives_map _ _
-    (rebase-same args.store.now args.places.now args.map args.from.now args.to.now args.out.now args.slots.now _
+    (rebase_same args.store.now args.places.now args.map args.from.now args.to.now args.out.now args.slots.now _
     at-validate-call.validate-call.ensures at-enum-told.enum_told.given.1 _ at_both.both.ensures at-if1.if1.false _
     at-any-target.any_Target.ensures at-if2.if2.true)
     _ _ _ _ _ at-without-dropping.without-dropping.ensures
@@ -96,7 +96,7 @@ rebase-pairs-requires c κs =
     let args = at-start.args in (
       sound args.store.now args.places.now args.map args.from.now args.to.now args.out.now args.slots.now _
           at-validate-call.validate-call.ensures at-enum-told.enum_told.given.1,
-      rebase-to args.store.now args.places.now args.map args.from.now args.to.now args.out.now args.slots.now _
+      rebase_to args.store.now args.places.now args.map args.from.now args.to.now args.out.now args.slots.now _
           at-validate-call.validate-call.ensures at-enum-told.enum_told.given.1,
     )
 
@@ -118,7 +118,7 @@ returns-4 c =
     let at-start = at-validate-call.before.before.before.before.before.before.before in
     let args = at-start.args in
     gives_map _ _
-    (rebase-made args.store.now args.places.now args.map args.from.now args.to.now args.out.now args.slots.now _
+    (rebase_made args.store.now args.places.now args.map args.from.now args.to.now args.out.now args.slots.now _
     at-validate-call.validate-call.ensures at-enum-told.enum_told.given.1 _ at_both.both.ensures at-if1.if1.false _
     at-any-target.any_Target.ensures at-if2.if2.false)
     _ _ _ _ _ at-rebase-pairs.rebase-pairs.ensures

@@ -1,4 +1,4 @@
-use Rattle.path_parts.proofs.StripLaws.{strip_never, strip-part, strip_inside}
+use Rattle.path_parts.proofs.StripLaws.{strip_never, strip_part, strip_inside}
 use Rattle.path_rest.proofs.CarriedLaws.{same_carried, without_rest, answering_carried}
 use Rattle.mapping.proofs.CopyOutBranches.{translate_plain, translate_back, translated_rest_plain, translated_rest_stripped}
 use borrow.Author.Rules.{rules}
@@ -53,7 +53,7 @@ slice-aggregate-translate-into c =
     let at-fit = c.before.before in
     let at-strip-into = at-fit.before.before.before in
     let at-start = at-strip-into.before.before.before.before.before.before.before.before in
-    strip-part _ _ _ at-start.requires.0 at-strip-into.strip-into.ensures.0 _ at-fit.fit.given.1 _ at-strip-into.strip-into.ensures.1
+    strip_part _ _ _ at-start.requires.0 at-strip-into.strip-into.ensures.0 _ at-fit.fit.given.1 _ at-strip-into.strip-into.ensures.1
 
 translate-into-requires-2 : tie.Need-translate-into-requires-2
 translate-into-requires-2 c κs = search rules

@@ -1,6 +1,6 @@
 -- A refusal writes nothing; a pair that passed validation fits, so that it is pushed.
 use native.Mathlib.Omega.{arith}
-use Rattle.open_list.proofs.AddBranches.{pair_refused, passed_fits, pair-added}
+use Rattle.open_list.proofs.AddBranches.{pair_refused, passed_fits, pair_added}
 use borrow.Author.Rules.{rules}
 use Rattle.open_list.proofs.add_pair.Statement.{statement}
 use Rattle.open_list.proofs.add_pair.Tie as tie
@@ -38,7 +38,7 @@ returns-2 c =
     let at-push-pair = c.before.before.before.before.before in
     let at-enum-told = at-push-pair.before.before.before in
     let at-validate-add = at-enum-told.before.before in
-    pair-added _ _ _ _ _ _ _ at-validate-add.validate-add.ensures.0 at-enum-told.enum_told.given.1
+    pair_added _ _ _ _ _ _ _ at-validate-add.validate-add.ensures.0 at-enum-told.enum_told.given.1
     at-validate-add.validate-add.ensures.1 _ _ _ at-push-pair.push-pair.ensures
 
 pub add-pair-spec : {M : Type 1} → statement M

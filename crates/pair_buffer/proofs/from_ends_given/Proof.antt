@@ -1,7 +1,7 @@
 -- Each branch is one outcome of the questions, in the order 4, 5, 7, 8; a list that passes 7 and 8 is handed to `from_parts`, which asks 4
 -- and 5 itself.
 use Rattle.map_function.proofs.NewBranches.{refusing_map, gives_map}
-use Rattle.pair_buffer.proofs.EndBranches.{given_many, given_beyond, given-parts, given-slots, given-bytes, given-illegal, given-long}
+use Rattle.pair_buffer.proofs.EndBranches.{given_many, given_beyond, given_parts, given_slots, given_bytes, given_illegal, given_long}
 use borrow.Author.Rules.{rules}
 use Rattle.pair_buffer.proofs.from_ends_given.Statement.{statement}
 use Rattle.pair_buffer.proofs.from_ends_given.Tie as tie
@@ -47,7 +47,7 @@ returns-3 c =
     let at-if1 = at-if2.before in
     let args = at-if1.before.before.before.before.before.args in
     gives_map _ _
-    (given-parts args.store.now args.places.now args.n args.legal args.mark args.time args.out.now args.slots.now
+    (given_parts args.store.now args.places.now args.n args.legal args.mark args.time args.out.now args.slots.now
     at-if1.if1.false at-if2.if2.false _ at-all-short.all_short.ensures _ at_both.both.ensures at-if3.if3.true)
     _ _ _ _ _ at-from-parts.from_parts.ensures
 
@@ -59,7 +59,7 @@ returns-4 c =
     let at-if1 = at-if2.before in
     let args = at-if1.before.before.before.before.before.args in
     refusing_map _ _
-    (given-slots args.store.now args.places.now args.n args.legal args.mark args.time args.out.now args.slots.now
+    (given_slots args.store.now args.places.now args.n args.legal args.mark args.time args.out.now args.slots.now
     at-if1.if1.false at-if2.if2.false _ at-all-short.all_short.ensures _ at_both.both.ensures c.if4.true)
     _ _
 
@@ -76,7 +76,7 @@ returns-5 c =
     let at-if1 = at-if2.before in
     let args = at-if1.before.before.before.before.before.args in
     refusing_map _ _
-    (given-bytes args.store.now args.places.now args.n args.legal args.mark args.time args.out.now args.slots.now
+    (given_bytes args.store.now args.places.now args.n args.legal args.mark args.time args.out.now args.slots.now
     at-if1.if1.false at-if2.if2.false _ at-all-short.all_short.ensures _ at_both.both.ensures at-if4.if4.false _
     at-list-fits.list_fits.ensures c.if5.true)
     _ _
@@ -93,7 +93,7 @@ returns-6 c =
     let at-if1 = at-if2.before in
     let args = at-if1.before.before.before.before.before.args in
     refusing_map _ _
-    (given-illegal args.store.now args.places.now args.n args.legal args.mark args.time args.out.now args.slots.now
+    (given_illegal args.store.now args.places.now args.n args.legal args.mark args.time args.out.now args.slots.now
     at-if1.if1.false at-if2.if2.false _ at-all-short.all_short.ensures _ at_both.both.ensures at-if4.if4.false _
     at-list-fits.list_fits.ensures at-if5.if5.false at-if3.if3.false c.if6.true)
     _ _
@@ -109,7 +109,7 @@ returns-7 c =
     let at-if1 = at-if2.before in
     let args = at-if1.before.before.before.before.before.args in
     refusing_map _ _
-    (given-long args.store.now args.places.now args.n args.legal args.mark args.time args.out.now args.slots.now
+    (given_long args.store.now args.places.now args.n args.legal args.mark args.time args.out.now args.slots.now
     at-if1.if1.false at-if2.if2.false _ at-all-short.all_short.ensures _ at_both.both.ensures at-if4.if4.false _
     at-list-fits.list_fits.ensures at-if5.if5.false c.if6.false)
     _ _

@@ -1,5 +1,5 @@
 use native.Mathlib.Omega.{arith}
-use Rattle.pair_buffer.proofs.EndBranches.{replace-long, replace-not, replace-start, replace_made, replace-over}
+use Rattle.pair_buffer.proofs.EndBranches.{replace_long, replace_not, replace_start, replace_made, replace_over}
 use borrow.Author.Rules.{rules}
 use Rattle.pair_buffer.proofs.replace_into.Statement.{statement}
 use Rattle.pair_buffer.proofs.replace_into.Tie as tie
@@ -13,7 +13,7 @@ returns c =
     let at-has-prefix = at-if1.before in
     let at-start = at-has-prefix.before.before.before.before.before in
     let args = at-start.args in
-    replace-long args.path.now args.old.now args.new.now _ at-has-prefix.has-prefix.ensures args.out.now at-if1.if1.true
+    replace_long args.path.now args.old.now args.new.now _ at-has-prefix.has-prefix.ensures args.out.now at-if1.if1.true
     (omega arith)
 
 write-at-requires : tie.Need-write-at-requires
@@ -29,7 +29,7 @@ returns-2 c =
     let at-has-prefix = at-if1.before in
     let at-start = at-has-prefix.before.before.before.before.before in
     let args = at-start.args in
-    replace-not args.path.now args.old.now args.new.now _ at-has-prefix.has-prefix.ensures args.out.now at-if1.if1.true
+    replace_not args.path.now args.old.now args.new.now _ at-has-prefix.has-prefix.ensures args.out.now at-if1.if1.true
     (omega arith) _ at-write-at.write-at.ensures
 
 sub-join : tie.Need-overflow-sub-join
@@ -37,14 +37,14 @@ sub-join c =
     let at-has-prefix = c.before in
     let at-start = at-has-prefix.before.before.before.before.before in
     let args = at-start.args in
-    replace-start args.path.now args.old.now args.new.now _ at-has-prefix.has-prefix.ensures args.out.now c.if1.false
+    replace_start args.path.now args.old.now args.new.now _ at-has-prefix.has-prefix.ensures args.out.now c.if1.false
 
 part-join-start : tie.Need-slice-bounds-join-start
 part-join-start c =
     let at-has-prefix = c.before in
     let at-start = at-has-prefix.before.before.before.before.before in
     let args = at-start.args in
-    replace-start args.path.now args.old.now args.new.now _ at-has-prefix.has-prefix.ensures args.out.now c.if1.false
+    replace_start args.path.now args.old.now args.new.now _ at-has-prefix.has-prefix.ensures args.out.now c.if1.false
 
 part-join-end : tie.Need-slice-bounds-join-end
 part-join-end c = search rules
@@ -82,7 +82,7 @@ returns-4 c =
     let at-has-prefix = at-if1.before in
     let at-start = at-has-prefix.before.before.before.before.before in
     let args = at-start.args in
-    replace-over args.path.now args.old.now args.new.now _ at-has-prefix.has-prefix.ensures args.out.now at-if1.if1.false _ _
+    replace_over args.path.now args.old.now args.new.now _ at-has-prefix.has-prefix.ensures args.out.now at-if1.if1.false _ _
     at_join.join.ensures c.enum_told.given.1
 
 pub replace-into-spec : {M : Type 1} → statement M

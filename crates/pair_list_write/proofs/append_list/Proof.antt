@@ -4,7 +4,7 @@ use Prim.Native.Nat.{◌+◌, ◌≤◌, ◌-◌}
 use native.Mathlib.Omega.{arith}
 use lib.ListN.{length}
 use Rattle.pair_list.specs.Places.{pairs_in, end_bytes}
-use Rattle.pair_list_write.proofs.WriteBranches.{list-few, list-outside, list_full, at_begin, text_begin, slots_begin, list_fits, list_done}
+use Rattle.pair_list_write.proofs.WriteBranches.{list_few, list_outside, list_full, at_begin, text_begin, slots_begin, list_fits, list_done}
 use Rattle.pair_list_write.proofs.PushBranches.{Appended, append_next}
 use borrow.Author.Rules.{rules}
 use Rattle.pair_list_write.proofs.append_list.Statement.{statement}
@@ -17,10 +17,10 @@ abbrev decreases-loop : tie.decreases-loop
 decreases-loop store places n at out₀ slots₀ end₀ i₀ out slots end i = n - i
 
 returns : tie.Need-returns invariant-loop decreases-loop
-returns c = list-few _ _ _ _ _ _ c.if1.true
+returns c = list_few _ _ _ _ _ _ c.if1.true
 
 returns-2 : tie.Need-returns-2 invariant-loop decreases-loop
-returns-2 c = list-outside _ _ _ _ _ _ c.if2.true
+returns-2 c = list_outside _ _ _ _ _ _ c.if2.true
 
 sub-list-fits : tie.Need-overflow-sub-list-fits invariant-loop decreases-loop
 sub-list-fits c = search rules

@@ -1,6 +1,6 @@
 -- The tests are those of `pair_fits`; then two texts are pushed, one after the other.
 use native.Mathlib.Omega.{arith}
-use Rattle.pair_list_write.proofs.PushBranches.{pair_long, pair_many, pair-pushed}
+use Rattle.pair_list_write.proofs.PushBranches.{pair_long, pair_many, pair_pushed}
 use borrow.Author.Rules.{rules}
 use Rattle.pair_list_write.proofs.push_pair.Statement.{statement}
 use Rattle.pair_list_write.proofs.push_pair.Tie as tie
@@ -57,7 +57,7 @@ returns-5 c =
     let at-push-text2 = c.before.before.before.before in
     let at-push-text = at-push-text2.before.before.before.before.before.before.before in
     let args = at-push-text.before.before.before.before.before.before.before.before.before.before.before.args in
-    pair-pushed args.s.now args.t.now args.n args.at args.bytes.now args.slots.now (omega arith) (omega arith) _ _ _
+    pair_pushed args.s.now args.t.now args.n args.at args.bytes.now args.slots.now (omega arith) (omega arith) _ _ _
     at-push-text.push-text.ensures _ _ _ at-push-text2.push-text2.ensures
 
 pub push-pair-spec : {M : Type 1} → statement M

@@ -2,7 +2,7 @@ use mathlib.Core.Path.{ap, ◌∙◌}
 use Rattle.path_parts.proofs.ParentLaws.{parent_len_le, parent_take}
 use Rattle.refusal.specs.Outcome.{checked_option}
 use Rattle.path_derive.proofs.UnfoldedCalls.{parent_unfolded}
-use Rattle.refusal.proofs.CallBranches.{answered-refused, answered-short, answered-passed, refusing, answering}
+use Rattle.refusal.proofs.CallBranches.{answered_refused, answered_short, answered_passed, refusing, answering}
 use Rattle.path_derive.proofs.PartBranches.{cut_written, cut_length, parent_empty, parent_root, parent_cut}
 use Rattle.refusal.proofs.PassedLaws.{passed_short, passed_legal}
 use borrow.Author.Rules.{rules}
@@ -16,19 +16,19 @@ enum-known-q : tie.Need-enum-known-q
 enum-known-q c = search rules
 
 returns : tie.Need-returns
-returns c = refusing _ _ (parent_unfolded _ _ ∙ answered-refused _ _ _ _ c.before.before.before.validate-text.ensures _ c.before.q.given.1) _
+returns c = refusing _ _ (parent_unfolded _ _ ∙ answered_refused _ _ _ _ c.before.before.before.validate-text.ensures _ c.before.q.given.1) _
 
 enum_told : tie.Need-enum-told
 enum_told c = search rules
 
 returns-2 : tie.Need-returns-2
-returns-2 c = refusing _ _ (parent_unfolded _ _ ∙ answered-short _ _ _ _ c.before.before.before.validate-text.ensures c.before.enum_told.given.1 c.if1.true) _
+returns-2 c = refusing _ _ (parent_unfolded _ _ ∙ answered_short _ _ _ _ c.before.before.before.validate-text.ensures c.before.enum_told.given.1 c.if1.true) _
 
 returns-3 : tie.Need-returns-3
 unfolding checked_option
 returns-3 c =
     refusing _ _
-    (parent_unfolded _ _ ∙ answered-passed _ _ _ _ c.before.before.before.before.validate-text.ensures c.before.before.enum_told.given.1 c.before.if1.false ∙ ap checked_option (parent_empty _ c.if2.true)) _
+    (parent_unfolded _ _ ∙ answered_passed _ _ _ _ c.before.before.before.before.validate-text.ensures c.before.before.enum_told.given.1 c.before.if1.false ∙ ap checked_option (parent_empty _ c.if2.true)) _
 
 is-root-requires : tie.Need-is-root-requires
 is-root-requires c κs = search rules
@@ -42,7 +42,7 @@ returns-4 c =
     let at-enum-told = at-if1.before in
     let at-validate-text = at-enum-told.before.before in
     refusing _ _
-    (parent_unfolded _ _ ∙ answered-passed _ _ _ _ at-validate-text.validate-text.ensures at-enum-told.enum_told.given.1
+    (parent_unfolded _ _ ∙ answered_passed _ _ _ _ at-validate-text.validate-text.ensures at-enum-told.enum_told.given.1
     at-if1.if1.false ∙ ap checked_option (parent_root _ _ at-if2.if2.false at-is-root.is-root.ensures c.if3.true))
     _
 
@@ -70,7 +70,7 @@ returns-5 c =
     let at-enum-told = at-if1.before in
     let at-validate-text = at-enum-told.before.before in
     answering _ _
-    (parent_unfolded _ _ ∙ answered-passed _ _ _ _ at-validate-text.validate-text.ensures at-enum-told.enum_told.given.1
+    (parent_unfolded _ _ ∙ answered_passed _ _ _ _ at-validate-text.validate-text.ensures at-enum-told.enum_told.given.1
     at-if1.if1.false ∙ ap checked_option (parent_cut _ _ at-if2.if2.false at-is-root.is-root.ensures at-if3.if3.false))
     _ _ _
     (cut_written _ _ _ at-parent-len.parent-len.ensures (parent_len_le _)

@@ -1,7 +1,7 @@
 use mathlib.Core.Path.{◌∙◌}
 use Rattle.path_parts.proofs.ParentLaws.{prim_len_le}
 use Rattle.path_derive.proofs.UnfoldedCalls.{prim_unfolded}
-use Rattle.refusal.proofs.CallBranches.{answered-refused, answered-short, answered-passed, refusing, answering}
+use Rattle.refusal.proofs.CallBranches.{answered_refused, answered_short, answered_passed, refusing, answering}
 use Rattle.path_derive.proofs.PartBranches.{prim_written, cut_length}
 use Rattle.refusal.proofs.PassedLaws.{passed_short, passed_legal}
 use borrow.Author.Rules.{rules}
@@ -15,13 +15,13 @@ enum-known-q : tie.Need-enum-known-q
 enum-known-q c = search rules
 
 returns : tie.Need-returns
-returns c = refusing _ _ (prim_unfolded _ _ ∙ answered-refused _ _ _ _ c.before.before.before.validate-text.ensures _ c.before.q.given.1) _
+returns c = refusing _ _ (prim_unfolded _ _ ∙ answered_refused _ _ _ _ c.before.before.before.validate-text.ensures _ c.before.q.given.1) _
 
 enum_told : tie.Need-enum-told
 enum_told c = search rules
 
 returns-2 : tie.Need-returns-2
-returns-2 c = refusing _ _ (prim_unfolded _ _ ∙ answered-short _ _ _ _ c.before.before.before.validate-text.ensures c.before.enum_told.given.1 c.if1.true) _
+returns-2 c = refusing _ _ (prim_unfolded _ _ ∙ answered_short _ _ _ _ c.before.before.before.validate-text.ensures c.before.enum_told.given.1 c.if1.true) _
 
 prim-len-requires : tie.Need-prim-len-requires
 prim-len-requires c κs = search rules
@@ -43,7 +43,7 @@ returns-3 c =
     let at-enum-told = at-if1.before in
     let at-validate-text = at-enum-told.before.before in
     answering _ _
-    (prim_unfolded _ _ ∙ answered-passed _ _ _ _ at-validate-text.validate-text.ensures at-enum-told.enum_told.given.1 at-if1.if1.false)
+    (prim_unfolded _ _ ∙ answered_passed _ _ _ _ at-validate-text.validate-text.ensures at-enum-told.enum_told.given.1 at-if1.if1.false)
     _ _ _
     (prim_written _ _ at-prim-len.prim-len.ensures
     (passed_short _ _ at-validate-text.validate-text.ensures at-enum-told.enum_told.given.1)

@@ -7,7 +7,7 @@ use Rattle.path_join.proofs.ReplaceLaws.{replace_prefix_lem, replace_other}
 use Rattle.refusal.specs.Outcome.{checked_option}
 use Rattle.path_derive.proofs.UnfoldedCalls.{replace_unfolded}
 use Rattle.path_derive.proofs.PartLaws.{written_in_parts}
-use Rattle.refusal.proofs.CallBranches.{answered-refused, answered-short, answered-passed, refusing, answering}
+use Rattle.refusal.proofs.CallBranches.{answered_refused, answered_short, answered_passed, refusing, answering}
 use borrow.Author.Rules.{rules}
 use Rattle.path_derive.proofs.replace_prefix.Statement.{statement}
 use Rattle.path_derive.proofs.replace_prefix.Tie as tie
@@ -21,7 +21,7 @@ enum-known-q c = search rules
 returns : tie.Need-returns
 returns c =
     let at-validate-three-texts = c.before.before.before in
-    (refusing _ _ (replace_unfolded _ _ _ _ ∙ answered-refused _ _ _ _ at-validate-three-texts.validate-three-texts.ensures _ c.before.q.given.1) _, tt)
+    (refusing _ _ (replace_unfolded _ _ _ _ ∙ answered_refused _ _ _ _ at-validate-three-texts.validate-three-texts.ensures _ c.before.q.given.1) _, tt)
 
 enum_told : tie.Need-enum-told
 enum_told c = search rules
@@ -30,7 +30,7 @@ returns-2 : tie.Need-returns-2
 returns-2 c =
     let at-enum-told = c.before in
     let at-validate-three-texts = at-enum-told.before.before in
-    (refusing _ _ (replace_unfolded _ _ _ _ ∙ answered-short _ _ _ _ at-validate-three-texts.validate-three-texts.ensures at-enum-told.enum_told.given.1 c.if1.true) _, tt)
+    (refusing _ _ (replace_unfolded _ _ _ _ ∙ answered_short _ _ _ _ at-validate-three-texts.validate-three-texts.ensures at-enum-told.enum_told.given.1 c.if1.true) _, tt)
 
 has-prefix-requires : tie.Need-has-prefix-requires
 has-prefix-requires c κs = search rules
@@ -43,7 +43,7 @@ returns-3 c =
     let at-enum-told = at-if1.before in
     let at-validate-three-texts = at-enum-told.before.before in (
       refusing _ _
-          (replace_unfolded _ _ _ _ ∙ answered-passed _ _ _ _ at-validate-three-texts.validate-three-texts.ensures at-enum-told.enum_told.given.1
+          (replace_unfolded _ _ _ _ ∙ answered_passed _ _ _ _ at-validate-three-texts.validate-three-texts.ensures at-enum-told.enum_told.given.1
           at-if1.if1.false ∙ ap checked_option (replace_other _ _ _ (known_false at-has-prefix.has-prefix.ensures c.if2.true)))
           _,
       tt,
@@ -76,7 +76,7 @@ returns-4 c =
     let at-start = at-validate-three-texts.before.before.before.before.before in
     let joined = rw (rest_whole at-start.args.path.now (length at-start.args.old.now)) at at-write-joined.write-joined.ensures in (
       answering _ _
-          (replace_unfolded _ _ _ _ ∙ answered-passed _ _ _ _ at-validate-three-texts.validate-three-texts.ensures at-enum-told.enum_told.given.1
+          (replace_unfolded _ _ _ _ ∙ answered_passed _ _ _ _ at-validate-three-texts.validate-three-texts.ensures at-enum-told.enum_told.given.1
           at-if1.if1.false ∙ ap checked_option (replace_prefix_lem _ _ _ (known_true at-has-prefix.has-prefix.ensures at-if2.if2.false)))
           _ _ _ joined,
       written_in_parts _ _ _ _ _ _ joined,

@@ -2,7 +2,7 @@ use mathlib.Core.Path.{ap, ◌∙◌}
 use Rattle.path_parts.proofs.ParentLaws.{prim_len_le}
 use Rattle.refusal.specs.Outcome.{checked_option}
 use Rattle.path_derive.proofs.UnfoldedCalls.{split_unfolded}
-use Rattle.refusal.proofs.CallBranches.{answered-refused, answered-short, answered-passed, refusing, answering}
+use Rattle.refusal.proofs.CallBranches.{answered_refused, answered_short, answered_passed, refusing, answering}
 use Rattle.path_derive.proofs.PartBranches.{prim_written, cut_length, split_none, split_some}
 use Rattle.refusal.proofs.PassedLaws.{passed_short, passed_legal}
 use borrow.Author.Rules.{rules}
@@ -16,13 +16,13 @@ enum-known-q : tie.Need-enum-known-q
 enum-known-q c = search rules
 
 returns : tie.Need-returns
-returns c = refusing _ _ (split_unfolded _ _ ∙ answered-refused _ _ _ _ c.before.before.before.validate-text.ensures _ c.before.q.given.1) _
+returns c = refusing _ _ (split_unfolded _ _ ∙ answered_refused _ _ _ _ c.before.before.before.validate-text.ensures _ c.before.q.given.1) _
 
 enum_told : tie.Need-enum-told
 enum_told c = search rules
 
 returns-2 : tie.Need-returns-2
-returns-2 c = refusing _ _ (split_unfolded _ _ ∙ answered-short _ _ _ _ c.before.before.before.validate-text.ensures c.before.enum_told.given.1 c.if1.true) _
+returns-2 c = refusing _ _ (split_unfolded _ _ ∙ answered_short _ _ _ _ c.before.before.before.validate-text.ensures c.before.enum_told.given.1 c.if1.true) _
 
 is-property-requires : tie.Need-is-property-requires
 is-property-requires c κs = search rules
@@ -35,7 +35,7 @@ returns-3 c =
     let at-enum-told = at-if1.before in
     let at-validate-text = at-enum-told.before.before in
     refusing _ _
-    (split_unfolded _ _ ∙ answered-passed _ _ _ _ at-validate-text.validate-text.ensures at-enum-told.enum_told.given.1
+    (split_unfolded _ _ ∙ answered_passed _ _ _ _ at-validate-text.validate-text.ensures at-enum-told.enum_told.given.1
     at-if1.if1.false ∙ ap checked_option (split_none _ _ at-is-property.is-property.ensures c.if2.true))
     _
 
@@ -62,7 +62,7 @@ returns-4 c =
     let at-enum-told = at-if1.before in
     let at-validate-text = at-enum-told.before.before in
     answering _ _
-    (split_unfolded _ _ ∙ answered-passed _ _ _ _ at-validate-text.validate-text.ensures at-enum-told.enum_told.given.1
+    (split_unfolded _ _ ∙ answered_passed _ _ _ _ at-validate-text.validate-text.ensures at-enum-told.enum_told.given.1
     at-if1.if1.false ∙ ap checked_option (split_some _ _ at-is-property.is-property.ensures at-if2.if2.false))
     _ _ _
     (prim_written _ _ at-prim-len.prim-len.ensures

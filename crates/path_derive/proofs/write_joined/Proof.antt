@@ -1,5 +1,5 @@
 use mathlib.Core.Path.{refl}
-use Rattle.text.proofs.WriteLaws.{fit-part, fit-inside}
+use Rattle.text.proofs.WriteLaws.{fit_part, fit_inside}
 use Rattle.path_derive.proofs.DeriveBranches.{made_over, made_illegal, made_written}
 use borrow.Author.Rules.{rules}
 use Rattle.path_derive.proofs.write_joined.Statement.{statement}
@@ -24,13 +24,13 @@ array-share-prefix-made : tie.Need-array-share-prefix-made
 array-share-prefix-made c =
     let at-fit = c.before in
     let at_join = at-fit.before.before.before in
-    fit-inside _ _ _ at_join.join.ensures.0 _ at-fit.fit.given.1 _ at_join.join.ensures.1
+    fit_inside _ _ _ at_join.join.ensures.0 _ at-fit.fit.given.1 _ at_join.join.ensures.1
 
 slice-aggregate-is-legal : tie.Need-slice-aggregate-is-legal
 slice-aggregate-is-legal c =
     let at-fit = c.before.before in
     let at_join = at-fit.before.before.before in
-    fit-part _ _ _ at_join.join.ensures.0 _ at-fit.fit.given.1 _ at_join.join.ensures.1
+    fit_part _ _ _ at_join.join.ensures.0 _ at-fit.fit.given.1 _ at_join.join.ensures.1
 
 is-legal-requires : tie.Need-is-legal-requires
 is-legal-requires c κs = search rules
@@ -47,13 +47,13 @@ array-share-prefix-made-2 : tie.Need-array-share-prefix-made-2
 array-share-prefix-made-2 c =
     let at-fit = c.before.before.before.before in
     let at_join = at-fit.before.before.before in
-    fit-inside _ _ _ at_join.join.ensures.0 _ at-fit.fit.given.1 _ at_join.join.ensures.1
+    fit_inside _ _ _ at_join.join.ensures.0 _ at-fit.fit.given.1 _ at_join.join.ensures.1
 
 slice-aggregate-write-at : tie.Need-slice-aggregate-write-at
 slice-aggregate-write-at c =
     let at-fit = c.before.before.before.before.before in
     let at_join = at-fit.before.before.before in
-    fit-part _ _ _ at_join.join.ensures.0 _ at-fit.fit.given.1 _ at_join.join.ensures.1
+    fit_part _ _ _ at_join.join.ensures.0 _ at-fit.fit.given.1 _ at_join.join.ensures.1
 
 write-at-requires : tie.Need-write-at-requires
 write-at-requires c κs = search rules

@@ -1,5 +1,5 @@
 -- A text is the join if it has its length and its three parts; each test decides one factor of that conjunction.
-use Rattle.path_join.proofs.JoinBranches.{join-unequal, join_other, join-unseparated, join-same}
+use Rattle.path_join.proofs.JoinBranches.{join_unequal, join_other, join_unseparated, join_same}
 use borrow.Author.Rules.{rules}
 use Rattle.path_join.proofs.is_join.Statement.{statement}
 use Rattle.path_join.proofs.is_join.Tie as tie
@@ -25,7 +25,7 @@ add-if1 c = search rules
 returns : tie.Need-returns
 returns c =
     let at-layout-of = c.before.before.before in
-    join-unequal _ _ _ _ _ at-layout-of.layout_of.ensures _ c.if1.true
+    join_unequal _ _ _ _ _ at-layout-of.layout_of.ensures _ c.if1.true
 
 starts-with-requires : tie.Need-starts-with-requires
 starts-with-requires c κs = search rules
@@ -45,7 +45,7 @@ returns-3 c =
     let at-if2 = at-has-separator.before in
     let at-starts-with = at-if2.before in
     let at-layout-of = at-starts-with.before.before.before.before in
-    join-unseparated _ _ _ _ at-layout-of.layout_of.result.start at-layout-of.layout_of.ensures _ _ at-starts-with.starts_with.ensures
+    join_unseparated _ _ _ _ at-layout-of.layout_of.result.start at-layout-of.layout_of.ensures _ _ at-starts-with.starts_with.ensures
     at-if2.if2.false _ at-has-separator.has-separator.ensures c.if3.true
 
 sub-is-equal : tie.Need-overflow-sub-is-equal
@@ -67,7 +67,7 @@ returns-4 c =
     let at-if2 = at-has-separator.before in
     let at-starts-with = at-if2.before in
     let at-layout-of = at-starts-with.before.before.before.before in
-    join-same _ _ _ _ _ at-layout-of.layout_of.ensures _ _ at-starts-with.starts_with.ensures
+    join_same _ _ _ _ _ at-layout-of.layout_of.ensures _ _ at-starts-with.starts_with.ensures
     at-if2.if2.false _ at-has-separator.has-separator.ensures at-if3.if3.false _ c.is-equal.ensures
 
 pub is-join-spec : {M : Type 1} → statement M

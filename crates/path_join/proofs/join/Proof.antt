@@ -1,5 +1,5 @@
 -- The three writes, each where the one before it ends, are one write of the joined text.
-use Rattle.path_join.proofs.JoinBranches.{join-over, join-fits}
+use Rattle.path_join.proofs.JoinBranches.{join_over, join_fits}
 use borrow.Author.Rules.{rules}
 use Rattle.path_join.proofs.join.Statement.{statement}
 use Rattle.path_join.proofs.join.Tie as tie
@@ -25,7 +25,7 @@ add-len c = search rules
 returns : tie.Need-returns
 returns c =
     let at-layout-of = c.before.before.before in
-    join-over _ _ _ _ _ at-layout-of.layout_of.ensures _ c.if1.true
+    join_over _ _ _ _ _ at-layout-of.layout_of.ensures _ c.if1.true
 
 write-at-requires : tie.Need-write-at-requires
 write-at-requires c κs = search rules
@@ -46,7 +46,7 @@ returns-2 c =
     let at-write-at = at-write-separator.before.before.before.before in
     let at-if1 = at-write-at.before.before in
     let at-layout-of = at-if1.before.before.before in
-    join-fits _ _ _ _ _ at-layout-of.layout_of.ensures _ _ _ _ at-if1.if1.false
+    join_fits _ _ _ _ _ at-layout-of.layout_of.ensures _ _ _ _ at-if1.if1.false
     at-write-at.write-at.ensures at-write-separator.write-separator.ensures at-write-at2.write-at2.ensures
 
 pub join-spec : {M : Type 1} → statement M

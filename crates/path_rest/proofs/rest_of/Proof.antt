@@ -1,4 +1,4 @@
-use Rattle.path_rest.proofs.RestBranches.{text_none, text-past, text-inside}
+use Rattle.path_rest.proofs.RestBranches.{text_none, text_past, text_inside}
 use borrow.Author.Rules.{rules}
 use Rattle.path_rest.proofs.rest_of.Statement.{statement}
 use Rattle.path_rest.proofs.rest_of.Tie as tie
@@ -19,7 +19,7 @@ slice-aggregate-result-2 : tie.Need-slice-aggregate-result-2
 slice-aggregate-result-2 c = search rules
 
 returns-2 : tie.Need-returns-2
-returns-2 c = text-past _ _ _ c.before.before.before.rest.given.1 c.before.if1.true
+returns-2 c = text_past _ _ _ c.before.before.before.rest.given.1 c.before.if1.true
 
 sub-result : tie.Need-overflow-sub-result
 sub-result c = search rules
@@ -31,7 +31,7 @@ part-result-end : tie.Need-slice-bounds-result-end
 part-result-end c = search rules
 
 returns-3 : tie.Need-returns-3
-returns-3 c = text-inside _ _ _ c.before.before.before.rest.given.1
+returns-3 c = text_inside _ _ _ c.before.before.before.rest.given.1
 
 pub rest-of-spec : {M : Type 1} → statement M
 rest-of-spec =

@@ -1,6 +1,6 @@
 use mathlib.Core.Path.{ap, ◌∙◌}
 use Rattle.refusal.specs.Outcome.{checked_option}
-use Rattle.refusal.proofs.CallBranches.{answered-refused, answered-short, answered-passed, refusing, answering}
+use Rattle.refusal.proofs.CallBranches.{answered_refused, answered_short, answered_passed, refusing, answering}
 use Rattle.path_target.proofs.CallLaws.{embedded_unfolded, embedded_absent, embedded_written}
 use borrow.Author.Rules.{rules}
 use Rattle.path_target.proofs.embedded_target.Statement.{statement}
@@ -15,7 +15,7 @@ enum-known-q c = search rules
 returns : tie.Need-returns
 returns c =
     let at-validate-text = c.before.before.before in
-    refusing _ _ (embedded_unfolded _ _ ∙ answered-refused _ _ _ _ at-validate-text.validate-text.ensures _ c.before.q.given.1) _
+    refusing _ _ (embedded_unfolded _ _ ∙ answered_refused _ _ _ _ at-validate-text.validate-text.ensures _ c.before.q.given.1) _
 
 enum_told : tie.Need-enum-told
 enum_told c = search rules
@@ -25,7 +25,7 @@ returns-2 c =
     let at-enum-told = c.before in
     let at-validate-text = at-enum-told.before.before in
     refusing _ _
-    (embedded_unfolded _ _ ∙ answered-short _ _ _ _ at-validate-text.validate-text.ensures at-enum-told.enum_told.given.1 c.if1.true)
+    (embedded_unfolded _ _ ∙ answered_short _ _ _ _ at-validate-text.validate-text.ensures at-enum-told.enum_told.given.1 c.if1.true)
     _
 
 target-text-requires : tie.Need-target-text-requires
@@ -41,7 +41,7 @@ returns-3 c =
     let valid = at-validate-text.validate-text.ensures in
     let passes = at-enum-told.enum_told.given.1 in
     refusing _ _
-    (embedded_unfolded _ _ ∙ answered-passed _ _ _ _ valid passes at-if1.if1.false
+    (embedded_unfolded _ _ ∙ answered_passed _ _ _ _ valid passes at-if1.if1.false
     ∙ ap checked_option (embedded_absent _ _ valid passes _ at-target-text.target-text.ensures c.if2.true))
     _
 
@@ -61,7 +61,7 @@ returns-4 c =
     let at-validate-text = at-enum-told.before.before in
     let valid = at-validate-text.validate-text.ensures in
     let passes = at-enum-told.enum_told.given.1 in
-    answering _ _ (embedded_unfolded _ _ ∙ answered-passed _ _ _ _ valid passes at-if1.if1.false) _ _ _
+    answering _ _ (embedded_unfolded _ _ ∙ answered_passed _ _ _ _ valid passes at-if1.if1.false) _ _ _
     (embedded_written _ _ valid passes _ at-target-text.target-text.ensures _ _ at-if2.if2.false at-if1.if1.false
     at-write-at.write-at.ensures)
 

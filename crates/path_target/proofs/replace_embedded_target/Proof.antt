@@ -1,5 +1,5 @@
 use mathlib.Core.Path.{◌∙◌}
-use Rattle.refusal.proofs.CallBranches.{answered-refused, answered-short, answered-passed, refusing, answering}
+use Rattle.refusal.proofs.CallBranches.{answered_refused, answered_short, answered_passed, refusing, answering}
 use Rattle.path_target.proofs.CallLaws.{replace_unfolded}
 use borrow.Author.Rules.{rules}
 use Rattle.path_target.proofs.replace_embedded_target.Statement.{statement}
@@ -14,7 +14,7 @@ enum-known-q c = search rules
 returns : tie.Need-returns
 returns c =
     let at-validate-two-texts = c.before.before.before in
-    refusing _ _ (replace_unfolded _ _ _ ∙ answered-refused _ _ _ _ at-validate-two-texts.validate-two-texts.ensures _ c.before.q.given.1) _
+    refusing _ _ (replace_unfolded _ _ _ ∙ answered_refused _ _ _ _ at-validate-two-texts.validate-two-texts.ensures _ c.before.q.given.1) _
 
 enum_told : tie.Need-enum-told
 enum_told c = search rules
@@ -24,7 +24,7 @@ returns-2 c =
     let at-enum-told = c.before in
     let at-validate-two-texts = at-enum-told.before.before in
     refusing _ _
-    (replace_unfolded _ _ _ ∙ answered-short _ _ _ _ at-validate-two-texts.validate-two-texts.ensures at-enum-told.enum_told.given.1 c.if1.true)
+    (replace_unfolded _ _ _ ∙ answered_short _ _ _ _ at-validate-two-texts.validate-two-texts.ensures at-enum-told.enum_told.given.1 c.if1.true)
     _
 
 write-replaced-requires : tie.Need-write-replaced-requires
@@ -40,7 +40,7 @@ returns-3 c =
     let at-enum-told = at-if1.before in
     let at-validate-two-texts = at-enum-told.before.before in
     answering _ _
-    (replace_unfolded _ _ _ ∙ answered-passed _ _ _ _ at-validate-two-texts.validate-two-texts.ensures at-enum-told.enum_told.given.1
+    (replace_unfolded _ _ _ ∙ answered_passed _ _ _ _ at-validate-two-texts.validate-two-texts.ensures at-enum-told.enum_told.given.1
     at-if1.if1.false)
     _ _ _ at-write-replaced.write-replaced.ensures
 

@@ -1,5 +1,5 @@
 use borrow.Author.Rules.{rules}
-use Rattle.path_target.proofs.TargetBranches.{text_absent, between_start, between-end, open-fits, text-between}
+use Rattle.path_target.proofs.TargetBranches.{text_absent, between_start, between_end, open_fits, text_between}
 use Rattle.path_target.proofs.target_text.Statement.{statement}
 use Rattle.path_target.proofs.target_text.Tie as tie
 
@@ -20,7 +20,7 @@ returns c = search (rules, text_absent)
 
 add-result : tie.Need-overflow-add-result
 add-result c =
-    search (rules, open-fits _ _ c.before.before.before.target-brackets.ensures _ _ c.before.brackets.given.1)
+    search (rules, open_fits _ _ c.before.before.before.target-brackets.ensures _ _ c.before.brackets.given.1)
 
 sub-result : tie.Need-overflow-sub-result
 sub-result c =
@@ -31,10 +31,10 @@ part-result-start c =
     search (rules, between_start _ _ c.before.before.before.target-brackets.ensures _ _ c.before.brackets.given.1)
 
 part-result-end : tie.Need-slice-bounds-result-end
-part-result-end c = search (rules, between-end)
+part-result-end c = search (rules, between_end)
 
 returns-2 : tie.Need-returns-2
-returns-2 c = search (rules, text-between)
+returns-2 c = search (rules, text_between)
 
 pub target-text-spec : {M : Type 1} → statement M
 target-text-spec =

@@ -1,5 +1,5 @@
 use mathlib.Core.Path.{refl}
-use Rattle.path_target.proofs.CallLaws.{made_inside, made-size, made_short, made_checked, replaced_long, replaced_absent}
+use Rattle.path_target.proofs.CallLaws.{made_inside, made_size, made_short, made_checked, replaced_long, replaced_absent}
 use borrow.Author.Rules.{rules}
 use Rattle.path_target.proofs.write_replaced.Statement.{statement}
 use Rattle.path_target.proofs.write_replaced.Tie as tie
@@ -23,7 +23,7 @@ slice-aggregate-write-if-legal : tie.Need-slice-aggregate-write-if-legal
 slice-aggregate-write-if-legal c =
     let at_n = c.before.before in
     let at-replace = at_n.before.before.before in
-    made-size _ _ _ at-replace.replace-target-into.ensures.0 refl _ at_n.n.given.1 _ at-replace.replace-target-into.ensures.1
+    made_size _ _ _ at-replace.replace-target-into.ensures.0 refl _ at_n.n.given.1 _ at-replace.replace-target-into.ensures.1
 
 write-if-legal-requires : tie.Need-write-if-legal-requires
 write-if-legal-requires c κs =

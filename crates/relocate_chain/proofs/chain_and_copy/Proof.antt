@@ -1,4 +1,4 @@
-use Rattle.relocate_chain.proofs.CallBranches.{out_stopped, out-part, out-inside, out-chained}
+use Rattle.relocate_chain.proofs.CallBranches.{out_stopped, out_part, out_inside, out_chained}
 use borrow.Author.Rules.{rules}
 use Rattle.relocate_chain.proofs.chain_and_copy.Statement.{statement}
 use Rattle.relocate_chain.proofs.chain_and_copy.Tie as tie
@@ -13,10 +13,10 @@ enum-known-c : tie.Need-enum-known-c
 enum-known-c c = search rules
 
 array-share-prefix-current : tie.Need-array-share-prefix-current
-array-share-prefix-current c = out-inside _ c.before.before.before.before.chain-into.result c.before.before.before.before.chain-into.new.1.1.1.1.1.1.0 c.before.before.before.before.chain-into.ensures.0 c.before.before.before.before.chain-into.ensures.1 (search rules) _ _ c.before.c.given.1
+array-share-prefix-current c = out_inside _ c.before.before.before.before.chain-into.result c.before.before.before.before.chain-into.new.1.1.1.1.1.1.0 c.before.before.before.before.chain-into.ensures.0 c.before.before.before.before.chain-into.ensures.1 (search rules) _ _ c.before.c.given.1
 
 slice-aggregate-write-at : tie.Need-slice-aggregate-write-at
-slice-aggregate-write-at c = out-part _ c.before.before.before.before.before.chain-into.result c.before.before.before.before.before.chain-into.new.1.1.1.1.1.1.0 c.before.before.before.before.before.chain-into.ensures.0 c.before.before.before.before.before.chain-into.ensures.1 (search rules) _ _ c.before.before.c.given.1
+slice-aggregate-write-at c = out_part _ c.before.before.before.before.before.chain-into.result c.before.before.before.before.before.chain-into.new.1.1.1.1.1.1.0 c.before.before.before.before.before.chain-into.ensures.0 c.before.before.before.before.before.chain-into.ensures.1 (search rules) _ _ c.before.before.c.given.1
 
 write-at-requires : tie.Need-write-at-requires
 write-at-requires c κs = search rules
@@ -29,7 +29,7 @@ same_length c = search rules
 
 returns : tie.Need-returns
 returns c =
-    out-chained _ c.before.before.before.before.before.before.before.before.before.chain-into.result
+    out_chained _ c.before.before.before.before.before.before.before.before.before.chain-into.result
     c.before.before.before.before.before.before.before.before.before.chain-into.new.1.1.1.1.1.1.0
     c.before.before.before.before.before.before.before.before.before.chain-into.ensures.0
     c.before.before.before.before.before.before.before.before.before.chain-into.ensures.1 (search rules) _ _

@@ -1,5 +1,5 @@
 use mathlib.Core.Path.{refl}
-use Rattle.relocate_chain.proofs.CallBranches.{shift_still, shift_refused, shift-part, shift-inside, shift_made}
+use Rattle.relocate_chain.proofs.CallBranches.{shift_still, shift_refused, shift_part, shift_inside, shift_made}
 use borrow.Author.Rules.{rules}
 use Rattle.relocate_chain.proofs.shift_and_copy.Statement.{statement}
 use Rattle.relocate_chain.proofs.shift_and_copy.Tie as tie
@@ -26,13 +26,13 @@ array-share-prefix-made : tie.Need-array-share-prefix-made
 array-share-prefix-made c =
     let at-s2 = c.before in
     let at-replace-once = at-s2.before.before.before in
-    shift-inside _ _ _ at-replace-once.replace-once.ensures.0 _ at-s2.s2.given.1 _ _ at-replace-once.replace-once.ensures.1 refl
+    shift_inside _ _ _ at-replace-once.replace-once.ensures.0 _ at-s2.s2.given.1 _ _ at-replace-once.replace-once.ensures.1 refl
 
 slice-aggregate-write-at : tie.Need-slice-aggregate-write-at
 slice-aggregate-write-at c =
     let at-s2 = c.before.before in
     let at-replace-once = at-s2.before.before.before in
-    shift-part _ _ _ at-replace-once.replace-once.ensures.0 _ at-s2.s2.given.1 _ _ at-replace-once.replace-once.ensures.1 refl
+    shift_part _ _ _ at-replace-once.replace-once.ensures.0 _ at-s2.s2.given.1 _ _ at-replace-once.replace-once.ensures.1 refl
 
 write-at-requires-2 : tie.Need-write-at-requires-2
 write-at-requires-2 c κs = search rules

@@ -1,5 +1,5 @@
 use lib.ListN.{length}
-use Rattle.relocates.proofs.AnalyzeBranches.{analyze_few, analyze-refused, analyze-short, analyze-written}
+use Rattle.relocates.proofs.AnalyzeBranches.{analyze_few, analyze_refused, analyze_short, analyze_written}
 use borrow.Author.Rules.{rules}
 use Rattle.relocates.proofs.analyze_relocate_occurrences.Statement.{statement}
 use Rattle.relocates.proofs.analyze_relocate_occurrences.Tie as tie
@@ -14,7 +14,7 @@ enum-known-q : tie.Need-enum-known-q
 enum-known-q c = search rules
 
 returns : tie.Need-returns
-returns c = analyze-refused _ _ c.before.before.before.validate-list-and-path.ensures _ _ _ c.before.q.given.1
+returns c = analyze_refused _ _ c.before.before.before.validate-list-and-path.ensures _ _ _ c.before.q.given.1
 
 enum_told : tie.Need-enum-told
 enum_told c = search rules
@@ -24,7 +24,7 @@ returns-2 c =
     let at-enum-told = c.before in
     let at-validate-list-and-path = at-enum-told.before.before in
     let at-start = at-validate-list-and-path.before.before.before.before.before in
-    analyze-short _ _ at-validate-list-and-path.validate-list-and-path.ensures (length at-start.args.out.now) _
+    analyze_short _ _ at-validate-list-and-path.validate-list-and-path.ensures (length at-start.args.out.now) _
     at-enum-told.enum_told.given.1 c.if1.true
 
 write-statuses-requires : tie.Need-write-statuses-requires
@@ -39,7 +39,7 @@ returns-3 c =
     let at-if1 = at-write-statuses.before.before in
     let at-enum-told = at-if1.before in
     let at-validate-list-and-path = at-enum-told.before.before in
-    analyze-written _ _ at-validate-list-and-path.validate-list-and-path.ensures _ _ at-enum-told.enum_told.given.1 at-if1.if1.false _
+    analyze_written _ _ at-validate-list-and-path.validate-list-and-path.ensures _ _ at-enum-told.enum_told.given.1 at-if1.if1.false _
     at-write-statuses.write-statuses.ensures
 
 pub analyze-relocate-occurrences-spec : {M : Type 1} → statement M

@@ -1,6 +1,6 @@
 use native.Mathlib.Omega.{arith}
 use Rattle.path_parts.proofs.StripLaws.{strip_never}
-use Rattle.route.proofs.CallBranches.{enter_kept, enter-stripped}
+use Rattle.route.proofs.CallBranches.{enter_kept, enter_stripped}
 use borrow.Author.Rules.{rules}
 use Rattle.route.proofs.enter_route.Statement.{statement}
 use Rattle.route.proofs.enter_route.Tie as tie
@@ -45,7 +45,7 @@ returns-3 c =
     let at-strip-into = at-fit.before.before.before.before in
     let at-if1 = at-strip-into.before.before in
     let at-start = at-if1.before.before.before in
-    enter-stripped at-start.args.stripped _ _ at-start.requires.1 at-start.requires.0 _ at-strip-into.strip-into.ensures.0 at-if1.if1.false _ at-fit.fit.given.1 _
+    enter_stripped at-start.args.stripped _ _ at-start.requires.1 at-start.requires.0 _ at-strip-into.strip-into.ensures.0 at-if1.if1.false _ at-fit.fit.given.1 _
     at-strip-into.strip-into.ensures.1 (search rules)
 
 pub enter-route-spec : {M : Type 1} → statement M

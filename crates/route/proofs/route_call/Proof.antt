@@ -1,6 +1,6 @@
 use mathlib.Core.Path.{refl}
 use Rattle.route_maps.proofs.ReadLaws.{prepared_read}
-use Rattle.route.proofs.CallBranches.{returns-as-it-is, returns-prepared}
+use Rattle.route.proofs.CallBranches.{returns_as_it_is, returns_prepared}
 use borrow.Author.Rules.{rules}
 use Rattle.route.proofs.route_call.Statement.{statement}
 use Rattle.route.proofs.route_call.Tie as tie
@@ -23,7 +23,7 @@ returns c =
     let at-if1 = at-route-after.before.before in
     let at-needs-maps = at-if1.before in
     let at-validate-legs = at-needs-maps.before in
-    returns-as-it-is _ _ _ _ _ at-validate-legs.validate-legs.ensures _ at-needs-maps.needs-maps.ensures at-if1.if1.true _ _ _
+    returns_as_it_is _ _ _ _ _ at-validate-legs.validate-legs.ensures _ at-needs-maps.needs-maps.ensures at-if1.if1.true _ _ _
     at-route-after.route-after-carried.ensures
 
 slice-aggregate-prepare-legs : tie.Need-slice-aggregate-prepare-legs
@@ -52,7 +52,7 @@ returns-2 c =
     let at-route-after = c.before.before in
     let at-prepare-legs = at-route-after.before.before.before.before.before.before in
     let at-validate-legs = at-prepare-legs.before.before.before.before.before in
-    returns-prepared _ _ _ _ _ at-validate-legs.validate-legs.ensures _ refl (search rules) (search rules)
+    returns_prepared _ _ _ _ _ at-validate-legs.validate-legs.ensures _ refl (search rules) (search rules)
     (prepared_read _ _ _ _ _ at-prepare-legs.prepare-legs.ensures.0 at-prepare-legs.prepare-legs.ensures.1) _ _ _
     at-route-after.route-after-carried2.ensures
 

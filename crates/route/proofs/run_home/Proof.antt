@@ -1,6 +1,6 @@
 -- The loop. The legs before k, in reverse from the path so far, make the result of the whole route, and leave unaltered what it leaves.
 use borrow.Author.Rules.{rules}
-use Rattle.route.proofs.RunBranches.{holds_size, home_begin, home-on, home-stopped, home_end}
+use Rattle.route.proofs.RunBranches.{holds_size, home_begin, home_on, home_stopped, home_end}
 use Rattle.route.proofs.UnalteredBranches.{refused_run, home_first, home_fewer, home_all}
 use Rattle.route.specs.Fast.{leg_fast, maps_in, run_route_fast}
 use Rattle.route.specs.Unaltered.{unaltered_fast}
@@ -50,7 +50,7 @@ returns c =
     let at-loop = at-loop-test.before in
     let run = at-run-legs.run-legs.ensures in
     refused_run _ _ _ _ _
-    (home-stopped _ _ _ _ _ _ at-loop.loop.at at-loop.loop.here at-loop-test.loop-test.true at-loop.loop.invariant.3 _ _ run.outcome _
+    (home_stopped _ _ _ _ _ _ at-loop.loop.at at-loop.loop.here at-loop-test.loop-test.true at-loop.loop.invariant.3 _ _ run.outcome _
     c.enum_told.given.1)
     c.enum_told.given.1
 
@@ -72,7 +72,7 @@ loop-again c =
       search rules,
       holds_size _ _ _ run.outcome _ written (search rules),
       search rules,
-      home-on _ _ _ _ _ _ at-loop.loop.at at-loop.loop.here at-loop-test.loop-test.true inv.3 _ _ run.outcome _ written,
+      home_on _ _ _ _ _ _ at-loop.loop.at at-loop.loop.here at-loop-test.loop-test.true inv.3 _ _ run.outcome _ written,
       home_fewer _ _ _ _ _ _ at-loop.loop.at at-loop.loop.here at-loop-test.loop-test.true _ inv.4 _ _ run _ written _ c.min.ensures,
     )
 

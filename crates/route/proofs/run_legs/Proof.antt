@@ -1,6 +1,6 @@
 use native.Mathlib.Omega.{arith}
 use Rattle.text.proofs.WriteLaws.{part_size}
-use Rattle.route.proofs.UnalteredBranches.{run_over_refused, run-over-inside, run-over-written}
+use Rattle.route.proofs.UnalteredBranches.{run_over_refused, run_over_inside, run_over_written}
 use borrow.Author.Rules.{rules}
 use Rattle.route.proofs.run_legs.Statement.{statement}
 use Rattle.route.proofs.run_legs.Tie as tie
@@ -53,7 +53,7 @@ array-share-prefix-made c =
     let at-reply-of = at-reply.before.before in
     let at-carried-rest = at-reply-of.before in
     let at-map-leg = at-carried-rest.before.before in
-    run-over-inside _ _ _ _ _ _ at-map-leg.map-leg.ensures _ at-reply-of.reply-of.ensures _ at-carried-rest.carried-rest.ensures _
+    run_over_inside _ _ _ _ _ _ at-map-leg.map-leg.ensures _ at-reply-of.reply-of.ensures _ at-carried-rest.carried-rest.ensures _
     at-reply.reply.given.1
 
 slice-aggregate-write-at : tie.Need-slice-aggregate-write-at
@@ -63,7 +63,7 @@ slice-aggregate-write-at c =
     let at-carried-rest = at-reply-of.before in
     let at-map-leg = at-carried-rest.before.before in
     part_size _ _
-    (run-over-inside _ _ _ _ _ _ at-map-leg.map-leg.ensures _ at-reply-of.reply-of.ensures _ at-carried-rest.carried-rest.ensures _
+    (run_over_inside _ _ _ _ _ _ at-map-leg.map-leg.ensures _ at-reply-of.reply-of.ensures _ at-carried-rest.carried-rest.ensures _
     at-reply.reply.given.1)
 
 write-at-requires : tie.Need-write-at-requires
@@ -80,7 +80,7 @@ returns-2 c =
     let at-carried-rest = at-reply-of.before in
     let at-map-leg = at-carried-rest.before.before in
     let at-start = at-map-leg.before.before.before.before.before.before.before in
-    run-over-written _ _ _ _ _ _ at-map-leg.map-leg.ensures _ at-reply-of.reply-of.ensures _ at-carried-rest.carried-rest.ensures _
+    run_over_written _ _ _ _ _ _ at-map-leg.map-leg.ensures _ at-reply-of.reply-of.ensures _ at-carried-rest.carried-rest.ensures _
     at-reply.reply.given.1 _ _ at-start.requires.1 at-write-at.write-at.ensures
 
 pub run-legs-spec : {M : Type 1} → statement M

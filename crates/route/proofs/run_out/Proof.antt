@@ -1,6 +1,6 @@
 -- The loop. After k legs the path so far is what those legs make of the starting path, and the number is what they leave unaltered of it.
 use borrow.Author.Rules.{rules}
-use Rattle.route.proofs.RunBranches.{holds_size, out-begin, out-on, out_stopped, out_end}
+use Rattle.route.proofs.RunBranches.{holds_size, out_begin, out_on, out_stopped, out_end}
 use Rattle.route.proofs.UnalteredBranches.{refused_run, out_first, out_fewer, out_all}
 use Rattle.route.specs.Fast.{leg_fast, maps_in}
 use Rattle.map_apply.specs.Fast.{plain_rest}
@@ -24,7 +24,7 @@ abbrev decreases-loop : tie.decreases-loop
 decreases-loop store places legs n here₀ len at₀ unaltered₀ k₀ here at unaltered k = n - k
 
 loop-holds : tie.Need-loop-init invariant-loop decreases-loop
-loop-holds c = (search rules, search rules, search rules, out-begin _ _ _ _ _, out_first _ _ _ _ _ _)
+loop-holds c = (search rules, search rules, search rules, out_begin _ _ _ _ _, out_first _ _ _ _ _ _)
 
 run-legs-requires : tie.Need-run-legs-requires invariant-loop decreases-loop
 run-legs-requires c κs = search rules
@@ -69,7 +69,7 @@ loop-again c =
       search rules,
       holds_size _ _ _ run.outcome _ written (search rules),
       search rules,
-      out-on _ _ _ _ _ _ at-loop.loop.at at-loop.loop.here inv.3 _ _ run.outcome _ written,
+      out_on _ _ _ _ _ _ at-loop.loop.at at-loop.loop.here inv.3 _ _ run.outcome _ written,
       out_fewer _ _ _ _ _ _ _ at-loop.loop.at at-loop.loop.here inv.3 _ inv.4 _ _ run _ written _ c.min.ensures,
     )
 

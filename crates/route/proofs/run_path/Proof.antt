@@ -1,5 +1,5 @@
 use Rattle.text.proofs.WriteLaws.{part_size}
-use Rattle.route.proofs.CallBranches.{entered_size, run_refused, run_inside, unaltered-inside, run-written}
+use Rattle.route.proofs.CallBranches.{entered_size, run_refused, run_inside, unaltered_inside, run_written}
 use borrow.Author.Rules.{rules}
 use Rattle.route.proofs.run_path.Statement.{statement}
 use Rattle.route.proofs.run_path.Tie as tie
@@ -65,7 +65,7 @@ rest-at-end-requires c κs =
     let at-run-direction = at-reply.before.before.before in
     let at-enter-route = at-run-direction.before.before.before in
     let at-enters-stripped = at-enter-route.before.before in
-    unaltered-inside _ _ _ _ _ at-enters-stripped.enters-stripped.ensures _ _ at-enter-route.enter-route.ensures _ _
+    unaltered_inside _ _ _ _ _ at-enters-stripped.enters-stripped.ensures _ _ at-enter-route.enter-route.ensures _ _
     at-run-direction.run-direction.ensures _ at-reply.reply.given.1 (search rules)
 
 with-rest-requires-2 : tie.Need-with-rest-requires-2
@@ -83,7 +83,7 @@ returns-2 c =
     let at-enter-route = at-run-direction.before.before.before in
     let at-enters-stripped = at-enter-route.before.before in
     let at-start = at-enters-stripped.before.before.before.before.before.before in
-    run-written _ _ _ _ _ at-enters-stripped.enters-stripped.ensures _ _ at-enter-route.enter-route.ensures _ _
+    run_written _ _ _ _ _ at-enters-stripped.enters-stripped.ensures _ _ at-enter-route.enter-route.ensures _ _
     at-run-direction.run-direction.ensures _ at-reply.reply.given.1 (search rules) (search rules) _ at-rest-at-end.rest-at-end.ensures _
     c.with-rest2.ensures _ _ at-start.requires.1 at-write-at.write-at.ensures
 

@@ -5,7 +5,7 @@ use mathlib.Core.Path.{◌≡◌}
 use mathlib.Core.List.{[]}
 use Rattle.validate.specs.Validate.{validate_call}
 use Rattle.route_legs.specs.LentRoute.{lent_route, lists_in}
-use Rattle.route_legs.proofs.ValidateBranches.{lists-none, lists-on, lists-end}
+use Rattle.route_legs.proofs.ValidateBranches.{lists_none, lists_on, lists_end}
 use Rattle.route_legs.proofs.validate_leg_lists.Statement.{statement}
 use Rattle.route_legs.proofs.validate_leg_lists.Tie as tie
 
@@ -16,7 +16,7 @@ abbrev decreases-loop : tie.decreases-loop
 decreases-loop store places legs n q₀ k₀ q k = n - k
 
 loop-holds : tie.Need-loop-init invariant-loop decreases-loop
-loop-holds c = (search rules, lists-none _ _ _ _)
+loop-holds c = (search rules, lists_none _ _ _ _)
 
 validate-leg-requires : tie.Need-validate-leg-requires invariant-loop decreases-loop
 validate-leg-requires c κs = search rules
@@ -31,10 +31,10 @@ loop-less : tie.Need-loop-smaller invariant-loop decreases-loop
 loop-less c = search rules
 
 loop-again : tie.Need-loop-preserved invariant-loop decreases-loop
-loop-again c = (search rules, lists-on _ _ _ _ _ _ _ _ c.before.before.before.loop.invariant.1 c.before.validate-leg.ensures c.first-refusal.ensures)
+loop-again c = (search rules, lists_on _ _ _ _ _ _ _ _ c.before.before.before.loop.invariant.1 c.before.validate-leg.ensures c.first-refusal.ensures)
 
 returns : tie.Need-returns invariant-loop decreases-loop
-returns c = lists-end _ _ _ _ _ _ c.loop-test.false c.before.loop.invariant.0 c.before.loop.invariant.1
+returns c = lists_end _ _ _ _ _ _ c.loop-test.false c.before.loop.invariant.0 c.before.loop.invariant.1
 
 pub validate-leg-lists-spec : {M : Type 1} → statement M
 validate-leg-lists-spec =

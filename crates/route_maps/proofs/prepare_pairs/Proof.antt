@@ -1,6 +1,6 @@
 use native.Mathlib.Omega.{arith}
 use Rattle.validate.proofs.SelectLaws.{select_few, select_present, select_room}
-use Rattle.route_maps.proofs.PrepareBranches.{leg_relocates, leg-none, leg-copied}
+use Rattle.route_maps.proofs.PrepareBranches.{leg_relocates, leg_none, leg_copied}
 use borrow.Author.Rules.{rules}
 use Rattle.route_maps.proofs.prepare_pairs.Statement.{statement}
 use Rattle.route_maps.proofs.prepare_pairs.Tie as tie
@@ -18,7 +18,7 @@ can-select-requires : tie.Need-can-select-requires
 can-select-requires c κs = search rules
 
 returns-2 : tie.Need-returns-2
-returns-2 c = leg-none _ _ _ _ _ c.before.before.if1.false _ c.before.can-select.ensures c.if2.true
+returns-2 c = leg_none _ _ _ _ _ c.before.before.if1.false _ c.before.can-select.ensures c.if2.true
 
 copy-pairs-requires : tie.Need-copy-pairs-requires
 copy-pairs-requires c κs =
@@ -41,7 +41,7 @@ returns-3 c =
     let at-if2 = at-copy-pairs.before.before in
     let at-can-select = at-if2.before in
     let at-if1 = at-can-select.before in
-    leg-copied _ _ _ _ _ at-if1.if1.false _ at-can-select.can-select.ensures at-if2.if2.false _ at-copy-pairs.copy-pairs.ensures
+    leg_copied _ _ _ _ _ at-if1.if1.false _ at-can-select.can-select.ensures at-if2.if2.false _ at-copy-pairs.copy-pairs.ensures
 
 pub prepare-pairs-spec : {M : Type 1} → statement M
 prepare-pairs-spec =

@@ -1,6 +1,6 @@
 -- The tests are those of `text_fits`; then the text and its place are written where the list ends.
 use native.Mathlib.Omega.{arith}
-use Rattle.text_list.proofs.PlaceBranches.{push_long, push_many, push-done}
+use Rattle.text_list.proofs.PlaceBranches.{push_long, push_many, push_done}
 use Rattle.text.proofs.Clauses.{value_bytes_after_places_after}
 use Rattle.text.proofs.Clauses.{value_bytes_after_places_after}
 use Rattle.text.proofs.Clauses.{value_bytes_after_places_after}
@@ -25,5 +25,5 @@ returns-then-places-n c =
 pub returns : goal.returns
 returns c =
     let args = c.args in
-    value_bytes_after_places_after (push-done args.t.now args.n args.at args.bytes.now args.places.now (omega arith) (omega arith) _ _
+    value_bytes_after_places_after (push_done args.t.now args.n args.at args.bytes.now args.places.now (omega arith) (omega arith) _ _
     c.write_at.ensures c.write_place.ensures)

@@ -1,5 +1,5 @@
 use Rattle.path_grammar.specs.Legal.{is_end}
-use Rattle.validate.proofs.ValidateBranches.{first_fails, second-fails, list_passes}
+use Rattle.validate.proofs.ValidateBranches.{first_fails, second_fails, list_passes}
 use borrow.Author.Rules.{rules}
 use Rattle.validate.proofs.are_ends.Statement.{statement}
 use Rattle.validate.proofs.are_ends.Tie as tie
@@ -14,7 +14,7 @@ is-end-requires-2 : tie.Need-is-end-requires-2
 is-end-requires-2 c κs = search rules
 
 returns-2 : tie.Need-returns-2
-returns-2 c = second-fails is_end _ _ _ _ _ _ c.before.before.before.is-end.ensures c.before.before.if1.false _ c.before.is-end2.ensures c.if2.true
+returns-2 c = second_fails is_end _ _ _ _ _ _ c.before.before.before.is-end.ensures c.before.before.if1.false _ c.before.is-end2.ensures c.if2.true
 
 present-places-requires : tie.Need-present-places-requires
 present-places-requires c κs = search rules

@@ -1,4 +1,4 @@
-use Rattle.validate.proofs.RefusalLaws.{earlier_passed, earlier-only, earlier-first, earlier-second}
+use Rattle.validate.proofs.RefusalLaws.{earlier_passed, earlier_only, earlier_first, earlier_second}
 use borrow.Author.Rules.{rules}
 use Rattle.validate.proofs.first_refusal.Statement.{statement}
 use Rattle.validate.proofs.first_refusal.Tie as tie
@@ -19,7 +19,7 @@ enum-told-2 : tie.Need-enum-told-2
 enum-told-2 c = search rules
 
 returns-2 : tie.Need-returns-2
-returns-2 c = earlier-only _ _ _ c.before.before.before.a.given.1 c.enum-told2.given.1
+returns-2 c = earlier_only _ _ _ c.before.before.before.a.given.1 c.enum-told2.given.1
 
 rank-of-requires : tie.Need-rank-of-requires
 rank-of-requires c κs = search rules
@@ -33,7 +33,7 @@ returns-3 c =
     let at-rank-of = at-rank-of2.before in
     let at_b = at-rank-of.before.before in
     let at_a = at_b.before.before.before in
-    earlier-first _ _ _ at_a.a.given.1 _ at_b.b.given.1 _ _ at-rank-of.rank-of.ensures at-rank-of2.rank-of2.ensures c.if1.true
+    earlier_first _ _ _ at_a.a.given.1 _ at_b.b.given.1 _ _ at-rank-of.rank-of.ensures at-rank-of2.rank-of2.ensures c.if1.true
 
 returns-4 : tie.Need-returns-4
 returns-4 c =
@@ -41,7 +41,7 @@ returns-4 c =
     let at-rank-of = at-rank-of2.before in
     let at_b = at-rank-of.before.before in
     let at_a = at_b.before.before.before in
-    earlier-second _ _ _ at_a.a.given.1 _ at_b.b.given.1 _ _ at-rank-of.rank-of.ensures at-rank-of2.rank-of2.ensures c.if1.false
+    earlier_second _ _ _ at_a.a.given.1 _ at_b.b.given.1 _ _ at-rank-of.rank-of.ensures at-rank-of2.rank-of2.ensures c.if1.false
 
 pub first-refusal-spec : {M : Type 1} → statement M
 first-refusal-spec =

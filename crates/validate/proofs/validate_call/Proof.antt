@@ -10,7 +10,7 @@ are-ends-requires : tie.Need-are-ends-requires
 are-ends-requires c κs = search rules
 
 are-legal-requires : tie.Need-are-legal-requires
-are-legal-requires c κs = legal_if_ends _ _ _ _ c.are-ends.ensures
+are-legal-requires c κs = legal_if_ends _ _ _ _ c.are_ends_lem.ensures
 
 count-within-limit-requires : tie.Need-count-within-limit-requires
 count-within-limit-requires c κs = search rules
@@ -24,7 +24,7 @@ returns c =
     let at-are-legal = at-count-within-limit.before in
     let at-are-ends = at-are-legal.before in
     let at-are-short = at-are-ends.before in
-    one_list _ _ _ _ _ _ _ _ _ _ _ at-are-short.are-short.ensures at-are-legal.are-legal.ensures at-are-ends.are-ends.ensures
+    one_list _ _ _ _ _ _ _ _ _ _ _ at-are-short.are_short.ensures at-are-legal.are-legal.ensures at-are-ends.are_ends_lem.ensures
     at-count-within-limit.count-within-limit.ensures _ c.first-failed.ensures
 
 pub validate-call-spec : {M : Type 1} → statement M

@@ -1,5 +1,5 @@
 use mathlib.Core.Path.{refl}
-use Rattle.validate.proofs.ValidateBranches.{legal_if_ends, list_alone, two-lists}
+use Rattle.validate.proofs.ValidateBranches.{legal_if_ends, list_alone, two_lists}
 use borrow.Author.Rules.{rules}
 use Rattle.validate.proofs.validate_lists.Statement.{statement}
 use Rattle.validate.proofs.validate_lists.Tie as tie
@@ -23,7 +23,7 @@ are-ends-requires-2 : tie.Need-are-ends-requires-2
 are-ends-requires-2 c κs = search rules
 
 list-is-legal-requires : tie.Need-list-is-legal-requires
-list-is-legal-requires c κs = legal_if_ends _ _ _ _ c.before.are-ends.ensures
+list-is-legal-requires c κs = legal_if_ends _ _ _ _ c.before.are_ends_lem.ensures
 
 list-is-legal-requires-2 : tie.Need-list-is-legal-requires-2
 list-is-legal-requires-2 c κs = legal_if_ends _ _ _ _ c.before.are-ends2.ensures
@@ -60,9 +60,9 @@ returns c =
     let at_both = at-are-ends.before in
     let at-are-short2 = at_both.before in
     let at-are-short = at-are-short2.before in
-    two-lists _ _ _ _ _ _ _ refl _ _ _ _ _ _ _ _ _ _ _ _ at-are-short.are-short.ensures at-are-short2.are-short2.ensures
+    two_lists _ _ _ _ _ _ _ refl _ _ _ _ _ _ _ _ _ _ _ _ at-are-short.are_short.ensures at-are-short2.are-short2.ensures
     at_both.both.ensures (list_alone _ _ at-list-is-legal.list-is-legal.ensures) (list_alone _ _ at-list-is-legal2.list-is-legal2.ensures) at-both2.both2.ensures
-    at-are-ends.are-ends.ensures at-are-ends2.are-ends2.ensures at-both3.both3.ensures
+    at-are-ends.are_ends_lem.ensures at-are-ends2.are-ends2.ensures at-both3.both3.ensures
     at-count-within-limit.count-within-limit.ensures at-count-within-limit2.count-within-limit2.ensures at-both4.both4.ensures _
     c.first-failed.ensures
 

@@ -1,5 +1,5 @@
 -- The loop. After k replacements the chain from the path so far, with n - k replacements left, is the whole chain.
-use Rattle.relocate_chain.proofs.ChainBranches.{chain_begin, chain_end, chain-still, chain-stopped, chain-short, chain-inside, chain-part, chain-on}
+use Rattle.relocate_chain.proofs.ChainBranches.{chain_begin, chain_end, chain_still, chain_stopped, chain_short, chain_inside, chain_part, chain_on}
 use borrow.Author.Rules.{rules}
 use mathlib.Core.Path.{◌≡◌, sym}
 use Prim.Native.Nat.{◌-◌, ◌≤◌}
@@ -55,7 +55,7 @@ returns c =
     let at-replace-once = c.before.before.before in
     let at-loop-test = at-replace-once.before.before.before in
     let at-loop = at-loop-test.before in (
-      chain-still _ _ _ _ _ at-loop.loop.len at-loop.loop.current at-loop.loop.invariant.4 at-loop-test.loop-test.true _
+      chain_still _ _ _ _ _ at-loop.loop.len at-loop.loop.current at-loop.loop.invariant.4 at-loop-test.loop-test.true _
           at-replace-once.replace-once.ensures.0 c.enum_told.given.1,
       at-loop.loop.invariant.1,
     )
@@ -72,7 +72,7 @@ returns-2 c =
     let at-replace-once = at-s.before.before.before in
     let at-loop-test = at-replace-once.before.before.before in
     let at-loop = at-loop-test.before in (
-      chain-stopped _ _ _ _ _ at-loop.loop.len at-loop.loop.current at-loop.loop.invariant.4 at-loop-test.loop-test.true _
+      chain_stopped _ _ _ _ _ at-loop.loop.len at-loop.loop.current at-loop.loop.invariant.4 at-loop-test.loop-test.true _
           at-replace-once.replace-once.ensures.0 _ at-s.s.given.1,
       tt,
     )
@@ -86,7 +86,7 @@ array-share-prefix-made c =
     let at-replace-once = at-s2.before.before.before in
     let at-loop-test = at-replace-once.before.before.before in
     let at-loop = at-loop-test.before in
-    chain-inside _ _ _ _ _ at-loop.loop.len at-loop.loop.current at-loop.loop.invariant.4 at-loop-test.loop-test.true _
+    chain_inside _ _ _ _ _ at-loop.loop.len at-loop.loop.current at-loop.loop.invariant.4 at-loop-test.loop-test.true _
     at-replace-once.replace-once.ensures.0 _ at-s2.s2.given.1 _ _ at-replace-once.replace-once.ensures.1 at-loop.loop.invariant.3
 
 slice-aggregate-write-at : tie.Need-slice-aggregate-write-at invariant-loop decreases-loop
@@ -95,7 +95,7 @@ slice-aggregate-write-at c =
     let at-replace-once = at-s2.before.before.before in
     let at-loop-test = at-replace-once.before.before.before in
     let at-loop = at-loop-test.before in
-    chain-part _ _ _ _ _ at-loop.loop.len at-loop.loop.current at-loop.loop.invariant.4 at-loop-test.loop-test.true _
+    chain_part _ _ _ _ _ at-loop.loop.len at-loop.loop.current at-loop.loop.invariant.4 at-loop-test.loop-test.true _
     at-replace-once.replace-once.ensures.0 _ at-s2.s2.given.1 _ _ at-replace-once.replace-once.ensures.1 at-loop.loop.invariant.3
 
 write-at-requires-2 : tie.Need-write-at-requires-2 invariant-loop decreases-loop
@@ -114,7 +114,7 @@ loop-again c = (
       let at-replace-once = at-s2.before.before.before in
       let at-loop-test = at-replace-once.before.before.before in
       let at-loop = at-loop-test.before in
-      chain-short _ _ _ _ _ at-loop.loop.len at-loop.loop.current at-loop.loop.invariant.4 at-loop-test.loop-test.true _
+      chain_short _ _ _ _ _ at-loop.loop.len at-loop.loop.current at-loop.loop.invariant.4 at-loop-test.loop-test.true _
       at-replace-once.replace-once.ensures.0 _ at-s2.s2.given.1),
   search rules,
   search rules,
@@ -123,7 +123,7 @@ loop-again c = (
       let at-replace-once = at-s2.before.before.before in
       let at-loop-test = at-replace-once.before.before.before in
       let at-loop = at-loop-test.before in
-      chain-on _ _ _ _ _ at-loop.loop.len at-loop.loop.current at-loop.loop.invariant.4 at-loop-test.loop-test.true _
+      chain_on _ _ _ _ _ at-loop.loop.len at-loop.loop.current at-loop.loop.invariant.4 at-loop-test.loop-test.true _
       at-replace-once.replace-once.ensures.0 _ at-s2.s2.given.1 _ _ at-replace-once.replace-once.ensures.1 at-loop.loop.invariant.3 _
       at-write-at2.write-at2.ensures at-loop.loop.invariant.2),
 )

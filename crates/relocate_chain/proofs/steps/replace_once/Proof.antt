@@ -1,5 +1,5 @@
-use Rattle.text.proofs.WriteLaws.{fit-inside, fit-part}
-use Rattle.relocate_chain.proofs.StepBranches.{once_still, once-long, once-text, once_over, once-illegal, once-made}
+use Rattle.text.proofs.WriteLaws.{fit_inside, fit_part}
+use Rattle.relocate_chain.proofs.StepBranches.{once_still, once_long, once_text, once_over, once_illegal, once_made}
 use borrow.Author.Rules.{rules}
 use Rattle.relocate_chain.proofs.steps.replace_once.Statement.{statement}
 use Rattle.relocate_chain.proofs.steps.replace_once.Tie as tie
@@ -21,7 +21,7 @@ sub-join c =
     let at-key-at = c.before in
     let at-if1 = at-key-at.before in
     let at-longest-source = at-if1.before.before in
-    once-long _ _ _ _ _ _ at-longest-source.longest-source.result at-longest-source.longest-source.ensures at-if1.if1.false _ _
+    once_long _ _ _ _ _ _ at-longest-source.longest-source.result at-longest-source.longest-source.ensures at-if1.if1.false _ _
     at-key-at.key-at.ensures c.key-at2.ensures
 
 part-join-start : tie.Need-slice-bounds-join-start
@@ -29,7 +29,7 @@ part-join-start c =
     let at-key-at = c.before in
     let at-if1 = at-key-at.before in
     let at-longest-source = at-if1.before.before in
-    once-long _ _ _ _ _ _ at-longest-source.longest-source.result at-longest-source.longest-source.ensures at-if1.if1.false _ _
+    once_long _ _ _ _ _ _ at-longest-source.longest-source.result at-longest-source.longest-source.ensures at-if1.if1.false _ _
     at-key-at.key-at.ensures c.key-at2.ensures
 
 part-join-end : tie.Need-slice-bounds-join-end
@@ -56,7 +56,7 @@ returns-2 c =
     let at-longest-source = at-if1.before.before in
     let at-start = at-longest-source.before.before.before.before.before.before in
     once_over _ _
-    (once-text _ _ _ _ _ _ at-longest-source.longest-source.result at-longest-source.longest-source.ensures at-if1.if1.false _ _
+    (once_text _ _ _ _ _ _ at-longest-source.longest-source.result at-longest-source.longest-source.ensures at-if1.if1.false _ _
     at-key-at.key-at.ensures at-key-at2.key-at2.ensures)
     _ at-start.requires _ at_join.join.ensures.0 _ at_join.join.ensures.1 c.enum_told.given.1
 
@@ -64,13 +64,13 @@ slice-reshare-prefix-is-legal : tie.Need-slice-reshare-prefix-is-legal
 slice-reshare-prefix-is-legal c =
     let at-fit = c.before in
     let at_join = at-fit.before.before.before.before in
-    fit-inside _ _ _ at_join.join.ensures.0 _ at-fit.fit.given.1 _ at_join.join.ensures.1
+    fit_inside _ _ _ at_join.join.ensures.0 _ at-fit.fit.given.1 _ at_join.join.ensures.1
 
 slice-aggregate-is-legal : tie.Need-slice-aggregate-is-legal
 slice-aggregate-is-legal c =
     let at-fit = c.before.before in
     let at_join = at-fit.before.before.before.before in
-    fit-part _ _ _ at_join.join.ensures.0 _ at-fit.fit.given.1 _ at_join.join.ensures.1
+    fit_part _ _ _ at_join.join.ensures.0 _ at-fit.fit.given.1 _ at_join.join.ensures.1
 
 is-legal-requires : tie.Need-is-legal-requires
 is-legal-requires c κs = search rules
@@ -88,8 +88,8 @@ returns-3 c =
     let at-if1 = at-key-at.before in
     let at-longest-source = at-if1.before.before in
     let at-start = at-longest-source.before.before.before.before.before.before in
-    once-illegal _ _
-    (once-text _ _ _ _ _ _ at-longest-source.longest-source.result at-longest-source.longest-source.ensures at-if1.if1.false _ _
+    once_illegal _ _
+    (once_text _ _ _ _ _ _ at-longest-source.longest-source.result at-longest-source.longest-source.ensures at-if1.if1.false _ _
     at-key-at.key-at.ensures at-key-at2.key-at2.ensures)
     _ at-start.requires _ at_join.join.ensures.0 _ at_join.join.ensures.1 _ at-fit.fit.given.1 _ at-is-legal.is_legal.ensures
     c.if2.true
@@ -107,8 +107,8 @@ returns-4 c =
     let at-if1 = at-key-at.before in
     let at-longest-source = at-if1.before.before in
     let at-start = at-longest-source.before.before.before.before.before.before in
-    once-made _ _
-    (once-text _ _ _ _ _ _ at-longest-source.longest-source.result at-longest-source.longest-source.ensures at-if1.if1.false _ _
+    once_made _ _
+    (once_text _ _ _ _ _ _ at-longest-source.longest-source.result at-longest-source.longest-source.ensures at-if1.if1.false _ _
     at-key-at.key-at.ensures at-key-at2.key-at2.ensures)
     _ at-start.requires _ at_join.join.ensures.0 _ at_join.join.ensures.1 _ at-fit.fit.given.1 _ at-is-legal.is_legal.ensures
     c.if2.false

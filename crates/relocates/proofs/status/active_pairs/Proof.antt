@@ -8,7 +8,7 @@ use Rattle.pair_list.specs.Places.{pairs_in}
 use Rattle.pair_list_write.specs.Select.{HoldsEntries}
 use Rattle.relocates.specs.Select.{active_indices}
 use Rattle.validate.proofs.SelectLaws.{select_few, select_present, select_room}
-use Rattle.relocates.proofs.ActiveBranches.{active_none, active_few, active_on, selection_none, active-end}
+use Rattle.relocates.proofs.ActiveBranches.{active_none, active_few, active_on, selection_none, active_end}
 use Rattle.relocates.proofs.status.active_pairs.Statement.{statement}
 use Rattle.relocates.proofs.status.active_pairs.Tie as tie
 
@@ -71,7 +71,7 @@ returns-2 c =
     let at-loop = c.before in
     let at-if1 = at-loop.before.before.before.before in
     let at-can-select = at-if1.before in
-    active-end _ _ _ _ _ at-can-select.can-select.ensures at-if1.if1.false _ _ _ c.loop-test.false at-loop.loop.invariant.0
+    active_end _ _ _ _ _ at-can-select.can-select.ensures at-if1.if1.false _ _ _ c.loop-test.false at-loop.loop.invariant.0
     at-loop.loop.invariant.1
 
 pub active-pairs-spec : {M : Type 1} → statement M

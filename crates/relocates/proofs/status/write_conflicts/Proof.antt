@@ -1,4 +1,4 @@
-use Rattle.relocates.proofs.InitialBranches.{reason, settle_begin, settle_end, settle-dropped, settle-conflict, settle-active, seek_on}
+use Rattle.relocates.proofs.InitialBranches.{reason, settle_begin, settle_end, settle_dropped, settle_conflict, settle_active, seek_on}
 use borrow.Author.Rules.{rules}
 use mathlib.Core.Path.{◌≡◌, refl, ◌∙◌}
 use mathlib.Core.Bool.{false}
@@ -45,7 +45,7 @@ pairs-again c = (
   (let at-pairs-test = c.before.before in
       let at-pairs = at-pairs-test.before in
       let at-start = at-pairs.before.before.before.before in
-      settle-dropped _ _ _ _ _ at-start.requires.1 _ at-pairs-test.pairs-test.true _ at-pairs.pairs.invariant.2 at-start.requires.0.1 c.if1.true),
+      settle_dropped _ _ _ _ _ at-start.requires.1 _ at-pairs-test.pairs-test.true _ at-pairs.pairs.invariant.2 at-start.requires.0.1 c.if1.true),
 )
 
 loop-holds : tie.Need-loop-init invariant-loop decreases-loop invariant-pairs decreases-pairs
@@ -84,7 +84,7 @@ pairs-again-2 c = (
       let at-pairs-test = at-if1.before.before in
       let at-pairs = at-pairs-test.before in
       let at-start = at-pairs.before.before.before.before in
-      settle-conflict _ _ _ _ _ at-start.requires.1 _ at-pairs-test.pairs-test.true _ at-pairs.pairs.invariant.2 at-start.requires.0.1
+      settle_conflict _ _ _ _ _ at-start.requires.1 _ at-pairs-test.pairs-test.true _ at-pairs.pairs.invariant.2 at-start.requires.0.1
       at-if1.if1.false _ _ _ _ at-loop.loop.invariant.0 at-loop.loop.invariant.3 at-loop-test.loop-test.true _
       at-conflicts-with.conflicts-with.ensures at-if2.if2.true c.status-byte.ensures),
 )
@@ -120,7 +120,7 @@ pairs-again-3 c = (
       let at-pairs-test = at-if1.before.before in
       let at-pairs = at-pairs-test.before in
       let at-start = at-pairs.before.before.before.before in
-      settle-active _ _ _ _ _ at-start.requires.1 _ at-pairs-test.pairs-test.true _ at-pairs.pairs.invariant.2 at-start.requires.0.1
+      settle_active _ _ _ _ _ at-start.requires.1 _ at-pairs-test.pairs-test.true _ at-pairs.pairs.invariant.2 at-start.requires.0.1
       at-if1.if1.false _ _ _ _ at-loop.loop.invariant.0 at-loop.loop.invariant.3 at-loop-test.loop-test.false at-loop.loop.invariant.1
       at-loop.loop.invariant.4 c.status-byte2.ensures),
 )
