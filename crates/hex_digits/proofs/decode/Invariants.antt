@@ -7,7 +7,7 @@ use lib.Seq.{paste}
 use Rattle.hex_digits.proofs.decode.Given as goal
 
 abbrev pub invariant-loop-i : goal.invariant-loop-i
-invariant-loop-i l = (l.i ≤ l.initial.out) × (length l.out ≡ length l.n) × (l.out ≡ paste l.n 0 (values l.text) l.i)
+invariant-loop-i l = (l.i ≤ l.n) × (length l.out ≡ length l.initial.out) × (l.out ≡ paste l.initial.out 0 (values l.text) l.i)
 
 abbrev pub decreases-loop-i : goal.decreases-loop-i
-decreases-loop-i l = l.initial.out - l.i
+decreases-loop-i l = l.n - l.i

@@ -1,5 +1,7 @@
 use borrow.Author.Rules.{rules}
 use Rattle.path_grammar.proofs.InnerLaws.{inner_open, inner_inside, inner_short, inner_count, inner_refused, inner_is}
+use mathlib.Core.Path.{ap}
+use mathlib.Core.Bool.{not}
 use Rattle.path_grammar.proofs.inner_text.Goals as goal
 
 pub returns-then-not-last_is : goal.returns-then-not-last_is
@@ -19,5 +21,5 @@ returns-then-not-is_legal_property c = search (rules, inner_refused)
 
 pub returns : goal.returns
 returns c =
-    inner_is _ _ c.find_byte-m.ensures _ _ c.is_legal_property.ensures c.if-not-is_legal_property.false c.last_is.ensures
-    c.if-not-last_is.false
+    inner_is _ _ c.find_byte-m.ensures _ _ c.is_legal_property.ensures (ap not c.if-not-is_legal_property.false) c.last_is.ensures
+    (ap not c.if-not-last_is.false)
