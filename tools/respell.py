@@ -89,8 +89,9 @@ def table():
     names = {n: snake(n) for n in found}
     plain = {m for n, m in names.items() if "-" not in n}
     camel = {m for n, m in names.items() if "-" not in n and n != m}
+    functions = {f for path in files(".rt") for f in re.findall(r"\bfn (\w+)", read(path))}
     for n in names:
-        if ("-" in n and names[n] in plain) or (n == names[n] and n in camel):
+        if ("-" in n and names[n] in plain) or (n == names[n] and n in camel and n not in functions):
             names[n] += "_lem"
     names["add-pair"] = "add_one_pair"  # a constructor of `Action`; `add_pair` is the definition
     bad = []

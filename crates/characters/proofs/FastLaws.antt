@@ -158,9 +158,9 @@ module _ (least bits a : ℕ) (h : 0x80 ≤ a) (k : a ≤ 0xBF) where
       )
 
 module _ (a : ℕ) where
-  first_byte_lem : Follows Between a (fast_step Start a)
+  first_byte : Follows Between a (fast_step Start a)
   unfolding fast_step next
-  first_byte_lem =
+  first_byte =
       choose Between a (leb a 0x7E) Start _ (λ h. goes Between (ascii_between a (le-leb a 0x7F (omega (arith, leb-true a 0x7E h)))) start)
       (choose Between a (eqb a 0xC2) AfterC2 _ (λ h. rw (eqb-true a 0xC2 h) (goes (Inside 0 0x80 2) refl c2))
       (choose Between a (in_range 0xC3 0xDF a) One _ (λ h. latin (within_low 0xC3 0xDF a h) (within_high 0xC3 0xDF a h))
@@ -197,7 +197,7 @@ module _ (a : ℕ) where
 -- Every other byte.
 follows : {s : FastState} {u : Reading} → Sound s u → (a : ℕ) → Follows u a (fast_step s a)
 unfolding fast_step
-follows start a = first_byte_lem a
+follows start a = first_byte a
 follows (one least bits f) a =
     choose (Inside 0 least bits) a (in_range 0x80 0xBF a) Start Unsure
     (λ h.

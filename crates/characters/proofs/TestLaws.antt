@@ -42,9 +42,9 @@ shortest_name least c h = go (leb least c) refl
 
 -- The last byte of a character, and the ones before it.
 module _ (least bits b : ℕ) where
-  last_byte_lem : 0x80 ≤ least → allowed_from (Inside 0 least bits) (b ∷ []) ≡ (is_continuation b && (leb least (with_bits bits b) && is_name_character (with_bits bits b)))
+  last_byte : 0x80 ≤ least → allowed_from (Inside 0 least bits) (b ∷ []) ≡ (is_continuation b && (leb least (with_bits bits b) && is_name_character (with_bits bits b)))
   unfolding next
-  last_byte_lem h =
+  last_byte h =
       reads_byte (Inside 0 least bits) b []
       ∙ only (is_continuation b && is_shortest least c && is_allowed c)
       ∙ and_assoc (is_continuation b) (is_shortest least c) (is_allowed c)
@@ -84,14 +84,14 @@ module _ (a b c : ℕ) (k n : Bool) (ek : k ≡ is_continuation b) (en : n ≡ i
   pub two_tests : 192 ≤ a → a ≤ 223 → c ≡ with_bits (a % 32) b → (k && leb 0x80 c && n) ≡ characters_allowed (a ∷ b ∷ [])
   two_tests h l e =
       and_assoc k (leb 0x80 c) n
-      ∙ rw (ek, en, e) (sym (begins_2 a (b ∷ []) h l ∙ last_byte_lem 0x80 (a % 32) b (omega arith)))
+      ∙ rw (ek, en, e) (sym (begins_2 a (b ∷ []) h l ∙ last_byte 0x80 (a % 32) b (omega arith)))
 
   pub three_tests : (d x : ℕ) (j : Bool) → 224 ≤ a → a ≤ 239 → x ≡ with_bits (a % 16) b → c ≡ with_bits x d → j ≡ is_continuation d
       → (k && j && leb 0x800 c && n) ≡ characters_allowed (a ∷ b ∷ d ∷ [])
   three_tests d x j h l f e ej =
       left k j (leb 0x800 c) n
       ∙ rw (ek, ej, en, e, f)
-      (sym (begins_3 a (b ∷ d ∷ []) h l ∙ next_byte 0x800 (a % 16) b 0 (d ∷ []) ∙ ap (λ (y : Bool). is_continuation b && y) (last_byte_lem 0x800 (with_bits (a % 16) b) d (omega arith))))
+      (sym (begins_3 a (b ∷ d ∷ []) h l ∙ next_byte 0x800 (a % 16) b 0 (d ∷ []) ∙ ap (λ (y : Bool). is_continuation b && y) (last_byte 0x800 (with_bits (a % 16) b) d (omega arith))))
     where
       left : (p q r s : Bool) → (p && q && r && s) ≡ (p && (q && (r && s)))
       left true q r s = and_assoc q r s
@@ -106,7 +106,7 @@ module _ (a b c : ℕ) (k n : Bool) (ek : k ≡ is_continuation b) (en : n ≡ i
       (begins_4 a (b ∷ d ∷ f ∷ []) h l ∙ next_byte 0x10000 (a % 8) b 1 (d ∷ f ∷ [])
       ∙ ap (λ (z : Bool). is_continuation b && z)
       (next_byte 0x10000 (with_bits (a % 8) b) d 0 (f ∷ [])
-      ∙ ap (λ (z : Bool). is_continuation d && z) (last_byte_lem 0x10000 (with_bits (with_bits (a % 8) b) d) f (omega arith)))))
+      ∙ ap (λ (z : Bool). is_continuation d && z) (last_byte 0x10000 (with_bits (with_bits (a % 8) b) d) f (omega arith)))))
     where
       left : (p q r s t : Bool) → (p && q && r && s && t) ≡ (p && (q && (r && (s && t))))
       left true true r s t = and_assoc r s t

@@ -1,6 +1,7 @@
 // Longest-match lookup: the pair of a map whose key is the longest prefix of a path. Ports best_prefix
 // of the Rust pcp/mapping.rs. Every public function is defined for any bytes and any numbers.
 #![tactic(auto)]
+
 ghost use Rattle.std.specs.Prelude.{◌≡◌, cond, length, ◌*◌, ◌≤◌, min};
 ghost use Rattle.map_lookup.specs.LookupStep.{substring, key_count, found_of, consider_key, is_index, wins, other_wins};
 ghost use Rattle.pair_list.specs.Places.{key_at};

@@ -1,6 +1,7 @@
 // Lists of (source, target) pairs in lent memory: reading them, and validating their ends (questions 1
 // to 3). A pair is two places of crates/text_list. Every public function is defined for any bytes and any numbers.
 #![tactic(auto)]
+
 ghost use Rattle.std.specs.Prelude.{◌≡◌};
 ghost use Rattle.path_grammar.specs.Legal.{legal, is_end};
 ghost use Rattle.pair_list.specs.Places.{is_short_at, key_at, places_short, places_all};

@@ -1,6 +1,7 @@
 // Writes lists of pairs to lent memory: the bytes of all ends consecutively, and the places of each
 // pair. Every public function is defined for any bytes and any numbers.
 #![tactic(auto)]
+
 ghost use Rattle.std.specs.Prelude.{◌≡◌, [], ◌∷◌, ◌*◌, leb};
 ghost use Rattle.text.specs.Text.{written_if_fits};
 ghost use Rattle.pair_list.specs.Places.{pairs_in, end_bytes};

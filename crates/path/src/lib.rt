@@ -2,6 +2,7 @@
 // of the Rust sdf/path.rs; rest_start is has_prefix with the place where the rest begins. Each call validates
 // its texts first (questions 1 and 2); the first failed question decides the refusal.
 #![tactic(auto)]
+
 ghost use Rattle.std.specs.Prelude.{◌≡◌};
 ghost use Rattle.path.specs.Calls.{path_new_call, is_end_call, has_variant_selection_call, element_count_call, prim_element_count_call, has_prefix_call, rest_start_call};
 

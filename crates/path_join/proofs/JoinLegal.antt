@@ -39,9 +39,9 @@ stays dead a h k = dead
 
 reads_plain : {s : ScanState} → Plain s → (r : Text) → lacks_byte 123 r ≡ true → lacks_byte 46 r ≡ true → Plain (run s r)
 unfolding run
-reads_plain o [] f g = o
-reads_plain o (a ∷ r) f g =
-    reads_plain (stays o a (lacks_first 123 a r f) (lacks_first 46 a r g)) r (lacks_rest 123 a r f) (lacks_rest 46 a r g)
+reads_plain {s = s} o [] f g = o
+reads_plain {s = s} o (a ∷ r) f g =
+    reads_plain {s = step s a} (stays o a (lacks_first 123 a r f) (lacks_first 46 a r g)) r (lacks_rest 123 a r f) (lacks_rest 46 a r g)
 
 accepts_name : {s : ScanState} → Plain s → accept s ≡ true → s ≡ Name
 unfolding accept

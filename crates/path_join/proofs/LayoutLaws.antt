@@ -148,7 +148,7 @@ module _ (s t r : Text) (a o l : ℕ) (i : Bool) (ea : a ≡ first_byte r) (eo :
         body_inside = rw start (body_inside_lem (not (is_root s)) r);
       }
 
--- The byte that `first_byte_lem` or `last_byte_lem` returns for the empty text.
+-- The byte that `first_byte` or `last_byte` returns for the empty text.
 pub no_first_byte : (s : Text) → length s ≡ 0 → 0 ≡ first_byte s
 unfolding first_byte
 no_first_byte [] e = refl

@@ -2,6 +2,7 @@
 // prefix. Ports the joining step of replace_prefix in the Rust sdf/path.rs. Every function is defined
 // for any bytes; none has a precondition.
 #![tactic(auto)]
+
 ghost use Rattle.std.specs.Prelude.{◌≡◌, ◌||◌, eqb, ◌≤◌, [], ◌∷◌, take, drop};
 ghost use Rattle.text.specs.Text.{equal, starts_with, fit_of, written_if_fits};
 ghost use Rattle.text.specs.Bytes.{dot, open_brace, slash};
@@ -25,7 +26,7 @@ fn as_number(test: bool) -> usize
 }
 
 // The first byte of the text, or 0 if the text is empty.
-fn first_byte_lem(text: &[u8]) -> u8
+fn first_byte(text: &[u8]) -> u8
     ensures { result ≡ first_byte text.now }
 {
     if text.len() == 0 {
@@ -35,7 +36,7 @@ fn first_byte_lem(text: &[u8]) -> u8
 }
 
 // The last byte of the text, or 0 if the text is empty.
-fn last_byte_lem(text: &[u8]) -> u8
+fn last_byte(text: &[u8]) -> u8
     ensures { result ≡ last_byte text.now }
 {
     let n = text.len();
@@ -67,9 +68,9 @@ fn separator_len(
 fn layout_of(old: &[u8], new: &[u8], remainder: &[u8]) -> Layout
     ensures { LaysOut old.now new.now remainder.now result.separator result.start }
 {
-    let first = first_byte_lem(remainder);
-    let old_last = last_byte_lem(old);
-    let new_last = last_byte_lem(new);
+    let first = first_byte(remainder);
+    let old_last = last_byte(old);
+    let new_last = last_byte(new);
     let old_is_root = (old.len() == 1) & (old_last == b'/');
     let new_is_root = (new.len() == 1) & (new_last == b'/');
     let child = (first == b'/') | ((old_last == b'}') & path_grammar::is_name_byte(first));

@@ -2,6 +2,7 @@
 // variant selection. Ports has_variant_selection of the Rust sdf/path.rs. Every function is defined for any
 // bytes and has no precondition.
 #![tactic(auto)]
+
 ghost use Rattle.std.specs.Prelude.{◌≡◌};
 ghost use Rattle.path_grammar.specs.Own.{own_part, has_variant_selection};
 

@@ -2,6 +2,7 @@
 // prim_path, ancestors and strip_variant_selections of the Rust sdf/path.rs. Every public function is
 // defined for any bytes and has no precondition.
 #![tactic(auto)]
+
 ghost use Rattle.std.specs.Prelude.{◌≡◌, false, ◌+◌, ◌<◌, ◌≤◌, length, get_or, drop};
 ghost use Rattle.text.specs.Text.{written, written_at, fit_of, written_if_fits};
 ghost use Rattle.path_grammar.specs.Legal.{starts_name};

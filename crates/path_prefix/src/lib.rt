@@ -1,6 +1,7 @@
 // Path prefixes and element counts. Ports has_prefix, element_count and prim_element_count of the Rust
 // sdf/path.rs. Every public function is defined for any bytes and has no precondition.
 #![tactic(auto)]
+
 ghost use Rattle.std.specs.Prelude.{◌≡◌, cond, ◌+◌, ◌<◌, length, get_or, drop};
 ghost use Rattle.path_prefix.specs.Elements.{starts_element, count_elements, element_count, prim_element_count};
 ghost use Rattle.path_prefix.specs.Prefix.{is_boundary, can_follow, has_prefix};

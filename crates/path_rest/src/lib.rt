@@ -1,6 +1,7 @@
 // The rest of a path: the part at its end that follows a prefix and is carried over unaltered when the prefix
 // is replaced. The Rust has no counterpart. Every public function is defined for any bytes and any numbers.
 #![tactic(auto)]
+
 ghost use Rattle.std.specs.Prelude.{◌≡◌};
 ghost use Rattle.path_rest.specs.Rest.{rest_index, rest_start, rest_text};
 ghost use Rattle.path_rest.specs.Carried.{with_rest, reply_of, carried_rest};

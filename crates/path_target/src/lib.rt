@@ -2,6 +2,7 @@
 // and target_brackets of the Rust sdf/path.rs. First the functions on any bytes, then the calls, each of
 // which validates in the order of the questions; a refused call writes nothing.
 #![tactic(auto)]
+
 ghost use Rattle.std.specs.Prelude.{◌≡◌, ◌≤◌, ◌<◌, length};
 ghost use Rattle.refusal.specs.Outcome.{checked, checked_option, ReturnsPath};
 ghost use Rattle.path_target.specs.Target.{bracket_depth, close_len, target_brackets, embedded_target, or_empty, replace_embedded_target, replaced_reply, replaced_buffer};

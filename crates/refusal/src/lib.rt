@@ -1,6 +1,7 @@
 // Refusals: why a call is refused, the numbers that docs/REQUIREMENTS.md gives them, their order, and the reply of
 // a call that writes a path. Validates the texts of a call: questions 1 (at most 255 bytes) and 2 (a legal path).
 #![tactic(auto)]
+
 ghost use Rattle.std.specs.Prelude.{◌≡◌, [], ◌∷◌};
 ghost use Rattle.refusal.specs.Refusal.{refusal_number, refusal_rank, all_texts_short, all_texts_legal, validate_texts};
 

@@ -2,6 +2,7 @@
 // is checked for the whole call before the next; the first failed question decides. An empty text passes
 // every question, so it is passed for a text that a call does not have.
 #![tactic(auto)]
+
 ghost use Rattle.std.specs.Prelude.{◌≡◌, true, not, ◌&&◌, ◌||◌, [], ◌∷◌};
 ghost use Rattle.path_grammar.specs.Legal.{legal, at_most255, is_end};
 ghost use Rattle.validate.specs.Validate.{lent_list, present_places, list_short, list_all, count_within_limit, every, first_failed, validate_call, first_refusal};

@@ -1,0 +1,28 @@
+use Rattle.path_parts.proofs.EmitLaws.{strips}
+use borrow.Author.Rules.{rules}
+use Prim.Native.Nat.{◌-◌}
+use Rattle.path_parts.proofs.strip_own.Goals as goal
+
+pub loop-i-init : goal.loop-i-init
+loop-i-init c = search (rules, strips)
+
+pub emit-j-requires : goal.emit-j-requires
+emit-j-requires c = search (rules, strips)
+
+pub bounds-own-i : goal.bounds-own-i
+bounds-own-i c = search (rules, strips)
+
+pub inside_changes-inside-requires : goal.inside_changes-inside-requires
+inside_changes-inside-requires c = search (rules, strips)
+
+pub overflow_add-i : goal.overflow_add-i
+overflow_add-i c = search (rules, strips)
+
+pub loop-i-smaller : goal.loop-i-smaller
+loop-i-smaller c = search (rules, strips)
+
+pub loop-i-preserved : goal.loop-i-preserved
+loop-i-preserved c = search (rules, strips)
+
+pub returns : goal.returns
+returns c = search (rules, strips)
