@@ -1,6 +1,7 @@
 // Conversions of replies that tell where the rest of a path begins to the plain numbers that pass across the C
 // interface.
 #![tactic(auto)]
+
 ghost use Rattle.std.specs.Prelude.{◌≡◌};
 ghost use Rattle.ffi_rest.specs.RestCode.{rest_code, rest_test_code, rest_first, carried_value, carried_code};
 

@@ -3,6 +3,7 @@
 // without it. Defined for any bytes and any numbers, so that a caller can validate a list once and then map
 // many paths through it.
 #![tactic(auto)]
+
 ghost use Rattle.std.specs.Prelude.{◌≡◌, ◌≤◌, length, drop};
 ghost use Rattle.refusal.specs.Outcome.{ReturnsPath};
 ghost use Rattle.path_rest.specs.Carried.{ReturnsCarried};

@@ -1,6 +1,7 @@
 // The canonical form of a map's pairs: root pairs become the mark, and redundant pairs are dropped.
 // Ports canonicalize and map_via of the Rust pcp/mapping.rs.
 #![tactic(auto)]
+
 ghost use Rattle.std.specs.Prelude.{◌≡◌, cond, ◌||◌, List, length, ℕ, max as larger, ◌+◌, ◌*◌, ◌≤◌};
 ghost use Rattle.pair_list.specs.Places.{pair_in, pairs_in};
 ghost use Rattle.pair_list_write.specs.Lists.{copy_entry};

@@ -1,6 +1,7 @@
 // The open list of the program `frames` in lent memory: adding a pair. The buffers may hold anything; their
 // invariant is specs/OpenList.antt.
 #![tactic(auto)]
+
 ghost use Rattle.std.specs.Prelude.{◌≡◌, length};
 ghost use Rattle.open_list.specs.Add.{validate_add, add_reply, add_bytes, add_places, AddFits};
 

@@ -2,6 +2,7 @@
 // strip_variant_selections and ancestors of the Rust sdf/path.rs. Each call validates in the order of
 // the questions; the first failed question decides the refusal, and a refused call writes nothing.
 #![tactic(auto)]
+
 ghost use Rattle.std.specs.Prelude.{◌≡◌, ◌≤◌, length};
 ghost use Rattle.path_join.specs.Join.{join};
 ghost use Rattle.path_parts.specs.Parent.{ancestor_lens};

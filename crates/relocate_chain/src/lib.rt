@@ -2,6 +2,7 @@
 // and `shift_through_nearest_ancestor` of pcp/relocates.rs, and adds the number of replacements made. The
 // calls validate their input first (questions 1 to 5); a refused call writes nothing.
 #![tactic(auto)]
+
 mod steps;
 
 ghost use Rattle.std.specs.Prelude.{◌≡◌, cond, [], ◌≤◌, length};

@@ -2,6 +2,7 @@
 // `analyze_relocate_occurrences`, `relocate_pair_conflicts` and `relocate_invalid_reason` of
 // pcp/relocates.rs. The call validates its input first (questions 1 to 5); a refused call writes nothing.
 #![tactic(auto)]
+
 pub mod status;
 
 ghost use Rattle.std.specs.Prelude.{◌≡◌, length};

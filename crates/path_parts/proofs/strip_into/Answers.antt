@@ -14,6 +14,9 @@ strip_own-j-requires c = search (rules, strip_ends)
 pub slice_bounds-write_at-count : goal.slice_bounds-write_at-count
 slice_bounds-write_at-count c = search (rules, strip_ends)
 
+pub slice_bounds-write_at-start : goal.slice_bounds-write_at-start
+slice_bounds-write_at-start c = search (rules, strip_ends)
+
 pub overflow_sub-result : goal.overflow_sub-result
 overflow_sub-result c = search (rules, strip_ends)
 

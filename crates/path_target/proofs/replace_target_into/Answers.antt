@@ -30,6 +30,9 @@ slice_bounds-write_at-end c = head_size _ _ c.target_brackets-brackets.ensures _
 pub slice_bounds-write_at-count : goal.slice_bounds-write_at-count
 slice_bounds-write_at-count c = search (rules, between_end)
 
+pub slice_bounds-write_at-start : goal.slice_bounds-write_at-start
+slice_bounds-write_at-start c = search (rules, between_end)
+
 pub returns : goal.returns
 returns c =
     value_out_after (replaced_fits _ _ c.target_brackets-brackets.ensures _ _ c.in-Between.is _ _ _ _ _ c.if-out-len.false

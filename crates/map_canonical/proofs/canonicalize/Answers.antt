@@ -1,0 +1,41 @@
+use mathlib.Core.Path.{refl}
+use native.Mathlib.Omega.{arith}
+use Prim.Native.Nat.{◌-◌}
+use Rattle.map_spec.specs.New.{is_redundant}
+use Rattle.map_canonical.proofs.LevelBranches.{levels_none, levels_on, levels_room, levels_end, top_room}
+use borrow.Author.Rules.{rules}
+use Rattle.map_canonical.proofs.canonicalize.Goals as goal
+
+-- the clauses by their names
+by_clause_n_in_bounds : {A B C : Type 0} → A × (B × C) → record { n_in_bounds : A; holds_element_counts : B; n_in_bounds_2 : C }
+by_clause_n_in_bounds t = record { n_in_bounds = t.0; holds_element_counts = t.1.0; n_in_bounds_2 = t.1.1 }
+
+pub fill_element_counts-top-requires : goal.fill_element_counts-top-requires
+fill_element_counts-top-requires c = omega (arith, c.requires.n_bound.0)
+
+pub loop-e-init : goal.loop-e-init
+loop-e-init c = (search rules, levels_none _ _ _ is_redundant _ _, c.fill_element_counts-top.ensures.holds_element_counts, c.fill_element_counts-top.ensures.result_value, c.requires.in_bounds, refl)
+
+pub keep_level-w-requires : goal.keep_level-w-requires
+keep_level-w-requires c =
+    let pre = (c.requires.n_bound, c.requires.in_bounds) in
+    let l = c.loop-e in
+    by_clause_n_in_bounds ((pre.0.1, omega (arith, pre.0.0)), (l.invariant.2, levels_room _ _ _ is_redundant _ _ _ _ _ l.invariant.1 pre.0.0 l.invariant.4))
+
+pub loop-e-preserved : goal.loop-e-preserved
+loop-e-preserved c =
+    let l = c.loop-e in
+    (search rules, levels_on _ _ _ is_redundant _ _ _ _ _ l.invariant.1 _ _ c.keep_level-w.ensures, l.invariant.2, l.invariant.3, search rules, search rules)
+
+pub keep_level-requires : goal.keep_level-requires
+keep_level-requires c =
+    let pre = (c.requires.n_bound, c.requires.in_bounds) in
+    let l = c.loop-e in by_clause_n_in_bounds (
+      (pre.0.1, omega (arith, pre.0.0)),
+      (l.invariant.2, top_room _ _ _ is_redundant _ _ _ _ _ l.invariant.1 _ c.loop-e-test.false l.invariant.0 pre.0.0 l.invariant.4),
+    )
+
+pub returns : goal.returns
+returns c =
+    levels_end _ _ _ is_redundant _ _ _ _ _ c.loop-e.invariant.1 _ c.loop-e.invariant.3 c.loop-e-test.false c.loop-e.invariant.0 _
+    _ c.keep_level.ensures

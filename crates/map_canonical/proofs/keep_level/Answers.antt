@@ -1,0 +1,28 @@
+use mathlib.Core.Path.{refl}
+use native.Mathlib.Omega.{arith}
+use Prim.Native.Nat.{◌-◌}
+use Rattle.map_spec.specs.New.{is_redundant}
+use Rattle.map_canonical.proofs.KeepBranches.{counted_at}
+use Rattle.map_canonical.proofs.LevelBranches.{level_none, level_held, level_room, level_count, level_on, level_end}
+use borrow.Author.Rules.{rules}
+use Rattle.map_canonical.proofs.keep_level.Goals as goal
+
+pub loop-i-init : goal.loop-i-init
+loop-i-init c = (search rules, level_none _ _ _ is_redundant _ _ _, omega arith, refl)
+
+pub keep_pair-k-requires : goal.keep_pair-k-requires
+keep_pair-k-requires c =
+    let l = c.loop-i in
+    omega (arith, level_held _ _ _ _ _ _ _ _ c.requires.n_in_bounds_2 c.loop-i-test.true l.invariant.2, l.invariant.3)
+
+pub loop-i-preserved : goal.loop-i-preserved
+loop-i-preserved c =
+    let l = c.loop-i in
+    let p = (c.requires.n_in_bounds, (c.requires.holds_element_counts, c.requires.n_in_bounds_2)) in
+    let k = counted_at _ _ _ _ _ c.loop-i-test.true p.1.0 in
+    let t = (c.keep_pair-k.ensures.value, c.keep_pair-k.ensures.kept_after) in
+    let more = c.loop-i-test.true in
+    (search rules, level_on _ _ _ is_redundant _ _ _ _ _ _ _ k l.invariant.1 (omega (arith, more, p.0.0)) (level_room _ _ _ is_redundant _ _ _ _ _ k _ l.invariant.2 _ _ more p.1.1 l.invariant.3) _ _ t.0 t.1, level_count _ _ _ is_redundant _ _ _ _ _ k _ l.invariant.2 _ t.0, search rules)
+
+pub returns : goal.returns
+returns c = level_end _ _ _ is_redundant _ _ _ _ _ _ _ c.loop-i-test.false c.loop-i.invariant.0 c.loop-i.invariant.1
