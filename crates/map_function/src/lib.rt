@@ -1,6 +1,7 @@
 // The map type (MapFunction of the Rust pcp/mapping.rs), and building a map in canonical form in lent
 // memory. The pairs of a map are in buffers that the caller lends; the struct holds the rest.
 #![tactic(auto)]
+
 ghost use Rattle.std.specs.Prelude.{◌≡◌};
 ghost use Rattle.pair_list.specs.Places.{pairs_in};
 ghost use Rattle.validate.specs.Validate.{lent_list};

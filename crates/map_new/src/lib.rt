@@ -2,6 +2,7 @@
 // Rust pcp/mapping.rs. Each call validates its arguments in the order of the questions; a refused call
 // writes nothing.
 #![tactic(auto)]
+
 ghost use Rattle.std.specs.Prelude.{◌≡◌, [], ◌∷◌, ◌+◌, ◌≤◌, length};
 ghost use Rattle.pair_list.specs.Pair.{pair};
 ghost use Rattle.pair_list.specs.Places.{pairs_in};

@@ -3,6 +3,7 @@
 // of the path, the part that was carried over unaltered. Each call validates in the order of the questions; a
 // refused call writes nothing.
 #![tactic(auto)]
+
 ghost use Rattle.std.specs.Prelude.{◌≡◌, ◌≤◌, length};
 ghost use Rattle.path_parts.specs.Strip.{strip};
 ghost use Rattle.refusal.specs.Outcome.{ReturnsPath};

@@ -1,5 +1,6 @@
 // The ends of a list of pairs that is built in a scratch buffer, and the construction of a map from such a list.
 #![tactic(auto)]
+
 ghost use Rattle.std.specs.Prelude.{◌≡◌};
 ghost use Rattle.text.specs.Text.{fit_of, written_if_fits};
 ghost use Rattle.pair_list.specs.Pair.{every_end, all_short};

@@ -1,6 +1,7 @@
 // The legs of a route in lent memory: reading and writing a leg's kind, pairs and number of pairs, and validating the
 // route (questions 1 to 4). Every public function is defined for all byte slices and all numbers.
 #![tactic(auto)]
+
 ghost use Rattle.std.specs.Prelude.{◌≡◌, cond, [], ◌∷◌, ◌+◌, ◌*◌, ◌<◌, get_or, drop};
 ghost use Rattle.text.specs.Text.{written_if_fits};
 ghost use Rattle.refusal.specs.declared.Validation.TheVariants.{Passed, Refused};

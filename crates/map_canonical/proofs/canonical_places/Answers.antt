@@ -7,19 +7,15 @@ use mathlib.Core.Path.{ap}
 use mathlib.Core.Bool.{not}
 use Rattle.map_canonical.proofs.canonical_places.Goals as goal
 
--- the clauses by their names
-by_clause_n_bound : {A B : Type 0} → A × B → record { n_bound : A; in_bounds : B }
-by_clause_n_bound t = record { n_bound = t.0; in_bounds = t.1 }
-
 pub returns-then-not-can_select : goal.returns-then-not-can_select
 returns-then-not-can_select c = value_kept_after (places_none _ _ _ is_redundant _ _ _ c.can_select.ensures (ap not c.if-not-can_select.true))
 
 pub canonicalize-requires : goal.canonicalize-requires
 canonicalize-requires c =
-    by_clause_n_bound (
-      (select_few _ _ _ _ c.can_select.ensures (ap not c.if-not-can_select.false), select_present _ _ _ _ c.can_select.ensures (ap not c.if-not-can_select.false)),
-      select_room _ _ _ _ c.can_select.ensures (ap not c.if-not-can_select.false),
-    )
+    record {
+      n_bound = (select_few _ _ _ _ c.can_select.ensures (ap not c.if-not-can_select.false), select_present _ _ _ _ c.can_select.ensures (ap not c.if-not-can_select.false));
+      in_bounds = select_room _ _ _ _ c.can_select.ensures (ap not c.if-not-can_select.false);
+    }
 
 pub returns : goal.returns
 returns c = value_kept_after (places_made _ _ _ is_redundant _ _ _ c.can_select.ensures (ap not c.if-not-can_select.false) _ _ c.canonicalize.ensures)

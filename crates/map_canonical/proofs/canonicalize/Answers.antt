@@ -6,10 +6,6 @@ use Rattle.map_canonical.proofs.LevelBranches.{levels_none, levels_on, levels_ro
 use borrow.Author.Rules.{rules}
 use Rattle.map_canonical.proofs.canonicalize.Goals as goal
 
--- the clauses by their names
-by_clause_n_in_bounds : {A B C : Type 0} → A × (B × C) → record { n_in_bounds : A; holds_element_counts : B; n_in_bounds_2 : C }
-by_clause_n_in_bounds t = record { n_in_bounds = t.0; holds_element_counts = t.1.0; n_in_bounds_2 = t.1.1 }
-
 pub fill_element_counts-top-requires : goal.fill_element_counts-top-requires
 fill_element_counts-top-requires c = omega (arith, c.requires.n_bound.0)
 
@@ -18,9 +14,12 @@ loop-e-init c = (search rules, levels_none _ _ _ is_redundant _ _, c.fill_elemen
 
 pub keep_level-w-requires : goal.keep_level-w-requires
 keep_level-w-requires c =
-    let pre = (c.requires.n_bound, c.requires.in_bounds) in
     let l = c.loop-e in
-    by_clause_n_in_bounds ((pre.0.1, omega (arith, pre.0.0)), (l.invariant.2, levels_room _ _ _ is_redundant _ _ _ _ _ l.invariant.1 pre.0.0 l.invariant.4))
+    record {
+      n_in_bounds = (c.requires.n_bound.1, omega (arith, c.requires.n_bound.0));
+      holds_element_counts = l.invariant.2;
+      n_in_bounds_2 = levels_room _ _ _ is_redundant _ _ _ _ _ l.invariant.1 c.requires.n_bound.0 l.invariant.4;
+    }
 
 pub loop-e-preserved : goal.loop-e-preserved
 loop-e-preserved c =
@@ -29,11 +28,11 @@ loop-e-preserved c =
 
 pub keep_level-requires : goal.keep_level-requires
 keep_level-requires c =
-    let pre = (c.requires.n_bound, c.requires.in_bounds) in
-    let l = c.loop-e in by_clause_n_in_bounds (
-      (pre.0.1, omega (arith, pre.0.0)),
-      (l.invariant.2, top_room _ _ _ is_redundant _ _ _ _ _ l.invariant.1 _ c.loop-e-test.false l.invariant.0 pre.0.0 l.invariant.4),
-    )
+    let l = c.loop-e in record {
+      n_in_bounds = (c.requires.n_bound.1, omega (arith, c.requires.n_bound.0));
+      holds_element_counts = l.invariant.2;
+      n_in_bounds_2 = top_room _ _ _ is_redundant _ _ _ _ _ l.invariant.1 _ c.loop-e-test.false l.invariant.0 c.requires.n_bound.0 l.invariant.4;
+    }
 
 pub returns : goal.returns
 returns c =

@@ -6,10 +6,6 @@ use Rattle.map_canonical.proofs.KeepBranches.{counted_none, most_none, counted_o
 use borrow.Author.Rules.{rules}
 use Rattle.map_canonical.proofs.fill_element_counts.Goals as goal
 
--- the clauses by their names
-by_clause_holds_element_counts : {A B : Type 0} → A × B → record { holds_element_counts : A; result_value : B }
-by_clause_holds_element_counts t = record { holds_element_counts = t.0; result_value = t.1 }
-
 pub loop-i-init : goal.loop-i-init
 loop-i-init c = (search rules, c.requires, counted_none _ _ _, most_none _ _, refl)
 
@@ -29,4 +25,8 @@ loop-i-preserved c =
 )
 
 pub returns : goal.returns
-returns c = by_clause_holds_element_counts (counted_end _ _ _ _ _ c.loop-i-test.false c.loop-i.invariant.2, most_end _ _ _ _ _ c.loop-i-test.false c.loop-i.invariant.0 c.loop-i.invariant.3)
+returns c =
+    record {
+      holds_element_counts = counted_end _ _ _ _ _ c.loop-i-test.false c.loop-i.invariant.2;
+      result_value = most_end _ _ _ _ _ c.loop-i-test.false c.loop-i.invariant.0 c.loop-i.invariant.3;
+    }

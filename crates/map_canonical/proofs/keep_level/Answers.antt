@@ -18,11 +18,9 @@ keep_pair-k-requires c =
 pub loop-i-preserved : goal.loop-i-preserved
 loop-i-preserved c =
     let l = c.loop-i in
-    let p = (c.requires.n_in_bounds, (c.requires.holds_element_counts, c.requires.n_in_bounds_2)) in
-    let k = counted_at _ _ _ _ _ c.loop-i-test.true p.1.0 in
-    let t = (c.keep_pair-k.ensures.value, c.keep_pair-k.ensures.kept_after) in
+    let k = counted_at _ _ _ _ _ c.loop-i-test.true c.requires.holds_element_counts in
     let more = c.loop-i-test.true in
-    (search rules, level_on _ _ _ is_redundant _ _ _ _ _ _ _ k l.invariant.1 (omega (arith, more, p.0.0)) (level_room _ _ _ is_redundant _ _ _ _ _ k _ l.invariant.2 _ _ more p.1.1 l.invariant.3) _ _ t.0 t.1, level_count _ _ _ is_redundant _ _ _ _ _ k _ l.invariant.2 _ t.0, search rules)
+    (search rules, level_on _ _ _ is_redundant _ _ _ _ _ _ _ k l.invariant.1 (omega (arith, more, c.requires.n_in_bounds.0)) (level_room _ _ _ is_redundant _ _ _ _ _ k _ l.invariant.2 _ _ more c.requires.n_in_bounds_2 l.invariant.3) _ _ c.keep_pair-k.ensures.value c.keep_pair-k.ensures.kept_after, level_count _ _ _ is_redundant _ _ _ _ _ k _ l.invariant.2 _ c.keep_pair-k.ensures.value, search rules)
 
 pub returns : goal.returns
 returns c = level_end _ _ _ is_redundant _ _ _ _ _ _ _ c.loop-i-test.false c.loop-i.invariant.0 c.loop-i.invariant.1

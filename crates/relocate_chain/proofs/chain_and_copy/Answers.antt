@@ -5,15 +5,15 @@ use Rattle.text.proofs.Clauses.{value_out_after}
 use Rattle.relocate_chain.proofs.chain_and_copy.Goals as goal
 
 pub slice_bounds-current-end : goal.slice_bounds-current-end
-slice_bounds-current-end c = out_inside _ c.chain_into-c.result c.chain_into-c.new.1.1.1.1.1.1.0 c.chain_into-c.ensures.current_after c.chain_into-c.ensures.chain_within (search rules) _ _ c.in-Chained.is
+slice_bounds-current-end c = out_inside _ c.chain_into-c.result c.chain_into-c.new.current c.chain_into-c.ensures.current_after c.chain_into-c.ensures.chain_within (search rules) _ _ c.in-Chained.is
 
 pub slice_bounds-write_at-end : goal.slice_bounds-write_at-end
-slice_bounds-write_at-end c = out_part _ c.chain_into-c.result c.chain_into-c.new.1.1.1.1.1.1.0 c.chain_into-c.ensures.current_after c.chain_into-c.ensures.chain_within (search rules) _ _ c.in-Chained.is
+slice_bounds-write_at-end c = out_part _ c.chain_into-c.result c.chain_into-c.new.current c.chain_into-c.ensures.current_after c.chain_into-c.ensures.chain_within (search rules) _ _ c.in-Chained.is
 
 pub returns-in-Chained : goal.returns-in-Chained
 returns-in-Chained c =
     value_out_after (out_chained _ c.chain_into-c.result
-    c.chain_into-c.new.1.1.1.1.1.1.0
+    c.chain_into-c.new.current
     c.chain_into-c.ensures.current_after
     c.chain_into-c.ensures.chain_within (search rules) _ _
     c.in-Chained.is _ _
@@ -21,4 +21,4 @@ returns-in-Chained c =
     c.write_at.ensures)
 
 pub returns-in-Refused : goal.returns-in-Refused
-returns-in-Refused c = value_out_after (out_stopped _ c.chain_into-c.result c.chain_into-c.new.1.1.1.1.1.1.0 c.chain_into-c.ensures.current_after c.chain_into-c.ensures.chain_within (search rules) _ c.in-Refused.is _)
+returns-in-Refused c = value_out_after (out_stopped _ c.chain_into-c.result c.chain_into-c.new.current c.chain_into-c.ensures.current_after c.chain_into-c.ensures.chain_within (search rules) _ c.in-Refused.is _)

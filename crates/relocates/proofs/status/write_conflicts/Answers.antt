@@ -6,10 +6,6 @@ use lib.ListN.{length-set}
 use Rattle.relocates.proofs.StatusBranches.{some_none}
 use Rattle.relocates.proofs.status.write_conflicts.Goals as goal
 
-element-copy-out-conflicts-with :
-    tie.Need-element-copy-out-conflicts-with invariant-loop decreases-loop invariant-pairs decreases-pairs
-element-copy-out-conflicts-with c = search rules
-
 pub pairs-init : goal.pairs-init
 pairs-init c = (search rules, refl, settle_begin _ _ _ _)
 
