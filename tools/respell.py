@@ -123,7 +123,7 @@ def respell(text, names, antt):
         word = m.group(0)
         if word in foreign or word not in names:
             return word
-        return names[word] if antt or "-" not in word else word
+        return names[word]
 
     def line(code):
         ghost = code.lstrip().startswith("ghost use")

@@ -1,5 +1,6 @@
 // Closes the open list of the program `frames` as a leg, in lent memory. The buffers may hold anything.
 #![tactic(auto)]
+
 ghost use Rattle.std.specs.Prelude.{◌≡◌, cond, [], ◌∷◌, ◌+◌, ◌*◌, ◌≤◌, ◌<◌, length};
 ghost use Rattle.text.specs.Text.{written_at};
 ghost use Rattle.pair_list.specs.Places.{pairs_in};

@@ -1,6 +1,7 @@
 // Builds the list of pairs of a composed map, before redundant pairs are dropped, in the caller's scratch
 // buffer (the two loops of Rust's `MapFunction::compose`).
 #![tactic(auto)]
+
 ghost use Rattle.std.specs.Prelude.{◌≡◌, true, false, map as mapped, ◌+◌, ◌*◌, ◌≤◌, leb, length};
 ghost use Rattle.std.proofs.Math.Option.{some};
 ghost use Rattle.text.specs.Text.{equal, written, written_if_fits};

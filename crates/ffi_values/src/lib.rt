@@ -1,6 +1,7 @@
 // Conversions between replies, maps, directions, chains and time offsets and the plain numbers that pass
 // across the C interface.
 #![tactic(auto)]
+
 ghost use Rattle.std.specs.Prelude.{◌≡◌};
 ghost use Rattle.ffi_values.specs.Code.{value_code, validation_code, test_code, count_code, reply_code};
 ghost use Rattle.ffi_values.specs.Map.{untimed_map, direction_of};

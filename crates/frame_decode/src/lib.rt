@@ -1,9 +1,10 @@
 // Decodes the digits of a line, and parses the bytes of a frame in place, without copying them.
 #![tactic(auto)]
+
 ghost use Rattle.std.specs.Prelude.{◌≡◌, ◌+◌, ◌*◌, ◌≤◌, length, get_or};
 ghost use Rattle.hex_digits.specs.Calls.{decode_buffer};
 ghost use Rattle.line_reader.specs.Lines.{line_in_buffer};
-ghost use Rattle.frames_spec.specs.Frame.{add-pair, pair-payload, kinds, form_of, decode_payload, decode_form, with_kind, decode_frame};
+ghost use Rattle.frames_spec.specs.Frame.{add_one_pair, pair_payload, kinds, form_of, decode_payload, decode_form, with_kind, decode_frame};
 ghost use Rattle.frame_decode.specs.Header.{decoded_of, decoded_alone};
 ghost use Rattle.frame_decode.specs.LineBytes.{line_bytes, decoded_count};
 
@@ -47,7 +48,7 @@ fn number_at(bytes: &[u8], at: usize) -> usize
 
 // Parses the payload of a pair: two texts with their lengths that fill it exactly.
 fn decode_pair(kind: u8, payload: &[u8]) -> DecodedFrame
-    ensures { result ≡ decoded_of (with_kind kind (decode_payload (pair-payload add-pair) payload.now)) }
+    ensures { result ≡ decoded_of (with_kind kind (decode_payload (pair_payload add_one_pair) payload.now)) }
 {
     if payload.len() < 4 {
         return DecodedFrame::Bad;

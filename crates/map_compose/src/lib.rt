@@ -1,5 +1,6 @@
 // Composes two maps into one, after validating both. Ports `MapFunction::compose` of pcp/mapping.rs.
 #![tactic(auto)]
+
 ghost use Rattle.std.specs.Prelude.{◌≡◌, ◌+◌};
 ghost use Rattle.validate.specs.Validate.{ValidList};
 ghost use Rattle.map_function.specs.MapFunction.{list_of, map_of};

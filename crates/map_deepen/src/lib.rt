@@ -1,6 +1,7 @@
 // Deepens the class of a map to a path, after validation: the class pair is replaced by the node and its
 // image. Ports `MapFunction::deepen_to` of pcp/mapping.rs.
 #![tactic(auto)]
+
 ghost use Rattle.std.specs.Prelude.{◌≡◌, true, false, ◌+◌, ◌*◌, ◌≤◌, ◌<◌, length, take};
 ghost use Rattle.path_prefix.specs.Prefix.{has_prefix};
 ghost use Rattle.path_prefix.specs.Elements.{element_count};

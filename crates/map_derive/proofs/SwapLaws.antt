@@ -1,5 +1,5 @@
 -- Lemmas about the numbers that `swap_ends` writes, and the pairs they stand for.
-use mathlib.Core.Path.{◌≡◌, refl, sym, ap, ◌∙◌}
+use mathlib.Core.Path.{◌≡◌, refl, sym, ap, ◌∙◌, subst}
 use mathlib.Core.List.{List, [], ◌∷◌, ◌++◌, append_assoc, map as mapped, map-append}
 use Prim.Native.Nat.{ℕ, zero, suc, ◌+◌, ◌*◌, ◌≤◌, ◌<◌}
 use native.Mathlib.Omega.{arith}
@@ -74,8 +74,11 @@ module _ (places : List ℕ) where
     unfolding pairs_in swapped_entries
     turned_list zero rest = refl
     turned_list (suc n) rest =
-        rw (append_assoc (swapped_entries places n) (swapped_entry places n) rest, turned_list n (swapped_entry places n ++ rest), swapped_pair_lem n rest)
-        (sym (map-append (λ (x : Pair). swapped_pair x) (pairs_in store places n) (pair_in store places n ∷ [])))
+        let Turned : List ℕ → Type 0
+        = λ l. pairs_in store l (suc n) ≡ mapped (λ (x : Pair). swapped_pair x) (pairs_in store places (suc n)) in
+        subst Turned (sym (append_assoc (swapped_entries places n) (swapped_entry places n) rest))
+        (rw (turned_list n (swapped_entry places n ++ rest), swapped_pair_lem n rest)
+        (sym (map-append (λ (x : Pair). swapped_pair x) (pairs_in store places n) (pair_in store places n ∷ []))))
 
     pub swapped_list : (n : ℕ) (other other' : List ℕ) → other' ≡ swap_ends places n other → 4 * n ≤ length places → 4 * n ≤ length other
         → pairs_in store other' n ≡ mapped (λ (x : Pair). swapped_pair x) (pairs_in store places n)

@@ -1,6 +1,7 @@
 // Calls that build a map from one map, and the call that tests whether a map changes anything. Ports
 // with_root_identity, inverse, dropping_source and is_noop of MapFunction in the Rust pcp/mapping.rs.
 #![tactic(auto)]
+
 ghost use Rattle.std.specs.Prelude.{◌≡◌, [], ◌∷◌, ◌++◌, ◌+◌, ◌*◌, ◌≤◌, length};
 ghost use Rattle.pair_list.specs.Places.{pair_in, pairs_in};
 ghost use Rattle.map_spec.specs.Derive.{without_source};

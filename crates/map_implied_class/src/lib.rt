@@ -1,6 +1,7 @@
 // Computes a class's map across a transfer: transfer ∘ class ∘ transfer⁻¹, with the root identity added.
 // Ports `MapFunction::implied_class` of pcp/mapping.rs. Each list is built in a scratch buffer.
 #![tactic(auto)]
+
 ghost use Rattle.std.specs.Prelude.{◌≡◌, true, ◌||◌, ◌+◌, ◌*◌, ◌≤◌, length};
 ghost use Rattle.layer_offset.specs.Offset.{identity_offset};
 ghost use Rattle.pair_list.specs.Pair.{all_short};

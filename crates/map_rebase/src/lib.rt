@@ -1,6 +1,7 @@
 // Re-anchors the targets of a map from one path to another, after validation. Ports
 // `MapFunction::rebase_target` of pcp/mapping.rs.
 #![tactic(auto)]
+
 ghost use Rattle.std.specs.Prelude.{◌≡◌, true, [], ◌∷◌, ◌+◌, ◌*◌, ◌≤◌, length};
 ghost use Rattle.pair_list.specs.Pair.{pair, all_short};
 ghost use Rattle.pair_list.specs.Places.{pairs_in};

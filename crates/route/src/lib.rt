@@ -2,6 +2,7 @@
 // without it. The maps of relocate legs are prepared once per call, and a validated route is not validated
 // again for each path.
 #![tactic(auto)]
+
 ghost use Rattle.std.specs.Prelude.{◌≡◌, true, false, cond, ◌≤◌, min, length, take};
 ghost use Rattle.path_parts.specs.Strip.{strip};
 ghost use Rattle.refusal.specs.Outcome.{ReturnsPath};

@@ -109,7 +109,18 @@ module _ (store : Text) (places legs : List ℕ) (k : ℕ) (kind size : ℕ) (pa
   pub leg_known : (table : List ℕ) → k < 16 → length table ≡ 48 → (m : ℕ) → m ≡ map_kind kind → (w room : ℕ) → room ≡ 256 → w ≡ length (leg_selection kind (lent_list store part size) room)
       → (table' : List ℕ) → table' ≡ written_if_fits (3 * k) (m ∷ 64 * k ∷ w ∷ []) table → table' ≡ written_at (3 * k) (prepared_entry one k) table
   unfolding prepared_entry list_at
-  leg_known table h t m em w room z ew table' e = leg_written k m (64 * k) w table (omega arith) table' e ∙ rw (em, ew, z, ek, es, ep) refl
+  leg_known table h t m em w room z ew table' e =
+      let as_kind : m ≡ map_kind (kind_at legs k) = em ∙ ap map_kind ek in
+      let list_is : lent_list store part size ≡ list_at one k
+      = ap (λ (p : List ℕ). lent_list store p size) ep ∙ ap (λ (n : ℕ). lent_list store (drop (4 * first_at legs k) places) n) es in
+      let as_size : w ≡ length (leg_selection (kind_at legs k) (list_at one k) 256)
+      = ew
+      ∙ ap (λ (l : LentList). length (leg_selection kind l room)) list_is
+      ∙ ap (λ (x : ℕ). length (leg_selection x (list_at one k) room)) ek
+      ∙ ap (λ (x : ℕ). length (leg_selection (kind_at legs k) (list_at one k) x)) z in
+      leg_written k m (64 * k) w table (omega arith) table' e
+      ∙ ap (λ (x : ℕ). written_at (3 * k) (x ∷ 64 * k ∷ w ∷ []) table) as_kind
+      ∙ ap (λ (x : ℕ). written_at (3 * k) (map_kind (kind_at legs k) ∷ 64 * k ∷ x ∷ []) table) as_size
 
 -- `prepare_legs`
 pub places_none : (r : LentRoute) (made : List ℕ) → made ≡ prepared_places r 0 made

@@ -1,6 +1,7 @@
 // Prepares the map of each leg of a route once, before any path is mapped, so that a relocate list is
 // analysed once for many paths. Every public function is defined for all byte slices and all numbers.
 #![tactic(auto)]
+
 ghost use Rattle.std.specs.Prelude.{◌≡◌, true, ℕ, ◌*◌, ◌≤◌, ◌<◌, length, take, drop};
 ghost use Rattle.text.specs.Text.{written_at};
 ghost use Rattle.pair_list_write.specs.Select.{indices_where, written_entries};

@@ -1,0 +1,38 @@
+use Rattle.map_function.proofs.NewBranches.{refusing_map, gives_map}
+use Rattle.map_implied_class.proofs.ImpliedBranches.{implied_refused, implied_same, transfer_sound, class_sound, implied_other}
+use Rattle.map_implied_class.proofs.implied_class.Goals as goal
+
+pub returns-in-Refused : goal.returns-in-Refused
+returns-in-Refused c =
+    let args = c.args in
+    refusing_map _ _
+    (implied_refused args.store.now args.places.now args.transfer args.cstore.now args.cplaces.now args.class args.out.now
+    args.slots.now _ c.validate_lists-q.ensures _ c.in-Refused.is)
+    _ _
+
+pub returns-then-is_identity : goal.returns-then-is_identity
+returns-then-is_identity c =
+    let args = c.args in
+    gives_map _ _
+    (implied_same args.store.now args.places.now args.transfer args.cstore.now args.cplaces.now args.class args.out.now
+    args.slots.now _ c.validate_lists-q.ensures c.in_default.is _ c.is_identity.ensures
+    c.if-is_identity.true)
+    _ _ _ _ _ c.without_dropping.ensures
+
+pub implied_in-requires : goal.implied_in-requires
+implied_in-requires c =
+    let args = c.args in record {
+      valid_list = transfer_sound args.store.now args.places.now args.transfer args.cstore.now args.cplaces.now args.class args.out.now
+          args.slots.now _ c.validate_lists-q.ensures c.in_default.is;
+      valid_list_2 = class_sound args.store.now args.places.now args.transfer args.cstore.now args.cplaces.now args.class args.out.now
+          args.slots.now _ c.validate_lists-q.ensures c.in_default.is;
+    }
+
+pub returns : goal.returns
+returns c =
+    let args = c.args in
+    gives_map _ _
+    (implied_other args.store.now args.places.now args.transfer args.cstore.now args.cplaces.now args.class args.out.now
+    args.slots.now _ c.validate_lists-q.ensures c.in_default.is _ c.is_identity.ensures
+    c.if-is_identity.false)
+    _ _ _ _ _ c.implied_in.ensures
