@@ -115,8 +115,8 @@ def ours(module):
     return module.startswith("Rattle.") and module.split(".")[1] in os.listdir("crates")
 
 
-def respell(text, names, antt):
-    """A file of antt, or of Rust: there only names without a dash, since `-` is an operator."""
+def respell(text, names):
+    """A file of antt or of Rust. Rust's own `-` stands between spaces, so no name with a dash is mistaken there."""
     foreign = {n for n, module in imports(text) if not ours(module)}
 
     def new(m):
@@ -126,10 +126,9 @@ def respell(text, names, antt):
         return names[word]
 
     def line(code):
-        ghost = code.lstrip().startswith("ghost use")
         mark = re.search(r"(?<!\S)(--|//)(?!\S)", code)
         at = mark.start() if mark else len(code)
-        head = TOKEN.sub(lambda m: new(m) if antt or ghost or "-" not in m.group(0) else m.group(0), code[:at])
+        head = TOKEN.sub(new, code[:at])
         return head + quoted(code[at:], names)
 
     return "\n".join(line(l) for l in text.split("\n"))
@@ -144,11 +143,9 @@ def quoted(text, names):
 
 def edit(text, names):
     """A must-fail edit: its lines are of the file that it names."""
-    antt = re.search(r"^file: \S+\.antt", text, re.M) is not None
-
     def line(l):
         m = re.match(r"^(old|new): (.*)$", l)
-        return f"{m.group(1)}: {respell(m.group(2), names, antt)}" if m else l
+        return f"{m.group(1)}: {respell(m.group(2), names)}" if m else l
 
     return "\n".join(line(l) for l in text.split("\n"))
 
@@ -164,7 +161,7 @@ def main():
         if path.endswith(".edit"):
             new = edit(text, names)
         else:
-            new = respell(text, names, path.endswith(".antt"))
+            new = respell(text, names)
         if new != text:
             with open(path, "w", encoding="utf-8") as f:
                 f.write(new)

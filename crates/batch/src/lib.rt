@@ -1,6 +1,7 @@
 // Maps many paths through one map, or over one route, in one call: the lists and the lent buffers are validated
 // first and once, then each path by itself.
 #![tactic(auto)]
+
 ghost use Rattle.std.specs.Prelude.{◌≡◌, true, ◌+◌, ◌*◌, ◌≤◌, ◌<◌, length, set, []};
 ghost use Rattle.text_list.specs.Places.{in_store};
 ghost use Rattle.refusal.specs.Outcome.{outcome_reply, ReturnsPath};

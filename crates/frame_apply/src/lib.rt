@@ -1,6 +1,7 @@
 // The effect of a frame of the program `frames` on the open list, the legs and the counters, for any contents
 // of the lent buffers: crates/frames_memory/specs/Memory.antt defines it.
 #![tactic(auto)]
+
 ghost use Rattle.std.specs.Prelude.{◌≡◌};
 ghost use Rattle.refusal.specs.Refusal.{refusal_number};
 ghost use Rattle.frames_memory.specs.Memory.{frames_memory};

@@ -1,6 +1,7 @@
 // Validates what a frame of the program `frames` uses of memory that the caller of a line keeps between two
 // calls (questions 1 to 4). Every public function is defined for all byte slices and all numbers.
 #![tactic(auto)]
+
 ghost use Rattle.std.specs.Prelude.{◌≡◌, [], ◌∷◌};
 ghost use Rattle.route_legs.specs.LentRoute.{lent_route, validate_route};
 ghost use Rattle.frame_decode.specs.Header.{last_bytes, action_in};
