@@ -17,7 +17,9 @@ pub fn check(program: &Path) -> Result<(), String> {
         return Ok(());
     }
     let path = program.display();
-    Err(format!("there is no program {path}: `tools/build frames` builds it, --program or FRAMES names another"))
+    Err(format!(
+        "there is no program {path}: `tools/build frames` builds it, --program or FRAMES names another"
+    ))
 }
 
 #[cfg(test)]
