@@ -1,7 +1,7 @@
 /* Scene paths, path maps, relocates, routes and time offsets: the C interface of the static library libmudvizsor.a.
 
    docs/REQUIREMENTS.md defines what each call computes; this header describes how a C or C++ program calls it. The
-   library is built for x86-64 Linux by `rt staticlib mudvizsor`, which writes target/staticlib/libmudvizsor.a:
+   library is built for x86-64 Linux by `tools/build library`, which writes target/staticlib/libmudvizsor.a:
 
        cc -std=c11 -Ic program.c target/staticlib/libmudvizsor.a
 

@@ -1,6 +1,6 @@
 //! Links the static library `libmudvizsor.a`.
 //!
-//! The library is written in Rattle and is not built here, since proving it takes about ten minutes. If it is missing or
+//! The library is written in Rattle and is not built here, since proving it takes a while. If it is missing or
 //! older than its sources, the build stops with a message that says how to build it. A library in the folder that
 //! `MUDVIZSOR_LIB_DIR` names is used as it is.
 
@@ -14,7 +14,7 @@ const LIBRARY: &str = "libmudvizsor.a";
 /// The folders of each Rattle crate that hold its sources.
 const SOURCE_FOLDERS: [&str; 3] = ["src", "specs", "proofs"];
 
-const HOW_TO_BUILD: &str = "run `rt staticlib mudvizsor` in the repository first (about 10 minutes), \
+const HOW_TO_BUILD: &str = "run `tools/build library` in the repository first (it proves the library), \
                             or set MUDVIZSOR_LIB_DIR to a folder that holds the library";
 
 fn main() {

@@ -3,7 +3,7 @@
 use std::env;
 use std::path::{Path, PathBuf};
 
-/// The program of this repository, as `rt check frames` builds it.
+/// The program of this repository, as `tools/build frames` builds it.
 const BUILT: &str = concat!(env!("CARGO_MANIFEST_DIR"), "/../../target/bin/frames");
 
 /// The program that the environment variable FRAMES names, else the one of this repository.
@@ -17,7 +17,9 @@ pub fn check(program: &Path) -> Result<(), String> {
         return Ok(());
     }
     let path = program.display();
-    Err(format!("there is no program {path}: `rt check frames` builds it, --program or FRAMES names another"))
+    Err(format!(
+        "there is no program {path}: `tools/build frames` builds it, --program or FRAMES names another"
+    ))
 }
 
 #[cfg(test)]

@@ -54,7 +54,7 @@
 //! # Linking
 //!
 //! The build script links `libmudvizsor.a` from the folder that the environment variable `MUDVIZSOR_LIB_DIR` names, else
-//! from `target/staticlib` of the repository, where `rt staticlib mudvizsor` writes it. It does not build the library: if
+//! from `target/staticlib` of the repository, where `tools/build library` writes it. It does not build the library: if
 //! the library is missing, or older than its sources in the repository, the build stops with an instruction.
 #![deny(unsafe_op_in_unsafe_fn, unsafe_code, missing_docs)]
 

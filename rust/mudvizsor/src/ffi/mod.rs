@@ -40,8 +40,8 @@ pub(crate) fn path_text(bytes: &[u8]) -> &str {
     debug_assert!(str::from_utf8(bytes).is_ok(), "not UTF-8: {}", bytes.escape_ascii());
     // SAFETY: the only caller, `Path::written`, passes bytes that an entry wrote as a path or accepted as one, and by the
     // contracts of the entries these are legal paths. It is proved that a legal path is UTF-8: it is the rendering of names
-    // and ASCII signs (`legal-is-rendered` in crates/path_grammar/proofs/Theorem.antt), and names consist of encoded
-    // characters (`decodes-exactly` in crates/characters/proofs/Theorem.antt).
+    // and ASCII signs (`legal_is_rendered` in crates/path_grammar/proofs/Theorem.antt), and names consist of encoded
+    // characters (`decodes_exactly` in crates/characters/proofs/Theorem.antt).
     unsafe { str::from_utf8_unchecked(bytes) }
 }
 
