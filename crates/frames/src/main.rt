@@ -308,38 +308,38 @@ fn is_help(env: &impl Env) -> bool {
 }
 
 // Reports why the program ended before the end of its input.
-fn report(rt: &impl Eprint, failure: Failure) {
+fn report<E: Write>(errors: &mut E, failure: Failure) {
     match failure {
-        Failure::Input(e) => stdio::report(rt, "frames: standard input", &e),
-        Failure::Output(e) => stdio::report(rt, "frames: standard output", &e),
+        Failure::Input(e) => stdio::report(errors, b"frames: standard input: ", &e),
+        Failure::Output(e) => stdio::report(errors, b"frames: standard output: ", &e),
     }
 }
 
 // Prints what the program is and how it is used.
-fn print_help(rt: &(impl Print + Eprint)) {
+fn print_help<W: Write, E: Write>(to: &mut W, errors: &mut E) {
     let help = b"usage: frames < INPUT > OUTPUT\n\
 Reads frames from standard input, one of hexadecimal digits on each line, and\n\
 writes the reply to each to standard output before it reads on. README.md of the\n\
 library lists the kinds of frames. There are no options but --help. A read or\n\
 write that fails is reported on standard error; the exit status is 0 all the same.\n";
-    if let Some(e) = stdio::write_all(&mut io::writer(rt), help).failure {
-        report(rt, Failure::Output(e));
+    if let Some(e) = stdio::write_all(to, help).failure {
+        report(errors, Failure::Output(e));
     }
 }
 
 // Prints the help, or reports arguments that the program does not have.
-fn answer_arguments(rt: &(impl Print + Eprint + Env)) {
-    if is_help(rt) {
-        print_help(rt);
+fn answer_arguments<W: Write, E: Write>(env: &impl Env, to: &mut W, errors: &mut E) {
+    if is_help(env) {
+        print_help(to, errors);
     } else {
-        let _ = eprintln!(rt; "frames: there are no arguments but --help");
+        stdio::write_all(errors, b"frames: there are no arguments but --help\n");
     }
 }
 
 // Runs the program with fixed buffers, unless it has arguments.
 fn main(rt: HostRuntime) {
     if has_argument(&rt, 1) {
-        answer_arguments(&rt);
+        answer_arguments(&rt, &mut rt.stdout(), &mut rt.stderr());
         return;
     }
     let mut block = [0u8; 65536];
@@ -363,6 +363,6 @@ fn main(rt: HostRuntime) {
         &mut out,
     );
     if let Some(failure) = now.failure {
-        report(&rt, failure);
+        report(&mut rt.stderr(), failure);
     }
 }

@@ -9,7 +9,6 @@
 
 ghost use Rattle.std.specs.Prelude.{◌≤◌, length};
 
-use std::io;
 use std::io::Write;
 
 // Writes the text at an offset of the line and returns the offset after it. A text that does not fit is left
@@ -232,7 +231,7 @@ fn index_after(n: usize, text: &[u8]) -> usize
 
 // Processes an input line and returns whether the results were written; if not, reports it. They fit: six
 // texts of at most 255 bytes, at most 128 lengths, and a few short fields.
-fn answer(rt: &(impl Print + Eprint), question: &[u8]) -> bool {
+fn answer<W: Write, E: Write>(question: &[u8], to: &mut W, errors: &mut E) -> bool {
     let a = index_of(b' ', question);
     let from = index_after(a, question);
     let rest = &question[from..];
@@ -243,9 +242,9 @@ fn answer(rt: &(impl Print + Eprint), question: &[u8]) -> bool {
     if 4096 < n {
         return false;
     }
-    match stdio::write_all(&mut io::writer(rt), &line[0..n]).failure {
+    match stdio::write_all(to, &line[0..n]).failure {
         Some(e) => {
-            stdio::report(rt, "replay: standard output", &e);
+            stdio::report(errors, b"replay: standard output: ", &e);
             false
         }
         None => true,
@@ -254,21 +253,21 @@ fn answer(rt: &(impl Print + Eprint), question: &[u8]) -> bool {
 
 // Processes the first input line, which may lack its newline, and returns the number of bytes consumed: 0 if
 // the results were not written.
-fn answer_first(rt: &(impl Print + Eprint), input: &[u8]) -> usize
+fn answer_first<W: Write, E: Write>(input: &[u8], to: &mut W, errors: &mut E) -> usize
     ensures { result ≤ length input.now }
 {
     let n = index_of(b'\n', input);
-    if !answer(rt, &input[0..n]) {
+    if !answer(&input[0..n], to, errors) {
         return 0;
     }
     index_after(n, input)
 }
 
 // Processes all input lines.
-fn answer_all(rt: &(impl Print + Eprint), input: &[u8]) {
+fn answer_all<W: Write, E: Write>(input: &[u8], to: &mut W, errors: &mut E) {
     let mut at = 0;
     while at < input.len() {
-        let took = answer_first(rt, &input[at..]);
+        let took = answer_first(&input[at..], to, errors);
         if took == 0 {
             return;
         }
@@ -279,14 +278,15 @@ fn answer_all(rt: &(impl Print + Eprint), input: &[u8]) {
 // Reads the whole input, which must be shorter than 262,144 bytes; the sample has fewer.
 fn main(rt: HostRuntime) {
     let mut input = [0u8; 262144];
+    let mut errors = rt.stderr();
     match stdio::read_full(&mut rt.stdin(), &mut input) {
         Ok(n) => {
             if n < 262144 {
-                answer_all(&rt, &input[..n]);
+                answer_all(&input[..n], &mut rt.stdout(), &mut errors);
             } else {
-                let _ = eprintln!(rt; "replay: the input is too long");
+                stdio::write_all(&mut errors, b"replay: the input is too long\n");
             }
         }
-        Err(e) => stdio::report(&rt, "replay: standard input", &e),
+        Err(e) => stdio::report(&mut errors, b"replay: standard input: ", &e),
     }
 }

@@ -8,6 +8,7 @@
 ghost use Rattle.std.specs.Prelude.{◌≡◌, ◌<◌, ◌≤◌, length, take, IfOk, OnErr, IsSome};
 ghost use Rattle.std.specs.Io.KnownBytes.{Appends, Consumes, IsAtEnd, ReadConsumes};
 ghost use Rattle.stdio.specs.Reading.{ReadAtMost, FewerConsumed};
+ghost use Rattle.stdio.specs.Writing.{LineBegun};
 
 use std::io::{ErrorKind, Read, Write};
 use std::{io, thread};
@@ -112,14 +113,30 @@ fn stopped(count: usize, error: io::Error) -> Writing
     }
 }
 
-// Writes a line to standard error: what failed, a colon and the system's text.
-pub fn report<E: Eprint>(to: &E, what: &str, error: &io::Error) {
+// Writes a line: what failed, and the system's text. If that fails too, there is nothing more to be done.
+pub fn report<W: Write>(to: &mut W, what: &[u8], error: &io::Error)
+    ensures { LineBegun (W.contents to.old) (W.contents to.new) what.now }
+{
+    let mut line = [0u8; 128];
+    let n = describe(error, &mut line);
+    if write_all(to, what).failure.is_some() {
+        return;
+    }
+    write_all(to, &line[..n]);
+}
+
+// Puts the system's text and a newline at the beginning of the line, and returns their length.
+fn describe(error: &io::Error, line: &mut [u8; 128]) -> usize
+    ensures { result ≤ 128 }
+{
     let mut memory = [0u8; 128];
-    let mut rest = &mut memory[..];
-    let _ = write!(rest, "{error}");
-    let count = 128usize.saturating_sub(rest.len());
+    let mut room = &mut memory[..];
+    let _ = write!(room, "{error}");
+    let count = 128usize.saturating_sub(room.len());
     let text = system_text(&memory[..count]);
-    let _ = to.eprintln(format_args!("{what}: {text}"));
+    let mut rest = &mut line[..];
+    let _ = writeln!(rest, "{text}");
+    128usize.saturating_sub(rest.len())
 }
 
 // std writes an error of the system as its text and, in parentheses, its number. The text alone is returned.

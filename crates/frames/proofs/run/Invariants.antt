@@ -14,7 +14,7 @@ invariant-loop-steps g l =
       going : l.now.more ≡ true → Come (g.R.Read.remaining l.initial.from) (g.W.Write.contents l.initial.to) (unconsumed l.block l.now.at l.now.end) now (g.R.Read.remaining l.from) (g.W.Write.contents l.to);
       finished : l.now.done ≡ true → Finished now;
       all : l.now.done ≡ true → OutputWritten (g.R.Read.remaining l.initial.from) (g.W.Write.contents l.initial.to) (g.W.Write.contents l.to);
-      begun : l.now.more ≡ false → OutputBegun (g.R.Read.remaining l.initial.from) (g.W.Write.contents l.initial.to) (g.W.Write.contents l.to)
+      begun : l.now.more ≡ false → OutputBegun (g.R.Read.remaining l.initial.from) (g.W.Write.contents l.initial.to) (g.W.Write.contents l.to);
     }
 
 abbrev pub decreases-loop-steps : goal.decreases-loop-steps

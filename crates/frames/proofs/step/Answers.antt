@@ -18,12 +18,11 @@ overflow_add-result g c =
 
 pub returns-then-at-end-clause-fact : goal.returns-then-at-end-clause-fact
 returns-then-at-end-clause-fact g c =
-    let args = c.args in
-    (
+    let args = c.args in (
       (λ _. next_called args.block.now args.at args.end
           (state_between c.args.len c.args.k c.args.line.now c.args.bytes.now c.args.places.now c.args.store.now c.args.slots.now c.args.table.now c.args.out.now)
           _ c.answer-p.ensures.called),
-      λ e. absurd (false≢true e)
+      λ e. absurd (false≢true e),
     )
 
 pub returns-then-at-end-clause-next : goal.returns-then-at-end-clause-next
