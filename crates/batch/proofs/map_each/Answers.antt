@@ -2,7 +2,6 @@ use Rattle.batch.proofs.BatchLaws.{room_spot, room_block, room_number, step_byte
 use Rattle.batch.specs.Batch.{path_buffers, reply_numbers}
 use borrow.Author.Rules.{rules}
 use native.Mathlib.Omega.{arith}
-use Prim.Native.Nat.{◌-◌}
 use mathlib.Core.Path.{refl}
 use Rattle.text.proofs.Clauses.{out_after_replies_after}
 use Rattle.batch.proofs.map_each.Goals as goal

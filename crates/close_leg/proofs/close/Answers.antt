@@ -5,8 +5,6 @@ use Rattle.validate.proofs.SelectLaws.{select_few, select_present}
 use Rattle.close_leg.proofs.CloseBranches.{close_damaged, close_as, all_counted, active_counted, active_held}
 use borrow.Author.Rules.{rules}
 use Rattle.text.proofs.Clauses.{value_store_after_slots_after_table_after}
-use Rattle.text.proofs.Clauses.{value_store_after_slots_after_table_after}
-use Rattle.text.proofs.Clauses.{value_store_after_slots_after_table_after}
 use mathlib.Core.Path.{ap}
 use mathlib.Core.Bool.{not}
 use Rattle.close_leg.proofs.close.Goals as goal

@@ -1,5 +1,4 @@
 use mathlib.Core.Path.{refl}
-use Prim.Native.Nat.{◌-◌}
 use native.Mathlib.Omega.{arith}
 use Rattle.map_spec.specs.Map.{lent_map}
 use Rattle.compose_pairs.proofs.ComposeBranches.{compose_begin, compose_room, compose_bound, compose_next, compose_end}

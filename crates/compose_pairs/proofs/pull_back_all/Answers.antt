@@ -1,5 +1,4 @@
 use mathlib.Core.Path.{refl}
-use Prim.Native.Nat.{◌-◌}
 use native.Mathlib.Omega.{arith}
 use Rattle.pair_list.specs.Places.{pairs_in}
 use Rattle.map_spec.specs.Map.{lent_map}

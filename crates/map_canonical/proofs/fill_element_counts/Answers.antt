@@ -1,6 +1,5 @@
 use mathlib.Core.Path.{refl}
 use native.Mathlib.Omega.{arith}
-use Prim.Native.Nat.{◌-◌}
 use lib.ListN.{length-set}
 use Rattle.map_canonical.proofs.KeepBranches.{counted_none, most_none, counted_on, most_on, counted_end, most_end}
 use borrow.Author.Rules.{rules}

@@ -1,6 +1,5 @@
 use mathlib.Core.Path.{refl}
 use native.Mathlib.Omega.{arith}
-use Prim.Native.Nat.{◌-◌}
 use Rattle.map_spec.specs.New.{is_redundant}
 use Rattle.map_canonical.proofs.KeepBranches.{counted_at}
 use Rattle.map_canonical.proofs.LevelBranches.{level_none, level_held, level_room, level_count, level_on, level_end}

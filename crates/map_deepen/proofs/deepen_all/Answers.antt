@@ -1,7 +1,6 @@
 use Rattle.map_spec.specs.Derive.{deepened_pair}
 use Rattle.pair_list.specs.Pair.{Pair}
 use native.Mathlib.Omega.{arith}
-use Prim.Native.Nat.{◌-◌}
 use mathlib.Core.Path.{refl}
 use Rattle.map_deepen.proofs.DeepenBranches.{deepened_pair_lem}
 use Rattle.pair_buffer.proofs.LengthLaws.{short_source, short_target}

@@ -1,4 +1,3 @@
-use Prim.Native.Nat.{◌-◌}
 use Rattle.map_derive.proofs.ListBranches.{same_none, same_not, same_on, same_end}
 use borrow.Author.Rules.{rules}
 use mathlib.Core.Path.{ap}

@@ -1,6 +1,5 @@
 use native.Mathlib.Omega.{arith}
 use mathlib.Core.Path.{refl}
-use Prim.Native.Nat.{◌-◌}
 use Rattle.map_derive.proofs.SwapLaws.{swap_beyond, swap_room, swap_none, swap_on, swap_end}
 use borrow.Author.Rules.{rules}
 use Rattle.map_derive.proofs.swap_ends.Goals as goal

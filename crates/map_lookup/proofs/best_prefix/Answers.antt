@@ -1,6 +1,5 @@
 use Rattle.map_lookup.proofs.LookupBranches.{searching, held_there, least_left, least_right, kept_none, kept_short, kept_on}
 use borrow.Author.Rules.{rules}
-use Prim.Native.Nat.{◌-◌}
 use Rattle.map_lookup.proofs.best_prefix.Goals as goal
 
 -- the clauses by their names

@@ -1,4 +1,3 @@
-use Prim.Native.Nat.{◌-◌}
 use Rattle.pair_buffer.proofs.ShortBranches.{shorts, short_on}
 use borrow.Author.Rules.{rules}
 use Rattle.pair_buffer.proofs.all_at_most.Goals as goal

@@ -1,12 +1,8 @@
 use mathlib.Core.Path.{refl}
-use Prim.Native.Nat.{◌-◌}
 use native.Mathlib.Omega.{arith}
 use Rattle.pair_list_write.proofs.WriteBranches.{list_few, list_outside, list_full, at_begin, text_begin, slots_begin, list_fits, list_done}
 use Rattle.pair_list_write.proofs.PushBranches.{append_next}
 use borrow.Author.Rules.{rules}
-use Rattle.text.proofs.Clauses.{value_out_after_slots_after}
-use Rattle.text.proofs.Clauses.{value_out_after_slots_after}
-use Rattle.text.proofs.Clauses.{value_out_after_slots_after}
 use Rattle.text.proofs.Clauses.{value_out_after_slots_after}
 use mathlib.Core.Path.{ap}
 use mathlib.Core.Bool.{not}

@@ -1,6 +1,5 @@
 use native.Mathlib.Omega.{arith}
 use borrow.Author.Rules.{rules}
-use Prim.Native.Nat.{◌-◌}
 use mathlib.Core.Path.{refl}
 use Rattle.route_maps.proofs.PrepareBranches.{copy_none, copy_on, copy_end}
 use Rattle.route_maps.proofs.copy_pairs.Goals as goal

@@ -2,8 +2,6 @@ use native.Mathlib.Omega.{arith}
 use Rattle.validate.proofs.SelectLaws.{select_few, select_present, select_room}
 use Rattle.route_maps.proofs.PrepareBranches.{leg_relocates, leg_none, leg_copied}
 use Rattle.text.proofs.Clauses.{value_block_after}
-use Rattle.text.proofs.Clauses.{value_block_after}
-use Rattle.text.proofs.Clauses.{value_block_after}
 use mathlib.Core.Path.{ap}
 use mathlib.Core.Bool.{not}
 use Rattle.route_maps.proofs.prepare_pairs.Goals as goal

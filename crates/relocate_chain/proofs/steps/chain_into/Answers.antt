@@ -1,7 +1,6 @@
 use Rattle.relocate_chain.proofs.ChainBranches.{chain_begin, chain_end, chain_still, chain_stopped, chain_short, chain_inside, chain_part, chain_on}
 use borrow.Author.Rules.{rules}
 use mathlib.Core.Path.{sym}
-use Prim.Native.Nat.{◌-◌}
 use lib.Seq.{length-take-le}
 use Rattle.relocate_chain.proofs.steps.chain_into.Goals as goal
 

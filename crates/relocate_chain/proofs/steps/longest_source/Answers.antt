@@ -1,5 +1,4 @@
 use Rattle.relocate_chain.proofs.SearchBranches.{searching, source_below, source_on}
-use Prim.Native.Nat.{◌-◌}
 use Rattle.pair_list.proofs.BestLaws.{search_end}
 use Rattle.relocate_chain.specs.Chain.{longest_source}
 use borrow.Author.Rules.{rules}

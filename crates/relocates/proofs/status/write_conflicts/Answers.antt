@@ -1,7 +1,6 @@
 use Rattle.relocates.proofs.InitialBranches.{settle_begin, settle_end, settle_dropped, settle_conflict, settle_active, seek_on}
 use borrow.Author.Rules.{rules}
 use mathlib.Core.Path.{refl, ◌∙◌}
-use Prim.Native.Nat.{◌-◌}
 use lib.ListN.{length-set}
 use Rattle.relocates.proofs.StatusBranches.{some_none}
 use Rattle.relocates.proofs.status.write_conflicts.Goals as goal
