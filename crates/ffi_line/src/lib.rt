@@ -1,6 +1,7 @@
 // One line of the program `frames` as a call over plain numbers and bytes. What the line uses of the lent memory
 // is validated, since the caller may have altered it between two calls.
 #![tactic(auto)]
+
 ghost use Rattle.std.specs.Prelude.{◌≡◌, ◌≤◌, length};
 ghost use Rattle.text.specs.Text.{written};
 ghost use Rattle.frames_spec.specs.Input.{parse_line, next_line};

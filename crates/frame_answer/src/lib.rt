@@ -2,6 +2,7 @@
 // line. The lent buffers may hold anything; crates/frames_memory/specs/Memory.antt defines the effect of each
 // frame.
 #![tactic(auto)]
+
 ghost use Rattle.std.specs.Prelude.{◌≡◌, [], ◌∷◌, ◌+◌, ◌*◌, ◌≤◌, leb, length, take};
 ghost use Rattle.text.specs.Text.{written};
 ghost use Rattle.frames_spec.specs.State.{big_endian32};

@@ -1,5 +1,6 @@
 // Processes input blocks of any size for the program `frames`. The lent buffers may hold anything.
 #![tactic(auto)]
+
 ghost use Rattle.std.specs.Prelude.{◌≡◌, ◌+◌, ◌≤◌, length};
 ghost use Rattle.frames_spec.specs.Input.{max_answer_line};
 ghost use Rattle.frame_stream.specs.Stream.{stream_state, stream_start, stream_step, process_block};
