@@ -4,25 +4,42 @@
 // error if reading or writing fails.
 //
 // Proved: the texts handed to the writes, one after another, are the protocol's output for the blocks that the
-// reads deliver (crates/frame_stream/specs/Progress.antt). Only which bytes the system's `read` delivers and
-// what its `write` does with the bytes that it is handed is open: the kit's contracts say nothing of them.
+// reads deliver (crates/frame_stream/specs/Progress.antt). So from any reader whose bytes are known to any writer
+// whose bytes are known, the program writes the protocol's output for the whole input, or the beginning of it if
+// reading or writing fails (specs/Moves.antt). Only which bytes the system delivers and what it does with those
+// that it is handed is open: the contracts of std's standard streams say nothing of them.
 #![tactic(auto)]
-ghost use Rattle.std.specs.Prelude.{◌≡◌, true, false, [], ◌≤◌, length};
+
+ghost use Rattle.std.specs.Prelude.{◌≡◌, true, false, None, [], ◌≤◌, length};
+ghost use Rattle.std.specs.Io.KnownBytes.{Appends};
 ghost use Rattle.frames_memory.specs.Represents.{initial_counters};
 ghost use Rattle.frame_stream.specs.Stream.{stream_state, process_block};
-ghost use Rattle.frame_stream.specs.Progress.{state_between, StartState, unconsumed, Reached, NextReplies, NextStep, LastStep, after_input, Finished};
+ghost use Rattle.frame_stream.specs.StreamTheorems.{answers_in};
+ghost use Rattle.frame_stream.specs.Progress.{state_between, StartState, unconsumed, Reached, NextReplies, NextStep, LastStep, after_input, last_replies, Finished};
+ghost use Rattle.frames.specs.Moves.{BeginningWritten, NextMove, LastMove, FailedMove, OutputWritten, OutputBegun};
 
-use libc::{STDERR_FILENO, STDIN_FILENO, STDOUT_FILENO};
+use std::env::FillError;
+use std::io;
+use std::io::{Read, Write};
+use std::rt::Env;
 
-// The result of processing some bytes, and whether the replies were written.
+// Why the program ends before the end of its input.
+#[derive(Clone, Copy)]
+enum Failure {
+    Input(io::Error),
+    Output(io::Error),
+}
+
+// The result of processing some bytes, and why the replies were not written, if so.
 #[derive(Clone, Copy)]
 struct AnswerPart {
     reply: frame_stream::StreamReply,
-    written: bool,
+    failure: Option<Failure>,
 }
 
 // The state of the main loop: the range of the input block that is not consumed, the length of the line so
-// far, the counters, whether to continue, and whether the whole input was processed and the replies written.
+// far, the counters, whether to continue, whether the whole input was processed and the replies written, and
+// why not, if reading or writing failed.
 #[derive(Clone, Copy)]
 struct StreamNow {
     at: usize,
@@ -31,6 +48,7 @@ struct StreamNow {
     kept: frames_memory::Counters,
     more: bool,
     done: bool,
+    failure: Option<Failure>,
 }
 
 // The counters before the first line.
@@ -44,19 +62,21 @@ fn initial_counters() -> frames_memory::Counters
     }
 }
 
-// Writes replies, and returns whether all of them were written; if not, reports it.
-fn write_replies(replies: &[u8]) -> bool
+// Writes replies, and returns why not all of them were written, if so.
+fn write_replies<W: Write>(to: &mut W, replies: &[u8]) -> Option<Failure>
     requires { NextReplies replies.now }
+    ensures all { result ≡ None → Appends (W.contents to.old) (W.contents to.new) replies.now }
+    ensures begun { BeginningWritten (W.contents to.old) (W.contents to.new) replies.now }
 {
-    if stdio::write_all(STDOUT_FILENO, replies) < replies.len() {
-        os::fail(b"frames: standard output");
-        return false;
+    match stdio::write_all(to, replies).failure {
+        None => None,
+        Some(e) => Some(Failure::Output(e)),
     }
-    true
 }
 
 // Processes as many of the bytes as the output buffer allows, and writes the replies.
-fn answer(
+fn answer<W: Write>(
+    to: &mut W,
     part: &[u8],
     line: &mut [u8; 4096],
     len: usize,
@@ -70,21 +90,26 @@ fn answer(
 ) -> AnswerPart
     requires { Reached part.now (state_between len k line.old bytes.old places.old store.old slots.old
         table.old out.old) }
-    ensures { let a = state_between len k line.old bytes.old places.old store.old slots.old table.old out.old in
+    ensures called { let a = state_between len k line.old bytes.old places.old store.old slots.old table.old out.old in
         let b = stream_state result.reply line.new bytes.new places.new store.new slots.new table.new out.new in
         b ≡ process_block part.now a }
+    ensures all { let a = state_between len k line.old bytes.old places.old store.old slots.old table.old out.old in
+        result.failure ≡ None → Appends (W.contents to.old) (W.contents to.new) (answers_in (process_block part.now a)) }
+    ensures begun { let a = state_between len k line.old bytes.old places.old store.old slots.old table.old out.old in
+        BeginningWritten (W.contents to.old) (W.contents to.new) (answers_in (process_block part.now a)) }
 {
     let reply = frame_stream::process_block(
         part, line, len, k, bytes, places, store, slots, table, out,
     );
     let end = reply.end;
     let all = &out[..];
-    let written = write_replies(&all[..end]);
-    AnswerPart { reply, written }
+    let failure = write_replies(to, &all[..end]);
+    AnswerPart { reply, failure }
 }
 
 // Processes a last line without a newline at the end of the input.
-fn finish(
+fn finish<W: Write>(
+    to: &mut W,
     line: &mut [u8; 4096],
     len: usize,
     k: frames_memory::Counters,
@@ -102,8 +127,13 @@ fn finish(
         b ≡ after_input a }
     ensures more_value { result.more ≡ false }
     ensures end_value { result.end ≡ 0 }
+    ensures all { let a = state_between len k line.old bytes.old places.old store.old slots.old table.old out.old in
+        result.done ≡ true → Appends (W.contents to.old) (W.contents to.new) (last_replies a) }
+    ensures begun { let a = state_between len k line.old bytes.old places.old store.old slots.old table.old out.old in
+        BeginningWritten (W.contents to.old) (W.contents to.new) (last_replies a) }
 {
-    if len == 0 {
+    let ended = len == 0;
+    if ended {
         return StreamNow {
             at: 0,
             end: 0,
@@ -111,9 +141,12 @@ fn finish(
             kept: k,
             more: false,
             done: true,
+            failure: None,
         };
     }
-    let p = answer(b"\n", line, len, k, bytes, places, store, slots, table, out);
+    let p = answer(
+        to, b"\n", line, len, k, bytes, places, store, slots, table, out,
+    );
     let reply = p.reply;
     let kept = reply.kept;
     StreamNow {
@@ -122,13 +155,16 @@ fn finish(
         len: reply.len,
         kept,
         more: false,
-        done: p.written,
+        done: p.failure.is_none(),
+        failure: p.failure,
     }
 }
 
 // Performs one step: processes the remainder of the input block, or reads the next one. At the end of the
 // input, a last line without a newline is processed.
-fn step(
+fn step<R: Read, W: Write>(
+    from: &mut R,
+    to: &mut W,
     block: &mut [u8; 65536],
     at: usize,
     end: usize,
@@ -150,11 +186,23 @@ fn step(
         let b = state_between result.len result.kept line.new bytes.new places.new store.new slots.new table.new out.new in
         let rest = unconsumed block.old at end in
         (result.more ≡ true → NextStep rest a (unconsumed block.new result.at result.end) b) × (result.done ≡ true → LastStep rest a b) }
+    ensures next { let a = state_between len k line.old bytes.old places.old store.old slots.old table.old out.old in
+        let b = state_between result.len result.kept line.new bytes.new places.new store.new slots.new table.new out.new in
+        result.more ≡ true → NextMove (unconsumed block.old at end) a (R.remaining from.old) (W.contents to.old)
+        (unconsumed block.new result.at result.end) b (R.remaining from.new) (W.contents to.new) }
+    ensures last { let a = state_between len k line.old bytes.old places.old store.old slots.old table.old out.old in
+        result.done ≡ true → LastMove (unconsumed block.old at end) a (R.remaining from.old) (W.contents to.old)
+        (R.remaining from.new) (W.contents to.new) }
+    ensures failed { let a = state_between len k line.old bytes.old places.old store.old slots.old table.old out.old in
+        result.more ≡ false → FailedMove (unconsumed block.old at end) a (R.remaining from.old) (W.contents to.old)
+        (R.remaining from.new) (W.contents to.new) }
 {
     if at < end {
         let whole = &block[..];
         let part = &whole[at..end];
-        let p = answer(part, line, len, k, bytes, places, store, slots, table, out);
+        let p = answer(
+            to, part, line, len, k, bytes, places, store, slots, table, out,
+        );
         let reply = p.reply;
         let after = reply.kept;
         return StreamNow {
@@ -162,23 +210,27 @@ fn step(
             end,
             len: reply.len,
             kept: after,
-            more: p.written,
+            more: p.failure.is_none(),
             done: false,
+            failure: p.failure,
         };
     }
-    let stdio::Reading::Got(n) = stdio::read(STDIN_FILENO, block) else {
-        os::fail(b"frames: standard input");
-        return StreamNow {
-            at: 0,
-            end: 0,
-            len,
-            kept: k,
-            more: false,
-            done: false,
-        };
+    let n = match stdio::read(from, block) {
+        Ok(n) => n,
+        Err(e) => {
+            return StreamNow {
+                at: 0,
+                end: 0,
+                len,
+                kept: k,
+                more: false,
+                done: false,
+                failure: Some(Failure::Input(e)),
+            };
+        }
     };
     if n == 0 {
-        return finish(line, len, k, bytes, places, store, slots, table, out);
+        return finish(to, line, len, k, bytes, places, store, slots, table, out);
     }
     StreamNow {
         at: 0,
@@ -187,12 +239,15 @@ fn step(
         kept: k,
         more: true,
         done: false,
+        failure: None,
     }
 }
 
 // Runs the main loop until the input ends, or reading or writing fails; `steps` bounds it so that it provably
 // ends.
-fn run(
+fn run<R: Read, W: Write>(
+    from: &mut R,
+    to: &mut W,
     block: &mut [u8; 65536],
     line: &mut [u8; 4096],
     bytes: &mut [u8; 32640],
@@ -204,9 +259,11 @@ fn run(
 ) -> StreamNow
     requires { StartState (state_between 0 initial_counters line.old bytes.old places.old store.old slots.old
         table.old out.old) }
-    ensures { result.done ≡ true → Finished
+    ensures finished { result.done ≡ true → Finished
         (state_between result.len result.kept line.new bytes.new places.new store.new
         slots.new table.new out.new) }
+    ensures all { result.done ≡ true → OutputWritten (R.remaining from.old) (W.contents to.old) (W.contents to.new) }
+    ensures begun { OutputBegun (R.remaining from.old) (W.contents to.old) (W.contents to.new) }
 {
     let mut now = StreamNow {
         at: 0,
@@ -215,56 +272,74 @@ fn run(
         kept: initial_counters(),
         more: true,
         done: false,
+        failure: None,
     };
     let mut steps = u64::MAX;
     while steps > 0 && now.more {
         steps -= 1;
         let kept = now.kept;
         now = step(
-            block, now.at, now.end, line, now.len, kept, bytes, places, store, slots, table, out,
+            from, to, block, now.at, now.end, line, now.len, kept, bytes, places, store, slots,
+            table, out,
         );
     }
     now
 }
 
-// Returns whether the only argument is `--help`.
-fn is_help() -> bool {
+// Returns whether there is an argument at this index; 0 is the program's name.
+fn has_argument(env: &impl Env, i: usize) -> bool {
     let mut word = [0u8; 16];
-    let n = os::arg(1, &mut word);
-    if os::arg_count() != 2 {
+    match env.arg(i, &mut word) {
+        Ok(_) | Err(FillError::TooLong) => true,
+        Err(FillError::NotPresent) => false,
+    }
+}
+
+// Returns whether the only argument is `--help`.
+fn is_help(env: &impl Env) -> bool {
+    if has_argument(env, 2) {
         return false;
     }
-    text::is_equal(&word[..n], b"--help")
+    let mut word = [0u8; 16];
+    match env.arg(1, &mut word) {
+        Ok(n) => text::is_equal(&word[..n], b"--help"),
+        Err(_) => false,
+    }
+}
+
+// Reports why the program ended before the end of its input.
+fn report<E: Write>(errors: &mut E, failure: Failure) {
+    match failure {
+        Failure::Input(e) => stdio::report(errors, b"frames: standard input: ", &e),
+        Failure::Output(e) => stdio::report(errors, b"frames: standard output: ", &e),
+    }
 }
 
 // Prints what the program is and how it is used.
-fn print_help() {
+fn print_help<W: Write, E: Write>(to: &mut W, errors: &mut E) {
     let help = b"usage: frames < INPUT > OUTPUT\n\
 Reads frames from standard input, one of hexadecimal digits on each line, and\n\
 writes the reply to each to standard output before it reads on. README.md of the\n\
 library lists the kinds of frames. There are no options but --help. A read or\n\
 write that fails is reported on standard error; the exit status is 0 all the same.\n";
-    if stdio::write_all(STDOUT_FILENO, help) < help.len() {
-        os::fail(b"frames: standard output");
+    if let Some(e) = stdio::write_all(to, help).failure {
+        report(errors, Failure::Output(e));
     }
 }
 
 // Prints the help, or reports arguments that the program does not have.
-fn answer_arguments() {
-    if is_help() {
-        print_help();
+fn answer_arguments<W: Write, E: Write>(env: &impl Env, to: &mut W, errors: &mut E) {
+    if is_help(env) {
+        print_help(to, errors);
     } else {
-        stdio::write_all(
-            STDERR_FILENO,
-            b"frames: there are no arguments but --help\n",
-        );
+        stdio::write_all(errors, b"frames: there are no arguments but --help\n");
     }
 }
 
 // Runs the program with fixed buffers, unless it has arguments.
-fn main() {
-    if os::arg_count() > 1 {
-        answer_arguments();
+fn main(rt: HostRuntime) {
+    if has_argument(&rt, 1) {
+        answer_arguments(&rt, &mut rt.stdout(), &mut rt.stderr());
         return;
     }
     let mut block = [0u8; 65536];
@@ -275,7 +350,9 @@ fn main() {
     let mut slots = [0usize; 4096];
     let mut table = [0usize; 48];
     let mut out = [0u8; 65536];
-    run(
+    let now = run(
+        &mut rt.stdin(),
+        &mut rt.stdout(),
         &mut block,
         &mut line,
         &mut bytes,
@@ -285,4 +362,7 @@ fn main() {
         &mut table,
         &mut out,
     );
+    if let Some(failure) = now.failure {
+        report(&mut rt.stderr(), failure);
+    }
 }

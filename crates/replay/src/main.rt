@@ -6,9 +6,10 @@
 // line of thirteen fields, separated by single spaces: a refusal as `!` and its number, a test as `yes` or
 // `no`, a path as its text, the empty path as `-`.
 #![tactic(auto)]
+
 ghost use Rattle.std.specs.Prelude.{◌≤◌, length};
 
-use libc::{STDERR_FILENO, STDIN_FILENO, STDOUT_FILENO};
+use std::io::Write;
 
 // Writes the text at an offset of the line and returns the offset after it. A text that does not fit is left
 // out.
@@ -26,7 +27,9 @@ fn put(text: &[u8], at: usize, line: &mut [u8]) -> usize {
 // Writes a number in decimal.
 fn put_number(n: usize, at: usize, line: &mut [u8]) -> usize {
     let mut digits = [0u8; 20];
-    let k = io::decimal(n as u64, &mut digits);
+    let mut rest = &mut digits[..];
+    let _ = write!(rest, "{n}");
+    let k = 20usize.saturating_sub(rest.len());
     put(&digits[..k], at, line)
 }
 
@@ -228,7 +231,7 @@ fn index_after(n: usize, text: &[u8]) -> usize
 
 // Processes an input line and returns whether the results were written; if not, reports it. They fit: six
 // texts of at most 255 bytes, at most 128 lengths, and a few short fields.
-fn answer(question: &[u8]) -> bool {
+fn answer<W: Write, E: Write>(question: &[u8], to: &mut W, errors: &mut E) -> bool {
     let a = index_of(b' ', question);
     let from = index_after(a, question);
     let rest = &question[from..];
@@ -239,30 +242,32 @@ fn answer(question: &[u8]) -> bool {
     if 4096 < n {
         return false;
     }
-    if stdio::write_all(STDOUT_FILENO, &line[0..n]) < n {
-        os::fail(b"replay: standard output");
-        return false;
+    match stdio::write_all(to, &line[0..n]).failure {
+        Some(e) => {
+            stdio::report(errors, b"replay: standard output: ", &e);
+            false
+        }
+        None => true,
     }
-    true
 }
 
 // Processes the first input line, which may lack its newline, and returns the number of bytes consumed: 0 if
 // the results were not written.
-fn answer_first(input: &[u8]) -> usize
+fn answer_first<W: Write, E: Write>(input: &[u8], to: &mut W, errors: &mut E) -> usize
     ensures { result ≤ length input.now }
 {
     let n = index_of(b'\n', input);
-    if !answer(&input[0..n]) {
+    if !answer(&input[0..n], to, errors) {
         return 0;
     }
     index_after(n, input)
 }
 
 // Processes all input lines.
-fn answer_all(input: &[u8]) {
+fn answer_all<W: Write, E: Write>(input: &[u8], to: &mut W, errors: &mut E) {
     let mut at = 0;
     while at < input.len() {
-        let took = answer_first(&input[at..]);
+        let took = answer_first(&input[at..], to, errors);
         if took == 0 {
             return;
         }
@@ -271,16 +276,17 @@ fn answer_all(input: &[u8]) {
 }
 
 // Reads the whole input, which must be shorter than 262,144 bytes; the sample has fewer.
-fn main() {
+fn main(rt: HostRuntime) {
     let mut input = [0u8; 262144];
-    match stdio::read_full(STDIN_FILENO, &mut input) {
-        stdio::Reading::Got(n) => {
+    let mut errors = rt.stderr();
+    match stdio::read_full(&mut rt.stdin(), &mut input) {
+        Ok(n) => {
             if n < 262144 {
-                answer_all(&input[..n]);
+                answer_all(&input[..n], &mut rt.stdout(), &mut errors);
             } else {
-                stdio::write_all(STDERR_FILENO, b"replay: the input is too long\n");
+                stdio::write_all(&mut errors, b"replay: the input is too long\n");
             }
         }
-        stdio::Reading::Failed => os::fail(b"replay: standard input"),
+        Err(e) => stdio::report(&mut errors, b"replay: standard input: ", &e),
     }
 }

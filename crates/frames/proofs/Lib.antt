@@ -1,0 +1,2 @@
+-- The lemmas of this crate; the proof of each function is in a folder of its name.
+pub mod MoveLaws
