@@ -19,8 +19,7 @@ map_block-requires c =
     }
 
 pub loop-i-preserved : goal.loop-i-preserved
-loop-i-preserved c =
-    (
+loop-i-preserved c = (
   search rules,
   (step_bytes _ _ _ _ _ _ _ _ _ _ _ (room_block _ _ _ _ c.requires _ c.loop-i-test.true) c.loop-i.invariant.1
       c.map_block.ensures.out_after),

@@ -12,8 +12,7 @@ pub bounds-keys-i : goal.bounds-keys-i
 bounds-keys-i c = omega (arith, c.loop-i-test.true, c.loop-i.invariant.1)
 
 pub loop-i-preserved : goal.loop-i-preserved
-loop-i-preserved c =
-    (
+loop-i-preserved c = (
   search rules,
   simp length-set (omega (arith, c.loop-i.invariant.1)),
   (counted_on _ _ _ _ _ _ (omega (arith, c.loop-i-test.true, c.loop-i.invariant.1)) c.key_at.ensures

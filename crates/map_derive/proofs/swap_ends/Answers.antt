@@ -14,8 +14,7 @@ pub loop-i-init : goal.loop-i-init
 loop-i-init c = (search rules, swap_none c.args.places.now _, refl)
 
 pub loop-i-preserved : goal.loop-i-preserved
-loop-i-preserved c =
-    (
+loop-i-preserved c = (
   search rules,
   (swap_on _ _ _ _ c.loop-i.invariant.1 (omega arith) _ c.write_entry.ensures),
   search rules,

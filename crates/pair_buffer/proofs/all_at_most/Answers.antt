@@ -24,8 +24,7 @@ pub loop-i-smaller : goal.loop-i-smaller
 loop-i-smaller c = search (rules, shorts)
 
 pub loop-i-preserved : goal.loop-i-preserved
-loop-i-preserved c =
-    (
+loop-i-preserved c = (
   search rules,
   (short_on _ _ _ c.args.n _ c.loop-i-test.true _ c.key_at.ensures _ c.key_at-in-loop-i.ensures
       c.if-most-key_at.false c.if-most-key_at-2.false c.loop-i.invariant.1),

@@ -13,15 +13,14 @@ pub returns-then-not-can_select : goal.returns-then-not-can_select
 returns-then-not-can_select c = value_block_after (leg_none _ _ _ _ _ c.if-kind-ge2.false _ c.can_select.ensures (ap not c.if-not-can_select.true))
 
 pub copy_pairs-requires : goal.copy_pairs-requires
-copy_pairs-requires c =
-    (
-      select_present _ _ _ _ c.can_select.ensures (ap not c.if-not-can_select.false),
-      omega (
-        arith,
-        select_few _ _ _ _ c.can_select.ensures (ap not c.if-not-can_select.false),
-        select_room _ _ _ _ c.can_select.ensures (ap not c.if-not-can_select.false),
-      ),
-    )
+copy_pairs-requires c = (
+  select_present _ _ _ _ c.can_select.ensures (ap not c.if-not-can_select.false),
+  omega (
+    arith,
+    select_few _ _ _ _ c.can_select.ensures (ap not c.if-not-can_select.false),
+    select_room _ _ _ _ c.can_select.ensures (ap not c.if-not-can_select.false),
+  ),
+)
 
 pub returns : goal.returns
 returns c = value_block_after (leg_copied _ _ _ _ _ c.if-kind-ge2.false _ c.can_select.ensures (ap not c.if-not-can_select.false) _ c.copy_pairs.ensures)

@@ -9,8 +9,7 @@ by_clause_current_after : {A B : Type 0} → A × B → record { current_after :
 by_clause_current_after t = record { current_after = t.0; chain_within = t.1 }
 
 pub loop-k-init : goal.loop-k-init
-loop-k-init c =
-    (
+loop-k-init c = (
   search rules,
   (c.requires.0),
   search rules,
@@ -48,8 +47,7 @@ slice_bounds-write_at-end c =
     c.replace_once-s.ensures.value _ c.in-Made.is _ _ c.replace_once-s.ensures.made_after c.loop-k.invariant.3
 
 pub loop-k-preserved : goal.loop-k-preserved
-loop-k-preserved c =
-    (
+loop-k-preserved c = (
   search rules,
   (chain_short _ _ _ _ _ c.loop-k.len c.loop-k.current c.loop-k.invariant.4 c.loop-k-test.true _
       c.replace_once-s.ensures.value _ c.in-Made.is),
