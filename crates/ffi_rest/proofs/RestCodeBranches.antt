@@ -1,5 +1,5 @@
 -- Lemmas for the branches of the functions that encode a reply.
-use mathlib.Core.Path.{◌≡◌, refl}
+use mathlib.Core.Path.{◌≡◌}
 use Prim.Native.Nat.{ℕ, ◌+◌, ◌*◌, ◌%◌}
 use lib.ListN.{length}
 use Rattle.text.specs.Text.{Text}

@@ -1,6 +1,4 @@
 -- The three numbers of a carried code are read back from it.
-use mathlib.Core.Path.{◌≡◌}
-use Prim.Native.Nat.{ℕ, ◌<◌, ◌%◌}
 use native.Mathlib.Omega.{arith}
 use Rattle.ffi_rest.specs.RestCode.{carried_value, CodeReadsBack}
 

@@ -3,7 +3,7 @@ use mathlib.Core.Path.{◌≡◌, refl, ap, ◌∙◌}
 use mathlib.Core.List.{[], ◌∷◌, map}
 use Prim.Native.Nat.{ℕ, zero, suc, ◌+◌, ◌-◌, ◌*◌, ◌/◌, ◌≤◌, ◌<◌}
 use native.Mathlib.Omega.{arith}
-use lib.ListN.{length, get_or, drop, length-drop, length-map}
+use lib.ListN.{length, get_or, drop, length-drop}
 use borrow.Author.Tests.{le-leb}
 use Rattle.refusal.specs.declared.Validation.TheVariants.{Passed}
 use Rattle.validate.specs.Validate.{validate_call, first_refusal, first_failed, every}

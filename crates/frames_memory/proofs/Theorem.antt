@@ -9,7 +9,7 @@ use native.Mathlib.Omega.{arith}
 use lib.ListN.{length}
 use Rattle.text.specs.Text.{Text}
 use Rattle.hex_digits.specs.Hex.{encode_hex}
-use Rattle.line_reader.specs.Lines.{Line, lines_of, fold_answers}
+use Rattle.line_reader.specs.Lines.{Line, lines_of}
 use Rattle.line_reader.proofs.BlockLaws.{simulates}
 use Rattle.pair_list.specs.Pair.{Pair, all_ends, all_short}
 use Rattle.pair_list.specs.Places.{list_text, list_places, end_bytes}

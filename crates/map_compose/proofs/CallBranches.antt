@@ -1,22 +1,18 @@
 -- Lemmas about the branches of the calls.
-use mathlib.Core.Path.{◌≡◌, refl, sym, ap, ◌∙◌}
-use mathlib.Core.Bool.{Bool, true, false, not, cond, ◌&&◌}
+use mathlib.Core.Path.{◌≡◌, refl, sym, ◌∙◌}
+use mathlib.Core.Bool.{Bool, true, false, cond, ◌&&◌}
 use mathlib.Core.List.{List, [], ◌∷◌}
-use Prim.Native.Nat.{ℕ, ◌+◌, ◌*◌, ◌/◌, ◌≤◌, ◌<◌}
+use Prim.Native.Nat.{ℕ, ◌+◌}
 use native.Mathlib.Omega.{arith}
-use lib.Dec.{eqb, leb}
+use lib.Dec.{eqb}
 use lib.ListN.{length}
-use borrow.Author.Tests.{le-leb, lt-leb}
 use Rattle.text.specs.Text.{Text}
-use Rattle.text.proofs.BoolLaws.{and_no, told, known_true, known_false}
+use Rattle.text.proofs.BoolLaws.{told}
 use Rattle.layer_offset.specs.declared.LayerOffset.{LayerOffset}
 use Rattle.layer_offset.specs.Offset.{identity_offset, is_identity, concatenate_offsets}
-use Rattle.pair_list.specs.Pair.{Pair, every_end, all_short, all_ends}
-use Rattle.pair_list.specs.Places.{pairs_in, end_bytes}
-use Rattle.pair_list_write.specs.Lists.{list_fits_buffers}
-use Rattle.pair_list.proofs.PlaceLaws.{pairs_in_length}
+use Rattle.pair_list.specs.Pair.{all_ends}
+use Rattle.pair_list.specs.Places.{pairs_in}
 use Rattle.refusal.specs.declared.Refusal.{Refusal}
-use Rattle.refusal.specs.declared.Refusal.TheVariants.{TooMany, NoRoom, MadeTooLong}
 use Rattle.refusal.specs.declared.Validation.{Validation}
 use Rattle.refusal.specs.declared.Validation.TheVariants.{Passed, Refused as RefusedValidation}
 use Rattle.validate.specs.Validate.{lent_list, validate_call, ValidList}
@@ -26,7 +22,7 @@ use Rattle.map_spec.specs.New.{from_parts}
 use Rattle.map_spec.specs.Compose.{is_path_identity, composed_pairs, compose}
 use Rattle.map_function.specs.declared.MapFunction.{MapFunction}
 use Rattle.map_function.specs.MapFunction.{list_of, map_of}
-use Rattle.map_function.specs.MapOutcome.{map, refused, require_list_room, within_limits, without_dropping, from_parts_outcome, count_in_slice}
+use Rattle.map_function.specs.MapOutcome.{map, refused, within_limits, without_dropping, count_in_slice}
 use Rattle.pair_list_write.specs.Packed.{HoldsList, ScratchRoom}
 use Rattle.pair_buffer.specs.Ends.{from_ends_given, from_ends}
 use Rattle.pair_list_write.proofs.PackedLaws.{holds_list, holds_inside}

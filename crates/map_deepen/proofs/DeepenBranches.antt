@@ -3,7 +3,7 @@ use mathlib.Core.Path.{◌≡◌, refl, sym, ap, ◌∙◌}
 use mathlib.Core.Bool.{Bool, true, false, not, cond}
 use mathlib.Core.List.{List, [], ◌∷◌}
 use mathlib.Core.Option.{Option, none, some, get_or}
-use Prim.Native.Nat.{ℕ, ◌+◌, ◌*◌, ◌≤◌, ◌<◌}
+use Prim.Native.Nat.{ℕ, ◌+◌, ◌≤◌, ◌<◌}
 use native.Mathlib.Omega.{arith}
 use lib.ListN.{length, take}
 use borrow.Author.Tests.{lt-leb}
@@ -19,7 +19,7 @@ use Rattle.path_parts.specs.Strip.{strip, strip_fit, strip_buffer}
 use Rattle.path_parts.proofs.StripLaws.{strip_shorter, strip_length, strip_back}
 use Rattle.layer_offset.specs.declared.LayerOffset.{LayerOffset}
 use Rattle.map_deepen.specs.declared.ClassSoFar.{ClassSoFar}
-use Rattle.pair_list.specs.Pair.{Pair, pair, all_short}
+use Rattle.pair_list.specs.Pair.{pair, all_short}
 use Rattle.pair_list.specs.Places.{key_at, pair_in, pairs_in}
 use Rattle.pair_list.specs.BestStep.{best_kept, index_kept}
 use Rattle.pair_list.specs.LongestMatch.{longest_by}

@@ -12,7 +12,7 @@ use Rattle.text.proofs.BoolLaws.{and_l, and_r, and_no, and_yes, known_true, know
 use Rattle.path_grammar.specs.Legal.{legal, at_most255}
 use Rattle.layer_offset.specs.declared.LayerOffset.{LayerOffset}
 use Rattle.layer_offset.specs.Offset.{identity_offset}
-use Rattle.pair_list.specs.Pair.{Pair, every_end, all_short, all_ends}
+use Rattle.pair_list.specs.Pair.{Pair, every_end, all_short}
 use Rattle.pair_list.specs.Places.{pairs_in, end_bytes}
 use Rattle.pair_list_write.specs.Lists.{list_fits_buffers}
 use Rattle.pair_list.proofs.PlaceLaws.{pairs_in_length}

@@ -1,7 +1,7 @@
 -- The rest of an accepted mapping is the end of the path given and of the path made (`RestUnaltered`). The idea: the joined text is the new prefix
 -- followed by the rest, because an accepted path has no property or selection directly after `/`.
-use mathlib.Core.Path.{◌≡◌, refl, sym, ap, ◌∙◌}
-use mathlib.Core.Bool.{Bool, true, false, not, cond, ◌&&◌, ◌||◌, true≢false, false≢true}
+use mathlib.Core.Path.{◌≡◌, refl, sym, ◌∙◌}
+use mathlib.Core.Bool.{Bool, true, false, ◌||◌, true≢false}
 use mathlib.Core.List.{[], ◌∷◌, ◌++◌}
 use mathlib.Core.Option.{Option, none, some, none-ne-some, some-ne-none}
 use Prim.Native.Nat.{ℕ}
@@ -11,7 +11,7 @@ use lib.Seq.{drop-append_seam}
 use borrow.Author.Tests.{eqb-true}
 use Rattle.text.specs.Text.{Text, is_nil, ends_with_byte}
 use Rattle.text.proofs.TextLaws.{no_text}
-use Rattle.text.proofs.BoolLaws.{and_l, and_yes, or_false, not_true}
+use Rattle.text.proofs.BoolLaws.{and_yes, or_false, not_true}
 use Rattle.path_grammar.specs.Own.{has_variant_selection}
 use Rattle.path_grammar.specs.Legal.{is_root, legal, is_end}
 use Rattle.path_grammar.proofs.LegalLaws.{absolute_first, end_close, root_is}
@@ -22,7 +22,7 @@ use Rattle.path_join.proofs.JoinLegal.{join_legal}
 use Rattle.path_join.proofs.ReplaceLaws.{replace_prefix_lem, replaced_prefix}
 use Rattle.path_join.proofs.JoinLaws.{stem, stem_root, stem_not, join_none, join_root, join_slash, join_other}
 use Rattle.path_rest.specs.declared.Rest.TheVariants.{From}
-use Rattle.path_rest.specs.Rest.{rest_index, rest_start, rest_text, followed_by, EndsWith}
+use Rattle.path_rest.specs.Rest.{rest_index, rest_start, rest_text, followed_by}
 use Rattle.path_parts.specs.Strip.{strip}
 use Rattle.path_parts.proofs.StripLaws.{strip_same}
 use Rattle.pair_list.specs.Pair.{all_ends}

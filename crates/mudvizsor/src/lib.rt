@@ -2,6 +2,7 @@
 // byte is the refusal number (0 if accepted), the remainder is 256 times the value. A slice passes as a
 // pointer followed by a length.
 #![tactic(auto)]
+
 ghost use Rattle.std.specs.Prelude.{◌≡◌, length};
 ghost use Rattle.path_parts.specs.Parent.{ancestor_lens};
 ghost use Rattle.refusal.specs.Outcome.{written_if_accepted};

@@ -9,7 +9,7 @@ use Rattle.text.specs.Text.{Text, written_if_fits, fit_of}
 use Rattle.text.specs.declared.Fit.{Fit}
 use Rattle.text.specs.declared.Fit.TheVariants.{Written as WrittenFit, Over}
 use Rattle.text.proofs.BoolLaws.{known_false, known_true}
-use Rattle.text.proofs.WriteLaws.{placed_first, fit_room, fit_over, fit_is, fit_back}
+use Rattle.text.proofs.WriteLaws.{fit_room, fit_over, fit_is, fit_back}
 use Rattle.path_grammar.specs.Legal.{legal, at_most255}
 use Rattle.refusal.proofs.PassedLaws.{made_legal}
 use Rattle.refusal.specs.declared.Refusal.TheVariants.{MadeTooLong, MadeIllegal}

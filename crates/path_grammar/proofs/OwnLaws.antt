@@ -1,11 +1,10 @@
 -- The own part and the target part of a path. The code, and the proofs that follow it, read a text byte by byte, and get from there to
 -- `has_variant_selection` and `has_property` and back by these lemmas.
-use mathlib.Core.Path.{◌≡◌, refl, sym, ap, ◌∙◌}
+use mathlib.Core.Path.{◌≡◌, refl, ap, ◌∙◌}
 use mathlib.Core.Logic.{◌↔◌}
-use mathlib.Core.Bool.{Bool, true, false, not, cond, ◌&&◌}
+use mathlib.Core.Bool.{true, false, not}
 use mathlib.Core.List.{[], ◌∷◌, ◌++◌, append-nil}
 use Prim.Native.Nat.{ℕ, ◌≤◌}
-use lib.Dec.{eqb}
 use lib.ListN.{length, take, drop}
 use Rattle.text.specs.Text.{Text, is_nil, lacks_byte, take_until, drop_until}
 use Rattle.text.proofs.BoolLaws.{not_false}

@@ -1,6 +1,6 @@
 -- The target part of a path as a plain tail: what replaces the prefix of the own part replaces that of the path and leaves the tail.
 use mathlib.Core.Path.{◌≡◌, refl, sym, ap, ◌∙◌}
-use mathlib.Core.Bool.{Bool, true, false, not, cond, ◌&&◌, ◌||◌, true≢false}
+use mathlib.Core.Bool.{Bool, true, false, not, cond, ◌&&◌, true≢false}
 use mathlib.Core.List.{[], ◌∷◌, ◌++◌, append-nil, append_assoc}
 use mathlib.Core.Option.{Option, none, some}
 use Prim.Native.Nat.{ℕ, zero, suc}
@@ -8,10 +8,10 @@ use lib.Dec.{eqb}
 use lib.ListN.{length, take, drop}
 use lib.Seq.{take-nil}
 use borrow.Author.Tests.{eqb-true}
-use Rattle.text.specs.Text.{Text, is_nil, strip_prefix, lacks_byte, take_until, drop_until}
+use Rattle.text.specs.Text.{Text, strip_prefix, lacks_byte, take_until, drop_until}
 use Rattle.text.proofs.BoolLaws.{not_true}
 use Rattle.text.proofs.TextLaws.{after_up, lacks_append, lacks_first, lacks_rest}
-use Rattle.path_grammar.specs.Own.{own_part, target_part, has_property}
+use Rattle.path_grammar.specs.Own.{own_part, target_part}
 use Rattle.path_grammar.specs.Legal.{is_root, legal, is_end}
 use Rattle.path_grammar.proofs.OwnLaws.{own_parts, target_head, target_after, own_after, no_property, property_scan}
 use Rattle.path_grammar.proofs.LegalLaws.{own_is, target_property, end_unbracketed, end_undotted}

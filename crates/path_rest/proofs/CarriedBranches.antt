@@ -1,5 +1,5 @@
 -- Lemmas for the branches of `with_rest`, `reply_of` and `carried_rest`.
-use mathlib.Core.Path.{◌≡◌, refl}
+use mathlib.Core.Path.{◌≡◌}
 use mathlib.Core.List.{[]}
 use Prim.Native.Nat.{ℕ}
 use Rattle.text.specs.Text.{Text}

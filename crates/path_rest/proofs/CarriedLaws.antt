@@ -9,7 +9,7 @@ use Rattle.refusal.specs.declared.Reply.TheVariants.{Written as WrittenPath, Ref
 use Rattle.refusal.specs.Outcome.{Outcome, path, refused, outcome_reply, outcome_buffer, ReturnsPath}
 use Rattle.path_rest.specs.declared.Rest.{Rest}
 use Rattle.path_rest.specs.declared.Carried.{Carried}
-use Rattle.path_rest.specs.declared.Carried.TheVariants.{Written, Refused}
+use Rattle.path_rest.specs.declared.Carried.TheVariants.{Refused}
 use Rattle.path_rest.specs.Carried.{with_rest, reply_of, carried_rest, ReturnsCarried}
 
 -- Without the rest, the reply is what it was.

@@ -21,7 +21,6 @@ use Rattle.refusal.specs.declared.Refusal.{Refusal}
 use Rattle.refusal.specs.declared.Refusal.TheVariants.{NoRoom}
 use Rattle.refusal.specs.declared.Validation.{Validation}
 use Rattle.refusal.specs.declared.Validation.TheVariants.{Passed, Refused as RefusedValidation}
-use Rattle.refusal.specs.declared.Reply.{Reply}
 use Rattle.refusal.specs.declared.Reply.TheVariants.{Written, Refused}
 use Rattle.refusal.specs.Outcome.{Outcome, path, refused, outcome_reply, outcome_buffer, after_checks}
 use Rattle.path_rest.specs.declared.Rest.{Rest}
@@ -42,7 +41,7 @@ use Rattle.route_spec.specs.Route.{run_route}
 use Rattle.route_spec.specs.Rest.{is_stripped, route_rest}
 use Rattle.route_spec.proofs.RestTheorem.{unaltered_le}
 use Rattle.route.specs.Calls.{route_call}
-use Rattle.route.specs.Fast.{leg_fast, maps_in, run_route_fast, entering_path, HoldsPath, HoldsOutcome, needs_maps, after_route_validated}
+use Rattle.route.specs.Fast.{leg_fast, maps_in, run_route_fast, entering_path, HoldsPath, needs_maps, after_route_validated}
 use Rattle.route.specs.declared.Run.{Run}
 use Rattle.route.specs.Unaltered.{unaltered_fast, rest_fast, route_rest_fast, HoldsRun}
 use Rattle.route.proofs.FastLaws.{Whole, fast_run_lem, fast_map_legs}

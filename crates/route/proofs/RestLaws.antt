@@ -1,5 +1,5 @@
 -- Lemmas about the rest over a route as the code computes it: for validated legs it is the rest of the definitions.
-use mathlib.Core.Path.{◌≡◌, refl, sym, ap, ◌∙◌}
+use mathlib.Core.Path.{◌≡◌, refl, ap, ◌∙◌}
 use mathlib.Core.Bool.{Bool, true, false, cond}
 use mathlib.Core.List.{List, [], ◌∷◌, map, reverse}
 use Prim.Native.Nat.{ℕ, zero, suc, ◌-◌, ◌<◌, min}
@@ -15,7 +15,7 @@ use Rattle.path_rest.specs.Rest.{rest_text}
 use Rattle.validate.specs.Validate.{every, ValidList}
 use Rattle.map_spec.specs.Map.{Map}
 use Rattle.map_spec.specs.Leg.{translate_checked, map_back_checked, SelectionFreePath}
-use Rattle.map_rest.specs.MapRest.{source_rest, target_rest, translated_rest}
+use Rattle.map_rest.specs.MapRest.{target_rest, translated_rest}
 use Rattle.map_apply.specs.Fast.{plain_rest}
 use Rattle.route_spec.specs.Leg.{Leg, leg_map, outward, homeward}
 use Rattle.route_spec.specs.Rest.{leg_rest, next_length, unaltered_length, unaltered_over, is_stripped, route_rest}

@@ -2,7 +2,7 @@
 use mathlib.Core.Path.{◌≡◌, refl, sym, ap, ◌∙◌}
 use mathlib.Core.Bool.{Bool, true, false}
 use mathlib.Core.List.{List, [], ◌∷◌, ◌++◌, reverse, reverse-append}
-use Prim.Native.Nat.{ℕ, zero, suc, ◌+◌, ◌-◌, ◌≤◌, ◌<◌, min}
+use Prim.Native.Nat.{ℕ, suc, ◌+◌, ◌-◌, ◌≤◌, ◌<◌, min}
 use native.Mathlib.Omega.{arith}
 use lib.ListN.{length, take}
 use Rattle.text.specs.Text.{Text, written_if_fits}
@@ -13,7 +13,7 @@ use Rattle.refusal.specs.Outcome.{Outcome, path, refused, outcome_reply, Returns
 use Rattle.path_rest.specs.declared.Rest.{Rest}
 use Rattle.path_rest.specs.declared.Carried.{Carried}
 use Rattle.path_rest.specs.Rest.{rest_text}
-use Rattle.path_rest.specs.Carried.{with_rest, reply_of, carried_rest, ReturnsCarried}
+use Rattle.path_rest.specs.Carried.{reply_of, carried_rest, ReturnsCarried}
 use Rattle.path_rest.proofs.CarriedLaws.{without_rest, known_rest}
 use Rattle.map_spec.specs.Map.{Map}
 use Rattle.map_apply.specs.Fast.{plain_rest}

@@ -1,10 +1,10 @@
 -- Chaining and shifting leave the target part: every replacement makes the same of the path and of its own part.
 use mathlib.Core.Path.{◌≡◌, refl, sym, ap, ◌∙◌}
-use mathlib.Core.Bool.{Bool, true, false, not, cond, ◌&&◌, true≢false}
-use mathlib.Core.List.{List, [], ◌∷◌, ◌++◌}
+use mathlib.Core.Bool.{Bool, true, false, cond, true≢false}
+use mathlib.Core.List.{List, ◌∷◌, ◌++◌}
 use mathlib.Core.Logic.{◌⊎◌, inl, inr}
 use mathlib.Core.Option.{Option, none, some, get_or}
-use Prim.Native.Nat.{ℕ, zero, suc, ◌+◌, ◌≤◌}
+use Prim.Native.Nat.{ℕ, zero, suc, ◌+◌}
 use native.Mathlib.Omega.{arith}
 use lib.ListN.{length, take, length-append}
 use lib.Seq.{take-append_seam}
@@ -19,7 +19,7 @@ use Rattle.path_join.specs.Join.{replace_prefix}
 use Rattle.path_join.specs.Tail.{followed_by_target}
 use Rattle.path_join.proofs.TailLaws.{appended, replace_before, replaced_lacks, leaves_target}
 use Rattle.refusal.specs.declared.Refusal.TheVariants.{MadeTooLong, MadeIllegal}
-use Rattle.refusal.specs.Outcome.{Outcome, path, refused, checked}
+use Rattle.refusal.specs.Outcome.{path, refused, checked}
 use Rattle.pair_list.specs.Pair.{Pair, pair_at, source_at, target_at, all_ends}
 use Rattle.pair_list.proofs.BestLaws.{best_agree}
 use Rattle.map_spec.proofs.EndLaws.{ends_source, ends_target}

@@ -6,7 +6,7 @@ use mathlib.Core.Option.{Option, none, some}
 use Prim.Native.Nat.{ℕ}
 use native.Mathlib.Omega.{arith}
 use lib.Dec.{eqb}
-use lib.ListN.{length, length-append}
+use lib.ListN.{length-append}
 use Rattle.text.specs.Text.{Text, lacks_byte}
 use Rattle.path_grammar.specs.Own.{own_part, target_part}
 use Rattle.path_grammar.specs.Legal.{legal_own, legal, is_end, at_most255}

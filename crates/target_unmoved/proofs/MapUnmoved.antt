@@ -1,22 +1,21 @@
 -- Maps leave the target part. A pair matches a path exactly if it matches the own part, so both select the same pair.
 use mathlib.Core.Path.{◌≡◌, refl, sym, ap, ◌∙◌}
 use mathlib.Core.Bool.{Bool, true, false, cond, ◌&&◌, not}
-use mathlib.Core.List.{List, [], ◌∷◌, ◌++◌, append-nil}
+use mathlib.Core.List.{◌∷◌, ◌++◌, append-nil}
 use mathlib.Core.Option.{Option, none, some}
 use Prim.Native.Nat.{ℕ}
 use Rattle.text.specs.Text.{Text, is_nil, lacks_byte}
 use Rattle.text.proofs.TextLaws.{no_text}
 use Rattle.path_grammar.specs.Own.{own_part, target_part}
-use Rattle.path_grammar.specs.Legal.{legal, is_end}
+use Rattle.path_grammar.specs.Legal.{is_end}
 use Rattle.path_grammar.proofs.OwnLaws.{own_lacks, own_all, target_none}
-use Rattle.path_prefix.specs.Prefix.{has_prefix}
 use Rattle.path_prefix.specs.Elements.{element_count}
 use Rattle.path_join.specs.Join.{replace_prefix}
 use Rattle.path_join.specs.Tail.{followed_by_target}
 use Rattle.path_join.proofs.TailLaws.{appended, prefix_before, replace_before, replaced_lacks, leaves_target}
 use Rattle.path_parts.specs.Strip.{strip_from, strip}
 use Rattle.path_parts.proofs.StripLaws.{strip_own, strip_target, strip_legal}
-use Rattle.pair_list.specs.Pair.{Pair, all_ends}
+use Rattle.pair_list.specs.Pair.{all_ends}
 use Rattle.pair_list.specs.LongestMatch.{matches, longest_match}
 use Rattle.pair_list.proofs.BestLaws.{best_agree}
 use Rattle.map_spec.specs.Map.{Map, map_source, map_target, map_size, match_source, match_target, map_by, map_source_to_target, map_target_to_source, eq_index, require_invertible, translate_to_target}

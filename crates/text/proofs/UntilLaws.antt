@@ -11,7 +11,7 @@ use lib.ListN.{length, take, drop, get_or, length-append, drop_of_length-le}
 use lib.Seq.{drop-cons, drop-append_seam, take-append_seam}
 use borrow.Author.Tests.{eqb-true}
 use Rattle.text.specs.Text.{Text, is_nil, ends_with_byte, lacks_byte, take_until, drop_until, drop_last}
-use Rattle.text.proofs.BoolLaws.{and_l, and_r, eqb_self}
+use Rattle.text.proofs.BoolLaws.{eqb_self}
 use Rattle.text.proofs.TextLaws.{lacks_first, lacks_rest}
 
 module _ (b : ℕ) where

@@ -2,7 +2,6 @@ use Rattle.batch.proofs.BatchLaws.{room_spot, room_block, room_number, step_byte
 use Rattle.batch.specs.Batch.{path_buffers, reply_numbers}
 use borrow.Author.Rules.{rules}
 use native.Mathlib.Omega.{arith}
-use Prim.Native.Nat.{◌-◌}
 use mathlib.Core.Path.{refl}
 use Rattle.text.proofs.Clauses.{out_after_replies_after}
 use Rattle.batch.proofs.map_each.Goals as goal
@@ -20,8 +19,7 @@ map_block-requires c =
     }
 
 pub loop-i-preserved : goal.loop-i-preserved
-loop-i-preserved c =
-    (
+loop-i-preserved c = (
   search rules,
   (step_bytes _ _ _ _ _ _ _ _ _ _ _ (room_block _ _ _ _ c.requires _ c.loop-i-test.true) c.loop-i.invariant.1
       c.map_block.ensures.out_after),

@@ -1,4 +1,3 @@
-use Prim.Native.Nat.{◌-◌}
 use Rattle.characters.proofs.CodeLaws.{allowed_not, allowed_on, allowed_inside, allowed_end}
 use borrow.Author.Rules.{rules}
 use Rattle.characters.proofs.decodes_allowed.Goals as goal

@@ -5,8 +5,6 @@ use Rattle.validate.proofs.SelectLaws.{select_few, select_present}
 use Rattle.close_leg.proofs.CloseBranches.{close_damaged, close_as, all_counted, active_counted, active_held}
 use borrow.Author.Rules.{rules}
 use Rattle.text.proofs.Clauses.{value_store_after_slots_after_table_after}
-use Rattle.text.proofs.Clauses.{value_store_after_slots_after_table_after}
-use Rattle.text.proofs.Clauses.{value_store_after_slots_after_table_after}
 use mathlib.Core.Path.{ap}
 use mathlib.Core.Bool.{not}
 use Rattle.close_leg.proofs.close.Goals as goal
@@ -15,11 +13,10 @@ pub returns-then-not-can_select : goal.returns-then-not-can_select
 returns-then-not-can_select c = value_store_after_slots_after_table_after (close_damaged _ _ _ _ _ _ c.can_select.ensures (ap not c.if-not-can_select.true))
 
 pub close_list-requires : goal.close_list-requires
-close_list-requires c =
-    (
-      select_few _ _ _ _ c.can_select.ensures (ap not c.if-not-can_select.false),
-      select_present _ _ _ _ c.can_select.ensures (ap not c.if-not-can_select.false),
-    )
+close_list-requires c = (
+  select_few _ _ _ _ c.can_select.ensures (ap not c.if-not-can_select.false),
+  select_present _ _ _ _ c.can_select.ensures (ap not c.if-not-can_select.false),
+)
 
 pub returns-then-not-relocates : goal.returns-then-not-relocates
 returns-then-not-relocates c =

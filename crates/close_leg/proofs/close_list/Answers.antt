@@ -4,7 +4,6 @@ use Rattle.map_canonical.proofs.KeptLaws.{canonical_read}
 use Rattle.close_leg.proofs.CloseBranches.{list_refused, list_fits, list_closed}
 use borrow.Author.Rules.{rules}
 use Rattle.text.proofs.Clauses.{value_store_after_slots_after_table_after}
-use Rattle.text.proofs.Clauses.{value_store_after_slots_after_table_after}
 use Rattle.close_leg.proofs.close_list.Goals as goal
 
 pub returns-in-Refused : goal.returns-in-Refused

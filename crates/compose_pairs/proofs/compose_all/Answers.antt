@@ -1,5 +1,4 @@
 use mathlib.Core.Path.{refl}
-use Prim.Native.Nat.{◌-◌}
 use native.Mathlib.Omega.{arith}
 use Rattle.map_spec.specs.Map.{lent_map}
 use Rattle.compose_pairs.proofs.ComposeBranches.{compose_begin, compose_room, compose_bound, compose_next, compose_end}
@@ -11,8 +10,7 @@ by_clause_packed_list : {A B : Type 0} → A × B → record { packed_list : A; 
 by_clause_packed_list t = record { packed_list = t.0; upper_bound = t.1 }
 
 pub loop-i-init : goal.loop-i-init
-loop-i-init c =
-    (
+loop-i-init c = (
   search rules,
   search rules,
   (let args = c.args in
@@ -32,8 +30,7 @@ compose_pair-at-requires c =
     }
 
 pub loop-i-preserved : goal.loop-i-preserved
-loop-i-preserved c =
-    (
+loop-i-preserved c = (
   search rules,
   (let args = c.args in
       compose_bound (lent_map args.store.now args.places.now args.count args.mark) c.requires.outer_ends args.istore.now

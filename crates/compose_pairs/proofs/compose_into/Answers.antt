@@ -3,7 +3,6 @@ use Rattle.map_spec.specs.Map.{lent_map}
 use Rattle.compose_pairs.proofs.ComposeFitsBranches.{enough_back}
 use Rattle.compose_pairs.proofs.PackLaws.{into_none, into_packed}
 use Rattle.text.proofs.Clauses.{value_bytes_after_slots_after}
-use Rattle.text.proofs.Clauses.{value_bytes_after_slots_after}
 use mathlib.Core.Path.{ap}
 use mathlib.Core.Bool.{not}
 use Rattle.compose_pairs.proofs.compose_into.Goals as goal

@@ -1,7 +1,5 @@
 use Rattle.compose_pairs.proofs.PlainMappingBranches.{composed_empty, composed_room, composed_none, composed_made}
 use Rattle.text.proofs.Clauses.{value_bytes_after}
-use Rattle.text.proofs.Clauses.{value_bytes_after}
-use Rattle.text.proofs.Clauses.{value_bytes_after}
 use Rattle.compose_pairs.proofs.composed_target_at.Goals as goal
 
 pub returns-then-target-eq0 : goal.returns-then-target-eq0

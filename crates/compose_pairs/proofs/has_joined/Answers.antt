@@ -1,4 +1,3 @@
-use Prim.Native.Nat.{◌-◌}
 use Rattle.compose_pairs.proofs.PullBackBranches.{joins}
 use borrow.Author.Rules.{rules}
 use Rattle.compose_pairs.proofs.has_joined.Goals as goal

@@ -1,6 +1,5 @@
 use Rattle.compose_pairs.proofs.PlainMappingBranches.{part_length, part_over, part_put}
 use Rattle.text.proofs.Clauses.{value_bytes_after}
-use Rattle.text.proofs.Clauses.{value_bytes_after}
 use Rattle.compose_pairs.proofs.join_at.Goals as goal
 
 pub returns-in-Written : goal.returns-in-Written

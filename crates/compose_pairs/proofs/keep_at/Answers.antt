@@ -1,6 +1,5 @@
 use Rattle.compose_pairs.proofs.PlainMappingBranches.{keep_none, keep_some}
 use Rattle.text.proofs.Clauses.{value_bytes_after}
-use Rattle.text.proofs.Clauses.{value_bytes_after}
 use mathlib.Core.Path.{ap}
 use mathlib.Core.Bool.{not}
 use Rattle.compose_pairs.proofs.keep_at.Goals as goal

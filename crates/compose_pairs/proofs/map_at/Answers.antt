@@ -4,8 +4,6 @@ use mathlib.Core.Bool.{false}
 use Rattle.compose_pairs.proofs.PlainMappingBranches.{map_none, map_block, map_join, room_of, answer_of}
 use Rattle.map_apply.proofs.MapBranches.{map_inside}
 use Rattle.text.proofs.Clauses.{value_bytes_after}
-use Rattle.text.proofs.Clauses.{value_bytes_after}
-use Rattle.text.proofs.Clauses.{value_bytes_after}
 use Rattle.compose_pairs.proofs.map_at.Goals as goal
 
 pub returns-then-not-f : goal.returns-then-not-f

@@ -1,5 +1,4 @@
 use mathlib.Core.Path.{refl}
-use Prim.Native.Nat.{◌-◌}
 use native.Mathlib.Omega.{arith}
 use Rattle.pair_list.specs.Places.{pairs_in}
 use Rattle.map_spec.specs.Map.{lent_map}
@@ -9,8 +8,7 @@ use borrow.Author.Rules.{rules}
 use Rattle.compose_pairs.proofs.pull_back_all.Goals as goal
 
 pub loop-i-init : goal.loop-i-init
-loop-i-init c =
-    (
+loop-i-init c = (
   search rules,
   omega arith,
   omega (arith, c.requires.at_bound),
@@ -28,16 +26,15 @@ pull_back_pair-b-requires c =
     let its-pairsIn = pairs_in args.bytes.now args.slots.now args.inner in record {
       packed = packed_stored _ _ _ _ _ _ _ c.loop-i.invariant.3;
       t_in_bounds = pull_room its-lentMap c.requires.can_compose.inner_ends its-pairsIn args.store.now args.places.now args.count c.requires.can_compose.outer_ends args.inner c.loop-i.i
-            c.loop-i-test.true c.loop-i.b.n c.loop-i.b.at c.loop-i.invariant.1 c.loop-i.invariant.2 _ _
-            c.key_at-s.ensures c.key_at-t.ensures _ (omega (arith, c.requires.can_compose.scratch.room, c.loop-i.invariant.4));
+          c.loop-i-test.true c.loop-i.b.n c.loop-i.b.at c.loop-i.invariant.1 c.loop-i.invariant.2 _ _
+          c.key_at-s.ensures c.key_at-t.ensures _ (omega (arith, c.requires.can_compose.scratch.room, c.loop-i.invariant.4));
       n_in_bounds = pull_slot its-lentMap c.requires.can_compose.inner_ends its-pairsIn args.store.now args.places.now args.count c.requires.can_compose.outer_ends args.inner c.loop-i.i
-            c.loop-i-test.true c.loop-i.b.n c.loop-i.b.at c.loop-i.invariant.1 c.loop-i.invariant.2 _ _
-            c.key_at-s.ensures c.key_at-t.ensures _ (omega (arith, c.requires.can_compose.scratch.entries, c.loop-i.invariant.5));
+          c.loop-i-test.true c.loop-i.b.n c.loop-i.b.at c.loop-i.invariant.1 c.loop-i.invariant.2 _ _
+          c.key_at-s.ensures c.key_at-t.ensures _ (omega (arith, c.requires.can_compose.scratch.entries, c.loop-i.invariant.5));
     }
 
 pub loop-i-preserved : goal.loop-i-preserved
-loop-i-preserved c =
-    (
+loop-i-preserved c = (
   search rules,
   (let args = c.args in
       pull_number (lent_map args.istore.now args.iplaces.now args.inner args.mark) c.requires.can_compose.inner_ends

@@ -28,12 +28,12 @@ add_joined-requires c =
     let its-mapPlainly = map_plainly true (lent_map args.store.now args.places.now args.count args.mark) args.s.now in record {
       packed = c.requires.packed;
       t_in_bounds = pull_fits (pairs_in args.bytes.now args.slots.now args.b.n) args.t.now its-mapPlainly args.b.n args.b.at
-            args.bytes.now args.slots.now _
-            (pull_marked args.s.now its-mapPlainly args.mark
-            (map_none args.store.now args.places.now args.count args.mark args.s.now true c.best_prefix-f.result
-            c.best_prefix-f.ensures c.if-not-f.true)
-            (ap not c.if-not-mark.false))
-            c.requires.t_in_bounds;
+          args.bytes.now args.slots.now _
+          (pull_marked args.s.now its-mapPlainly args.mark
+          (map_none args.store.now args.places.now args.count args.mark args.s.now true c.best_prefix-f.result
+          c.best_prefix-f.ensures c.if-not-f.true)
+          (ap not c.if-not-mark.false))
+          c.requires.t_in_bounds;
       n_in_bounds = c.requires.n_in_bounds;
     }
 
@@ -67,11 +67,11 @@ add_joined-requires-2 c =
     record {
       packed = c.requires.packed;
       t_in_bounds = pull_fits (pairs_in args.bytes.now args.slots.now args.b.n) args.t.now
-            (map_plainly true (lent_map args.store.now args.places.now args.count args.mark) args.s.now) args.b.n args.b.at
-            args.bytes.now args.slots.now _
-            (home_join args.store.now args.places.now args.count args.mark args.s.now true c.best_prefix-f.result
-            c.best_prefix-f.ensures c.if-not-f.false refl _ _ c.key_at-old.ensures c.key_at-new.ensures)
-            c.requires.t_in_bounds;
+          (map_plainly true (lent_map args.store.now args.places.now args.count args.mark) args.s.now) args.b.n args.b.at
+          args.bytes.now args.slots.now _
+          (home_join args.store.now args.places.now args.count args.mark args.s.now true c.best_prefix-f.result
+          c.best_prefix-f.ensures c.if-not-f.false refl _ _ c.key_at-old.ensures c.key_at-new.ensures)
+          c.requires.t_in_bounds;
       n_in_bounds = c.requires.n_in_bounds;
     }
 

@@ -1,7 +1,6 @@
 use mathlib.Core.Path.{refl}
 use Rattle.ffi_values.specs.MapCode.{map_code, map_time}
 use Rattle.text.proofs.Clauses.{value_time_after}
-use Rattle.text.proofs.Clauses.{value_time_after}
 use Rattle.ffi_values.proofs.map_code.Goals as goal
 
 pub returns-in-Made : goal.returns-in-Made

@@ -10,8 +10,7 @@ pub returns-in_default : goal.returns-in_default
 returns-in_default c = frame_bad _ _ c.decode_frame-d.ensures _ _ _ _ _ c.in_default.is c.write_line-end.ensures
 
 pub apply_frame-a-requires : goal.apply_frame-a-requires
-apply_frame-a-requires c =
-    (
+apply_frame-a-requires c = (
   search rules,
   (header_within _ _ _ _ c.decode_frame-d.ensures c.in-Frame.is),
 )
@@ -24,9 +23,9 @@ write_reply-end-requires c =
     record {
       payload_fits = (frame_fits _ _ c.decode_frame-d.ensures _ 0 0 [] [] _ _ c.in-Frame.is _ _ _ _ c.apply_frame-a.ensures);
       payload_len = (
-    search rules,
-    (c.requires),
-  );
+        search rules,
+        (c.requires),
+      );
     }
 
 pub returns : goal.returns

@@ -1,6 +1,5 @@
 use Rattle.hex_digits.proofs.DecodeLaws.{testing}
 use borrow.Author.Rules.{rules}
-use Prim.Native.Nat.{◌-◌}
 use Rattle.hex_digits.proofs.all_digits.Goals as goal
 
 pub loop-i-init : goal.loop-i-init

@@ -1,6 +1,5 @@
 use Rattle.hex_digits.proofs.DecodeLaws.{decoding}
 use borrow.Author.Rules.{rules}
-use Prim.Native.Nat.{◌-◌}
 use Rattle.hex_digits.proofs.decode.Goals as goal
 
 pub overflow_mul-n : goal.overflow_mul-n

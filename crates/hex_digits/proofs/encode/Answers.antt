@@ -1,6 +1,5 @@
 use Rattle.hex_digits.proofs.EncodeLaws.{encoding}
 use borrow.Author.Rules.{rules}
-use Prim.Native.Nat.{◌-◌}
 use Rattle.hex_digits.proofs.encode.Goals as goal
 
 pub returns-then-out-at : goal.returns-then-out-at

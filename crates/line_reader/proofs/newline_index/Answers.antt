@@ -1,6 +1,5 @@
 use Rattle.line_reader.proofs.TakeLaws.{newlines}
 use borrow.Author.Rules.{rules}
-use Prim.Native.Nat.{◌-◌}
 use Rattle.line_reader.proofs.newline_index.Goals as goal
 
 pub returns-then-block-i-eq10 : goal.returns-then-block-i-eq10

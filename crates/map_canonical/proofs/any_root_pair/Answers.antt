@@ -1,4 +1,3 @@
-use Prim.Native.Nat.{◌-◌}
 use Rattle.map_canonical.proofs.KeepBranches.{rooting}
 use borrow.Author.Rules.{rules}
 use Rattle.map_canonical.proofs.any_root_pair.Goals as goal

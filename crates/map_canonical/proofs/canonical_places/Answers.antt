@@ -2,7 +2,6 @@ use Rattle.map_spec.specs.New.{is_redundant}
 use Rattle.validate.proofs.SelectLaws.{select_few, select_present, select_room}
 use Rattle.map_canonical.proofs.LevelBranches.{places_none, places_made}
 use Rattle.text.proofs.Clauses.{value_kept_after}
-use Rattle.text.proofs.Clauses.{value_kept_after}
 use mathlib.Core.Path.{ap}
 use mathlib.Core.Bool.{not}
 use Rattle.map_canonical.proofs.canonical_places.Goals as goal

@@ -1,6 +1,5 @@
 use mathlib.Core.Path.{refl}
 use native.Mathlib.Omega.{arith}
-use Prim.Native.Nat.{◌-◌}
 use Rattle.map_spec.specs.New.{is_redundant}
 use Rattle.map_canonical.proofs.LevelBranches.{levels_none, levels_on, levels_room, levels_end, top_room}
 use borrow.Author.Rules.{rules}

@@ -1,6 +1,5 @@
 use mathlib.Core.Path.{refl}
 use native.Mathlib.Omega.{arith}
-use Prim.Native.Nat.{◌-◌}
 use lib.ListN.{length-set}
 use Rattle.map_canonical.proofs.KeepBranches.{counted_none, most_none, counted_on, most_on, counted_end, most_end}
 use borrow.Author.Rules.{rules}
@@ -13,8 +12,7 @@ pub bounds-keys-i : goal.bounds-keys-i
 bounds-keys-i c = omega (arith, c.loop-i-test.true, c.loop-i.invariant.1)
 
 pub loop-i-preserved : goal.loop-i-preserved
-loop-i-preserved c =
-    (
+loop-i-preserved c = (
   search rules,
   simp length-set (omega (arith, c.loop-i.invariant.1)),
   (counted_on _ _ _ _ _ _ (omega (arith, c.loop-i-test.true, c.loop-i.invariant.1)) c.key_at.ensures

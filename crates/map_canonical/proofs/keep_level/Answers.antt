@@ -1,6 +1,5 @@
 use mathlib.Core.Path.{refl}
 use native.Mathlib.Omega.{arith}
-use Prim.Native.Nat.{◌-◌}
 use Rattle.map_spec.specs.New.{is_redundant}
 use Rattle.map_canonical.proofs.KeepBranches.{counted_at}
 use Rattle.map_canonical.proofs.LevelBranches.{level_none, level_held, level_room, level_count, level_on, level_end}
@@ -19,8 +18,7 @@ pub loop-i-preserved : goal.loop-i-preserved
 loop-i-preserved c =
     let l = c.loop-i in
     let k = counted_at _ _ _ _ _ c.loop-i-test.true c.requires.holds_element_counts in
-    let more = c.loop-i-test.true in
-    (
+    let more = c.loop-i-test.true in (
       search rules,
       level_on _ _ _ is_redundant _ _ _ _ _ _ _ k l.invariant.1 (omega (arith, more, c.requires.n_in_bounds.0)) (level_room _ _ _ is_redundant _ _ _ _ _ k _ l.invariant.2 _ _ more c.requires.n_in_bounds_2 l.invariant.3) _ _ c.keep_pair-k.ensures.value c.keep_pair-k.ensures.kept_after,
       level_count _ _ _ is_redundant _ _ _ _ _ k _ l.invariant.2 _ c.keep_pair-k.ensures.value,

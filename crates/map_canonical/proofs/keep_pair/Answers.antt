@@ -2,9 +2,6 @@ use Rattle.map_canonical.proofs.KeepBranches.{pair_other, pair_roots, pair_impli
 use Rattle.map_spec.specs.New.{is_redundant}
 use borrow.Author.Rules.{rules}
 use Rattle.text.proofs.Clauses.{value_kept_after}
-use Rattle.text.proofs.Clauses.{value_kept_after}
-use Rattle.text.proofs.Clauses.{value_kept_after}
-use Rattle.text.proofs.Clauses.{value_kept_after}
 use Rattle.map_canonical.proofs.keep_pair.Goals as goal
 
 pub returns-then-key-e : goal.returns-then-key-e

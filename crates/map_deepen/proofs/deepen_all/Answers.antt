@@ -1,7 +1,6 @@
 use Rattle.map_spec.specs.Derive.{deepened_pair}
 use Rattle.pair_list.specs.Pair.{Pair}
 use native.Mathlib.Omega.{arith}
-use Prim.Native.Nat.{◌-◌}
 use mathlib.Core.Path.{refl}
 use Rattle.map_deepen.proofs.DeepenBranches.{deepened_pair_lem}
 use Rattle.pair_buffer.proofs.LengthLaws.{short_source, short_target}
@@ -10,8 +9,7 @@ use borrow.Author.Rules.{rules}
 use Rattle.map_deepen.proofs.deepen_all.Goals as goal
 
 pub loop-i-init : goal.loop-i-init
-loop-i-init c =
-    (
+loop-i-init c = (
   search rules,
   search rules,
   (let args = c.args in
@@ -27,7 +25,7 @@ deepen_pair-at-requires c =
       s_len_bound = short_source args.store.now args.places.now args.n c.loop-i.i c.loop-i-test.true c.requires.n_value _
           c.key_at-s.ensures;
       t_len_bound = short_target args.store.now args.places.now args.n c.loop-i.i c.loop-i-test.true c.requires.n_value _
-            c.key_at-t.ensures;
+          c.key_at-t.ensures;
       node_len_bound = c.requires.node_len_bound;
       below_len_bound = c.requires.below_len_bound;
       at_in_bounds = omega (arith, c.requires.scratch_room.room, c.loop-i.invariant.1, c.loop-i.invariant.3, c.loop-i-test.true);
@@ -35,8 +33,7 @@ deepen_pair-at-requires c =
     }
 
 pub loop-i-preserved : goal.loop-i-preserved
-loop-i-preserved c =
-    (
+loop-i-preserved c = (
   search rules,
   (omega (arith, c.deepen_pair-at.ensures.upper_bound, c.loop-i.invariant.1)),
   (let args = c.args in

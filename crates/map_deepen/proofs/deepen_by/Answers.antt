@@ -27,7 +27,7 @@ deepen_pairs-requires c =
       valid_list = c.requires.valid_list;
       node_len_bound = c.requires.node_len_bound;
       below_len_bound = (below_made args.store.now args.places.now args.map.count args.i c.requires.i_lt_count c.requires.valid_list.shorts args.node.now _ _ c.requires.node_len_bound
-            c.key_at-new.ensures _ _ _ refl (c.replace_into-k.ensures.value, c.replace_into-k.ensures.out_after)).part_short;
+          c.key_at-new.ensures _ _ _ refl (c.replace_into-k.ensures.value, c.replace_into-k.ensures.out_after)).part_short;
     }
 
 pub returns : goal.returns

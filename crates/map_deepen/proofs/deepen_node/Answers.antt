@@ -35,10 +35,10 @@ deepen_by-requires c =
       valid_list = sound args.store.now args.places.now args.map args.path.now args.node.now args.out.now args.slots.now (pre) _
           c.validate_call-q.ensures c.in_default.is;
       node_len_bound = deepen_node_short args.store.now args.places.now args.map args.path.now args.node.now args.out.now args.slots.now
-            (pre) _ c.validate_call-q.ensures c.in_default.is;
+          (pre) _ c.validate_call-q.ensures c.in_default.is;
       i_lt_count = deepen_inside args.store.now args.places.now args.map args.path.now args.node.now args.out.now args.slots.now
-            (pre) _ c.validate_call-q.ensures c.in_default.is _ c.has_source.ensures
-            c.if-has_source.false c.find_class-f.result c.find_class-f.ensures c.if-not-f.false;
+          (pre) _ c.validate_call-q.ensures c.in_default.is _ c.has_source.ensures
+          c.if-has_source.false c.find_class-f.result c.find_class-f.ensures c.if-not-f.false;
     }
 
 pub returns : goal.returns

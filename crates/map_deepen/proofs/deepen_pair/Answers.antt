@@ -2,7 +2,6 @@ use Rattle.pair_list_write.proofs.PushBranches.{pair_there}
 use native.Mathlib.Omega.{arith}
 use Rattle.map_deepen.proofs.DeepenBranches.{deepen_class, deepen_other}
 use Rattle.text.proofs.Clauses.{appended_pair_upper_bound}
-use Rattle.text.proofs.Clauses.{appended_pair_upper_bound}
 use Rattle.map_deepen.proofs.deepen_pair.Goals as goal
 
 pub returns-then-is_equal : goal.returns-then-is_equal

@@ -1,4 +1,3 @@
-use Prim.Native.Nat.{◌-◌}
 use mathlib.Core.Path.{ap}
 use Rattle.text.specs.Text.{Text}
 use Rattle.path_prefix.specs.Prefix.{has_prefix}

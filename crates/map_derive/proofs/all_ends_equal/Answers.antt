@@ -1,4 +1,3 @@
-use Prim.Native.Nat.{◌-◌}
 use Rattle.map_derive.proofs.ListBranches.{same_none, same_not, same_on, same_end}
 use borrow.Author.Rules.{rules}
 use mathlib.Core.Path.{ap}
@@ -14,8 +13,7 @@ returns-then-not-is_equal c =
     c.loop-i-test.true (ap not c.if-not-is_equal.true)
 
 pub loop-i-preserved : goal.loop-i-preserved
-loop-i-preserved c =
-    (
+loop-i-preserved c = (
   search rules,
   (same_on _ _ _ _ _ c.key_at-s.ensures c.key_at.ensures _ c.is_equal.ensures c.loop-i.invariant.1
       (ap not c.if-not-is_equal.false)),

@@ -1,6 +1,5 @@
 use native.Mathlib.Omega.{arith}
 use mathlib.Core.Path.{refl}
-use Prim.Native.Nat.{◌-◌}
 use Rattle.map_derive.proofs.SwapLaws.{swap_beyond, swap_room, swap_none, swap_on, swap_end}
 use borrow.Author.Rules.{rules}
 use Rattle.map_derive.proofs.swap_ends.Goals as goal
@@ -15,8 +14,7 @@ pub loop-i-init : goal.loop-i-init
 loop-i-init c = (search rules, swap_none c.args.places.now _, refl)
 
 pub loop-i-preserved : goal.loop-i-preserved
-loop-i-preserved c =
-    (
+loop-i-preserved c = (
   search rules,
   (swap_on _ _ _ _ c.loop-i.invariant.1 (omega arith) _ c.write_entry.ensures),
   search rules,

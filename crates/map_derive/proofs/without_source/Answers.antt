@@ -1,6 +1,5 @@
 use mathlib.Core.Path.{refl}
 use native.Mathlib.Omega.{arith}
-use Prim.Native.Nat.{◌-◌}
 use Rattle.map_derive.proofs.ListBranches.{without_none, without_on, without_room, without_end}
 use borrow.Author.Rules.{rules}
 use Rattle.map_derive.proofs.without_source.Goals as goal

@@ -1,7 +1,6 @@
 use lib.Ieee.{of_bits}
 use Rattle.map_implied_class.proofs.ImpliedBranches.{finished_whole, finished_parts, finish_done}
 use Rattle.text.proofs.Clauses.{value_out_after_slots_after}
-use Rattle.text.proofs.Clauses.{value_out_after_slots_after}
 use Rattle.map_implied_class.proofs.finish_map.Goals as goal
 
 pub returns-then-whole : goal.returns-then-whole

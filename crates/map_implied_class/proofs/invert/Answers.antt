@@ -9,9 +9,9 @@ finish_map-requires c =
     record {
       n_bound = search rules;
       slots_value = (let args = c.args in
-      invert_room args.store.now args.places.now _ args.n
-      (swapped_list _ _ _ _ _ c.swap_ends.ensures c.requires.n_bound.1 (omega (arith, c.requires.n_bound.0))) _ _ c.requires.n_bound.0 c.requires.n_value c.requires.in_bounds
-      c.requires.in_bounds_2);
+          invert_room args.store.now args.places.now _ args.n
+          (swapped_list _ _ _ _ _ c.swap_ends.ensures c.requires.n_bound.1 (omega (arith, c.requires.n_bound.0))) _ _ c.requires.n_bound.0 c.requires.n_value c.requires.in_bounds
+          c.requires.in_bounds_2);
     }
 
 pub returns : goal.returns

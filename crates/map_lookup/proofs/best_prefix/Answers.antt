@@ -1,6 +1,5 @@
 use Rattle.map_lookup.proofs.LookupBranches.{searching, held_there, least_left, least_right, kept_none, kept_short, kept_on}
 use borrow.Author.Rules.{rules}
-use Prim.Native.Nat.{◌-◌}
 use Rattle.map_lookup.proofs.best_prefix.Goals as goal
 
 -- the clauses by their names
@@ -8,8 +7,7 @@ by_clause_limit_in_bounds : {A B C D : Type 0} → A × (B × (C × D)) → reco
 by_clause_limit_in_bounds t = record { limit_in_bounds = t.0; limit_in_bounds_2 = t.1.0; limit_value = t.1.1.0; covered_in_bounds = t.1.1.1 }
 
 pub loop-i-init : goal.loop-i-init
-loop-i-init c =
-    (
+loop-i-init c = (
   search rules,
   held_there _ _ _ _ _ c.key_count-present.ensures c.key_offset-offset.ensures,
   least_left _ _ _ c.min-limit.ensures,

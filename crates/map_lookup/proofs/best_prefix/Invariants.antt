@@ -8,7 +8,7 @@ use Rattle.pair_list.specs.LongestMatch.{longest_match}
 use Rattle.map_lookup.proofs.best_prefix.Given as goal
 
 abbrev pub invariant-loop-i : goal.invariant-loop-i
-invariant-loop-i l =     (l.i ≤ l.present) × (4 * l.present + l.offset ≤ length l.places + 2) × (l.limit ≤ length l.store) × (l.limit ≤ length l.path)
+invariant-loop-i l = (l.i ≤ l.present) × (4 * l.present + l.offset ≤ length l.places + 2) × (l.limit ≤ length l.store) × (l.limit ≤ length l.path)
     × (l.f ≡ match_kept (key_at l.store l.places l.invert) (longest_match l.path (key_at l.store l.places l.invert) l.i))
 
 abbrev pub decreases-loop-i : goal.decreases-loop-i

@@ -1,5 +1,4 @@
 use borrow.Author.Rules.{rules}
-use Prim.Native.Nat.{◌-◌}
 use Rattle.map_lookup.proofs.LookupBranches.{held_there, least_left, least_right, key_is}
 use Rattle.map_lookup.proofs.OtherWinsBranches.{unbeaten_none, unbeaten_on, best_after, best_unserved, best_lost, best_found}
 use mathlib.Core.Path.{ap}

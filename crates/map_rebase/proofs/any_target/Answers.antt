@@ -1,4 +1,3 @@
-use Prim.Native.Nat.{◌-◌}
 use borrow.Author.Rules.{rules}
 use Rattle.map_rebase.proofs.RebaseBranches.{targets}
 use Rattle.map_rebase.proofs.any_target.Goals as goal

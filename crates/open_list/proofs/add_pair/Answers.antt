@@ -2,7 +2,6 @@
 use native.Mathlib.Omega.{arith}
 use Rattle.open_list.proofs.AddBranches.{pair_refused, passed_fits, pair_added}
 use Rattle.text.proofs.Clauses.{value_bytes_after_places_after}
-use Rattle.text.proofs.Clauses.{value_bytes_after_places_after}
 use Rattle.open_list.proofs.add_pair.Goals as goal
 
 pub returns-in-Refused : goal.returns-in-Refused

@@ -1,4 +1,3 @@
-use Prim.Native.Nat.{◌-◌}
 use Rattle.pair_buffer.proofs.ShortBranches.{shorts, short_on}
 use borrow.Author.Rules.{rules}
 use Rattle.pair_buffer.proofs.all_at_most.Goals as goal
@@ -25,8 +24,7 @@ pub loop-i-smaller : goal.loop-i-smaller
 loop-i-smaller c = search (rules, shorts)
 
 pub loop-i-preserved : goal.loop-i-preserved
-loop-i-preserved c =
-    (
+loop-i-preserved c = (
   search rules,
   (short_on _ _ _ c.args.n _ c.loop-i-test.true _ c.key_at.ensures _ c.key_at-in-loop-i.ensures
       c.if-most-key_at.false c.if-most-key_at-2.false c.loop-i.invariant.1),

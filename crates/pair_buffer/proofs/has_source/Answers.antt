@@ -1,5 +1,4 @@
 use borrow.Author.Rules.{rules}
-use Prim.Native.Nat.{◌-◌}
 use Rattle.pair_buffer.proofs.SourceLaws.{sources}
 use Rattle.pair_buffer.proofs.has_source.Goals as goal
 

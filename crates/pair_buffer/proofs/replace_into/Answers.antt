@@ -1,9 +1,6 @@
 use native.Mathlib.Omega.{arith}
 use Rattle.pair_buffer.proofs.EndBranches.{replace_long, replace_not, replace_start, replace_made, replace_over}
 use Rattle.text.proofs.Clauses.{value_out_after}
-use Rattle.text.proofs.Clauses.{value_out_after}
-use Rattle.text.proofs.Clauses.{value_out_after}
-use Rattle.text.proofs.Clauses.{value_out_after}
 use mathlib.Core.Path.{ap}
 use mathlib.Core.Bool.{not}
 use Rattle.pair_buffer.proofs.replace_into.Goals as goal

@@ -1,6 +1,5 @@
 use Rattle.pair_list.proofs.PlaceBranches.{placing}
 use borrow.Author.Rules.{rules}
-use Prim.Native.Nat.{◌-◌}
 use Rattle.pair_list.proofs.all_ends.Goals as goal
 
 pub loop-j-init : goal.loop-j-init

@@ -1,12 +1,8 @@
 use mathlib.Core.Path.{refl}
-use Prim.Native.Nat.{◌-◌}
 use native.Mathlib.Omega.{arith}
 use Rattle.pair_list_write.proofs.WriteBranches.{list_few, list_outside, list_full, at_begin, text_begin, slots_begin, list_fits, list_done}
 use Rattle.pair_list_write.proofs.PushBranches.{append_next}
 use borrow.Author.Rules.{rules}
-use Rattle.text.proofs.Clauses.{value_out_after_slots_after}
-use Rattle.text.proofs.Clauses.{value_out_after_slots_after}
-use Rattle.text.proofs.Clauses.{value_out_after_slots_after}
 use Rattle.text.proofs.Clauses.{value_out_after_slots_after}
 use mathlib.Core.Path.{ap}
 use mathlib.Core.Bool.{not}
@@ -22,8 +18,7 @@ pub returns-then-not-list_fits : goal.returns-then-not-list_fits
 returns-then-not-list_fits c = value_out_after_slots_after (list_full _ _ _ _ _ _ c.if-out-at.false _ c.list_fits.ensures (ap not c.if-not-list_fits.true))
 
 pub loop-i-init : goal.loop-i-init
-loop-i-init c =
-    (
+loop-i-init c = (
   search rules,
   list_fits _ _ _ _ _ c.if-out-at.false _ c.list_fits.ensures (ap not c.if-not-list_fits.false),
   (let args = c.args in
@@ -33,8 +28,7 @@ loop-i-init c =
 )
 
 pub loop-i-preserved : goal.loop-i-preserved
-loop-i-preserved c =
-    (
+loop-i-preserved c = (
   search rules,
   c.loop-i.invariant.1,
   (append_next _ _ _ _ _ _ _ _ _ _ c.loop-i-test.true c.loop-i.invariant.1 c.loop-i.invariant.3

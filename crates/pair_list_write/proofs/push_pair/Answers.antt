@@ -2,10 +2,6 @@
 use native.Mathlib.Omega.{arith}
 use Rattle.pair_list_write.proofs.PushBranches.{pair_long, pair_many, pair_pushed}
 use Rattle.text.proofs.Clauses.{value_bytes_after_slots_after}
-use Rattle.text.proofs.Clauses.{value_bytes_after_slots_after}
-use Rattle.text.proofs.Clauses.{value_bytes_after_slots_after}
-use Rattle.text.proofs.Clauses.{value_bytes_after_slots_after}
-use Rattle.text.proofs.Clauses.{value_bytes_after_slots_after}
 use Rattle.pair_list_write.proofs.push_pair.Goals as goal
 
 pub returns-then-bytes-at : goal.returns-then-bytes-at

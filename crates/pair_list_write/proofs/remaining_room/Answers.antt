@@ -1,6 +1,5 @@
 use Rattle.pair_list_write.proofs.RoomBranches.{rooms}
 use borrow.Author.Rules.{rules}
-use Prim.Native.Nat.{◌-◌}
 use Rattle.pair_list_write.proofs.remaining_room.Goals as goal
 
 pub loop-i-init : goal.loop-i-init

@@ -4,8 +4,6 @@ use Rattle.path_derive.proofs.UnfoldedCalls.{ancestors_unfolded}
 use Rattle.refusal.proofs.CallBranches.{unless_refused, unless_passed}
 use Rattle.path_derive.proofs.PartBranches.{listed_written, listed_over, listed_memory, listed_kept}
 use Rattle.text.proofs.Clauses.{value_lengths_after}
-use Rattle.text.proofs.Clauses.{value_lengths_after}
-use Rattle.text.proofs.Clauses.{value_lengths_after}
 use Rattle.path_derive.proofs.ancestors.Goals as goal
 
 pub returns-in-Refused : goal.returns-in-Refused

@@ -1,4 +1,3 @@
-use Prim.Native.Nat.{◌-◌}
 use native.Mathlib.Omega.{arith}
 use borrow.Author.Rules.{rules}
 use Rattle.path_grammar.proofs.CodeLaws.{seen_on, end_scanning, end_on}
@@ -17,8 +16,7 @@ pub loop-i-init : goal.loop-i-init
 loop-i-init c = search (rules, end_scanning)
 
 pub loop-i-preserved : goal.loop-i-preserved
-loop-i-preserved c =
-    (
+loop-i-preserved c = (
   search rules,
   end_on c.args.p.now _ _ _ (search rules) c.loop-i.invariant.1 (omega (arith, c.shared_slice_known-in-loop-i-1.given c.loop-i.i)) c.next_in_end-state.ensures,
   seen_on c.args.p.now c.loop-i.seen c.loop-i.i (search rules) c.loop-i.invariant.2,

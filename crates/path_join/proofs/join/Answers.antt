@@ -1,7 +1,6 @@
 -- The three writes, each where the one before it ends, are one write of the joined text.
 use Rattle.path_join.proofs.JoinBranches.{join_over, join_fits}
 use Rattle.text.proofs.Clauses.{value_out_after}
-use Rattle.text.proofs.Clauses.{value_out_after}
 use Rattle.path_join.proofs.join.Goals as goal
 
 pub returns-then-out-len : goal.returns-then-out-len

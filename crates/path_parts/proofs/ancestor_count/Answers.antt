@@ -1,6 +1,5 @@
 use Rattle.path_parts.proofs.ScanLaws.{counts}
 use borrow.Author.Rules.{rules}
-use Prim.Native.Nat.{◌-◌}
 use Rattle.path_parts.proofs.ancestor_count.Goals as goal
 
 pub loop-count-init : goal.loop-count-init

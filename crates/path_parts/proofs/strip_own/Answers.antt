@@ -1,6 +1,5 @@
 use Rattle.path_parts.proofs.EmitLaws.{strips}
 use borrow.Author.Rules.{rules}
-use Prim.Native.Nat.{◌-◌}
 use Rattle.path_parts.proofs.strip_own.Goals as goal
 
 pub loop-i-init : goal.loop-i-init

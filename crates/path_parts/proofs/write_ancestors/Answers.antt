@@ -1,6 +1,5 @@
 use Rattle.path_parts.proofs.ScanLaws.{writes}
 use borrow.Author.Rules.{rules}
-use Prim.Native.Nat.{◌-◌}
 use Rattle.path_parts.proofs.write_ancestors.Goals as goal
 
 pub ancestor_count-count-requires : goal.ancestor_count-count-requires

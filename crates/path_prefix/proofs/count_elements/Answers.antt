@@ -1,6 +1,5 @@
 use Rattle.path_prefix.proofs.CountBranches.{counts}
 use borrow.Author.Rules.{rules}
-use Prim.Native.Nat.{◌-◌}
 use Rattle.path_prefix.proofs.count_elements.Goals as goal
 
 pub loop-i-init : goal.loop-i-init

@@ -1,4 +1,3 @@
-use Prim.Native.Nat.{◌-◌}
 use borrow.Author.Rules.{rules}
 use Rattle.path_target.proofs.TargetBranches.{closing}
 use Rattle.path_target.proofs.close_len.Goals as goal

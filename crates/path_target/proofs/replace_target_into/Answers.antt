@@ -2,8 +2,6 @@
 use Rattle.path_target.proofs.TargetBranches.{between_end, open_fits, kept_sum, replaced_nothing, replaced_over, replaced_fits, head_size}
 use borrow.Author.Rules.{rules}
 use Rattle.text.proofs.Clauses.{value_out_after}
-use Rattle.text.proofs.Clauses.{value_out_after}
-use Rattle.text.proofs.Clauses.{value_out_after}
 use Rattle.path_target.proofs.replace_target_into.Goals as goal
 
 pub returns-in_default : goal.returns-in_default

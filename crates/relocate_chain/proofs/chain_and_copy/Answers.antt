@@ -1,7 +1,6 @@
 use Rattle.relocate_chain.proofs.CallBranches.{out_stopped, out_part, out_inside, out_chained}
 use borrow.Author.Rules.{rules}
 use Rattle.text.proofs.Clauses.{value_out_after}
-use Rattle.text.proofs.Clauses.{value_out_after}
 use Rattle.relocate_chain.proofs.chain_and_copy.Goals as goal
 
 pub slice_bounds-current-end : goal.slice_bounds-current-end

@@ -3,8 +3,6 @@ use mathlib.Core.Path.{refl, ◌∙◌}
 use Rattle.relocate_chain.specs.Calls.{skipped_source}
 use Rattle.relocate_chain.proofs.CallBranches.{validate_skip, chain_refused, chain_no_room, chain_short_path, chain_passed}
 use Rattle.text.proofs.Clauses.{value_out_after}
-use Rattle.text.proofs.Clauses.{value_out_after}
-use Rattle.text.proofs.Clauses.{value_out_after}
 use Rattle.relocate_chain.proofs.chain_through_relocates.Goals as goal
 
 pub returns-in-Refused : goal.returns-in-Refused

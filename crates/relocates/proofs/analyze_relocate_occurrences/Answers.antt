@@ -1,8 +1,6 @@
 use lib.ListN.{length}
 use Rattle.relocates.proofs.AnalyzeBranches.{analyze_few, analyze_refused, analyze_short, analyze_written}
 use Rattle.text.proofs.Clauses.{value_out_after}
-use Rattle.text.proofs.Clauses.{value_out_after}
-use Rattle.text.proofs.Clauses.{value_out_after}
 use Rattle.relocates.proofs.analyze_relocate_occurrences.Goals as goal
 
 pub returns-in-Refused : goal.returns-in-Refused

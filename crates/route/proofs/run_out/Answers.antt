@@ -1,7 +1,6 @@
 use borrow.Author.Rules.{rules}
 use Rattle.route.proofs.RunBranches.{holds_size, out_begin, out_on, out_stopped, out_end}
 use Rattle.route.proofs.UnalteredBranches.{refused_run, out_first, out_fewer, out_all}
-use Prim.Native.Nat.{◌-◌}
 use Rattle.route.proofs.run_out.Goals as goal
 
 pub loop-k-init : goal.loop-k-init

@@ -1,5 +1,4 @@
 use borrow.Author.Rules.{rules}
-use Prim.Native.Nat.{◌-◌}
 use Rattle.route_legs.proofs.ValidateBranches.{lists_none, lists_on, lists_end}
 use Rattle.route_legs.proofs.validate_leg_lists.Goals as goal
 

@@ -1,6 +1,5 @@
 use native.Mathlib.Omega.{arith}
 use borrow.Author.Rules.{rules}
-use Prim.Native.Nat.{◌-◌}
 use mathlib.Core.Path.{refl}
 use Rattle.route_maps.proofs.PrepareBranches.{copy_none, copy_on, copy_end}
 use Rattle.route_maps.proofs.copy_pairs.Goals as goal
@@ -9,8 +8,7 @@ pub loop-i-init : goal.loop-i-init
 loop-i-init c = (search rules, copy_none _ _, refl)
 
 pub loop-i-preserved : goal.loop-i-preserved
-loop-i-preserved c =
-    (
+loop-i-preserved c = (
   search rules,
   (copy_on _ _ _ _ _ (omega (arith, c.requires.0, c.loop-i-test.true))
       (omega (arith, c.requires.1, c.loop-i-test.true, c.loop-i.invariant.2)) c.loop-i.invariant.1

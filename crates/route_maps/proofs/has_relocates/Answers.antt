@@ -1,5 +1,4 @@
 use borrow.Author.Rules.{rules}
-use Prim.Native.Nat.{◌-◌}
 use Rattle.route_maps.proofs.PreparedLaws.{relocates_none, relocates_found, relocates_on, relocates_end}
 use Rattle.route_maps.proofs.has_relocates.Goals as goal
 

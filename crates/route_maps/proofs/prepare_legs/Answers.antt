@@ -1,12 +1,8 @@
 use Rattle.route_maps.proofs.PrepareBranches.{legs_over, legs_short, legs_small, places_none, table_none, places_on, table_on, legs_end}
 use Rattle.route_maps.specs.Prepare.{prepared_entry}
 use Rattle.route_legs.specs.LentRoute.{list_at}
-use Prim.Native.Nat.{◌-◌}
 use borrow.Author.Rules.{rules}
 use native.Mathlib.Omega.{arith}
-use Rattle.text.proofs.Clauses.{made_after_table_after}
-use Rattle.text.proofs.Clauses.{made_after_table_after}
-use Rattle.text.proofs.Clauses.{made_after_table_after}
 use Rattle.text.proofs.Clauses.{made_after_table_after}
 use Rattle.route_maps.proofs.prepare_legs.Goals as goal
 

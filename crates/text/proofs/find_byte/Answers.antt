@@ -1,4 +1,3 @@
-use Prim.Native.Nat.{◌-◌}
 use borrow.Author.Rules.{rules}
 use Rattle.text.proofs.UntilLaws.{finding}
 use Rattle.text.proofs.find_byte.Goals as goal

@@ -1,6 +1,5 @@
 use Rattle.text.proofs.TextLaws.{texts}
 use borrow.Author.Rules.{rules}
-use Prim.Native.Nat.{◌-◌}
 use Rattle.text.proofs.lacks_byte.Goals as goal
 
 pub loop-i-init : goal.loop-i-init

@@ -1,6 +1,5 @@
 use Rattle.text.proofs.TextLaws.{texts}
 use borrow.Author.Rules.{rules}
-use Prim.Native.Nat.{◌-◌}
 use Rattle.text.proofs.starts_with.Goals as goal
 
 pub returns-then-text-n : goal.returns-then-text-n

@@ -1,6 +1,5 @@
 use Rattle.text.proofs.WriteLaws.{puts}
 use borrow.Author.Rules.{rules}
-use Prim.Native.Nat.{◌-◌}
 use Rattle.text.proofs.write_at.Goals as goal
 
 pub returns-then-out-at : goal.returns-then-out-at

@@ -2,9 +2,6 @@
 use native.Mathlib.Omega.{arith}
 use Rattle.text_list.proofs.PlaceBranches.{push_long, push_many, push_done}
 use Rattle.text.proofs.Clauses.{value_bytes_after_places_after}
-use Rattle.text.proofs.Clauses.{value_bytes_after_places_after}
-use Rattle.text.proofs.Clauses.{value_bytes_after_places_after}
-use Rattle.text.proofs.Clauses.{value_bytes_after_places_after}
 use Rattle.text_list.proofs.push_text.Goals as goal
 
 pub returns-then-bytes-at : goal.returns-then-bytes-at

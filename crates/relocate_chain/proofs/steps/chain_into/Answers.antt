@@ -1,7 +1,6 @@
 use Rattle.relocate_chain.proofs.ChainBranches.{chain_begin, chain_end, chain_still, chain_stopped, chain_short, chain_inside, chain_part, chain_on}
 use borrow.Author.Rules.{rules}
 use mathlib.Core.Path.{sym}
-use Prim.Native.Nat.{◌-◌}
 use lib.Seq.{length-take-le}
 use Rattle.relocate_chain.proofs.steps.chain_into.Goals as goal
 
@@ -10,8 +9,7 @@ by_clause_current_after : {A B : Type 0} → A × B → record { current_after :
 by_clause_current_after t = record { current_after = t.0; chain_within = t.1 }
 
 pub loop-k-init : goal.loop-k-init
-loop-k-init c =
-    (
+loop-k-init c = (
   search rules,
   (c.requires.0),
   search rules,
@@ -49,8 +47,7 @@ slice_bounds-write_at-end c =
     c.replace_once-s.ensures.value _ c.in-Made.is _ _ c.replace_once-s.ensures.made_after c.loop-k.invariant.3
 
 pub loop-k-preserved : goal.loop-k-preserved
-loop-k-preserved c =
-    (
+loop-k-preserved c = (
   search rules,
   (chain_short _ _ _ _ _ c.loop-k.len c.loop-k.current c.loop-k.invariant.4 c.loop-k-test.true _
       c.replace_once-s.ensures.value _ c.in-Made.is),

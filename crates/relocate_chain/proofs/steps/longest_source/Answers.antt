@@ -1,5 +1,4 @@
 use Rattle.relocate_chain.proofs.SearchBranches.{searching, source_below, source_on}
-use Prim.Native.Nat.{◌-◌}
 use Rattle.pair_list.proofs.BestLaws.{search_end}
 use Rattle.relocate_chain.specs.Chain.{longest_source}
 use borrow.Author.Rules.{rules}
@@ -28,8 +27,7 @@ pub loop-i-smaller : goal.loop-i-smaller
 loop-i-smaller c = search (rules, searching)
 
 pub loop-i-preserved : goal.loop-i-preserved
-loop-i-preserved c =
-    (
+loop-i-preserved c = (
   search rules,
   (source_on _ _ _ _ _ _ _ _ _ _ c.loop-i.invariant.1 c.loop-i-test.true c.key_at-old.ensures c.key_at-new.ensures
       c.is_candidate.ensures c.consider_source-f.ensures),

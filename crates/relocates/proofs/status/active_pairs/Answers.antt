@@ -1,10 +1,8 @@
 use native.Mathlib.Omega.{arith}
 use borrow.Author.Rules.{rules}
-use Prim.Native.Nat.{◌-◌}
 use mathlib.Core.Path.{refl}
 use Rattle.validate.proofs.SelectLaws.{select_few, select_present, select_room}
 use Rattle.relocates.proofs.ActiveBranches.{active_none, active_few, active_on, selection_none, active_end}
-use Rattle.text.proofs.Clauses.{value_kept_after}
 use Rattle.text.proofs.Clauses.{value_kept_after}
 use mathlib.Core.Path.{ap}
 use mathlib.Core.Bool.{not}

@@ -1,6 +1,5 @@
 use borrow.Author.Rules.{rules}
 use Rattle.relocates.proofs.StatusBranches.{duplicates}
-use Prim.Native.Nat.{◌-◌}
 use Rattle.relocates.proofs.status.is_duplicate.Goals as goal
 
 pub key_at-source-requires : goal.key_at-source-requires

@@ -1,7 +1,6 @@
 use Rattle.relocates.proofs.ActiveBranches.{active_left, active_kept}
 use Rattle.pair_list_write.proofs.copy_entry.Reads as copy-entry-reads
 use Rattle.text.proofs.Clauses.{value_kept_after}
-use Rattle.text.proofs.Clauses.{value_kept_after}
 use Rattle.relocates.proofs.status.keep_active.Goals as goal
 
 pub returns-then-status-ne0 : goal.returns-then-status-ne0

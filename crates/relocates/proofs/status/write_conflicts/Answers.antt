@@ -1,7 +1,6 @@
 use Rattle.relocates.proofs.InitialBranches.{settle_begin, settle_end, settle_dropped, settle_conflict, settle_active, seek_on}
 use borrow.Author.Rules.{rules}
 use mathlib.Core.Path.{refl, ◌∙◌}
-use Prim.Native.Nat.{◌-◌}
 use lib.ListN.{length-set}
 use Rattle.relocates.proofs.StatusBranches.{some_none}
 use Rattle.relocates.proofs.status.write_conflicts.Goals as goal
@@ -10,8 +9,7 @@ pub pairs-init : goal.pairs-init
 pairs-init c = (search rules, refl, settle_begin _ _ _ _)
 
 pub pairs-preserved-then-own-ne0 : goal.pairs-preserved-then-own-ne0
-pairs-preserved-then-own-ne0 c =
-    (
+pairs-preserved-then-own-ne0 c = (
   search rules,
   search rules,
   (settle_dropped _ _ _ _ _ c.requires.holds_initial_statuses _ c.pairs-test.true _ c.pairs.invariant.2 c.requires.n_bound.1 c.if-own-ne0.true),
@@ -21,8 +19,7 @@ pub loop-j-init : goal.loop-j-init
 loop-j-init c = (refl, search rules, refl, refl, some_none _)
 
 pub pairs-preserved-then-conflicts_with : goal.pairs-preserved-then-conflicts_with
-pairs-preserved-then-conflicts_with c =
-    (
+pairs-preserved-then-conflicts_with c = (
   search rules,
   (simp length-set (c.loop-j.invariant.2 ∙ c.pairs.invariant.1)),
   (settle_conflict _ _ _ _ _ c.requires.holds_initial_statuses _ c.pairs-test.true _ c.pairs.invariant.2 c.requires.n_bound.1
@@ -34,8 +31,7 @@ pub loop-j-preserved : goal.loop-j-preserved
 loop-j-preserved c = (c.loop-j.invariant.0, search rules, c.loop-j.invariant.2, c.loop-j.invariant.3, seek_on _ _ _ c.loop-j.invariant.4 c.conflicts_with.ensures c.if-conflicts_with.false)
 
 pub pairs-preserved : goal.pairs-preserved
-pairs-preserved c =
-    (
+pairs-preserved c = (
   search rules,
   simp length-set (c.loop-j.invariant.2 ∙ c.pairs.invariant.1),
   (settle_active _ _ _ _ _ c.requires.holds_initial_statuses _ c.pairs-test.true _ c.pairs.invariant.2 c.requires.n_bound.1

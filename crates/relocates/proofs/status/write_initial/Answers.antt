@@ -1,5 +1,4 @@
 use Rattle.relocates.proofs.InitialBranches.{writing_first}
-use Prim.Native.Nat.{◌-◌}
 use borrow.Author.Rules.{rules}
 use Rattle.relocates.proofs.status.write_initial.Goals as goal
 
