@@ -2,8 +2,6 @@
 use Rattle.ffi_line.specs.LineCall.{whole_line}
 use Rattle.ffi_line.proofs.CallBranches.{call_short, call_full, call_room, call_open}
 use Rattle.text.proofs.Clauses.{value_kept_after_table_after_out_after}
-use Rattle.text.proofs.Clauses.{value_kept_after_table_after_out_after}
-use Rattle.text.proofs.Clauses.{value_kept_after_table_after_out_after}
 use Rattle.ffi_line.proofs.answer_whole.Goals as goal
 
 pub process_line-requires : goal.process_line-requires

@@ -1,7 +1,6 @@
 -- The digits of the two bytes and the newline are written one after the other.
 use Rattle.ffi_line.proofs.CallBranches.{short_refused, short_written}
 use Rattle.text.proofs.Clauses.{value_out_after}
-use Rattle.text.proofs.Clauses.{value_out_after}
 use Rattle.ffi_line.proofs.write_short.Goals as goal
 
 pub returns-then-out-lt5 : goal.returns-then-out-lt5

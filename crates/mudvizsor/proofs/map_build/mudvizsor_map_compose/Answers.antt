@@ -1,0 +1,6 @@
+use Rattle.mudvizsor.proofs.map_build.mudvizsor_map_compose.Goals as goal
+
+pub returns : goal.returns
+returns c =
+    rw (← c.map_from_numbers-map.ensures, ← c.map_from_numbers-inner.ensures, ← c.compose.ensures.0)
+    (c.map_code.ensures.value, (c.compose.ensures.1.0, (c.compose.ensures.1.1, c.map_code.ensures.time_after)))

@@ -1,0 +1,6 @@
+use Rattle.mudvizsor.proofs.map_build.mudvizsor_map_from_pair.Goals as goal
+
+pub returns : goal.returns
+returns c =
+    rw (← c.from_pair.ensures.0)
+    (c.map_code.ensures.value, (c.from_pair.ensures.1.0, (c.from_pair.ensures.1.1, c.map_code.ensures.time_after)))

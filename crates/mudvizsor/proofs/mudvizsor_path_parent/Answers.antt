@@ -1,0 +1,6 @@
+use mathlib.Core.Path.{ap, ◌∙◌}
+use Rattle.ffi_values.specs.Code.{reply_code}
+use Rattle.mudvizsor.proofs.mudvizsor_path_parent.Goals as goal
+
+pub returns : goal.returns
+returns c = (c.reply_code.ensures ∙ ap reply_code c.parent.ensures.0, c.parent.ensures.1)
