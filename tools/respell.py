@@ -93,7 +93,7 @@ def table():
     for n in names:
         if ("-" in n and names[n] in plain) or (n == names[n] and n in camel and n not in functions):
             names[n] += "_lem"
-    names.update({"list-at": "list_at", "pair-fits": "pair_fits"})  # lemmas that no file names beside the definitions
+    names.update({n: n for n in ("list_at", "pair_fits")})  # lemmas that no file names beside the definitions
     names["add-pair"] = "add_one_pair"  # a constructor of `Action`; `add_pair` is the definition
     bad = []
     for path in files(".antt"):
