@@ -29,8 +29,11 @@ pub record LastMove (rest : Text) (a : StreamState) (left held left' held' : Opt
 
 -- A step after which the program ends: the beginning of its replies was written, if it has any.
 pub data FailedMove (rest : Text) (a : StreamState) (left held left' held' : Option Text) : Type 0 where
+  -- A call on the bytes, of whose replies the beginning was written.
   call_ends : Keeps left left' → BeginningWritten held held' (answers_in (process_block rest (next_call a))) → FailedMove rest a left held left' held'
+  -- A read that failed.
   read_ends : Keeps left left' → Keeps held held' → FailedMove rest a left held left' held'
+  -- The end of the input, where the beginning of the last replies was written.
   input_ends : rest ≡ [] → Keeps left left' → IsAtEnd left' → BeginningWritten held held' (last_replies a) → FailedMove rest a left held left' held'
 
 -- The protocol's output for the bytes that the reader had left was written.
